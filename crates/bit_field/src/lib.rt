@@ -1,0 +1,2 @@
+//! Fields of a 32-bit word.
+#![tactic(auto)]

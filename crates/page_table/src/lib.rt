@@ -1,0 +1,2 @@
+//! Granted memory as chunks.
+#![tactic(auto)]

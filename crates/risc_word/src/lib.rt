@@ -1,0 +1,70 @@
+//! The instructions of the Bt878's RISC programs and the words that stand for them
+//! (Bt878 data sheet, "RISC instructions"; Linux bttv, `bt848.h`).
+#![tactic(auto)]
+
+/// A control code of the FIFO: the codes that a SYNC can wait for.
+#[derive(Clone, Copy, Debug, PartialEq, Eq)]
+pub enum Code {
+    /// Vertical reset, even: the top field follows.
+    Vre,
+    /// Vertical reset, odd: the bottom field follows.
+    Vro,
+    /// Packed data follow.
+    Fm1,
+    /// Planar data follow.
+    Fm3,
+}
+
+/// The control bits of an instruction, applied when it retires.
+#[derive(Clone, Copy, Debug, PartialEq, Eq)]
+pub struct Ctl {
+    /// Sets RISCI.
+    pub irq: bool,
+    /// RISC status bits to set, four of them.
+    pub set: u8,
+    /// RISC status bits to clear, four of them.
+    pub reset: u8,
+}
+
+/// Where a data instruction stands in its line.
+#[derive(Clone, Copy, Debug, PartialEq, Eq)]
+pub struct Ends {
+    /// The first instruction of the line.
+    pub sol: bool,
+    /// The last instruction of the line.
+    pub eol: bool,
+}
+
+/// An instruction. Counts are bytes, addresses are those of bytes in memory; `off` has a bit for each
+/// lane of a DWORD that is not written, bit k for lane k (this project's own rule).
+#[derive(Clone, Copy, Debug, PartialEq, Eq)]
+pub enum Instr {
+    /// Writes `count` bytes of queue 1 from `addr` on.
+    Write { ctl: Ctl, ends: Ends, off: u8, count: u16, addr: u32 },
+    /// Takes `count` bytes of queue 1 and writes nothing.
+    Skip { ctl: Ctl, ends: Ends, count: u16 },
+    /// Writes `count` bytes of queue 1 where the write before it stopped.
+    WriteC { ctl: Ctl, ends: Ends, off: u8, count: u16 },
+    /// Goes on at `target`.
+    Jump { ctl: Ctl, target: u32 },
+    /// Waits for `code` at the front of the queues.
+    Sync { ctl: Ctl, resync: bool, code: Code },
+    /// Writes `counts[q]` bytes of queue q + 1 from `addrs[q]` on.
+    Write123 { ctl: Ctl, ends: Ends, off: u8, counts: [u16; 3], addrs: [u32; 3] },
+    /// Takes `counts[q]` bytes of queue q + 1 and writes nothing.
+    Skip123 { ctl: Ctl, ends: Ends, counts: [u16; 3] },
+    /// Writes `counts[0]` bytes of queue 1 from `addr` on and takes `counts[1]` and `counts[2]` bytes of
+    /// queues 2 and 3.
+    Write1S23 { ctl: Ctl, ends: Ends, off: u8, counts: [u16; 3], addr: u32 },
+}
+
+/// Why no instruction stands at a word.
+#[derive(Clone, Copy, Debug, PartialEq, Eq)]
+pub enum WordFault {
+    /// The opcode is reserved.
+    Reserved(u8),
+    /// A SYNC names no control code.
+    SyncCode(u8),
+    /// The program ends before the instruction does.
+    Cut,
+}
