@@ -1,7 +1,8 @@
 //! Status codes of FIFO entries, and what they mean for a line under way.
 #![tactic(auto)]
 
-ghost use Rattle.std.specs.Prelude.{ℕ, ◌<◌};
+ghost use Rattle.std.specs.Prelude.{◌≡◌, ℕ, ◌<◌, ◌≤◌, ◌⊎◌, min};
+ghost use Rattle.sync_status.specs.Statuses.{kind_of, valid_bytes, verdict_on};
 
 use risc_word::Code;
 use std::marker::Model;
@@ -15,8 +16,11 @@ pub struct Status {
 
 impl Model for Status {
     ghost Value = { ℕ };
+
     ghost view = { λ s. s.nibble };
+
     ghost invariant = { λ s. s.nibble < 16 };
+
     ghost inverse = { λ n. record { nibble = n } };
 }
 
@@ -46,4 +50,131 @@ pub enum Verdict {
     Broken,
     /// The line's rest never came: the next line begins.
     Missing,
+}
+
+impl Status {
+    /// The status with this number.
+    #[inline]
+    pub fn of(nibble: u8) -> Status
+        requires { nibble < 16 }
+        ensures { result ≡ nibble }
+    {
+        Status { nibble }
+    }
+
+    /// The number of the status.
+    #[inline]
+    pub fn nibble(self) -> u8
+        ensures number { result ≡ self }
+        ensures four_bits { result < 16 }
+    {
+        self.nibble
+    }
+}
+
+/// What the status says of its entry (Bt878 data sheet, "FIFO interface"). The kind of a code that
+/// the chip does not use is Reserved.
+#[inline]
+pub fn kind(s: Status) -> StatusKind
+    ensures { result ≡ kind_of s }
+{
+    match s.nibble {
+        0 => StatusKind::Pixels,
+        1 => StatusKind::End(4),
+        2 => StatusKind::Start,
+        4 => StatusKind::Control(Code::Vre),
+        5 => StatusKind::End(1),
+        6 => StatusKind::Control(Code::Fm1),
+        9 => StatusKind::End(2),
+        12 => StatusKind::Control(Code::Vro),
+        13 => StatusKind::End(3),
+        14 => StatusKind::Control(Code::Fm3),
+        _ => StatusKind::Reserved,
+    }
+}
+
+/// How many lanes of the entry hold bytes of the line, from lane 0 on.
+#[inline]
+pub fn valid(s: Status) -> u8
+    ensures bytes { result ≡ valid_bytes s }
+    ensures lanes { result ≤ 4 }
+{
+    match s.nibble {
+        0 | 1 | 2 => 4,
+        5 => 1,
+        9 => 2,
+        13 => 3,
+        _ => 0,
+    }
+}
+
+/// What a line under way does with the entry at its queue's front, of which `part` bytes were taken
+/// already: `need_sol` where the line's first DWORD is awaited, `rest` the bytes that the
+/// instruction still asks for (this project's own rule).
+#[inline]
+pub fn judge(front: Status, need_sol: bool, part: u8, rest: u16) -> Verdict
+    requires asked { 1 ≤ rest }
+    requires within { (part ≡ 0) ⊎ (part < valid_bytes front) }
+    ensures { result ≡ verdict_on (kind_of front) need_sol part rest }
+{
+    match kind(front) {
+        StatusKind::Control(_) => Verdict::Broken,
+        StatusKind::Reserved => Verdict::Discard,
+        StatusKind::Start if need_sol && part == 0 => Verdict::Take(lesser(rest, 4)),
+        StatusKind::Start if part == 0 => Verdict::Missing,
+        _ if need_sol => Verdict::Discard,
+        StatusKind::Start | StatusKind::Pixels => Verdict::Take(lesser(rest, 4 - part)),
+        StatusKind::End(count) => Verdict::Take(lesser(rest, count - part)),
+    }
+}
+
+/// The lesser of the bytes that are asked for and the bytes that are left.
+#[inline]
+fn lesser(rest: u16, left: u8) -> u8
+    ensures { result ≡ min rest left }
+{
+    if rest < u16::from(left) {
+        rest as u8
+    } else {
+        left
+    }
+}
+
+#[cfg(test)]
+mod tests {
+    use super::*;
+
+    #[test]
+    fn the_table(rt: HostRuntime) {
+        let rows = [
+            (0, StatusKind::Pixels, 4),
+            (1, StatusKind::End(4), 4),
+            (2, StatusKind::Start, 4),
+            (4, StatusKind::Control(Code::Vre), 0),
+            (5, StatusKind::End(1), 1),
+            (6, StatusKind::Control(Code::Fm1), 0),
+            (9, StatusKind::End(2), 2),
+            (12, StatusKind::Control(Code::Vro), 0),
+            (13, StatusKind::End(3), 3),
+            (14, StatusKind::Control(Code::Fm3), 0),
+            (15, StatusKind::Reserved, 0),
+        ];
+        for (nibble, want, lanes) in rows {
+            let status = Status::of(nibble);
+            assert_eq!(rt; status.nibble(), nibble);
+            assert_eq!(rt; kind(status), want);
+            assert_eq!(rt; valid(status), lanes);
+        }
+    }
+
+    #[test]
+    fn verdicts(rt: HostRuntime) {
+        assert_eq!(rt; judge(Status::of(2), true, 0, 9), Verdict::Take(4));
+        assert_eq!(rt; judge(Status::of(2), false, 0, 9), Verdict::Missing);
+        assert_eq!(rt; judge(Status::of(2), false, 3, 9), Verdict::Take(1));
+        assert_eq!(rt; judge(Status::of(0), true, 0, 9), Verdict::Discard);
+        assert_eq!(rt; judge(Status::of(13), false, 0, 2), Verdict::Take(2));
+        assert_eq!(rt; judge(Status::of(12), true, 0, 1), Verdict::Broken);
+        assert_eq!(rt; judge(Status::of(7), false, 0, 1), Verdict::Discard);
+    }
 }
