@@ -75,8 +75,11 @@ sync_at word [] = Err Cut
 
 abbrev pub write_123_at : ℕ → List ℕ → Reading
 write_123_at word (counts ∷ first ∷ second ∷ third ∷ _) =
-    Ok (Write123 (control_bits word) (line_ends word) (lanes_off word) (three_counts word counts)
-        (first ∷ second ∷ third ∷ []), 5)
+    Ok (
+      Write123 (control_bits word) (line_ends word) (lanes_off word) (three_counts word counts)
+          (first ∷ second ∷ third ∷ []),
+      5,
+    )
 write_123_at word _ = Err Cut
 
 abbrev pub skip_123_at : ℕ → List ℕ → Reading
@@ -86,8 +89,11 @@ skip_123_at word [] = Err Cut
 
 abbrev pub write_1_s_23_at : ℕ → List ℕ → Reading
 write_1_s_23_at word (counts ∷ address ∷ _) =
-    Ok (Write1S23 (control_bits word) (line_ends word) (lanes_off word) (three_counts word counts)
-        address, 3)
+    Ok (
+      Write1S23 (control_bits word) (line_ends word) (lanes_off word) (three_counts word counts)
+          address,
+      3,
+    )
 write_1_s_23_at word _ = Err Cut
 
 abbrev pub by_opcode : ℕ → ℕ → List ℕ → Reading

@@ -2,6 +2,14 @@
 //! (Bt878 data sheet, "RISC instructions"; Linux bttv, `bt848.h`).
 #![tactic(auto)]
 
+mod fields;
+mod reading;
+
+ghost use Rattle.risc_word.specs.Words.{code_number, code_numbered, control_fits, counts_fit, fits};
+ghost use Rattle.std.specs.Prelude.{◌≡◌};
+
+pub use reading::decode;
+
 /// A control code of the FIFO: the codes that a SYNC can wait for.
 #[derive(Clone, Copy, Debug, PartialEq, Eq)]
 pub enum Code {
@@ -15,6 +23,35 @@ pub enum Code {
     Fm3,
 }
 
+impl Code {
+    /// The code of a number of four bits.
+    #[inline]
+    pub fn of(nibble: u8) -> Option<Code>
+        ensures { result ≡ code_numbered nibble }
+    {
+        match nibble {
+            4 => Some(Code::Vre),
+            6 => Some(Code::Fm1),
+            12 => Some(Code::Vro),
+            14 => Some(Code::Fm3),
+            _ => None,
+        }
+    }
+
+    /// The number of the code.
+    #[inline]
+    pub fn nibble(self) -> u8
+        ensures { result ≡ code_number self }
+    {
+        match self {
+            Code::Vre => 4,
+            Code::Fm1 => 6,
+            Code::Vro => 12,
+            Code::Fm3 => 14,
+        }
+    }
+}
+
 /// The control bits of an instruction, applied when it retires.
 #[derive(Clone, Copy, Debug, PartialEq, Eq)]
 pub struct Ctl {
@@ -24,6 +61,14 @@ pub struct Ctl {
     pub set: u8,
     /// RISC status bits to clear, four of them.
     pub reset: u8,
+}
+
+impl Ctl {
+    fn fits(self) -> bool
+        ensures { result ≡ control_fits self }
+    {
+        self.set < 16 && self.reset < 16
+    }
 }
 
 /// Where a data instruction stands in its line.
@@ -40,22 +85,119 @@ pub struct Ends {
 #[derive(Clone, Copy, Debug, PartialEq, Eq)]
 pub enum Instr {
     /// Writes `count` bytes of queue 1 from `addr` on.
-    Write { ctl: Ctl, ends: Ends, off: u8, count: u16, addr: u32 },
+    Write {
+        ctl: Ctl,
+        ends: Ends,
+        off: u8,
+        count: u16,
+        addr: u32,
+    },
     /// Takes `count` bytes of queue 1 and writes nothing.
-    Skip { ctl: Ctl, ends: Ends, count: u16 },
+    Skip {
+        ctl: Ctl,
+        ends: Ends,
+        count: u16,
+    },
     /// Writes `count` bytes of queue 1 where the write before it stopped.
-    WriteC { ctl: Ctl, ends: Ends, off: u8, count: u16 },
+    WriteC {
+        ctl: Ctl,
+        ends: Ends,
+        off: u8,
+        count: u16,
+    },
     /// Goes on at `target`.
-    Jump { ctl: Ctl, target: u32 },
+    Jump {
+        ctl: Ctl,
+        target: u32,
+    },
     /// Waits for `code` at the front of the queues.
-    Sync { ctl: Ctl, resync: bool, code: Code },
+    Sync {
+        ctl: Ctl,
+        resync: bool,
+        code: Code,
+    },
     /// Writes `counts[q]` bytes of queue q + 1 from `addrs[q]` on.
-    Write123 { ctl: Ctl, ends: Ends, off: u8, counts: [u16; 3], addrs: [u32; 3] },
+    Write123 {
+        ctl: Ctl,
+        ends: Ends,
+        off: u8,
+        counts: [u16; 3],
+        addrs: [u32; 3],
+    },
     /// Takes `counts[q]` bytes of queue q + 1 and writes nothing.
-    Skip123 { ctl: Ctl, ends: Ends, counts: [u16; 3] },
+    Skip123 {
+        ctl: Ctl,
+        ends: Ends,
+        counts: [u16; 3],
+    },
     /// Writes `counts[0]` bytes of queue 1 from `addr` on and takes `counts[1]` and `counts[2]` bytes of
     /// queues 2 and 3.
-    Write1S23 { ctl: Ctl, ends: Ends, off: u8, counts: [u16; 3], addr: u32 },
+    Write1S23 {
+        ctl: Ctl,
+        ends: Ends,
+        off: u8,
+        counts: [u16; 3],
+        addr: u32,
+    },
+}
+
+impl Instr {
+    /// Whether `set`, `reset` and `off` are below 16 and the counts below 4,096.
+    pub fn fits(&self) -> bool
+        ensures { result ≡ fits self.now }
+    {
+        match self {
+            Instr::Write {
+                ctl,
+                ends: _,
+                off,
+                count,
+                addr: _,
+            }
+            | Instr::WriteC {
+                ctl,
+                ends: _,
+                off,
+                count,
+            } => { ctl.fits() && *off < 16 && *count < 4096 }
+            Instr::Skip {
+                ctl,
+                ends: _,
+                count,
+            } => ctl.fits() && *count < 4096,
+            Instr::Jump { ctl, target: _ }
+            | Instr::Sync {
+                ctl,
+                resync: _,
+                code: _,
+            } => ctl.fits(),
+            Instr::Write123 {
+                ctl,
+                ends: _,
+                off,
+                counts,
+                addrs: _,
+            }
+            | Instr::Write1S23 {
+                ctl,
+                ends: _,
+                off,
+                counts,
+                addr: _,
+            } => { ctl.fits() && *off < 16 && counts_fit(counts) }
+            Instr::Skip123 {
+                ctl,
+                ends: _,
+                counts,
+            } => ctl.fits() && counts_fit(counts),
+        }
+    }
+}
+
+fn counts_fit(counts: &[u16; 3]) -> bool
+    ensures { result ≡ counts_fit counts.now }
+{
+    counts.iter().all(|count| *count < 4096)
 }
 
 /// Why no instruction stands at a word.
