@@ -1,0 +1,6 @@
+pub mod Paths
+pub mod States
+pub mod Turns
+pub mod Steps
+pub mod Accesses
+pub mod Safety

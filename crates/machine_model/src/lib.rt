@@ -1,0 +1,65 @@
+//! What a RISC program does, apart from any code: its path, when it is sound, the machine and its steps.
+//! The types that the definitions and the code share stand here; the definitions stand in `specs/`.
+#![tactic(auto)]
+
+use risc_word::{Code, Ctl, Instr};
+
+/// Why a place of a program's path isn't fine.
+#[derive(Clone, Copy, Debug, PartialEq, Eq)]
+pub enum Cause {
+    /// No word, or not all words of the instruction, stand there.
+    Cut,
+    /// The opcode is reserved.
+    Reserved(u8),
+    /// A SYNC names no control code.
+    SyncCode(u8),
+    /// A JUMP leads to that address, where no word of the program stands.
+    JumpOut(u32),
+    /// A WRITEC has no write to go on from.
+    NoTarget,
+    /// A written range passes the end of the address space.
+    Wrap,
+    /// The byte at that address isn't granted: the first such of the range.
+    Ungranted(u32),
+}
+
+/// What the machine passes over after an instruction was given up (this project's own rule).
+#[derive(Clone, Copy, Debug, PartialEq, Eq)]
+pub enum Skipping {
+    /// Nothing.
+    Nothing,
+    /// The instructions up to and with the line's last.
+    ToEol,
+    /// The instructions before the next SYNC.
+    ToSync,
+}
+
+/// What a running instruction still asks of one queue.
+#[derive(Clone, Copy, Debug, PartialEq, Eq)]
+pub struct Demand {
+    /// Bytes still to take.
+    pub rest: u16,
+    /// Where the next byte goes, up to 2^32; none where the queue isn't written.
+    pub address: Option<u64>,
+    /// The next entry must begin a line.
+    pub needs_sol: bool,
+}
+
+/// What a running instruction still asks of the three queues.
+#[derive(Clone, Copy, Debug, PartialEq, Eq)]
+pub struct Demands {
+    pub one: Demand,
+    pub two: Demand,
+    pub three: Demand,
+}
+
+/// What the machine is at.
+#[derive(Clone, Copy, Debug, PartialEq, Eq)]
+pub enum Job {
+    /// About to fetch an instruction.
+    Idle,
+    /// In a SYNC, until its code comes.
+    Waiting { ctl: Ctl, resync: bool, code: Code },
+    /// In a data instruction.
+    Running { instr: Instr, demands: Demands },
+}
