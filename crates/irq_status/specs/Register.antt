@@ -1,5 +1,5 @@
 -- The interrupt status register INT_STAT: which bits it has, and what each write does to them.
-use Rattle.std.specs.Prelude.{ℕ, ◌+◌, ◌-◌, ◌*◌, ◌/◌, ◌%◌, ◌^◌, Bool, true, false, bit_and, bit_or, ◌≡◌}
+use Rattle.std.specs.Prelude.{ℕ, ◌+◌, ◌-◌, ◌*◌, ◌/◌, ◌%◌, ◌^◌, Bool, true, false, ◌==◌, bit_and, bit_or, ◌≡◌}
 use Rattle.risc_word.specs.declared.Ctl.{Ctl}
 
 abbrev pub risci : ℕ
@@ -13,6 +13,13 @@ fdsr = 2 ^ 14
 
 abbrev pub ocerr : ℕ
 ocerr = 2 ^ 18
+
+-- whether a register has one of these four
+abbrev pub has : ℕ → ℕ → Bool
+has flag register = register / flag % 2 == 1
+
+abbrev pub has_ocerr : ℕ → Bool
+has_ocerr register = has ocerr register
 
 -- the bits that the host can clear
 abbrev pub interrupts : ℕ
