@@ -139,6 +139,10 @@ flag place false = 0
 abbrev pub head_word : ℕ → Ctl → ℕ
 head_word opcode ctl = opcode * 2 ^ 28 + flag 24 ctl.irq + ctl.reset * 2 ^ 20 + ctl.set * 2 ^ 16
 
+-- the first word of a SYNC
+abbrev pub sync_word : Ctl → Bool → Code → ℕ
+sync_word ctl resync code = head_word 8 ctl + flag 15 resync + code_number code
+
 -- the first word of a data instruction
 abbrev pub data_word : ℕ → Ctl → Ends → ℕ → ℕ → ℕ
 data_word opcode ctl ends off count =
@@ -160,7 +164,7 @@ encoded (Write ctl ends off count addr) = data_word 1 ctl ends off count ∷ add
 encoded (Skip ctl ends count) = data_word 2 ctl ends 0 count ∷ []
 encoded (WriteC ctl ends off count) = data_word 5 ctl ends off count ∷ []
 encoded (Jump ctl target) = head_word 7 ctl ∷ target ∷ []
-encoded (Sync ctl resync code) = (head_word 8 ctl + flag 15 resync + code_number code) ∷ 0 ∷ []
+encoded (Sync ctl resync code) = sync_word ctl resync code ∷ 0 ∷ []
 encoded (Write123 ctl ends off counts addrs) = planar_words 9 ctl ends off counts addrs
 encoded (Skip123 ctl ends counts) = planar_words 10 ctl ends 0 counts []
 encoded (Write1S23 ctl ends off counts addr) = planar_words 11 ctl ends off counts (addr ∷ [])

@@ -4,11 +4,13 @@
 
 mod fields;
 mod reading;
+mod spelling;
 
 ghost use Rattle.risc_word.specs.Words.{code_number, code_numbered, control_fits, counts_fit, fits};
 ghost use Rattle.std.specs.Prelude.{◌≡◌};
 
 pub use reading::decode;
+pub use spelling::encode;
 
 /// A control code of the FIFO: the codes that a SYNC can wait for.
 #[derive(Clone, Copy, Debug, PartialEq, Eq)]
