@@ -1,6 +1,6 @@
 //! The words of an instruction.
 
-ghost use Rattle.risc_word.specs.Words.{control_fits, counts_fit, counts_word, data_word, encoded, fits, head_word, sync_word};
+ghost use Rattle.risc_word.specs.Words.{control_fits, counts_fit, counts_word, data_word, encoded, fits, head_word, planar_words, sync_word};
 ghost use Rattle.std.specs.Prelude.{drop, length, slice_index, IsTrue, ◌+◌, ◌++◌, ◌<◌, ◌≡◌, ◌≤◌};
 
 use super::fields::{
@@ -60,6 +60,29 @@ fn put_words(words: &[u32], out: &mut [u32; 5]) -> u8
     words.len() as u8
 }
 
+fn put_planar(
+    opcode: u32,
+    ctl: Ctl,
+    ends: Ends,
+    off: u8,
+    counts: &[u16; 3],
+    addrs: &[u32],
+    out: &mut [u32; 5],
+) -> u8
+    requires opcode { opcode < 16 }
+    requires ctl { IsTrue (control_fits ctl) }
+    requires off { off < 16 }
+    requires counts { IsTrue (counts_fit counts.now) }
+    requires addrs { length addrs.now ≤ 3 }
+    ensures words { out.new ≡ planar_words opcode ctl ends off counts.now addrs.now ++ drop (2 + length addrs.now) out.old }
+    ensures number { result ≡ 2 + length addrs.now }
+{
+    out[0] = data_word(opcode, ctl, ends, off, counts[0]);
+    out[1] = counts_word(counts);
+    out[2..2 + addrs.len()].copy_from_slice(addrs);
+    2 + addrs.len() as u8
+}
+
 /// Writes the words of an instruction into the front of `out`, leaves the rest of it, and answers their
 /// number. Each bit that no field names is 0.
 pub fn encode(instr: &Instr, out: &mut [u32; 5]) -> u8
@@ -74,14 +97,14 @@ pub fn encode(instr: &Instr, out: &mut [u32; 5]) -> u8
             off,
             count,
             addr,
-        } => { put_words(&[data_word(1, *ctl, *ends, *off, *count), *addr], out) }
+        } => put_words(&[data_word(1, *ctl, *ends, *off, *count), *addr], out),
         Instr::Skip { ctl, ends, count } => put_words(&[data_word(2, *ctl, *ends, 0, *count)], out),
         Instr::WriteC {
             ctl,
             ends,
             off,
             count,
-        } => { put_words(&[data_word(5, *ctl, *ends, *off, *count)], out) }
+        } => put_words(&[data_word(5, *ctl, *ends, *off, *count)], out),
         Instr::Jump { ctl, target } => put_words(&[head_word(7, *ctl), *target], out),
         Instr::Sync { ctl, resync, code } => put_words(&[sync_word(*ctl, *resync, *code), 0], out),
         Instr::Write123 {
@@ -89,39 +112,15 @@ pub fn encode(instr: &Instr, out: &mut [u32; 5]) -> u8
             ends,
             off,
             counts,
-            addrs: [first, second, third],
-        } => put_words(
-            &[
-                data_word(9, *ctl, *ends, *off, counts[0]),
-                counts_word(counts),
-                *first,
-                *second,
-                *third,
-            ],
-            out,
-        ),
-        Instr::Skip123 { ctl, ends, counts } => {
-            put_words(
-                &[
-                    data_word(10, *ctl, *ends, 0, counts[0]),
-                    counts_word(counts),
-                ],
-                out,
-            )
-        }
+            addrs,
+        } => put_planar(9, *ctl, *ends, *off, counts, addrs, out),
+        Instr::Skip123 { ctl, ends, counts } => put_planar(10, *ctl, *ends, 0, counts, &[], out),
         Instr::Write1S23 {
             ctl,
             ends,
             off,
             counts,
             addr,
-        } => put_words(
-            &[
-                data_word(11, *ctl, *ends, *off, counts[0]),
-                counts_word(counts),
-                *addr,
-            ],
-            out,
-        ),
+        } => put_planar(11, *ctl, *ends, *off, counts, &[*addr], out),
     }
 }
