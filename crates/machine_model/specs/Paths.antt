@@ -1,5 +1,5 @@
 -- The path of a program, and when a program is sound.
-use Rattle.std.specs.Prelude.{◌≡◌, ℕ, zero, suc, ◌+◌, ◌-◌, ◌*◌, ◌/◌, ◌%◌, ◌^◌, ◌<◌, Bool, true, false, not, ◌&&◌, List, length, Option, Some, None, Ok, Err, option_map, if◌then◌else◌, ◌==◌, nat_lt, nat_le, slice_index}
+use Rattle.std.specs.Prelude.{◌≡◌, ℕ, zero, suc, ◌+◌, ◌-◌, ◌*◌, ◌/◌, ◌%◌, ◌^◌, ◌<◌, ◌≤◌, Bool, true, false, not, ◌&&◌, min, max, All, List, length, Option, Some, None, Ok, Err, option_map, if◌then◌else◌, ◌==◌, nat_lt, nat_le, slice_index}
 use Rattle.risc_word.specs.declared.Ctl.{Ctl}
 use Rattle.risc_word.specs.declared.Ends.{Ends}
 use Rattle.risc_word.specs.declared.Instr.{Instr}
@@ -18,6 +18,19 @@ pub record RiscProgram : Type 0 where
   pub base : ℕ
   pub words : List ℕ
   pub grants : List Chunk
+
+-- whether a chunk shares a byte with the program
+abbrev pub shares_byte : RiscProgram → Chunk → Bool
+shares_byte program c =
+    nat_lt (max program.base c.at) (min (program.base + 4 * length program.words) (c.at + c.len))
+
+-- a program as it can be made
+pub record IsProgram (program : RiscProgram) : Type 0 where
+  pub aligned : program.base % 4 ≡ 0
+  pub few : length program.words ≤ 1048576
+  pub ends : program.base + 4 * length program.words ≤ 2 ^ 32
+  pub fit : All (λ word. word < 2 ^ 32) program.words
+  pub apart : All (λ c. shares_byte program c ≡ false) program.grants
 
 -- a state of a path: where the next instruction stands, and where a WRITEC would go on
 pub record Place : Type 0 where
