@@ -1,0 +1,130 @@
+-- What a desk tells, and what each of its calls changes. A name is the list of its bytes.
+use Rattle.std.specs.Prelude.{ℕ, length, ◌+◌, ◌-◌, ◌^◌, ◌≤◌, min, Bool, true, false, IsTrue, List, [], ◌∷◌, ◌++◌, take, drop, map, Option, Some, None, option_map, IsSome, MatchOption, Result, Ok, Err, ⊤, ◌≡◌, if◌then◌else◌}
+use Rattle.std.specs.List.{list_any}
+use Rattle.std.specs.Str.{bytes_eq}
+use Rattle.capture_desk.specs.declared.desk.OpenFault.{OpenFault}
+use Rattle.capture_desk.specs.declared.desk.OpenFault.TheVariants.{Missing, Failed}
+
+-- the input files by name
+abbrev pub Inputs : Type 0
+Inputs = List (List ℕ × List ℕ)
+
+-- the output files by name, in some order of the desk; a name of which there is no output yet may stand here too
+abbrev pub Outputs : Type 0
+Outputs = List (List ℕ × Option (List ℕ))
+
+-- Each content is there only where the desk tells it. A desk that tells its inputs tells the rest of the
+-- one that is open, and a desk that tells its outputs tells which one is open.
+pub record Told : Type 0 where
+  pub inputs : Option Inputs
+  pub rest : Option (List ℕ)             -- the unread rest of the open input
+  pub outputs : Option Outputs
+  pub writing : Option (List ℕ)          -- the name of the open output
+  pub said : Option (List ℕ)             -- the text on the standard output
+  pub may_open : Option (List (List ℕ))
+  pub may_create : Option (List (List ℕ))
+  pub input_open : Bool
+  pub output_open : Bool
+
+-- ---- files by name
+
+-- what stands first under a name
+abbrev pub named : {V : Type 0} → List ℕ → List (List ℕ × V) → Option V
+named name [] = None
+named name (file ∷ files) = if bytes_eq file.0 name then Some file.1 else named name files
+
+-- the bytes of the output of this name, where there is one
+abbrev pub output_under : Option (Option (List ℕ)) → Option (List ℕ)
+output_under None = None
+output_under (Some bytes) = bytes
+
+abbrev pub output_named : List ℕ → Outputs → Option (List ℕ)
+output_named name outputs = output_under (named name outputs)
+
+abbrev pub is_among : List ℕ → List (List ℕ) → Bool
+is_among name names = list_any (λ other. bytes_eq other name) names
+
+-- an empty output under a name, in place of an old one
+abbrev pub created : List ℕ → Outputs → Outputs
+created name [] = (name, Some []) ∷ []
+created name (file ∷ files) = if bytes_eq file.0 name then (file.0, Some []) ∷ files else file ∷ created name files
+
+-- more bytes at the end of the output of a name
+abbrev pub appended : List ℕ → List ℕ → Outputs → Outputs
+appended name bytes [] = []
+appended name bytes (file ∷ files) =
+    if bytes_eq file.0 name then (file.0, option_map (λ old. old ++ bytes) file.1) ∷ files
+    else file ∷ appended name bytes files
+
+abbrev pub written : Option (List ℕ) → List ℕ → Outputs → Outputs
+written None bytes outputs = outputs
+written (Some name) bytes outputs = appended name bytes outputs
+
+-- ---- what each call changes
+
+abbrev pub first_rest : List ℕ → Option Inputs → Option (List ℕ)
+first_rest name None = None
+first_rest name (Some inputs) = named name inputs
+
+abbrev pub after_open : List ℕ → Told → Told
+after_open name t = record t { rest = first_rest name t.inputs; input_open = true }
+
+abbrev pub after_read : ℕ → Told → Told
+after_read n t = record t { rest = option_map (λ rest. drop n rest) t.rest }
+
+abbrev pub after_create : List ℕ → Told → Told
+after_create name t =
+    record t {
+        outputs = option_map (created name) t.outputs;
+        writing = option_map (λ _. name) t.outputs;
+        output_open = true
+    }
+
+abbrev pub after_write : List ℕ → Told → Told
+after_write bytes t = record t { outputs = option_map (written t.writing bytes) t.outputs }
+
+abbrev pub after_finish : Told → Told
+after_finish t = record t { writing = None; output_open = false }
+
+abbrev pub after_say : List ℕ → Told → Told
+after_say bytes t = record t { said = option_map (λ text. text ++ bytes) t.said }
+
+-- ---- conditions and answers
+
+-- a name may be used, where the names are told
+abbrev pub IsAllowed : List ℕ → Option (List (List ℕ)) → Type 0
+IsAllowed name names = MatchOption names ⊤ (λ known. IsTrue (is_among name known))
+
+-- whether the desk tells that there is no such input
+abbrev pub is_missing : List ℕ → Option Inputs → Bool
+is_missing name None = false
+is_missing name (Some inputs) = elim (named name inputs) [ None ↦ true | Some _ ↦ false ]
+
+abbrev pub Opens : {A : Type 0} → List ℕ → Result A OpenFault → Told → Told → Type 0
+Opens name (Ok _) old new = (is_missing name old.inputs ≡ false) × (new ≡ after_open name old)
+Opens name (Err Missing) old new = (is_missing name old.inputs ≡ true) × (new ≡ old)
+Opens name (Err Failed) old new = new ≡ old
+
+-- n bytes were taken from the front of the rest, where it is told; none exactly at its end
+abbrev pub Takes : ℕ → List ℕ → List ℕ → Option (List ℕ) → Type 0
+Takes n old new rest = MatchOption rest ⊤ (λ bytes. (n ≤ length bytes) × (new ≡ take n bytes ++ drop n old) × (n ≡ 0 → bytes ≡ []))
+
+-- ---- counts of faults, by old and new reads and old and new writes
+
+-- a count rose; one that stands at its greatest value counts as risen
+abbrev pub HasRisen : ℕ → ℕ → Type 0
+HasRisen old new = min (old + 1) (2 ^ 64 - 1) ≤ new
+
+abbrev pub NoFault : ℕ → ℕ → ℕ → ℕ → Type 0
+NoFault reads new_reads writes new_writes = (new_reads ≡ reads) × (new_writes ≡ writes)
+
+abbrev pub IsReadFault : ℕ → ℕ → ℕ → ℕ → Type 0
+IsReadFault reads new_reads writes new_writes = HasRisen reads new_reads × (writes ≤ new_writes)
+
+abbrev pub IsWriteFault : ℕ → ℕ → ℕ → ℕ → Type 0
+IsWriteFault reads new_reads writes new_writes = (reads ≤ new_reads) × HasRisen writes new_writes
+
+abbrev pub OpenCounts : {A : Type 0} → Result A OpenFault → ℕ → ℕ → ℕ → ℕ → Type 0
+OpenCounts (Ok _) = NoFault
+OpenCounts (Err Missing) = NoFault
+OpenCounts (Err Failed) = IsReadFault

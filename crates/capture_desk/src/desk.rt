@@ -1,0 +1,117 @@
+// The trait of desks, and the writing of a whole piece.
+ghost use Rattle.std.specs.Prelude.{◌≡◌, ℕ, ◌<◌, ◌≤◌, length, take, IfOk, OnErr, OnOk, IsTrue, MatchOption, ⊤, MatchResult};
+ghost use Rattle.capture_desk.specs.Desks.{IsAllowed, IsReadFault, IsWriteFault, NoFault, OpenCounts, Opens, Takes, Told, after_create, after_finish, after_read, after_say, after_write};
+
+use thiserror::Error;
+
+/// The desk could not do a call.
+#[derive(Debug, Drop, Error)]
+#[error("the desk failed")]
+pub struct Failed;
+
+/// Why an input was not opened.
+#[derive(Debug, Drop, Error)]
+pub enum OpenFault {
+    /// The desk tells its inputs, and none has this name.
+    #[error("there is no such input")]
+    Missing,
+    /// The desk could not do the call.
+    #[error("the desk failed")]
+    Failed,
+}
+
+/// Files by name and a standard output. At most one input and one output are open at a time.
+///
+/// Proofs see a desk as what it tells (`told`), which may be nothing, and as two counts of the faults
+/// that it met. A call that fails raises a count and leaves all that the desk tells; any other call
+/// leaves both counts (this project's own rules).
+pub trait Desk {
+    ghost told: { Self → Told };
+
+    ghost read_faults: { Self → ℕ };
+
+    ghost write_faults: { Self → ℕ };
+
+    /// Opens an input at its beginning, in place of the one before.
+    fn open_in(&mut self, name: &str) -> Result<(), OpenFault>
+        requires allowed { IsAllowed name.now (told self.old).may_open }
+        ensures opens { Opens name.now result (told self.old) (told self.new) }
+        ensures counts { OpenCounts result (read_faults self.old) (read_faults self.new)
+            (write_faults self.old) (write_faults self.new) };
+
+    /// Moves the next bytes of the open input into the front of `buf`, and answers how many. Zero is
+    /// the end of input.
+    fn read(&mut self, buf: &mut [u8]) -> Result<usize, Failed>
+        requires open { IsTrue (told self.old).input_open }
+        requires room { 0 < length buf.old }
+        ensures bound { IfOk result (λ n. n ≤ length buf.old) }
+        ensures takes { IfOk result (λ n. Takes n buf.old buf.new (told self.old).rest) }
+        ensures moves { IfOk result (λ n. told self.new ≡ after_read n (told self.old)) }
+        ensures stays { OnErr result (told self.new ≡ told self.old) }
+        ensures untouched { OnErr result (MatchOption (told self.old).rest ⊤ (λ _. buf.new ≡ buf.old)) }
+        ensures quiet { OnOk result (NoFault (read_faults self.old) (read_faults self.new)
+            (write_faults self.old) (write_faults self.new)) }
+        ensures cause { OnErr result (IsReadFault (read_faults self.old) (read_faults self.new)
+            (write_faults self.old) (write_faults self.new)) };
+
+    /// Makes an empty output of this name, in place of an old one, and opens it in place of the output
+    /// that was open.
+    fn create_out(&mut self, name: &str) -> Result<(), Failed>
+        requires allowed { IsAllowed name.now (told self.old).may_create }
+        ensures creates { OnOk result (told self.new ≡ after_create name.now (told self.old)) }
+        ensures stays { OnErr result (told self.new ≡ told self.old) }
+        ensures quiet { OnOk result (NoFault (read_faults self.old) (read_faults self.new)
+            (write_faults self.old) (write_faults self.new)) }
+        ensures cause { OnErr result (IsWriteFault (read_faults self.old) (read_faults self.new)
+            (write_faults self.old) (write_faults self.new)) };
+
+    /// Appends the first bytes to the open output, and answers how many: one at least.
+    fn write(&mut self, bytes: &[u8]) -> Result<usize, Failed>
+        requires open { IsTrue (told self.old).output_open }
+        requires some { 0 < length bytes.now }
+        ensures bound { IfOk result (λ n. (0 < n) × (n ≤ length bytes.now)) }
+        ensures appends { IfOk result (λ n. told self.new ≡ after_write (take n bytes.now) (told self.old)) }
+        ensures stays { OnErr result (told self.new ≡ told self.old) }
+        ensures quiet { OnOk result (NoFault (read_faults self.old) (read_faults self.new)
+            (write_faults self.old) (write_faults self.new)) }
+        ensures cause { OnErr result (IsWriteFault (read_faults self.old) (read_faults self.new)
+            (write_faults self.old) (write_faults self.new)) };
+
+    /// Closes the open output.
+    fn finish(&mut self) -> Result<(), Failed>
+        requires open { IsTrue (told self.old).output_open }
+        ensures closes { OnOk result (told self.new ≡ after_finish (told self.old)) }
+        ensures stays { OnErr result (told self.new ≡ told self.old) }
+        ensures quiet { OnOk result (NoFault (read_faults self.old) (read_faults self.new)
+            (write_faults self.old) (write_faults self.new)) }
+        ensures cause { OnErr result (IsWriteFault (read_faults self.old) (read_faults self.new)
+            (write_faults self.old) (write_faults self.new)) };
+
+    /// Appends the first bytes to the text on the standard output, and answers how many: one at least.
+    fn say(&mut self, bytes: &[u8]) -> Result<usize, Failed>
+        requires some { 0 < length bytes.now }
+        ensures bound { IfOk result (λ n. (0 < n) × (n ≤ length bytes.now)) }
+        ensures says { IfOk result (λ n. told self.new ≡ after_say (take n bytes.now) (told self.old)) }
+        ensures stays { OnErr result (told self.new ≡ told self.old) }
+        ensures quiet { OnOk result (NoFault (read_faults self.old) (read_faults self.new)
+            (write_faults self.old) (write_faults self.new)) }
+        ensures cause { OnErr result (IsWriteFault (read_faults self.old) (read_faults self.new)
+            (write_faults self.old) (write_faults self.new)) };
+}
+
+/// Appends all the bytes to the open output. Where a write fails, the bytes before it were appended.
+pub fn put<D: Desk>(desk: &mut D, bytes: &[u8]) -> Result<(), Failed>
+    requires open { IsTrue (D.told desk.old).output_open }
+    ensures all { OnOk result (D.told desk.new ≡ after_write bytes.now (D.told desk.old)) }
+    ensures part { OnErr result ((n : ℕ) × (n < length bytes.now) × (D.told desk.new ≡ after_write (take n bytes.now) (D.told desk.old))) }
+    ensures quiet { OnOk result (NoFault (D.read_faults desk.old) (D.read_faults desk.new)
+        (D.write_faults desk.old) (D.write_faults desk.new)) }
+    ensures cause { OnErr result (IsWriteFault (D.read_faults desk.old) (D.read_faults desk.new)
+        (D.write_faults desk.old) (D.write_faults desk.new)) }
+{
+    let mut at = 0;
+    while at < bytes.len() {
+        at += desk.write(&bytes[at..])?;
+    }
+    Ok(())
+}

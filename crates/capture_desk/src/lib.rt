@@ -1,0 +1,8 @@
+//! Where files come from and where they go: a trait of desks, one over memory and one over the system.
+#![tactic(auto)]
+
+mod desk;
+mod octets;
+
+pub use crate::desk::{Desk, Failed, OpenFault, put};
+pub use crate::octets::Octets;
