@@ -1,5 +1,5 @@
 -- Three queues as lists, and what each call does to them.
-use Rattle.std.specs.Prelude.{ℕ, ◌+◌, ◌-◌, ◌/◌, ◌%◌, ◌^◌, min, Bool, ◌||◌, List, [], ◌∷◌, ◌++◌, length, take, drop, if◌then◌else◌, ◌==◌, nat_le, Option, Some, None}
+use Rattle.std.specs.Prelude.{◌≡◌, ◌<◌, ◌≤◌, ◌⊎◌, ℕ, ◌+◌, ◌-◌, ◌/◌, ◌%◌, ◌^◌, min, Bool, ◌||◌, List, [], ◌∷◌, ◌++◌, length, take, drop, if◌then◌else◌, ◌==◌, nat_le, Option, Some, None}
 use Rattle.std.specs.List.{list_any}
 use Rattle.risc_word.specs.declared.Code.{Code}
 use Rattle.risc_word.specs.Words.{code_number}
@@ -81,7 +81,7 @@ control_answer queues = if some_full queues then Overrun else Held
 abbrev pub all_entered : Entry → Queues → Queues
 all_entered entry queues =
     record queues
-      { one = entered entry queues.one; two = entered entry queues.two; three = entered entry queues.three }
+    { one = entered entry queues.one; two = entered entry queues.two; three = entered entry queues.three }
 
 abbrev pub control_pushed : Code → Queues → Queues
 control_pushed code queues =
@@ -117,9 +117,25 @@ abbrev pub lane_bytes : ℕ → List ℕ
 lane_bytes dword =
     dword % 256 ∷ dword / 2 ^ 8 % 256 ∷ dword / 2 ^ 16 % 256 ∷ dword / 2 ^ 24 % 256 ∷ []
 
+-- the valid bytes of the front entry, 0 where there is none
+abbrev pub valid_of : Option Entry → ℕ
+valid_of None = 0
+valid_of (Some entry) = valid_bytes entry.status
+
+abbrev pub front_valid : Lane → ℕ
+front_valid lane = valid_of (front lane)
+
 -- the bytes that taking `count` of a front gives, from the `taken` that were taken before
 abbrev pub bytes_taken : Entry → ℕ → ℕ → List ℕ
 bytes_taken entry taken count = take count (drop taken (lane_bytes entry.dword))
+
+abbrev pub bytes_of_front : Option Entry → ℕ → ℕ → List ℕ
+bytes_of_front None taken count = []
+bytes_of_front (Some entry) taken count = bytes_taken entry taken count
+
+-- the bytes that taking `count` of a queue's front gives
+abbrev pub front_bytes : ℕ → Lane → List ℕ
+front_bytes count lane = bytes_of_front (front lane) lane.taken count
 
 -- whether a queue holds so many entries, or an entry that is an end or a control code
 abbrev pub wakes : StatusKind → Bool
@@ -162,3 +178,24 @@ emptied lane = record lane { entries = []; taken = 0 }
 abbrev pub cleared : Queues → Queues
 cleared queues =
     record queues { one = emptied queues.one; two = emptied queues.two; three = emptied queues.three }
+
+-- the counts of lost pushes: of queues 1 to 3, and of control pushes
+abbrev pub overruns_of : Queues → List ℕ
+overruns_of queues =
+    queues.one.overruns ∷ queues.two.overruns ∷ queues.three.overruns ∷ queues.control_overruns ∷ []
+
+-- what holds of each queue: it has room for 1 to 4,096 entries and holds no more than that, and of its
+-- front fewer bytes are taken than are valid, none where none are
+pub record IsLane (lane : Lane) : Type 0 where
+  pub some_room : 1 ≤ lane.capacity
+  pub most_room : lane.capacity ≤ 4096
+  pub within : length lane.entries ≤ lane.capacity
+  pub part : (lane.taken ≡ 0) ⊎ (lane.taken < front_valid lane)
+
+-- what holds of the three: the control codes in them are the same, in the same order
+pub record IsFifo (queues : Queues) : Type 0 where
+  pub one : IsLane queues.one
+  pub two : IsLane queues.two
+  pub three : IsLane queues.three
+  pub second : codes_of queues.two.entries ≡ codes_of queues.one.entries
+  pub third : codes_of queues.three.entries ≡ codes_of queues.one.entries

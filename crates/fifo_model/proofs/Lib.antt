@@ -1,0 +1,5 @@
+pub mod Waking
+pub mod Codes
+pub mod Lanes
+pub mod Kept
+pub mod Rings

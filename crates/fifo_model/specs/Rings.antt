@@ -1,0 +1,35 @@
+-- How the code keeps the three queues.
+use Rattle.std.specs.Prelude.{◌≡◌, ◌≤◌, ℕ, List, length, count_by, get_or}
+use Rattle.sync_status.specs.Statuses.{kind_of}
+use Rattle.fifo_model.specs.declared.Entry.{Entry}
+use Rattle.fifo_model.specs.declared.Queue.{Queue}
+use Rattle.fifo_model.specs.declared.Queue.TheVariants.{One, Two, Three}
+use Rattle.fifo_model.specs.Queues.{Lane, Queues, empty_lane, wakes, IsFifo}
+
+-- how many entries of a list are an end or a control code
+abbrev pub waking : List Entry → ℕ
+waking entries = count_by (λ entry. wakes (kind_of entry.status)) entries
+
+-- the place of a queue in the list of the three
+abbrev pub place_of : Queue → ℕ
+place_of One = 0
+place_of Two = 1
+place_of Three = 2
+
+abbrev pub lane_at : List Lane → ℕ → Lane
+lane_at lanes place = get_or lanes place (empty_lane 0)
+
+abbrev pub queues_of : List Lane → ℕ → Queues
+queues_of lanes lost =
+    record { one = lane_at lanes 0; two = lane_at lanes 1; three = lane_at lanes 2; control_overruns = lost }
+
+-- what holds of the fields of a `Ring`, beside what its queue's value says
+pub record IsRing (entries : List Entry) (capacity wakers : ℕ) : Type 0 where
+  pub most : capacity ≤ 4096
+  pub within : length entries ≤ capacity
+  pub counted : wakers ≡ waking entries
+
+-- what holds of the fields of a `Fifo`
+pub record AreRings (lanes : List Lane) (lost : ℕ) : Type 0 where
+  pub three : length lanes ≡ 3
+  pub facts : IsFifo (queues_of lanes lost)
