@@ -1,5 +1,5 @@
 -- Which instruction stands at a word of a program, and the words that stand for an instruction.
-use Rattle.std.specs.Prelude.{ℕ, ◌+◌, ◌*◌, ◌^◌, Bool, true, false, ◌&&◌, List, [], ◌∷◌, drop, Option, Some, None, Result, Ok, Err, if◌then◌else◌, ◌==◌, nat_lt}
+use Rattle.std.specs.Prelude.{◌≡◌, IsTrue, length, ◌++◌, ℕ, ◌+◌, ◌*◌, ◌^◌, Bool, true, false, ◌&&◌, List, [], ◌∷◌, drop, Option, Some, None, Result, Ok, Err, if◌then◌else◌, ◌==◌, nat_lt}
 use Rattle.std.specs.List.{list_all}
 use Rattle.bit_field.specs.Bits.{bits}
 use Rattle.risc_word.specs.declared.Code.{Code}
@@ -185,3 +185,19 @@ fits (Sync ctl resync code) = control_fits ctl
 fits (Write123 ctl ends off counts addrs) = control_fits ctl && nat_lt off 16 && counts_fit counts
 fits (Skip123 ctl ends counts) = control_fits ctl && counts_fit counts
 fits (Write1S23 ctl ends off counts addr) = control_fits ctl && nat_lt off 16 && counts_fit counts
+
+-- three counts and three addresses where an instruction has lists of them
+abbrev pub HasThree : Instr → Type 0
+HasThree (Write123 ctl ends off counts addrs) = (length counts ≡ 3) × (length addrs ≡ 3)
+HasThree (Skip123 ctl ends counts) = length counts ≡ 3
+HasThree (Write1S23 ctl ends off counts addr) = length counts ≡ 3
+HasThree _ = Unit {0}
+
+-- an instruction that words can stand for
+abbrev pub IsInstr : Instr → Type 0
+IsInstr instr = IsTrue (fits instr) × HasThree instr
+
+-- an instruction is read where its words stand, whatever stands before and after them
+abbrev pub IsReadBack : Instr → Type 0
+IsReadBack instr =
+    (before after : List ℕ) → instr_at (before ++ encoded instr ++ after) (length before) ≡ Ok (instr, length (encoded instr))

@@ -10,7 +10,7 @@ ghost use Rattle.risc_word.specs.Words.{code_number, code_numbered, control_fits
 ghost use Rattle.std.specs.Prelude.{◌≡◌};
 
 pub use reading::decode;
-pub use spelling::encode;
+pub use spelling::{encode, encoding_is_read_back};
 
 /// A control code of the FIFO: the codes that a SYNC can wait for.
 #[derive(Clone, Copy, Debug, PartialEq, Eq)]

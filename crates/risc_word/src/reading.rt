@@ -1,8 +1,8 @@
 //! The instruction that stands at a word of a program.
 
 ghost use Rattle.bit_field.specs.Bits.{bits};
-ghost use Rattle.risc_word.specs.Words.{by_opcode, control_bits, instr_at, jump_at, line_ends, skip_123_at, skip_at, sync_at, three_counts, write_123_at, write_1_s_23_at, write_at, write_c_at};
-ghost use Rattle.std.specs.Prelude.{◌≡◌};
+ghost use Rattle.risc_word.specs.Words.{IsInstr, by_opcode, control_bits, instr_at, jump_at, line_ends, opcode_length, skip_123_at, skip_at, sync_at, three_counts, write_123_at, write_1_s_23_at, write_at, write_c_at};
+ghost use Rattle.std.specs.Prelude.{IfOk, length, slice_index, ◌+◌, ◌≡◌, ◌≤◌};
 
 use super::fields::{
     Count, Eol, Irq, Off, Opcode, Reset, Resync, SecondCount, Set, Sol, SyncCode, ThirdCount,
@@ -213,10 +213,8 @@ fn instr_of(word: u32, rest: &[u32]) -> Reading
     }
 }
 
-/// The instruction at word `at`, counted from 0, and its length in words (Bt878 data sheet, "RISC
-/// instructions").
 #[inline]
-pub fn decode(words: &[u32], at: usize) -> Result<(Instr, u8), WordFault>
+fn reading_at(words: &[u32], at: usize) -> Reading
     ensures { result ≡ instr_at words.now at }
 {
     if at >= words.len() {
@@ -226,4 +224,18 @@ pub fn decode(words: &[u32], at: usize) -> Result<(Instr, u8), WordFault>
         [word, rest @ ..] => instr_of(*word, rest),
         [] => Err(WordFault::Cut),
     }
+}
+
+/// The instruction at word `at`, counted from 0, and its length in words (Bt878 data sheet, "RISC
+/// instructions"). Bits that no field names are ignored, and so is the second word of a SYNC. An answer
+/// comes from the first of these that fits: no word stands there, the opcode is reserved, a further word
+/// is missing, a SYNC names no control code.
+#[inline]
+pub fn decode(words: &[u32], at: usize) -> Result<(Instr, u8), WordFault>
+    ensures value { result ≡ instr_at words.now at }
+    ensures instr { IfOk result (λ read. IsInstr read.0) }
+    ensures length { IfOk result (λ read. read.1 ≡ opcode_length (bits 28 4 (slice_index words.now at))) }
+    ensures within { IfOk result (λ read. (1 ≤ read.1) × (at + read.1 ≤ length words.now)) }
+{
+    reading_at(words, at)
 }

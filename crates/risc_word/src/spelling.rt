@@ -1,6 +1,6 @@
 //! The words of an instruction.
 
-ghost use Rattle.risc_word.specs.Words.{control_fits, counts_fit, counts_word, data_word, encoded, fits, head_word, planar_words, sync_word};
+ghost use Rattle.risc_word.specs.Words.{IsInstr, IsReadBack, control_fits, counts_fit, counts_word, data_word, encoded, fits, head_word, planar_words, sync_word};
 ghost use Rattle.std.specs.Prelude.{drop, length, slice_index, IsTrue, ◌+◌, ◌++◌, ◌<◌, ◌≡◌, ◌≤◌};
 
 use super::fields::{
@@ -124,3 +124,9 @@ pub fn encode(instr: &Instr, out: &mut [u32; 5]) -> u8
         } => put_planar(11, *ctl, *ends, *off, counts, &[*addr], out),
     }
 }
+
+/// An instruction that was encoded is read back where its words stand, whatever stands around them. The
+/// function does nothing; its contract is the law.
+pub fn encoding_is_read_back()
+    ensures { (instr : Instr) → IsInstr instr → IsReadBack instr }
+{}
