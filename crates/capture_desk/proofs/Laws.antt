@@ -1,5 +1,5 @@
 -- Laws of what a desk's calls change.
-use Rattle.std.proofs.Common.{ℕ, ◌+◌, List, [], ◌∷◌, ◌++◌, take, drop, length, Option, Some, None, option_map, Bool, true, false, if◌then◌else◌, ◌≡◌, refl, sym, ap, ◌∙◌, append_assoc}
+use Rattle.std.proofs.Common.{ℕ, ◌+◌, List, [], ◌∷◌, ◌++◌, drop, Option, Some, None, option_map, Bool, true, false, if◌then◌else◌, ◌≡◌, refl, ap, append_assoc}
 use Rattle.std.proofs.lemmas.List.{append-nil, drop-drop}
 use Rattle.std.specs.Str.{bytes_eq}
 use Rattle.capture_desk.specs.Desks.{Outputs, Told, after_read, after_say, after_write, appended, written}

@@ -1,5 +1,5 @@
 -- What a desk tells, and what each of its calls changes. A name is the list of its bytes.
-use Rattle.std.specs.Prelude.{ℕ, length, ◌+◌, ◌-◌, ◌^◌, ◌≤◌, min, Bool, true, false, IsTrue, List, [], ◌∷◌, ◌++◌, take, drop, map, Option, Some, None, option_map, IsSome, MatchOption, Result, Ok, Err, ⊤, ◌≡◌, if◌then◌else◌}
+use Rattle.std.specs.Prelude.{ℕ, length, ◌+◌, ◌-◌, ◌^◌, ◌<◌, ◌≤◌, min, Bool, true, false, IsTrue, List, [], ◌∷◌, ◌++◌, take, drop, Option, Some, None, option_map, MatchOption, Result, Ok, Err, ⊤, ◌≡◌, if◌then◌else◌}
 use Rattle.std.specs.List.{list_any}
 use Rattle.std.specs.Str.{bytes_eq}
 use Rattle.capture_desk.specs.declared.desk.OpenFault.{OpenFault}
@@ -17,10 +17,10 @@ Outputs = List (List ℕ × Option (List ℕ))
 -- one that is open, and a desk that tells its outputs tells which one is open.
 pub record Told : Type 0 where
   pub inputs : Option Inputs
-  pub rest : Option (List ℕ)             -- the unread rest of the open input
+  pub rest : Option (List ℕ)  -- the unread rest of the open input
   pub outputs : Option Outputs
-  pub writing : Option (List ℕ)          -- the name of the open output
-  pub said : Option (List ℕ)             -- the text on the standard output
+  pub writing : Option (List ℕ)  -- the name of the open output
+  pub said : Option (List ℕ)  -- the text on the standard output
   pub may_open : Option (List (List ℕ))
   pub may_create : Option (List (List ℕ))
   pub input_open : Bool
@@ -75,9 +75,9 @@ after_read n t = record t { rest = option_map (λ rest. drop n rest) t.rest }
 abbrev pub after_create : List ℕ → Told → Told
 after_create name t =
     record t {
-        outputs = option_map (created name) t.outputs;
-        writing = option_map (λ _. name) t.outputs;
-        output_open = true
+      outputs = option_map (created name) t.outputs;
+      writing = option_map (λ _. name) t.outputs;
+      output_open = true;
     }
 
 abbrev pub after_write : List ℕ → Told → Told
@@ -100,14 +100,34 @@ abbrev pub is_missing : List ℕ → Option Inputs → Bool
 is_missing name None = false
 is_missing name (Some inputs) = elim (named name inputs) [ None ↦ true | Some _ ↦ false ]
 
+-- what each answer says of the desk before and after
 abbrev pub Opens : {A : Type 0} → List ℕ → Result A OpenFault → Told → Told → Type 0
 Opens name (Ok _) old new = (is_missing name old.inputs ≡ false) × (new ≡ after_open name old)
 Opens name (Err Missing) old new = (is_missing name old.inputs ≡ true) × (new ≡ old)
 Opens name (Err Failed) old new = new ≡ old
 
--- n bytes were taken from the front of the rest, where it is told; none exactly at its end
-abbrev pub Takes : ℕ → List ℕ → List ℕ → Option (List ℕ) → Type 0
-Takes n old new rest = MatchOption rest ⊤ (λ bytes. (n ≤ length bytes) × (new ≡ take n bytes ++ drop n old) × (n ≡ 0 → bytes ≡ []))
+-- the first n bytes of the rest, where it is told, stand at the front of a buffer; none exactly at the end
+abbrev pub Takes : ℕ → List ℕ → List ℕ → List ℕ → Type 0
+Takes n rest buf new_buf = (n ≤ length rest) × (n ≡ 0 → rest ≡ []) × (new_buf ≡ take n rest ++ drop n buf)
+
+abbrev pub Reads : {E : Type 0} → List ℕ → List ℕ → Result ℕ E → Told → Told → Type 0
+Reads buf new_buf (Ok n) old new =
+    (n ≤ length buf) × MatchOption old.rest ⊤ (λ rest. Takes n rest buf new_buf) × (new ≡ after_read n old)
+Reads buf new_buf (Err _) old new = MatchOption old.rest ⊤ (λ _. new_buf ≡ buf) × (new ≡ old)
+
+abbrev pub Makes : {A E : Type 0} → Result A E → Told → Told → Told → Type 0
+Makes (Ok _) made old new = new ≡ made
+Makes (Err _) made old new = new ≡ old
+
+-- one byte at least of a piece was appended, as `after` says
+abbrev pub Appends : {E : Type 0} → List ℕ → Result ℕ E → (List ℕ → Told → Told) → Told → Told → Type 0
+Appends bytes (Ok n) after old new = (0 < n) × (n ≤ length bytes) × (new ≡ after (take n bytes) old)
+Appends bytes (Err _) after old new = new ≡ old
+
+-- a whole piece was appended, or a part of it and then came a fault
+abbrev pub Puts : {A E : Type 0} → List ℕ → Result A E → (List ℕ → Told → Told) → Told → Told → Type 0
+Puts bytes (Ok _) after old new = new ≡ after bytes old
+Puts bytes (Err _) after old new = (n : ℕ) × (n < length bytes) × (new ≡ after (take n bytes) old)
 
 -- ---- counts of faults, by old and new reads and old and new writes
 
@@ -128,3 +148,11 @@ abbrev pub OpenCounts : {A : Type 0} → Result A OpenFault → ℕ → ℕ → 
 OpenCounts (Ok _) = NoFault
 OpenCounts (Err Missing) = NoFault
 OpenCounts (Err Failed) = IsReadFault
+
+abbrev pub ReadCounts : {A E : Type 0} → Result A E → ℕ → ℕ → ℕ → ℕ → Type 0
+ReadCounts (Ok _) = NoFault
+ReadCounts (Err _) = IsReadFault
+
+abbrev pub WriteCounts : {A E : Type 0} → Result A E → ℕ → ℕ → ℕ → ℕ → Type 0
+WriteCounts (Ok _) = NoFault
+WriteCounts (Err _) = IsWriteFault

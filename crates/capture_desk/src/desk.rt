@@ -1,6 +1,6 @@
 // The trait of desks, and the writing of a whole piece.
-ghost use Rattle.std.specs.Prelude.{◌≡◌, ℕ, ◌<◌, ◌≤◌, length, take, IfOk, OnErr, OnOk, IsTrue, MatchOption, ⊤, MatchResult};
-ghost use Rattle.capture_desk.specs.Desks.{IsAllowed, IsReadFault, IsWriteFault, NoFault, OpenCounts, Opens, Takes, Told, after_create, after_finish, after_read, after_say, after_write};
+ghost use Rattle.std.specs.Prelude.{ℕ, ◌<◌, length, IsTrue};
+ghost use Rattle.capture_desk.specs.Desks.{Appends, IsAllowed, Makes, OpenCounts, Opens, Puts, ReadCounts, Reads, Told, WriteCounts, after_create, after_finish, after_say, after_write};
 
 use thiserror::Error;
 
@@ -44,70 +44,47 @@ pub trait Desk {
     fn read(&mut self, buf: &mut [u8]) -> Result<usize, Failed>
         requires open { IsTrue (told self.old).input_open }
         requires room { 0 < length buf.old }
-        ensures bound { IfOk result (λ n. n ≤ length buf.old) }
-        ensures takes { IfOk result (λ n. Takes n buf.old buf.new (told self.old).rest) }
-        ensures moves { IfOk result (λ n. told self.new ≡ after_read n (told self.old)) }
-        ensures stays { OnErr result (told self.new ≡ told self.old) }
-        ensures untouched { OnErr result (MatchOption (told self.old).rest ⊤ (λ _. buf.new ≡ buf.old)) }
-        ensures quiet { OnOk result (NoFault (read_faults self.old) (read_faults self.new)
-            (write_faults self.old) (write_faults self.new)) }
-        ensures cause { OnErr result (IsReadFault (read_faults self.old) (read_faults self.new)
-            (write_faults self.old) (write_faults self.new)) };
+        ensures reads { Reads buf.old buf.new result (told self.old) (told self.new) }
+        ensures counts { ReadCounts result (read_faults self.old) (read_faults self.new)
+            (write_faults self.old) (write_faults self.new) };
 
     /// Makes an empty output of this name, in place of an old one, and opens it in place of the output
     /// that was open.
     fn create_out(&mut self, name: &str) -> Result<(), Failed>
         requires allowed { IsAllowed name.now (told self.old).may_create }
-        ensures creates { OnOk result (told self.new ≡ after_create name.now (told self.old)) }
-        ensures stays { OnErr result (told self.new ≡ told self.old) }
-        ensures quiet { OnOk result (NoFault (read_faults self.old) (read_faults self.new)
-            (write_faults self.old) (write_faults self.new)) }
-        ensures cause { OnErr result (IsWriteFault (read_faults self.old) (read_faults self.new)
-            (write_faults self.old) (write_faults self.new)) };
+        ensures creates { Makes result (after_create name.now (told self.old)) (told self.old) (told self.new) }
+        ensures counts { WriteCounts result (read_faults self.old) (read_faults self.new)
+            (write_faults self.old) (write_faults self.new) };
 
     /// Appends the first bytes to the open output, and answers how many: one at least.
     fn write(&mut self, bytes: &[u8]) -> Result<usize, Failed>
         requires open { IsTrue (told self.old).output_open }
         requires some { 0 < length bytes.now }
-        ensures bound { IfOk result (λ n. (0 < n) × (n ≤ length bytes.now)) }
-        ensures appends { IfOk result (λ n. told self.new ≡ after_write (take n bytes.now) (told self.old)) }
-        ensures stays { OnErr result (told self.new ≡ told self.old) }
-        ensures quiet { OnOk result (NoFault (read_faults self.old) (read_faults self.new)
-            (write_faults self.old) (write_faults self.new)) }
-        ensures cause { OnErr result (IsWriteFault (read_faults self.old) (read_faults self.new)
-            (write_faults self.old) (write_faults self.new)) };
+        ensures appends { Appends bytes.now result after_write (told self.old) (told self.new) }
+        ensures counts { WriteCounts result (read_faults self.old) (read_faults self.new)
+            (write_faults self.old) (write_faults self.new) };
 
     /// Closes the open output.
     fn finish(&mut self) -> Result<(), Failed>
         requires open { IsTrue (told self.old).output_open }
-        ensures closes { OnOk result (told self.new ≡ after_finish (told self.old)) }
-        ensures stays { OnErr result (told self.new ≡ told self.old) }
-        ensures quiet { OnOk result (NoFault (read_faults self.old) (read_faults self.new)
-            (write_faults self.old) (write_faults self.new)) }
-        ensures cause { OnErr result (IsWriteFault (read_faults self.old) (read_faults self.new)
-            (write_faults self.old) (write_faults self.new)) };
+        ensures closes { Makes result (after_finish (told self.old)) (told self.old) (told self.new) }
+        ensures counts { WriteCounts result (read_faults self.old) (read_faults self.new)
+            (write_faults self.old) (write_faults self.new) };
 
     /// Appends the first bytes to the text on the standard output, and answers how many: one at least.
     fn say(&mut self, bytes: &[u8]) -> Result<usize, Failed>
         requires some { 0 < length bytes.now }
-        ensures bound { IfOk result (λ n. (0 < n) × (n ≤ length bytes.now)) }
-        ensures says { IfOk result (λ n. told self.new ≡ after_say (take n bytes.now) (told self.old)) }
-        ensures stays { OnErr result (told self.new ≡ told self.old) }
-        ensures quiet { OnOk result (NoFault (read_faults self.old) (read_faults self.new)
-            (write_faults self.old) (write_faults self.new)) }
-        ensures cause { OnErr result (IsWriteFault (read_faults self.old) (read_faults self.new)
-            (write_faults self.old) (write_faults self.new)) };
+        ensures says { Appends bytes.now result after_say (told self.old) (told self.new) }
+        ensures counts { WriteCounts result (read_faults self.old) (read_faults self.new)
+            (write_faults self.old) (write_faults self.new) };
 }
 
 /// Appends all the bytes to the open output. Where a write fails, the bytes before it were appended.
 pub fn put<D: Desk>(desk: &mut D, bytes: &[u8]) -> Result<(), Failed>
     requires open { IsTrue (D.told desk.old).output_open }
-    ensures all { OnOk result (D.told desk.new ≡ after_write bytes.now (D.told desk.old)) }
-    ensures part { OnErr result ((n : ℕ) × (n < length bytes.now) × (D.told desk.new ≡ after_write (take n bytes.now) (D.told desk.old))) }
-    ensures quiet { OnOk result (NoFault (D.read_faults desk.old) (D.read_faults desk.new)
-        (D.write_faults desk.old) (D.write_faults desk.new)) }
-    ensures cause { OnErr result (IsWriteFault (D.read_faults desk.old) (D.read_faults desk.new)
-        (D.write_faults desk.old) (D.write_faults desk.new)) }
+    ensures puts { Puts bytes.now result after_write (D.told desk.old) (D.told desk.new) }
+    ensures counts { WriteCounts result (D.read_faults desk.old) (D.read_faults desk.new)
+        (D.write_faults desk.old) (D.write_faults desk.new) }
 {
     let mut at = 0;
     while at < bytes.len() {

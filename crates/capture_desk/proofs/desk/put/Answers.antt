@@ -1,4 +1,4 @@
-use Rattle.std.proofs.Common.{◌≡◌, ℕ, ◌<◌, ◌≤◌, List, length, take, drop, ◌+◌, ◌-◌, ◌++◌, sym, ap, ◌∙◌, arith, refl, length-drop}
+use Rattle.std.proofs.Common.{◌≡◌, ℕ, List, length, take, drop, ◌+◌, ◌-◌, sym, ap, ◌∙◌, arith, refl, length-drop}
 use Rattle.std.proofs.Math.Seq.{take-add}
 use Rattle.std.proofs.lemmas.List.{take_rest}
 use Rattle.capture_desk.specs.Desks.{Told, after_write}
@@ -18,8 +18,8 @@ loop-at-init g c = record { within = omega arith; done = sym (after_write-nil _)
 pub loop-at-preserved : goal.loop-at-preserved
 loop-at-preserved g c =
     record {
-        within = let n = simp (take_rest, length-drop) at c.in_ok-at.ensures.bound.1 in omega (arith, n);
-        done = next_piece _ _ _ _ _ _ c.loop-at.invariant.done c.in_ok-at.ensures.appends;
-        reads = c.in_ok-at.ensures.quiet.0 ∙ c.loop-at.invariant.reads;
-        writes = c.in_ok-at.ensures.quiet.1 ∙ c.loop-at.invariant.writes
+      within = let n = simp (take_rest, length-drop) at c.in_ok-at.ensures.appends.1 in omega (arith, n);
+      done = next_piece _ _ _ _ _ _ c.loop-at.invariant.done c.in_ok-at.ensures.appends.2;
+      reads = c.in_ok-at.ensures.counts.0 ∙ c.loop-at.invariant.reads;
+      writes = c.in_ok-at.ensures.counts.1 ∙ c.loop-at.invariant.writes;
     }
