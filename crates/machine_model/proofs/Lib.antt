@@ -1,1 +1,11 @@
 pub mod Worked
+pub mod Turning
+pub mod Ranges
+pub mod Memory
+pub mod Fronts
+pub mod Orderly
+pub mod Fixed
+pub mod Places
+pub mod Demanded
+pub mod Following
+pub mod Safe

@@ -1,10 +1,9 @@
--- What stands between any two steps of a machine that runs a sound program.
-use Rattle.std.specs.Prelude.{◌≡◌, ℕ, ◌+◌, ◌*◌, ◌≤◌, false, IsTrue, List, [], ◌∷◌, All, Option, None, Ok}
-use Rattle.bit_field.specs.Bits.{bits}
+-- What stands between any two steps of a machine, and what more where its program is sound.
+use Rattle.std.specs.Prelude.{◌≡◌, ℕ, ◌+◌, ◌*◌, ◌<◌, false, IsTrue, All, Option, None, Ok}
 use Rattle.risc_word.specs.declared.Instr.{Instr}
-use Rattle.sync_status.specs.Statuses.{kind_of, valid_bytes, is_control}
-use Rattle.fifo_model.specs.declared.Entry.{Entry}
-use Rattle.fifo_model.specs.Queues.{Queues, codes_of}
+use Rattle.sync_status.specs.Statuses.{kind_of, is_control}
+use Rattle.fifo_model.specs.Queues.{IsFifo}
+use Rattle.irq_status.specs.Register.{has_ocerr}
 use Rattle.page_table.specs.Grants.{granted}
 use Rattle.page_table.specs.Blocks.{chunks_of}
 use Rattle.machine_model.specs.declared.Demands.{Demands}
@@ -17,7 +16,31 @@ use Rattle.machine_model.specs.States.{State}
 use Rattle.machine_model.specs.Steps.{Step, Push}
 use Rattle.machine_model.specs.Accesses.{writes, fetches}
 
--- idle without a skip the target is the place's; in a skip there is none
+-- a step as the decoder makes it: a data push is no control code
+abbrev pub IsStep : Step → Type 0
+IsStep (Push q entry) = is_control (kind_of entry.status) ≡ false
+IsStep _ = Unit {0}
+
+-- Whatever the program: in a skip there is no target
+abbrev pub NoTargetIn : Skipping → Option ℕ → Type 0
+NoTargetIn Nothing target = Unit {0}
+NoTargetIn ToEol target = target ≡ None
+NoTargetIn ToSync target = target ≡ None
+
+-- nothing is skipped while a SYNC waits, without a target, or a data instruction runs
+abbrev pub JobFits : Skipping → Option ℕ → Job → Type 0
+JobFits skipping target Idle = NoTargetIn skipping target
+JobFits skipping target (Waiting ctl resync code) = (skipping ≡ Nothing) × (target ≡ None)
+JobFits skipping target (Running instr ds) = (skipping ≡ Nothing) × IsTrue (is_data instr)
+
+-- what every program keeps: beside this, what holds of the queues (no more is taken of a front than it has, and the
+-- control codes of the three are the same, in order), and a trigger point above 0
+pub record IsOrderly (m : State) : Type 0 where
+  pub job : JobFits m.skipping m.target m.job
+  pub queues : IsFifo m.queues
+  pub triggered : 0 < m.trigger
+
+-- Where the program is sound. Idle without a skip the target is the place's; in a skip there is none
 abbrev pub TargetAt : Skipping → Option ℕ → Option ℕ → Type 0
 TargetAt Nothing target there = target ≡ there
 TargetAt ToEol target there = target ≡ None
@@ -46,29 +69,14 @@ pub record IsOnPath (m : State) : Type 0 where
   pub number : ℕ
   pub there : JobAt m.program (path m.program number) m.pc m.skipping m.target m.job
 
--- no more bytes are taken of a front than it has, and none where the queue is empty
-abbrev pub TakenFits : List Entry → ℕ → Type 0
-TakenFits [] taken = taken ≡ 0
-TakenFits (entry ∷ _) taken = taken ≤ valid_bytes entry.status
-
--- the control codes of the three queues are the same, in order
-pub record QueuesAgree (queues : Queues) : Type 0 where
-  pub two : codes_of queues.one.entries ≡ codes_of queues.two.entries
-  pub three : codes_of queues.one.entries ≡ codes_of queues.three.entries
-
 -- the machine is on its program's path, its memory is what the program may write, and it never saw a program error
 pub record IsSafe (m : State) : Type 0 where
   pub on_path : IsOnPath m
   pub chunks : chunks_of m.memory ≡ m.program.grants
-  pub no_error : bits 18 1 m.interrupts ≡ 0
-  pub agree : QueuesAgree m.queues
+  pub no_error : has_ocerr m.interrupts ≡ false
+  pub orderly : IsOrderly m
 
 -- the turn at a state stays within granted memory and the program
 pub record StaysInside (m : State) : Type 0 where
   pub written : All (λ address. IsTrue (granted m.program.grants address)) (writes m)
   pub read : All (λ address. IsTrue (is_word m.program address)) (fetches m)
-
--- a step as the decoder makes it: a data push is no control code
-abbrev pub IsStep : Step → Type 0
-IsStep (Push q entry) = is_control (kind_of entry.status) ≡ false
-IsStep _ = Unit {0}

@@ -11,6 +11,7 @@ use Rattle.irq_status.specs.declared.HostWrite.TheVariants.{Ack, Enable, Trigger
 use Rattle.irq_status.specs.Register.{fbus, acknowledged}
 use Rattle.machine_model.specs.declared.Job.TheVariants.{Idle}
 use Rattle.machine_model.specs.declared.Skipping.TheVariants.{Nothing}
+use Rattle.machine_model.specs.Paths.{RiscProgram}
 use Rattle.machine_model.specs.States.{State}
 use Rattle.machine_model.specs.Turns.{with_bits_raised, turn}
 
@@ -93,6 +94,14 @@ step (Host write) m = host write m
 abbrev pub run : State → List Step → State
 run m [] = m
 run m (s ∷ steps) = run (step s m) steps
+
+-- a run of which each step meets a program of its own
+abbrev pub with_program : RiscProgram → State → State
+with_program program m = record m { program = program }
+
+abbrev pub run_in : State → List (RiscProgram × Step) → State
+run_in m [] = m
+run_in m (s ∷ steps) = run_in (step s.1 (with_program s.0 m)) steps
 
 -- the state at a place of a list of steps: the moment before the step of that number
 abbrev pub state_at : State → List Step → ℕ → State

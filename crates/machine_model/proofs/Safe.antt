@@ -1,0 +1,57 @@
+-- Safety is kept by every step of a sound program.
+use Rattle.std.proofs.Common.{◌≡◌, ℕ, false, refl, sym, ap, subst, ◌∙◌}
+use Rattle.risc_word.specs.declared.Code.{Code}
+use Rattle.sync_status.specs.Statuses.{kind_of, is_control}
+use Rattle.fifo_model.specs.declared.Entry.{Entry}
+use Rattle.fifo_model.specs.declared.Queue.{Queue}
+use Rattle.irq_status.specs.declared.HostWrite.{HostWrite}
+use Rattle.machine_model.specs.Paths.{RiscProgram, path, IsSound}
+use Rattle.machine_model.specs.States.{State, first_state}
+use Rattle.machine_model.specs.Turns.{turn}
+use Rattle.machine_model.specs.Steps.{Step, Push, Control, Turn, Host, push, push_control, host, step}
+use Rattle.machine_model.specs.Safety.{JobAt, IsOnPath, IsSafe, IsStep}
+use Rattle.machine_model.proofs.Memory.{chunks-filled}
+use Rattle.machine_model.proofs.Orderly.{IsOrderly-step, IsOrderly-first_state}
+use Rattle.machine_model.proofs.Fixed.{program-step, chunks-step}
+use Rattle.machine_model.proofs.Following.{Follows, Follows-step}
+
+pub IsSafe-Follows : (m : State) → IsSafe m → Follows m.program m
+IsSafe-Follows m h = record { same = refl; number = h.on_path.number; there = h.on_path.there; no_error = h.no_error }
+
+IsOnPath-Follows : (program : RiscProgram) (m : State) → Follows program m → IsOnPath m
+IsOnPath-Follows program m h =
+    record {
+      number = h.number;
+      there = subst (λ p. JobAt p (path p h.number) m.pc m.skipping m.target m.job) (sym h.same) h.there;
+    }
+
+pub IsSafe-step : (s : Step) (m : State) → IsStep s → IsSound m.program → IsSafe m → IsSafe (step s m)
+IsSafe-step s m n sound h =
+    let next = Follows-step m.program sound s m (IsSafe-Follows m h) in
+    record {
+      on_path = IsOnPath-Follows m.program (step s m) next;
+      chunks = chunks-step s m ∙ h.chunks ∙ sym (ap (λ p. p.grants) (program-step s m));
+      no_error = next.no_error;
+      orderly = IsOrderly-step s m n h.orderly;
+    }
+
+pub IsSafe-turn : (m : State) → IsSound m.program → IsSafe m → IsSafe (turn m)
+IsSafe-turn m sound h = IsSafe-step Turn m tt sound h
+
+pub IsSafe-push : (q : Queue) (entry : Entry) (m : State) → is_control (kind_of entry.status) ≡ false → IsSound m.program → IsSafe m → IsSafe (push q entry m)
+IsSafe-push q entry m n sound h = IsSafe-step (Push q entry) m n sound h
+
+pub IsSafe-push_control : (code : Code) (m : State) → IsSound m.program → IsSafe m → IsSafe (push_control code m)
+IsSafe-push_control code m sound h = IsSafe-step (Control code) m tt sound h
+
+pub IsSafe-host : (write : HostWrite) (m : State) → IsSound m.program → IsSafe m → IsSafe (host write m)
+IsSafe-host write m sound h = IsSafe-step (Host write) m tt sound h
+
+pub IsSafe-first_state : (program : RiscProgram) (fill : ℕ) → IsSafe (first_state program fill)
+IsSafe-first_state program fill =
+    record {
+      on_path = record { number = 0; there = (refl, refl) };
+      chunks = chunks-filled fill program.grants;
+      no_error = refl;
+      orderly = IsOrderly-first_state program fill;
+    }
