@@ -212,7 +212,7 @@ module _ (program : RiscProgram) (sound : IsSound program) where
   -- ---- running
 
   -- the place after the running instruction
-  after_running : (instr : Instr) (ds : Demands) (number : ℕ) (m : State) →
+  pub after_running : (instr : Instr) (ds : Demands) (number : ℕ) (m : State) →
       RunsAt program (path program number) m.pc m.skipping m.target instr ds →
       path program (suc number) ≡ place_of m.pc (target_after instr m.target)
   after_running instr ds number m r =

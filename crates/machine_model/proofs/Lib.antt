@@ -9,3 +9,4 @@ pub mod Places
 pub mod Demanded
 pub mod Following
 pub mod Safe
+pub mod Rows

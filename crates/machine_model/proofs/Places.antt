@@ -1,5 +1,5 @@
 -- The places of a sound program's path: an instruction stands at each, and the next place is the one after it.
-use Rattle.std.proofs.Common.{◌≡◌, ℕ, suc, ◌+◌, ◌*◌, Bool, true, false, Option, Some, None, Ok, Err, IsTrue, refl, ap, ◌∙◌, if◌then◌else◌}
+use Rattle.std.proofs.Common.{◌≡◌, ℕ, suc, ◌+◌, ◌*◌, Bool, true, false, Option, Some, None, Ok, Err, IsTrue, refl, sym, ap, ◌∙◌, if◌then◌else◌}
 use Rattle.risc_word.specs.declared.Ctl.{Ctl}
 use Rattle.risc_word.specs.declared.Instr.{Instr}
 use Rattle.risc_word.specs.declared.Instr.TheVariants.{Jump, Sync}
@@ -22,6 +22,10 @@ reading-IsFine program target (Ok (instr, count)) h = record { instr = instr; le
 pub place-IsFine : (program : RiscProgram) (number : ℕ) → IsSound program →
     IsFine program (path program number).target (fetch program (path program number).pc)
 place-IsFine program number sound = reading-IsFine program _ _ (sound number)
+
+pub instr-fine : (program : RiscProgram) (number : ℕ) (instr : Instr) (count : ℕ) → IsSound program →
+    fetch program (path program number).pc ≡ Ok (instr, count) → instr_cause program instr (path program number).target ≡ None
+instr-fine program number instr count sound e = ap (reading_cause program (path program number).target) (sym e) ∙ sound number
 
 pub path-suc : (program : RiscProgram) (number : ℕ) (instr : Instr) (count : ℕ) → IsSound program →
     fetch program (path program number).pc ≡ Ok (instr, count) → path program (suc number) ≡ place_after instr count (path program number)
