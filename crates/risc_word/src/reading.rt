@@ -227,9 +227,9 @@ fn reading_at(words: &[u32], at: usize) -> Reading
 }
 
 /// The instruction at word `at`, counted from 0, and its length in words (Bt878 data sheet, "RISC
-/// instructions"). Bits that no field names are ignored, and so is the second word of a SYNC. An answer
-/// comes from the first of these that fits: no word stands there, the opcode is reserved, a further word
-/// is missing, a SYNC names no control code.
+/// instructions"). Bits that no field names are ignored, and so is the second word of a SYNC. The fault
+/// is the first that holds of these: no word stands there, the opcode is reserved, a further word is
+/// missing, a SYNC names no control code.
 #[inline]
 pub fn decode(words: &[u32], at: usize) -> Result<(Instr, u8), WordFault>
     ensures value { result ≡ instr_at words.now at }
