@@ -10,3 +10,5 @@ pub mod Demanded
 pub mod Following
 pub mod Safe
 pub mod Rows
+pub mod Inside
+pub mod Runs

@@ -80,3 +80,10 @@ pub record IsSafe (m : State) : Type 0 where
 pub record StaysInside (m : State) : Type 0 where
   pub written : All (λ address. IsTrue (granted m.program.grants address)) (writes m)
   pub read : All (λ address. IsTrue (is_word m.program address)) (fetches m)
+
+-- a state in a run of this program: safe, its turn stays inside, and OCERR is 0
+pub record IsInside (program : RiscProgram) (m : State) : Type 0 where
+  pub same : m.program ≡ program
+  pub safe : IsSafe m
+  pub inside : StaysInside m
+  pub no_error : has_ocerr m.interrupts ≡ false

@@ -2,6 +2,8 @@
 //! The types that the definitions and the code share stand here; the definitions stand in `specs/`.
 #![tactic(auto)]
 
+pub mod laws;
+
 use risc_word::{Code, Ctl, Instr};
 
 /// Why a place of a program's path isn't fine.
