@@ -1,6 +1,7 @@
 -- Memory: a byte for each granted address.
-use Rattle.std.specs.Prelude.{ℕ, ◌-◌, List, [], ◌∷◌, length, map, if◌then◌else◌, slice_set, slice_index, replicate}
-use Rattle.page_table.specs.Grants.{Chunk, chunk, covers}
+use Rattle.std.specs.Prelude.{ℕ, ◌-◌, ◌<◌, List, [], ◌∷◌, length, map, if◌then◌else◌, slice_set, slice_index, replicate}
+use Rattle.std.specs.List.{All}
+use Rattle.page_table.specs.Grants.{Chunk, chunk, covers, AreGrants}
 
 -- a stretch of memory: the address of its first byte, and its bytes
 pub record Block : Type 0 where
@@ -35,3 +36,13 @@ stored (block ∷ rest) address byte =
     if covers (chunk_of block) address
     then record block { bytes = slice_set block.bytes (address - block.at) byte } ∷ rest
     else block ∷ stored rest address byte
+
+-- every number of the blocks is a byte
+abbrev pub AreBytes : List Block → Type 0
+AreBytes [] = Unit {0}
+AreBytes (block ∷ rest) = All (λ byte. byte < 256) block.bytes × AreBytes rest
+
+-- the blocks of one memory
+pub record AreBlocks (memory : List Block) : Type 0 where
+  pub grants : AreGrants (chunks_of memory)
+  pub bytes : AreBytes memory

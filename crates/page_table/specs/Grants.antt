@@ -1,6 +1,6 @@
 -- Granted memory: a list of chunks.
-use Rattle.std.specs.Prelude.{ℕ, zero, suc, ◌+◌, Bool, ◌&&◌, List, Option, Some, None, if◌then◌else◌, nat_lt, nat_le}
-use Rattle.std.specs.List.{list_any}
+use Rattle.std.specs.Prelude.{ℕ, zero, suc, ◌+◌, ◌%◌, ◌^◌, ◌≤◌, ◌≡◌, Bool, ◌&&◌, List, [], ◌∷◌, length, Option, Some, None, if◌then◌else◌, nat_lt, nat_le, ◌==◌, slice_index_or}
+use Rattle.std.specs.List.{list_any, sum_by}
 
 -- a chunk: the address of its first byte, and its length in bytes
 pub record Chunk : Type 0 where
@@ -9,6 +9,10 @@ pub record Chunk : Type 0 where
 
 abbrev pub chunk : ℕ → ℕ → Chunk
 chunk at len = record { at = at; len = len }
+
+-- the chunk at a place of a list, counted from 0
+abbrev pub chunk_at : List Chunk → ℕ → Chunk
+chunk_at chunks place = slice_index_or chunks place (chunk 0 0)
 
 abbrev pub covers : Chunk → ℕ → Bool
 covers c address = nat_le c.at address && nat_lt address (c.at + c.len)
@@ -22,3 +26,29 @@ abbrev pub first_ungranted : List Chunk → ℕ → ℕ → Option ℕ
 first_ungranted chunks address zero = None
 first_ungranted chunks address (suc count) =
     if granted chunks address then first_ungranted chunks (address + 1) count else Some address
+
+-- a page: 4,096 bytes from a multiple of 4,096 on
+abbrev pub is_page : Chunk → Bool
+is_page c = c.at % 4096 == 0 && c.len == 4096
+
+-- a chunk that can be granted
+pub record IsChunk (c : Chunk) : Type 0 where
+  pub at_aligned : c.at % 4 ≡ 0
+  pub len_aligned : c.len % 4 ≡ 0
+  pub some : 4 ≤ c.len
+  pub ends : c.at + c.len ≤ 2 ^ 32
+
+-- chunks that stand in rising order from an address on and share no byte
+abbrev pub AreRising : ℕ → List Chunk → Type 0
+AreRising from [] = Unit {0}
+AreRising from (c ∷ rest) = (from ≤ c.at) × IsChunk c × AreRising (c.at + c.len) rest
+
+-- how many bytes the chunks have together
+abbrev pub total : List Chunk → ℕ
+total chunks = sum_by (λ c. c.len) chunks
+
+-- the chunks of one memory
+pub record AreGrants (chunks : List Chunk) : Type 0 where
+  pub few : length chunks ≤ 4096
+  pub small : total chunks ≤ 2 ^ 24
+  pub rising : AreRising 0 chunks

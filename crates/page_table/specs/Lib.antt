@@ -1,2 +1,3 @@
 pub mod Grants
 pub mod Blocks
+pub mod Taken
