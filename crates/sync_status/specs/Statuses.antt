@@ -1,5 +1,5 @@
 -- The table of status codes, and the verdict on a front entry.
-use Rattle.std.specs.Prelude.{ℕ, ◌-◌, min, Bool, true, false, List, [], ◌∷◌, if◌then◌else◌, ◌==◌, slice_index_or}
+use Rattle.std.specs.Prelude.{◌≤◌, ℕ, ◌+◌, ◌-◌, min, Bool, true, false, List, [], ◌∷◌, if◌then◌else◌, ◌==◌, slice_index_or}
 use Rattle.risc_word.specs.declared.Code.TheVariants.{Vre, Vro, Fm1, Fm3}
 use Rattle.sync_status.specs.declared.StatusKind.{StatusKind}
 use Rattle.sync_status.specs.declared.StatusKind.TheVariants.{Control, Start, Pixels, End, Reserved}
@@ -64,3 +64,10 @@ verdict_at_start _ taken rest = Discard
 abbrev pub verdict_on : StatusKind → Bool → ℕ → ℕ → Verdict
 verdict_on kind true taken rest = verdict_at_start kind taken rest
 verdict_on kind false taken rest = verdict_in_line kind taken rest
+
+-- a verdict to take bytes takes at least one, no more than are left of the entry's valid bytes, and no
+-- more than are asked for
+abbrev pub TakesWithin : ℕ → ℕ → ℕ → Verdict → Type 0
+TakesWithin valid taken rest (Take count) =
+    (1 ≤ count) × (taken + count ≤ valid) × (count ≤ rest)
+TakesWithin valid taken rest _ = Unit {0}

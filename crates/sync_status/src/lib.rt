@@ -2,7 +2,7 @@
 #![tactic(auto)]
 
 ghost use Rattle.std.specs.Prelude.{◌≡◌, ℕ, ◌<◌, ◌≤◌, ◌⊎◌, min};
-ghost use Rattle.sync_status.specs.Statuses.{kind_of, valid_bytes, verdict_on};
+ghost use Rattle.sync_status.specs.Statuses.{kind_of, valid_bytes, verdict_on, TakesWithin};
 
 use risc_word::Code;
 use std::marker::Model;
@@ -93,19 +93,16 @@ pub fn kind(s: Status) -> StatusKind
     }
 }
 
+/// The valid lanes of each code.
+const LANES: [u8; 16] = [4, 4, 4, 0, 0, 1, 0, 0, 0, 2, 0, 0, 0, 3, 0, 0];
+
 /// How many lanes of the entry hold bytes of the line, from lane 0 on.
 #[inline]
 pub fn valid(s: Status) -> u8
     ensures bytes { result ≡ valid_bytes s }
     ensures lanes { result ≤ 4 }
 {
-    match s.nibble {
-        0 | 1 | 2 => 4,
-        5 => 1,
-        9 => 2,
-        13 => 3,
-        _ => 0,
-    }
+    LANES[usize::from(s.nibble)]
 }
 
 /// What a line under way does with the entry at its queue's front, of which `part` bytes were taken
@@ -115,16 +112,23 @@ pub fn valid(s: Status) -> u8
 pub fn judge(front: Status, need_sol: bool, part: u8, rest: u16) -> Verdict
     requires asked { 1 ≤ rest }
     requires within { (part ≡ 0) ⊎ (part < valid_bytes front) }
-    ensures { result ≡ verdict_on (kind_of front) need_sol part rest }
+    ensures verdict { result ≡ verdict_on (kind_of front) need_sol part rest }
+    ensures takes { TakesWithin (valid_bytes front) part rest result }
 {
-    match kind(front) {
-        StatusKind::Control(_) => Verdict::Broken,
-        StatusKind::Reserved => Verdict::Discard,
-        StatusKind::Start if need_sol && part == 0 => Verdict::Take(lesser(rest, 4)),
-        StatusKind::Start if part == 0 => Verdict::Missing,
-        _ if need_sol => Verdict::Discard,
-        StatusKind::Start | StatusKind::Pixels => Verdict::Take(lesser(rest, 4 - part)),
-        StatusKind::End(count) => Verdict::Take(lesser(rest, count - part)),
+    let lanes = valid(front);
+    if lanes == 0 {
+        return match kind(front) {
+            StatusKind::Control(_) => Verdict::Broken,
+            _ => Verdict::Discard,
+        };
+    }
+    let begins = part == 0 && matches!(kind(front), StatusKind::Start);
+    if begins == need_sol {
+        Verdict::Take(lesser(rest, lanes - part))
+    } else if need_sol {
+        Verdict::Discard
+    } else {
+        Verdict::Missing
     }
 }
 
