@@ -1,6 +1,7 @@
 -- Ranges of granted bytes.
 use Rattle.std.proofs.Common.{◌≡◌, ℕ, zero, suc, ◌+◌, ◌-◌, ◌<◌, ◌≤◌, Bool, true, false, List, Some, None, refl, arith, if◌then◌else◌}
 use Rattle.page_table.specs.Grants.{Chunk, granted, first_ungranted}
+use Rattle.page_table.proofs.Grants.{all_granted}
 
 -- one byte less of a granted range
 less_one : (grants : List Chunk) (address count : ℕ) (first : Bool) → granted grants address ≡ first →
@@ -28,11 +29,4 @@ range_after grants address (suc count) (suc taken) le h =
 
 pub granted_at : (grants : List Chunk) (address count at : ℕ) → at < count → first_ungranted grants address count ≡ None →
     granted grants (address + at) ≡ true
-granted_at grants address zero at lt h = absurd (omega arith)
-granted_at grants address (suc count) zero lt h =
-    let a : address + 0 ≡ address = omega arith in
-    rw a (first_granted grants address count h).0
-granted_at grants address (suc count) (suc at) lt h =
-    let rest = granted_at grants (address + 1) count at (omega arith) (first_granted grants address count h).1 in
-    let a : address + suc at ≡ address + 1 + at = omega arith in
-    rw a rest
+granted_at grants address count at lt h = all_granted grants address count (address + at) h (omega arith) (omega arith)

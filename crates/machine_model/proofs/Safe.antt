@@ -5,12 +5,12 @@ use Rattle.sync_status.specs.Statuses.{kind_of, is_control}
 use Rattle.fifo_model.specs.declared.Entry.{Entry}
 use Rattle.fifo_model.specs.declared.Queue.{Queue}
 use Rattle.irq_status.specs.declared.HostWrite.{HostWrite}
+use Rattle.page_table.proofs.Memory.{chunks_of-filled}
 use Rattle.machine_model.specs.Paths.{RiscProgram, path, IsSound}
 use Rattle.machine_model.specs.States.{State, first_state}
 use Rattle.machine_model.specs.Turns.{turn}
 use Rattle.machine_model.specs.Steps.{Step, Push, Control, Turn, Host, push, push_control, host, step}
 use Rattle.machine_model.specs.Safety.{JobAt, IsOnPath, IsSafe, IsStep}
-use Rattle.machine_model.proofs.Memory.{chunks-filled}
 use Rattle.machine_model.proofs.Orderly.{IsOrderly-step, IsOrderly-first_state}
 use Rattle.machine_model.proofs.Fixed.{program-step, chunks-step}
 use Rattle.machine_model.proofs.Following.{Follows, Follows-step}
@@ -51,7 +51,7 @@ pub IsSafe-first_state : (program : RiscProgram) (fill : ℕ) → IsSafe (first_
 IsSafe-first_state program fill =
     record {
       on_path = record { number = 0; there = (refl, refl) };
-      chunks = chunks-filled fill program.grants;
+      chunks = chunks_of-filled fill program.grants;
       no_error = refl;
       orderly = IsOrderly-first_state program fill;
     }

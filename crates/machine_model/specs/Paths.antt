@@ -7,7 +7,7 @@ use Rattle.risc_word.specs.declared.Instr.TheVariants.{Write, Skip, WriteC, Jump
 use Rattle.risc_word.specs.declared.WordFault.{WordFault}
 use Rattle.risc_word.specs.declared.WordFault.TheVariants as fault
 use Rattle.risc_word.specs.Words.{Reading, instr_at}
-use Rattle.page_table.specs.Grants.{Chunk, first_ungranted}
+use Rattle.page_table.specs.Grants.{Chunk, AreGrants, first_ungranted}
 use Rattle.machine_model.specs.declared.Cause.{Cause}
 use Rattle.machine_model.specs.declared.Cause.TheVariants.{Cut, Reserved, SyncCode, JumpOut, NoTarget, Wrap, Ungranted}
 use Rattle.machine_model.specs.declared.Demand.{Demand}
@@ -30,6 +30,7 @@ pub record IsProgram (program : RiscProgram) : Type 0 where
   pub few : length program.words ≤ 1048576
   pub ends : program.base + 4 * length program.words ≤ 2 ^ 32
   pub fit : All (λ word. word < 2 ^ 32) program.words
+  pub grants : AreGrants program.grants
   pub apart : All (λ c. shares_byte program c ≡ false) program.grants
 
 -- a state of a path: where the next instruction stands, and where a WRITEC would go on
