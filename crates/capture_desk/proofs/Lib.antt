@@ -1,1 +1,4 @@
 pub mod Laws
+pub mod Names
+mod Slots
+mod Told

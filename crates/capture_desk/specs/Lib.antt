@@ -1,1 +1,4 @@
 pub mod Desks
+pub mod Memory
+pub mod Bounds
+pub mod Inside

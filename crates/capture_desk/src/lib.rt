@@ -1,8 +1,11 @@
 //! Where files come from and where they go: a trait of desks, one over memory and one over the system.
 #![tactic(auto)]
 
+mod bounded;
 mod desk;
+mod memory;
 mod octets;
 
 pub use crate::desk::{Desk, Failed, OpenFault, put};
+pub use crate::memory::MemDesk;
 pub use crate::octets::Octets;

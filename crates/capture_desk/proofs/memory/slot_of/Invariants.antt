@@ -1,0 +1,7 @@
+use Rattle.std.proofs.Common.{◌≡◌, ℕ, ◌<◌, map, false, slice_index_or}
+use Rattle.std.specs.Str.{bytes_eq}
+use Rattle.capture_desk.specs.Inside.{entry, nothing}
+use Rattle.capture_desk.proofs.memory.slot_of.Given as goal
+
+abbrev pub invariant-loop-i : goal.invariant-loop-i
+invariant-loop-i l = (k : ℕ) → k < l.i → bytes_eq (slice_index_or (map entry l.slots) k nothing).0 l.name ≡ false
