@@ -1,0 +1,67 @@
+-- What stands at each step of the walk along a path.
+use Rattle.std.proofs.Common.{◌≡◌, ℕ, zero, suc, ◌+◌, ◌<◌, ◌⊎◌, inl, inr, Bool, false, IsTrue, List, replicate, Some, None, refl, ap, sym, ◌∙◌, arith, add-one, below_more}
+use Rattle.machine_model.specs.declared.Cause.{Cause}
+use Rattle.machine_model.specs.Paths.{RiscProgram, Place, cause_at, next_place, path, IsSound, IsFirstBad}
+use Rattle.risc_verify.specs.Rounds.{AreFine}
+use Rattle.risc_verify.specs.Programs.{first_place}
+use Rattle.risc_verify.specs.Marks.{IsKnown, is_marked, plain_place}
+use Rattle.risc_verify.proofs.Rounds.{sound-from_repeat}
+
+-- the path came to a word with no target
+pub record HasMet (program : RiscProgram) (count word : ℕ) : Type 0 where
+  pub number : ℕ
+  pub before : number < count
+  pub there : path program number ≡ plain_place program word
+
+-- so many places are fine, the next is this one, and each mark is of a word met with no target
+pub record Walks (program : RiscProgram) (count : ℕ) (place : Place) (marks : List Bool) : Type 0 where
+  pub fine : AreFine program count
+  pub here : path program count ≡ place
+  pub met : (word : ℕ) → IsTrue (is_marked marks word) → HasMet program count word
+
+none_marked : (n word : ℕ) → is_marked (replicate n false) word ≡ false
+none_marked zero word = refl
+none_marked (suc n) zero = refl
+none_marked (suc n) (suc word) = none_marked n word
+
+no_mark : (n word : ℕ) → IsTrue (is_marked (replicate n false) word) → ⊥
+no_mark n word marked = absurd (cc (none_marked n word))
+
+pub Walks-first : (program : RiscProgram) (n : ℕ) → Walks program 0 (first_place program) (replicate n false)
+Walks-first program n =
+    record {
+      fine = λ k below. absurd (omega arith);
+      here = refl;
+      met = λ word marked. absurd (no_mark n word marked);
+    }
+
+pub Walks-next :
+    (program : RiscProgram) (count : ℕ) (place next : Place) (marks after : List Bool)
+    → Walks program count place marks
+    → ((word : ℕ) → IsTrue (is_marked after word) → IsTrue (is_marked marks word) ⊎ (place ≡ plain_place program word))
+    → cause_at program place ≡ None → next_place program place ≡ next
+    → Walks program (count + 1) next after
+Walks-next program count place next marks after w marked fine is_next =
+    record {
+      fine =
+          below_more (λ (k : ℕ). cause_at program (path program k) ≡ None) count w.fine
+          (ap (cause_at program) w.here ∙ fine);
+      here = rw add-one (ap (next_place program) w.here ∙ is_next);
+      met =
+          λ word is_marked.
+          elim (marked word is_marked) [
+            | inl old ↦
+                let m = w.met word old in
+                record { number = m.number; before = omega arith; there = m.there }
+            | inr new ↦ record { number = count; before = omega arith; there = w.here ∙ new }
+          ];
+    }
+
+pub sound-from_known : (program : RiscProgram) (count : ℕ) (place : Place) (marks : List Bool) → Walks program count place marks → IsKnown program marks place → IsSound program
+sound-from_known program count place marks w known =
+    let m = w.met known.word known.marked in
+    sound-from_repeat program m.number count m.before (m.there ∙ sym (w.here ∙ known.here)) w.fine
+
+pub first_bad-from_walk : (program : RiscProgram) (count : ℕ) (place : Place) (marks : List Bool) (cause : Cause) → Walks program count place marks → cause_at program place ≡ Some cause → IsFirstBad program place.pc count cause
+first_bad-from_walk program count place marks cause w bad =
+    record { fine = w.fine; bad = ap (cause_at program) w.here ∙ bad; there = ap (λ (p : Place). p.pc) w.here }

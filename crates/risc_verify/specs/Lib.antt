@@ -1,0 +1,4 @@
+pub mod Rounds
+pub mod Programs
+pub mod Marks
+pub mod Verdicts

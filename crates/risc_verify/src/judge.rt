@@ -1,0 +1,195 @@
+//! Places of a path: why one isn't fine, and the one after it.
+
+ghost use Rattle.machine_model.specs.Paths.{cause_at, fault_cause, first_cause, instr_cause, next_place, place_after, target_after, target_before, written_cause};
+ghost use Rattle.risc_verify.specs.Programs.{first_place};
+ghost use Rattle.std.specs.Prelude.{◌≡◌, ◌+◌, ◌*◌, ◌^◌, ◌<◌, ◌≤◌, MatchResult, None, Some, slice_index, unwrap_or, if◌then◌else◌};
+
+use super::Program;
+use machine_model::Cause;
+use page_table::PageSet;
+use risc_word::{Instr, WordFault};
+use std::marker::Model;
+
+/// A place of a path: where the next instruction stands, and where a WRITEC would go on.
+#[derive(Drop)]
+pub(crate) struct PathPlace {
+    pc: u64,
+    target: Option<u64>,
+}
+
+impl Model for PathPlace {
+    ghost use Rattle.machine_model.specs.Paths.{Place};
+    ghost use Rattle.std.specs.Prelude.{◌^◌, ◌<◌, ◌≤◌, unwrap_or};
+
+    ghost Value = { Place };
+
+    ghost view = { λ p. record { pc = p.pc; target = p.target } };
+
+    ghost invariant = { λ p. (p.pc < 2 ^ 33) × (unwrap_or p.target 0 ≤ 2 ^ 32) };
+}
+
+impl PathPlace {
+    // The first place of a program's path.
+    pub(crate) fn first(program: &Program) -> PathPlace
+        ensures { result ≡ first_place program.now }
+    {
+        PathPlace {
+            pc: u64::from(program.base()),
+            target: None,
+        }
+    }
+
+    // Where the next instruction stands.
+    #[inline]
+    pub(crate) fn pc(&self) -> u64
+        ensures { result ≡ self.now.pc }
+    {
+        self.pc
+    }
+
+    // Where a WRITEC would go on.
+    #[inline]
+    pub(crate) fn target(&self) -> Option<u64>
+        ensures { result ≡ self.now.target }
+    {
+        self.target
+    }
+}
+
+// A target that a mark of the line makes none.
+#[inline]
+fn unless(mark: bool, target: Option<u64>) -> Option<u64>
+    ensures { result ≡ (if mark then None else target) }
+{
+    if mark { None } else { target }
+}
+
+// Why a range can't be written.
+#[inline]
+fn written_cause(grants: &PageSet, address: u64, count: u16) -> Option<Cause>
+    requires { address ≤ 2 ^ 32 }
+    ensures { result ≡ written_cause grants.now address count }
+{
+    if address + u64::from(count) > 1 << 32 {
+        return Some(Cause::Wrap);
+    }
+    if count == 0 {
+        return None;
+    }
+    match grants.covers(address as u32, u32::from(count)) {
+        Ok(()) => None,
+        Err(at) => Some(Cause::Ungranted(at)),
+    }
+}
+
+// Why the first of three ranges that can't be written can't.
+fn three_cause(grants: &PageSet, addrs: &[u32; 3], counts: &[u16; 3]) -> Option<Cause>
+    ensures { result ≡ first_cause (written_cause grants.now (slice_index addrs.now 0) (slice_index counts.now 0)) (first_cause (written_cause grants.now (slice_index addrs.now 1) (slice_index counts.now 1)) (written_cause grants.now (slice_index addrs.now 2) (slice_index counts.now 2))) }
+{
+    if let Some(cause) = written_cause(grants, u64::from(addrs[0]), counts[0]) {
+        return Some(cause);
+    }
+    if let Some(cause) = written_cause(grants, u64::from(addrs[1]), counts[1]) {
+        return Some(cause);
+    }
+    written_cause(grants, u64::from(addrs[2]), counts[2])
+}
+
+// Why an instruction isn't fine.
+#[inline]
+fn instr_cause(program: &Program, instr: &Instr, target: Option<u64>) -> Option<Cause>
+    requires { unwrap_or target 0 ≤ 2 ^ 32 }
+    ensures { result ≡ instr_cause program.now instr.now target }
+{
+    match instr {
+        Instr::Write { count, addr, .. } => {
+            written_cause(program.grants(), u64::from(*addr), *count)
+        }
+        Instr::WriteC { ends, count, .. } => {
+            match unless(ends.sol, target) {
+                Some(at) => written_cause(program.grants(), at, *count),
+                None => Some(Cause::NoTarget),
+            }
+        }
+        Instr::Jump { target: to, .. } => {
+            match program.word_at(u64::from(*to)) {
+                Some(_) => None,
+                None => Some(Cause::JumpOut(*to)),
+            }
+        }
+        Instr::Write123 { counts, addrs, .. } => three_cause(program.grants(), addrs, counts),
+        Instr::Write1S23 { counts, addr, .. } => {
+            written_cause(program.grants(), u64::from(*addr), counts[0])
+        }
+        Instr::Skip { .. } | Instr::Sync { .. } | Instr::Skip123 { .. } => None,
+    }
+}
+
+// The target after an instruction.
+#[inline]
+fn target_after(instr: &Instr, target: Option<u64>) -> Option<u64>
+    requires { unwrap_or target 0 ≤ 2 ^ 32 }
+    ensures { result ≡ target_after instr.now (target_before instr.now target) }
+{
+    match instr {
+        Instr::Write {
+            ends,
+            count,
+            addr,
+            ..
+        } => { unless(ends.eol, Some(u64::from(*addr) + u64::from(*count))) }
+        Instr::Skip { ends, .. } => unless(ends.eol, unless(ends.sol, target)),
+        Instr::WriteC { ends, count, .. } => {
+            let moved = match unless(ends.sol, target) {
+                Some(at) => Some(at + u64::from(*count)),
+                None => None,
+            };
+            unless(ends.eol, moved)
+        }
+        _ => None,
+    }
+}
+
+// The place after an instruction of so many words.
+#[inline]
+fn place_after(instr: &Instr, count: u8, place: &PathPlace) -> PathPlace
+    requires pc { place.now.pc < 2 ^ 32 }
+    requires target { unwrap_or (target_after instr.now (target_before instr.now place.now.target)) 0 ≤ 2 ^ 32 }
+    ensures { result ≡ place_after instr.now count place.now }
+{
+    match instr {
+        Instr::Jump { target, .. } => PathPlace {
+            pc: u64::from(*target),
+            target: None,
+        },
+        _ => PathPlace {
+            pc: place.pc + 4 * u64::from(count),
+            target: target_after(instr, place.target),
+        },
+    }
+}
+
+fn fault_cause(fault: WordFault) -> Cause
+    ensures { result ≡ fault_cause fault }
+{
+    match fault {
+        WordFault::Reserved(opcode) => Cause::Reserved(opcode),
+        WordFault::SyncCode(code) => Cause::SyncCode(code),
+        WordFault::Cut => Cause::Cut,
+    }
+}
+
+// The place after this one, or why this one isn't fine.
+#[inline]
+pub(crate) fn step(program: &Program, place: &PathPlace) -> Result<PathPlace, Cause>
+    ensures { MatchResult result (λ next. (cause_at program.now place.now ≡ None) × (next_place program.now place.now ≡ next)) (λ cause. cause_at program.now place.now ≡ Some cause) }
+{
+    let (instr, count) = match program.fetch(place.pc) {
+        Ok(read) => read,
+        Err(fault) => return Err(fault_cause(fault)),
+    };
+    match instr_cause(program, &instr, place.target) {
+        Some(cause) => Err(cause),
+        None => Ok(place_after(&instr, count, place)),
+    }
+}

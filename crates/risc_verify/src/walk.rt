@@ -1,0 +1,134 @@
+//! The walk along a program's path.
+
+ghost use Rattle.machine_model.specs.Paths.{IsSound};
+ghost use Rattle.risc_verify.specs.Marks.{IsKnown, is_marked, plain_place};
+ghost use Rattle.risc_verify.specs.Rounds.{enough_places};
+ghost use Rattle.risc_verify.specs.Verdicts.{HasCounted, Refuses};
+ghost use Rattle.risc_verify.specs.declared.walk.Why.TheVariants.{Memory};
+ghost use Rattle.std.specs.Prelude.{◌≡◌, ℕ, ◌+◌, ◌≤◌, ◌⊎◌, IfErr, IfOk, IsTrue, length, false, replicate};
+
+use super::judge::{PathPlace, step};
+use super::{Accepted, Program, Steps};
+use machine_model::Cause;
+use std::alloc::{AllocError, Global};
+use std::marker::Model;
+use std::sync::ledger::Ledger;
+
+/// Why a program was not accepted.
+#[derive(Clone, Copy)]
+pub enum Why {
+    /// The first place of the path that isn't fine: the address where its instruction stands, its number
+    /// on the path, counted from 0, and its first fault.
+    Bad { at: u64, nth: u64, cause: Cause },
+    /// Want of memory.
+    Memory,
+}
+
+impl From<AllocError> for Why {
+    ghost from_gives = { λ _ why. why ≡ Memory };
+
+    fn from(_error: AllocError) -> Why {
+        Why::Memory
+    }
+}
+
+/// A program that was not accepted, as it was, and why.
+#[derive(Drop)]
+pub struct Rejected {
+    pub program: Program,
+    pub why: Why,
+}
+
+// A mark for each word: whether the path came there with no target.
+#[derive(Drop)]
+struct Marks {
+    words: Vec<bool>,
+}
+
+impl Model for Marks {
+    ghost use Rattle.std.specs.Prelude.{Bool, List};
+
+    ghost Value = { List Bool };
+
+    ghost view = { λ marks. marks.words.items };
+}
+
+impl Marks {
+    fn new(alloc: Global, words: usize) -> Result<Marks, AllocError>
+        ensures { IfOk result (λ marks. marks ≡ replicate words false) }
+    {
+        Ok(Marks {
+            words: vec![in alloc; false; words]?,
+        })
+    }
+
+    // Whether the path was at this place before, as far as the marks tell. Marks it.
+    #[inline]
+    fn meet(&mut self, program: &Program, place: &PathPlace) -> bool
+        requires { length self.old ≡ length program.now.words }
+        ensures known { IsTrue result → IsKnown program.now self.old place.now }
+        ensures marked { (word : ℕ) → IsTrue (is_marked self.new word) → IsTrue (is_marked self.old word) ⊎ (place.now ≡ plain_place program.now word) }
+        ensures len { length self.new ≡ length self.old }
+    {
+        if place.target().is_some() {
+            return false;
+        }
+        match program.word_at(place.pc()) {
+            Some(word) => {
+                let known = self.words[word];
+                self.words[word] = true;
+                known
+            }
+            None => false,
+        }
+    }
+}
+
+// Walks until the path comes round, or to its first place that isn't fine.
+fn walk<L: Ledger>(alloc: Global, program: &Program, steps: &mut Steps<L>) -> Result<(), Why>
+    ensures sound { IfOk result (λ _. IsSound program.now) }
+    ensures refused { IfErr result (λ why. Refuses program.now why) }
+    ensures counted { IfErr result (λ why. HasCounted steps.old steps.new why) }
+    ensures cost { (steps.old ≤ steps.new) × (steps.new ≤ steps.old + enough_places program.now) }
+{
+    let words = program.words().len();
+    let mut marks = Marks::new(alloc, words)?;
+    let mut place = PathPlace::first(program);
+    for nth in 0..2 * words as u64 + 1 {
+        if marks.meet(program, &place) {
+            return Ok(());
+        }
+        steps.tick();
+        match step(program, &place) {
+            Ok(next) => place = next,
+            Err(cause) => {
+                return Err(Why::Bad {
+                    at: place.pc(),
+                    nth,
+                    cause,
+                });
+            }
+        }
+    }
+    Ok(())
+}
+
+/// Accepts the program exactly where it is sound: no place of its path has a fault. A refusal gives the
+/// program back and names the first place that isn't fine. One step is counted for each place that is
+/// judged. What a fault is, and their order, is this project's own rule.
+pub fn verify<L: Ledger>(
+    alloc: Global,
+    program: Program,
+    steps: &mut Steps<L>,
+) -> Result<Accepted, Rejected>
+    ensures accepted { IfOk result (λ accepted. (accepted ≡ program) × IsSound program) }
+    ensures refused { IfErr result (λ rejected. (rejected.program ≡ program) × Refuses program rejected.why) }
+    ensures sound { IsSound program → IfErr result (λ rejected. rejected.why ≡ Memory) }
+    ensures counted { IfErr result (λ rejected. HasCounted steps.old steps.new rejected.why) }
+    ensures cost { (steps.old ≤ steps.new) × (steps.new ≤ steps.old + enough_places program) }
+{
+    match walk(alloc, &program, steps) {
+        Ok(()) => Ok(Accepted::new(program)),
+        Err(why) => Err(Rejected { program, why }),
+    }
+}
