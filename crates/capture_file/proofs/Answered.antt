@@ -1,0 +1,146 @@
+-- What a reader answers: how much it uses of a piece, and what it says at the end.
+use Rattle.std.proofs.Common.{◌≡◌, ℕ, zero, suc, ◌+◌, ◌-◌, ◌<◌, ◌≤◌, Bool, true, false, List, [], ◌∷◌, ◌++◌, length, take, drop, Option, Some, None, refl, sym, ap, ◌∙◌, arith, length-append, length-take, length-drop}
+use Rattle.std.proofs.lemmas.Bool.{ltb-true, ltb-false, le-ltb}
+use Rattle.std.proofs.lemmas.List.{take_all, append-nil}
+use Rattle.std.specs.Prelude.{nat_lt}
+use Rattle.capture_file.specs.declared.FileFault.{FileFault}
+use Rattle.capture_file.specs.declared.reader.Got.{Got}
+use Rattle.capture_file.specs.declared.reader.Got.TheVariants as got
+use Rattle.capture_file.specs.declared.reader.Phase.{Phase}
+use Rattle.capture_file.specs.declared.reader.Phase.TheVariants.{Opening, Records, Closed, Failed}
+use Rattle.capture_file.specs.declared.records.Form.{Form}
+use Rattle.capture_file.specs.declared.records.Form.TheVariants.{Bfs1, Bfs2, Bfs3}
+use Rattle.capture_file.specs.declared.records.Found.{Found}
+use Rattle.capture_file.specs.declared.records.Found.TheVariants.{Cut, Wrong, Last, Whole}
+use Rattle.capture_file.specs.Records.{HasFour, Spans, Passes}
+use Rattle.capture_file.specs.Streams.{Reading, reading, Ending, Unfinished, Ended, Bad, number_at, form_of, record_at, records, within, within_if, opened_by, after_end, stream_of, judged}
+use Rattle.capture_file.specs.Readers.{Reader, Taken, resumed, taken, taken_in, unfinished_if, found_taken, record_taken, form_taken, word_taken, closed_taken, behind_word, begun, resumed_in, ending_in, Uses, Counts, IsAt, IsReader}
+use Rattle.capture_file.proofs.Fields.{number_at-four, record_at-spans, record_at-passes}
+use Rattle.capture_file.proofs.Readings.{records-front, front_of}
+
+abbrev reader : ℕ → Bool → Phase → ℕ → ℕ → List ℕ → Reader
+reader limit chained phase place turns held =
+    record { limit = limit; chained = chained; phase = phase; place = place; turns = turns; held = held }
+
+-- so much of a piece is used, and the place moves by it
+abbrev Moves : Reader → List ℕ → Taken → Type 0
+Moves r piece t = Uses t.answer t.used (length piece) × Counts t.answer (r.place + t.used) t.reader.place
+
+unfinished-moves : (over : Bool) (r : Reader) (piece : List ℕ) → nat_lt (r.limit - r.place) (length piece) ≡ over → Moves r piece (unfinished_if over r piece)
+unfinished-moves true r piece is =
+    let over : r.limit - r.place < length piece = ltb-true (r.limit - r.place) (length piece) is in
+    (omega arith, tt)
+unfinished-moves false r piece is = (refl, refl)
+
+module _ (r : Reader) (piece : List ℕ) where
+  found-moves : (found : Found) → Spans found (length (r.held ++ take (r.limit - r.place) piece)) → Passes found (length r.held) → Moves r piece (found_taken found r piece)
+  found-moves Cut spans passes = unfinished-moves (nat_lt (r.limit - r.place) (length piece)) r piece refl
+  found-moves (Wrong from to kind) spans passes =
+      let size = length-append r.held (take (r.limit - r.place) piece) in
+      let front = length-take (r.limit - r.place) piece in
+      (omega arith, tt)
+  found-moves Last spans passes =
+      let size = length-append r.held (take (r.limit - r.place) piece) in
+      let front = length-take (r.limit - r.place) piece in
+      ((omega arith, omega arith), refl)
+  found-moves (Whole step len) spans passes =
+      let size = length-append r.held (take (r.limit - r.place) piece) in
+      let front = length-take (r.limit - r.place) piece in
+      ((omega arith, omega arith), refl)
+
+record-moves : (form : Form) (r : Reader) (piece : List ℕ) → record_at form r.turns r.held ≡ Cut → Moves r piece (record_taken form r piece)
+record-moves form r piece cut =
+    found-moves r piece (record_at form r.turns (r.held ++ take (r.limit - r.place) piece))
+      (record_at-spans form r.turns (r.held ++ take (r.limit - r.place) piece))
+      (record_at-passes form r.turns r.held (take (r.limit - r.place) piece) cut)
+
+-- behind the first word
+later-moves : (answer : Got) (first used count rest before now : ℕ) → Uses answer used rest → Counts answer (4 + used) now → first ≤ count → rest ≡ count - first → before + first ≡ 4 →
+  Uses answer (first + used) count × Counts answer (before + (first + used)) now
+later-moves (got.Step step) first used count rest before now uses counts some is word = ((omega arith, omega arith), omega arith)
+later-moves got.End first used count rest before now uses counts some is word = ((omega arith, omega arith), omega arith)
+later-moves got.More first used count rest before now uses counts some is word = (omega arith, omega arith)
+later-moves (got.Bad fault) first used count rest before now uses counts some is word = (omega arith, tt)
+
+module _ (r : Reader) (piece : List ℕ) (place : r.place ≡ length r.held) (short : length r.held < 4) (turns : r.turns ≡ 0) where
+  enough : 4 ≤ length (r.held ++ take (r.limit - r.place) piece) → 4 - length r.held ≤ length piece
+  enough four =
+      let size = length-append r.held (take (r.limit - r.place) piece) in
+      let front = length-take (r.limit - r.place) piece in
+      omega arith
+
+  form-moves : (form : Form) → 4 ≤ length (r.held ++ take (r.limit - r.place) piece) → Moves r piece (behind_word form (4 - length r.held) (begun form r) (drop (4 - length r.held) piece))
+  form-moves Bfs1 four =
+      let t : Taken = record_taken Bfs1 (begun Bfs1 r) (drop (4 - length r.held) piece) in
+      let moves = record-moves Bfs1 (begun Bfs1 r) (drop (4 - length r.held) piece) refl in
+      later-moves t.answer (4 - length r.held) t.used (length piece) (length (drop (4 - length r.held) piece)) r.place t.reader.place
+        moves.0 moves.1 (enough four) (length-drop (4 - length r.held) piece) (omega arith)
+  form-moves Bfs2 four = ((omega arith, enough four), omega arith)
+  form-moves Bfs3 four = ((omega arith, enough four), omega arith)
+
+  word-moves : (word : Option ℕ) → HasFour word (length (r.held ++ take (r.limit - r.place) piece)) → Moves r piece (word_taken word r piece)
+  word-moves None four = unfinished-moves (nat_lt (r.limit - r.place) (length piece)) r piece refl
+  word-moves (Some word) four = named (form_of r.chained word)
+    where
+      named : (form : Option Form) → Moves r piece (form_taken form (4 - length r.held) r piece)
+      named None = (enough four, tt)
+      named (Some form) = form-moves form four
+
+closed-moves : (r : Reader) (piece : List ℕ) → Moves r piece (closed_taken r piece)
+closed-moves r [] = (refl, omega arith)
+closed-moves r (byte ∷ piece) = (omega arith, tt)
+
+phase-moves : (phase : Phase) (r : Reader) (piece : List ℕ) → IsAt phase r → Moves r piece (taken_in phase r piece)
+phase-moves Opening r piece at = word-moves r piece at.0 at.1 at.2 (number_at (r.held ++ take (r.limit - r.place) piece)) (number_at-four (r.held ++ take (r.limit - r.place) piece))
+phase-moves (Records form) r piece at = record-moves form r piece at.1
+phase-moves Closed r piece at = closed-moves r piece
+phase-moves (Failed fault) r piece at = (omega arith, tt)
+
+pub taken-moves : (r : Reader) (piece : List ℕ) → IsReader r → Moves r piece (taken r piece)
+unfolding taken
+taken-moves r piece is = phase-moves r.phase r piece is.at
+
+-- Where no byte comes any more.
+
+not-over : (limit count : ℕ) (found : Reading) → count ≤ limit → within limit count found ≡ found
+not-over limit count found h = ap (λ (b : Bool). within_if b limit found) (le-ltb limit count h)
+
+none-four : (word : Option ℕ) (count : ℕ) → HasFour word count → count < 4 → word ≡ None
+none-four None count four short = refl
+none-four (Some word) count four short = absurd (omega arith)
+
+opening-ends : (limit : ℕ) (chained : Bool) (held : List ℕ) → length held ≤ limit → length held < 4 → stream_of limit chained (held ++ []) ≡ reading [] Unfinished
+unfolding stream_of
+opening-ends limit chained held below short =
+    let none : number_at held ≡ None = none-four (number_at held) (length held) (number_at-four held) short in
+    ap (λ (zs : List ℕ). within limit (length zs) (judged chained (take limit zs))) (append-nil held)
+    ∙ ap (λ (zs : List ℕ). within limit (length held) (judged chained zs)) (take_all limit held below)
+    ∙ not-over limit (length held) (judged chained held) below
+    ∙ ap (λ (word : Option ℕ). opened_by chained word (drop 4 held)) none
+
+no-bytes : (n : ℕ) → take {A = ℕ} n [] ≡ []
+no-bytes zero = refl
+no-bytes (suc n) = refl
+
+record-ends : (form : Form) (limit place turns start room : ℕ) (held : List ℕ) → place ≤ limit → record_at form turns held ≡ Cut →
+  within limit (place + length {A = ℕ} []) (records form turns start 0 (held ++ take room [])) ≡ reading [] Unfinished
+record-ends form limit place turns start room held below cut =
+    not-over limit (place + length {A = ℕ} []) (records form turns start 0 (held ++ take room [])) (omega arith)
+    ∙ ap (records form turns start 0) (ap (λ (zs : List ℕ). held ++ zs) (no-bytes room) ∙ append-nil held)
+    ∙ records-front form turns start held
+    ∙ ap (λ (f : Found). front_of f form turns start held) cut
+
+closed-ends : (limit place room : ℕ) → place ≤ limit → within limit (place + length {A = ℕ} []) (reading [] (after_end place (take room []))) ≡ reading [] Ended
+closed-ends limit place room below =
+    not-over limit (place + length {A = ℕ} []) (reading [] (after_end place (take room []))) (omega arith)
+    ∙ ap (λ (zs : List ℕ). reading [] (after_end place zs)) (no-bytes room)
+
+phase-ends : (phase : Phase) (r : Reader) → r.place ≤ r.limit → IsAt phase r → resumed_in phase r [] ≡ reading [] (ending_in phase)
+phase-ends Opening r below at = opening-ends r.limit r.chained r.held (omega arith) at.1
+phase-ends (Records form) r below at = record-ends form r.limit r.place r.turns (r.place - length r.held) (r.limit - r.place) r.held below at.1
+phase-ends Closed r below at = closed-ends r.limit r.place (r.limit - r.place) below
+phase-ends (Failed fault) r below at = refl
+
+pub reader-ends : (r : Reader) → IsReader r → resumed r [] ≡ reading [] (ending_in r.phase)
+unfolding resumed
+reader-ends r is = phase-ends r.phase r is.below is.at

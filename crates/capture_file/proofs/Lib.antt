@@ -1,0 +1,5 @@
+pub mod Fields
+pub mod Readings
+pub mod Resumed
+pub mod Across
+pub mod Answered

@@ -1,0 +1,20 @@
+use Rattle.std.proofs.Common.{◌≡◌, ◌+◌, ◌++◌, List, ℕ, length, drop, sym, ◌∙◌, ap, subst}
+use Rattle.capture_file.specs.Readers.{Taken, taken, taking, resumed, after_answer, Uses, Counts}
+use Rattle.capture_file.proofs.Resumed.{taken-goes}
+use Rattle.capture_file.proofs.Answered.{taken-moves}
+use Rattle.capture_file.proofs.reader.StepReader.take.Goals as goal
+
+pub returns-clause-whole : goal.returns-clause-whole
+returns-clause-whole c more =
+    taken-goes c.args.self.now c.args.piece.now more c.advance.ensures.valid
+    ∙ sym (ap (λ (t : Taken). after_answer t.answer (resumed t.reader (drop t.used c.args.piece.now ++ more))) c.advance.ensures.exact)
+
+pub returns-clause-used : goal.returns-clause-used
+returns-clause-used c =
+    subst (λ (t : Taken). Uses t.answer t.used (length c.args.piece.now)) (sym c.advance.ensures.exact)
+    (taken-moves c.args.self.now c.args.piece.now c.advance.ensures.valid).0
+
+pub returns-clause-place : goal.returns-clause-place
+returns-clause-place c =
+    subst (λ (t : Taken). Counts t.answer (c.args.self.now.place + t.used) t.reader.place) (sym c.advance.ensures.exact)
+    (taken-moves c.args.self.now c.args.piece.now c.advance.ensures.valid).1

@@ -1,0 +1,49 @@
+-- What holds of the records that are found.
+use Rattle.std.specs.Prelude.{◌≡◌, ℕ, ◌+◌, ◌<◌, ◌≤◌, ◌⊎◌, false, Option, Some, None}
+use Rattle.sync_status.specs.Statuses.{kind_of, is_control}
+use Rattle.irq_status.specs.declared.HostWrite.{HostWrite}
+use Rattle.irq_status.specs.declared.HostWrite.TheVariants.{Trigger}
+use Rattle.capture_file.specs.declared.Step.{Step}
+use Rattle.capture_file.specs.declared.Step.TheVariants.{Push, Host, Patch}
+use Rattle.capture_file.specs.declared.records.Found.{Found}
+use Rattle.capture_file.specs.declared.records.Found.TheVariants.{Cut, Wrong, Last, Whole}
+use Rattle.capture_file.specs.Streams.{turns_of, most_turns}
+
+-- a number has four bytes
+abbrev pub HasFour : Option ℕ → ℕ → Type 0
+HasFour None count = count < 4
+HasFour (Some n) count = 4 ≤ count
+
+-- it lies within so many bytes, and one that is cut has fewer than six
+abbrev pub Spans : Found → ℕ → Type 0
+Spans Cut count = count < 6
+Spans (Wrong from to fault) count = (from < to) × (to ≤ count) × (to ≤ 5)
+Spans Last count = 0 < count
+Spans (Whole step len) count = (0 < len) × (len ≤ count) × (len ≤ 6)
+
+-- it ends behind so many bytes, in which it was cut
+abbrev pub Passes : Found → ℕ → Type 0
+Passes Cut count = Unit {0}
+Passes (Wrong from to fault) count = count < to
+Passes Last count = count < 1
+Passes (Whole step len) count = count < len
+
+-- its turns and those before it are not too many
+abbrev pub Sums : Found → ℕ → Type 0
+Sums (Whole step len) before = before + turns_of step ≤ most_turns
+Sums _ before = Unit {0}
+
+-- a data entry has no control code, and the numbers are those of their fields
+abbrev pub WriteFits : HostWrite → Type 0
+WriteFits (Trigger number) = number < 4
+WriteFits _ = Unit {0}
+
+abbrev pub StepFits : Step → Type 0
+StepFits (Push queue entry) = is_control (kind_of entry.status) ≡ false
+StepFits (Host write) = WriteFits write
+StepFits (Patch slot buffer) = (slot < 2) × ((buffer < 2) ⊎ (buffer ≡ 255))
+StepFits _ = Unit {0}
+
+abbrev pub FoundFits : Found → Type 0
+FoundFits (Whole step len) = StepFits step
+FoundFits _ = Unit {0}

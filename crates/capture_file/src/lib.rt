@@ -1,0 +1,87 @@
+//! The files of the project: programs, streams and images of memory.
+#![tactic(auto)]
+
+use fifo_model::{Entry, Queue};
+use irq_status::HostWrite;
+use risc_word::Code;
+
+mod reader;
+mod records;
+
+pub use reader::{Got, StepReader};
+
+/// Which file is at fault.
+#[derive(Clone, Copy, Debug, PartialEq)]
+pub enum Input {
+    Program,
+    Stream,
+    Desc,
+    Ring,
+}
+
+/// What is wrong with a field of a file (this project's own formats). A byte is given where it is the
+/// fault.
+#[derive(Clone, Copy, Debug, PartialEq)]
+pub enum FileKind {
+    /// The file begins with none of the words that it may begin with.
+    Magic,
+    /// The file ends within a field.
+    Short,
+    /// Too many words, pages or chunks, or a program that ends above 2^32.
+    Count,
+    /// The base is no multiple of 4.
+    Base,
+    /// An address is no multiple of 4,096, or of 4 for a chunk.
+    Page,
+    /// A page or chunk doesn't stand above the one before it.
+    Order,
+    /// A page or chunk shares a byte with the program.
+    Overlap,
+    /// The tag of no record.
+    Tag(u8),
+    /// A status that no data entry has.
+    Status(u8),
+    /// The number of no control code.
+    Code(u8),
+    /// Enables above 3.
+    Enable(u8),
+    /// A byte stands after the last field.
+    AfterEnd,
+    /// A byte stands where the length of the file is limited.
+    TooLong,
+    /// The counts of turns so far sum to more than 1,073,741,824.
+    TooManyTurns,
+    /// A trigger point above 3.
+    Trigger(u8),
+    /// The length of a chunk is 0, no multiple of 4, or too great.
+    Length,
+    /// All chunks are pages, which is another form of file.
+    Pages,
+    /// A slot above 1.
+    Slot(u8),
+    /// A buffer that is not 0, 1 or 255.
+    Buffer(u8),
+}
+
+/// A fault of a file: the place of the first byte of the field at fault, counted from 0, or for
+/// `Short` the length of the file.
+#[derive(Clone, Copy, Debug, PartialEq)]
+pub struct FileFault {
+    pub at: u64,
+    pub kind: FileKind,
+}
+
+/// What one record of a stream stands for.
+#[derive(Clone, Copy, Debug, PartialEq)]
+pub enum Step {
+    /// A push of a data entry to a queue.
+    Push(Queue, Entry),
+    /// A push of a control code to the three queues.
+    Control(Code),
+    /// That many turns of the machine.
+    Turns(u32),
+    /// A write of the host to a register.
+    Host(HostWrite),
+    /// A slot of a chain, 0 or 1, and the buffer that it goes to: 0, 1, or 255 for none.
+    Patch(u8, u8),
+}

@@ -1,0 +1,432 @@
+//! A reader of streams that come in pieces.
+
+ghost use Rattle.capture_file.specs.Readers.{AnswerFits, Counts, IsReader, Uses, after_answer, behind_word, closed_by, closed_taken, ending_in, fresh, record_taken, resumed, room, taken, taking, word_taken};
+ghost use Rattle.capture_file.specs.Records.{FoundFits, HasFour, Passes, Spans, StepFits, Sums};
+ghost use Rattle.capture_file.specs.declared.records.Found.TheVariants.{Cut};
+ghost use Rattle.capture_file.specs.declared.reader.Phase.TheVariants.{Closed, Opening, Records};
+ghost use Rattle.capture_file.specs.Streams.{fault_at, most_turns, number_at, record_at};
+ghost use Rattle.std.specs.Prelude.{◌≡◌, ◌≤◌, ◌<◌, ◌+◌, ◌-◌, ◌^◌, ◌++◌, List, ℕ, [], None, IfSome, IfNone, take, drop, length, true, false};
+
+use irq_status::HostWrite;
+use std::marker::Model;
+
+use super::records::{Form, Found, find, form_named, number};
+use super::{FileFault, FileKind, Step};
+
+/// What the front of a piece gave.
+#[derive(Clone, Copy, Debug, PartialEq)]
+pub enum Got {
+    /// A record ended, or the first word of BFS2 or BFS3.
+    Step(Step),
+    /// The end record.
+    End,
+    /// The piece is used up.
+    More,
+    /// The stream is at fault.
+    Bad(FileFault),
+}
+
+/// What a reader is at.
+#[derive(Clone, Copy)]
+pub enum Phase {
+    /// In the first word.
+    Opening,
+    /// Among the records.
+    Records(Form),
+    /// After the end record.
+    Closed,
+    /// After a fault.
+    Failed(FileFault),
+}
+
+/// The bytes of a first word or a record that has not ended.
+#[derive(Drop)]
+struct Held {
+    bytes: [u8; 6],
+    count: usize,
+}
+
+impl Model for Held {
+    ghost Value = { List ℕ };
+
+    ghost view = { λ h. take h.count h.bytes };
+
+    ghost invariant = { λ h. h.count ≤ 6 };
+}
+
+impl Held {
+    fn none() -> Held
+        ensures { result ≡ [] }
+    {
+        Held {
+            bytes: [0; 6],
+            count: 0,
+        }
+    }
+
+    fn clear(&mut self)
+        ensures { self.new ≡ [] }
+    {
+        self.count = 0;
+    }
+
+    fn len(&self) -> usize
+        ensures { result ≡ length self.now }
+    {
+        self.count
+    }
+
+    fn as_slice(&self) -> &[u8]
+        ensures { result.now ≡ self.now }
+    {
+        &self.bytes[..self.count]
+    }
+
+    fn fill(&mut self, more: &[u8])
+        ensures { self.new ≡ take 6 (self.old ++ more.now) }
+    {
+        let count = more.len().min(6 - self.count);
+        self.bytes[self.count..self.count + count].copy_from_slice(&more[..count]);
+        self.count += count;
+    }
+}
+
+#[inline]
+fn fault(at: u64, kind: FileKind) -> FileFault
+    ensures { result ≡ fault_at at kind }
+{
+    FileFault { at, kind }
+}
+
+/// The bytes of a piece that stand below a limit.
+#[inline]
+fn below(piece: &[u8], room: u64) -> &[u8]
+    ensures { result.now ≡ take room piece.now }
+{
+    if piece.len() as u64 <= room {
+        piece
+    } else {
+        &piece[..room as usize]
+    }
+}
+
+/// The record at the front of a piece.
+#[inline(always)]
+fn find_front(form: Form, turns: u32, piece: &[u8]) -> Found
+    requires { turns ≤ most_turns }
+    ensures found { result ≡ record_at form turns piece.now }
+    ensures spans { Spans result (length piece.now) }
+    ensures sums { Sums result turns }
+    ensures fits { FoundFits result }
+{
+    find(form, turns, piece)
+}
+
+/// The record that the bytes of an earlier piece and these begin.
+fn find_across(form: Form, turns: u32, held: &mut Held, more: &[u8]) -> Found
+    requires cut { record_at form turns held.old ≡ Cut }
+    requires few { turns ≤ most_turns }
+    ensures found { result ≡ record_at form turns (held.old ++ more.now) }
+    ensures kept { result ≡ Cut → held.new ≡ held.old ++ more.now }
+    ensures spans { Spans result (length held.old + length more.now) }
+    ensures passes { Passes result (length held.old) }
+    ensures sums { Sums result turns }
+    ensures fits { FoundFits result }
+{
+    held.fill(more);
+    find(form, turns, held.as_slice())
+}
+
+/// The first word that the bytes of an earlier piece and these begin.
+fn number_across(held: &mut Held, more: &[u8]) -> Option<u32>
+    ensures found { result ≡ number_at (held.old ++ more.now) }
+    ensures kept { result ≡ None → held.new ≡ held.old ++ more.now }
+    ensures spans { HasFour result (length held.old + length more.now) }
+{
+    held.fill(more);
+    number(held.as_slice())
+}
+
+/// Reads a stream that comes in pieces, a record at a time.
+#[derive(Drop)]
+pub struct StepReader {
+    limit: u64,
+    place: u64,
+    turns: u32,
+    chained: bool,
+    phase: Phase,
+    held: Held,
+}
+
+impl Model for StepReader {
+    ghost use Rattle.capture_file.specs.Readers.{Reader, IsReader};
+
+    ghost Value = { Reader };
+
+    ghost view = {
+        λ s.
+        record {
+          limit = s.limit;
+          chained = s.chained;
+          phase = s.phase;
+          place = s.place;
+          turns = s.turns;
+          held = s.held;
+        }
+    };
+
+    ghost invariant = {
+        λ s.
+        IsReader
+          (record {
+            limit = s.limit;
+            chained = s.chained;
+            phase = s.phase;
+            place = s.place;
+            turns = s.turns;
+            held = s.held;
+          })
+    };
+}
+
+impl StepReader {
+    /// A reader of BFS1 and BFS2 streams of at most `limit` bytes.
+    pub fn new(limit: u64) -> StepReader
+        ensures { result ≡ fresh limit false }
+    {
+        StepReader {
+            limit,
+            place: 0,
+            turns: 0,
+            chained: false,
+            phase: Phase::Opening,
+            held: Held::none(),
+        }
+    }
+
+    /// A reader of BFS3 streams of at most `limit` bytes.
+    pub fn chained(limit: u64) -> StepReader
+        ensures { result ≡ fresh limit true }
+    {
+        StepReader {
+            limit,
+            place: 0,
+            turns: 0,
+            chained: true,
+            phase: Phase::Opening,
+            held: Held::none(),
+        }
+    }
+
+    /// The step of a record that lies whole at the front of a piece, and its length.
+    #[inline(always)]
+    #[tactic(auto, unfolding(crate::specs::Readers::taken))]
+    fn take_front(&mut self, piece: &[u8]) -> Option<(Step, usize)>
+        ensures some { IfSome result
+          (λ found. (taking found.1 (Got.Step found.0) self.new ≡ taken self.old piece.now) × StepFits found.0) }
+        ensures none { IfNone result (self.new ≡ self.old) }
+    {
+        if let Phase::Records(form) = self.phase
+            && self.held.len() == 0
+            && piece.len() as u64 <= self.limit - self.place
+            && let Found::Whole(step, len) = find_front(form, self.turns, piece)
+        {
+            self.place += u64::from(len);
+            if let Step::Turns(count) = step {
+                self.turns += count;
+            }
+            return Some((step, usize::from(len)));
+        }
+        None
+    }
+
+    /// Goes on where a record begins or is under way, and keeps what is cut.
+    fn take_record(&mut self, form: Form, piece: &[u8]) -> (usize, Got)
+        requires { self.old.phase ≡ Records form }
+        ensures exact { taking result.0 result.1 self.new ≡ record_taken form self.old piece.now }
+        ensures fits { AnswerFits result.1 }
+        ensures within { result.0 ≤ length piece.now }
+    {
+        let room = self.limit - self.place;
+        let before = self.held.len();
+        let start = self.place - before as u64;
+        match find_across(form, self.turns, &mut self.held, below(piece, room)) {
+            Found::Cut => {
+                if piece.len() as u64 > room {
+                    let fault = fault(self.limit, FileKind::TooLong);
+                    self.held.clear();
+                    self.phase = Phase::Failed(fault);
+                    return (room as usize + 1, Got::Bad(fault));
+                }
+                self.place += piece.len() as u64;
+                (piece.len(), Got::More)
+            }
+            Found::Wrong(from, to, kind) => {
+                let fault = fault(start + u64::from(from), kind);
+                self.held.clear();
+                self.phase = Phase::Failed(fault);
+                (usize::from(to) - before, Got::Bad(fault))
+            }
+            Found::Last => {
+                self.held.clear();
+                self.place += 1;
+                self.phase = Phase::Closed;
+                (1, Got::End)
+            }
+            Found::Whole(step, len) => {
+                let used = usize::from(len) - before;
+                self.held.clear();
+                self.place += used as u64;
+                if let Step::Turns(count) = step {
+                    self.turns += count;
+                }
+                (used, Got::Step(step))
+            }
+        }
+    }
+
+    /// Goes on in the first word.
+    fn take_word(&mut self, piece: &[u8]) -> (usize, Got)
+        requires { self.old.phase ≡ Opening }
+        ensures exact { taking result.0 result.1 self.new
+          ≡ word_taken (number_at (self.old.held ++ take (room self.old) piece.now)) self.old piece.now }
+        ensures fits { AnswerFits result.1 }
+    {
+        let room = self.limit - self.place;
+        let before = self.held.len();
+        match number_across(&mut self.held, below(piece, room)) {
+            None => {
+                if piece.len() as u64 > room {
+                    let fault = fault(self.limit, FileKind::TooLong);
+                    self.held.clear();
+                    self.phase = Phase::Failed(fault);
+                    return (room as usize + 1, Got::Bad(fault));
+                }
+                self.place += piece.len() as u64;
+                (piece.len(), Got::More)
+            }
+            Some(word) => {
+                let used = 4 - before;
+                self.held.clear();
+                match form_named(self.chained, word) {
+                    None => {
+                        let fault = fault(0, FileKind::Magic);
+                        self.phase = Phase::Failed(fault);
+                        (used, Got::Bad(fault))
+                    }
+                    Some(form) => {
+                        self.place = 4;
+                        self.phase = Phase::Records(form);
+                        self.after_word(form, used, &piece[used..])
+                    }
+                }
+            }
+        }
+    }
+
+    /// Goes on behind the first word, of which so many bytes were used.
+    fn after_word(&mut self, form: Form, used: usize, rest: &[u8]) -> (usize, Got)
+        requires begun { self.old.phase ≡ Records form }
+        requires few { used + length rest.now < 2 ^ 64 }
+        ensures exact { taking result.0 result.1 self.new ≡ behind_word form used self.old rest.now }
+        ensures fits { AnswerFits result.1 }
+    {
+        match form {
+            Form::Bfs1 => {
+                let (more, got) = self.take_record(form, rest);
+                (used + more, got)
+            }
+            Form::Bfs2 | Form::Bfs3 => (used, Got::Step(Step::Host(HostWrite::Trigger(0)))),
+        }
+    }
+
+    /// Goes on behind the end record.
+    fn take_end(&mut self, piece: &[u8]) -> (usize, Got)
+        requires { self.old.phase ≡ Closed }
+        ensures exact { taking result.0 result.1 self.new ≡ closed_taken self.old piece.now }
+        ensures fits { AnswerFits result.1 }
+    {
+        if piece.is_empty() {
+            return (0, Got::More);
+        }
+        let kind = if self.place < self.limit {
+            FileKind::AfterEnd
+        } else {
+            FileKind::TooLong
+        };
+        let fault = fault(self.place, kind);
+        self.phase = Phase::Failed(fault);
+        (1, Got::Bad(fault))
+    }
+
+    /// Goes on with a piece, whatever stands at its front.
+    #[inline(never)]
+    #[tactic(auto, unfolding(crate::specs::Readers::taken))]
+    fn take_any(&mut self, piece: &[u8]) -> (usize, Got)
+        ensures exact { taking result.0 result.1 self.new ≡ taken self.old piece.now }
+        ensures fits { AnswerFits result.1 }
+        ensures valid { IsReader self.old }
+    {
+        match self.phase {
+            Phase::Opening => self.take_word(piece),
+            Phase::Records(form) => self.take_record(form, piece),
+            Phase::Closed => self.take_end(piece),
+            Phase::Failed(fault) => (0, Got::Bad(fault)),
+        }
+    }
+
+    /// Goes on with a piece.
+    #[inline(always)]
+    fn advance(&mut self, piece: &[u8]) -> (usize, Got)
+        ensures exact { taking result.0 result.1 self.new ≡ taken self.old piece.now }
+        ensures fits { AnswerFits result.1 }
+        ensures valid { IsReader self.old }
+    {
+        let _limit = &self.limit;
+        if let Some((step, used)) = self.take_front(piece) {
+            return (used, Got::Step(step));
+        }
+        let (used, got) = self.take_any(piece);
+        match got {
+            Got::Step(step) => (used, Got::Step(step)),
+            Got::End => (used, Got::End),
+            Got::More => (used, Got::More),
+            Got::Bad(fault) => (used, Got::Bad(fault)),
+        }
+    }
+
+    /// Uses bytes from the front of the piece until a record ends, the stream is at fault or the piece
+    /// is used up, and answers how many. Where the record at the front lies whole in the piece,
+    /// nothing is copied.
+    #[inline(always)]
+    pub fn take(&mut self, piece: &[u8]) -> (usize, Got)
+        ensures exact { taking result.0 result.1 self.new ≡ taken self.old piece.now }
+        ensures whole { (more : List ℕ) → resumed self.old (piece.now ++ more)
+          ≡ after_answer result.1 (resumed self.new (drop result.0 piece.now ++ more)) }
+        ensures used { Uses result.1 result.0 (length piece.now) }
+        ensures place { Counts result.1 (self.old.place + result.0) self.new.place }
+        ensures fits { AnswerFits result.1 }
+    {
+        self.advance(piece)
+    }
+
+    fn closing(&self) -> Result<(), FileFault>
+        ensures value { result ≡ closed_by self.now.place (ending_in self.now.phase) }
+        ensures valid { IsReader self.now }
+    {
+        match self.phase {
+            Phase::Opening | Phase::Records(_) => Err(fault(self.place, FileKind::Short)),
+            Phase::Closed => Ok(()),
+            Phase::Failed(fault) => Err(fault),
+        }
+    }
+
+    /// Whether the bytes used are a whole stream. Where they end before the end record, the fault is
+    /// `Short` at their number.
+    pub fn close(&self) -> Result<(), FileFault>
+        ensures value { result ≡ closed_by self.now.place (resumed self.now []).ending }
+        ensures rest { (resumed self.now []).steps ≡ [] }
+    {
+        self.closing()
+    }
+}
