@@ -6,8 +6,7 @@ use Rattle.std.specs.Prelude.{nat_lt}
 use Rattle.capture_file.specs.declared.FileFault.{FileFault}
 use Rattle.capture_file.specs.declared.reader.Got.{Got}
 use Rattle.capture_file.specs.declared.reader.Got.TheVariants as got
-use Rattle.capture_file.specs.declared.reader.Phase.{Phase}
-use Rattle.capture_file.specs.declared.reader.Phase.TheVariants.{Opening, Records, Closed, Failed}
+use Rattle.capture_file.specs.Readers.{Phase, Opening, Records, Closed, Failed}
 use Rattle.capture_file.specs.declared.records.Form.{Form}
 use Rattle.capture_file.specs.declared.records.Form.TheVariants.{Bfs1, Bfs2, Bfs3}
 use Rattle.capture_file.specs.declared.records.Found.{Found}

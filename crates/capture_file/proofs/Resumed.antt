@@ -9,8 +9,7 @@ use Rattle.capture_file.specs.declared.FileKind.TheVariants as fault
 use Rattle.capture_file.specs.declared.FileFault.{FileFault}
 use Rattle.capture_file.specs.declared.Step.{Step}
 use Rattle.capture_file.specs.declared.reader.Got.TheVariants as got
-use Rattle.capture_file.specs.declared.reader.Phase.{Phase}
-use Rattle.capture_file.specs.declared.reader.Phase.TheVariants.{Opening, Records, Closed, Failed}
+use Rattle.capture_file.specs.Readers.{Phase, Opening, Records, Closed, Failed}
 use Rattle.capture_file.specs.declared.records.Form.{Form}
 use Rattle.capture_file.specs.declared.records.Form.TheVariants.{Bfs1, Bfs2, Bfs3}
 use Rattle.capture_file.specs.declared.records.Found.{Found}

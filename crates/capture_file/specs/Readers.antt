@@ -5,14 +5,33 @@ use Rattle.capture_file.specs.declared.FileKind.TheVariants as fault
 use Rattle.capture_file.specs.declared.FileFault.{FileFault}
 use Rattle.capture_file.specs.declared.reader.Got.{Got}
 use Rattle.capture_file.specs.declared.reader.Got.TheVariants as got
-use Rattle.capture_file.specs.declared.reader.Phase.{Phase}
-use Rattle.capture_file.specs.declared.reader.Phase.TheVariants.{Opening, Records, Closed, Failed}
+use Rattle.capture_file.specs.declared.reader.State.{State}
+use Rattle.capture_file.specs.declared.reader.State.TheVariants as state
 use Rattle.capture_file.specs.declared.records.Form.{Form}
 use Rattle.capture_file.specs.declared.records.Form.TheVariants.{Bfs1, Bfs2, Bfs3}
 use Rattle.capture_file.specs.declared.records.Found.{Found}
 use Rattle.capture_file.specs.declared.records.Found.TheVariants.{Cut, Wrong, Last, Whole}
 use Rattle.capture_file.specs.Records.{StepFits}
 use Rattle.capture_file.specs.Streams.{Reading, reading, with_step, Ending, Unfinished, Ended, Bad, fault_at, number_at, form_of, record_at, records, within, after_end, first_trigger, turns_of, most_turns, stream_of}
+
+-- what a reader is at: in the first word, among the records, after the end record, or after a fault
+pub data Phase : Type 0 where
+  Opening : Phase
+  Records : Form → Phase
+  Closed : Phase
+  Failed : FileFault → Phase
+
+abbrev pub phase_of : State → Phase
+phase_of state.Opening = Opening
+phase_of (state.Between form) = Records form
+phase_of (state.Within form) = Records form
+phase_of state.Closed = Closed
+phase_of (state.Failed fault) = Failed fault
+
+-- nothing is held between two records
+abbrev pub HoldsAt : State → List ℕ → Type 0
+HoldsAt (state.Between form) held = held ≡ []
+HoldsAt _ held = Unit {0}
 
 -- a reader after some bytes of a stream. `place` is the number of bytes that it used, `turns` the sum
 -- of the counts of turns so far, and `held` the bytes of the first word or the record that has not

@@ -1,10 +1,9 @@
 //! A reader of streams that come in pieces.
 
-ghost use Rattle.capture_file.specs.Readers.{AnswerFits, Counts, IsReader, Uses, after_answer, behind_word, closed_by, closed_taken, ending_in, fresh, record_taken, resumed, room, taken, taking, word_taken};
+ghost use Rattle.capture_file.specs.Readers.{AnswerFits, Closed, Opening, Records, Counts, IsReader, Uses, after_answer, behind_word, closed_by, closed_taken, ending_in, fresh, record_taken, resumed, room, taken, taking, word_taken};
 ghost use Rattle.capture_file.specs.Records.{FoundFits, HasFour, Passes, Spans, StepFits, Sums};
 ghost use Rattle.capture_file.specs.declared.records.Found.TheVariants.{Cut};
-ghost use Rattle.capture_file.specs.declared.reader.Phase.TheVariants.{Closed, Opening, Records};
-ghost use Rattle.capture_file.specs.Streams.{fault_at, most_turns, number_at, record_at};
+ghost use Rattle.capture_file.specs.Streams.{fault_at, most_turns, number_at, record_at, turns_of};
 ghost use Rattle.std.specs.Prelude.{◌≡◌, ◌≤◌, ◌<◌, ◌+◌, ◌-◌, ◌^◌, ◌++◌, List, ℕ, [], None, IfSome, IfNone, take, drop, length, true, false};
 
 use irq_status::HostWrite;
@@ -28,11 +27,13 @@ pub enum Got {
 
 /// What a reader is at.
 #[derive(Clone, Copy)]
-pub enum Phase {
+pub enum State {
     /// In the first word.
     Opening,
-    /// Among the records.
-    Records(Form),
+    /// Where a record begins, with nothing held.
+    Between(Form),
+    /// In a record.
+    Within(Form),
     /// After the end record.
     Closed,
     /// After a fault.
@@ -110,6 +111,17 @@ fn below(piece: &[u8], room: u64) -> &[u8]
     }
 }
 
+/// The turns so far and those of a step.
+fn turns_with(turns: u32, step: &Step) -> u32
+    requires { turns + turns_of step.now ≤ most_turns }
+    ensures { result ≡ turns + turns_of step.now }
+{
+    match step {
+        Step::Turns(count) => turns + *count,
+        _ => turns,
+    }
+}
+
 /// The record at the front of a piece.
 #[inline(always)]
 fn find_front(form: Form, turns: u32, piece: &[u8]) -> Found
@@ -151,15 +163,16 @@ fn number_across(held: &mut Held, more: &[u8]) -> Option<u32>
 #[derive(Drop)]
 pub struct StepReader {
     limit: u64,
-    place: u64,
+    room: u64,
     turns: u32,
     chained: bool,
-    phase: Phase,
+    state: State,
     held: Held,
 }
 
 impl Model for StepReader {
-    ghost use Rattle.capture_file.specs.Readers.{Reader, IsReader};
+    ghost use Rattle.std.specs.Prelude.{◌-◌, ◌≤◌};
+    ghost use Rattle.capture_file.specs.Readers.{Reader, IsReader, HoldsAt, phase_of};
 
     ghost Value = { Reader };
 
@@ -168,8 +181,8 @@ impl Model for StepReader {
         record {
           limit = s.limit;
           chained = s.chained;
-          phase = s.phase;
-          place = s.place;
+          phase = phase_of s.state;
+          place = s.limit - s.room;
           turns = s.turns;
           held = s.held;
         }
@@ -177,15 +190,17 @@ impl Model for StepReader {
 
     ghost invariant = {
         λ s.
-        IsReader
-          (record {
-            limit = s.limit;
-            chained = s.chained;
-            phase = s.phase;
-            place = s.place;
-            turns = s.turns;
-            held = s.held;
-          })
+        (s.room ≤ s.limit)
+        × HoldsAt s.state s.held
+        × IsReader
+            (record {
+              limit = s.limit;
+              chained = s.chained;
+              phase = phase_of s.state;
+              place = s.limit - s.room;
+              turns = s.turns;
+              held = s.held;
+            })
     };
 }
 
@@ -196,10 +211,10 @@ impl StepReader {
     {
         StepReader {
             limit,
-            place: 0,
+            room: limit,
             turns: 0,
             chained: false,
-            phase: Phase::Opening,
+            state: State::Opening,
             held: Held::none(),
         }
     }
@@ -210,10 +225,10 @@ impl StepReader {
     {
         StepReader {
             limit,
-            place: 0,
+            room: limit,
             turns: 0,
             chained: true,
-            phase: Phase::Opening,
+            state: State::Opening,
             held: Held::none(),
         }
     }
@@ -226,12 +241,11 @@ impl StepReader {
           (λ found. (taking found.1 (Got.Step found.0) self.new ≡ taken self.old piece.now) × StepFits found.0) }
         ensures none { IfNone result (self.new ≡ self.old) }
     {
-        if let Phase::Records(form) = self.phase
-            && self.held.len() == 0
-            && piece.len() as u64 <= self.limit - self.place
+        if let State::Between(form) = self.state
+            && piece.len() as u64 <= self.room
             && let Found::Whole(step, len) = find_front(form, self.turns, piece)
         {
-            self.place += u64::from(len);
+            self.room -= u64::from(len);
             if let Step::Turns(count) = step {
                 self.turns += count;
             }
@@ -247,39 +261,39 @@ impl StepReader {
         ensures fits { AnswerFits result.1 }
         ensures within { result.0 ≤ length piece.now }
     {
-        let room = self.limit - self.place;
+        let room = self.room;
         let before = self.held.len();
-        let start = self.place - before as u64;
+        let start = self.limit - room - before as u64;
         match find_across(form, self.turns, &mut self.held, below(piece, room)) {
             Found::Cut => {
                 if piece.len() as u64 > room {
                     let fault = fault(self.limit, FileKind::TooLong);
                     self.held.clear();
-                    self.phase = Phase::Failed(fault);
+                    self.state = State::Failed(fault);
                     return (room as usize + 1, Got::Bad(fault));
                 }
-                self.place += piece.len() as u64;
+                self.room -= piece.len() as u64;
+                self.state = State::Within(form);
                 (piece.len(), Got::More)
             }
             Found::Wrong(from, to, kind) => {
                 let fault = fault(start + u64::from(from), kind);
                 self.held.clear();
-                self.phase = Phase::Failed(fault);
+                self.state = State::Failed(fault);
                 (usize::from(to) - before, Got::Bad(fault))
             }
             Found::Last => {
                 self.held.clear();
-                self.place += 1;
-                self.phase = Phase::Closed;
+                self.room -= 1;
+                self.state = State::Closed;
                 (1, Got::End)
             }
             Found::Whole(step, len) => {
                 let used = usize::from(len) - before;
                 self.held.clear();
-                self.place += used as u64;
-                if let Step::Turns(count) = step {
-                    self.turns += count;
-                }
+                self.room -= used as u64;
+                self.state = State::Between(form);
+                self.turns = turns_with(self.turns, &step);
                 (used, Got::Step(step))
             }
         }
@@ -292,17 +306,17 @@ impl StepReader {
           ≡ word_taken (number_at (self.old.held ++ take (room self.old) piece.now)) self.old piece.now }
         ensures fits { AnswerFits result.1 }
     {
-        let room = self.limit - self.place;
+        let room = self.room;
         let before = self.held.len();
         match number_across(&mut self.held, below(piece, room)) {
             None => {
                 if piece.len() as u64 > room {
                     let fault = fault(self.limit, FileKind::TooLong);
                     self.held.clear();
-                    self.phase = Phase::Failed(fault);
+                    self.state = State::Failed(fault);
                     return (room as usize + 1, Got::Bad(fault));
                 }
-                self.place += piece.len() as u64;
+                self.room -= piece.len() as u64;
                 (piece.len(), Got::More)
             }
             Some(word) => {
@@ -311,12 +325,12 @@ impl StepReader {
                 match form_named(self.chained, word) {
                     None => {
                         let fault = fault(0, FileKind::Magic);
-                        self.phase = Phase::Failed(fault);
+                        self.state = State::Failed(fault);
                         (used, Got::Bad(fault))
                     }
                     Some(form) => {
-                        self.place = 4;
-                        self.phase = Phase::Records(form);
+                        self.room = self.limit - 4;
+                        self.state = State::Between(form);
                         self.after_word(form, used, &piece[used..])
                     }
                 }
@@ -349,13 +363,13 @@ impl StepReader {
         if piece.is_empty() {
             return (0, Got::More);
         }
-        let kind = if self.place < self.limit {
+        let kind = if 0 < self.room {
             FileKind::AfterEnd
         } else {
             FileKind::TooLong
         };
-        let fault = fault(self.place, kind);
-        self.phase = Phase::Failed(fault);
+        let fault = fault(self.limit - self.room, kind);
+        self.state = State::Failed(fault);
         (1, Got::Bad(fault))
     }
 
@@ -367,11 +381,11 @@ impl StepReader {
         ensures fits { AnswerFits result.1 }
         ensures valid { IsReader self.old }
     {
-        match self.phase {
-            Phase::Opening => self.take_word(piece),
-            Phase::Records(form) => self.take_record(form, piece),
-            Phase::Closed => self.take_end(piece),
-            Phase::Failed(fault) => (0, Got::Bad(fault)),
+        match self.state {
+            State::Opening => self.take_word(piece),
+            State::Between(form) | State::Within(form) => self.take_record(form, piece),
+            State::Closed => self.take_end(piece),
+            State::Failed(fault) => (0, Got::Bad(fault)),
         }
     }
 
@@ -414,10 +428,10 @@ impl StepReader {
         ensures value { result ≡ closed_by self.now.place (ending_in self.now.phase) }
         ensures valid { IsReader self.now }
     {
-        match self.phase {
-            Phase::Opening | Phase::Records(_) => Err(fault(self.place, FileKind::Short)),
-            Phase::Closed => Ok(()),
-            Phase::Failed(fault) => Err(fault),
+        match self.state {
+            State::Opening | State::Between(_) | State::Within(_) => Err(fault(self.limit - self.room, FileKind::Short)),
+            State::Closed => Ok(()),
+            State::Failed(fault) => Err(fault),
         }
     }
 
