@@ -9,7 +9,7 @@ ghost use Rattle.std.specs.Prelude.{◌≡◌, ◌≤◌, ◌<◌, ◌+◌, ◌-
 use irq_status::HostWrite;
 use std::marker::Model;
 
-use super::records::{Form, Found, find, form_named, number};
+use super::records::{Form, Found, find, find_quick, form_named, number};
 use super::{FileFault, FileKind, Step};
 
 /// What the front of a piece gave.
@@ -131,7 +131,7 @@ fn find_front(form: Form, turns: u32, piece: &[u8]) -> Found
     ensures sums { Sums result turns }
     ensures fits { FoundFits result }
 {
-    find(form, turns, piece)
+    find_quick(form, turns, piece)
 }
 
 /// The record that the bytes of an earlier piece and these begin.

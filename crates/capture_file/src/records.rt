@@ -1,7 +1,9 @@
 //! The records of a stream.
 
 ghost use Rattle.capture_file.specs.Streams.{ack_with, buffer_if, control_at, data_with, enable_at, fields_at, form_of, is_buffer, is_data, kind_of_tag, number_at, patch_at, push_at, record_at, slot_if, trigger_at, turns_with};
-ghost use Rattle.std.specs.Prelude.{◌≡◌, ◌≤◌, ◌^◌};
+ghost use Rattle.capture_file.specs.declared.records.Form.{Form};
+ghost use Rattle.capture_file.specs.declared.records.Found.TheVariants.{Whole};
+ghost use Rattle.std.specs.Prelude.{◌≡◌, ℕ, IfSome};
 
 use byteorder::{ByteOrder, LittleEndian};
 use fifo_model::{Entry, Queue};
@@ -109,8 +111,8 @@ fn is_data_status(status: u8) -> bool
     ensures { result ≡ is_data status }
 {
     match status {
-        4 | 6 | 12 | 14 => false,
-        _ => status < 16,
+        0..=3 | 5 | 7..=11 | 13 | 15 => true,
+        _ => false,
     }
 }
 
@@ -249,5 +251,43 @@ pub fn find(form: Form, turns: u32, bytes: &[u8]) -> Found
             RecordKind::Patch => patch(rest),
             RecordKind::Unknown => Found::Wrong(0, 1, FileKind::Tag(*tag)),
         },
+    }
+}
+
+/// The step of a data push that lies whole at the front of some bytes. Most records are data pushes.
+#[inline(always)]
+fn find_push(bytes: &[u8]) -> Option<Step>
+    ensures { IfSome result (λ step. (form : Form) (turns : ℕ) → record_at form turns bytes.now ≡ Whole step 6) }
+{
+    match bytes {
+        [tag, status, _, _, _, _, ..] => {
+            let queue = match *tag {
+                1 => Queue::One,
+                2 => Queue::Two,
+                3 => Queue::Three,
+                _ => return None,
+            };
+            if !is_data_status(*status) {
+                return None;
+            }
+            let entry = Entry {
+                status: Status::of(*status),
+                dword: LittleEndian::read_u32(&bytes[2..]),
+            };
+            Some(Step::Push(queue, entry))
+        }
+        _ => None,
+    }
+}
+
+/// The record at the front of some bytes, after records of so many turns: `find`, quick where it is a
+/// data push.
+#[inline(always)]
+pub fn find_quick(form: Form, turns: u32, bytes: &[u8]) -> Found
+    ensures { result ≡ record_at form turns bytes.now }
+{
+    match find_push(bytes) {
+        Some(step) => Found::Whole(step, 6),
+        None => find(form, turns, bytes),
     }
 }
