@@ -13,7 +13,7 @@ use Rattle.capture_file.specs.declared.records.Found.{Found}
 use Rattle.capture_file.specs.declared.records.Found.TheVariants.{Cut, Wrong, Last, Whole}
 use Rattle.capture_file.specs.Records.{HasFour, Spans, Passes}
 use Rattle.capture_file.specs.Streams.{Reading, reading, Ending, Unfinished, Ended, Bad, number_at, form_of, record_at, records, within, within_if, opened_by, after_end, stream_of, judged}
-use Rattle.capture_file.specs.Readers.{Reader, Taken, resumed, taken, taken_in, unfinished_if, found_taken, record_taken, form_taken, word_taken, closed_taken, behind_word, begun, resumed_in, ending_in, Uses, Counts, IsAt, IsReader}
+use Rattle.capture_file.specs.Readers.{Reader, Taken, resumed, taken, taken_in, unfinished_if, found_taken, record_taken, form_taken, word_taken, closed_taken, behind_word, begun, resumed_in, ending_in, Uses, Counts, IsAt, IsReader, Stays}
 use Rattle.capture_file.proofs.Fields.{number_at-four, record_at-spans, record_at-passes}
 use Rattle.capture_file.proofs.Readings.{records-front, front_of}
 
@@ -143,3 +143,39 @@ phase-ends (Failed fault) r below at = refl
 pub reader-ends : (r : Reader) → IsReader r → resumed r [] ≡ reading [] (ending_in r.phase)
 unfolding resumed
 reader-ends r is = phase-ends r.phase r is.below is.at
+
+-- After a fault.
+
+stays-unfinished : (over : Bool) (r : Reader) (piece : List ℕ) → let t = unfinished_if over r piece in Stays t.answer t.reader.phase
+stays-unfinished true r piece = refl
+stays-unfinished false r piece = tt
+
+stays-found : (found : Found) (r : Reader) (piece : List ℕ) → let t = found_taken found r piece in Stays t.answer t.reader.phase
+stays-found Cut r piece = stays-unfinished (nat_lt (r.limit - r.place) (length piece)) r piece
+stays-found (Wrong from to kind) r piece = refl
+stays-found Last r piece = tt
+stays-found (Whole step len) r piece = tt
+
+stays-form : (form : Option Form) (used : ℕ) (r : Reader) (piece : List ℕ) → let t = form_taken form used r piece in Stays t.answer t.reader.phase
+stays-form None used r piece = refl
+stays-form (Some Bfs1) used r piece = stays-found (record_at Bfs1 r.turns ([] ++ take (r.limit - 4) (drop used piece))) (begun Bfs1 r) (drop used piece)
+stays-form (Some Bfs2) used r piece = tt
+stays-form (Some Bfs3) used r piece = tt
+
+stays-word : (word : Option ℕ) (r : Reader) (piece : List ℕ) → let t = word_taken word r piece in Stays t.answer t.reader.phase
+stays-word None r piece = stays-unfinished (nat_lt (r.limit - r.place) (length piece)) r piece
+stays-word (Some word) r piece = stays-form (form_of r.chained word) (4 - length r.held) r piece
+
+stays-closed : (r : Reader) (piece : List ℕ) → let t = closed_taken r piece in Stays t.answer t.reader.phase
+stays-closed r [] = tt
+stays-closed r (byte ∷ piece) = refl
+
+stays-phase : (phase : Phase) (r : Reader) (piece : List ℕ) → r.phase ≡ phase → let t = taken_in phase r piece in Stays t.answer t.reader.phase
+stays-phase Opening r piece is = stays-word (number_at (r.held ++ take (r.limit - r.place) piece)) r piece
+stays-phase (Records form) r piece is = stays-found (record_at form r.turns (r.held ++ take (r.limit - r.place) piece)) r piece
+stays-phase Closed r piece is = stays-closed r piece
+stays-phase (Failed fault) r piece is = is
+
+pub taken-stays : (r : Reader) (piece : List ℕ) → let t = taken r piece in Stays t.answer t.reader.phase
+unfolding taken
+taken-stays r piece = stays-phase r.phase r piece refl

@@ -164,6 +164,11 @@ abbrev pub Counts : Got → ℕ → ℕ → Type 0
 Counts (got.Bad fault) before now = Unit {0}
 Counts _ before now = now ≡ before
 
+-- after a fault the reader is at it
+abbrev pub Stays : Got → Phase → Type 0
+Stays (got.Bad fault) phase = phase ≡ Failed fault
+Stays _ phase = Unit {0}
+
 -- what holds of the step that is answered
 abbrev pub AnswerFits : Got → Type 0
 AnswerFits (got.Step s) = StepFits s

@@ -1,9 +1,9 @@
 //! A reader of streams that come in pieces.
 
-ghost use Rattle.capture_file.specs.Readers.{AnswerFits, Closed, Opening, Records, Counts, IsReader, Uses, after_answer, behind_word, closed_by, closed_taken, ending_in, fresh, record_taken, resumed, room, taken, taking, word_taken};
+ghost use Rattle.capture_file.specs.Readers.{AnswerFits, Closed, Opening, Records, Counts, IsReader, Stays, Uses, after_answer, behind_word, closed_by, closed_taken, ending_in, fresh, record_taken, resumed, room, taken, taking, word_taken};
 ghost use Rattle.capture_file.specs.Records.{FoundFits, HasFour, Passes, Spans, StepFits, Sums};
 ghost use Rattle.capture_file.specs.declared.records.Found.TheVariants.{Cut};
-ghost use Rattle.capture_file.specs.Streams.{fault_at, most_turns, number_at, record_at, turns_of};
+ghost use Rattle.capture_file.specs.Streams.{fault_at, most_turns, number_at, reading, record_at, turns_of};
 ghost use Rattle.std.specs.Prelude.{◌≡◌, ◌≤◌, ◌<◌, ◌+◌, ◌-◌, ◌^◌, ◌++◌, List, ℕ, [], None, IfSome, IfNone, take, drop, length, true, false};
 
 use irq_status::HostWrite;
@@ -419,6 +419,7 @@ impl StepReader {
           ≡ after_answer result.1 (resumed self.new (drop result.0 piece.now ++ more)) }
         ensures used { Uses result.1 result.0 (length piece.now) }
         ensures place { Counts result.1 (self.old.place + result.0) self.new.place }
+        ensures stays { Stays result.1 self.new.phase }
         ensures fits { AnswerFits result.1 }
     {
         self.advance(piece)
@@ -429,7 +430,9 @@ impl StepReader {
         ensures valid { IsReader self.now }
     {
         match self.state {
-            State::Opening | State::Between(_) | State::Within(_) => Err(fault(self.limit - self.room, FileKind::Short)),
+            State::Opening | State::Between(_) | State::Within(_) => {
+                Err(fault(self.limit - self.room, FileKind::Short))
+            }
             State::Closed => Ok(()),
             State::Failed(fault) => Err(fault),
         }
@@ -438,8 +441,8 @@ impl StepReader {
     /// Whether the bytes used are a whole stream. Where they end before the end record, the fault is
     /// `Short` at their number.
     pub fn close(&self) -> Result<(), FileFault>
-        ensures value { result ≡ closed_by self.now.place (resumed self.now []).ending }
-        ensures rest { (resumed self.now []).steps ≡ [] }
+        ensures value { result ≡ closed_by self.now.place (ending_in self.now.phase) }
+        ensures rest { resumed self.now [] ≡ reading [] (ending_in self.now.phase) }
     {
         self.closing()
     }

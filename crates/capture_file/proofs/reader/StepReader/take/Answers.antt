@@ -1,7 +1,7 @@
 use Rattle.std.proofs.Common.{◌≡◌, ◌+◌, ◌++◌, List, ℕ, length, drop, sym, ◌∙◌, ap, subst}
-use Rattle.capture_file.specs.Readers.{Taken, taken, taking, resumed, after_answer, Uses, Counts}
+use Rattle.capture_file.specs.Readers.{Taken, taken, taking, resumed, after_answer, Uses, Counts, Stays}
 use Rattle.capture_file.proofs.Resumed.{taken-goes}
-use Rattle.capture_file.proofs.Answered.{taken-moves}
+use Rattle.capture_file.proofs.Answered.{taken-moves, taken-stays}
 use Rattle.capture_file.proofs.reader.StepReader.take.Goals as goal
 
 pub returns-clause-whole : goal.returns-clause-whole
@@ -18,3 +18,8 @@ pub returns-clause-place : goal.returns-clause-place
 returns-clause-place c =
     subst (λ (t : Taken). Counts t.answer (c.args.self.now.place + t.used) t.reader.place) (sym c.advance.ensures.exact)
     (taken-moves c.args.self.now c.args.piece.now c.advance.ensures.valid).1
+
+pub returns-clause-stays : goal.returns-clause-stays
+returns-clause-stays c =
+    subst (λ (t : Taken). Stays t.answer t.reader.phase) (sym c.advance.ensures.exact)
+    (taken-stays c.args.self.now c.args.piece.now)
