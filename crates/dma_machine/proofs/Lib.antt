@@ -1,0 +1,4 @@
+pub mod Storing
+pub mod Asked
+pub mod Bursts
+pub mod Machines

@@ -1,0 +1,9 @@
+use Rattle.machine_model.specs.Steps.{Push}
+use Rattle.dma_machine.proofs.Machines.{IsMachine-step}
+use Rattle.dma_machine.proofs.Machine.push.Goals as goal
+
+pub invariant_of-self : goal.invariant_of-self
+invariant_of-self g c = IsMachine-step (Push c.args.q c.args.e) _ _ c.push.ensures.state c.requires c.self.invariant
+
+pub returns-clause-facts : goal.returns-clause-facts
+returns-clause-facts g c = IsMachine-step (Push c.args.q c.args.e) _ _ c.push.ensures.state c.requires c.self.invariant

@@ -1,0 +1,21 @@
+use Rattle.std.proofs.Common.{ℕ, ◌≤◌, length, take, ap, ◌∙◌, arith, length-take}
+use Rattle.page_table.specs.Blocks.{chunks_of}
+use Rattle.machine_model.specs.Paths.{range_cause, demands_cause}
+use Rattle.machine_model.specs.Turns.{demand_less, stores_at, with_demand}
+use Rattle.dma_machine.proofs.Asked.{part-written, rest-granted}
+use Rattle.dma_machine.proofs.engine.Engine.move_bytes.Goals as goal
+
+pub store_at-stored-requires-clause-granted : goal.store_at-stored-requires-clause-granted
+store_at-stored-requires-clause-granted g c =
+    let count : ℕ = length (take c.from.result c.take-part.new.out) in
+    let few : count ≤ c.args.n = omega (arith, length-take c.from.result c.take-part.new.out) in
+    ap (λ d. range_cause (chunks_of (g.R.Ram.memory c.args.self.now.ram)) d.address count) c.demand_on-demand.ensures
+    ∙ part-written _ c.args.q c.args.self.now.demands count (omega arith) c.requires.within
+
+pub returns-clause-within : goal.returns-clause-within
+returns-clause-within g c =
+    let less = c.less.ensures ∙ ap (demand_less c.args.n) c.demand_on-demand.ensures in
+    let left = c.put_demand.ensures ∙ ap (λ d. with_demand c.args.q d c.args.self.now.demands) less in
+    ap (demands_cause (chunks_of (g.R.Ram.memory c.store_at-stored.new.ram))) left
+    ∙ rest-granted _ _ (stores_at c.demand_on-demand.result.address c.off_of-off.result c.take-part.result (take c.from.result c.take-part.new.out))
+    c.args.q c.args.self.now.demands c.args.n c.store_at-stored.ensures.memory c.requires.asked c.requires.within

@@ -1,0 +1,151 @@
+//! What is not a turn: pushes of the decoder, writes of the host, the report, and the first state.
+
+use crate::Report;
+use crate::engine::{Engine, Phase, Wait};
+use crate::parts::demands_of;
+use fifo_model::{Entry, Fifo, Pushed, Queue};
+use irq_status::{FBUS, HostWrite, IntStat};
+use machine_model::Skipping;
+use page_ram::Ram;
+use risc_verify::Accepted;
+use risc_word::{Code, Ctl, Instr};
+
+impl<R: Ram> Engine<R> {
+    ghost use Rattle.dma_machine.specs.Facts.{IsWrite, report_of};
+    ghost use Rattle.dma_machine.specs.Views.{state_of};
+    ghost use Rattle.machine_model.specs.States.{started};
+    ghost use Rattle.machine_model.specs.Steps.{control_pushed_as, host, push, push_control, pushed_as, restarted, with_fbus_if, with_fifo, with_risc};
+    ghost use Rattle.std.specs.Prelude.{◌≡◌, ◌*◌, ◌^◌, ◌<◌, false};
+    ghost use Rattle.sync_status.specs.Statuses.{is_control, kind_of};
+
+    /// A data push.
+    #[inline]
+    pub fn push(&mut self, q: Queue, e: Entry) -> Pushed
+        requires { is_control (kind_of e.status) ≡ false }
+        ensures state { state_of R.memory self.new ≡ push q e (state_of R.memory self.old) }
+        ensures answer { result ≡ pushed_as q (state_of R.memory self.old) }
+    {
+        if !self.fifo_on {
+            return Pushed::Off;
+        }
+        let pushed = self.queues.push(q, e);
+        if matches!(pushed, Pushed::Overrun) {
+            self.interrupts.raise(FBUS);
+        }
+        pushed
+    }
+
+    /// A push of a control code into all three queues.
+    #[inline]
+    pub fn push_control(&mut self, c: Code) -> Pushed
+        ensures state { state_of R.memory self.new ≡ push_control c (state_of R.memory self.old) }
+        ensures answer { result ≡ control_pushed_as (state_of R.memory self.old) }
+    {
+        if !self.fifo_on {
+            return Pushed::Off;
+        }
+        let pushed = self.queues.push_control(c);
+        if matches!(pushed, Pushed::Overrun) {
+            self.interrupts.raise(FBUS);
+        }
+        pushed
+    }
+
+    /// The enable of the FIFO: 0 empties the queues.
+    fn enable_fifo(&mut self, fifo: bool)
+        ensures { state_of R.memory self.new ≡ with_fifo fifo (state_of R.memory self.old) }
+    {
+        self.fifo_on = fifo;
+        if !fifo {
+            self.queues.clear();
+        }
+    }
+
+    fn restart(&mut self)
+        ensures { state_of R.memory self.new ≡ restarted (state_of R.memory self.old) }
+    {
+        self.risc_on = true;
+        self.pc = u64::from(self.accepted.program().base());
+        self.phase = Phase::Idle;
+        self.skipping = Skipping::Nothing;
+        self.target = None;
+    }
+
+    /// The enable of the controller: from 0 to 1 it begins at the base again.
+    fn enable_risc(&mut self, risc: bool)
+        ensures { state_of R.memory self.new ≡ with_risc risc self.old.risc_on (state_of R.memory self.old) }
+    {
+        if !risc {
+            self.risc_on = false;
+        } else if !self.risc_on {
+            self.restart();
+        }
+    }
+
+    #[inline]
+    fn enable(&mut self, fifo: bool, risc: bool)
+        ensures { state_of R.memory self.new ≡ with_risc risc self.old.risc_on (with_fifo fifo (state_of R.memory self.old)) }
+    {
+        self.enable_fifo(fifo);
+        self.enable_risc(risc);
+    }
+
+    /// A register write of the host.
+    pub fn host(&mut self, w: HostWrite)
+        requires { IsWrite w }
+        ensures { state_of R.memory self.new ≡ host w (state_of R.memory self.old) }
+    {
+        match w {
+            HostWrite::Ack(mask) => self.interrupts.ack(mask),
+            HostWrite::Enable { fifo, risc } => self.enable(fifo, risc),
+            HostWrite::Trigger(number) => self.trigger = 4 << number,
+        }
+    }
+
+    /// The counts and INT_STAT.
+    pub fn report(&self) -> Report
+        ensures { result ≡ report_of (state_of R.memory self.now) }
+    {
+        Report {
+            turns: self.turns,
+            moved: self.moved,
+            overruns: self.queues.overruns(),
+            int_stat: self.interrupts.word(),
+        }
+    }
+
+    /// The parts of a machine at the base of its program. What `wait`, `instr` and `demands` are means nothing yet.
+    pub fn new(accepted: Accepted, ram: R, queues: Fifo) -> Engine<R>
+        ensures { state_of R.memory result ≡ started accepted (R.memory ram) queues }
+    {
+        let ctl = Ctl {
+            irq: false,
+            set: 0,
+            reset: 0,
+        };
+        let instr = Instr::Jump { ctl, target: 0 };
+        let pc = u64::from(accepted.program().base());
+        Engine {
+            accepted,
+            ram,
+            queues,
+            interrupts: IntStat::none(),
+            fifo_on: true,
+            risc_on: true,
+            trigger: 1,
+            pc,
+            skipping: Skipping::Nothing,
+            target: None,
+            phase: Phase::Idle,
+            wait: Wait {
+                ctl,
+                resync: false,
+                code: Code::Vre,
+            },
+            instr,
+            demands: demands_of(&instr, None),
+            turns: 0,
+            moved: 0,
+        }
+    }
+}

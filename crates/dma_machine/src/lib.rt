@@ -1,0 +1,138 @@
+//! The DMA controller: it takes what the decoder pushes into three queues, runs a RISC program, and writes the memory
+//! that the program may write. All rules of how it finds its way after a broken line are this project's own.
+#![tactic(auto)]
+
+ghost use Rattle.dma_machine.specs.Facts.{IsMachine, IsWrite, report_of};
+ghost use Rattle.fifo_model.specs.Queues.{empty_queues};
+ghost use Rattle.irq_status.specs.Register.{has_ocerr};
+ghost use Rattle.machine_model.specs.Safety.{StaysInside};
+ghost use Rattle.machine_model.specs.States.{started};
+ghost use Rattle.machine_model.specs.Steps.{control_pushed_as, host, push, push_control, pushed_as};
+ghost use Rattle.machine_model.specs.Turns.{turn};
+ghost use Rattle.page_table.specs.Blocks.{chunks_of};
+ghost use Rattle.std.specs.Prelude.{◌≡◌, false};
+ghost use Rattle.sync_status.specs.Statuses.{is_control, kind_of};
+
+mod engine;
+mod host;
+mod parts;
+mod program;
+mod stores;
+
+use engine::Engine;
+use fifo_model::{Entry, Fifo, Pushed, Queue};
+use irq_status::HostWrite;
+use page_ram::Ram;
+use risc_verify::{Accepted, Program};
+use risc_word::Code;
+use std::marker::Model;
+
+/// The counts of a machine, and its register INT_STAT.
+#[derive(Clone, Copy, Debug, PartialEq, Eq)]
+pub struct Report {
+    /// The turns taken.
+    pub turns: u64,
+    /// The bytes stored.
+    pub moved: u64,
+    /// The pushes lost: to queues 1, 2 and 3, and of control codes.
+    pub overruns: [u64; 4],
+    pub int_stat: u32,
+}
+
+/// A machine with its program, its queues and its memory. Contracts see its `State`. Its program is sound, so it
+/// never writes a byte that isn't granted and never meets a word that it can't execute.
+#[derive(Drop)]
+pub struct Machine<R: Ram> {
+    engine: Engine<R>,
+}
+
+impl<R: Ram> Model for Machine<R> {
+    ghost use Rattle.dma_machine.specs.Facts.{IsMachine};
+    ghost use Rattle.dma_machine.specs.Views.{state_of};
+    ghost use Rattle.machine_model.specs.States.{State};
+
+    ghost Value = { State };
+
+    ghost view = { λ machine. state_of R.memory machine.engine };
+
+    ghost invariant = { λ machine. IsMachine (state_of R.memory machine.engine) };
+}
+
+impl<R: Ram> Machine<R> {
+    /// A machine at the base of its program: both enables are on, and the trigger point is 1.
+    pub fn new(accepted: Accepted, ram: R, fifo: Fifo) -> Machine<R>
+        requires granted { chunks_of (R.memory ram) ≡ accepted.grants }
+        requires empty { fifo ≡ empty_queues 70 35 35 }
+        ensures state { result ≡ started accepted (R.memory ram) fifo }
+        ensures facts { IsMachine result }
+    {
+        Machine {
+            engine: Engine::new(accepted, ram, fifo),
+        }
+    }
+
+    /// A push of a data entry to a queue; it is ignored while the FIFO is off.
+    #[inline]
+    pub fn push(&mut self, q: Queue, e: Entry) -> Pushed
+        requires { is_control (kind_of e.status) ≡ false }
+        ensures state { self.new ≡ push q e self.old }
+        ensures answer { result ≡ pushed_as q self.old }
+        ensures facts { IsMachine self.new }
+    {
+        self.engine.push(q, e)
+    }
+
+    /// A push of a control code into all three queues; it is ignored while the FIFO is off.
+    #[inline]
+    pub fn push_control(&mut self, c: Code) -> Pushed
+        ensures state { self.new ≡ push_control c self.old }
+        ensures answer { result ≡ control_pushed_as self.old }
+        ensures facts { IsMachine self.new }
+    {
+        self.engine.push_control(c)
+    }
+
+    /// One turn of the controller.
+    #[inline]
+    pub fn turn(&mut self)
+        ensures state { self.new ≡ turn self.old }
+        ensures facts { IsMachine self.new }
+        ensures inside { StaysInside self.old }
+        ensures no_error { has_ocerr self.new.interrupts ≡ false }
+    {
+        self.engine.turn();
+    }
+
+    /// A register write of the host.
+    pub fn host(&mut self, w: HostWrite)
+        requires { IsWrite w }
+        ensures state { self.new ≡ host w self.old }
+        ensures facts { IsMachine self.new }
+    {
+        self.engine.host(w);
+    }
+
+    /// The counts and INT_STAT.
+    pub fn report(&self) -> Report
+        ensures report { result ≡ report_of self.now }
+        ensures facts { IsMachine self.now }
+    {
+        self.engine.report()
+    }
+
+    /// The memory.
+    pub fn ram(&self) -> &R
+        ensures memory { R.memory result.now ≡ self.now.memory }
+        ensures facts { IsMachine self.now }
+    {
+        &self.engine.ram
+    }
+
+    /// The program that runs.
+    pub fn program(&self) -> &Program
+        ensures program { result.now ≡ self.now.program }
+        ensures facts { IsMachine self.now }
+    {
+        self.engine.accepted.program()
+    }
+}

@@ -1,0 +1,303 @@
+//! Parts of an instruction, and what it asks of the queues.
+
+ghost use Rattle.dma_machine.specs.Needs.{IsAddress};
+ghost use Rattle.machine_model.specs.Paths.{demand, demands_of, first_demand, instr_ctl, instr_ends, instr_off, no_demand, target_after, target_before, target_moved, three_demands};
+ghost use Rattle.machine_model.specs.Turns.{demand_less, demand_on, is_cut_short, is_done, rest_of_line, skipping_after, with_demand};
+ghost use Rattle.std.specs.Prelude.{◌≡◌, ◌+◌, ◌≤◌};
+
+use fifo_model::{Entry, Queue};
+use machine_model::{Demand, Demands, Skipping};
+use risc_word::{Ctl, Ends, Instr};
+use sync_status::{StatusKind, kind};
+
+/// The control bits.
+#[inline]
+pub fn ctl_of(instr: &Instr) -> Ctl
+    ensures { result ≡ instr_ctl instr.now }
+{
+    match *instr {
+        Instr::Write { ctl, .. }
+        | Instr::Skip { ctl, .. }
+        | Instr::WriteC { ctl, .. }
+        | Instr::Jump { ctl, .. }
+        | Instr::Sync { ctl, .. }
+        | Instr::Write123 { ctl, .. }
+        | Instr::Skip123 { ctl, .. }
+        | Instr::Write1S23 { ctl, .. } => ctl,
+    }
+}
+
+/// Where it stands in its line.
+#[inline]
+pub fn ends_of(instr: &Instr) -> Ends
+    ensures { result ≡ instr_ends instr.now }
+{
+    match *instr {
+        Instr::Write { ends, .. }
+        | Instr::Skip { ends, .. }
+        | Instr::WriteC { ends, .. }
+        | Instr::Write123 { ends, .. }
+        | Instr::Skip123 { ends, .. }
+        | Instr::Write1S23 { ends, .. } => ends,
+        Instr::Jump { .. } | Instr::Sync { .. } => Ends {
+            sol: false,
+            eol: false,
+        },
+    }
+}
+
+/// The lanes that are off.
+#[inline]
+pub fn off_of(instr: &Instr) -> u8
+    ensures { result ≡ instr_off instr.now }
+{
+    match *instr {
+        Instr::Write { off, .. }
+        | Instr::WriteC { off, .. }
+        | Instr::Write123 { off, .. }
+        | Instr::Write1S23 { off, .. } => off,
+        Instr::Skip { .. } | Instr::Jump { .. } | Instr::Sync { .. } | Instr::Skip123 { .. } => 0,
+    }
+}
+
+/// What is asked of a queue.
+#[inline]
+fn demand(sol: bool, rest: u16, address: Option<u64>) -> Demand
+    ensures { result ≡ demand sol rest address }
+{
+    Demand {
+        rest,
+        address,
+        needs_sol: sol && rest != 0,
+    }
+}
+
+#[inline]
+fn no_demand() -> Demand
+    ensures { result ≡ no_demand }
+{
+    Demand {
+        rest: 0,
+        address: None,
+        needs_sol: false,
+    }
+}
+
+#[inline]
+fn first_demand(sol: bool, rest: u16, address: Option<u64>) -> Demands
+    ensures { result ≡ first_demand sol rest address }
+{
+    Demands {
+        one: demand(sol, rest, address),
+        two: no_demand(),
+        three: no_demand(),
+    }
+}
+
+#[inline]
+fn three_demands(
+    sol: bool,
+    counts: &[u16; 3],
+    first: Option<u64>,
+    second: Option<u64>,
+    third: Option<u64>,
+) -> Demands
+    ensures { result ≡ three_demands sol counts.now first second third }
+{
+    Demands {
+        one: demand(sol, counts[0], first),
+        two: demand(sol, counts[1], second),
+        three: demand(sol, counts[2], third),
+    }
+}
+
+/// What an instruction asks of the queues as it begins with this target.
+pub fn demands_of(instr: &Instr, target: Option<u64>) -> Demands
+    ensures { result ≡ demands_of instr.now target }
+{
+    match instr {
+        Instr::Write {
+            ctl: _,
+            ends,
+            off: _,
+            count,
+            addr,
+        } => first_demand(ends.sol, *count, Some(u64::from(*addr))),
+        Instr::Skip {
+            ctl: _,
+            ends,
+            count,
+        } => first_demand(ends.sol, *count, None),
+        Instr::WriteC {
+            ctl: _,
+            ends,
+            off: _,
+            count,
+        } => first_demand(ends.sol, *count, target),
+        Instr::Jump { .. } | Instr::Sync { .. } => Demands {
+            one: no_demand(),
+            two: no_demand(),
+            three: no_demand(),
+        },
+        Instr::Write123 {
+            ctl: _,
+            ends,
+            off: _,
+            counts,
+            addrs,
+        } => {
+            let [first, second, third] = *addrs;
+            three_demands(
+                ends.sol,
+                counts,
+                Some(u64::from(first)),
+                Some(u64::from(second)),
+                Some(u64::from(third)),
+            )
+        }
+        Instr::Skip123 {
+            ctl: _,
+            ends,
+            counts,
+        } => three_demands(ends.sol, counts, None, None, None),
+        Instr::Write1S23 {
+            ctl: _,
+            ends,
+            off: _,
+            counts,
+            addr,
+        } => three_demands(ends.sol, counts, Some(u64::from(*addr)), None, None),
+    }
+}
+
+/// The target with which an instruction acts: SOL forgets it.
+#[inline]
+pub fn target_before(instr: &Instr, target: Option<u64>) -> Option<u64>
+    ensures { result ≡ target_before instr.now target }
+{
+    if ends_of(instr).sol { None } else { target }
+}
+
+/// What is passed over after an instruction was given up within its line.
+#[inline]
+pub fn rest_of_line(instr: &Instr) -> Skipping
+    ensures { result ≡ rest_of_line instr.now }
+{
+    if ends_of(instr).eol {
+        Skipping::Nothing
+    } else {
+        Skipping::ToEol
+    }
+}
+
+/// What is still passed over after a data instruction.
+#[inline]
+pub fn skipping_after(skipping: Skipping, eol: bool) -> Skipping
+    ensures { result ≡ skipping_after skipping eol }
+{
+    match skipping {
+        Skipping::ToEol if eol => Skipping::Nothing,
+        other => other,
+    }
+}
+
+/// The target as an instruction without EOL leaves it.
+#[inline]
+fn target_moved(instr: &Instr, target: Option<u64>) -> Option<u64>
+    requires { IsAddress target }
+    ensures { result ≡ target_moved instr.now target }
+{
+    match instr {
+        Instr::Write {
+            ctl: _,
+            ends: _,
+            off: _,
+            count,
+            addr,
+        } => Some(u64::from(*addr) + u64::from(*count)),
+        Instr::WriteC {
+            ctl: _,
+            ends: _,
+            off: _,
+            count,
+        } => match target {
+            Some(at) => Some(at + u64::from(*count)),
+            None => None,
+        },
+        Instr::Skip { .. } => target,
+        _ => None,
+    }
+}
+
+/// The target as an instruction leaves it: EOL forgets it.
+#[inline]
+pub fn target_after(instr: &Instr, target: Option<u64>) -> Option<u64>
+    requires { IsAddress target }
+    ensures { result ≡ target_after instr.now target }
+{
+    if ends_of(instr).eol {
+        None
+    } else {
+        target_moved(instr, target)
+    }
+}
+
+/// What is still asked of a queue.
+#[inline]
+pub fn demand_on(demands: &Demands, q: Queue) -> Demand
+    ensures { result ≡ demand_on q demands.now }
+{
+    match q {
+        Queue::One => demands.one,
+        Queue::Two => demands.two,
+        Queue::Three => demands.three,
+    }
+}
+
+#[inline]
+pub fn put_demand(demands: &mut Demands, q: Queue, demand: Demand)
+    ensures { demands.new ≡ with_demand q demand demands.old }
+{
+    match q {
+        Queue::One => demands.one = demand,
+        Queue::Two => demands.two = demand,
+        Queue::Three => demands.three = demand,
+    }
+}
+
+/// What is asked of a queue after some bytes of it were taken.
+#[inline]
+pub fn less(demand: Demand, count: u8) -> Demand
+    requires asked { count ≤ demand.rest }
+    requires address { IsAddress demand.address }
+    ensures { result ≡ demand_less count demand }
+{
+    Demand {
+        rest: demand.rest - u16::from(count),
+        address: match demand.address {
+            Some(at) => Some(at + u64::from(count)),
+            None => None,
+        },
+        needs_sol: false,
+    }
+}
+
+/// Whether nothing more is asked.
+#[inline]
+pub fn is_done(demands: &Demands) -> bool
+    ensures { result ≡ is_done demands.now }
+{
+    demands.one.rest == 0 && demands.two.rest == 0 && demands.three.rest == 0
+}
+
+/// Whether a line ends with the bytes that are taken of its entry, and more were asked for.
+#[inline]
+pub fn is_cut_short(entry: Entry, taken: u8, count: u8, rest: u16) -> bool
+    requires { taken + count ≤ 4 }
+    ensures { result ≡ is_cut_short entry taken count rest }
+{
+    match kind(entry.status) {
+        StatusKind::End(valid) => taken + count == valid && rest != u16::from(count),
+        _ => false,
+    }
+}

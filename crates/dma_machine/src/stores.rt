@@ -1,0 +1,52 @@
+//! Storing the bytes that were taken of a queue.
+
+ghost use Rattle.machine_model.specs.Turns.{is_off, stored_all, stores_at, stores_from};
+ghost use Rattle.page_table.specs.Blocks.{chunks_of};
+ghost use Rattle.machine_model.specs.Paths.{range_cause, written_cause};
+ghost use Rattle.std.specs.Prelude.{◌≡◌, ◌+◌, ◌<◌, ◌≤◌, length, None};
+
+use page_ram::Ram;
+
+/// Whether the lane of a DWORD is off.
+#[inline]
+fn is_off(off: u8, lane: u8) -> bool
+    requires { lane < 8 }
+    ensures { result ≡ is_off off lane }
+{
+    (off >> lane) % 2 == 1
+}
+
+/// Stores bytes that lie in the lanes from `lane` on, save those whose lane is off, and answers how many
+/// it stored.
+#[inline]
+fn store_from<R: Ram>(ram: &mut R, off: u8, mut lane: u8, mut address: u64, bytes: &[u8]) -> u64
+    requires lanes { lane + length bytes.now ≤ 4 }
+    requires granted { written_cause (chunks_of (R.memory ram.old)) address (length bytes.now) ≡ None }
+    ensures memory { R.memory ram.new ≡ stored_all (R.memory ram.old) (stores_from off lane address bytes.now) }
+    ensures stored { result ≡ length (stores_from off lane address bytes.now) }
+{
+    let mut stored = 0;
+    for byte in bytes {
+        if !is_off(off, lane) {
+            ram.store(address as u32, *byte);
+            stored += 1;
+        }
+        lane += 1;
+        address += 1;
+    }
+    stored
+}
+
+/// Stores bytes from an address on, or none where there is no address.
+#[inline]
+pub fn store_at<R: Ram>(ram: &mut R, address: Option<u64>, off: u8, lane: u8, bytes: &[u8]) -> u64
+    requires lanes { lane + length bytes.now ≤ 4 }
+    requires granted { range_cause (chunks_of (R.memory ram.old)) address (length bytes.now) ≡ None }
+    ensures memory { R.memory ram.new ≡ stored_all (R.memory ram.old) (stores_at address off lane bytes.now) }
+    ensures stored { result ≡ length (stores_at address off lane bytes.now) }
+{
+    match address {
+        Some(address) => store_from(ram, off, lane, address, bytes),
+        None => 0,
+    }
+}
