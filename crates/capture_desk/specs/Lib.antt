@@ -2,3 +2,4 @@ pub mod Desks
 pub mod Memory
 pub mod Bounds
 pub mod Inside
+pub mod System

@@ -5,7 +5,11 @@ mod bounded;
 mod desk;
 mod memory;
 mod octets;
+mod system;
+#[cfg(test)]
+mod tests;
 
 pub use crate::desk::{Desk, Failed, OpenFault, put};
 pub use crate::memory::MemDesk;
 pub use crate::octets::Octets;
+pub use crate::system::OsDesk;
