@@ -2,3 +2,4 @@ pub mod Laws
 pub mod Names
 mod Slots
 mod Told
+pub mod Outputs
