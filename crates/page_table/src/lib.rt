@@ -167,7 +167,8 @@ impl<T: Drop> From<AllocFailed<T>> for PageFault {
 }
 
 impl PageSet {
-    /// The pages at these addresses.
+    /// The pages of 4,096 bytes at these addresses, which may stand in any order. Of several faults
+    /// the answer is the first in the order of `PageFault`, at the first place that has it.
     pub fn from_list(alloc: Global, pages: &[u32]) -> Result<PageSet, PageFault>
         ensures answer { Answers (taken_pages pages.now) result }
         ensures grants { IfOk result AreGrants }
@@ -182,7 +183,8 @@ impl PageSet {
         gathered(alloc, &chunks)
     }
 
-    /// The chunks with these addresses and lengths.
+    /// The chunks with these addresses and lengths in bytes, in any order. Faults are told as by
+    /// `from_list`.
     pub fn from_chunks(alloc: Global, chunks: &[(u32, u32)]) -> Result<PageSet, PageFault>
         ensures answer { Answers (taken_chunks chunks.now) result }
         ensures grants { IfOk result AreGrants }
