@@ -2,3 +2,4 @@ pub mod Storing
 pub mod Asked
 pub mod Bursts
 pub mod Machines
+pub mod Stills

@@ -1,3 +1,4 @@
 pub mod Facts
 pub mod Needs
+pub mod Stills
 pub mod Views

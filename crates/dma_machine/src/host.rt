@@ -24,7 +24,9 @@ impl<R: Ram> Engine<R> {
         requires { is_control (kind_of e.status) ≡ false }
         ensures state { state_of R.memory self.new ≡ push q e (state_of R.memory self.old) }
         ensures answer { result ≡ pushed_as q (state_of R.memory self.old) }
+        ensures still { self.new.still ≡ false }
     {
+        self.still = false;
         if !self.fifo_on {
             return Pushed::Off;
         }
@@ -40,7 +42,9 @@ impl<R: Ram> Engine<R> {
     pub fn push_control(&mut self, c: Code) -> Pushed
         ensures state { state_of R.memory self.new ≡ push_control c (state_of R.memory self.old) }
         ensures answer { result ≡ control_pushed_as (state_of R.memory self.old) }
+        ensures still { self.new.still ≡ false }
     {
+        self.still = false;
         if !self.fifo_on {
             return Pushed::Off;
         }
@@ -90,8 +94,7 @@ impl<R: Ram> Engine<R> {
         self.enable_risc(risc);
     }
 
-    /// A register write of the host.
-    pub fn host(&mut self, w: HostWrite)
+    fn write(&mut self, w: HostWrite)
         requires { IsWrite w }
         ensures { state_of R.memory self.new ≡ host w (state_of R.memory self.old) }
     {
@@ -100,6 +103,16 @@ impl<R: Ram> Engine<R> {
             HostWrite::Enable { fifo, risc } => self.enable(fifo, risc),
             HostWrite::Trigger(number) => self.trigger = 4 << number,
         }
+    }
+
+    /// A register write of the host.
+    pub fn host(&mut self, w: HostWrite)
+        requires { IsWrite w }
+        ensures state { state_of R.memory self.new ≡ host w (state_of R.memory self.old) }
+        ensures still { self.new.still ≡ false }
+    {
+        self.write(w);
+        self.still = false;
     }
 
     /// The counts and INT_STAT.
@@ -116,7 +129,8 @@ impl<R: Ram> Engine<R> {
 
     /// The parts of a machine at the base of its program. What `wait`, `instr` and `demands` are means nothing yet.
     pub fn new(accepted: Accepted, ram: R, queues: Fifo) -> Engine<R>
-        ensures { state_of R.memory result ≡ started accepted (R.memory ram) queues }
+        ensures state { state_of R.memory result ≡ started accepted (R.memory ram) queues }
+        ensures still { result.still ≡ false }
     {
         let ctl = Ctl {
             irq: false,
@@ -146,6 +160,7 @@ impl<R: Ram> Engine<R> {
             demands: demands_of(&instr, None),
             turns: 0,
             moved: 0,
+            still: false,
         }
     }
 }

@@ -14,10 +14,13 @@ ghost use Rattle.std.specs.Prelude.{◌≡◌, false};
 ghost use Rattle.sync_status.specs.Statuses.{is_control, kind_of};
 
 mod engine;
+mod fetching;
 mod host;
 mod parts;
 mod program;
+mod running;
 mod stores;
+mod turning;
 
 use engine::Engine;
 use fifo_model::{Entry, Fifo, Pushed, Queue};
@@ -48,6 +51,7 @@ pub struct Machine<R: Ram> {
 
 impl<R: Ram> Model for Machine<R> {
     ghost use Rattle.dma_machine.specs.Facts.{IsMachine};
+    ghost use Rattle.dma_machine.specs.Stills.{StillIf};
     ghost use Rattle.dma_machine.specs.Views.{state_of};
     ghost use Rattle.machine_model.specs.States.{State};
 
@@ -55,7 +59,7 @@ impl<R: Ram> Model for Machine<R> {
 
     ghost view = { λ machine. state_of R.memory machine.engine };
 
-    ghost invariant = { λ machine. IsMachine (state_of R.memory machine.engine) };
+    ghost invariant = { λ machine. IsMachine (state_of R.memory machine.engine) × StillIf machine.engine.still (state_of R.memory machine.engine) };
 }
 
 impl<R: Ram> Machine<R> {

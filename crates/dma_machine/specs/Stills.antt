@@ -1,0 +1,28 @@
+-- Where a machine stands still: its turns do nothing but count until a push or a write of the host comes.
+use Rattle.std.specs.Prelude.{◌≡◌, Bool, true, false, not, ◌&&◌, Option, Some, None, is_none, if◌then◌else◌}
+use Rattle.fifo_model.specs.declared.Queue.TheVariants.{One, Two, Three}
+use Rattle.fifo_model.specs.Queues.{Queues}
+use Rattle.machine_model.specs.declared.Demands.{Demands}
+use Rattle.machine_model.specs.declared.Job.{Job}
+use Rattle.machine_model.specs.declared.Job.TheVariants.{Idle, Waiting, Running}
+use Rattle.machine_model.specs.States.{State}
+use Rattle.machine_model.specs.Turns.{common_code, is_done, is_served, lowest_stray}
+
+abbrev pub waits_still : Queues → Bool
+waits_still queues = is_none (lowest_stray queues) && is_none (common_code queues)
+
+abbrev pub runs_still : Demands → State → Bool
+runs_still ds m = not (is_done ds) && not (is_served One ds m) && not (is_served Two ds m) && not (is_served Three ds m)
+
+abbrev pub works_still : Job → State → Bool
+works_still Idle m = false
+works_still (Waiting ctl resync code) m = waits_still m.queues
+works_still (Running instr ds) m = runs_still ds m
+
+abbrev pub is_still : State → Bool
+is_still m = if m.risc_on then works_still m.job m else true
+
+-- a flag that tells of it is set nowhere else
+abbrev pub StillIf : Bool → State → Type 0
+StillIf true m = is_still m ≡ true
+StillIf false m = Unit {0}

@@ -1,0 +1,186 @@
+//! Turns of a machine that runs a data instruction.
+
+use crate::engine::{Engine, Phase};
+use crate::parts::{demand_on, is_cut_short, is_done, less, off_of, put_demand, rest_of_line};
+use crate::stores::store_at;
+use fifo_model::{Entry, Queue};
+use irq_status::FDSR;
+use machine_model::Skipping;
+use page_ram::Ram;
+use sync_status::{Verdict, judge};
+
+impl<R: Ram> Engine<R> {
+    ghost use Rattle.dma_machine.specs.Needs.{Applied, IsAddress};
+    ghost use Rattle.dma_machine.specs.Views.{state_of};
+    ghost use Rattle.fifo_model.specs.Queues.{front, lane_of};
+    ghost use Rattle.machine_model.specs.Paths.{demands_cause};
+    ghost use Rattle.machine_model.specs.Turns.{apply, burst, burst_of, demand_on, ended, is_cut_short, is_done, is_served, judged, lowest_served, ran, served, taking, took, verdict_at, with_fdsr, with_queue};
+    ghost use Rattle.page_table.specs.Blocks.{chunks_of};
+    ghost use Rattle.std.specs.Prelude.{◌≡◌, ◌≢◌, ◌+◌, ◌<◌, ◌≤◌, IfSome, IsSome, None, Some, true};
+    ghost use Rattle.sync_status.specs.Statuses.{valid_bytes};
+    ghost use Rattle.fifo_model.specs.Queues.{front_code, removed};
+
+    /// Takes bytes of a queue's front and stores those whose lane is on; whether the line ends before the
+    /// instruction has what it asks for.
+    #[inline]
+    fn move_bytes(&mut self, q: Queue, n: u8, entry: Entry) -> bool
+        requires running { self.old.phase ≡ Phase.Running }
+        requires front { front (lane_of q self.old.queues) ≡ Some entry }
+        requires some { 1 ≤ n }
+        requires valid { (lane_of q self.old.queues).taken + n ≤ valid_bytes entry.status }
+        requires asked { n ≤ (demand_on q self.old.demands).rest }
+        requires within { demands_cause (chunks_of (R.memory self.old.ram)) self.old.demands ≡ None }
+        ensures state { state_of R.memory self.new ≡ took q n self.old.instr self.old.demands entry (state_of R.memory self.old) }
+        ensures cut { result ≡ is_cut_short entry (lane_of q self.old.queues).taken n (demand_on q self.old.demands).rest }
+        ensures same { self.new.instr ≡ self.old.instr }
+        ensures within { demands_cause (chunks_of (R.memory self.new.ram)) self.new.demands ≡ None }
+    {
+        let demand = demand_on(&self.demands, q);
+        let mut bytes = [0; 4];
+        let part = self.queues.take(q, n, &mut bytes);
+        let off = off_of(&self.instr);
+        let stored = store_at(
+            &mut self.ram,
+            demand.address,
+            off,
+            part,
+            &bytes[..usize::from(n)],
+        );
+        self.moved = self.moved.saturating_add(stored);
+        put_demand(&mut self.demands, q, less(demand, n));
+        is_cut_short(entry, part, n, demand.rest)
+    }
+
+    #[inline]
+    fn take(&mut self, q: Queue, n: u8, entry: Entry)
+        requires running { self.old.phase ≡ Phase.Running }
+        requires front { front (lane_of q self.old.queues) ≡ Some entry }
+        requires some { 1 ≤ n }
+        requires valid { (lane_of q self.old.queues).taken + n ≤ valid_bytes entry.status }
+        requires asked { n ≤ (demand_on q self.old.demands).rest }
+        requires within { demands_cause (chunks_of (R.memory self.old.ram)) self.old.demands ≡ None }
+        ensures state { state_of R.memory self.new ≡ taking q n self.old.instr self.old.demands entry (state_of R.memory self.old) }
+        ensures within { demands_cause (chunks_of (R.memory self.new.ram)) self.new.demands ≡ None }
+    {
+        if self.move_bytes(q, n, entry) {
+            let skipping = rest_of_line(&self.instr);
+            self.give_up(skipping);
+        }
+    }
+
+    /// Removes a front that is of no use to the running instruction.
+    #[cold]
+    fn discard(&mut self, q: Queue)
+        requires there { IsSome (front (lane_of q self.old.queues)) }
+        requires no_code { front_code (lane_of q self.old.queues) ≡ None }
+        ensures state { state_of R.memory self.new ≡ with_fdsr (with_queue q (removed (lane_of q self.old.queues)) (state_of R.memory self.old)) }
+        ensures same { (self.new.ram ≡ self.old.ram) × (self.new.demands ≡ self.old.demands) }
+    {
+        self.queues.discard(q);
+        self.interrupts.raise(FDSR);
+    }
+
+    /// What the front of a queue makes of the instruction.
+    #[inline]
+    fn judge_front(&mut self, q: Queue, entry: Entry)
+        requires running { self.old.phase ≡ Phase.Running }
+        requires front { front (lane_of q self.old.queues) ≡ Some entry }
+        requires asked { 1 ≤ (demand_on q self.old.demands).rest }
+        requires within { demands_cause (chunks_of (R.memory self.old.ram)) self.old.demands ≡ None }
+        ensures state { state_of R.memory self.new ≡ judged (verdict_at q self.old.demands entry (state_of R.memory self.old)) q self.old.instr self.old.demands entry (state_of R.memory self.old) }
+        ensures within { demands_cause (chunks_of (R.memory self.new.ram)) self.new.demands ≡ None }
+    {
+        let demand = demand_on(&self.demands, q);
+        let part = self.queues.part(q);
+        match judge(entry.status, demand.needs_sol, part, demand.rest) {
+            Verdict::Take(n) => self.take(q, n, entry),
+            Verdict::Discard => self.discard(q),
+            Verdict::Broken => self.give_up(Skipping::ToSync),
+            Verdict::Missing => {
+                let skipping = rest_of_line(&self.instr);
+                self.give_up(skipping);
+            }
+        }
+    }
+
+    /// One application to the front of a queue by the running instruction; whether there was one.
+    #[inline]
+    fn serve(&mut self, q: Queue) -> bool
+        requires running { self.old.phase ≡ Phase.Running }
+        requires within { demands_cause (chunks_of (R.memory self.old.ram)) self.old.demands ≡ None }
+        ensures applied { Applied (served (front (lane_of q self.old.queues)) q self.old.instr self.old.demands (state_of R.memory self.old)) result (state_of R.memory self.new) (state_of R.memory self.old) }
+        ensures within { demands_cause (chunks_of (R.memory self.new.ram)) self.new.demands ≡ None }
+    {
+        match self.queues.front(q) {
+            Some(entry) => {
+                if demand_on(&self.demands, q).rest == 0 {
+                    false
+                } else {
+                    self.judge_front(q, entry);
+                    true
+                }
+            }
+            None => false,
+        }
+    }
+
+    #[inline]
+    fn apply(&mut self, q: Queue) -> bool
+        requires { demands_cause (chunks_of (R.memory self.old.ram)) self.old.demands ≡ None }
+        ensures applied { Applied (apply q (state_of R.memory self.old)) result (state_of R.memory self.new) (state_of R.memory self.old) }
+        ensures within { demands_cause (chunks_of (R.memory self.new.ram)) self.new.demands ≡ None }
+    {
+        match self.phase {
+            Phase::Running => self.serve(q),
+            Phase::Idle | Phase::Waiting => false,
+        }
+    }
+
+    /// As many applications to one queue as there can be, up to the trigger point.
+    #[inline]
+    fn burst(&mut self, q: Queue)
+        requires { demands_cause (chunks_of (R.memory self.old.ram)) self.old.demands ≡ None }
+        ensures { state_of R.memory self.new ≡ burst self.old.trigger q (state_of R.memory self.old) }
+    {
+        let mut left = self.trigger;
+        while left > 0 && self.apply(q) {
+            left -= 1;
+        }
+    }
+
+    /// Whether the instruction asks for bytes of a queue that is ready.
+    #[inline]
+    pub fn is_served(&self, q: Queue) -> bool
+        ensures { result ≡ is_served q self.now.demands (state_of R.memory self.now) }
+    {
+        demand_on(&self.demands, q).rest != 0 && self.queues.ready(q, self.trigger)
+    }
+
+    #[inline]
+    fn burst_lowest(&mut self)
+        requires { demands_cause (chunks_of (R.memory self.old.ram)) self.old.demands ≡ None }
+        ensures { state_of R.memory self.new ≡ burst_of (lowest_served self.old.demands (state_of R.memory self.old)) (state_of R.memory self.old) }
+    {
+        if self.is_served(Queue::One) {
+            self.burst(Queue::One);
+        } else if self.is_served(Queue::Two) {
+            self.burst(Queue::Two);
+        } else if self.is_served(Queue::Three) {
+            self.burst(Queue::Three);
+        }
+    }
+
+    /// A turn of a machine that runs.
+    #[inline]
+    pub fn run(&mut self)
+        requires target { IsAddress self.old.target }
+        requires within { demands_cause (chunks_of (R.memory self.old.ram)) self.old.demands ≡ None }
+        ensures { state_of R.memory self.new ≡ ran (is_done self.old.demands) self.old.instr self.old.demands (state_of R.memory self.old) }
+    {
+        if is_done(&self.demands) {
+            self.retire();
+        } else {
+            self.burst_lowest();
+        }
+    }
+}

@@ -1,0 +1,102 @@
+//! Whole turns.
+
+use crate::engine::{Engine, Phase};
+use crate::parts::is_done;
+use fifo_model::Queue;
+use page_ram::Ram;
+
+impl<R: Ram> Engine<R> {
+    ghost use Rattle.dma_machine.specs.Needs.{CanWork};
+    ghost use Rattle.dma_machine.specs.Stills.{StillIf, is_still, runs_still, waits_still};
+    ghost use Rattle.dma_machine.specs.Views.{state_of};
+    ghost use Rattle.machine_model.specs.Turns.{counted, turn, worked};
+    ghost use Rattle.std.specs.Prelude.{◌≡◌};
+
+    #[inline]
+    fn work(&mut self)
+        requires { CanWork (state_of R.memory self.old).job (state_of R.memory self.old) }
+        ensures { state_of R.memory self.new ≡ worked (state_of R.memory self.old).job (state_of R.memory self.old) }
+    {
+        match self.phase {
+            Phase::Running => self.run(),
+            Phase::Waiting => self.wait(),
+            Phase::Idle => self.fetch(),
+        }
+    }
+
+    #[inline]
+    fn count_turn(&mut self)
+        ensures state { state_of R.memory self.new ≡ counted (state_of R.memory self.old) }
+        ensures still { self.new.still ≡ self.old.still }
+    {
+        self.turns = self.turns.saturating_add(1);
+    }
+
+    #[inline]
+    fn take_turn(&mut self)
+        requires { CanWork (state_of R.memory self.old).job (state_of R.memory self.old) }
+        ensures { state_of R.memory self.new ≡ turn (state_of R.memory self.old) }
+    {
+        self.turns = self.turns.saturating_add(1);
+        if self.risc_on {
+            self.work();
+        }
+    }
+
+    #[inline]
+    fn waits_still(&self) -> bool
+        ensures { result ≡ waits_still self.now.queues }
+    {
+        self.lowest_stray().is_none() && self.common_code().is_none()
+    }
+
+    #[inline]
+    fn runs_still(&self) -> bool
+        ensures { result ≡ runs_still self.now.demands (state_of R.memory self.now) }
+    {
+        !is_done(&self.demands)
+            && !self.is_served(Queue::One)
+            && !self.is_served(Queue::Two)
+            && !self.is_served(Queue::Three)
+    }
+
+    #[inline]
+    fn is_still(&self) -> bool
+        ensures { result ≡ is_still (state_of R.memory self.now) }
+    {
+        if !self.risc_on {
+            return true;
+        }
+        match self.phase {
+            Phase::Running => self.runs_still(),
+            Phase::Waiting => self.waits_still(),
+            Phase::Idle => false,
+        }
+    }
+
+    /// One turn, and whether those after it do nothing but count.
+    #[inline(never)]
+    fn turn_anew(&mut self)
+        requires { CanWork (state_of R.memory self.old).job (state_of R.memory self.old) }
+        ensures state { state_of R.memory self.new ≡ turn (state_of R.memory self.old) }
+        ensures still { StillIf self.new.still (state_of R.memory self.new) }
+    {
+        self.take_turn();
+        self.still = self.is_still();
+    }
+
+    /// One turn.
+    #[inline]
+    pub fn turn(&mut self)
+        requires can { CanWork (state_of R.memory self.old).job (state_of R.memory self.old) }
+        requires still { StillIf self.old.still (state_of R.memory self.old) }
+        ensures state { state_of R.memory self.new ≡ turn (state_of R.memory self.old) }
+        ensures still { StillIf self.new.still (state_of R.memory self.new) }
+    {
+        if self.still {
+            self.count_turn();
+        } else {
+            self.turn_anew();
+        }
+    }
+}
