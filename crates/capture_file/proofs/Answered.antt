@@ -1,9 +1,8 @@
 -- What a reader answers: how much it uses of a piece, and what it says at the end.
-use Rattle.std.proofs.Common.{◌≡◌, ℕ, zero, suc, ◌+◌, ◌-◌, ◌<◌, ◌≤◌, Bool, true, false, List, [], ◌∷◌, ◌++◌, length, take, drop, Option, Some, None, refl, sym, ap, ◌∙◌, arith, length-append, length-take, length-drop}
-use Rattle.std.proofs.lemmas.Bool.{ltb-true, ltb-false, le-ltb}
+use Rattle.std.proofs.Common.{◌≡◌, ℕ, zero, suc, ◌+◌, ◌-◌, ◌<◌, ◌≤◌, Bool, true, false, List, [], ◌∷◌, ◌++◌, length, take, drop, Option, Some, None, refl, ap, ◌∙◌, arith, length-append, length-take, length-drop}
+use Rattle.std.proofs.lemmas.Bool.{ltb-true, le-ltb}
 use Rattle.std.proofs.lemmas.List.{take_all, append-nil}
 use Rattle.std.specs.Prelude.{nat_lt}
-use Rattle.capture_file.specs.declared.FileFault.{FileFault}
 use Rattle.capture_file.specs.declared.reader.Got.{Got}
 use Rattle.capture_file.specs.declared.reader.Got.TheVariants as got
 use Rattle.capture_file.specs.Readers.{Phase, Opening, Records, Closed, Failed}
@@ -12,7 +11,7 @@ use Rattle.capture_file.specs.declared.records.Form.TheVariants.{Bfs1, Bfs2, Bfs
 use Rattle.capture_file.specs.declared.records.Found.{Found}
 use Rattle.capture_file.specs.declared.records.Found.TheVariants.{Cut, Wrong, Last, Whole}
 use Rattle.capture_file.specs.Records.{HasFour, Spans, Passes}
-use Rattle.capture_file.specs.Streams.{Reading, reading, Ending, Unfinished, Ended, Bad, number_at, form_of, record_at, records, within, within_if, opened_by, after_end, stream_of, judged}
+use Rattle.capture_file.specs.Streams.{Reading, reading, Unfinished, Ended, number_at, form_of, record_at, records, within, within_if, opened_by, after_end, stream_of, judged}
 use Rattle.capture_file.specs.Readers.{Reader, Taken, resumed, taken, taken_in, unfinished_if, found_taken, record_taken, form_taken, word_taken, closed_taken, behind_word, begun, resumed_in, ending_in, Uses, Counts, IsAt, IsReader, Stays}
 use Rattle.capture_file.proofs.Fields.{number_at-four, record_at-spans, record_at-passes}
 use Rattle.capture_file.proofs.Readings.{records-front, front_of}
@@ -50,12 +49,12 @@ module _ (r : Reader) (piece : List ℕ) where
 record-moves : (form : Form) (r : Reader) (piece : List ℕ) → record_at form r.turns r.held ≡ Cut → Moves r piece (record_taken form r piece)
 record-moves form r piece cut =
     found-moves r piece (record_at form r.turns (r.held ++ take (r.limit - r.place) piece))
-      (record_at-spans form r.turns (r.held ++ take (r.limit - r.place) piece))
-      (record_at-passes form r.turns r.held (take (r.limit - r.place) piece) cut)
+    (record_at-spans form r.turns (r.held ++ take (r.limit - r.place) piece))
+    (record_at-passes form r.turns r.held (take (r.limit - r.place) piece) cut)
 
 -- behind the first word
 later-moves : (answer : Got) (first used count rest before now : ℕ) → Uses answer used rest → Counts answer (4 + used) now → first ≤ count → rest ≡ count - first → before + first ≡ 4 →
-  Uses answer (first + used) count × Counts answer (before + (first + used)) now
+    Uses answer (first + used) count × Counts answer (before + (first + used)) now
 later-moves (got.Step step) first used count rest before now uses counts some is word = ((omega arith, omega arith), omega arith)
 later-moves got.End first used count rest before now uses counts some is word = ((omega arith, omega arith), omega arith)
 later-moves got.More first used count rest before now uses counts some is word = (omega arith, omega arith)
@@ -73,7 +72,7 @@ module _ (r : Reader) (piece : List ℕ) (place : r.place ≡ length r.held) (sh
       let t : Taken = record_taken Bfs1 (begun Bfs1 r) (drop (4 - length r.held) piece) in
       let moves = record-moves Bfs1 (begun Bfs1 r) (drop (4 - length r.held) piece) refl in
       later-moves t.answer (4 - length r.held) t.used (length piece) (length (drop (4 - length r.held) piece)) r.place t.reader.place
-        moves.0 moves.1 (enough four) (length-drop (4 - length r.held) piece) (omega arith)
+      moves.0 moves.1 (enough four) (length-drop (4 - length r.held) piece) (omega arith)
   form-moves Bfs2 four = ((omega arith, enough four), omega arith)
   form-moves Bfs3 four = ((omega arith, enough four), omega arith)
 
@@ -122,7 +121,7 @@ no-bytes zero = refl
 no-bytes (suc n) = refl
 
 record-ends : (form : Form) (limit place turns start room : ℕ) (held : List ℕ) → place ≤ limit → record_at form turns held ≡ Cut →
-  within limit (place + length {A = ℕ} []) (records form turns start 0 (held ++ take room [])) ≡ reading [] Unfinished
+    within limit (place + length {A = ℕ} []) (records form turns start 0 (held ++ take room [])) ≡ reading [] Unfinished
 record-ends form limit place turns start room held below cut =
     not-over limit (place + length {A = ℕ} []) (records form turns start 0 (held ++ take room [])) (omega arith)
     ∙ ap (records form turns start 0) (ap (λ (zs : List ℕ). held ++ zs) (no-bytes room) ∙ append-nil held)

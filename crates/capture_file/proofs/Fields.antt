@@ -1,5 +1,5 @@
 -- A record's fields: how many bytes they are, and that the bytes after them change nothing.
-use Rattle.std.proofs.Common.{◌≡◌, ℕ, zero, suc, ◌+◌, ◌-◌, ◌<◌, ◌≤◌, ◌⊎◌, inl, inr, Bool, true, false, List, [], ◌∷◌, ◌++◌, length, take, Option, Some, None, refl, sym, ap, ◌∙◌, arith, drop, length-take, take-append-drop}
+use Rattle.std.proofs.Common.{◌≡◌, ℕ, suc, ◌+◌, ◌<◌, ◌≤◌, ◌⊎◌, inl, inr, Bool, true, false, List, [], ◌∷◌, ◌++◌, length, take, Option, Some, None, refl, sym, ap, ◌∙◌, arith, drop, length-take, take-append-drop}
 use Rattle.std.proofs.lemmas.List.{take_all}
 use Rattle.risc_word.specs.declared.Code.{Code}
 use Rattle.risc_word.specs.Words.{code_numbered}
@@ -10,7 +10,7 @@ use Rattle.capture_file.specs.declared.records.RecordKind.TheVariants as kind
 use Rattle.capture_file.specs.declared.records.Found.{Found}
 use Rattle.capture_file.specs.declared.records.Found.TheVariants.{Cut, Wrong, Last, Whole}
 use Rattle.capture_file.specs.Streams.{number_at, kind_of_tag, is_data, push_if, push_at, data_with, control_with, control_at, turns_if, turns_with, most_turns, ack_with, enable_if, enable_at, trigger_if, trigger_at, is_buffer, buffer_if, slot_if, patch_at, fields_at, record_at}
-use Rattle.capture_file.specs.Records.{HasFour, Spans, Passes, Sums, FoundFits, StepFits, WriteFits}
+use Rattle.capture_file.specs.Records.{HasFour, Spans, Passes, Sums, FoundFits}
 use Rattle.std.specs.Prelude.{nat_lt, nat_le, not, ◌&&◌, ◌||◌, ◌==◌}
 use Rattle.std.proofs.lemmas.Bool.{ltb-true, leb-true, eqb-true}
 use Rattle.sync_status.specs.Statuses.{kind_of, is_control}
@@ -96,7 +96,6 @@ record_at-append form turns (tag ∷ rest) more = keeps_fields (kind_of_tag form
 
 -- What is found is within the bytes, and a record that is cut has fewer than six.
 
-
 spans_data : (queue : Queue) (status : ℕ) (n : Option ℕ) (count : ℕ) → HasFour n count → Spans (data_with queue status n) (suc (suc count))
 spans_data queue status None count h = omega arith
 spans_data queue status (Some n) count h = (omega arith, omega arith, omega arith)
@@ -174,7 +173,6 @@ record_at-spans form turns [] = omega arith
 record_at-spans form turns (tag ∷ rest) = spans_fields (kind_of_tag form tag) tag turns rest
 
 -- A record that is cut after some bytes ends behind them.
-
 
 passes_data : (queue : Queue) (status : ℕ) (n : Option ℕ) (count : ℕ) → count < 6 → Passes (data_with queue status n) count
 passes_data queue status None count h = tt
@@ -322,12 +320,12 @@ record_at-passes form turns (tag ∷ rest) more cut = passes_fields (kind_of_tag
 pub record_at-six : (form : Form) (turns : ℕ) (bytes : List ℕ) → record_at form turns (take 6 bytes) ≡ record_at form turns bytes
 record_at-six form turns bytes =
     elim (record_at-append form turns (take 6 bytes) (drop 6 bytes)) [
-      inl cut ↦
-        (let spans = record_at-spans form turns (take 6 bytes) in
-        let short : length (take 6 bytes) < 6 = rw cut at spans in
-        let all : length bytes ≤ 6 = omega (arith, length-take 6 bytes, short) in
-        rw (take_all 6 bytes all) refl)
-    | inr same ↦ sym same ∙ ap (record_at form turns) (take-append-drop 6 bytes)
+      | inl cut ↦
+          (let spans = record_at-spans form turns (take 6 bytes) in
+          let short : length (take 6 bytes) < 6 = rw cut at spans in
+          let all : length bytes ≤ 6 = omega (arith, length-take 6 bytes, short) in
+          rw (take_all 6 bytes all) refl)
+      | inr same ↦ sym same ∙ ap (record_at form turns) (take-append-drop 6 bytes)
     ]
 
 -- The turns of a record and those before it are not too many.

@@ -1,6 +1,5 @@
 -- A stream's records one after the other.
-use Rattle.std.proofs.Common.{◌≡◌, ℕ, zero, suc, ◌+◌, ◌-◌, ◌<◌, ◌≤◌, List, [], ◌∷◌, ◌++◌, length, take, drop, refl, sym, ap, ◌∙◌, arith}
-use Rattle.capture_file.specs.declared.Step.{Step}
+use Rattle.std.proofs.Common.{◌≡◌, ℕ, zero, suc, ◌+◌, ◌-◌, List, [], ◌∷◌, length, drop, refl, ap, ◌∙◌, arith}
 use Rattle.capture_file.specs.declared.records.Form.{Form}
 use Rattle.capture_file.specs.declared.records.Found.{Found}
 use Rattle.capture_file.specs.declared.records.Found.TheVariants.{Cut, Wrong, Last, Whole}
@@ -50,15 +49,15 @@ records-cons : (form : Form) (turns place tag : ℕ) (rest : List ℕ) → recor
 unfolding records
 records-cons form turns place tag rest =
     elim (record_at form turns (tag ∷ rest)) as
-      (λ (found : Found).
-      elim found as (λ _. Reading) [
-        Cut ↦ reading [] Unfinished
+    (λ (found : Found).
+    elim found as (λ _. Reading) [
+      | Cut ↦ reading [] Unfinished
       | Wrong from to kind ↦ reading [] (Bad (fault_at (place + from) kind))
       | Last ↦ reading [] (after_end (place + 1) rest)
       | Whole step len ↦ with_step step (records form (turns + turns_of step) (place + 1) (len - 1) rest)
-      ]
-      ≡ cons_of found form turns place rest)
-      [ Cut ↦ refl | Wrong from to kind ↦ refl | Last ↦ refl | Whole step len ↦ refl ]
+    ]
+    ≡ cons_of found form turns place rest)
+    [ Cut ↦ refl | Wrong from to kind ↦ refl | Last ↦ refl | Whole step len ↦ refl ]
 
 pub records-front : (form : Form) (turns place : ℕ) (bytes : List ℕ) → records form turns place 0 bytes ≡ front_of (record_at form turns bytes) form turns place bytes
 unfolding records

@@ -1,5 +1,5 @@
 -- What a reader of a stream is at, and what it does with the bytes that come next.
-use Rattle.std.specs.Prelude.{◌≡◌, ℕ, ◌+◌, ◌-◌, ◌<◌, ◌≤◌, ◌⊎◌, Bool, true, false, List, [], ◌∷◌, ◌++◌, length, take, drop, Option, Some, None, Result, Ok, Err, nat_lt}
+use Rattle.std.specs.Prelude.{◌≡◌, ℕ, ◌+◌, ◌-◌, ◌<◌, ◌≤◌, Bool, true, false, List, [], ◌∷◌, ◌++◌, length, take, drop, Option, Some, None, Result, Ok, Err, nat_lt}
 use Rattle.capture_file.specs.declared.FileKind.{FileKind}
 use Rattle.capture_file.specs.declared.FileKind.TheVariants as fault
 use Rattle.capture_file.specs.declared.FileFault.{FileFault}
@@ -61,7 +61,7 @@ abbrev pub resumed_in : Phase → Reader → List ℕ → Reading
 resumed_in Opening r more = stream_of r.limit r.chained (r.held ++ more)
 resumed_in (Records form) r more =
     within r.limit (r.place + length more)
-        (records form r.turns (start r) 0 (r.held ++ take (room r) more))
+    (records form r.turns (start r) 0 (r.held ++ take (room r) more))
 resumed_in Closed r more =
     within r.limit (r.place + length more) (reading [] (after_end r.place (take (room r) more)))
 resumed_in (Failed fault) r more = reading [] (Bad fault)
@@ -87,7 +87,7 @@ abbrev pub unfinished_if : Bool → Reader → List ℕ → Taken
 unfinished_if true r piece = failed (room r + 1) r.limit fault.TooLong r
 unfinished_if false r piece =
     taking (length piece) got.More
-        (record r { place = r.place + length piece; held = r.held ++ piece })
+    (record r { place = r.place + length piece; held = r.held ++ piece })
 
 abbrev pub unfinished : Reader → List ℕ → Taken
 unfinished r piece = unfinished_if (nat_lt (room r) (length piece)) r piece
@@ -100,7 +100,7 @@ found_taken Last r piece = taking 1 got.End (record r { phase = Closed; place = 
 found_taken (Whole step len) r piece =
     let used = len - length r.held in
     taking used (got.Step step)
-        (record r { place = r.place + used; turns = r.turns + turns_of step; held = [] })
+    (record r { place = r.place + used; turns = r.turns + turns_of step; held = [] })
 
 abbrev pub record_taken : Form → Reader → List ℕ → Taken
 record_taken form r piece =

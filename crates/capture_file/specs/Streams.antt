@@ -1,11 +1,10 @@
 -- What the bytes of a stream stand for.
-use Rattle.std.specs.Prelude.{ℕ, zero, suc, ◌+◌, ◌-◌, ◌/◌, ◌%◌, ◌^◌, Bool, true, false, not, ◌&&◌, ◌||◌, List, [], ◌∷◌, ◌++◌, length, take, drop, replicate, Option, Some, None, Result, Ok, Err, if◌then◌else◌, ◌==◌, nat_lt, nat_le, codes}
+use Rattle.std.specs.Prelude.{ℕ, zero, suc, ◌+◌, ◌-◌, ◌/◌, ◌%◌, ◌^◌, Bool, true, false, not, ◌&&◌, ◌||◌, List, [], ◌∷◌, length, take, drop, replicate, Option, Some, None, Result, Ok, Err, if◌then◌else◌, ◌==◌, nat_lt, nat_le, codes}
 use Rattle.std.specs.List.{flat_map}
 use Rattle.byteorder.specs.Endian.{little_number}
 use Rattle.risc_word.specs.declared.Code.{Code}
 use Rattle.risc_word.specs.Words.{code_numbered}
 use Rattle.sync_status.specs.Statuses.{kind_of, is_control}
-use Rattle.fifo_model.specs.declared.Entry.{Entry}
 use Rattle.fifo_model.specs.declared.Queue.{Queue}
 use Rattle.fifo_model.specs.declared.Queue.TheVariants.{One, Two, Three}
 use Rattle.irq_status.specs.declared.HostWrite.TheVariants.{Ack, Enable, Trigger}
@@ -188,10 +187,10 @@ records form turns place skip [] = reading [] Unfinished
 records form turns place (suc skip) (_ ∷ rest) = records form turns (place + 1) skip rest
 records form turns place zero (tag ∷ rest) =
     elim (record_at form turns (tag ∷ rest)) [
-      Cut ↦ reading [] Unfinished
-    | Wrong from to kind ↦ reading [] (Bad (fault_at (place + from) kind))
-    | Last ↦ reading [] (after_end (place + 1) rest)
-    | Whole step len ↦ with_step step (records form (turns + turns_of step) (place + 1) (len - 1) rest)
+      | Cut ↦ reading [] Unfinished
+      | Wrong from to kind ↦ reading [] (Bad (fault_at (place + from) kind))
+      | Last ↦ reading [] (after_end (place + 1) rest)
+      | Whole step len ↦ with_step step (records form (turns + turns_of step) (place + 1) (len - 1) rest)
     ]
 
 -- the first word of BFS2 and BFS3 sets the trigger point 4

@@ -6,11 +6,10 @@ ghost use Rattle.capture_file.specs.declared.records.Found.TheVariants.{Cut};
 ghost use Rattle.capture_file.specs.Streams.{fault_at, most_turns, number_at, reading, record_at, turns_of};
 ghost use Rattle.std.specs.Prelude.{◌≡◌, ◌≤◌, ◌<◌, ◌+◌, ◌-◌, ◌^◌, ◌++◌, List, ℕ, [], None, IfSome, IfNone, take, drop, length, true, false};
 
-use irq_status::HostWrite;
-use std::marker::Model;
-
 use super::records::{Form, Found, find, find_quick, form_named, number};
 use super::{FileFault, FileKind, Step};
+use irq_status::HostWrite;
+use std::marker::Model;
 
 /// What the front of a piece gave.
 #[derive(Clone, Copy, Debug, PartialEq)]
@@ -176,8 +175,7 @@ impl Model for StepReader {
 
     ghost Value = { Reader };
 
-    ghost view = {
-        λ s.
+    ghost view = { λ s.
         record {
           limit = s.limit;
           chained = s.chained;
@@ -185,23 +183,20 @@ impl Model for StepReader {
           place = s.limit - s.room;
           turns = s.turns;
           held = s.held;
-        }
-    };
+        } };
 
-    ghost invariant = {
-        λ s.
+    ghost invariant = { λ s.
         (s.room ≤ s.limit)
         × HoldsAt s.state s.held
         × IsReader
-            (record {
-              limit = s.limit;
-              chained = s.chained;
-              phase = phase_of s.state;
-              place = s.limit - s.room;
-              turns = s.turns;
-              held = s.held;
-            })
-    };
+        (record {
+          limit = s.limit;
+          chained = s.chained;
+          phase = phase_of s.state;
+          place = s.limit - s.room;
+          turns = s.turns;
+          held = s.held;
+        }) };
 }
 
 impl StepReader {
@@ -238,7 +233,7 @@ impl StepReader {
     #[tactic(auto, unfolding(crate::specs::Readers::taken))]
     fn take_front(&mut self, piece: &[u8]) -> Option<(Step, usize)>
         ensures some { IfSome result
-          (λ found. (taking found.1 (Got.Step found.0) self.new ≡ taken self.old piece.now) × StepFits found.0) }
+            (λ found. (taking found.1 (Got.Step found.0) self.new ≡ taken self.old piece.now) × StepFits found.0) }
         ensures none { IfNone result (self.new ≡ self.old) }
     {
         if let State::Between(form) = self.state
@@ -303,7 +298,7 @@ impl StepReader {
     fn take_word(&mut self, piece: &[u8]) -> (usize, Got)
         requires { self.old.phase ≡ Opening }
         ensures exact { taking result.0 result.1 self.new
-          ≡ word_taken (number_at (self.old.held ++ take (room self.old) piece.now)) self.old piece.now }
+            ≡ word_taken (number_at (self.old.held ++ take (room self.old) piece.now)) self.old piece.now }
         ensures fits { AnswerFits result.1 }
     {
         let room = self.room;
@@ -416,7 +411,7 @@ impl StepReader {
     pub fn take(&mut self, piece: &[u8]) -> (usize, Got)
         ensures exact { taking result.0 result.1 self.new ≡ taken self.old piece.now }
         ensures whole { (more : List ℕ) → resumed self.old (piece.now ++ more)
-          ≡ after_answer result.1 (resumed self.new (drop result.0 piece.now ++ more)) }
+            ≡ after_answer result.1 (resumed self.new (drop result.0 piece.now ++ more)) }
         ensures used { Uses result.1 result.0 (length piece.now) }
         ensures place { Counts result.1 (self.old.place + result.0) self.new.place }
         ensures stays { Stays result.1 self.new.phase }

@@ -5,13 +5,12 @@ ghost use Rattle.capture_file.specs.declared.records.Form.{Form};
 ghost use Rattle.capture_file.specs.declared.records.Found.TheVariants.{Whole};
 ghost use Rattle.std.specs.Prelude.{◌≡◌, ℕ, IfSome};
 
+use super::{FileKind, Step};
 use byteorder::{ByteOrder, LittleEndian};
 use fifo_model::{Entry, Queue};
 use irq_status::HostWrite;
 use risc_word::Code;
 use sync_status::Status;
-
-use super::{FileKind, Step};
 
 /// The forms of a stream, by its first word.
 #[derive(Clone, Copy)]
@@ -49,7 +48,9 @@ pub enum Found {
 }
 
 const BFS1: u32 = 0x3153_4642;
+
 const BFS2: u32 = 0x3253_4642;
+
 const BFS3: u32 = 0x3353_4642;
 
 /// The most turns of a stream.

@@ -1,4 +1,4 @@
-use Rattle.std.proofs.Common.{◌≡◌, ◌∙◌, ap}
+use Rattle.std.proofs.Common.{◌∙◌, ap}
 use Rattle.capture_file.specs.Streams.{record_at}
 use Rattle.capture_file.proofs.Across.{found_across, kept_across, spans_across, passes_across, sums_across, fits_across}
 use Rattle.capture_file.proofs.reader.find_across.Goals as goal

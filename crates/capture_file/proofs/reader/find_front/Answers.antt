@@ -1,4 +1,4 @@
-use Rattle.std.proofs.Common.{◌≡◌, length, sym, subst}
+use Rattle.std.proofs.Common.{length, sym, subst}
 use Rattle.capture_file.specs.declared.records.Found.{Found}
 use Rattle.capture_file.specs.Records.{Spans, Sums, FoundFits}
 use Rattle.capture_file.proofs.Fields.{record_at-spans, record_at-sums, record_at-fits}

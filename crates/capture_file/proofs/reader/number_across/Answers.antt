@@ -1,4 +1,4 @@
-use Rattle.std.proofs.Common.{◌≡◌, ◌∙◌, ap}
+use Rattle.std.proofs.Common.{◌∙◌, ap}
 use Rattle.capture_file.specs.Streams.{number_at}
 use Rattle.capture_file.proofs.Across.{number_across, number_spans, number_kept}
 use Rattle.capture_file.proofs.reader.number_across.Goals as goal

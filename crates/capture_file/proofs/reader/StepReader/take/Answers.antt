@@ -1,5 +1,5 @@
-use Rattle.std.proofs.Common.{◌≡◌, ◌+◌, ◌++◌, List, ℕ, length, drop, sym, ◌∙◌, ap, subst}
-use Rattle.capture_file.specs.Readers.{Taken, taken, taking, resumed, after_answer, Uses, Counts, Stays}
+use Rattle.std.proofs.Common.{◌+◌, ◌++◌, length, drop, sym, ◌∙◌, ap, subst}
+use Rattle.capture_file.specs.Readers.{Taken, resumed, after_answer, Uses, Counts, Stays}
 use Rattle.capture_file.proofs.Resumed.{taken-goes}
 use Rattle.capture_file.proofs.Answered.{taken-moves, taken-stays}
 use Rattle.capture_file.proofs.reader.StepReader.take.Goals as goal
