@@ -3,3 +3,5 @@ pub mod Readings
 pub mod Resumed
 pub mod Across
 pub mod Answered
+pub mod Programs
+pub mod Chunks

@@ -1,3 +1,4 @@
 pub mod Streams
 pub mod Records
 pub mod Readers
+pub mod Programs

@@ -5,9 +5,11 @@ use fifo_model::{Entry, Queue};
 use irq_status::HostWrite;
 use risc_word::Code;
 
+mod program;
 mod reader;
 mod records;
 
+pub use program::{ProgramError, ProgramFile};
 pub use reader::{Got, StepReader};
 
 /// Which file is at fault.

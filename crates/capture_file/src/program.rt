@@ -1,0 +1,430 @@
+//! Program files.
+
+ghost use Rattle.capture_file.specs.Programs.{Gives, address_fault, base_field, base_fault, chunk_count_fault, chunk_count_field, chunk_field, chunks_field, fill_fault, fill_field, is_length, judged, layout_field, layout_of, length_fault, long_chunk_field, number_field, page_fault, page_field, program_of, without_grants, word_count_fault, word_count_field, words_field, words_in, wrong};
+ghost use Rattle.std.specs.List.{list_all};
+ghost use Rattle.byteorder.specs.Endian.{little_number};
+ghost use Rattle.page_table.specs.Grants.{chunk, is_page};
+ghost use Rattle.page_table.specs.Taken.{listed, pair_chunk};
+ghost use Rattle.machine_model.specs.Paths.{shares_byte};
+ghost use Rattle.std.specs.Prelude.{◌≡◌, ◌+◌, ◌-◌, ◌*◌, ◌^◌, ◌≤◌, ◌<◌, List, ℕ, [], drop, length, IfOk, Ok};
+
+use byteorder::{ByteOrder, LittleEndian};
+use risc_verify::Program;
+use std::alloc::{AllocError, AllocFailed, Global};
+
+use super::records::number;
+use super::{FileFault, FileKind};
+
+/// What a program file holds.
+#[derive(Drop)]
+pub struct ProgramFile {
+    pub program: Program,
+    /// The byte that the granted memory holds at the start.
+    pub fill: u8,
+}
+
+/// Why a program file was not read.
+#[derive(Debug, Drop)]
+pub enum ProgramError {
+    /// The first field that is cut or at fault.
+    File(FileFault),
+    /// There was no memory.
+    Memory,
+}
+
+impl From<FileFault> for ProgramError {
+    ghost use Rattle.std.specs.Prelude.{◌≡◌};
+    ghost use Rattle.capture_file.specs.declared.program.ProgramError.TheVariants.{File};
+
+    ghost from_gives = { λ fault e. e ≡ File fault };
+
+    fn from(fault: FileFault) -> ProgramError {
+        ProgramError::File(fault)
+    }
+}
+
+impl From<AllocError> for ProgramError {
+    ghost use Rattle.std.specs.Prelude.{◌≡◌};
+    ghost use Rattle.capture_file.specs.declared.program.ProgramError.TheVariants.{Memory};
+
+    ghost from_gives = { λ _ e. e ≡ Memory };
+
+    fn from(_: AllocError) -> ProgramError {
+        ProgramError::Memory
+    }
+}
+
+/// The two forms of a program file, by its first word.
+#[derive(Clone, Copy)]
+enum Layout {
+    Brp1,
+    Brp2,
+}
+
+const MOST_WORDS: u32 = 1_048_576;
+const MOST_CHUNKS: u32 = 4_096;
+const MOST_BYTES: u64 = 16_777_216;
+const ADDRESSES: u64 = 0x1_0000_0000;
+
+const BRP1: u32 = 0x3150_5242;
+const BRP2: u32 = 0x3250_5242;
+
+impl<T: Drop> From<AllocFailed<T>> for ProgramError {
+    ghost use Rattle.std.specs.Prelude.{◌≡◌};
+    ghost use Rattle.capture_file.specs.declared.program.ProgramError.TheVariants.{Memory};
+
+    ghost from_gives = { λ _ e. e ≡ Memory };
+
+    fn from(_: AllocFailed<T>) -> ProgramError {
+        ProgramError::Memory
+    }
+}
+
+// Answers whether the field at the front of these last bytes of a file of `size` bytes is right.
+fn judge(wrong: Option<FileKind>, size: usize, bytes: &[u8]) -> Result<(), ProgramError>
+    requires { length bytes.now ≤ size }
+    ensures { Gives (λ x. x) result (judged wrong size bytes.now) }
+{
+    match wrong {
+        None => Ok(()),
+        Some(kind) => Err(ProgramError::File(FileFault {
+            at: (size - bytes.len()) as u64,
+            kind,
+        })),
+    }
+}
+
+fn read_number(size: usize, bytes: &[u8]) -> Result<(u32, &[u8]), ProgramError>
+    ensures value { Gives (λ x. (x.0, x.1.now)) result (number_field size bytes.now) }
+    ensures rest { IfOk result (λ x. length x.1.now ≤ length bytes.now) }
+{
+    match number(bytes) {
+        Some(n) => Ok((n, &bytes[4..])),
+        None => Err(ProgramError::File(FileFault {
+            at: size as u64,
+            kind: FileKind::Short,
+        })),
+    }
+}
+
+#[tactic(auto, unfolding(crate::specs::Programs::layout_field))]
+fn read_layout(size: usize, bytes: &[u8]) -> Result<(Layout, &[u8]), ProgramError>
+    requires { length bytes.now ≤ size }
+    ensures value { Gives (λ x. (x.0, x.1.now)) result (layout_field size bytes.now) }
+    ensures rest { IfOk result (λ x. length x.1.now ≤ length bytes.now) }
+{
+    let (word, rest) = read_number(size, bytes)?;
+    match word {
+        BRP1 => Ok((Layout::Brp1, rest)),
+        BRP2 => Ok((Layout::Brp2, rest)),
+        _ => Err(ProgramError::File(FileFault {
+            at: (size - bytes.len()) as u64,
+            kind: FileKind::Magic,
+        })),
+    }
+}
+
+fn base_wrong(base: u32) -> Option<FileKind>
+    ensures { result ≡ base_fault base }
+{
+    if base % 4 == 0 {
+        None
+    } else {
+        Some(FileKind::Base)
+    }
+}
+
+#[tactic(auto, unfolding(crate::specs::Programs::base_field))]
+fn read_base(size: usize, bytes: &[u8]) -> Result<(u32, &[u8]), ProgramError>
+    requires { length bytes.now ≤ size }
+    ensures value { Gives (λ x. (x.0, x.1.now)) result (base_field size bytes.now) }
+    ensures rest { IfOk result (λ x. length x.1.now ≤ length bytes.now) }
+{
+    let (base, rest) = read_number(size, bytes)?;
+    judge(base_wrong(base), size, bytes)?;
+    Ok((base, rest))
+}
+
+fn word_count_wrong(base: u32, count: u32) -> Option<FileKind>
+    ensures { result ≡ word_count_fault base count }
+{
+    if count <= MOST_WORDS && u64::from(base) + 4 * u64::from(count) <= ADDRESSES {
+        None
+    } else {
+        Some(FileKind::Count)
+    }
+}
+
+#[tactic(auto, unfolding(crate::specs::Programs::word_count_field))]
+fn read_word_count(size: usize, base: u32, bytes: &[u8]) -> Result<(u32, &[u8]), ProgramError>
+    requires { length bytes.now ≤ size }
+    ensures value { Gives (λ x. (x.0, x.1.now)) result (word_count_field size base bytes.now) }
+    ensures rest { IfOk result (λ x. length x.1.now ≤ length bytes.now) }
+{
+    let (count, rest) = read_number(size, bytes)?;
+    judge(word_count_wrong(base, count), size, bytes)?;
+    Ok((count, rest))
+}
+
+fn chunk_count_wrong(count: u32) -> Option<FileKind>
+    ensures { result ≡ chunk_count_fault count }
+{
+    if count <= MOST_CHUNKS {
+        None
+    } else {
+        Some(FileKind::Count)
+    }
+}
+
+#[tactic(auto, unfolding(crate::specs::Programs::chunk_count_field))]
+fn read_chunk_count(size: usize, bytes: &[u8]) -> Result<(u32, &[u8]), ProgramError>
+    requires { length bytes.now ≤ size }
+    ensures value { Gives (λ x. (x.0, x.1.now)) result (chunk_count_field size bytes.now) }
+    ensures rest { IfOk result (λ x. length x.1.now ≤ length bytes.now) }
+{
+    let (count, rest) = read_number(size, bytes)?;
+    judge(chunk_count_wrong(count), size, bytes)?;
+    Ok((count, rest))
+}
+
+// The number in the first four bytes, and the bytes after it.
+fn split_number(bytes: &[u8]) -> (u32, &[u8])
+    requires { 4 ≤ length bytes.now }
+    ensures number { result.0 ≡ little_number 4 bytes.now }
+    ensures rest { result.1.now ≡ drop 4 bytes.now }
+{
+    (LittleEndian::read_u32(bytes), &bytes[4..])
+}
+
+fn words_of(alloc: Global, count: u32, bytes: &[u8]) -> Result<Vec<u32>, ProgramError>
+    requires { 4 * count ≤ length bytes.now }
+    ensures { Gives (λ v. v.items) result (Ok (words_in count bytes.now)) }
+{
+    let mut words = Vec::with_capacity(alloc, count as usize)?;
+    let mut rest = bytes;
+    for _ in 0..count {
+        let (word, next) = split_number(rest);
+        words.push(word)?;
+        rest = next;
+    }
+    Ok(words)
+}
+
+#[tactic(auto, unfolding(crate::specs::Programs::words_field))]
+fn read_words(
+    alloc: Global,
+    size: usize,
+    count: u32,
+    bytes: &[u8],
+) -> Result<(Vec<u32>, &[u8]), ProgramError>
+    ensures value { Gives (λ x. (x.0.items, x.1.now)) result (words_field size count bytes.now) }
+    ensures rest { IfOk result (λ x. length x.1.now ≤ length bytes.now) }
+{
+    let long = 4 * u64::from(count);
+    if (bytes.len() as u64) < long {
+        return Err(ProgramError::File(FileFault {
+            at: size as u64,
+            kind: FileKind::Short,
+        }));
+    }
+    let words = words_of(alloc, count, bytes)?;
+    Ok((words, &bytes[long as usize..]))
+}
+
+// Whether a chunk shares a byte with a program of so many words.
+fn shares(base: u32, words: &[u32], at: u32, len: u32) -> bool
+    requires { length words.now ≤ 1048576 }
+    ensures { result ≡ shares_byte (without_grants base words.now) (chunk at len) }
+{
+    let end = u64::from(base) + 4 * words.len() as u64;
+    let low = base.max(at);
+    let high = end.min(u64::from(at) + u64::from(len));
+    u64::from(low) < high
+}
+
+fn page_wrong(base: u32, words: &[u32], from: u64, at: u32) -> Option<FileKind>
+    requires { length words.now ≤ 1048576 }
+    ensures { result ≡ page_fault (without_grants base words.now) from at }
+{
+    if at % 4096 != 0 {
+        Some(FileKind::Page)
+    } else if u64::from(at) < from {
+        Some(FileKind::Order)
+    } else if shares(base, words, at, 4096) {
+        Some(FileKind::Overlap)
+    } else {
+        None
+    }
+}
+
+fn address_wrong(from: u64, at: u32) -> Option<FileKind>
+    ensures { result ≡ address_fault from at }
+{
+    if at % 4 != 0 {
+        Some(FileKind::Page)
+    } else if u64::from(at) < from {
+        Some(FileKind::Order)
+    } else {
+        None
+    }
+}
+
+fn is_right_length(sum: u64, at: u32, len: u32) -> bool
+    requires { sum < 2 ^ 62 }
+    ensures { result ≡ is_length sum at len }
+{
+    len != 0
+        && len % 4 == 0
+        && u64::from(at) + u64::from(len) <= ADDRESSES
+        && sum + u64::from(len) <= MOST_BYTES
+}
+
+fn length_wrong(base: u32, words: &[u32], sum: u64, at: u32, len: u32) -> Option<FileKind>
+    requires few { length words.now ≤ 1048576 }
+    requires small { sum < 2 ^ 62 }
+    ensures { result ≡ length_fault (without_grants base words.now) sum at len }
+{
+    if !is_right_length(sum, at, len) {
+        Some(FileKind::Length)
+    } else if shares(base, words, at, len) {
+        Some(FileKind::Overlap)
+    } else {
+        None
+    }
+}
+
+#[tactic(auto, unfolding(crate::specs::Programs::page_field))]
+fn read_page<'a>(
+    size: usize,
+    base: u32,
+    words: &[u32],
+    from: u64,
+    bytes: &'a [u8],
+) -> Result<((u32, u32), &'a [u8]), ProgramError>
+    requires inside { length bytes.now ≤ size }
+    requires few { length words.now ≤ 1048576 }
+    ensures value { Gives (λ x. (pair_chunk x.0, x.1.now)) result (page_field size (without_grants base words.now) from bytes.now) }
+    ensures rest { IfOk result (λ x. length x.1.now ≤ length bytes.now) }
+    ensures wide { IfOk result (λ x. x.0.1 < 2 ^ 32) }
+{
+    let (at, rest) = read_number(size, bytes)?;
+    judge(page_wrong(base, words, from, at), size, bytes)?;
+    Ok(((at, 4096), rest))
+}
+
+#[tactic(auto, unfolding(crate::specs::Programs::long_chunk_field))]
+fn read_long_chunk<'a>(
+    size: usize,
+    base: u32,
+    words: &[u32],
+    from: u64,
+    sum: u64,
+    bytes: &'a [u8],
+) -> Result<((u32, u32), &'a [u8]), ProgramError>
+    requires inside { length bytes.now ≤ size }
+    requires few { length words.now ≤ 1048576 }
+    requires small { sum < 2 ^ 62 }
+    ensures value { Gives (λ x. (pair_chunk x.0, x.1.now)) result (long_chunk_field size (without_grants base words.now) from sum bytes.now) }
+    ensures rest { IfOk result (λ x. length x.1.now ≤ length bytes.now) }
+    ensures wide { IfOk result (λ x. x.0.1 < 2 ^ 32) }
+{
+    let (at, rest) = read_number(size, bytes)?;
+    judge(address_wrong(from, at), size, bytes)?;
+    let (len, after) = read_number(size, rest)?;
+    judge(length_wrong(base, words, sum, at, len), size, rest)?;
+    Ok(((at, len), after))
+}
+
+fn read_chunk<'a>(
+    layout: Layout,
+    size: usize,
+    base: u32,
+    words: &[u32],
+    from: u64,
+    sum: u64,
+    bytes: &'a [u8],
+) -> Result<((u32, u32), &'a [u8]), ProgramError>
+    requires inside { length bytes.now ≤ size }
+    requires few { length words.now ≤ 1048576 }
+    requires small { sum < 2 ^ 62 }
+    ensures value { Gives (λ x. (pair_chunk x.0, x.1.now)) result (chunk_field layout size (without_grants base words.now) from sum bytes.now) }
+    ensures rest { IfOk result (λ x. length x.1.now ≤ length bytes.now) }
+    ensures wide { IfOk result (λ x. x.0.1 < 2 ^ 32) }
+{
+    match layout {
+        Layout::Brp1 => read_page(size, base, words, from, bytes),
+        Layout::Brp2 => read_long_chunk(size, base, words, from, sum, bytes),
+    }
+}
+
+fn read_chunks<'a>(
+    alloc: Global,
+    layout: Layout,
+    size: usize,
+    base: u32,
+    words: &[u32],
+    count: u32,
+    bytes: &'a [u8],
+) -> Result<(Vec<(u32, u32)>, &'a [u8]), ProgramError>
+    requires inside { length bytes.now ≤ size }
+    requires few { length words.now ≤ 1048576 }
+    requires count { count ≤ 4096 }
+    ensures value { Gives (λ x. (listed x.0.items, x.1.now)) result (chunks_field layout size (without_grants base words.now) count 0 0 bytes.now) }
+    ensures rest { IfOk result (λ x. length x.1.now ≤ length bytes.now) }
+{
+    let mut chunks = Vec::new(alloc);
+    let mut rest = bytes;
+    let mut from = 0u64;
+    let mut sum = 0u64;
+    for _ in 0..count {
+        let (chunk, after) = read_chunk(layout, size, base, words, from, sum, rest)?;
+        chunks.push(chunk)?;
+        from = u64::from(chunk.0) + u64::from(chunk.1);
+        sum += u64::from(chunk.1);
+        rest = after;
+    }
+    Ok((chunks, rest))
+}
+
+fn are_pages(chunks: &[(u32, u32)]) -> bool
+    ensures { result ≡ list_all (λ pair. is_page (pair_chunk pair)) chunks.now }
+{
+    chunks.iter().all(|pair| pair.0 % 4096 == 0 && pair.1 == 4096)
+}
+
+fn fill_wrong(layout: Layout, chunks: &[(u32, u32)]) -> Option<FileKind>
+    ensures { result ≡ fill_fault layout (listed chunks.now) }
+{
+    match layout {
+        Layout::Brp1 => None,
+        Layout::Brp2 => {
+            if are_pages(chunks) {
+                Some(FileKind::Pages)
+            } else {
+                None
+            }
+        }
+    }
+}
+
+#[tactic(auto, unfolding(crate::specs::Programs::fill_field))]
+fn read_fill(layout: Layout, size: usize, chunks: &[(u32, u32)], bytes: &[u8]) -> Result<u8, ProgramError>
+    requires { length bytes.now ≤ size }
+    ensures { Gives (λ x. x) result (fill_field layout size (listed chunks.now) bytes.now) }
+{
+    match bytes {
+        [] => Err(ProgramError::File(FileFault {
+            at: size as u64,
+            kind: FileKind::Short,
+        })),
+        [fill, rest @ ..] => {
+            judge(fill_wrong(layout, chunks), size, bytes)?;
+            if rest.is_empty() {
+                Ok(*fill)
+            } else {
+                judge(Some(FileKind::AfterEnd), size, rest)?;
+                unreachable!()
+            }
+        }
+    }
+}
