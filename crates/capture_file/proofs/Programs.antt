@@ -1,10 +1,10 @@
 -- Reading a program file, as its loops do.
-use Rattle.std.proofs.Common.{◌≡◌, ℕ, zero, suc, ◌+◌, ◌-◌, ◌*◌, ◌<◌, ◌≤◌, List, [], ◌∷◌, ◌++◌, length, drop, Result, Ok, Err, refl, sym, ap, ◌∙◌, append_assoc, arith}
+use Rattle.std.proofs.Common.{◌≡◌, ℕ, suc, ◌+◌, ◌-◌, ◌<◌, ◌≤◌, List, [], ◌∷◌, ◌++◌, drop, Result, Ok, Err, refl, sym, ap, ◌∙◌, append_assoc, arith}
 use Rattle.std.proofs.lemmas.List.{append-nil}
 use Rattle.byteorder.specs.Endian.{little_number}
-use Rattle.std.specs.Prelude.{Bool, true, false, ◌&&◌, Option, Some, None}
+use Rattle.std.specs.Prelude.{Bool, true, false, ◌&&◌, Some, None}
 use Rattle.capture_file.specs.declared.FileKind.TheVariants as fault
-use Rattle.capture_file.specs.declared.program.Layout.TheVariants.{Brp1, Brp2}
+use Rattle.capture_file.specs.declared.program.Layout.TheVariants.{Brp2}
 use Rattle.std.specs.List.{list_all}
 use Rattle.page_table.specs.Grants.{Chunk, is_page}
 use Rattle.page_table.specs.Taken.{listed, pair_chunk}
@@ -16,7 +16,7 @@ use Rattle.capture_file.specs.declared.program.ProgramError.TheVariants as error
 use Rattle.capture_file.specs.Programs.{◌>>=◌, Fails, words_in, chunk_field, chunks_field, fill_fault}
 
 pub words_more : (front : List ℕ) (count i : ℕ) (rest total : List ℕ) → i < count → front ++ words_in (count - i) rest ≡ total →
-  (front ++ little_number 4 rest ∷ []) ++ words_in (count - (i + 1)) (drop 4 rest) ≡ total
+    (front ++ little_number 4 rest ∷ []) ++ words_in (count - (i + 1)) (drop 4 rest) ≡ total
 words_more front count i rest total lt h =
     let k : count - i ≡ suc (count - (i + 1)) = omega arith in
     append_assoc front (little_number 4 rest ∷ []) (words_in (count - (i + 1)) (drop 4 rest))
@@ -33,17 +33,17 @@ regroup front c (Err f) = refl
 
 module _ (layout : Layout) (size : ℕ) (program : RiscProgram) (front : List Chunk) (count i from sum : ℕ) (bytes : List ℕ) (total : Result (List Chunk × List ℕ) FileFault) where
   pub chunks_more : (c : Chunk) (after : List ℕ) → i < count → chunk_field layout size program from sum bytes ≡ Ok (c, after) →
-    with_front front (chunks_field layout size program (count - i) from sum bytes) ≡ total →
-    with_front (front ++ c ∷ []) (chunks_field layout size program (count - (i + 1)) (c.at + c.len) (sum + c.len) after) ≡ total
+      with_front front (chunks_field layout size program (count - i) from sum bytes) ≡ total →
+      with_front (front ++ c ∷ []) (chunks_field layout size program (count - (i + 1)) (c.at + c.len) (sum + c.len) after) ≡ total
   unfolding chunks_field
   chunks_more c after lt h so_far =
       let k : count - i ≡ suc (count - (i + 1)) = omega arith in
       let one : with_front front (chunks_field layout size program (count - i) from sum bytes) ≡ with_front (front ++ c ∷ []) (chunks_field layout size program (count - (i + 1)) (c.at + c.len) (sum + c.len) after) =
-        rw (k, h) (regroup front c (chunks_field layout size program (count - (i + 1)) (c.at + c.len) (sum + c.len) after)) in
+      rw (k, h) (regroup front c (chunks_field layout size program (count - (i + 1)) (c.at + c.len) (sum + c.len) after)) in
       sym one ∙ so_far
 
   pub chunks_end : (e : ProgramError) → i < count → Fails e (chunk_field layout size program from sum bytes) →
-    with_front front (chunks_field layout size program (count - i) from sum bytes) ≡ total → Fails e total
+      with_front front (chunks_field layout size program (count - i) from sum bytes) ≡ total → Fails e total
   unfolding chunks_field
   chunks_end errors.Memory lt h so_far = tt
   chunks_end (errors.File f) lt h so_far =

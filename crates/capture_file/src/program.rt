@@ -1,19 +1,20 @@
 //! Program files.
 
 ghost use Rattle.capture_file.specs.Programs.{Gives, address_fault, base_field, base_fault, chunk_count_fault, chunk_count_field, chunk_field, chunks_field, fill_fault, fill_field, is_length, judged, layout_field, layout_of, length_fault, long_chunk_field, number_field, page_fault, page_field, program_of, without_grants, word_count_fault, word_count_field, words_field, words_in, wrong};
-ghost use Rattle.std.specs.List.{list_all};
+ghost use Rattle.std.specs.List.{All, list_all};
 ghost use Rattle.byteorder.specs.Endian.{little_number};
-ghost use Rattle.page_table.specs.Grants.{chunk, is_page};
+ghost use Rattle.page_table.specs.Grants.{AreRising, chunk, is_page, total};
+ghost use Rattle.capture_file.specs.declared.program.ProgramError.TheVariants.{Memory};
 ghost use Rattle.page_table.specs.Taken.{listed, pair_chunk};
 ghost use Rattle.machine_model.specs.Paths.{shares_byte};
-ghost use Rattle.std.specs.Prelude.{◌≡◌, ◌+◌, ◌-◌, ◌*◌, ◌^◌, ◌≤◌, ◌<◌, List, ℕ, [], drop, length, IfOk, Ok};
-
-use byteorder::{ByteOrder, LittleEndian};
-use risc_verify::Program;
-use std::alloc::{AllocError, AllocFailed, Global};
+ghost use Rattle.std.specs.Prelude.{false, ◌%◌, ◌≡◌, ◌+◌, ◌-◌, ◌*◌, ◌^◌, ◌≤◌, ◌<◌, List, ℕ, [], drop, length, IfOk, IfErr, Ok};
 
 use super::records::number;
 use super::{FileFault, FileKind};
+use byteorder::{ByteOrder, LittleEndian};
+use page_table::{PageFault, PageSet};
+use risc_verify::Program;
+use std::alloc::{AllocError, AllocFailed, Global};
 
 /// What a program file holds.
 #[derive(Drop)]
@@ -62,11 +63,15 @@ enum Layout {
 }
 
 const MOST_WORDS: u32 = 1_048_576;
+
 const MOST_CHUNKS: u32 = 4_096;
+
 const MOST_BYTES: u64 = 16_777_216;
+
 const ADDRESSES: u64 = 0x1_0000_0000;
 
 const BRP1: u32 = 0x3150_5242;
+
 const BRP2: u32 = 0x3250_5242;
 
 impl<T: Drop> From<AllocFailed<T>> for ProgramError {
@@ -139,6 +144,7 @@ fn read_base(size: usize, bytes: &[u8]) -> Result<(u32, &[u8]), ProgramError>
     requires { length bytes.now ≤ size }
     ensures value { Gives (λ x. (x.0, x.1.now)) result (base_field size bytes.now) }
     ensures rest { IfOk result (λ x. length x.1.now ≤ length bytes.now) }
+    ensures aligned { IfOk result (λ x. x.0 % 4 ≡ 0) }
 {
     let (base, rest) = read_number(size, bytes)?;
     judge(base_wrong(base), size, bytes)?;
@@ -160,6 +166,8 @@ fn read_word_count(size: usize, base: u32, bytes: &[u8]) -> Result<(u32, &[u8]),
     requires { length bytes.now ≤ size }
     ensures value { Gives (λ x. (x.0, x.1.now)) result (word_count_field size base bytes.now) }
     ensures rest { IfOk result (λ x. length x.1.now ≤ length bytes.now) }
+    ensures few { IfOk result (λ x. x.0 ≤ 1048576) }
+    ensures ends { IfOk result (λ x. base + 4 * x.0 ≤ 2 ^ 32) }
 {
     let (count, rest) = read_number(size, bytes)?;
     judge(word_count_wrong(base, count), size, bytes)?;
@@ -181,6 +189,7 @@ fn read_chunk_count(size: usize, bytes: &[u8]) -> Result<(u32, &[u8]), ProgramEr
     requires { length bytes.now ≤ size }
     ensures value { Gives (λ x. (x.0, x.1.now)) result (chunk_count_field size bytes.now) }
     ensures rest { IfOk result (λ x. length x.1.now ≤ length bytes.now) }
+    ensures few { IfOk result (λ x. x.0 ≤ 4096) }
 {
     let (count, rest) = read_number(size, bytes)?;
     judge(chunk_count_wrong(count), size, bytes)?;
@@ -198,7 +207,8 @@ fn split_number(bytes: &[u8]) -> (u32, &[u8])
 
 fn words_of(alloc: Global, count: u32, bytes: &[u8]) -> Result<Vec<u32>, ProgramError>
     requires { 4 * count ≤ length bytes.now }
-    ensures { Gives (λ v. v.items) result (Ok (words_in count bytes.now)) }
+    ensures value { Gives (λ v. v.items) result (Ok (words_in count bytes.now)) }
+    ensures len { IfOk result (λ v. length v.items ≡ count) }
 {
     let mut words = Vec::with_capacity(alloc, count as usize)?;
     let mut rest = bytes;
@@ -219,6 +229,7 @@ fn read_words(
 ) -> Result<(Vec<u32>, &[u8]), ProgramError>
     ensures value { Gives (λ x. (x.0.items, x.1.now)) result (words_field size count bytes.now) }
     ensures rest { IfOk result (λ x. length x.1.now ≤ length bytes.now) }
+    ensures len { IfOk result (λ x. length x.0.items ≡ count) }
 {
     let long = 4 * u64::from(count);
     if (bytes.len() as u64) < long {
@@ -371,6 +382,10 @@ fn read_chunks<'a>(
     requires count { count ≤ 4096 }
     ensures value { Gives (λ x. (listed x.0.items, x.1.now)) result (chunks_field layout size (without_grants base words.now) count 0 0 bytes.now) }
     ensures rest { IfOk result (λ x. length x.1.now ≤ length bytes.now) }
+    ensures rising { IfOk result (λ x. AreRising 0 (listed x.0.items)) }
+    ensures small { IfOk result (λ x. total (listed x.0.items) ≤ 2 ^ 24) }
+    ensures apart { IfOk result (λ x. All (λ c. shares_byte (without_grants base words.now) c ≡ false) (listed x.0.items)) }
+    ensures len { IfOk result (λ x. length x.0.items ≡ count) }
 {
     let mut chunks = Vec::new(alloc);
     let mut rest = bytes;
@@ -389,7 +404,9 @@ fn read_chunks<'a>(
 fn are_pages(chunks: &[(u32, u32)]) -> bool
     ensures { result ≡ list_all (λ pair. is_page (pair_chunk pair)) chunks.now }
 {
-    chunks.iter().all(|pair| pair.0 % 4096 == 0 && pair.1 == 4096)
+    chunks
+        .iter()
+        .all(|pair| pair.0 % 4096 == 0 && pair.1 == 4096)
 }
 
 fn fill_wrong(layout: Layout, chunks: &[(u32, u32)]) -> Option<FileKind>
@@ -408,7 +425,12 @@ fn fill_wrong(layout: Layout, chunks: &[(u32, u32)]) -> Option<FileKind>
 }
 
 #[tactic(auto, unfolding(crate::specs::Programs::fill_field))]
-fn read_fill(layout: Layout, size: usize, chunks: &[(u32, u32)], bytes: &[u8]) -> Result<u8, ProgramError>
+fn read_fill(
+    layout: Layout,
+    size: usize,
+    chunks: &[(u32, u32)],
+    bytes: &[u8],
+) -> Result<u8, ProgramError>
     requires { length bytes.now ≤ size }
     ensures { Gives (λ x. x) result (fill_field layout size (listed chunks.now) bytes.now) }
 {
@@ -427,4 +449,44 @@ fn read_fill(layout: Layout, size: usize, chunks: &[(u32, u32)], bytes: &[u8]) -
             }
         }
     }
+}
+
+// The grants of chunks that rise.
+fn grants_of(alloc: Global, chunks: &[(u32, u32)]) -> Result<PageSet, ProgramError>
+    requires rising { AreRising 0 (listed chunks.now) }
+    requires few { length chunks.now ≤ 4096 }
+    requires small { total (listed chunks.now) ≤ 2 ^ 24 }
+    ensures value { IfOk result (λ grants. grants ≡ listed chunks.now) }
+    ensures memory { IfErr result (λ e. e ≡ Memory) }
+{
+    match PageSet::from_chunks(alloc, chunks) {
+        Ok(grants) => Ok(grants),
+        Err(PageFault::Memory) => Err(ProgramError::Memory),
+        Err(PageFault::TooMany) => unreachable!(),
+        Err(PageFault::Unaligned(_)) => unreachable!(),
+        Err(PageFault::Twice(_)) => unreachable!(),
+    }
+}
+
+/// The program that a file holds, or the first field of the file that is cut or at fault. A file begins
+/// with `BRP1` where its chunks are pages, and else with `BRP2`; the fields are the base, the number of
+/// words and the words, the number of pages or chunks and these in rising order, and the fill (this
+/// project's own formats).
+#[tactic(auto, unfolding(crate::specs::Programs::program_of))]
+pub fn read_program(alloc: Global, bytes: &[u8]) -> Result<ProgramFile, ProgramError>
+    ensures { Gives (λ x. x) result (program_of bytes.now) }
+{
+    let size = bytes.len();
+    let (layout, rest) = read_layout(size, bytes)?;
+    let (base, rest) = read_base(size, rest)?;
+    let (count, rest) = read_word_count(size, base, rest)?;
+    let (words, rest) = read_words(alloc, size, count, rest)?;
+    let (count, rest) = read_chunk_count(size, rest)?;
+    let (chunks, rest) = read_chunks(alloc, layout, size, base, &words, count, rest)?;
+    let fill = read_fill(layout, size, &chunks, rest)?;
+    let grants = grants_of(alloc, &chunks)?;
+    Ok(ProgramFile {
+        program: Program::new(base, words, grants),
+        fill,
+    })
 }
