@@ -1,4 +1,4 @@
-//! The verifier of RISC programs (Bt878 data sheet, "RISC program"): it accepts exactly the programs
+//! The verifier of RISC programs (Bt878 data sheet, "RISC instructions"): it accepts exactly the programs
 //! whose path, without end, has no fault. What a fault is, is this project's own rule.
 #![tactic(auto)]
 

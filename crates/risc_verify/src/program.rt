@@ -36,6 +36,7 @@ impl Program {
         requires apart { All (λ c. shares_byte (record { base = base; words = words.items; grants = grants }) c ≡ false) grants }
         ensures { result ≡ record { base = base; words = words.items; grants = grants } }
     {
+        // the call tells what each set of grants keeps
         let _chunks = grants.len();
         Program {
             base,

@@ -45,7 +45,7 @@ fn said<L: Ledger>(alloc: Global, words: &[u32], page: u32, blank: Blank) -> Res
 
 #[test]
 fn paths_are_judged(rt: HostRuntime) -> Result<(), Fail> {
-    let rows: [(&[u32], u32, Said); 10] = [
+    let rows: [(&[u32], u32, Said); 11] = [
         (
             &[0x8000_8004, 0x1000_0004, 0x7000_0000, 0x1004],
             0x20000,
@@ -93,6 +93,11 @@ fn paths_are_judged(rt: HostRuntime) -> Result<(), Fail> {
             &[0x1000_0004, 0x20000, 0x5000_0004, 0x7000_0000, 0x1008],
             0x20000,
             Some((0x1008, 3, Cause::NoTarget)),
+        ),
+        (
+            &[0x1000_0004, 0x2000_0004, 0x7000_0000, 0x1004],
+            0x2000_0000,
+            None,
         ),
         (
             &[0x1000_0004, 0x5000_0004, 0x7000_0000, 0x1004],
