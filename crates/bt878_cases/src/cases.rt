@@ -1,0 +1,463 @@
+// Worked cases. Their files and answers were computed by hand from docs/FORMATS.md and docs/MACHINE.md.
+
+/// Bytes in parts: each so many times.
+pub type Parts = &'static [(usize, &'static [u8])];
+
+/// A program file that is judged.
+pub struct Judged {
+    pub program: &'static [u8],
+    pub status: u8,
+    pub said: &'static [u8],
+}
+
+/// A program file and a stream file that are run. `image` is empty where no image is created.
+pub struct Played {
+    pub program: &'static [u8],
+    pub stream: Parts,
+    pub status: u8,
+    pub said: &'static [u8],
+    pub image: Parts,
+}
+
+/// The program of a line of 8 bytes: SYNC VRE, SYNC FM1, WRITE, JUMP with interrupt.
+pub const ONE_LINE: &[u8] =
+    b"BRP1\x00\x10\x00\x00\x08\x00\x00\x00\x04\x80\x00\x80\x00\x00\x00\x00\x06\x00\x00\x80\x00\x00\x00\x00\x08\x00\x00\x1c\x00\x00\x02\x00\x00\x00\xe1q\x00\x10\x00\x00\x01\x00\x00\x00\x00\x00\x02\x00\x00";
+
+/// What `verify` says.
+pub static JUDGED: [Judged; 13] = [
+    // a JUMP into an operand is followed
+    Judged {
+        program: b"BRP1\x00\x10\x00\x00\x04\x00\x00\x00\x04\x80\x00\x80\x04\x00\x00\x10\x00\x00\x00p\x04\x10\x00\x00\x01\x00\x00\x00\x00\x00\x02\x00\x00",
+        status: 1,
+        said: b"rejected at 00001004, step 2: ungranted 70000000\n",
+    },
+    // a SKIP leaves the target
+    Judged {
+        program: b"BRP1\x00\x10\x00\x00\x06\x00\x00\x00\x04\x00\x00\x18\x00\x00\x02\x00\x04\x00\x00 \x04\x00\x00T\x00\x00\x00p\x00\x10\x00\x00\x01\x00\x00\x00\x00\x00\x02\x00\x00",
+        status: 0,
+        said: b"accepted\n",
+    },
+    // EOL forgets the target
+    Judged {
+        program: b"BRP1\x00\x10\x00\x00\x05\x00\x00\x00\x04\x00\x00\x1c\x00\x00\x02\x00\x04\x00\x00T\x00\x00\x00p\x00\x10\x00\x00\x01\x00\x00\x00\x00\x00\x02\x00\x00",
+        status: 1,
+        said: b"rejected at 00001008, step 1: no target\n",
+    },
+    // SOL forgets the target
+    Judged {
+        program: b"BRP1\x00\x10\x00\x00\x05\x00\x00\x00\x04\x00\x00\x18\x00\x00\x02\x00\x04\x00\x00X\x00\x00\x00p\x00\x10\x00\x00\x01\x00\x00\x00\x00\x00\x02\x00\x00",
+        status: 1,
+        said: b"rejected at 00001008, step 1: no target\n",
+    },
+    // a range may not pass 2^32
+    Judged {
+        program: b"BRP1\x00\x10\x00\x00\x04\x00\x00\x00\x08\x00\x00\x10\xfc\xff\xff\xff\x00\x00\x00p\x00\x10\x00\x00\x01\x00\x00\x00\x00\xf0\xff\xff\x00",
+        status: 1,
+        said: b"rejected at 00001000, step 0: wrap\n",
+    },
+    // a range may end at 2^32
+    Judged {
+        program: b"BRP1\x00\x10\x00\x00\x04\x00\x00\x00\x04\x00\x00\x10\xfc\xff\xff\xff\x00\x00\x00p\x00\x10\x00\x00\x01\x00\x00\x00\x00\xf0\xff\xff\x00",
+        status: 0,
+        said: b"accepted\n",
+    },
+    // a program without words is cut at its base
+    Judged {
+        program: b"BRP1\x00\x10\x00\x00\x00\x00\x00\x00\x01\x00\x00\x00\x00\x00\x02\x00\x00",
+        status: 1,
+        said: b"rejected at 00001000, step 0: cut\n",
+    },
+    // an empty program file is short
+    Judged {
+        program: b"",
+        status: 3,
+        said: b"program file: short at 0\n",
+    },
+    // a place may come again with another target
+    Judged {
+        program: b"BRP1\x00\x10\x00\x00\x05\x00\x00\x00\x04\x00\x00\x10\x00\x00\x02\x00\x04\x00\x00 \x00\x00\x00p\x08\x10\x00\x00\x01\x00\x00\x00\x00\x00\x02\x00\x00",
+        status: 0,
+        said: b"accepted\n",
+    },
+    // a place may come again without a target
+    Judged {
+        program: b"BRP1\x00\x10\x00\x00\x05\x00\x00\x00\x04\x00\x00\x10\x00\x00\x02\x00\x04\x00\x00P\x00\x00\x00p\x08\x10\x00\x00\x01\x00\x00\x00\x00\x00\x02\x00\x00",
+        status: 1,
+        said: b"rejected at 00001008, step 3: no target\n",
+    },
+    // an operand may read as a SKIP
+    Judged {
+        program: b"BRP1\x00\x10\x00\x00\x04\x00\x00\x00\x04\x00\x00\x10\x04\x00\x00 \x00\x00\x00p\x04\x10\x00\x00\x01\x00\x00\x00\x00\x00\x00 \x00",
+        status: 0,
+        said: b"accepted\n",
+    },
+    // an operand may read as a WRITEC
+    Judged {
+        program: b"BRP1\x00\x10\x00\x00\x04\x00\x00\x00\x04\x00\x00\x10\x04\x00\x00P\x00\x00\x00p\x04\x10\x00\x00\x01\x00\x00\x00\x00\x00\x00P\x00",
+        status: 1,
+        said: b"rejected at 00001004, step 2: no target\n",
+    },
+    // a chunk ends where it ends
+    Judged {
+        program: b"BRP2\x00\x10\x00\x00\x08\x00\x00\x00\x04\x80\x00\x80\x00\x00\x00\x00\x06\x00\x00\x80\x00\x00\x00\x00\x08\x00\x00\x1c\x04\x00\x02\x00\x00\x00\xe1q\x00\x10\x00\x00\x01\x00\x00\x00\x04\x00\x02\x00\x04\x00\x00\x00\x00",
+        status: 1,
+        said: b"rejected at 00001010, step 2: ungranted 00020008\n",
+    },
+];
+
+/// What `run` says and writes.
+pub static PLAYED: [Played; 31] = [
+    // a line is stored and signalled
+    Played {
+        program: ONE_LINE,
+        stream: &[(
+            1,
+            b"BFS1\x04\x04\x04\x06\x01\x02\x10\x11\x12\x13\x01\x01\x14\x15\x16\x17\x05\x09\x00\x00\x00\x00",
+        )],
+        status: 0,
+        said: b"turns 9\nmoved 8\noverruns 0 0 0 0\nstatus 10000800\n",
+        image: &[
+            (
+                1,
+                b"BMI1\x01\x00\x00\x00\x00\x00\x02\x00\x10\x11\x12\x13\x14\x15\x16\x17",
+            ),
+            (4088, b"\x00"),
+        ],
+    },
+    // an empty stream changes nothing
+    Played {
+        program: ONE_LINE,
+        stream: &[(1, b"BFS1\x00")],
+        status: 0,
+        said: b"turns 0\nmoved 0\noverruns 0 0 0 0\nstatus 00000000\n",
+        image: &[(1, b"BMI1\x01\x00\x00\x00\x00\x00\x02"), (4097, b"\x00")],
+    },
+    // the 71st entry of queue 1 overruns
+    Played {
+        program: ONE_LINE,
+        stream: &[
+            (1, b"BFS1"),
+            (71, b"\x01\x00\xa0\xa1\xa2\xa3"),
+            (1, b"\x00"),
+        ],
+        status: 0,
+        said: b"turns 0\nmoved 0\noverruns 1 0 0 0\nstatus 00001000\n",
+        image: &[(1, b"BMI1\x01\x00\x00\x00\x00\x00\x02"), (4097, b"\x00")],
+    },
+    // a control code enters no queue where one is full
+    Played {
+        program: ONE_LINE,
+        stream: &[
+            (1, b"BFS1"),
+            (35, b"\x02\x00\xa0\xa1\xa2\xa3"),
+            (1, b"\x04\x04\x05(\x00\x00\x00\x00"),
+        ],
+        status: 0,
+        said: b"turns 40\nmoved 0\noverruns 0 0 0 1\nstatus 00001000\n",
+        image: &[(1, b"BMI1\x01\x00\x00\x00\x00\x00\x02"), (4097, b"\x00")],
+    },
+    // an unsound program does not run
+    Played {
+        program: b"BRP1\x00\x10\x00\x00\x04\x00\x00\x00\x04\x80\x00\x80\x04\x00\x00\x10\x00\x00\x00p\x04\x10\x00\x00\x01\x00\x00\x00\x00\x00\x02\x00\x00",
+        stream: &[(1, b"BFS1\x00")],
+        status: 1,
+        said: b"rejected at 00001004, step 2: ungranted 70000000\n",
+        image: &[],
+    },
+    // no byte may follow the end record
+    Played {
+        program: ONE_LINE,
+        stream: &[(
+            1,
+            b"BFS1\x04\x04\x04\x06\x01\x02\x10\x11\x12\x13\x01\x01\x14\x15\x16\x17\x05\x09\x00\x00\x00\x00\x00",
+        )],
+        status: 3,
+        said: b"stream file: after end at 26\n",
+        image: &[],
+    },
+    // a status is below 16
+    Played {
+        program: ONE_LINE,
+        stream: &[(
+            1,
+            b"BFS1\x04\x04\x04\x06\x01\x10\x10\x11\x12\x13\x01\x01\x14\x15\x16\x17\x05\x09\x00\x00\x00\x00",
+        )],
+        status: 3,
+        said: b"stream file: status 10 at 9\n",
+        image: &[],
+    },
+    // the turns are limited
+    Played {
+        program: ONE_LINE,
+        stream: &[(1, b"BFS1\x05\x01\x00\x00@\x00")],
+        status: 3,
+        said: b"stream file: too many turns at 5\n",
+        image: &[],
+    },
+    // lanes that are off are not stored
+    Played {
+        program: b"BRP1\x00\x10\x00\x00\x08\x00\x00\x00\x04\x80\x00\x80\x00\x00\x00\x00\x06\x00\x00\x80\x00\x00\x00\x00\x08`\x00\x1c\x00\x00\x02\x00\x00\x00\x00p\x00\x10\x00\x00\x01\x00\x00\x00\x00\x00\x02\x00U",
+        stream: &[(
+            1,
+            b"BFS1\x04\x04\x04\x06\x01\x02\x10\x11\x12\x13\x01\x01\x14\x15\x16\x17\x05\x09\x00\x00\x00\x00",
+        )],
+        status: 0,
+        said: b"turns 9\nmoved 4\noverruns 0 0 0 0\nstatus 00000000\n",
+        image: &[
+            (
+                1,
+                b"BMI1\x01\x00\x00\x00\x00\x00\x02\x00\x10UU\x13\x14UU\x17",
+            ),
+            (4088, b"U"),
+        ],
+    },
+    // the host stops and restarts the machine
+    Played {
+        program: ONE_LINE,
+        stream: &[(
+            1,
+            b"BFS1\x04\x04\x04\x06\x05\x05\x00\x00\x00\x07\x00\x01\x02\x10\x11\x12\x13\x07\x03\x05\x02\x00\x00\x00\x00",
+        )],
+        status: 0,
+        said: b"turns 7\nmoved 0\noverruns 0 0 0 0\nstatus 00000000\n",
+        image: &[(1, b"BMI1\x01\x00\x00\x00\x00\x00\x02"), (4097, b"\x00")],
+    },
+    // a reserved entry is discarded
+    Played {
+        program: ONE_LINE,
+        stream: &[(
+            1,
+            b"BFS1\x04\x04\x04\x06\x01\x02\x10\x11\x12\x13\x01\x03\xa0\xa1\xa2\xa3\x01\x01\x14\x15\x16\x17\x05\n\x00\x00\x00\x00",
+        )],
+        status: 0,
+        said: b"turns 10\nmoved 8\noverruns 0 0 0 0\nstatus 10004800\n",
+        image: &[
+            (
+                1,
+                b"BMI1\x01\x00\x00\x00\x00\x00\x02\x00\x10\x11\x12\x13\x14\x15\x16\x17",
+            ),
+            (4088, b"\x00"),
+        ],
+    },
+    // three queues are stored
+    Played {
+        program: b"BRP1\x00\x10\x00\x00\x0b\x00\x00\x00\x04\x80\x00\x80\x00\x00\x00\x00\x0e\x00\x00\x80\x00\x00\x00\x00\x08\x00\x00\x9c\x08\x00\x08\x00\x00\x00\x02\x00\x00\x01\x02\x00\x00\x02\x02\x00\x00\x00\xe1q\x00\x10\x00\x00\x01\x00\x00\x00\x00\x00\x02\x00\x00",
+        stream: &[(
+            1,
+            b"BFS1\x04\x04\x04\x0e\x01\x02\x10\x11\x12\x13\x01\x01\x14\x15\x16\x17\x02\x02 !\x22#\x02\x01$%&'\x03\x020123\x03\x014567\x05\x0d\x00\x00\x00\x00",
+        )],
+        status: 0,
+        said: b"turns 13\nmoved 24\noverruns 0 0 0 0\nstatus 10000800\n",
+        image: &[
+            (
+                1,
+                b"BMI1\x01\x00\x00\x00\x00\x00\x02\x00\x10\x11\x12\x13\x14\x15\x16\x17",
+            ),
+            (248, b"\x00"),
+            (1, b" !\x22#$%&'"),
+            (248, b"\x00"),
+            (1, b"01234567"),
+            (3576, b"\x00"),
+        ],
+    },
+    // a program begins with its word
+    Played {
+        program: b"ARP1\x00\x10\x00\x00\x08\x00\x00\x00\x04\x80\x00\x80\x00\x00\x00\x00\x06\x00\x00\x80\x00\x00\x00\x00\x08\x00\x00\x1c\x00\x00\x02\x00\x00\x00\xe1q\x00\x10\x00\x00\x01\x00\x00\x00\x00\x00\x02\x00\x00",
+        stream: &[(
+            1,
+            b"BFS1\x04\x04\x04\x06\x01\x02\x10\x11\x12\x13\x01\x01\x14\x15\x16\x17\x05\x09\x00\x00\x00\x00",
+        )],
+        status: 3,
+        said: b"program file: magic at 0\n",
+        image: &[],
+    },
+    // the base is a multiple of 4
+    Played {
+        program: b"BRP1\x01\x10\x00\x00\x08\x00\x00\x00\x04\x80\x00\x80\x00\x00\x00\x00\x06\x00\x00\x80\x00\x00\x00\x00\x08\x00\x00\x1c\x00\x00\x02\x00\x00\x00\xe1q\x00\x10\x00\x00\x01\x00\x00\x00\x00\x00\x02\x00\x00",
+        stream: &[(
+            1,
+            b"BFS1\x04\x04\x04\x06\x01\x02\x10\x11\x12\x13\x01\x01\x14\x15\x16\x17\x05\x09\x00\x00\x00\x00",
+        )],
+        status: 3,
+        said: b"program file: base at 4\n",
+        image: &[],
+    },
+    // the number of words is limited
+    Played {
+        program: b"BRP1\x00\x10\x00\x00\xff\xff\xff\xff\x04\x80\x00\x80\x00\x00\x00\x00\x06\x00\x00\x80\x00\x00\x00\x00\x08\x00\x00\x1c\x00\x00\x02\x00\x00\x00\xe1q\x00\x10\x00\x00\x01\x00\x00\x00\x00\x00\x02\x00\x00",
+        stream: &[(
+            1,
+            b"BFS1\x04\x04\x04\x06\x01\x02\x10\x11\x12\x13\x01\x01\x14\x15\x16\x17\x05\x09\x00\x00\x00\x00",
+        )],
+        status: 3,
+        said: b"program file: count at 8\n",
+        image: &[],
+    },
+    // the number of pages is limited
+    Played {
+        program: b"BRP1\x00\x10\x00\x00\x08\x00\x00\x00\x04\x80\x00\x80\x00\x00\x00\x00\x06\x00\x00\x80\x00\x00\x00\x00\x08\x00\x00\x1c\x00\x00\x02\x00\x00\x00\xe1q\x00\x10\x00\x00\x01\x10\x00\x00\x00\x00\x02\x00\x00",
+        stream: &[(
+            1,
+            b"BFS1\x04\x04\x04\x06\x01\x02\x10\x11\x12\x13\x01\x01\x14\x15\x16\x17\x05\x09\x00\x00\x00\x00",
+        )],
+        status: 3,
+        said: b"program file: count at 44\n",
+        image: &[],
+    },
+    // a page is a multiple of 4,096
+    Played {
+        program: b"BRP1\x00\x10\x00\x00\x08\x00\x00\x00\x04\x80\x00\x80\x00\x00\x00\x00\x06\x00\x00\x80\x00\x00\x00\x00\x08\x00\x00\x1c\x00\x00\x02\x00\x00\x00\xe1q\x00\x10\x00\x00\x01\x00\x00\x00\x04\x00\x02\x00\x00",
+        stream: &[(
+            1,
+            b"BFS1\x04\x04\x04\x06\x01\x02\x10\x11\x12\x13\x01\x01\x14\x15\x16\x17\x05\x09\x00\x00\x00\x00",
+        )],
+        status: 3,
+        said: b"program file: page at 48\n",
+        image: &[],
+    },
+    // a page shares no byte with the program
+    Played {
+        program: b"BRP1\x00\x10\x00\x00\x08\x00\x00\x00\x04\x80\x00\x80\x00\x00\x00\x00\x06\x00\x00\x80\x00\x00\x00\x00\x08\x00\x00\x1c\x00\x00\x02\x00\x00\x00\xe1q\x00\x10\x00\x00\x01\x00\x00\x00\x00\x10\x00\x00\x00",
+        stream: &[(
+            1,
+            b"BFS1\x04\x04\x04\x06\x01\x02\x10\x11\x12\x13\x01\x01\x14\x15\x16\x17\x05\x09\x00\x00\x00\x00",
+        )],
+        status: 3,
+        said: b"program file: overlap at 48\n",
+        image: &[],
+    },
+    // pages rise
+    Played {
+        program: b"BRP1\x00\x10\x00\x00\x08\x00\x00\x00\x04\x80\x00\x80\x00\x00\x00\x00\x06\x00\x00\x80\x00\x00\x00\x00\x08\x00\x00\x1c\x00\x00\x02\x00\x00\x00\xe1q\x00\x10\x00\x00\x02\x00\x00\x00\x00\x00\x02\x00\x00\x00\x02\x00\x00",
+        stream: &[(
+            1,
+            b"BFS1\x04\x04\x04\x06\x01\x02\x10\x11\x12\x13\x01\x01\x14\x15\x16\x17\x05\x09\x00\x00\x00\x00",
+        )],
+        status: 3,
+        said: b"program file: order at 52\n",
+        image: &[],
+    },
+    // no byte may follow the fill
+    Played {
+        program: b"BRP1\x00\x10\x00\x00\x08\x00\x00\x00\x04\x80\x00\x80\x00\x00\x00\x00\x06\x00\x00\x80\x00\x00\x00\x00\x08\x00\x00\x1c\x00\x00\x02\x00\x00\x00\xe1q\x00\x10\x00\x00\x01\x00\x00\x00\x00\x00\x02\x00\x00\x00",
+        stream: &[(
+            1,
+            b"BFS1\x04\x04\x04\x06\x01\x02\x10\x11\x12\x13\x01\x01\x14\x15\x16\x17\x05\x09\x00\x00\x00\x00",
+        )],
+        status: 3,
+        said: b"program file: after end at 53\n",
+        image: &[],
+    },
+    // a tag is known
+    Played {
+        program: ONE_LINE,
+        stream: &[(1, b"BFS1\n")],
+        status: 3,
+        said: b"stream file: tag 0a at 4\n",
+        image: &[],
+    },
+    // a control code is known
+    Played {
+        program: ONE_LINE,
+        stream: &[(1, b"BFS1\x04\x03")],
+        status: 3,
+        said: b"stream file: code 03 at 5\n",
+        image: &[],
+    },
+    // a data push is no control code
+    Played {
+        program: ONE_LINE,
+        stream: &[(1, b"BFS1\x01\x04")],
+        status: 3,
+        said: b"stream file: status 04 at 5\n",
+        image: &[],
+    },
+    // enables are below 4
+    Played {
+        program: ONE_LINE,
+        stream: &[(1, b"BFS1\x07\x04")],
+        status: 3,
+        said: b"stream file: enable 04 at 5\n",
+        image: &[],
+    },
+    // a burst takes a whole line
+    Played {
+        program: ONE_LINE,
+        stream: &[(
+            1,
+            b"BFS2\x04\x04\x04\x06\x01\x02\x10\x11\x12\x13\x01\x01\x14\x15\x16\x17\x05\x08\x00\x00\x00\x00",
+        )],
+        status: 0,
+        said: b"turns 8\nmoved 8\noverruns 0 0 0 0\nstatus 10000800\n",
+        image: &[
+            (
+                1,
+                b"BMI1\x01\x00\x00\x00\x00\x00\x02\x00\x10\x11\x12\x13\x14\x15\x16\x17",
+            ),
+            (4088, b"\x00"),
+        ],
+    },
+    // fewer entries than the trigger point wait
+    Played {
+        program: ONE_LINE,
+        stream: &[(
+            1,
+            b"BFS2\x04\x04\x04\x06\x01\x02\x10\x11\x12\x13\x05\x06\x00\x00\x00\x00",
+        )],
+        status: 0,
+        said: b"turns 6\nmoved 0\noverruns 0 0 0 0\nstatus 00000000\n",
+        image: &[(1, b"BMI1\x01\x00\x00\x00\x00\x00\x02"), (4097, b"\x00")],
+    },
+    // a trigger point is below 4
+    Played {
+        program: ONE_LINE,
+        stream: &[(1, b"BFS2\x08\x04\x00")],
+        status: 3,
+        said: b"stream file: trigger 04 at 5\n",
+        image: &[],
+    },
+    // BFS1 has no trigger record
+    Played {
+        program: ONE_LINE,
+        stream: &[(1, b"BFS1\x08\x00\x00")],
+        status: 3,
+        said: b"stream file: tag 08 at 4\n",
+        image: &[],
+    },
+    // memory may be chunks
+    Played {
+        program: b"BRP2\x00\x10\x00\x00\x08\x00\x00\x00\x04\x80\x00\x80\x00\x00\x00\x00\x06\x00\x00\x80\x00\x00\x00\x00\x08\x00\x00\x1c\x04\x00\x02\x00\x00\x00\xe1q\x00\x10\x00\x00\x01\x00\x00\x00\x04\x00\x02\x00\x08\x00\x00\x00\x00",
+        stream: &[(
+            1,
+            b"BFS1\x04\x04\x04\x06\x01\x02\x10\x11\x12\x13\x01\x01\x14\x15\x16\x17\x05\x09\x00\x00\x00\x00",
+        )],
+        status: 0,
+        said: b"turns 9\nmoved 8\noverruns 0 0 0 0\nstatus 10000800\n",
+        image: &[(
+            1,
+            b"BMI2\x01\x00\x00\x00\x04\x00\x02\x00\x08\x00\x00\x00\x10\x11\x12\x13\x14\x15\x16\x17",
+        )],
+    },
+    // pages have one spelling
+    Played {
+        program: b"BRP2\x00\x10\x00\x00\x08\x00\x00\x00\x04\x80\x00\x80\x00\x00\x00\x00\x06\x00\x00\x80\x00\x00\x00\x00\x08\x00\x00\x1c\x00\x00\x02\x00\x00\x00\xe1q\x00\x10\x00\x00\x01\x00\x00\x00\x00\x00\x02\x00\x00\x10\x00\x00\x00",
+        stream: &[(
+            1,
+            b"BFS1\x04\x04\x04\x06\x01\x02\x10\x11\x12\x13\x01\x01\x14\x15\x16\x17\x05\x09\x00\x00\x00\x00",
+        )],
+        status: 3,
+        said: b"program file: pages at 56\n",
+        image: &[],
+    },
+    // a length is a multiple of 4
+    Played {
+        program: b"BRP2\x00\x10\x00\x00\x08\x00\x00\x00\x04\x80\x00\x80\x00\x00\x00\x00\x06\x00\x00\x80\x00\x00\x00\x00\x08\x00\x00\x1c\x04\x00\x02\x00\x00\x00\xe1q\x00\x10\x00\x00\x01\x00\x00\x00\x04\x00\x02\x00\x06\x00\x00\x00\x00",
+        stream: &[(
+            1,
+            b"BFS1\x04\x04\x04\x06\x01\x02\x10\x11\x12\x13\x01\x01\x14\x15\x16\x17\x05\x09\x00\x00\x00\x00",
+        )],
+        status: 3,
+        said: b"program file: length at 52\n",
+        image: &[],
+    },
+];
