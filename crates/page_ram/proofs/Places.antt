@@ -95,3 +95,18 @@ pub stored_at : (items memory : List Block) (address byte n : ℕ) (old new : Bl
 stored_at items memory address byte n old new same is read written =
     ap (set items n) (written ∙ ap (λ (b : Block). with_byte b address byte) read) ∙ sym (is.writes old byte)
     ∙ ap (λ (m : List Block). stored m address byte) same
+
+le-block_at : (from : ℕ) (memory : List Block) (j : ℕ) (d : Block) → AreRising from (chunks_of memory) → j < length memory → from ≤ (get_or memory j d).at
+le-block_at from [] j d rising within = absurd (omega arith)
+le-block_at from (block ∷ rest) zero d rising within = omega arith
+le-block_at from (block ∷ rest) (suc j) d rising within =
+    let later = le-block_at (block_end block) rest j d rising.2 (omega arith) in omega arith
+
+-- where a block has the address, so many blocks end at the address or before it
+pub place-holding : (from : ℕ) (memory : List Block) (address n : ℕ) (d : Block) → AreRising from (chunks_of memory) → n < length memory → covers (chunk_of (get_or memory n d)) address ≡ true → place address memory ≡ n
+place-holding from [] address n d rising within here = absurd (omega arith)
+place-holding from (block ∷ rest) address zero d rising within here = grind (arith, here)
+place-holding from (block ∷ rest) address (suc n) d rising within here =
+    let begins = le-block_at (block_end block) rest n d rising.2 (omega arith) in
+    let later = place-holding (block_end block) rest address n d rising.2 (omega arith) here in
+    grind (arith, begins, later, here)

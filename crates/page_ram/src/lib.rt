@@ -69,6 +69,12 @@ impl Stretch {
         u64::from(self.at) + self.bytes.len() as u64 <= u64::from(addr)
     }
 
+    fn holds(&self, addr: u32) -> bool
+        ensures { result ≡ covers (chunk_of self.now) addr }
+    {
+        self.at <= addr && u64::from(addr) < u64::from(self.at) + self.bytes.len() as u64
+    }
+
     fn byte(&self, addr: u32) -> u8
         requires { IsTrue (covers (chunk_of self.now) addr) }
         ensures { result ≡ slice_index self.now.bytes (addr - self.now.at) }
@@ -88,6 +94,8 @@ impl Stretch {
 #[derive(Drop)]
 pub struct MapRam {
     stretches: Vec<Stretch>,
+    // the place of the chunk that was written last
+    near: usize,
 }
 
 impl Model for MapRam {
@@ -101,12 +109,24 @@ impl Model for MapRam {
     ghost invariant = { λ ram. AreBlocks ram.stretches.items };
 }
 
-// The place of the chunk that has an address: so many chunks end at the address or before it.
-fn place_of(stretches: &[Stretch], addr: u32) -> usize
+// So many chunks end at an address or before it.
+fn search_place(stretches: &[Stretch], addr: u32) -> usize
     requires { AreRising 0 (chunks_of stretches.now) }
     ensures { result ≡ prefix_len (λ block. nat_le (block.at + length block.bytes) addr) stretches.now }
 {
     stretches.partition_point(|stretch| stretch.ends_by(addr))
+}
+
+// The place of the chunk that has an address, looked for first at the place where a byte was written last.
+fn place_of(stretches: &[Stretch], near: usize, addr: u32) -> usize
+    requires { AreRising 0 (chunks_of stretches.now) }
+    ensures { result ≡ prefix_len (λ block. nat_le (block.at + length block.bytes) addr) stretches.now }
+{
+    if near < stretches.len() && stretches[near].holds(addr) {
+        near
+    } else {
+        search_place(stretches, addr)
+    }
 }
 
 impl MapRam {
@@ -119,7 +139,7 @@ impl MapRam {
             let stretch = Stretch::new(alloc, grants.get(i), grants.size(i), fill)?;
             stretches.push(stretch)?;
         }
-        Ok(MapRam { stretches })
+        Ok(MapRam { stretches, near: 0 })
     }
 }
 
@@ -127,13 +147,14 @@ impl Ram for MapRam {
     ghost memory = { λ ram. ram };
 
     fn store(&mut self, addr: u32, byte: u8) {
-        let place = place_of(&self.stretches, addr);
+        let place = place_of(&self.stretches, self.near, addr);
+        self.near = place;
         let stretch = &mut self.stretches[place];
         stretch.set_byte(addr, byte);
     }
 
     fn load(&self, addr: u32) -> u8 {
-        let place = place_of(&self.stretches, addr);
+        let place = place_of(&self.stretches, self.near, addr);
         let stretch = &self.stretches[place];
         stretch.byte(addr)
     }

@@ -1,19 +1,12 @@
-use Rattle.std.proofs.Common.{rules, arith, sym, Bool, []}
-use Rattle.std.proofs.lemmas.List.Sorted.{IsPartitionPoint-from_clause, IsPartitionedBy-leb}
-use Rattle.std.proofs.lemmas.List.Sums.{prefix_len_is}
-use Rattle.std.specs.Prelude.{nat_le}
-use Rattle.page_table.specs.Blocks.{Block}
-use Rattle.page_ram.proofs.Places.{block_end, ends_rise}
+-- the chunk at the place that was written last has the address
+use Rattle.std.proofs.Common.{sym, subst, ◌∙◌, ◌≡◌, true}
+use Rattle.page_table.specs.Grants.{covers}
+use Rattle.page_table.specs.Blocks.{Block, chunk_of}
+use Rattle.page_ram.proofs.Places.{place-holding}
 use Rattle.page_ram.proofs.place_of.Goals as goal
 
-pub returns : goal.returns
-returns c =
-    let early : Block → Bool = λ block. nat_le (block_end block) c.args.addr in
-    let place = c.partition_point.result in
-    let none : Block = record { at = 0; bytes = [] } in
-    let parts =
-    IsPartitionPoint-from_clause early c.args.stretches.now place c.partition_point.ensures.partitioned
-    (IsPartitionedBy-leb block_end c.args.stretches.now c.args.addr (ends_rise 0 c.args.stretches.now c.requires))
-    (λ a r f called. search rules)
-    in
-    sym (prefix_len_is early c.args.stretches.now place none c.partition_point.ensures.bound (λ k below. parts.0 k none (omega arith) below) (λ below. parts.1 place none (omega arith) below))
+pub returns-then-holds : goal.returns-then-holds
+returns-then-holds c =
+    let here = sym c.holds.ensures ∙ c.if-holds.true in
+    let P : Block → Type 0 = λ block. covers (chunk_of block) c.args.addr ≡ true in
+    sym (place-holding 0 c.args.stretches.now c.args.addr c.args.near c.index-stretches-near.result c.requires c.if-near-stretches.true (subst P c.index-stretches-near.is here))
