@@ -103,3 +103,6 @@ pub fn list(alloc: Global, program: &Program, fill: u8) -> Result<Vec<u8>, Alloc
     writeln!(text, "fill {fill:02x}")?;
     Ok(text.into_bytes())
 }
+
+#[cfg(test)]
+mod tests;
