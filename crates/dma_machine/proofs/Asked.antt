@@ -41,10 +41,3 @@ rest-granted memory after stores q ds count made le h =
     ap (λ grants. demands_cause grants (with_demand q (demand_less count (demand_on q ds)) ds)) (ap chunks_of made ∙ chunks-stored_all memory stores)
     ∙ with_demand-granted (chunks_of memory) q (demand_less count (demand_on q ds)) ds
     (demand_less-granted (chunks_of memory) (demand_on q ds) count le (demand-granted (chunks_of memory) q ds h)) h
-
-an_address : (grants : List Chunk) (address : Option ℕ) (count : ℕ) → range_cause grants address count ≡ None → IsAddress address
-an_address grants None count h = tt
-an_address grants (Some address) count h = let range = written-IsRange grants address count h in let ends = range.ends in omega arith
-
-pub demand-IsAddress : (grants : List Chunk) (q : Queue) (ds : Demands) → demands_cause grants ds ≡ None → IsAddress (demand_on q ds).address
-demand-IsAddress grants q ds h = an_address grants (demand_on q ds).address (demand_on q ds).rest (demand-granted grants q ds h)

@@ -28,11 +28,3 @@ lane_on off lane address k bytes h e = ap (stores_from off lane address) (next_b
 pub lane_off : (off lane address k : ℕ) (bytes : List ℕ) → k < length bytes → is_off off lane ≡ true →
     stores_from off lane address (drop k bytes) ≡ stores_then true off lane address k bytes
 lane_off off lane address k bytes h e = ap (stores_from off lane address) (next_byte k bytes h) ∙ stores_cons true off lane address _ _ e
-
--- a byte of a range that can be written
-pub byte-granted : (grants : List Chunk) (address count at : ℕ) → at < count → written_cause grants address count ≡ None →
-    IsTrue (granted grants (address + at)) × (address + at < 2 ^ 32)
-byte-granted grants address count at lt h =
-    let range = written-IsRange grants address count h in
-    let ends = range.ends in
-    (granted_at grants address count at lt range.whole, omega arith)

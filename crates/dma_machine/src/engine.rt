@@ -57,8 +57,8 @@ impl<R: Ram> Engine<R> {
     ghost use Rattle.dma_machine.specs.Needs.{CanBegin, CtlFits, IsAddress};
     ghost use Rattle.dma_machine.specs.Views.{state_of};
     ghost use Rattle.machine_model.specs.Paths.{instr_ctl, is_word};
-    ghost use Rattle.machine_model.specs.Turns.{begun, dropped, given_up, halted, jumped, met, passed, retired, synced, with_control_bits, with_fdsr, with_fdsr_unless};
-    ghost use Rattle.std.specs.Prelude.{◌≡◌, ◌<◌, ◌^◌, IsSome, None, true};
+    ghost use Rattle.machine_model.specs.Turns.{begun, dropped, given_up, halted, jumped, met, passed, retired, synced, with_fdsr, with_fdsr_unless};
+    ghost use Rattle.std.specs.Prelude.{◌≡◌, ◌<◌, ◌^◌, IsSome, None};
     ghost use Rattle.fifo_model.specs.Queues.{front, front_code, lane_of};
 
     /// Sets FDSR: data and program lost step.

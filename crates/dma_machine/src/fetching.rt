@@ -11,10 +11,10 @@ use sync_status::{StatusKind, kind};
 impl<R: Ram> Engine<R> {
     ghost use Rattle.dma_machine.specs.Needs.{CanBegin, CanExecute, CanFetch, CtlFits};
     ghost use Rattle.dma_machine.specs.Views.{state_of};
-    ghost use Rattle.fifo_model.specs.Queues.{front, front_code, lane_of};
+    ghost use Rattle.fifo_model.specs.Queues.{front_code, lane_of};
     ghost use Rattle.machine_model.specs.Paths.{fetch, instr_ctl};
     ghost use Rattle.machine_model.specs.Turns.{code_seen, common_code, data_fetched, fetched, instr_fetched, is_stray, lowest_stray, waited};
-    ghost use Rattle.std.specs.Prelude.{◌≡◌, ◌<◌, ◌^◌, IfSome, IsSome, None, true};
+    ghost use Rattle.std.specs.Prelude.{◌≡◌, ◌<◌, ◌^◌, IfSome, IsSome};
 
     /// What a data instruction does that was fetched.
     #[inline]

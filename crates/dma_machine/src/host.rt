@@ -14,8 +14,8 @@ impl<R: Ram> Engine<R> {
     ghost use Rattle.dma_machine.specs.Facts.{IsWrite, report_of};
     ghost use Rattle.dma_machine.specs.Views.{state_of};
     ghost use Rattle.machine_model.specs.States.{started};
-    ghost use Rattle.machine_model.specs.Steps.{control_pushed_as, host, push, push_control, pushed_as, restarted, with_fbus_if, with_fifo, with_risc};
-    ghost use Rattle.std.specs.Prelude.{◌≡◌, ◌*◌, ◌^◌, ◌<◌, false};
+    ghost use Rattle.machine_model.specs.Steps.{control_pushed_as, host, push, push_control, pushed_as, restarted, with_fifo, with_risc};
+    ghost use Rattle.std.specs.Prelude.{◌≡◌, false};
     ghost use Rattle.sync_status.specs.Statuses.{is_control, kind_of};
 
     /// A data push.

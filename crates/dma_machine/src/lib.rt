@@ -30,7 +30,7 @@ use risc_verify::{Accepted, Program};
 use risc_word::Code;
 use std::marker::Model;
 
-/// The counts of a machine, and its register INT_STAT.
+/// What a machine reports: its counts, each up to 2^64 - 1, and its interrupt status.
 #[derive(Clone, Copy, Debug, PartialEq, Eq)]
 pub struct Report {
     /// The turns taken.
@@ -39,6 +39,7 @@ pub struct Report {
     pub moved: u64,
     /// The pushes lost: to queues 1, 2 and 3, and of control codes.
     pub overruns: [u64; 4],
+    /// The register INT_STAT.
     pub int_stat: u32,
 }
 
@@ -140,3 +141,6 @@ impl<R: Ram> Machine<R> {
         self.engine.accepted.program()
     }
 }
+
+#[cfg(test)]
+mod tests;

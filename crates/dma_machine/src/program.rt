@@ -2,7 +2,7 @@
 
 ghost use Rattle.machine_model.specs.Paths.{fetch, is_word, word_number};
 ghost use Rattle.risc_word.specs.Words.{IsInstr};
-ghost use Rattle.std.specs.Prelude.{◌≡◌, ◌<◌, ◌^◌, ◌≤◌, IfOk, IfSome, None, Some, if◌then◌else◌};
+ghost use Rattle.std.specs.Prelude.{◌≡◌, ◌<◌, ◌^◌, IfOk, IfSome, None, Some, if◌then◌else◌};
 
 use risc_verify::Program;
 use risc_word::{Instr, WordFault, decode};

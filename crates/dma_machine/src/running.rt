@@ -12,17 +12,16 @@ use sync_status::{Verdict, judge};
 impl<R: Ram> Engine<R> {
     ghost use Rattle.dma_machine.specs.Needs.{Applied, IsAddress};
     ghost use Rattle.dma_machine.specs.Views.{state_of};
-    ghost use Rattle.fifo_model.specs.Queues.{front, lane_of};
+    ghost use Rattle.fifo_model.specs.Queues.{front, front_code, lane_of, removed};
     ghost use Rattle.machine_model.specs.Paths.{demands_cause};
-    ghost use Rattle.machine_model.specs.Turns.{apply, burst, burst_of, demand_on, ended, is_cut_short, is_done, is_served, judged, lowest_served, ran, served, taking, took, verdict_at, with_fdsr, with_queue};
+    ghost use Rattle.machine_model.specs.Turns.{apply, burst, burst_of, demand_on, is_cut_short, is_done, is_served, judged, lowest_served, ran, served, taking, took, verdict_at, with_fdsr, with_queue};
     ghost use Rattle.page_table.specs.Blocks.{chunks_of};
-    ghost use Rattle.std.specs.Prelude.{◌≡◌, ◌≢◌, ◌+◌, ◌<◌, ◌≤◌, IfSome, IsSome, None, Some, true};
+    ghost use Rattle.std.specs.Prelude.{◌≡◌, ◌+◌, ◌≤◌, IsSome, None, Some};
     ghost use Rattle.sync_status.specs.Statuses.{valid_bytes};
-    ghost use Rattle.fifo_model.specs.Queues.{front_code, removed};
 
     /// Takes bytes of a queue's front and stores those whose lane is on; whether the line ends before the
     /// instruction has what it asks for.
-    #[inline]
+    #[inline(always)]
     fn move_bytes(&mut self, q: Queue, n: u8, entry: Entry) -> bool
         requires running { self.old.phase ≡ Phase.Running }
         requires front { front (lane_of q self.old.queues) ≡ Some entry }
@@ -51,7 +50,7 @@ impl<R: Ram> Engine<R> {
         is_cut_short(entry, part, n, demand.rest)
     }
 
-    #[inline]
+    #[inline(always)]
     fn take(&mut self, q: Queue, n: u8, entry: Entry)
         requires running { self.old.phase ≡ Phase.Running }
         requires front { front (lane_of q self.old.queues) ≡ Some entry }
@@ -81,7 +80,7 @@ impl<R: Ram> Engine<R> {
     }
 
     /// What the front of a queue makes of the instruction.
-    #[inline]
+    #[inline(always)]
     fn judge_front(&mut self, q: Queue, entry: Entry)
         requires running { self.old.phase ≡ Phase.Running }
         requires front { front (lane_of q self.old.queues) ≡ Some entry }
@@ -104,7 +103,7 @@ impl<R: Ram> Engine<R> {
     }
 
     /// One application to the front of a queue by the running instruction; whether there was one.
-    #[inline]
+    #[inline(always)]
     fn serve(&mut self, q: Queue) -> bool
         requires running { self.old.phase ≡ Phase.Running }
         requires within { demands_cause (chunks_of (R.memory self.old.ram)) self.old.demands ≡ None }
@@ -124,7 +123,7 @@ impl<R: Ram> Engine<R> {
         }
     }
 
-    #[inline]
+    #[inline(always)]
     fn apply(&mut self, q: Queue) -> bool
         requires { demands_cause (chunks_of (R.memory self.old.ram)) self.old.demands ≡ None }
         ensures applied { Applied (apply q (state_of R.memory self.old)) result (state_of R.memory self.new) (state_of R.memory self.old) }
@@ -137,7 +136,7 @@ impl<R: Ram> Engine<R> {
     }
 
     /// As many applications to one queue as there can be, up to the trigger point.
-    #[inline]
+    #[inline(always)]
     fn burst(&mut self, q: Queue)
         requires { demands_cause (chunks_of (R.memory self.old.ram)) self.old.demands ≡ None }
         ensures { state_of R.memory self.new ≡ burst self.old.trigger q (state_of R.memory self.old) }
@@ -149,7 +148,7 @@ impl<R: Ram> Engine<R> {
     }
 
     /// Whether the instruction asks for bytes of a queue that is ready.
-    #[inline]
+    #[inline(always)]
     pub fn is_served(&self, q: Queue) -> bool
         ensures { result ≡ is_served q self.now.demands (state_of R.memory self.now) }
     {
