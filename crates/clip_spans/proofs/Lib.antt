@@ -1,0 +1,4 @@
+pub mod Runs
+pub mod Covered
+pub mod Merging
+pub mod Sorting

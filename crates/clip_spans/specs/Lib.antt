@@ -1,0 +1,3 @@
+pub mod Clipping
+pub mod Runs
+pub mod Parts

@@ -1,0 +1,305 @@
+//! Clip rectangles, and the spans of a picture row that they clip.
+#![tactic(auto)]
+
+ghost use Rattle.std.specs.Prelude.{◌≡◌, ◌↔◌, ℕ, ◌%◌, ◌<◌, ◌≤◌, ◌++◌, List, length, IfOk, IfSome};
+ghost use Rattle.std.specs.List.{All};
+ghost use Rattle.clip_spans.specs.Clipping.{clipped_at, meets};
+ghost use Rattle.clip_spans.specs.Parts.{AreInOrder, IsPart, is_inside, part_of, parts_of, unless_empty};
+ghost use Rattle.clip_spans.specs.Runs.{Alternate, AreRunsFrom, AreSpans, spans_of};
+ghost use Rattle.clip_spans.specs.declared.ClipFault.TheVariants.{Memory};
+ghost use Rattle.clip_spans.specs.declared.Rect.{Rect};
+ghost use Rattle.clip_spans.specs.declared.Span.{Span};
+
+use std::alloc::{AllocError, AllocFailed, Global};
+use std::marker::Model;
+
+const MOST_RECTS: usize = 64;
+
+/// A clip rectangle: the pixels `x` to `x + w - 1` of the picture rows `y` to `y + h - 1`. It may be
+/// empty or lie outside the picture, and its ends may pass 2^32.
+#[derive(Clone, Copy, Debug, PartialEq)]
+pub struct Rect {
+    pub x: u32,
+    pub y: u32,
+    pub w: u32,
+    pub h: u32,
+}
+
+/// A stretch of a row: the pixels from `from` up to `to`, which is not part of it.
+#[derive(Clone, Copy, Debug, PartialEq)]
+pub struct Span {
+    pub from: u32,
+    pub to: u32,
+    /// Whether the pixels are kept out of the picture.
+    pub clipped: bool,
+}
+
+/// Why a list of rectangles is not taken.
+#[derive(Clone, Copy, Debug, PartialEq)]
+pub enum ClipFault {
+    /// More than 64 rectangles (this project's own limit).
+    TooMany,
+    /// Want of memory.
+    Memory,
+}
+
+impl From<AllocError> for ClipFault {
+    ghost from_gives = { λ _ fault. fault ≡ Memory };
+
+    fn from(_error: AllocError) -> ClipFault {
+        ClipFault::Memory
+    }
+}
+
+/// The spans of one row, from left to right. Contracts see the list.
+#[derive(Drop)]
+pub struct Spans {
+    spans: Vec<Span>,
+}
+
+impl Model for Spans {
+    ghost use Rattle.std.specs.Prelude.{List};
+    ghost use Rattle.clip_spans.specs.declared.Span.{Span};
+
+    ghost Value = { List Span };
+
+    ghost view = { λ s. s.spans.items };
+}
+
+impl Spans {
+    /// The list.
+    pub fn as_slice(&self) -> &[Span]
+        ensures { result.now ≡ self.now }
+    {
+        &self.spans
+    }
+}
+
+/// At most 64 clip rectangles, which may touch and overlap. Contracts see the list.
+#[derive(Drop)]
+pub struct Clips {
+    rects: Vec<Rect>,
+}
+
+impl Model for Clips {
+    ghost use Rattle.std.specs.Prelude.{List};
+    ghost use Rattle.clip_spans.specs.declared.Rect.{Rect};
+
+    ghost Value = { List Rect };
+
+    ghost view = { λ c. c.rects.items };
+}
+
+// A stretch of a row that one rectangle clips.
+#[derive(Clone, Copy)]
+struct Part {
+    from: u32,
+    to: u32,
+}
+
+fn meets(rect: &Rect, row: u32) -> bool
+    ensures { result ≡ meets rect.now row }
+{
+    rect.y <= row && u64::from(row) < u64::from(rect.y) + u64::from(rect.h)
+}
+
+// What a rectangle clips of a row, in whole units.
+fn part_of(rect: &Rect, row: u32, width: u32, unit: u32) -> Option<Part>
+    requires width { width ≤ 1024 }
+    requires unit { (1 ≤ unit) × (width % unit ≡ 0) }
+    ensures value { result ≡ part_of row width unit rect.now }
+{
+    if !meets(rect, row) || rect.w == 0 || rect.x >= width {
+        return None;
+    }
+    let end = rect.x.saturating_add(rect.w).min(width);
+    Some(Part {
+        from: rect.x / unit * unit,
+        to: ((end - 1) / unit + 1) * unit,
+    })
+}
+
+fn parts_of(
+    alloc: Global,
+    rects: &[Rect],
+    row: u32,
+    width: u32,
+    unit: u32,
+) -> Result<Vec<Part>, AllocError>
+    requires width { width ≤ 1024 }
+    requires unit { (1 ≤ unit) × (width % unit ≡ 0) }
+    ensures { IfOk result (λ parts. parts.items ≡ parts_of rects.now row width unit) }
+{
+    rects
+        .iter()
+        .filter_map(|rect| part_of(rect, row, width, unit))
+        .collect(alloc)
+}
+
+// The parts of a row in the order of their beginnings.
+fn sorted_parts(
+    alloc: Global,
+    rects: &[Rect],
+    row: u32,
+    width: u32,
+    unit: u32,
+) -> Result<Vec<Part>, AllocError>
+    requires width { width ≤ 1024 }
+    requires unit { (1 ≤ unit) × (width % unit ≡ 0) }
+    ensures order { IfOk result (λ parts. AreInOrder width 0 parts.items) }
+    ensures parts { IfOk result (λ parts. (x : ℕ) → x < width → is_inside parts.items x ≡ clipped_at rects.now row unit x) }
+{
+    let mut parts = parts_of(alloc, rects, row, width, unit)?;
+    parts.sort_unstable_by_key(|part| part.from);
+    Ok(parts)
+}
+
+// Adds a span, unless it has no pixels.
+fn add(spans: &mut Vec<Span>, from: u32, to: u32, clipped: bool) -> Result<(), AllocError>
+    ensures { IfOk result (λ _. spans.new.items ≡ spans.old.items ++ unless_empty from to clipped) }
+{
+    if from < to {
+        spans.push(Span { from, to, clipped })?;
+    }
+    Ok(())
+}
+
+// Joins parts that touch or overlap, and puts spans that are not clipped between the others. The
+// pixels from `start` up to `done` are clipped, and their span is not out yet.
+fn merged(alloc: Global, parts: &[Part], width: u32) -> Result<Vec<Span>, AllocError>
+    requires { AreInOrder width 0 parts.now }
+    ensures { IfOk result (λ spans. AreRunsFrom (is_inside parts.now) width 0 spans.items) }
+{
+    let mut spans = Vec::new(alloc);
+    let mut start = 0;
+    let mut done = 0;
+    for part in parts {
+        if done < part.from {
+            add(&mut spans, start, done, true)?;
+            add(&mut spans, done, part.from, false)?;
+            start = part.from;
+        }
+        done = done.max(part.to);
+    }
+    add(&mut spans, start, done, true)?;
+    add(&mut spans, done, width, false)?;
+    Ok(spans)
+}
+
+impl Clips {
+    /// Keeps a list of rectangles.
+    pub fn new(alloc: Global, rects: &[Rect]) -> Result<Clips, ClipFault>
+        ensures many { (result ≡ Err ClipFault.TooMany) ↔ (64 < length rects.now) }
+        ensures list { IfOk result (λ clips. clips ≡ rects.now) }
+    {
+        if rects.len() > MOST_RECTS {
+            return Err(ClipFault::TooMany);
+        }
+        let mut kept = Vec::new(alloc);
+        kept.extend_from_slice(rects)?;
+        Ok(Clips { rects: kept })
+    }
+
+    /// The spans of a row of `width` pixels. A unit of `unit` pixels that has a pixel in a rectangle
+    /// is clipped as a whole. The ends of the spans are pixels, between units.
+    pub fn spans(&self, alloc: Global, row: u32, width: u32, unit: u32) -> Result<Spans, AllocError>
+        requires width { (1 ≤ width) × (width ≤ 1024) }
+        requires unit { (1 ≤ unit) × (width % unit ≡ 0) }
+        ensures spans { IfOk result (AreSpans self.now row width unit) }
+        ensures alternate { IfOk result Alternate }
+        ensures value { IfOk result (λ spans. spans ≡ spans_of self.now row width unit) }
+    {
+        let parts = sorted_parts(alloc, &self.rects, row, width, unit)?;
+        let spans = merged(alloc, &parts, width)?;
+        Ok(Spans { spans })
+    }
+}
+
+/// Each row has exactly one list of spans, and its spans alternate. The function does nothing; its
+/// contract is the law.
+pub fn every_row_has_one_list_of_spans()
+    ensures list { (rects : List Rect) (row width unit : ℕ) → AreSpans rects row width unit (spans_of rects row width unit) }
+    ensures only { (rects : List Rect) (row width unit : ℕ) (spans : List Span) → AreSpans rects row width unit spans → spans ≡ spans_of rects row width unit }
+    ensures alternate { (rects : List Rect) (row width unit : ℕ) → Alternate (spans_of rects row width unit) }
+{}
+
+#[cfg(test)]
+mod tests {
+    use super::*;
+    use std::test::Fail;
+
+    const RECTS: [Rect; 6] = [
+        Rect {
+            x: 0,
+            y: 1,
+            w: 16,
+            h: 1,
+        },
+        Rect {
+            x: 4,
+            y: 0,
+            w: 4,
+            h: 1,
+        },
+        Rect {
+            x: 8,
+            y: 0,
+            w: 2,
+            h: 1,
+        },
+        Rect {
+            x: 2,
+            y: 2,
+            w: 6,
+            h: 1,
+        },
+        Rect {
+            x: 6,
+            y: 2,
+            w: 4,
+            h: 1,
+        },
+        Rect {
+            x: 20,
+            y: 0,
+            w: 0,
+            h: 1,
+        },
+    ];
+
+    fn span(from: u32, to: u32, clipped: bool) -> Span {
+        Span { from, to, clipped }
+    }
+
+    #[test]
+    fn rows_with_clips_that_touch_and_overlap(rt: HostRuntime) -> Result<(), Fail> {
+        let clips = Clips::new(rt.alloc(), &RECTS)?;
+        let touching = clips.spans(rt.alloc(), 0, 16, 1)?;
+        let want = [span(0, 4, false), span(4, 10, true), span(10, 16, false)];
+        assert!(rt; touching.as_slice() == &want);
+        let whole = clips.spans(rt.alloc(), 1, 16, 1)?;
+        assert!(rt; whole.as_slice() == &[span(0, 16, true)]);
+        let units = clips.spans(rt.alloc(), 2, 16, 8)?;
+        assert!(rt; units.as_slice() == &[span(0, 16, true)]);
+        Ok(())
+    }
+
+    #[test]
+    fn sixty_four_are_taken(rt: HostRuntime) -> Result<(), Fail> {
+        let beyond = Rect {
+            x: u32::MAX,
+            y: 0,
+            w: u32::MAX,
+            h: u32::MAX,
+        };
+        let far = [beyond; 65];
+        let clips = Clips::new(rt.alloc(), &far[..64])?;
+        let none = clips.spans(rt.alloc(), 0, 8, 8)?;
+        assert!(rt; none.as_slice() == &[span(0, 8, false)]);
+        assert_eq!(rt;
+            Clips::new(rt.alloc(), &far).err(),
+            Some(ClipFault::TooMany)
+        );
+        Ok(())
+    }
+}
