@@ -163,7 +163,7 @@ units-IsPart start last p width some whole order below =
     let e = one_more (last / p) p in
     (omega arith, omega arith)
 
-part_of-IsRowPart : (rect : Rect) (row width p : ℕ) → 0 < p → width % p ≡ 0 → IsRowPart width (part_of row width p rect)
+pub part_of-IsRowPart : (rect : Rect) (row width p : ℕ) → 0 < p → width % p ≡ 0 → IsRowPart width (part_of row width p rect)
 part_of-IsRowPart rect row width p some whole =
     cond_both (meets rect row && nat_lt 0 rect.w && nat_lt rect.x width) (Some (units rect.x (min (rect.x + rect.w) width) p)) None (IsRowPart width)
     (λ e.

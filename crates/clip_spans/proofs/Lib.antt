@@ -2,3 +2,4 @@ pub mod Runs
 pub mod Covered
 pub mod Merging
 pub mod Sorting
+pub mod Few

@@ -1,7 +1,7 @@
 //! Clip rectangles, and the spans of a picture row that they clip.
 #![tactic(auto)]
 
-ghost use Rattle.std.specs.Prelude.{◌≡◌, ◌↔◌, ℕ, ◌%◌, ◌<◌, ◌≤◌, ◌++◌, List, length, IfOk, IfSome};
+ghost use Rattle.std.specs.Prelude.{◌≡◌, ◌↔◌, ℕ, ◌+◌, ◌*◌, ◌%◌, ◌<◌, ◌≤◌, ◌++◌, List, length, IfOk, IfSome};
 ghost use Rattle.std.specs.List.{All};
 ghost use Rattle.clip_spans.specs.Clipping.{clipped_at, meets};
 ghost use Rattle.clip_spans.specs.Parts.{AreInOrder, IsPart, is_inside, part_of, parts_of, unless_empty};
@@ -82,12 +82,14 @@ pub struct Clips {
 }
 
 impl Model for Clips {
-    ghost use Rattle.std.specs.Prelude.{List};
+    ghost use Rattle.std.specs.Prelude.{◌≤◌, List, length};
     ghost use Rattle.clip_spans.specs.declared.Rect.{Rect};
 
     ghost Value = { List Rect };
 
     ghost view = { λ c. c.rects.items };
+
+    ghost invariant = { λ c. length c.rects.items ≤ 64 };
 }
 
 // A stretch of a row that one rectangle clips.
@@ -208,6 +210,7 @@ impl Clips {
         ensures spans { IfOk result (AreSpans self.now row width unit) }
         ensures alternate { IfOk result Alternate }
         ensures value { IfOk result (λ spans. spans ≡ spans_of self.now row width unit) }
+        ensures few { length self.now ≤ 64 }
     {
         let parts = sorted_parts(alloc, &self.rects, row, width, unit)?;
         let spans = merged(alloc, &parts, width)?;
@@ -215,12 +218,13 @@ impl Clips {
     }
 }
 
-/// Each row has exactly one list of spans, and its spans alternate. The function does nothing; its
-/// contract is the law.
+/// Each row has exactly one list of spans, its spans alternate, and each rectangle adds at most two of
+/// them. The function does nothing; its contract is the law.
 pub fn every_row_has_one_list_of_spans()
     ensures list { (rects : List Rect) (row width unit : ℕ) → AreSpans rects row width unit (spans_of rects row width unit) }
     ensures only { (rects : List Rect) (row width unit : ℕ) (spans : List Span) → AreSpans rects row width unit spans → spans ≡ spans_of rects row width unit }
     ensures alternate { (rects : List Rect) (row width unit : ℕ) → Alternate (spans_of rects row width unit) }
+    ensures few { (rects : List Rect) (row width unit : ℕ) → 1 ≤ unit → width % unit ≡ 0 → length (spans_of rects row width unit) ≤ 2 * length rects + 1 }
 {}
 
 #[cfg(test)]
@@ -276,11 +280,11 @@ mod tests {
         let clips = Clips::new(rt.alloc(), &RECTS)?;
         let touching = clips.spans(rt.alloc(), 0, 16, 1)?;
         let want = [span(0, 4, false), span(4, 10, true), span(10, 16, false)];
-        assert!(rt; touching.as_slice() == &want);
+        assert!(rt; touching.as_slice() == want.as_slice());
         let whole = clips.spans(rt.alloc(), 1, 16, 1)?;
-        assert!(rt; whole.as_slice() == &[span(0, 16, true)]);
+        assert!(rt; whole.as_slice() == [span(0, 16, true)].as_slice());
         let units = clips.spans(rt.alloc(), 2, 16, 8)?;
-        assert!(rt; units.as_slice() == &[span(0, 16, true)]);
+        assert!(rt; units.as_slice() == [span(0, 16, true)].as_slice());
         Ok(())
     }
 
@@ -295,7 +299,7 @@ mod tests {
         let far = [beyond; 65];
         let clips = Clips::new(rt.alloc(), &far[..64])?;
         let none = clips.spans(rt.alloc(), 0, 8, 8)?;
-        assert!(rt; none.as_slice() == &[span(0, 8, false)]);
+        assert!(rt; none.as_slice() == [span(0, 8, false)].as_slice());
         assert_eq!(rt;
             Clips::new(rt.alloc(), &far).err(),
             Some(ClipFault::TooMany)
