@@ -1,10 +1,53 @@
 //! The text of an instruction.
 
-ghost use Rattle.risc_listing.specs.Lines.{addresses_text, code_name, control_text, counts_text, data_text, flag_text, instr_text, nibble_text};
-ghost use Rattle.std.specs.Prelude.{◌≡◌, Some};
+ghost use Rattle.risc_listing.specs.Lines.{address_text, addresses_text, code_name, control_text, counts_text, data_text, flag_text, instr_text, nibble_text};
+ghost use Rattle.std.specs.Fmt.{digit_glyph};
+ghost use Rattle.std.specs.Prelude.{◌≡◌, ◌%◌, false, Some};
 
 use risc_word::{Code, Ctl, Ends, Instr};
-use std::fmt;
+use std::{fmt, str};
+
+// The last hexadecimal digit of a number.
+#[inline]
+fn last_digit(n: u32) -> u8
+    ensures { result ≡ digit_glyph false (n % 16) }
+{
+    let digit = (n % 16) as u8;
+    if digit < 10 {
+        b'0' + digit
+    } else {
+        b'a' + (digit - 10)
+    }
+}
+
+#[inline]
+fn address_digits(n: u32) -> [u8; 8]
+    ensures { result ≡ address_text n }
+{
+    [
+        last_digit(n >> 28),
+        last_digit(n >> 24),
+        last_digit(n >> 20),
+        last_digit(n >> 16),
+        last_digit(n >> 12),
+        last_digit(n >> 8),
+        last_digit(n >> 4),
+        last_digit(n),
+    ]
+}
+
+/// An address in eight hexadecimal digits, as `{:08x}` writes it, in one piece.
+#[derive(Drop)]
+pub struct AddressText(pub u32);
+
+impl fmt::Display for AddressText {
+    ghost output = { λ text. Some (address_text text.0) };
+
+    fn fmt<W: fmt::Write>(&self, f: &mut fmt::Formatter<W>) -> fmt::Result {
+        let digits = address_digits(self.0);
+        f.write_str(str::from_utf8(&digits).map_err(|_| fmt::Error)?)
+    }
+}
 
 // A word that stands only where its bit is set.
 #[inline]
@@ -27,7 +70,7 @@ fn code_name(code: Code) -> &'static str
 }
 
 // A field of four bits that stands only where it isn't 0.
-#[derive(Clone, Copy)]
+#[derive(Drop)]
 struct NibbleText {
     name: &'static str,
     value: u8,
@@ -47,7 +90,7 @@ impl fmt::Display for NibbleText {
     }
 }
 
-#[derive(Clone, Copy)]
+#[derive(Drop)]
 struct ControlText(Ctl);
 
 impl fmt::Display for ControlText {
@@ -67,7 +110,7 @@ impl fmt::Display for ControlText {
     }
 }
 
-#[derive(Clone, Copy)]
+#[derive(Drop)]
 struct DataText {
     ctl: Ctl,
     ends: Ends,
@@ -89,7 +132,7 @@ impl fmt::Display for DataText {
     }
 }
 
-#[derive(Clone, Copy)]
+#[derive(Drop)]
 struct CountsText([u16; 3]);
 
 impl fmt::Display for CountsText {
@@ -101,7 +144,7 @@ impl fmt::Display for CountsText {
     }
 }
 
-#[derive(Clone, Copy)]
+#[derive(Drop)]
 struct AddressesText([u32; 3]);
 
 impl fmt::Display for AddressesText {
@@ -109,12 +152,15 @@ impl fmt::Display for AddressesText {
 
     fn fmt<W: fmt::Write>(&self, f: &mut fmt::Formatter<W>) -> fmt::Result {
         let [first, second, third] = self.0;
-        write!(f, " {first:08x} {second:08x} {third:08x}")
+        let first = AddressText(first);
+        let second = AddressText(second);
+        let third = AddressText(third);
+        write!(f, " {first} {second} {third}")
     }
 }
 
 /// An instruction in words: its name, its fields, its counts and its addresses.
-#[derive(Clone, Copy)]
+#[derive(Drop)]
 pub struct InstrText(pub Instr);
 
 impl fmt::Display for InstrText {
@@ -130,7 +176,8 @@ impl fmt::Display for InstrText {
                 addr,
             } => {
                 let data = DataText { ctl, ends, off };
-                write!(f, "write{data} {count} {addr:08x}")
+                let addr = AddressText(addr);
+                write!(f, "write{data} {count} {addr}")
             }
             Instr::Skip { ctl, ends, count } => {
                 let data = DataText { ctl, ends, off: 0 };
@@ -147,7 +194,8 @@ impl fmt::Display for InstrText {
             }
             Instr::Jump { ctl, target } => {
                 let control = ControlText(ctl);
-                write!(f, "jump{control} {target:08x}")
+                let target = AddressText(target);
+                write!(f, "jump{control} {target}")
             }
             Instr::Sync { ctl, resync, code } => {
                 let name = code_name(code);
@@ -181,7 +229,8 @@ impl fmt::Display for InstrText {
             } => {
                 let data = DataText { ctl, ends, off };
                 let counts = CountsText(counts);
-                write!(f, "write1s23{data}{counts} {addr:08x}")
+                let addr = AddressText(addr);
+                write!(f, "write1s23{data}{counts} {addr}")
             }
         }
     }
