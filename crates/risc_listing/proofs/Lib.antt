@@ -1,2 +1,3 @@
-mod Passing
-mod Hexadecimal
+pub mod Beginnings
+pub mod Hexadecimal
+pub mod Passing
