@@ -5,3 +5,4 @@ pub mod Across
 pub mod Answered
 pub mod Programs
 pub mod Chunks
+pub mod Puts

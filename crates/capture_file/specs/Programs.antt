@@ -187,10 +187,8 @@ Gives view (Err e) wanted = Fails e wanted
 
 -- The one spelling: BRP1 where all chunks are pages, else BRP2.
 
-abbrev pub head_spelled : List ℕ → RiscProgram → List ℕ
-head_spelled name program =
-    name ++ little_bytes 4 program.base ++ little_bytes 4 (length program.words)
-    ++ flat_map (little_bytes 4) program.words ++ little_bytes 4 (length program.grants)
+abbrev pub numbers_spelled : List ℕ → List ℕ
+numbers_spelled numbers = flat_map (little_bytes 4) numbers
 
 abbrev pub page_spelled : Chunk → List ℕ
 page_spelled c = little_bytes 4 c.at
@@ -198,11 +196,28 @@ page_spelled c = little_bytes 4 c.at
 abbrev pub chunk_spelled : Chunk → List ℕ
 chunk_spelled c = little_bytes 4 c.at ++ little_bytes 4 c.len
 
-abbrev pub spelled_as : Bool → RiscProgram → ℕ → List ℕ
-spelled_as true program fill =
-    head_spelled (codes "BRP1") program ++ flat_map page_spelled program.grants ++ fill ∷ []
-spelled_as false program fill =
-    head_spelled (codes "BRP2") program ++ flat_map chunk_spelled program.grants ++ fill ∷ []
+-- the numbers of a chunk, as they are written
+abbrev pub chunk_numbers : Chunk → List ℕ
+chunk_numbers c = c.at ∷ c.len ∷ []
+
+abbrev pub name_of : Layout → List ℕ
+name_of Brp1 = codes "BRP1"
+name_of Brp2 = codes "BRP2"
+
+abbrev pub grants_spelled : Layout → List Chunk → List ℕ
+grants_spelled Brp1 chunks = little_bytes 4 (length chunks) ++ flat_map page_spelled chunks
+grants_spelled Brp2 chunks = little_bytes 4 (length chunks) ++ flat_map chunk_spelled chunks
+
+abbrev pub head_spelled : Layout → ℕ → ℕ → List ℕ
+head_spelled layout base count = name_of layout ++ little_bytes 4 base ++ little_bytes 4 count
+
+abbrev pub spelled_as : Layout → RiscProgram → ℕ → List ℕ
+spelled_as layout program fill =
+    head_spelled layout program.base (length program.words) ++ numbers_spelled program.words
+    ++ grants_spelled layout program.grants ++ fill ∷ []
+
+abbrev pub layout_for : List Chunk → Layout
+layout_for chunks = if list_all is_page chunks then Brp1 else Brp2
 
 unfoldable pub spelled : RiscProgram → ℕ → List ℕ
-spelled program fill = spelled_as (list_all is_page program.grants) program fill
+spelled program fill = spelled_as (layout_for program.grants) program fill

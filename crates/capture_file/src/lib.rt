@@ -8,6 +8,7 @@ use risc_word::Code;
 mod program;
 mod reader;
 mod records;
+mod writing;
 
 pub use program::{ProgramError, ProgramFile};
 pub use reader::{Got, StepReader};

@@ -57,7 +57,7 @@ impl From<AllocError> for ProgramError {
 
 /// The two forms of a program file, by its first word.
 #[derive(Clone, Copy)]
-enum Layout {
+pub enum Layout {
     Brp1,
     Brp2,
 }

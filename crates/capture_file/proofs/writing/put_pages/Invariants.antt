@@ -1,0 +1,18 @@
+use Rattle.std.proofs.Common.{length, ◌-◌, ◌≡◌, ◌≤◌, take}
+use Rattle.std.specs.List.{flat_map}
+use Rattle.capture_desk.specs.Desks.{after_write}
+use Rattle.capture_file.specs.Programs.{page_spelled}
+use Rattle.capture_file.proofs.writing.put_pages.Given as goal
+
+abbrev pub invariant-loop-at : goal.invariant-loop-at
+invariant-loop-at g l =
+    record {
+      within : l.at ≤ length l.grants;
+      room : length l.numbers ≡ 1024;
+      done : g.D.Desk.told l.desk ≡ after_write (flat_map page_spelled (take l.at l.grants)) (g.D.Desk.told l.fn.desk);
+      reads : g.D.Desk.read_faults l.desk ≡ g.D.Desk.read_faults l.fn.desk;
+      writes : g.D.Desk.write_faults l.desk ≡ g.D.Desk.write_faults l.fn.desk;
+    }
+
+abbrev pub decreases-loop-at : goal.decreases-loop-at
+decreases-loop-at g l = length l.grants - l.at

@@ -1,0 +1,205 @@
+//! Program files and images written to a desk.
+
+ghost use Rattle.byteorder.specs.Endian.{little_bytes};
+ghost use Rattle.capture_desk.specs.Desks.{Puts, WriteCounts, after_write};
+ghost use Rattle.capture_file.specs.Programs.{chunk_numbers, chunk_spelled, grants_spelled, head_spelled, layout_for, name_of, numbers_spelled, page_spelled, spelled, spelled_as};
+ghost use Rattle.page_table.specs.Grants.{chunk_at, is_page};
+ghost use Rattle.std.specs.List.{flat_map, list_all};
+ghost use Rattle.std.specs.Prelude.{◌≡◌, ◌+◌, ◌*◌, ◌≤◌, ◌++◌, List, ℕ, [], drop, length, map, take, IsTrue};
+
+use byteorder::{ByteOrder, LittleEndian};
+use capture_desk::{Desk, Failed, put};
+use page_table::PageSet;
+use risc_verify::Program;
+
+use super::program::Layout;
+
+// What is put at once: so many numbers, and so many bytes.
+const NUMBERS: usize = 1_024;
+const PAIRS: usize = 512;
+const BYTES: usize = 4_096;
+
+// Puts a number into a buffer, four bytes with the lowest first, behind the bytes that stand there.
+#[inline]
+fn spell_one(number: u32, out: &mut [u8], at: usize)
+    requires { at + 4 ≤ length out.old }
+    ensures { take (at + 4) out.new ≡ take at out.old ++ little_bytes 4 number }
+{
+    let mut field = [0; 4];
+    LittleEndian::write_u32(&mut field, number);
+    out[at..at + 4].copy_from_slice(&field);
+}
+
+// Puts numbers into the front of a buffer.
+fn spell(numbers: &[u32], out: &mut [u8])
+    requires { 4 * length numbers.now ≤ length out.old }
+    ensures { take (4 * length numbers.now) out.new ≡ numbers_spelled numbers.now }
+{
+    for (i, number) in numbers.iter().enumerate() {
+        spell_one(*number, out, 4 * i);
+    }
+}
+
+// Appends numbers to the open output.
+fn put_numbers<D: Desk>(desk: &mut D, numbers: &[u32]) -> Result<(), Failed>
+    requires open { IsTrue (D.told desk.old).output_open }
+    ensures puts { Puts (numbers_spelled numbers.now) result after_write (D.told desk.old) (D.told desk.new) }
+    ensures counts { WriteCounts result (D.read_faults desk.old) (D.read_faults desk.new)
+        (D.write_faults desk.old) (D.write_faults desk.new) }
+{
+    let mut piece = [0; BYTES];
+    let mut at = 0;
+    while at < numbers.len() {
+        let count = NUMBERS.min(numbers.len() - at);
+        spell(&numbers[at..at + count], &mut piece);
+        put(desk, &piece[..4 * count])?;
+        at += count;
+    }
+    Ok(())
+}
+
+fn name(layout: Layout) -> [u8; 4]
+    ensures { result ≡ name_of layout }
+{
+    match layout {
+        Layout::Brp1 => *b"BRP1",
+        Layout::Brp2 => *b"BRP2",
+    }
+}
+
+// Appends the first word of a program file, the base and the number of words.
+fn put_head<D: Desk>(desk: &mut D, layout: Layout, base: u32, count: u32) -> Result<(), Failed>
+    requires open { IsTrue (D.told desk.old).output_open }
+    ensures puts { Puts (head_spelled layout base count) result after_write (D.told desk.old) (D.told desk.new) }
+    ensures counts { WriteCounts result (D.read_faults desk.old) (D.read_faults desk.new)
+        (D.write_faults desk.old) (D.write_faults desk.new) }
+{
+    let mut piece = [0; 12];
+    piece[..4].copy_from_slice(&name(layout));
+    spell_one(base, &mut piece, 4);
+    spell_one(count, &mut piece, 8);
+    put(desk, &piece)
+}
+
+// The form of a program's file: whether all chunks are pages.
+fn layout_of_grants(grants: &PageSet) -> Layout
+    ensures { result ≡ layout_for grants.now }
+{
+    for i in 0..grants.len() {
+        if grants.get(i) % 4096 != 0 || grants.size(i) != 4096 {
+            return Layout::Brp2;
+        }
+    }
+    Layout::Brp1
+}
+
+// Puts the addresses of so many chunks, from one on, into a buffer.
+fn list_addresses(grants: &PageSet, from: usize, count: usize, out: &mut [u32])
+    requires inside { from + count ≤ length grants.now }
+    requires few { length grants.now ≤ 4096 }
+    requires room { count ≤ length out.old }
+    ensures { take count out.new ≡ map (λ c. c.at) (take count (drop from grants.now)) }
+{
+    for i in 0..count {
+        out[i] = grants.get(from + i);
+    }
+}
+
+// Puts the addresses and lengths of so many chunks, from one on, into a buffer.
+fn list_pairs(grants: &PageSet, from: usize, count: usize, out: &mut [u32])
+    requires inside { from + count ≤ length grants.now }
+    requires few { length grants.now ≤ 4096 }
+    requires room { 2 * count ≤ length out.old }
+    ensures { take (2 * count) out.new ≡ flat_map chunk_numbers (take count (drop from grants.now)) }
+{
+    for i in 0..count {
+        out[2 * i] = grants.get(from + i);
+        out[2 * i + 1] = grants.size(from + i);
+    }
+}
+
+// Appends the addresses of pages to the open output.
+fn put_pages<D: Desk>(desk: &mut D, grants: &PageSet) -> Result<(), Failed>
+    requires open { IsTrue (D.told desk.old).output_open }
+    ensures puts { Puts (flat_map page_spelled grants.now) result after_write (D.told desk.old) (D.told desk.new) }
+    ensures counts { WriteCounts result (D.read_faults desk.old) (D.read_faults desk.new)
+        (D.write_faults desk.old) (D.write_faults desk.new) }
+{
+    let mut numbers = [0; NUMBERS];
+    let mut at = 0;
+    while at < grants.len() {
+        let count = NUMBERS.min(grants.len() - at);
+        list_addresses(grants, at, count, &mut numbers);
+        put_numbers(desk, &numbers[..count])?;
+        at += count;
+    }
+    Ok(())
+}
+
+// Appends the addresses and lengths of chunks to the open output.
+fn put_chunks<D: Desk>(desk: &mut D, grants: &PageSet) -> Result<(), Failed>
+    requires open { IsTrue (D.told desk.old).output_open }
+    ensures puts { Puts (flat_map chunk_spelled grants.now) result after_write (D.told desk.old) (D.told desk.new) }
+    ensures counts { WriteCounts result (D.read_faults desk.old) (D.read_faults desk.new)
+        (D.write_faults desk.old) (D.write_faults desk.new) }
+{
+    let mut numbers = [0; NUMBERS];
+    let mut at = 0;
+    while at < grants.len() {
+        let count = PAIRS.min(grants.len() - at);
+        list_pairs(grants, at, count, &mut numbers);
+        put_numbers(desk, &numbers[..2 * count])?;
+        at += count;
+    }
+    Ok(())
+}
+
+// Appends the number of the chunks and the chunks to the open output.
+fn put_grants<D: Desk>(desk: &mut D, layout: Layout, grants: &PageSet) -> Result<(), Failed>
+    requires open { IsTrue (D.told desk.old).output_open }
+    ensures puts { Puts (grants_spelled layout grants.now) result after_write (D.told desk.old) (D.told desk.new) }
+    ensures counts { WriteCounts result (D.read_faults desk.old) (D.read_faults desk.new)
+        (D.write_faults desk.old) (D.write_faults desk.new) }
+{
+    put_numbers(desk, &[grants.len() as u32])?;
+    match layout {
+        Layout::Brp1 => put_pages(desk, grants),
+        Layout::Brp2 => put_chunks(desk, grants),
+    }
+}
+
+// Appends the file of a program, in the form of one of the two layouts.
+fn put_all<D: Desk>(
+    desk: &mut D,
+    layout: Layout,
+    base: u32,
+    words: &[u32],
+    grants: &PageSet,
+    fill: u8,
+) -> Result<(), Failed>
+    requires open { IsTrue (D.told desk.old).output_open }
+    requires few { length words.now ≤ 1048576 }
+    ensures puts { Puts (spelled_as layout (record { base = base; words = words.now; grants = grants.now }) fill) result after_write
+        (D.told desk.old) (D.told desk.new) }
+    ensures counts { WriteCounts result (D.read_faults desk.old) (D.read_faults desk.new)
+        (D.write_faults desk.old) (D.write_faults desk.new) }
+{
+    put_head(desk, layout, base, words.len() as u32)?;
+    put_numbers(desk, words)?;
+    put_grants(desk, layout, grants)?;
+    put(desk, &[fill])
+}
+
+/// Appends the one file of a program and a fill to the open output: `BRP1` where all its chunks are
+/// pages, else `BRP2`. Where a write fails, a front of the file was appended.
+#[tactic(auto, unfolding(crate::specs::Programs::spelled))]
+pub fn write_program<D: Desk>(program: &Program, fill: u8, desk: &mut D) -> Result<(), Failed>
+    requires open { IsTrue (D.told desk.old).output_open }
+    ensures puts { Puts (spelled program.now fill) result after_write (D.told desk.old) (D.told desk.new) }
+    ensures counts { WriteCounts result (D.read_faults desk.old) (D.read_faults desk.new)
+        (D.write_faults desk.old) (D.write_faults desk.new) }
+{
+    let grants = program.grants();
+    let layout = layout_of_grants(grants);
+    put_all(desk, layout, program.base(), program.words(), grants, fill)
+}
