@@ -16,7 +16,7 @@ use Rattle.capture_file.specs.declared.FileKind.{FileKind}
 use Rattle.capture_file.specs.declared.FileKind.TheVariants as fault
 use Rattle.capture_file.specs.declared.FileFault.{FileFault}
 use Rattle.capture_file.specs.declared.program.Layout.{Layout}
-use Rattle.capture_file.specs.declared.program.Layout.TheVariants.{Brp1, Brp2}
+use Rattle.capture_file.specs.declared.program.Layout.TheVariants.{Paged, Chunked}
 use Rattle.capture_file.specs.Programs.{◌>>=◌, number_field, judged, page_fault, address_fault, is_length, length_fault, page_field, long_chunk_field, chunk_field, chunks_field}
 
 -- ---- steps that did not fail
@@ -104,13 +104,13 @@ length_right program from sum at len e h =
 
 -- the bytes of the chunks so far: pages have 4,096 each
 abbrev pub Sums : Layout → ℕ → ℕ → Type 0
-Sums Brp1 sum len = len ≡ 4096
-Sums Brp2 sum len = sum + len ≤ 16777216
+Sums Paged sum len = len ≡ 4096
+Sums Chunked sum len = sum + len ≤ 16777216
 
 abbrev pub ChunkRight : Layout → RiscProgram → ℕ → ℕ → Chunk × List ℕ → Type 0
 ChunkRight layout program from sum x = Follows program from x.0 × Sums layout sum x.0.len × IsBytes x.1
 
-page_read : (size : ℕ) (program : RiscProgram) (from sum : ℕ) (bytes : List ℕ) (x : Chunk × List ℕ) → IsBytes bytes → page_field size program from bytes ≡ Ok x → ChunkRight Brp1 program from sum x
+page_read : (size : ℕ) (program : RiscProgram) (from sum : ℕ) (bytes : List ℕ) (x : Chunk × List ℕ) → IsBytes bytes → page_field size program from bytes ≡ Ok x → ChunkRight Paged program from sum x
 unfolding page_field
 page_read size program from sum bytes x fits e =
     let a = bind_ok (number_field size bytes) (λ at. judged (page_fault program from at.0) size bytes >>= λ _. Ok (chunk at.0 4096, at.1)) x e in
@@ -118,9 +118,9 @@ page_read size program from sum bytes x fits e =
     let number = number_fits size bytes a.0 fits a.1 in
     let right = page_right program from a.0.0 (judged_ok (page_fault program from a.0.0) size bytes b.0 b.1) number.0 in
     let same : (chunk a.0.0 4096, a.0.1) ≡ x = ok_is (chunk a.0.0 4096, a.0.1) x b.2 in
-    subst (λ (y : Chunk × List ℕ). ChunkRight Brp1 program from sum y) same (right, refl, number.1)
+    subst (λ (y : Chunk × List ℕ). ChunkRight Paged program from sum y) same (right, refl, number.1)
 
-long_chunk_read : (size : ℕ) (program : RiscProgram) (from sum : ℕ) (bytes : List ℕ) (x : Chunk × List ℕ) → IsBytes bytes → long_chunk_field size program from sum bytes ≡ Ok x → ChunkRight Brp2 program from sum x
+long_chunk_read : (size : ℕ) (program : RiscProgram) (from sum : ℕ) (bytes : List ℕ) (x : Chunk × List ℕ) → IsBytes bytes → long_chunk_field size program from sum bytes ≡ Ok x → ChunkRight Chunked program from sum x
 unfolding long_chunk_field
 long_chunk_read size program from sum bytes x fits e =
     let a = bind_ok (number_field size bytes)
@@ -134,17 +134,17 @@ long_chunk_read size program from sum bytes x fits e =
     let address = address_right from a.0.0 (judged_ok (address_fault from a.0.0) size bytes b.0 b.1) in
     let right = length_right program from sum a.0.0 c.0.0 (judged_ok (length_fault program sum a.0.0 c.0.0) size a.0.1 d.0 d.1) address in
     let same : (chunk a.0.0 c.0.0, c.0.1) ≡ x = ok_is (chunk a.0.0 c.0.0, c.0.1) x d.2 in
-    subst (λ (y : Chunk × List ℕ). ChunkRight Brp2 program from sum y) same (right.0, right.1, second.1)
+    subst (λ (y : Chunk × List ℕ). ChunkRight Chunked program from sum y) same (right.0, right.1, second.1)
 
 chunk_read : (layout : Layout) (size : ℕ) (program : RiscProgram) (from sum : ℕ) (bytes : List ℕ) (x : Chunk × List ℕ) → IsBytes bytes → chunk_field layout size program from sum bytes ≡ Ok x → ChunkRight layout program from sum x
-chunk_read Brp1 size program from sum bytes x fits e = page_read size program from sum bytes x fits e
-chunk_read Brp2 size program from sum bytes x fits e = long_chunk_read size program from sum bytes x fits e
+chunk_read Paged size program from sum bytes x fits e = page_read size program from sum bytes x fits e
+chunk_read Chunked size program from sum bytes x fits e = long_chunk_read size program from sum bytes x fits e
 
 -- ---- all chunks
 
 abbrev pub Totals : Layout → ℕ → ℕ → List Chunk → Type 0
-Totals Brp1 sum count chunks = total chunks ≡ 4096 * count
-Totals Brp2 sum count chunks = sum + total chunks ≤ max sum 16777216
+Totals Paged sum count chunks = total chunks ≡ 4096 * count
+Totals Chunked sum count chunks = sum + total chunks ≤ max sum 16777216
 
 pub record AreRead (layout : Layout) (program : RiscProgram) (from sum count : ℕ) (x : List Chunk × List ℕ) : Type 0 where
   pub rising : AreRising from x.0
@@ -154,12 +154,12 @@ pub record AreRead (layout : Layout) (program : RiscProgram) (from sum count : �
   pub fits : IsBytes x.1
 
 totals_more : (layout : Layout) (sum count : ℕ) (c : Chunk) (chunks : List Chunk) → Sums layout sum c.len → Totals layout (sum + c.len) count chunks → Totals layout sum (suc count) (c ∷ chunks)
-totals_more Brp1 sum count c chunks h t = omega (arith, total-cons c chunks)
-totals_more Brp2 sum count c chunks h t = omega (arith, total-cons c chunks)
+totals_more Paged sum count c chunks h t = omega (arith, total-cons c chunks)
+totals_more Chunked sum count c chunks h t = omega (arith, total-cons c chunks)
 
 totals_none : (layout : Layout) (sum : ℕ) → Totals layout sum 0 []
-totals_none Brp1 sum = refl
-totals_none Brp2 sum = omega arith
+totals_none Paged sum = refl
+totals_none Chunked sum = omega arith
 
 pub chunks_read : (layout : Layout) (size : ℕ) (program : RiscProgram) (count from sum : ℕ) (bytes : List ℕ) (x : List Chunk × List ℕ) → IsBytes bytes →
     chunks_field layout size program count from sum bytes ≡ Ok x → AreRead layout program from sum count x
@@ -254,8 +254,8 @@ not_taken pairs (Twice i) rising few small e other = cc (rising_taken pairs risi
 -- ---- what is read
 
 pub totals_small : (layout : Layout) (count : ℕ) (chunks : List Chunk) → count ≤ 4096 → Totals layout 0 count chunks → total chunks ≤ 2 ^ 24
-totals_small Brp1 count chunks few h = omega arith
-totals_small Brp2 count chunks few h = omega arith
+totals_small Paged count chunks few h = omega arith
+totals_small Chunked count chunks few h = omega arith
 
 pub listed_length : (pairs : List (ℕ × ℕ)) → length pairs ≡ length (listed pairs)
 listed_length [] = refl

@@ -6,3 +6,4 @@ pub mod Answered
 pub mod Programs
 pub mod Chunks
 pub mod Puts
+pub mod Images

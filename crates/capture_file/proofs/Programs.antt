@@ -4,7 +4,7 @@ use Rattle.std.proofs.lemmas.List.{append-nil}
 use Rattle.byteorder.specs.Endian.{little_number}
 use Rattle.std.specs.Prelude.{Bool, true, false, ◌&&◌, Some, None}
 use Rattle.capture_file.specs.declared.FileKind.TheVariants as fault
-use Rattle.capture_file.specs.declared.program.Layout.TheVariants.{Brp2}
+use Rattle.capture_file.specs.declared.program.Layout.TheVariants.{Chunked}
 use Rattle.std.specs.List.{list_all}
 use Rattle.page_table.specs.Grants.{Chunk, is_page}
 use Rattle.page_table.specs.Taken.{listed, pair_chunk}
@@ -62,8 +62,8 @@ pub all_listed : (pairs : List (ℕ × ℕ)) → list_all (λ (pair : ℕ × ℕ
 all_listed [] = refl
 all_listed (pair ∷ pairs) = ap (λ (b : Bool). is_page (pair_chunk pair) && b) (all_listed pairs)
 
-pub fill_pages : (layout : Layout) (pairs : List (ℕ × ℕ)) → layout ≡ Brp2 → list_all (λ (pair : ℕ × ℕ). is_page (pair_chunk pair)) pairs ≡ true → fill_fault layout (listed pairs) ≡ Some fault.Pages
+pub fill_pages : (layout : Layout) (pairs : List (ℕ × ℕ)) → layout ≡ Chunked → list_all (λ (pair : ℕ × ℕ). is_page (pair_chunk pair)) pairs ≡ true → fill_fault layout (listed pairs) ≡ Some fault.Pages
 fill_pages layout pairs e h = rw (e, ← all_listed pairs, h) refl
 
-pub fill_other : (layout : Layout) (pairs : List (ℕ × ℕ)) → layout ≡ Brp2 → list_all (λ (pair : ℕ × ℕ). is_page (pair_chunk pair)) pairs ≡ false → fill_fault layout (listed pairs) ≡ None
+pub fill_other : (layout : Layout) (pairs : List (ℕ × ℕ)) → layout ≡ Chunked → list_all (λ (pair : ℕ × ℕ). is_page (pair_chunk pair)) pairs ≡ false → fill_fault layout (listed pairs) ≡ None
 fill_other layout pairs e h = rw (e, ← all_listed pairs, h) refl

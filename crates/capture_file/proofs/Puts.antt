@@ -1,5 +1,5 @@
 -- Pieces that are put one after the other are one piece.
-use Rattle.std.proofs.Common.{◌≡◌, ℕ, ◌+◌, ◌-◌, ◌*◌, ◌<◌, ◌≤◌, List, [], ◌∷◌, ◌++◌, length, map, take, drop, Result, Ok, Err, refl, sym, ap, subst, ◌∙◌, arith, append_assoc, length-append, length-take, length-drop}
+use Rattle.std.proofs.Common.{◌≡◌, ℕ, ◌+◌, ◌-◌, ◌*◌, ◌<◌, ◌≤◌, List, [], ◌∷◌, ◌++◌, length, map, take, drop, Result, Ok, Err, refl, sym, ap, subst, ◌∙◌, arith, length-append, length-take, length-drop}
 use Rattle.std.proofs.lemmas.List.{take-append-le, take-append-drop}
 use Rattle.std.proofs.Math.Seq.{take-add, take-append-add}
 use Rattle.std.proofs.lemmas.List.Concat.{flat_map-append}
@@ -9,7 +9,7 @@ use Rattle.page_table.specs.Grants.{Chunk}
 use Rattle.capture_desk.specs.Desks.{Told, after_write, Puts}
 use Rattle.capture_desk.proofs.Laws.{after_write-after_write}
 use Rattle.capture_file.specs.declared.program.Layout.{Layout}
-use Rattle.capture_file.specs.declared.program.Layout.TheVariants.{Brp1, Brp2}
+use Rattle.capture_file.specs.declared.program.Layout.TheVariants.{Paged, Chunked}
 use Rattle.capture_file.specs.Programs.{numbers_spelled, page_spelled, chunk_spelled, chunk_numbers, grants_spelled, head_spelled, spelled_as}
 use Rattle.machine_model.specs.Paths.{RiscProgram}
 
@@ -21,21 +21,23 @@ pub puts_after : (a b : List ℕ) (old mid new : Told) → mid ≡ after_write a
 puts_after a b old mid new e f = f ∙ ap (after_write b) e ∙ after_write-after_write a b old
 
 pub breaks_after : (a b : List ℕ) (old mid new : Told) → mid ≡ after_write a old → Breaks b mid new → Breaks (a ++ b) old new
-breaks_after a b old mid new e h =
-    (length a + h.0,
-      omega (arith, length-append a b, h.1),
-      puts_after a (take h.0 b) old mid new e h.2 ∙ ap (λ (zs : List ℕ). after_write zs old) (sym (take-append-add a b h.0)))
+breaks_after a b old mid new e h = (
+  length a + h.0,
+  omega (arith, length-append a b, h.1),
+  puts_after a (take h.0 b) old mid new e h.2 ∙ ap (λ (zs : List ℕ). after_write zs old) (sym (take-append-add a b h.0)),
+)
 
 pub breaks_within : (a c : List ℕ) (old new : Told) → Breaks a old new → Breaks (a ++ c) old new
-breaks_within a c old new h =
-    (h.0,
-      omega (arith, length-append a c, h.1),
-      h.2 ∙ ap (λ (zs : List ℕ). after_write zs old) (sym (take-append-le h.0 a c (omega (arith, h.1)))))
+breaks_within a c old new h = (
+  h.0,
+  omega (arith, length-append a c, h.1),
+  h.2 ∙ ap (λ (zs : List ℕ). after_write zs old) (sym (take-append-le h.0 a c (omega (arith, h.1)))),
+)
 
 -- ---- numbers
 
 pub piece_numbers : (numbers : List ℕ) (at count : ℕ) (piece : List ℕ) → at + count ≤ length numbers →
-  take (4 * length (take (at + count - at) (drop at numbers))) piece ≡ numbers_spelled (take (at + count - at) (drop at numbers)) → take (4 * count) piece ≡ numbers_spelled (take count (drop at numbers))
+    take (4 * length (take (at + count - at) (drop at numbers))) piece ≡ numbers_spelled (take (at + count - at) (drop at numbers)) → take (4 * count) piece ≡ numbers_spelled (take count (drop at numbers))
 piece_numbers numbers at count piece within h =
     let k : at + count - at ≡ count = omega arith in
     let n : length (take count (drop at numbers)) ≡ count = omega (arith, length-take count (drop at numbers), length-drop at numbers) in
@@ -60,7 +62,7 @@ chunks_are_numbers [] = refl
 chunks_are_numbers (c ∷ chunks) = ap (λ (zs : List ℕ). chunk_spelled c ++ zs) (chunks_are_numbers chunks)
 
 pub numbers_break : (numbers : List ℕ) (at count : ℕ) (piece : List ℕ) (old mid new : Told) → take (4 * count) piece ≡ numbers_spelled (take count (drop at numbers)) →
-  mid ≡ after_write (numbers_spelled (take at numbers)) old → Breaks (take (4 * count) piece) mid new → Breaks (numbers_spelled numbers) old new
+    mid ≡ after_write (numbers_spelled (take at numbers)) old → Breaks (take (4 * count) piece) mid new → Breaks (numbers_spelled numbers) old new
 numbers_break numbers at count piece old mid new e f h =
     let b : Breaks (numbers_spelled (take count (drop at numbers))) mid new = subst (λ (zs : List ℕ). Breaks zs mid new) e h in
     let c = breaks_after (numbers_spelled (take at numbers)) (numbers_spelled (take count (drop at numbers))) old mid new f b in
@@ -69,7 +71,7 @@ numbers_break numbers at count piece old mid new e f h =
     (breaks_within (numbers_spelled (take (at + count) numbers)) (numbers_spelled (drop (at + count) numbers)) old new d)
 
 pub numbers_more : (numbers : List ℕ) (at count : ℕ) (piece : List ℕ) (old mid new : Told) → take (4 * count) piece ≡ numbers_spelled (take count (drop at numbers)) →
-  mid ≡ after_write (numbers_spelled (take at numbers)) old → new ≡ after_write (take (4 * count) piece) mid → new ≡ after_write (numbers_spelled (take (at + count) numbers)) old
+    mid ≡ after_write (numbers_spelled (take at numbers)) old → new ≡ after_write (take (4 * count) piece) mid → new ≡ after_write (numbers_spelled (take (at + count) numbers)) old
 numbers_more numbers at count piece old mid new e f h =
     puts_after (numbers_spelled (take at numbers)) (numbers_spelled (take count (drop at numbers))) old mid new f (h ∙ ap (λ (zs : List ℕ). after_write zs mid) e)
     ∙ ap (λ (zs : List ℕ). after_write zs old) (more_numbers numbers at count)
@@ -81,14 +83,14 @@ module _ (one : Chunk → List ℕ) (chunks : List Chunk) (at count : ℕ) (old 
   chunks_more bytes is e =
       puts_after (flat_map one (take at chunks)) (flat_map one (take count (drop at chunks))) old mid new done (e ∙ ap (λ (zs : List ℕ). after_write zs mid) is)
       ∙ ap (λ (zs : List ℕ). after_write zs old)
-        (sym (flat_map-append one (take at chunks) (take count (drop at chunks))) ∙ ap (flat_map one) (sym (take-add at count chunks)))
+      (sym (flat_map-append one (take at chunks) (take count (drop at chunks))) ∙ ap (flat_map one) (sym (take-add at count chunks)))
 
   pub chunks_break : (bytes : List ℕ) → bytes ≡ flat_map one (take count (drop at chunks)) → Breaks bytes mid new → Breaks (flat_map one chunks) old new
   chunks_break bytes is h =
       let b : Breaks (flat_map one (take count (drop at chunks))) mid new = subst (λ (zs : List ℕ). Breaks zs mid new) is h in
       let c = breaks_after (flat_map one (take at chunks)) (flat_map one (take count (drop at chunks))) old mid new done b in
       let d : Breaks (flat_map one (take (at + count) chunks)) old new =
-        subst (λ (zs : List ℕ). Breaks zs old new) (sym (flat_map-append one (take at chunks) (take count (drop at chunks))) ∙ ap (flat_map one) (sym (take-add at count chunks))) c in
+      subst (λ (zs : List ℕ). Breaks zs old new) (sym (flat_map-append one (take at chunks) (take count (drop at chunks))) ∙ ap (flat_map one) (sym (take-add at count chunks))) c in
       subst (λ (zs : List ℕ). Breaks zs old new)
       (sym (flat_map-append one (take (at + count) chunks) (drop (at + count) chunks)) ∙ ap (flat_map one) (take-append-drop (at + count) chunks))
       (breaks_within (flat_map one (take (at + count) chunks)) (flat_map one (drop (at + count) chunks)) old new d)
@@ -100,15 +102,15 @@ puts_then a b old mid new (Ok x) e h = puts_after a b old mid new e h
 puts_then a b old mid new (Err x) e h = breaks_after a b old mid new e h
 
 pub grants_break : (layout : Layout) (chunks : List Chunk) (old new : Told) → Breaks (little_bytes 4 (length chunks)) old new → Breaks (grants_spelled layout chunks) old new
-grants_break Brp1 chunks old new h = breaks_within (little_bytes 4 (length chunks)) (flat_map page_spelled chunks) old new h
-grants_break Brp2 chunks old new h = breaks_within (little_bytes 4 (length chunks)) (flat_map chunk_spelled chunks) old new h
+grants_break Paged chunks old new h = breaks_within (little_bytes 4 (length chunks)) (flat_map page_spelled chunks) old new h
+grants_break Chunked chunks old new h = breaks_within (little_bytes 4 (length chunks)) (flat_map chunk_spelled chunks) old new h
 
-pub pages_then : {A E : Type 0} (layout : Layout) (chunks : List Chunk) (old mid new : Told) (r : Result A E) → layout ≡ Brp1 →
-  mid ≡ after_write (little_bytes 4 (length chunks)) old → Puts (flat_map page_spelled chunks) r after_write mid new → Puts (grants_spelled layout chunks) r after_write old new
+pub pages_then : {A E : Type 0} (layout : Layout) (chunks : List Chunk) (old mid new : Told) (r : Result A E) → layout ≡ Paged →
+    mid ≡ after_write (little_bytes 4 (length chunks)) old → Puts (flat_map page_spelled chunks) r after_write mid new → Puts (grants_spelled layout chunks) r after_write old new
 pages_then layout chunks old mid new r is e h = rw is (puts_then (little_bytes 4 (length chunks)) (flat_map page_spelled chunks) old mid new r e h)
 
-pub chunks_then : {A E : Type 0} (layout : Layout) (chunks : List Chunk) (old mid new : Told) (r : Result A E) → layout ≡ Brp2 →
-  mid ≡ after_write (little_bytes 4 (length chunks)) old → Puts (flat_map chunk_spelled chunks) r after_write mid new → Puts (grants_spelled layout chunks) r after_write old new
+pub chunks_then : {A E : Type 0} (layout : Layout) (chunks : List Chunk) (old mid new : Told) (r : Result A E) → layout ≡ Chunked →
+    mid ≡ after_write (little_bytes 4 (length chunks)) old → Puts (flat_map chunk_spelled chunks) r after_write mid new → Puts (grants_spelled layout chunks) r after_write old new
 chunks_then layout chunks old mid new r is e h = rw is (puts_then (little_bytes 4 (length chunks)) (flat_map chunk_spelled chunks) old mid new r e h)
 
 -- ---- a program
@@ -136,6 +138,6 @@ module _ (layout : Layout) (program : RiscProgram) (fill : ℕ) where
       breaks_within (head ++ words ++ grants) (fill ∷ []) old new (breaks_after (head ++ words) grants old b new (puts_after head words old a b e f) h)
 
   pub fill_then : {A E : Type 0} (old a b c new : Told) (r : Result A E) → a ≡ after_write head old → b ≡ after_write words a → c ≡ after_write grants b → Puts (fill ∷ []) r after_write c new →
-    Puts (spelled_as layout program fill) r after_write old new
+      Puts (spelled_as layout program fill) r after_write old new
   fill_then old a b c new r e f g h =
       puts_then (head ++ words ++ grants) (fill ∷ []) old c new r (puts_after (head ++ words) grants old b c (puts_after head words old a b e f) g) h

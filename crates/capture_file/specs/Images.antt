@@ -1,20 +1,30 @@
 -- The image file of a memory.
-use Rattle.std.specs.Prelude.{ℕ, List, [], ◌∷◌, ◌++◌, length, if◌then◌else◌, codes}
-use Rattle.std.specs.List.{flat_map, list_all}
+use Rattle.std.specs.Prelude.{ℕ, List, ◌++◌, length, codes}
+use Rattle.std.specs.List.{flat_map}
 use Rattle.byteorder.specs.Endian.{little_bytes}
-use Rattle.page_table.specs.Grants.{is_page}
 use Rattle.page_table.specs.Blocks.{Block, chunks_of}
+use Rattle.capture_file.specs.declared.program.Layout.{Layout}
+use Rattle.capture_file.specs.declared.program.Layout.TheVariants.{Paged, Chunked}
+use Rattle.capture_file.specs.Programs.{layout_for}
 
--- a page is its address and its bytes, any other chunk has its length between
-abbrev pub page_image : Block → List ℕ
-page_image block = little_bytes 4 block.at ++ block.bytes
+-- a page is its address and its bytes; any other chunk has its length between
+abbrev pub place_image : Layout → ℕ → ℕ → List ℕ
+place_image Paged at len = little_bytes 4 at
+place_image Chunked at len = little_bytes 4 at ++ little_bytes 4 len
 
-abbrev pub chunk_image : Block → List ℕ
-chunk_image block = little_bytes 4 block.at ++ little_bytes 4 (length block.bytes) ++ block.bytes
+abbrev pub block_image : Layout → Block → List ℕ
+block_image layout block = place_image layout block.at (length block.bytes) ++ block.bytes
+
+abbrev pub image_name : Layout → List ℕ
+image_name Paged = codes "BMI1"
+image_name Chunked = codes "BMI2"
+
+abbrev pub image_head : Layout → ℕ → List ℕ
+image_head layout count = image_name layout ++ little_bytes 4 count
+
+abbrev pub image_as : Layout → List Block → List ℕ
+image_as layout memory = image_head layout (length memory) ++ flat_map (block_image layout) memory
 
 -- BMI1 where all chunks are pages, else BMI2: the number of the chunks, and they in rising order
 unfoldable pub image_of : List Block → List ℕ
-image_of memory =
-    if list_all is_page (chunks_of memory)
-    then codes "BMI1" ++ little_bytes 4 (length memory) ++ flat_map page_image memory
-    else codes "BMI2" ++ little_bytes 4 (length memory) ++ flat_map chunk_image memory
+image_of memory = image_as (layout_for (chunks_of memory)) memory

@@ -1,5 +1,5 @@
 -- What the bytes of a program file stand for, and the one spelling of a program.
-use Rattle.std.specs.Prelude.{◌≡◌, ℕ, zero, suc, ◌+◌, ◌-◌, ◌*◌, ◌%◌, ◌^◌, Bool, true, false, not, ◌&&◌, List, [], ◌∷◌, ◌++◌, length, drop, Option, Some, None, Result, Ok, Err, if◌then◌else◌, ◌==◌, nat_lt, nat_le, codes}
+use Rattle.std.specs.Prelude.{◌≡◌, ℕ, zero, suc, ◌+◌, ◌-◌, ◌*◌, ◌%◌, ◌^◌, Bool, not, ◌&&◌, List, [], ◌∷◌, ◌++◌, length, drop, Option, Some, None, Result, Ok, Err, if◌then◌else◌, ◌==◌, nat_lt, nat_le, codes}
 use Rattle.std.specs.List.{flat_map, list_all}
 use Rattle.byteorder.specs.Endian.{little_number, little_bytes}
 use Rattle.page_table.specs.Grants.{Chunk, chunk, is_page}
@@ -8,7 +8,7 @@ use Rattle.capture_file.specs.declared.FileKind.{FileKind}
 use Rattle.capture_file.specs.declared.FileKind.TheVariants as fault
 use Rattle.capture_file.specs.declared.FileFault.{FileFault}
 use Rattle.capture_file.specs.declared.program.Layout.{Layout}
-use Rattle.capture_file.specs.declared.program.Layout.TheVariants.{Brp1, Brp2}
+use Rattle.capture_file.specs.declared.program.Layout.TheVariants.{Paged, Chunked}
 use Rattle.capture_file.specs.declared.program.ProgramFile.{ProgramFile}
 use Rattle.capture_file.specs.declared.program.ProgramError.{ProgramError}
 use Rattle.capture_file.specs.declared.program.ProgramError.TheVariants as errors
@@ -45,8 +45,8 @@ number_field size bytes = number_or_cut size (number_at bytes) (drop 4 bytes)
 -- the first word
 abbrev pub layout_of : ℕ → Option Layout
 layout_of word =
-    if word == little_number 4 (codes "BRP1") then Some Brp1
-    else (if word == little_number 4 (codes "BRP2") then Some Brp2 else None)
+    if word == little_number 4 (codes "BRP1") then Some Paged
+    else (if word == little_number 4 (codes "BRP2") then Some Chunked else None)
 
 abbrev pub layout_or_magic : ℕ → List ℕ → Option Layout → List ℕ → Field Layout
 layout_or_magic size bytes None rest = Err (wrong size bytes fault.Magic)
@@ -136,8 +136,8 @@ long_chunk_field size program from sum bytes = do
   Ok (chunk at.0 len.0, len.1)
 
 abbrev pub chunk_field : Layout → ℕ → RiscProgram → ℕ → ℕ → List ℕ → Field Chunk
-chunk_field Brp1 size program from sum bytes = page_field size program from bytes
-chunk_field Brp2 size program from sum bytes = long_chunk_field size program from sum bytes
+chunk_field Paged size program from sum bytes = page_field size program from bytes
+chunk_field Chunked size program from sum bytes = long_chunk_field size program from sum bytes
 
 unfoldable pub chunks_field : Layout → ℕ → RiscProgram → ℕ → ℕ → ℕ → List ℕ → Field (List Chunk)
 chunks_field layout size program zero from sum bytes = Ok ([], bytes)
@@ -148,8 +148,8 @@ chunks_field layout size program (suc count) from sum bytes = do
 
 -- the fill, which is the last byte
 abbrev pub fill_fault : Layout → List Chunk → Option FileKind
-fill_fault Brp1 chunks = None
-fill_fault Brp2 chunks = if list_all is_page chunks then Some fault.Pages else None
+fill_fault Paged chunks = None
+fill_fault Chunked chunks = if list_all is_page chunks then Some fault.Pages else None
 
 abbrev pub nothing_after : ℕ → ℕ → List ℕ → Result ℕ FileFault
 nothing_after size fill [] = Ok fill
@@ -201,12 +201,12 @@ abbrev pub chunk_numbers : Chunk → List ℕ
 chunk_numbers c = c.at ∷ c.len ∷ []
 
 abbrev pub name_of : Layout → List ℕ
-name_of Brp1 = codes "BRP1"
-name_of Brp2 = codes "BRP2"
+name_of Paged = codes "BRP1"
+name_of Chunked = codes "BRP2"
 
 abbrev pub grants_spelled : Layout → List Chunk → List ℕ
-grants_spelled Brp1 chunks = little_bytes 4 (length chunks) ++ flat_map page_spelled chunks
-grants_spelled Brp2 chunks = little_bytes 4 (length chunks) ++ flat_map chunk_spelled chunks
+grants_spelled Paged chunks = little_bytes 4 (length chunks) ++ flat_map page_spelled chunks
+grants_spelled Chunked chunks = little_bytes 4 (length chunks) ++ flat_map chunk_spelled chunks
 
 abbrev pub head_spelled : Layout → ℕ → ℕ → List ℕ
 head_spelled layout base count = name_of layout ++ little_bytes 4 base ++ little_bytes 4 count
@@ -217,7 +217,7 @@ spelled_as layout program fill =
     ++ grants_spelled layout program.grants ++ fill ∷ []
 
 abbrev pub layout_for : List Chunk → Layout
-layout_for chunks = if list_all is_page chunks then Brp1 else Brp2
+layout_for chunks = if list_all is_page chunks then Paged else Chunked
 
 unfoldable pub spelled : RiscProgram → ℕ → List ℕ
 spelled program fill = spelled_as (layout_for program.grants) program fill

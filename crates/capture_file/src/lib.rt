@@ -5,13 +5,16 @@ use fifo_model::{Entry, Queue};
 use irq_status::HostWrite;
 use risc_word::Code;
 
+mod image;
 mod program;
 mod reader;
 mod records;
 mod writing;
 
+pub use image::write_image;
 pub use program::{ProgramError, ProgramFile};
 pub use reader::{Got, StepReader};
+pub use writing::write_program;
 
 /// Which file is at fault.
 #[derive(Clone, Copy, Debug, PartialEq)]

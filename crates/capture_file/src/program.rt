@@ -55,11 +55,13 @@ impl From<AllocError> for ProgramError {
     }
 }
 
-/// The two forms of a program file, by its first word.
+/// The two forms of a program file and of an image.
 #[derive(Clone, Copy)]
 pub enum Layout {
-    Brp1,
-    Brp2,
+    /// All chunks are pages: `BRP1`, `BMI1`.
+    Paged,
+    /// Some chunk isn't: `BRP2`, `BMI2`.
+    Chunked,
 }
 
 const MOST_WORDS: u32 = 1_048_576;
@@ -120,8 +122,8 @@ fn read_layout(size: usize, bytes: &[u8]) -> Result<(Layout, &[u8]), ProgramErro
 {
     let (word, rest) = read_number(size, bytes)?;
     match word {
-        BRP1 => Ok((Layout::Brp1, rest)),
-        BRP2 => Ok((Layout::Brp2, rest)),
+        BRP1 => Ok((Layout::Paged, rest)),
+        BRP2 => Ok((Layout::Chunked, rest)),
         _ => Err(ProgramError::File(FileFault {
             at: (size - bytes.len()) as u64,
             kind: FileKind::Magic,
@@ -363,8 +365,8 @@ fn read_chunk<'a>(
     ensures wide { IfOk result (λ x. x.0.1 < 2 ^ 32) }
 {
     match layout {
-        Layout::Brp1 => read_page(size, base, words, from, bytes),
-        Layout::Brp2 => read_long_chunk(size, base, words, from, sum, bytes),
+        Layout::Paged => read_page(size, base, words, from, bytes),
+        Layout::Chunked => read_long_chunk(size, base, words, from, sum, bytes),
     }
 }
 
@@ -413,8 +415,8 @@ fn fill_wrong(layout: Layout, chunks: &[(u32, u32)]) -> Option<FileKind>
     ensures { result ≡ fill_fault layout (listed chunks.now) }
 {
     match layout {
-        Layout::Brp1 => None,
-        Layout::Brp2 => {
+        Layout::Paged => None,
+        Layout::Chunked => {
             if are_pages(chunks) {
                 Some(FileKind::Pages)
             } else {

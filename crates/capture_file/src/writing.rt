@@ -7,21 +7,22 @@ ghost use Rattle.page_table.specs.Grants.{chunk_at, is_page};
 ghost use Rattle.std.specs.List.{flat_map, list_all};
 ghost use Rattle.std.specs.Prelude.{◌≡◌, ◌+◌, ◌*◌, ◌≤◌, ◌++◌, List, ℕ, [], drop, length, map, take, IsTrue};
 
+use super::program::Layout;
 use byteorder::{ByteOrder, LittleEndian};
 use capture_desk::{Desk, Failed, put};
 use page_table::PageSet;
 use risc_verify::Program;
 
-use super::program::Layout;
-
 // What is put at once: so many numbers, and so many bytes.
 const NUMBERS: usize = 1_024;
+
 const PAIRS: usize = 512;
+
 const BYTES: usize = 4_096;
 
 // Puts a number into a buffer, four bytes with the lowest first, behind the bytes that stand there.
 #[inline]
-fn spell_one(number: u32, out: &mut [u8], at: usize)
+pub fn spell_one(number: u32, out: &mut [u8], at: usize)
     requires { at + 4 ≤ length out.old }
     ensures { take (at + 4) out.new ≡ take at out.old ++ little_bytes 4 number }
 {
@@ -41,7 +42,7 @@ fn spell(numbers: &[u32], out: &mut [u8])
 }
 
 // Appends numbers to the open output.
-fn put_numbers<D: Desk>(desk: &mut D, numbers: &[u32]) -> Result<(), Failed>
+pub fn put_numbers<D: Desk>(desk: &mut D, numbers: &[u32]) -> Result<(), Failed>
     requires open { IsTrue (D.told desk.old).output_open }
     ensures puts { Puts (numbers_spelled numbers.now) result after_write (D.told desk.old) (D.told desk.new) }
     ensures counts { WriteCounts result (D.read_faults desk.old) (D.read_faults desk.new)
@@ -62,8 +63,8 @@ fn name(layout: Layout) -> [u8; 4]
     ensures { result ≡ name_of layout }
 {
     match layout {
-        Layout::Brp1 => *b"BRP1",
-        Layout::Brp2 => *b"BRP2",
+        Layout::Paged => *b"BRP1",
+        Layout::Chunked => *b"BRP2",
     }
 }
 
@@ -87,10 +88,10 @@ fn layout_of_grants(grants: &PageSet) -> Layout
 {
     for i in 0..grants.len() {
         if grants.get(i) % 4096 != 0 || grants.size(i) != 4096 {
-            return Layout::Brp2;
+            return Layout::Chunked;
         }
     }
-    Layout::Brp1
+    Layout::Paged
 }
 
 // Puts the addresses of so many chunks, from one on, into a buffer.
@@ -163,8 +164,8 @@ fn put_grants<D: Desk>(desk: &mut D, layout: Layout, grants: &PageSet) -> Result
 {
     put_numbers(desk, &[grants.len() as u32])?;
     match layout {
-        Layout::Brp1 => put_pages(desk, grants),
-        Layout::Brp2 => put_chunks(desk, grants),
+        Layout::Paged => put_pages(desk, grants),
+        Layout::Chunked => put_chunks(desk, grants),
     }
 }
 

@@ -1,6 +1,6 @@
 use Rattle.std.proofs.lemmas.Result.{err_from_is_err_and}
 use Rattle.machine_model.specs.Paths.{RiscProgram}
-use Rattle.capture_file.proofs.Puts.{head_break, words_break, grants_break_after, fill_then}
+use Rattle.capture_file.proofs.Puts.{words_break, grants_break_after, fill_then}
 use Rattle.capture_file.proofs.writing.put_all.Goals as goal
 
 pub returns-in_err-put_numbers-clause-puts : goal.returns-in_err-put_numbers-clause-puts

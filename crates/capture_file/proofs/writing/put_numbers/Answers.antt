@@ -1,8 +1,6 @@
-use Rattle.std.proofs.Common.{◌≡◌, ◌≤◌, length, ◌+◌, ◌++◌, take, drop, ◌∙◌, ap, sym, refl, arith, List, ℕ}
+use Rattle.std.proofs.Common.{◌≤◌, length, ◌+◌, ◌∙◌, sym, refl, arith}
 use Rattle.std.proofs.lemmas.Result.{err_from_is_err_and}
-use Rattle.capture_desk.specs.Desks.{after_write}
 use Rattle.capture_desk.proofs.Laws.{after_write-nil}
-use Rattle.capture_file.specs.Programs.{numbers_spelled}
 use Rattle.capture_file.proofs.Puts.{piece_numbers, numbers_more, numbers_break}
 use Rattle.capture_file.proofs.writing.put_numbers.Goals as goal
 

@@ -1,4 +1,4 @@
-use Rattle.std.proofs.Common.{◌≡◌, ◌*◌, length, take}
+use Rattle.std.proofs.Common.{◌≡◌, ◌*◌, take}
 use Rattle.capture_file.specs.Programs.{numbers_spelled}
 use Rattle.capture_file.proofs.writing.spell.Given as goal
 
