@@ -12,7 +12,7 @@ mod records;
 mod writing;
 
 pub use image::write_image;
-pub use program::{ProgramError, ProgramFile};
+pub use program::{ProgramError, ProgramFile, read_program};
 pub use reader::{Got, StepReader};
 pub use writing::write_program;
 
