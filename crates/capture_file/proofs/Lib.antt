@@ -7,3 +7,4 @@ pub mod Programs
 pub mod Chunks
 pub mod Puts
 pub mod Images
+pub mod Spelled

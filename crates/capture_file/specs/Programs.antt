@@ -165,16 +165,19 @@ fill_field layout size chunks (fill ∷ rest) = do
 abbrev pub without_grants : ℕ → List ℕ → RiscProgram
 without_grants base words = record { base = base; words = words; grants = [] }
 
-unfoldable pub program_of : List ℕ → Result ProgramFile FileFault
-program_of bytes = do
-  layout ← layout_field (length bytes) bytes
-  base ← base_field (length bytes) layout.1
-  count ← word_count_field (length bytes) base.0 base.1
-  words ← words_field (length bytes) count.0 count.1
-  chunk_count ← chunk_count_field (length bytes) words.1
-  chunks ← chunks_field layout.0 (length bytes) (without_grants base.0 words.0) chunk_count.0 0 0 chunk_count.1
-  fill ← fill_field layout.0 (length bytes) chunks.0 chunks.1
+unfoldable pub program_in : ℕ → List ℕ → Result ProgramFile FileFault
+program_in size bytes = do
+  layout ← layout_field size bytes
+  base ← base_field size layout.1
+  count ← word_count_field size base.0 base.1
+  words ← words_field size count.0 count.1
+  chunk_count ← chunk_count_field size words.1
+  chunks ← chunks_field layout.0 size (without_grants base.0 words.0) chunk_count.0 0 0 chunk_count.1
+  fill ← fill_field layout.0 size chunks.0 chunks.1
   Ok (record { program = record { base = base.0; words = words.0; grants = chunks.0 }; fill = fill })
+
+abbrev pub program_of : List ℕ → Result ProgramFile FileFault
+program_of bytes = program_in (length bytes) bytes
 
 -- a call answers this; only want of memory is free
 abbrev pub Fails : {Y : Type 0} → ProgramError → Result Y FileFault → Type 0

@@ -474,7 +474,7 @@ fn grants_of(alloc: Global, chunks: &[(u32, u32)]) -> Result<PageSet, ProgramErr
 /// with `BRP1` where its chunks are pages, and else with `BRP2`; the fields are the base, the number of
 /// words and the words, the number of pages or chunks and these in rising order, and the fill (this
 /// project's own formats).
-#[tactic(auto, unfolding(crate::specs::Programs::program_of))]
+#[tactic(auto, unfolding(crate::specs::Programs::program_in))]
 pub fn read_program(alloc: Global, bytes: &[u8]) -> Result<ProgramFile, ProgramError>
     ensures { Gives (λ x. x) result (program_of bytes.now) }
 {
