@@ -8,3 +8,4 @@ pub mod Chunks
 pub mod Puts
 pub mod Images
 pub mod Spelled
+pub mod Unspelled

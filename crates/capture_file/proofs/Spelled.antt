@@ -125,7 +125,7 @@ long_chunk_again size program from sum at len rest is le small apart =
     ∙ judged_then (length_fault program sum at len) size after (chunk at len, rest) (length_right program sum at len is small apart)
 
 -- one chunk as each form spells it
-abbrev one : Layout → Chunk → List ℕ
+abbrev pub one : Layout → Chunk → List ℕ
 one Paged c = page_spelled c
 one Chunked c = chunk_spelled c
 
@@ -196,10 +196,10 @@ all_fit Paged chunks h small = h
 all_fit Chunked chunks h small = omega arith
 
 -- the spelling from left to right
-abbrev tail_of : Layout → RiscProgram → ℕ → List ℕ
+abbrev pub tail_of : Layout → RiscProgram → ℕ → List ℕ
 tail_of layout program fill = little_bytes 4 (length program.grants) ++ (flat_map (one layout) program.grants ++ fill ∷ [])
 
-abbrev line_of : Layout → RiscProgram → ℕ → List ℕ
+abbrev pub line_of : Layout → RiscProgram → ℕ → List ℕ
 line_of layout program fill =
     name_of layout ++ (little_bytes 4 program.base ++ (little_bytes 4 (length program.words) ++ (numbers_spelled program.words ++ tail_of layout program fill)))
 
