@@ -17,7 +17,7 @@ use Rattle.capture_file.specs.declared.program.Layout.TheVariants.{Paged, Chunke
 use Rattle.capture_file.specs.declared.program.ProgramFile.{ProgramFile}
 use Rattle.capture_file.specs.Programs.{◌>>=◌, Field, number_field, layout_field, layout_or_magic, layout_of, base_field, word_count_field, words_in, words_field, chunk_count_field, page_field, long_chunk_field, chunk_field, chunks_field, fill_field, program_in, program_of, without_grants, base_fault, word_count_fault, chunk_count_fault, page_fault, address_fault, length_fault, fill_fault, judged, nothing_after, numbers_spelled, page_spelled, chunk_spelled, name_of, layout_for, spelled, spelled_as, cut}
 use Rattle.capture_file.proofs.Chunks.{bind_ok, judged_ok, ok_is, no_fault, not_false, both_true, IsBytes, IsBytes-drop, chunks_read, totals_small}
-use Rattle.capture_file.proofs.Spelled.{one, line_of, in_line, with_layout, with_base, with_count, with_words, with_chunk_count, with_chunks, field_by_field}
+use Rattle.capture_file.proofs.Spelled.{one, tail_of, line_of, in_line, with_layout, with_base, with_count, with_words, with_chunk_count, with_chunks, field_by_field}
 
 -- ---- numbers
 
@@ -267,3 +267,145 @@ pages_fault false e = refl
 layout_right : (layout : Layout) (chunks : List Chunk) → PagesIf layout chunks → fill_fault layout chunks ≡ None → layout ≡ layout_for chunks
 layout_right Paged chunks pages e = rw pages refl
 layout_right Chunked chunks pages e = rw (pages_fault (list_all is_page chunks) e) refl
+
+-- what stands behind the number of the chunks
+record ReadRest (layout : Layout) (base : ℕ) (words : List ℕ) (count : ℕ) (bytes : List ℕ) (file : ProgramFile) : Type 0 where
+  parts : bytes ≡ flat_map (one layout) file.program.grants ++ file.fill ∷ []
+  base_is : file.program.base ≡ base
+  words_are : file.program.words ≡ words
+  form : layout ≡ layout_for file.program.grants
+  len : length file.program.grants ≡ count
+  grants : AreGrants file.program.grants
+  apart : All (λ c. shares_byte (without_grants base words) c ≡ false) file.program.grants
+  fill : file.fill < 256
+
+rest_read : (size : ℕ) (layout : Layout) (base : ℕ) (words : List ℕ) (x : ℕ × List ℕ) (file : ProgramFile) → IsBytes x.1 → x.0 ≤ 4096 → with_chunk_count size layout base words x ≡ Ok file →
+  ReadRest layout base words x.0 x.1 file
+rest_read size layout base words x file fits few e =
+    let a = bind_ok (chunks_field layout size (without_grants base words) x.0 0 0 x.1) (λ y. with_chunks size layout base words y) file e in
+    chunks_then a.0 a.1 a.2
+  where
+    last : (y : List Chunk × List ℕ) (fill : ℕ) (same : record { program = record { base = base; words = words; grants = y.0 }; fill = fill } ≡ file) → Takes x.1 (flat_map (one layout) y.0) y.1 → PagesIf layout y.0 →
+      chunks_field layout size (without_grants base words) x.0 0 0 x.1 ≡ Ok y → (y.1 ≡ fill ∷ []) × (fill < 256) × (fill_fault layout y.0 ≡ None) → ReadRest layout base words x.0 x.1 file
+    last y fill same takes pages chunks f =
+        let read = chunks_read layout size (without_grants base words) x.0 0 0 x.1 y fits chunks in
+        subst (λ (z : ProgramFile). ReadRest layout base words x.0 x.1 z) same
+        (record {
+          parts = takes.parts ∙ ap (λ (zs : List ℕ). flat_map (one layout) y.0 ++ zs) f.0;
+          base_is = refl;
+          words_are = refl;
+          form = layout_right layout y.0 pages f.2;
+          len = read.len;
+          grants = record { few = let n = read.len in omega arith; small = totals_small layout x.0 y.0 few read.totals; rising = read.rising };
+          apart = read.apart;
+          fill = f.1;
+        })
+
+    chunks_then : (y : List Chunk × List ℕ) → chunks_field layout size (without_grants base words) x.0 0 0 x.1 ≡ Ok y → with_chunks size layout base words y ≡ Ok file → ReadRest layout base words x.0 x.1 file
+    chunks_then y chunks rest =
+        let takes = chunks_takes layout size (without_grants base words) x.0 0 0 x.1 y fits chunks in
+        let b = bind_ok (fill_field layout size y.0 y.1) (λ fill. Ok (record { program = record { base = base; words = words; grants = y.0 }; fill = fill })) file rest in
+        last y b.0 (ok_is (record { program = record { base = base; words = words; grants = y.0 }; fill = b.0 }) file b.2) takes.0 takes.1 chunks (fill_takes layout size y.0 y.1 b.0 takes.0.fits b.1)
+
+-- what stands behind the number of the words
+record ReadWords (layout : Layout) (base count : ℕ) (bytes : List ℕ) (file : ProgramFile) : Type 0 where
+  parts : bytes ≡ numbers_spelled file.program.words ++ tail_of layout file.program file.fill
+  base_is : file.program.base ≡ base
+  form : layout ≡ layout_for file.program.grants
+  len : length file.program.words ≡ count
+  fit : All (λ word. word < 2 ^ 32) file.program.words
+  grants : AreGrants file.program.grants
+  apart : All (λ c. shares_byte file.program c ≡ false) file.program.grants
+  fill : file.fill < 256
+
+words_read : (size : ℕ) (layout : Layout) (base : ℕ) (x : ℕ × List ℕ) (file : ProgramFile) → IsBytes x.1 → with_count size layout base x ≡ Ok file → ReadWords layout base x.0 x.1 file
+words_read size layout base x file fits e =
+    let a = bind_ok (words_field size x.0 x.1) (λ y. with_words size layout base y) file e in
+    after_words a.0 a.1 a.2
+  where
+    joined : (y : List ℕ × List ℕ) (z : ℕ × List ℕ) → Takes x.1 (numbers_spelled y.0) y.1 → (length y.0 ≡ x.0) × All (λ word. word < 2 ^ 32) y.0 → Takes y.1 (little_bytes 4 z.0) z.1 →
+      ReadRest layout base y.0 z.0 z.1 file → ReadWords layout base x.0 x.1 file
+    joined y z first words second rest = record {
+      parts =
+        first.parts
+        ∙ ap (λ (zs : List ℕ). numbers_spelled y.0 ++ zs)
+          (second.parts ∙ ap (λ (zs : List ℕ). little_bytes 4 z.0 ++ zs) rest.parts
+          ∙ ap (λ (n : ℕ). little_bytes 4 n ++ (flat_map (one layout) file.program.grants ++ file.fill ∷ [])) (sym rest.len))
+        ∙ ap (λ (ws : List ℕ). numbers_spelled ws ++ tail_of layout file.program file.fill) (sym rest.words_are);
+      base_is = rest.base_is;
+      form = rest.form;
+      len = ap length rest.words_are ∙ words.0;
+      fit = subst (λ (ws : List ℕ). All (λ word. word < 2 ^ 32) ws) (sym rest.words_are) words.1;
+      grants = rest.grants;
+      apart =
+        subst (λ (ws : List ℕ). All (λ c. shares_byte (without_grants file.program.base ws) c ≡ false) file.program.grants) (sym rest.words_are)
+        (subst (λ (n : ℕ). All (λ c. shares_byte (without_grants n y.0) c ≡ false) file.program.grants) (sym rest.base_is) rest.apart);
+      fill = rest.fill;
+    }
+
+    after_count : (y : List ℕ × List ℕ) (z : ℕ × List ℕ) → Takes x.1 (numbers_spelled y.0) y.1 → (length y.0 ≡ x.0) × All (λ word. word < 2 ^ 32) y.0 → chunk_count_field size y.1 ≡ Ok z →
+      with_chunk_count size layout base y.0 z ≡ Ok file → ReadWords layout base x.0 x.1 file
+    after_count y z first words counted rest =
+        let second = chunk_count_takes size y.1 z first.fits counted in
+        joined y z first words second.0 (rest_read size layout base y.0 z file second.0.fits second.1 rest)
+
+    after_words : (y : List ℕ × List ℕ) → words_field size x.0 x.1 ≡ Ok y → with_words size layout base y ≡ Ok file → ReadWords layout base x.0 x.1 file
+    after_words y is rest =
+        let words = words_takes size x.0 x.1 y fits is in
+        let b = bind_ok (chunk_count_field size y.1) (λ z. with_chunk_count size layout base y.0 z) file rest in
+        after_count y b.0 words.0 (words.1, words.2) b.1 b.2
+
+-- a file that is read
+pub record IsFile (bytes : List ℕ) (file : ProgramFile) : Type 0 where
+  pub parts : bytes ≡ spelled file.program file.fill
+  pub made : IsProgram file.program
+  pub base : file.program.base < 2 ^ 32
+  pub fill : file.fill < 256
+
+pub file_read : (bytes : List ℕ) (file : ProgramFile) → IsBytes bytes → program_of bytes ≡ Ok file → IsFile bytes file
+unfolding spelled
+file_read bytes file fits e =
+    let size : ℕ = length bytes in
+    let a = bind_ok (layout_field size bytes) (λ x. with_layout size x) file (sym (field_by_field size bytes) ∙ e) in
+    let layout = layout_takes size bytes a.0 fits a.1 in
+    after_layout size a.0 layout a.2
+  where
+    finish : (x : Layout × List ℕ) (y z : ℕ × List ℕ) → Takes bytes (name_of x.0) x.1 → Takes x.1 (little_bytes 4 y.0) y.1 → (y.0 < 2 ^ 32) × (y.0 % 4 ≡ 0) → Takes y.1 (little_bytes 4 z.0) z.1 →
+      (z.0 ≤ 1048576) × (y.0 + 4 * z.0 ≤ 2 ^ 32) → ReadWords x.0 y.0 z.0 z.1 file → IsFile bytes file
+    finish x y z first second base third count rest =
+        let bytes_are : bytes ≡ line_of x.0 file.program file.fill =
+          first.parts
+          ∙ ap (λ (zs : List ℕ). name_of x.0 ++ zs)
+            (second.parts
+            ∙ ap (λ (zs : List ℕ). little_bytes 4 y.0 ++ zs)
+              (third.parts ∙ ap (λ (zs : List ℕ). little_bytes 4 z.0 ++ zs) rest.parts
+              ∙ ap (λ (n : ℕ). little_bytes 4 n ++ (numbers_spelled file.program.words ++ tail_of x.0 file.program file.fill)) (sym rest.len))
+            ∙ ap (λ (n : ℕ). little_bytes 4 n ++ (little_bytes 4 (length file.program.words) ++ (numbers_spelled file.program.words ++ tail_of x.0 file.program file.fill))) (sym rest.base_is)) in
+        let len = rest.len in
+        let based = rest.base_is in
+        record {
+          parts = bytes_are ∙ sym (in_line x.0 file.program file.fill) ∙ ap (λ (l : Layout). spelled_as l file.program file.fill) rest.form;
+          made = record {
+            aligned = rw rest.base_is base.1;
+            few = rw rest.len count.0;
+            ends = rw (rest.base_is, rest.len) count.1;
+            fit = rest.fit;
+            grants = rest.grants;
+            apart = rest.apart;
+          };
+          base = rw rest.base_is base.0;
+          fill = rest.fill;
+        }
+
+    after_base : (size : ℕ) (x : Layout × List ℕ) (y : ℕ × List ℕ) → Takes bytes (name_of x.0) x.1 → Takes x.1 (little_bytes 4 y.0) y.1 → (y.0 < 2 ^ 32) × (y.0 % 4 ≡ 0) →
+      with_base size x.0 y ≡ Ok file → IsFile bytes file
+    after_base size x y first second base rest =
+        let b = bind_ok (word_count_field size y.0 y.1) (λ z. with_count size x.0 y.0 z) file rest in
+        let third = word_count_takes size y.0 y.1 b.0 second.fits b.1 in
+        finish x y b.0 first second base third.0 (third.1, third.2) (words_read size x.0 y.0 b.0 file third.0.fits b.2)
+
+    after_layout : (size : ℕ) (x : Layout × List ℕ) → Takes bytes (name_of x.0) x.1 → with_layout size x ≡ Ok file → IsFile bytes file
+    after_layout size x first rest =
+        let b = bind_ok (base_field size x.1) (λ y. with_base size x.0 y) file rest in
+        let second = base_takes size x.1 b.0 first.fits b.1 in
+        after_base size x b.0 first second.0 (second.1, second.2) b.2
