@@ -3,6 +3,7 @@ use Rattle.std.proofs.Common.{◌≡◌, ℕ, zero, suc, ◌+◌, ◌-◌, ◌<�
 use Rattle.std.proofs.lemmas.Bool.{ltb-true, le-ltb}
 use Rattle.std.proofs.lemmas.List.{take_all, append-nil}
 use Rattle.std.specs.Prelude.{nat_lt}
+use Rattle.capture_file.specs.declared.FileFault.{FileFault}
 use Rattle.capture_file.specs.declared.reader.Got.{Got}
 use Rattle.capture_file.specs.declared.reader.Got.TheVariants as got
 use Rattle.capture_file.specs.Readers.{Phase, Opening, Records, Closed, Failed}
@@ -11,8 +12,8 @@ use Rattle.capture_file.specs.declared.records.Form.TheVariants.{Bfs1, Bfs2, Bfs
 use Rattle.capture_file.specs.declared.records.Found.{Found}
 use Rattle.capture_file.specs.declared.records.Found.TheVariants.{Cut, Wrong, Last, Whole}
 use Rattle.capture_file.specs.Records.{HasFour, Spans, Passes}
-use Rattle.capture_file.specs.Streams.{Reading, reading, Unfinished, Ended, number_at, form_of, record_at, records, within, within_if, opened_by, after_end, stream_of, judged}
-use Rattle.capture_file.specs.Readers.{Reader, Taken, resumed, taken, taken_in, unfinished_if, found_taken, record_taken, form_taken, word_taken, closed_taken, behind_word, begun, resumed_in, ending_in, Uses, Counts, IsAt, IsReader, Stays}
+use Rattle.capture_file.specs.Streams.{Reading, reading, Unfinished, Ended, number_at, form_of, record_at, records, within, within_if, opened_by, after_end, stream_of, judged, Bad}
+use Rattle.capture_file.specs.Readers.{Reader, Taken, resumed, taken, taken_in, unfinished_if, found_taken, record_taken, form_taken, word_taken, closed_taken, behind_word, begun, resumed_in, ending_in, Uses, Counts, IsAt, IsReader, Stays, PlacedAt}
 use Rattle.capture_file.proofs.Fields.{number_at-four, record_at-spans, record_at-passes}
 use Rattle.capture_file.proofs.Readings.{records-front, front_of}
 
@@ -178,3 +179,39 @@ stays-phase (Failed fault) r piece is = is
 pub taken-stays : (r : Reader) (piece : List ℕ) → let t = taken r piece in Stays t.answer t.reader.phase
 unfolding taken
 taken-stays r piece = stays-phase r.phase r piece refl
+
+-- The bytes that were used.
+
+placed_from : (phase : Phase) (place count : ℕ) → place ≡ count → PlacedAt phase place count
+placed_from Opening place count e = e
+placed_from (Records form) place count e = e
+placed_from Closed place count e = e
+placed_from (Failed fault) place count e = tt
+
+placed_answer : (answer : Got) (phase : Phase) (place before used now : ℕ) → place ≡ before → Counts answer (place + used) now → Stays answer phase → PlacedAt phase now (before + used)
+placed_answer (got.Step step) phase place before used now e counts stays = placed_from phase now (before + used) (omega arith)
+placed_answer got.End phase place before used now e counts stays = placed_from phase now (before + used) (omega arith)
+placed_answer got.More phase place before used now e counts stays = placed_from phase now (before + used) (omega arith)
+placed_answer (got.Bad fault) phase place before used now e counts stays = rw stays tt
+
+placed-phase : (phase : Phase) (r : Reader) (piece : List ℕ) (before : ℕ) → r.phase ≡ phase → IsAt phase r → PlacedAt phase r.place before →
+    let t = taken_in phase r piece in PlacedAt t.reader.phase t.reader.place (before + t.used)
+placed-phase Opening r piece before is at placed =
+    let t : Taken = taken_in Opening r piece in
+    placed_answer t.answer t.reader.phase r.place before t.used t.reader.place placed (phase-moves Opening r piece at).1 (stays-phase Opening r piece is)
+placed-phase (Records form) r piece before is at placed =
+    let t : Taken = taken_in (Records form) r piece in
+    placed_answer t.answer t.reader.phase r.place before t.used t.reader.place placed (phase-moves (Records form) r piece at).1 (stays-phase (Records form) r piece is)
+placed-phase Closed r piece before is at placed =
+    let t : Taken = taken_in Closed r piece in
+    placed_answer t.answer t.reader.phase r.place before t.used t.reader.place placed (phase-moves Closed r piece at).1 (stays-phase Closed r piece is)
+placed-phase (Failed fault) r piece before is at placed = rw is tt
+
+pub taken-placed : (r : Reader) (piece : List ℕ) (before : ℕ) → IsReader r → PlacedAt r.phase r.place before → let t = taken r piece in PlacedAt t.reader.phase t.reader.place (before + t.used)
+unfolding taken
+taken-placed r piece before is placed = placed-phase r.phase r piece before refl is.at placed
+
+-- a reader at a fault reads nothing
+pub failed-ends : (r : Reader) (fault : FileFault) (more : List ℕ) → r.phase ≡ Failed fault → resumed r more ≡ reading [] (Bad fault)
+unfolding resumed
+failed-ends r fault more is = rw is refl

@@ -9,3 +9,4 @@ pub mod Puts
 pub mod Images
 pub mod Spelled
 pub mod Unspelled
+pub mod Feeding

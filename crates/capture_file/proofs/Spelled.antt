@@ -1,23 +1,21 @@
 -- A program's spelling is read as that program.
-use Rattle.std.proofs.Common.{◌≡◌, ℕ, zero, suc, ◌+◌, ◌-◌, ◌*◌, ◌/◌, ◌%◌, ◌^◌, ◌<◌, ◌≤◌, max, Bool, true, false, cond, not, ◌&&◌, List, [], ◌∷◌, ◌++◌, length, get_or, take, drop, Option, Some, None, Result, Ok, Err, refl, sym, ap, subst, ◌∙◌, arith, append_assoc, length-append}
-use Rattle.std.specs.Prelude.{nat_lt, nat_le, ◌==◌}
+use Rattle.std.proofs.Common.{◌≡◌, ℕ, ◌+◌, ◌*◌, ◌%◌, ◌^◌, ◌<◌, ◌≤◌, Bool, true, false, cond, List, [], ◌∷◌, ◌++◌, length, Option, None, Result, Ok, refl, sym, ap, subst, ◌∙◌, arith, append_assoc, length-append}
+use Rattle.std.specs.Prelude.{◌==◌}
 use Rattle.std.specs.List.{All, flat_map, list_all}
 use Rattle.std.proofs.lemmas.Bool.{le-leb, le-ltb, eqb-true, ne_eqb}
 use Rattle.std.proofs.lemmas.List.{drop_at}
 use Rattle.std.proofs.lemmas.List.Elements.{All-head, All-tail}
 use Rattle.byteorder.specs.Endian.{little_number, little_bytes}
-use Rattle.page_table.specs.Grants.{Chunk, chunk, IsChunk, AreRising, AreGrants, is_page, total}
+use Rattle.page_table.specs.Grants.{Chunk, chunk, IsChunk, AreRising, is_page, total}
 use Rattle.page_table.proofs.Placing.{total-cons}
 use Rattle.machine_model.specs.Paths.{RiscProgram, IsProgram, shares_byte}
 use Rattle.capture_file.specs.declared.FileKind.{FileKind}
-use Rattle.capture_file.specs.declared.FileKind.TheVariants as fault
 use Rattle.capture_file.specs.declared.FileFault.{FileFault}
 use Rattle.capture_file.specs.declared.program.Layout.{Layout}
 use Rattle.capture_file.specs.declared.program.Layout.TheVariants.{Paged, Chunked}
 use Rattle.capture_file.specs.declared.program.ProgramFile.{ProgramFile}
-use Rattle.capture_file.specs.Streams.{number_at}
 use Rattle.capture_file.proofs.Chunks.{both_true}
-use Rattle.capture_file.specs.Programs.{◌>>=◌, Field, number_field, layout_field, base_field, word_count_field, words_in, words_field, chunk_count_field, page_field, long_chunk_field, chunk_field, chunks_field, fill_field, program_in, program_of, without_grants, base_fault, word_count_fault, chunk_count_fault, page_fault, address_fault, is_length, length_fault, fill_fault, judged, nothing_after, numbers_spelled, page_spelled, chunk_spelled, name_of, grants_spelled, head_spelled, spelled_as, layout_for, spelled}
+use Rattle.capture_file.specs.Programs.{◌>>=◌, Field, number_field, layout_field, base_field, word_count_field, words_in, words_field, chunk_count_field, page_field, long_chunk_field, chunk_field, chunks_field, fill_field, program_in, program_of, without_grants, base_fault, word_count_fault, chunk_count_fault, page_fault, address_fault, length_fault, fill_fault, judged, numbers_spelled, page_spelled, chunk_spelled, name_of, grants_spelled, head_spelled, spelled_as, layout_for, spelled}
 
 -- ---- numbers
 
@@ -90,7 +88,7 @@ page_right : (program : RiscProgram) (from at : ℕ) → at % 4096 ≡ 0 → fro
 page_right program from at paged le apart = rw (paged, le-ltb at from le, apart) refl
 
 page_again : (size : ℕ) (program : RiscProgram) (from at : ℕ) (rest : List ℕ) → at < 2 ^ 32 → at % 4096 ≡ 0 → from ≤ at → shares_byte program (chunk at 4096) ≡ false →
-  page_field size program from (little_bytes 4 at ++ rest) ≡ Ok (chunk at 4096, rest)
+    page_field size program from (little_bytes 4 at ++ rest) ≡ Ok (chunk at 4096, rest)
 unfolding page_field
 page_again size program from at rest low paged le apart =
     ap (λ (r : Field ℕ). r >>= λ x. judged (page_fault program from x.0) size (little_bytes 4 at ++ rest) >>= λ _. Ok (chunk x.0 4096, x.1)) (number_again size at rest low)
@@ -108,7 +106,7 @@ length_right program sum at len is small apart =
     rw (not_zero len (omega arith), is.len_aligned, le-leb (at + len) (2 ^ 32) is.ends, le-leb (sum + len) 16777216 small, apart) refl
 
 long_chunk_again : (size : ℕ) (program : RiscProgram) (from sum at len : ℕ) (rest : List ℕ) → IsChunk (chunk at len) → from ≤ at → sum + len ≤ 16777216 → shares_byte program (chunk at len) ≡ false →
-  long_chunk_field size program from sum (little_bytes 4 at ++ (little_bytes 4 len ++ rest)) ≡ Ok (chunk at len, rest)
+    long_chunk_field size program from sum (little_bytes 4 at ++ (little_bytes 4 len ++ rest)) ≡ Ok (chunk at len, rest)
 unfolding long_chunk_field
 long_chunk_again size program from sum at len rest is le small apart =
     let some = is.some in
@@ -118,9 +116,9 @@ long_chunk_again size program from sum at len rest is le small apart =
     let after : List ℕ = little_bytes 4 len ++ rest in
     let bytes : List ℕ = little_bytes 4 at ++ after in
     ap (λ (r : Field ℕ). r >>= λ x. judged (address_fault from x.0) size bytes >>= λ _. number_field size x.1 >>= λ y. judged (length_fault program sum x.0 y.0) size x.1 >>= λ _. Ok (chunk x.0 y.0, y.1))
-      (number_again size at after low)
+    (number_again size at after low)
     ∙ ap (λ (k : Option FileKind). judged k size bytes >>= λ _. number_field size after >>= λ y. judged (length_fault program sum at y.0) size after >>= λ _. Ok (chunk at y.0, y.1))
-      (address_right from at is.at_aligned le)
+    (address_right from at is.at_aligned le)
     ∙ ap (λ (r : Field ℕ). r >>= λ y. judged (length_fault program sum at y.0) size after >>= λ _. Ok (chunk at y.0, y.1)) (number_again size len rest low')
     ∙ judged_then (length_fault program sum at len) size after (chunk at len, rest) (length_right program sum at len is small apart)
 
@@ -134,7 +132,7 @@ Fits Paged sum c = is_page c ≡ true
 Fits Chunked sum c = sum + c.len ≤ 16777216
 
 one_again : (layout : Layout) (size : ℕ) (program : RiscProgram) (from sum : ℕ) (c : Chunk) (rest : List ℕ) → IsChunk c → from ≤ c.at → Fits layout sum c → shares_byte program c ≡ false →
-  chunk_field layout size program from sum (one layout c ++ rest) ≡ Ok (c, rest)
+    chunk_field layout size program from sum (one layout c ++ rest) ≡ Ok (c, rest)
 one_again Paged size program from sum c rest is le page apart =
     let both = both_true (c.at % 4096 == 0) (c.len == 4096) page in
     let paged : c.at % 4096 ≡ 0 = eqb-true (c.at % 4096) 0 both.0 in
@@ -155,7 +153,7 @@ fit_head Paged sum c chunks h = both_true (is_page c) (list_all is_page chunks) 
 fit_head Chunked sum c chunks h = (omega (arith, total-cons c chunks), omega (arith, total-cons c chunks))
 
 pub chunks_again : (layout : Layout) (size : ℕ) (program : RiscProgram) (from sum : ℕ) (chunks : List Chunk) (rest : List ℕ) → AreRising from chunks → All (λ c. shares_byte program c ≡ false) chunks → AllFit layout sum chunks →
-  chunks_field layout size program (length chunks) from sum (flat_map (one layout) chunks ++ rest) ≡ Ok (chunks, rest)
+    chunks_field layout size program (length chunks) from sum (flat_map (one layout) chunks ++ rest) ≡ Ok (chunks, rest)
 unfolding chunks_field
 chunks_again layout size program from sum [] rest rising apart fit = refl
 chunks_again layout size program from sum (c ∷ chunks) rest rising apart fit =
@@ -165,9 +163,9 @@ chunks_again layout size program from sum (c ∷ chunks) rest rising apart fit =
     let others = All-tail (λ (d : Chunk). shares_byte program d ≡ false) c chunks apart in
     ap (λ (bytes : List ℕ). chunk_field layout size program from sum bytes >>= λ x. chunks_field layout size program (length chunks) (x.0.at + x.0.len) (sum + x.0.len) x.1 >>= λ y. Ok (x.0 ∷ y.0, y.1)) split
     ∙ ap (λ (r : Field Chunk). r >>= λ x. chunks_field layout size program (length chunks) (x.0.at + x.0.len) (sum + x.0.len) x.1 >>= λ y. Ok (x.0 ∷ y.0, y.1))
-      (one_again layout size program from sum c (flat_map (one layout) chunks ++ rest) rising.1 rising.0 fits.0 first)
+    (one_again layout size program from sum c (flat_map (one layout) chunks ++ rest) rising.1 rising.0 fits.0 first)
     ∙ ap (λ (r : Field (List Chunk)). r >>= λ y. Ok (c ∷ y.0, y.1))
-      (chunks_again layout size program (c.at + c.len) (sum + c.len) chunks rest rising.2 others fits.1)
+    (chunks_again layout size program (c.at + c.len) (sum + c.len) chunks rest rising.2 others fits.1)
 
 -- ---- the whole file
 
@@ -183,8 +181,8 @@ IsFor Chunked chunks = list_all is_page chunks ≡ false
 is_for : (chunks : List Chunk) → IsFor (layout_for chunks) chunks
 is_for chunks =
     elim (list_all is_page chunks) as (λ (b : Bool). list_all is_page chunks ≡ b → IsFor (cond b Paged Chunked) chunks) [
-      true ↦ λ e. e
-    | false ↦ λ e. e
+      | true ↦ λ e. e
+      | false ↦ λ e. e
     ] refl
 
 fill_right : (layout : Layout) (chunks : List Chunk) → IsFor layout chunks → fill_fault layout chunks ≡ None
@@ -241,7 +239,7 @@ module _ (size : ℕ) where
   field_by_field bytes = refl
 
 pub line_again : (layout : Layout) (size : ℕ) (program : RiscProgram) (fill : ℕ) → IsProgram program → program.base < 2 ^ 32 → IsFor layout program.grants →
-  program_in size (line_of layout program fill) ≡ Ok (record { program = program; fill = fill })
+    program_in size (line_of layout program fill) ≡ Ok (record { program = program; fill = fill })
 line_again layout size program fill made low form =
     let count = length program.words in
     let chunks = program.grants in
@@ -257,7 +255,7 @@ line_again layout size program fill made low form =
     ∙ ap (λ (r : Field (List ℕ)). r >>= λ x. with_words size layout program.base x) (words_field_again size program.words after_words made.fit)
     ∙ ap (λ (r : Field ℕ). r >>= λ x. with_chunk_count size layout program.base program.words x) (chunk_count_again size (length chunks) after_chunk_count made.grants.few)
     ∙ ap (λ (r : Field (List Chunk)). r >>= λ x. with_chunks size layout program.base program.words x)
-      (chunks_again layout size (without_grants program.base program.words) 0 0 chunks last made.grants.rising made.apart (all_fit layout chunks form made.grants.small))
+    (chunks_again layout size (without_grants program.base program.words) 0 0 chunks last made.grants.rising made.apart (all_fit layout chunks form made.grants.small))
     ∙ ap (λ (r : Result ℕ FileFault). r >>= λ f. Ok (record { program = program; fill = f })) (fill_again layout size fill chunks (fill_right layout chunks form))
 
 pub spelled_again : (program : RiscProgram) (fill : ℕ) → IsProgram program → program.base < 2 ^ 32 → program_of (spelled program fill) ≡ Ok (record { program = program; fill = fill })

@@ -1,21 +1,20 @@
 -- A file that is read is the spelling of what was read.
-use Rattle.std.proofs.Common.{◌≡◌, ℕ, zero, suc, ◌+◌, ◌-◌, ◌*◌, ◌%◌, ◌^◌, ◌<◌, ◌≤◌, ◌⊎◌, inl, inr, Bool, true, false, cond, not, ◌&&◌, List, [], ◌∷◌, ◌++◌, length, get_or, take, drop, Option, Some, None, Result, Ok, Err, refl, sym, ap, subst, ◌∙◌, arith, append_assoc, length-drop}
+use Rattle.std.proofs.Common.{◌≡◌, ℕ, zero, suc, ◌+◌, ◌*◌, ◌%◌, ◌^◌, ◌<◌, ◌≤◌, ◌⊎◌, inl, inr, Bool, true, false, cond, not, ◌&&◌, List, [], ◌∷◌, ◌++◌, length, drop, Option, Some, None, Ok, Err, refl, sym, ap, subst, ◌∙◌, arith, append_assoc}
 use Rattle.std.specs.Prelude.{nat_lt, nat_le, ◌==◌, codes}
 use Rattle.std.specs.List.{All, flat_map, list_all}
 use Rattle.std.specs.Int.{w32, from_le_bytes}
-use Rattle.std.proofs.lemmas.Bool.{leb-true, eqb-true, eq-eqb}
+use Rattle.std.proofs.lemmas.Bool.{leb-true, eqb-true}
 use Rattle.std.proofs.lemmas.Nat.{le_bytes_4}
 use Rattle.std.proofs.lemmas.List.Elements.{All-cons}
 use Rattle.byteorder.specs.Endian.{little_number, little_bytes}
-use Rattle.page_table.specs.Grants.{Chunk, chunk, AreGrants, is_page, total}
+use Rattle.page_table.specs.Grants.{Chunk, chunk, AreGrants, is_page}
 use Rattle.machine_model.specs.Paths.{RiscProgram, IsProgram, shares_byte}
 use Rattle.capture_file.specs.declared.FileKind.{FileKind}
 use Rattle.capture_file.specs.declared.FileKind.TheVariants as fault
-use Rattle.capture_file.specs.declared.FileFault.{FileFault}
 use Rattle.capture_file.specs.declared.program.Layout.{Layout}
 use Rattle.capture_file.specs.declared.program.Layout.TheVariants.{Paged, Chunked}
 use Rattle.capture_file.specs.declared.program.ProgramFile.{ProgramFile}
-use Rattle.capture_file.specs.Programs.{◌>>=◌, Field, number_field, layout_field, layout_or_magic, layout_of, base_field, word_count_field, words_in, words_field, chunk_count_field, page_field, long_chunk_field, chunk_field, chunks_field, fill_field, program_in, program_of, without_grants, base_fault, word_count_fault, chunk_count_fault, page_fault, address_fault, length_fault, fill_fault, judged, nothing_after, numbers_spelled, page_spelled, chunk_spelled, name_of, layout_for, spelled, spelled_as, cut}
+use Rattle.capture_file.specs.Programs.{◌>>=◌, number_field, layout_field, layout_or_magic, base_field, word_count_field, words_in, words_field, chunk_count_field, page_field, long_chunk_field, chunk_field, chunks_field, fill_field, program_of, without_grants, base_fault, word_count_fault, chunk_count_fault, page_fault, address_fault, length_fault, fill_fault, judged, nothing_after, numbers_spelled, page_spelled, chunk_spelled, name_of, layout_for, spelled, spelled_as, cut}
 use Rattle.capture_file.proofs.Chunks.{bind_ok, judged_ok, ok_is, no_fault, not_false, both_true, IsBytes, IsBytes-drop, chunks_read, totals_small}
 use Rattle.capture_file.proofs.Spelled.{one, tail_of, line_of, in_line, with_layout, with_base, with_count, with_words, with_chunk_count, with_chunks, field_by_field}
 
@@ -49,8 +48,8 @@ number_takes size (a ∷ b ∷ c ∷ d ∷ rest) x fits e =
 -- ---- the first word
 
 layout_is : (size word : ℕ) (bytes rest : List ℕ) (x : Layout × List ℕ) (first second : Bool) → (word == little_number 4 (codes "BRP1")) ≡ first → (word == little_number 4 (codes "BRP2")) ≡ second →
-  layout_or_magic size bytes (cond first (Some Paged) (cond second (Some Chunked) None)) rest ≡ Ok x →
-  ((word ≡ little_number 4 (codes "BRP1")) × (x ≡ (Paged, rest))) ⊎ ((word ≡ little_number 4 (codes "BRP2")) × (x ≡ (Chunked, rest)))
+    layout_or_magic size bytes (cond first (Some Paged) (cond second (Some Chunked) None)) rest ≡ Ok x →
+    ((word ≡ little_number 4 (codes "BRP1")) × (x ≡ (Paged, rest))) ⊎ ((word ≡ little_number 4 (codes "BRP2")) × (x ≡ (Chunked, rest)))
 layout_is size word bytes rest x true second e f h = inl (eqb-true word (little_number 4 (codes "BRP1")) e, sym (ok_is (Paged, rest) x h))
 layout_is size word bytes rest x false true e f h = inr (eqb-true word (little_number 4 (codes "BRP2")) f, sym (ok_is (Chunked, rest) x h))
 layout_is size word bytes rest x false false e f h = absurd (cc)
@@ -65,16 +64,16 @@ layout_takes size (a ∷ b ∷ c ∷ d ∷ rest) x fits e =
     let word : ℕ = little_number 4 (a ∷ b ∷ c ∷ d ∷ []) in
     let rest_fits = IsBytes-drop 4 (a ∷ b ∷ c ∷ d ∷ rest) fits in
     elim (layout_is size word (a ∷ b ∷ c ∷ d ∷ rest) rest x (word == little_number 4 (codes "BRP1")) (word == little_number 4 (codes "BRP2")) refl refl e) [
-      inl h ↦
-        subst (λ (p : Layout × List ℕ). Takes (a ∷ b ∷ c ∷ d ∷ rest) (name_of p.0) p.1) (sym h.1)
-        (record { parts = four_are a b c d 66 82 80 49 rest fits (omega arith) (omega arith) (omega arith) (omega arith) h.0; fits = rest_fits })
-    | inr h ↦
-        subst (λ (p : Layout × List ℕ). Takes (a ∷ b ∷ c ∷ d ∷ rest) (name_of p.0) p.1) (sym h.1)
-        (record { parts = four_are a b c d 66 82 80 50 rest fits (omega arith) (omega arith) (omega arith) (omega arith) h.0; fits = rest_fits })
+      | inl h ↦
+          subst (λ (p : Layout × List ℕ). Takes (a ∷ b ∷ c ∷ d ∷ rest) (name_of p.0) p.1) (sym h.1)
+          (record { parts = four_are a b c d 66 82 80 49 rest fits (omega arith) (omega arith) (omega arith) (omega arith) h.0; fits = rest_fits })
+      | inr h ↦
+          subst (λ (p : Layout × List ℕ). Takes (a ∷ b ∷ c ∷ d ∷ rest) (name_of p.0) p.1) (sym h.1)
+          (record { parts = four_are a b c d 66 82 80 50 rest fits (omega arith) (omega arith) (omega arith) (omega arith) h.0; fits = rest_fits })
     ]
   where
     four_are : (a b c d p q r s : ℕ) (rest : List ℕ) → IsBytes (a ∷ b ∷ c ∷ d ∷ rest) → p < 256 → q < 256 → r < 256 → s < 256 →
-      little_number 4 (a ∷ b ∷ c ∷ d ∷ []) ≡ little_number 4 (p ∷ q ∷ r ∷ s ∷ []) → (a ∷ b ∷ c ∷ d ∷ rest) ≡ (p ∷ q ∷ r ∷ s ∷ rest)
+        little_number 4 (a ∷ b ∷ c ∷ d ∷ []) ≡ little_number 4 (p ∷ q ∷ r ∷ s ∷ []) → (a ∷ b ∷ c ∷ d ∷ rest) ≡ (p ∷ q ∷ r ∷ s ∷ rest)
     four_are a b c d p q r s rest fits hp hq hr hs e =
         let fa : a < 256 = fits 0 in
         let fb : b < 256 = fits 1 in
@@ -90,7 +89,7 @@ layout_takes size (a ∷ b ∷ c ∷ d ∷ rest) x fits e =
 
 -- a number that was judged
 judged_number : (fault : ℕ → Option FileKind) (size : ℕ) (bytes : List ℕ) (x : ℕ × List ℕ) →
-  (number_field size bytes >>= λ y. judged (fault y.0) size bytes >>= λ _. Ok y) ≡ Ok x → (number_field size bytes ≡ Ok x) × (fault x.0 ≡ None)
+    (number_field size bytes >>= λ y. judged (fault y.0) size bytes >>= λ _. Ok y) ≡ Ok x → (number_field size bytes ≡ Ok x) × (fault x.0 ≡ None)
 judged_number fault size bytes x e =
     let a = bind_ok (number_field size bytes) (λ y. judged (fault y.0) size bytes >>= λ _. Ok y) x e in
     let b = bind_ok (judged (fault a.0.0) size bytes) (λ _. Ok a.0) x a.2 in
@@ -109,7 +108,7 @@ base_takes size bytes x fits e =
     (n.0, n.1, eqb-true (x.0 % 4) 0 (some_fault (x.0 % 4 == 0) fault.Base a.1))
 
 word_count_takes : (size base : ℕ) (bytes : List ℕ) (x : ℕ × List ℕ) → IsBytes bytes → word_count_field size base bytes ≡ Ok x →
-  Takes bytes (little_bytes 4 x.0) x.1 × (x.0 ≤ 1048576) × (base + 4 * x.0 ≤ 2 ^ 32)
+    Takes bytes (little_bytes 4 x.0) x.1 × (x.0 ≤ 1048576) × (base + 4 * x.0 ≤ 2 ^ 32)
 unfolding word_count_field
 word_count_takes size base bytes x fits e =
     let a = judged_number (word_count_fault base) size bytes x e in
@@ -143,21 +142,21 @@ words_are (suc count) (a ∷ b ∷ c ∷ d ∷ rest) fits long =
     let four : 4 * suc count ≡ suc (suc (suc (suc (4 * count)))) = omega arith in
     record {
       parts =
-        n.0.parts
-        ∙ ap (λ (zs : List ℕ). little_bytes 4 (little_number 4 (a ∷ b ∷ c ∷ d ∷ [])) ++ zs) others.parts
-        ∙ sym (append_assoc (little_bytes 4 (little_number 4 (a ∷ b ∷ c ∷ d ∷ []))) (numbers_spelled (words_in count rest)) (drop (4 * count) rest))
-        ∙ ap (λ (m : ℕ). numbers_spelled (words_in (suc count) (a ∷ b ∷ c ∷ d ∷ rest)) ++ drop m (a ∷ b ∷ c ∷ d ∷ rest)) (sym four);
+          n.0.parts
+          ∙ ap (λ (zs : List ℕ). little_bytes 4 (little_number 4 (a ∷ b ∷ c ∷ d ∷ [])) ++ zs) others.parts
+          ∙ sym (append_assoc (little_bytes 4 (little_number 4 (a ∷ b ∷ c ∷ d ∷ []))) (numbers_spelled (words_in count rest)) (drop (4 * count) rest))
+          ∙ ap (λ (m : ℕ). numbers_spelled (words_in (suc count) (a ∷ b ∷ c ∷ d ∷ rest)) ++ drop m (a ∷ b ∷ c ∷ d ∷ rest)) (sym four);
       len = ap suc others.len;
       fit = All-cons (λ (word : ℕ). word < 2 ^ 32) (little_number 4 (a ∷ b ∷ c ∷ d ∷ [])) (words_in count rest) n.1 others.fit;
     }
 
 words_right : (size count : ℕ) (bytes : List ℕ) (x : List ℕ × List ℕ) (b : Bool) → nat_le (4 * count) (length bytes) ≡ b →
-  cond b (Ok (words_in count bytes, drop (4 * count) bytes)) (Err (cut size)) ≡ Ok x → (4 * count ≤ length bytes) × ((words_in count bytes, drop (4 * count) bytes) ≡ x)
+    cond b (Ok (words_in count bytes, drop (4 * count) bytes)) (Err (cut size)) ≡ Ok x → (4 * count ≤ length bytes) × ((words_in count bytes, drop (4 * count) bytes) ≡ x)
 words_right size count bytes x true is e = (leb-true (4 * count) (length bytes) is, ok_is (words_in count bytes, drop (4 * count) bytes) x e)
 words_right size count bytes x false is e = absurd (cc)
 
 words_takes : (size count : ℕ) (bytes : List ℕ) (x : List ℕ × List ℕ) → IsBytes bytes → words_field size count bytes ≡ Ok x →
-  Takes bytes (numbers_spelled x.0) x.1 × (length x.0 ≡ count) × All (λ word. word < 2 ^ 32) x.0
+    Takes bytes (numbers_spelled x.0) x.1 × (length x.0 ≡ count) × All (λ word. word < 2 ^ 32) x.0
 unfolding words_field
 words_takes size count bytes x fits e =
     let right = words_right size count bytes x (nat_le (4 * count) (length bytes)) refl e in
@@ -172,7 +171,7 @@ PageIf Paged c = is_page c ≡ true
 PageIf Chunked c = Unit {0}
 
 page_takes : (size : ℕ) (program : RiscProgram) (from : ℕ) (bytes : List ℕ) (x : Chunk × List ℕ) → IsBytes bytes → page_field size program from bytes ≡ Ok x →
-  Takes bytes (page_spelled x.0) x.1 × (is_page x.0 ≡ true)
+    Takes bytes (page_spelled x.0) x.1 × (is_page x.0 ≡ true)
 unfolding page_field
 page_takes size program from bytes x fits e =
     let a = bind_ok (number_field size bytes) (λ at. judged (page_fault program from at.0) size bytes >>= λ _. Ok (chunk at.0 4096, at.1)) x e in
@@ -185,13 +184,13 @@ page_takes size program from bytes x fits e =
     subst (λ (y : Chunk × List ℕ). Takes bytes (page_spelled y.0) y.1 × (is_page y.0 ≡ true)) same (n.0, page)
 
 long_chunk_takes : (size : ℕ) (program : RiscProgram) (from sum : ℕ) (bytes : List ℕ) (x : Chunk × List ℕ) → IsBytes bytes → long_chunk_field size program from sum bytes ≡ Ok x →
-  Takes bytes (chunk_spelled x.0) x.1
+    Takes bytes (chunk_spelled x.0) x.1
 unfolding long_chunk_field
 long_chunk_takes size program from sum bytes x fits e =
     let a = bind_ok (number_field size bytes)
-      (λ at. judged (address_fault from at.0) size bytes >>= λ _. number_field size at.1 >>= λ len. judged (length_fault program sum at.0 len.0) size at.1 >>= λ _. Ok (chunk at.0 len.0, len.1)) x e in
+    (λ at. judged (address_fault from at.0) size bytes >>= λ _. number_field size at.1 >>= λ len. judged (length_fault program sum at.0 len.0) size at.1 >>= λ _. Ok (chunk at.0 len.0, len.1)) x e in
     let b = bind_ok (judged (address_fault from a.0.0) size bytes)
-      (λ _. number_field size a.0.1 >>= λ len. judged (length_fault program sum a.0.0 len.0) size a.0.1 >>= λ _. Ok (chunk a.0.0 len.0, len.1)) x a.2 in
+    (λ _. number_field size a.0.1 >>= λ len. judged (length_fault program sum a.0.0 len.0) size a.0.1 >>= λ _. Ok (chunk a.0.0 len.0, len.1)) x a.2 in
     let c = bind_ok (number_field size a.0.1) (λ len. judged (length_fault program sum a.0.0 len.0) size a.0.1 >>= λ _. Ok (chunk a.0.0 len.0, len.1)) x b.2 in
     let d = bind_ok (judged (length_fault program sum a.0.0 c.0.0) size a.0.1) (λ _. Ok (chunk a.0.0 c.0.0, c.0.1)) x c.2 in
     let first = number_takes size bytes a.0 fits a.1 in
@@ -200,12 +199,12 @@ long_chunk_takes size program from sum bytes x fits e =
     subst (λ (y : Chunk × List ℕ). Takes bytes (chunk_spelled y.0) y.1) same
     (record {
       parts =
-        first.0.parts ∙ ap (λ (zs : List ℕ). little_bytes 4 a.0.0 ++ zs) second.0.parts ∙ sym (append_assoc (little_bytes 4 a.0.0) (little_bytes 4 c.0.0) c.0.1);
+          first.0.parts ∙ ap (λ (zs : List ℕ). little_bytes 4 a.0.0 ++ zs) second.0.parts ∙ sym (append_assoc (little_bytes 4 a.0.0) (little_bytes 4 c.0.0) c.0.1);
       fits = second.0.fits;
     })
 
 one_takes : (layout : Layout) (size : ℕ) (program : RiscProgram) (from sum : ℕ) (bytes : List ℕ) (x : Chunk × List ℕ) → IsBytes bytes → chunk_field layout size program from sum bytes ≡ Ok x →
-  Takes bytes (one layout x.0) x.1 × PageIf layout x.0
+    Takes bytes (one layout x.0) x.1 × PageIf layout x.0
 one_takes Paged size program from sum bytes x fits e = page_takes size program from bytes x fits e
 one_takes Chunked size program from sum bytes x fits e = (long_chunk_takes size program from sum bytes x fits e, tt)
 
@@ -222,7 +221,7 @@ more_pages Paged c chunks h all = rw (h, all) refl
 more_pages Chunked c chunks h all = tt
 
 chunks_takes : (layout : Layout) (size : ℕ) (program : RiscProgram) (count from sum : ℕ) (bytes : List ℕ) (x : List Chunk × List ℕ) → IsBytes bytes → chunks_field layout size program count from sum bytes ≡ Ok x →
-  Takes bytes (flat_map (one layout) x.0) x.1 × PagesIf layout x.0
+    Takes bytes (flat_map (one layout) x.0) x.1 × PagesIf layout x.0
 unfolding chunks_field
 chunks_takes layout size program zero from sum bytes x fits e =
     let same : ([], bytes) ≡ x = ok_is ([], bytes) x e in
@@ -230,17 +229,19 @@ chunks_takes layout size program zero from sum bytes x fits e =
     (record { parts = refl; fits = fits }, no_pages layout)
 chunks_takes layout size program (suc count) from sum bytes x fits e =
     let a = bind_ok (chunk_field layout size program from sum bytes)
-      (λ c. chunks_field layout size program count (c.0.at + c.0.len) (sum + c.0.len) c.1 >>= λ others. Ok (c.0 ∷ others.0, others.1)) x e in
+    (λ c. chunks_field layout size program count (c.0.at + c.0.len) (sum + c.0.len) c.1 >>= λ others. Ok (c.0 ∷ others.0, others.1)) x e in
     let b = bind_ok (chunks_field layout size program count (a.0.0.at + a.0.0.len) (sum + a.0.0.len) a.0.1) (λ others. Ok (a.0.0 ∷ others.0, others.1)) x a.2 in
     let first = one_takes layout size program from sum bytes a.0 fits a.1 in
     let rest = chunks_takes layout size program count (a.0.0.at + a.0.0.len) (sum + a.0.0.len) a.0.1 b.0 first.0.fits b.1 in
     let same : (a.0.0 ∷ b.0.0, b.0.1) ≡ x = ok_is (a.0.0 ∷ b.0.0, b.0.1) x b.2 in
-    subst (λ (y : List Chunk × List ℕ). Takes bytes (flat_map (one layout) y.0) y.1 × PagesIf layout y.0) same
-    (record {
-      parts =
-        first.0.parts ∙ ap (λ (zs : List ℕ). one layout a.0.0 ++ zs) rest.0.parts ∙ sym (append_assoc (one layout a.0.0) (flat_map (one layout) b.0.0) b.0.1);
-      fits = rest.0.fits;
-    }, more_pages layout a.0.0 b.0.0 first.1 rest.1)
+    subst (λ (y : List Chunk × List ℕ). Takes bytes (flat_map (one layout) y.0) y.1 × PagesIf layout y.0) same (
+      record {
+        parts =
+            first.0.parts ∙ ap (λ (zs : List ℕ). one layout a.0.0 ++ zs) rest.0.parts ∙ sym (append_assoc (one layout a.0.0) (flat_map (one layout) b.0.0) b.0.1);
+        fits = rest.0.fits;
+      },
+      more_pages layout a.0.0 b.0.0 first.1 rest.1,
+    )
 
 -- ---- the fill
 
@@ -249,7 +250,7 @@ ended size fill [] x e = (refl, ok_is fill x e)
 ended size fill (byte ∷ rest) x e = absurd (cc)
 
 fill_takes : (layout : Layout) (size : ℕ) (chunks : List Chunk) (bytes : List ℕ) (x : ℕ) → IsBytes bytes → fill_field layout size chunks bytes ≡ Ok x →
-  (bytes ≡ x ∷ []) × (x < 256) × (fill_fault layout chunks ≡ None)
+    (bytes ≡ x ∷ []) × (x < 256) × (fill_fault layout chunks ≡ None)
 unfolding fill_field
 fill_takes layout size chunks [] x fits e = absurd (cc)
 fill_takes layout size chunks (fill ∷ rest) x fits e =
@@ -280,13 +281,13 @@ record ReadRest (layout : Layout) (base : ℕ) (words : List ℕ) (count : ℕ) 
   fill : file.fill < 256
 
 rest_read : (size : ℕ) (layout : Layout) (base : ℕ) (words : List ℕ) (x : ℕ × List ℕ) (file : ProgramFile) → IsBytes x.1 → x.0 ≤ 4096 → with_chunk_count size layout base words x ≡ Ok file →
-  ReadRest layout base words x.0 x.1 file
+    ReadRest layout base words x.0 x.1 file
 rest_read size layout base words x file fits few e =
     let a = bind_ok (chunks_field layout size (without_grants base words) x.0 0 0 x.1) (λ y. with_chunks size layout base words y) file e in
     chunks_then a.0 a.1 a.2
   where
     last : (y : List Chunk × List ℕ) (fill : ℕ) (same : record { program = record { base = base; words = words; grants = y.0 }; fill = fill } ≡ file) → Takes x.1 (flat_map (one layout) y.0) y.1 → PagesIf layout y.0 →
-      chunks_field layout size (without_grants base words) x.0 0 0 x.1 ≡ Ok y → (y.1 ≡ fill ∷ []) × (fill < 256) × (fill_fault layout y.0 ≡ None) → ReadRest layout base words x.0 x.1 file
+        chunks_field layout size (without_grants base words) x.0 0 0 x.1 ≡ Ok y → (y.1 ≡ fill ∷ []) × (fill < 256) × (fill_fault layout y.0 ≡ None) → ReadRest layout base words x.0 x.1 file
     last y fill same takes pages chunks f =
         let read = chunks_read layout size (without_grants base words) x.0 0 0 x.1 y fits chunks in
         subst (λ (z : ProgramFile). ReadRest layout base words x.0 x.1 z) same
@@ -324,27 +325,27 @@ words_read size layout base x file fits e =
     after_words a.0 a.1 a.2
   where
     joined : (y : List ℕ × List ℕ) (z : ℕ × List ℕ) → Takes x.1 (numbers_spelled y.0) y.1 → (length y.0 ≡ x.0) × All (λ word. word < 2 ^ 32) y.0 → Takes y.1 (little_bytes 4 z.0) z.1 →
-      ReadRest layout base y.0 z.0 z.1 file → ReadWords layout base x.0 x.1 file
+        ReadRest layout base y.0 z.0 z.1 file → ReadWords layout base x.0 x.1 file
     joined y z first words second rest = record {
       parts =
-        first.parts
-        ∙ ap (λ (zs : List ℕ). numbers_spelled y.0 ++ zs)
+          first.parts
+          ∙ ap (λ (zs : List ℕ). numbers_spelled y.0 ++ zs)
           (second.parts ∙ ap (λ (zs : List ℕ). little_bytes 4 z.0 ++ zs) rest.parts
           ∙ ap (λ (n : ℕ). little_bytes 4 n ++ (flat_map (one layout) file.program.grants ++ file.fill ∷ [])) (sym rest.len))
-        ∙ ap (λ (ws : List ℕ). numbers_spelled ws ++ tail_of layout file.program file.fill) (sym rest.words_are);
+          ∙ ap (λ (ws : List ℕ). numbers_spelled ws ++ tail_of layout file.program file.fill) (sym rest.words_are);
       base_is = rest.base_is;
       form = rest.form;
       len = ap length rest.words_are ∙ words.0;
       fit = subst (λ (ws : List ℕ). All (λ word. word < 2 ^ 32) ws) (sym rest.words_are) words.1;
       grants = rest.grants;
       apart =
-        subst (λ (ws : List ℕ). All (λ c. shares_byte (without_grants file.program.base ws) c ≡ false) file.program.grants) (sym rest.words_are)
-        (subst (λ (n : ℕ). All (λ c. shares_byte (without_grants n y.0) c ≡ false) file.program.grants) (sym rest.base_is) rest.apart);
+          subst (λ (ws : List ℕ). All (λ c. shares_byte (without_grants file.program.base ws) c ≡ false) file.program.grants) (sym rest.words_are)
+          (subst (λ (n : ℕ). All (λ c. shares_byte (without_grants n y.0) c ≡ false) file.program.grants) (sym rest.base_is) rest.apart);
       fill = rest.fill;
     }
 
     after_count : (y : List ℕ × List ℕ) (z : ℕ × List ℕ) → Takes x.1 (numbers_spelled y.0) y.1 → (length y.0 ≡ x.0) × All (λ word. word < 2 ^ 32) y.0 → chunk_count_field size y.1 ≡ Ok z →
-      with_chunk_count size layout base y.0 z ≡ Ok file → ReadWords layout base x.0 x.1 file
+        with_chunk_count size layout base y.0 z ≡ Ok file → ReadWords layout base x.0 x.1 file
     after_count y z first words counted rest =
         let second = chunk_count_takes size y.1 z first.fits counted in
         joined y z first words second.0 (rest_read size layout base y.0 z file second.0.fits second.1 rest)
@@ -371,16 +372,16 @@ file_read bytes file fits e =
     after_layout size a.0 layout a.2
   where
     finish : (x : Layout × List ℕ) (y z : ℕ × List ℕ) → Takes bytes (name_of x.0) x.1 → Takes x.1 (little_bytes 4 y.0) y.1 → (y.0 < 2 ^ 32) × (y.0 % 4 ≡ 0) → Takes y.1 (little_bytes 4 z.0) z.1 →
-      (z.0 ≤ 1048576) × (y.0 + 4 * z.0 ≤ 2 ^ 32) → ReadWords x.0 y.0 z.0 z.1 file → IsFile bytes file
+        (z.0 ≤ 1048576) × (y.0 + 4 * z.0 ≤ 2 ^ 32) → ReadWords x.0 y.0 z.0 z.1 file → IsFile bytes file
     finish x y z first second base third count rest =
         let bytes_are : bytes ≡ line_of x.0 file.program file.fill =
-          first.parts
-          ∙ ap (λ (zs : List ℕ). name_of x.0 ++ zs)
-            (second.parts
-            ∙ ap (λ (zs : List ℕ). little_bytes 4 y.0 ++ zs)
-              (third.parts ∙ ap (λ (zs : List ℕ). little_bytes 4 z.0 ++ zs) rest.parts
-              ∙ ap (λ (n : ℕ). little_bytes 4 n ++ (numbers_spelled file.program.words ++ tail_of x.0 file.program file.fill)) (sym rest.len))
-            ∙ ap (λ (n : ℕ). little_bytes 4 n ++ (little_bytes 4 (length file.program.words) ++ (numbers_spelled file.program.words ++ tail_of x.0 file.program file.fill))) (sym rest.base_is)) in
+        first.parts
+        ∙ ap (λ (zs : List ℕ). name_of x.0 ++ zs)
+        (second.parts
+        ∙ ap (λ (zs : List ℕ). little_bytes 4 y.0 ++ zs)
+        (third.parts ∙ ap (λ (zs : List ℕ). little_bytes 4 z.0 ++ zs) rest.parts
+        ∙ ap (λ (n : ℕ). little_bytes 4 n ++ (numbers_spelled file.program.words ++ tail_of x.0 file.program file.fill)) (sym rest.len))
+        ∙ ap (λ (n : ℕ). little_bytes 4 n ++ (little_bytes 4 (length file.program.words) ++ (numbers_spelled file.program.words ++ tail_of x.0 file.program file.fill))) (sym rest.base_is)) in
         let len = rest.len in
         let based = rest.base_is in
         record {
@@ -398,7 +399,7 @@ file_read bytes file fits e =
         }
 
     after_base : (size : ℕ) (x : Layout × List ℕ) (y : ℕ × List ℕ) → Takes bytes (name_of x.0) x.1 → Takes x.1 (little_bytes 4 y.0) y.1 → (y.0 < 2 ^ 32) × (y.0 % 4 ≡ 0) →
-      with_base size x.0 y ≡ Ok file → IsFile bytes file
+        with_base size x.0 y ≡ Ok file → IsFile bytes file
     after_base size x y first second base rest =
         let b = bind_ok (word_count_field size y.0 y.1) (λ z. with_count size x.0 y.0 z) file rest in
         let third = word_count_takes size y.0 y.1 b.0 second.fits b.1 in

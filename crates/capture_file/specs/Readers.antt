@@ -3,6 +3,7 @@ use Rattle.std.specs.Prelude.{◌≡◌, ℕ, ◌+◌, ◌-◌, ◌<◌, ◌≤�
 use Rattle.capture_file.specs.declared.FileKind.{FileKind}
 use Rattle.capture_file.specs.declared.FileKind.TheVariants as fault
 use Rattle.capture_file.specs.declared.FileFault.{FileFault}
+use Rattle.capture_file.specs.declared.Step.{Step}
 use Rattle.capture_file.specs.declared.reader.Got.{Got}
 use Rattle.capture_file.specs.declared.reader.Got.TheVariants as got
 use Rattle.capture_file.specs.declared.reader.State.{State}
@@ -163,6 +164,17 @@ Uses (got.Bad fault) used count = used ≤ count
 abbrev pub Counts : Got → ℕ → ℕ → Type 0
 Counts (got.Bad fault) before now = Unit {0}
 Counts _ before now = now ≡ before
+
+-- what a stream stands for behind these steps
+abbrev pub behind : List Step → Reading → Reading
+behind steps rest = reading (steps ++ rest.steps) rest.ending
+
+-- a reader used so many bytes, unless it met a fault
+abbrev pub PlacedAt : Phase → ℕ → ℕ → Type 0
+PlacedAt (Failed fault) place count = Unit {0}
+PlacedAt Opening place count = place ≡ count
+PlacedAt (Records form) place count = place ≡ count
+PlacedAt Closed place count = place ≡ count
 
 -- after a fault the reader is at it
 abbrev pub Stays : Got → Phase → Type 0

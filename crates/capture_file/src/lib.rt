@@ -6,12 +6,16 @@ use irq_status::HostWrite;
 use risc_word::Code;
 
 mod image;
+mod laws;
+mod pieces;
 mod program;
 mod reader;
 mod records;
 mod writing;
 
 pub use image::write_image;
+pub use laws::one_spelling;
+pub use pieces::read_stream;
 pub use program::{ProgramError, ProgramFile, read_program};
 pub use reader::{Got, StepReader};
 pub use writing::write_program;

@@ -1,9 +1,9 @@
 //! A reader of streams that come in pieces.
 
-ghost use Rattle.capture_file.specs.Readers.{AnswerFits, Closed, Opening, Records, Counts, IsReader, Stays, Uses, after_answer, behind_word, closed_by, closed_taken, ending_in, fresh, record_taken, resumed, room, taken, taking, word_taken};
+ghost use Rattle.capture_file.specs.Readers.{AnswerFits, Closed, Opening, Records, Counts, IsReader, PlacedAt, Stays, Uses, after_answer, behind_word, closed_by, closed_taken, ending_in, fresh, record_taken, resumed, room, taken, taking, word_taken};
 ghost use Rattle.capture_file.specs.Records.{FoundFits, HasFour, Passes, Spans, StepFits, Sums};
 ghost use Rattle.capture_file.specs.declared.records.Found.TheVariants.{Cut};
-ghost use Rattle.capture_file.specs.Streams.{fault_at, most_turns, number_at, reading, record_at, turns_of};
+ghost use Rattle.capture_file.specs.Streams.{fault_at, most_turns, number_at, reading, record_at, stream_of, turns_of};
 ghost use Rattle.std.specs.Prelude.{◌≡◌, ◌≤◌, ◌<◌, ◌+◌, ◌-◌, ◌^◌, ◌++◌, List, ℕ, [], None, IfSome, IfNone, take, drop, length, true, false};
 
 use super::records::{Form, Found, find, find_quick, form_named, number};
@@ -201,8 +201,10 @@ impl Model for StepReader {
 
 impl StepReader {
     /// A reader of BFS1 and BFS2 streams of at most `limit` bytes.
+    #[tactic(auto, unfolding(crate::specs::Readers::resumed))]
     pub fn new(limit: u64) -> StepReader
-        ensures { result ≡ fresh limit false }
+        ensures made { result ≡ fresh limit false }
+        ensures whole { (bytes : List ℕ) → resumed result bytes ≡ stream_of limit false bytes }
     {
         StepReader {
             limit,
@@ -215,8 +217,10 @@ impl StepReader {
     }
 
     /// A reader of BFS3 streams of at most `limit` bytes.
+    #[tactic(auto, unfolding(crate::specs::Readers::resumed))]
     pub fn chained(limit: u64) -> StepReader
-        ensures { result ≡ fresh limit true }
+        ensures made { result ≡ fresh limit true }
+        ensures whole { (bytes : List ℕ) → resumed result bytes ≡ stream_of limit true bytes }
     {
         StepReader {
             limit,
@@ -414,6 +418,8 @@ impl StepReader {
             ≡ after_answer result.1 (resumed self.new (drop result.0 piece.now ++ more)) }
         ensures used { Uses result.1 result.0 (length piece.now) }
         ensures place { Counts result.1 (self.old.place + result.0) self.new.place }
+        ensures moves { (before : ℕ) → PlacedAt self.old.phase self.old.place before
+            → PlacedAt self.new.phase self.new.place (before + result.0) }
         ensures stays { Stays result.1 self.new.phase }
         ensures fits { AnswerFits result.1 }
     {
