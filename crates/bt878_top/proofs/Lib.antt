@@ -1,1 +1,5 @@
 pub mod Playing
+pub mod Asking
+pub mod Loading
+pub mod Fitting
+pub mod Composing

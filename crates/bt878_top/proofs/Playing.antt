@@ -75,10 +75,10 @@ module _ (m now : State) (after : Reader) where
   handed_more at n (Some bytes) old new later last one grows two =
       let piece : take n new ≡ take n (drop at bytes) = ap (λ k. take k new) (sym (zero-add n)) ∙ grows.2 in
       let whole : take at bytes ++ take n new ≡ take (at + n) bytes = ap (λ x. take at bytes ++ x) piece ∙ sym (take-add at n bytes) in
-      let few = simp length-drop at grows.0 in
-      ( omega (arith, few, one.0)
-      , subst (λ x. Handed m (fresh longest_stream false) x later last) whole
-        (Handed-then m now later (fresh longest_stream false) after last (take at bytes) (take n new) one.1 two)
+      let few = simp length-drop at grows.0 in (
+        omega (arith, few, one.0),
+        subst (λ x. Handed m (fresh longest_stream false) x later last) whole
+            (Handed-then m now later (fresh longest_stream false) after last (take at bytes) (take n new) one.1 two),
       )
 
   pub fault_found : (at n : ℕ) (o : Option (List ℕ)) (old new : List ℕ) (fault : FileFault) → HandedTo at o now after →
@@ -90,9 +90,9 @@ module _ (m now : State) (after : Reader) where
       let piece : take n new ≡ take n (drop at bytes) = ap (λ k. take k new) (sym (zero-add n)) ∙ grows.2 in
       let rest : List ℕ = drop n (drop at bytes) in
       let whole : take at bytes ++ (take n new ++ rest) ≡ bytes =
-        ap (λ x. take at bytes ++ (x ++ rest)) piece ∙ ap (λ x. take at bytes ++ x) (take-append-drop n (drop at bytes)) ∙ take-append-drop at bytes in
+      ap (λ x. take at bytes ++ (x ++ rest)) piece ∙ ap (λ x. take at bytes ++ x) (take-append-drop n (drop at bytes)) ∙ take-append-drop at bytes in
       let ending : (stream_of longest_stream false bytes).ending ≡ Bad fault =
-        ap (λ x. (stream_of longest_stream false x).ending) (sym whole) ∙ sym (one.1 (take n new ++ rest)).ending ∙ is rest in
+      ap (λ x. (stream_of longest_stream false x).ending) (sym whole) ∙ sym (one.1 (take n new ++ rest)).ending ∙ is rest in
       ap (λ e. whole_file (length bytes) (stream_of longest_stream false bytes).steps e) ending
 
   pub ended : (at n : ℕ) (o : Option (List ℕ)) (old new : List ℕ) → HandedTo at o now after →
@@ -179,11 +179,11 @@ pub played : (o : Option (List ℕ)) (m now : State) (after : Reader) → OfRest
     (resumed after []).steps ≡ [] → Ok tt ≡ closed_by after.place (resumed after []).ending → OfRest o (λ bytes. HasPlayed bytes m now)
 played None m now after h none is = tt
 played (Some bytes) m now after h none is =
-    let on = goes_on bytes m now after h in
-    ( (stream_of longest_stream false bytes).steps
-    , ap (whole_file (length bytes) (stream_of longest_stream false bytes).steps) (sym on.ending)
-      ∙ right_file after.place (length bytes) (stream_of longest_stream false bytes).steps (resumed after []).ending (sym is)
-    , ap (λ steps. run now (steps_run steps)) (sym none) ∙ on.ran
+    let on = goes_on bytes m now after h in (
+      (stream_of longest_stream false bytes).steps,
+      ap (whole_file (length bytes) (stream_of longest_stream false bytes).steps) (sym on.ending)
+          ∙ right_file after.place (length bytes) (stream_of longest_stream false bytes).steps (resumed after []).ending (sym is),
+      ap (λ steps. run now (steps_run steps)) (sym none) ∙ on.ran,
     )
 
 pub not_played : (o : Option (List ℕ)) (m now : State) (after : Reader) (fault : FileFault) → OfRest o (λ bytes. HandedAll bytes m now after) →

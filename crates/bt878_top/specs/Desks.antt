@@ -80,6 +80,11 @@ delivered [] text t = after_say text t
 delivered (file ∷ files) text t =
     delivered files text (after_finish (after_write file.1 (after_create file.0 t)))
 
+-- a file was not created, or it is open and has some of its first bytes
+abbrev pub IsFilePart : List ℕ → List ℕ → Told → Told → Type 0
+IsFilePart name bytes t new =
+    (new ≡ t) ⊎ ((n : ℕ) × (n ≤ length bytes) × (new ≡ after_write (take n bytes) (after_create name t)))
+
 -- a part was delivered: some files whole and the next one not at all or to a byte of it, or all files and
 -- the text to a byte of it
 abbrev pub IsPart : List (List ℕ × List ℕ) → List ℕ → Told → Told → Type 0

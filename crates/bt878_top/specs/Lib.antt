@@ -2,3 +2,5 @@ pub mod Texts
 pub mod Answers
 pub mod Desks
 pub mod Plays
+pub mod Programs
+pub mod Tasks

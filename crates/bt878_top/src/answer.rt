@@ -6,6 +6,7 @@ ghost use Rattle.bt878_top.specs.Answers.{status_of};
 use bt878_words::UsageFault;
 use capture_file::{FileFault, Input};
 use machine_model::Cause;
+use std::alloc::AllocError;
 
 /// What a call of the program comes to (the statuses and texts are this project's own rules).
 #[derive(Clone, Copy, Debug, PartialEq)]
@@ -25,6 +26,17 @@ pub enum Answer {
     Rejected { at: u64, nth: u64, cause: Cause },
     /// Want of memory.
     NoMemory,
+}
+
+impl From<AllocError> for Answer {
+    ghost use Rattle.std.specs.Prelude.{◌≡◌};
+    ghost use Rattle.bt878_top.specs.declared.answer.Answer.TheVariants.{NoMemory};
+
+    ghost from_gives = { λ _ answer. answer ≡ NoMemory };
+
+    fn from(_error: AllocError) -> Answer {
+        Answer::NoMemory
+    }
 }
 
 impl Answer {

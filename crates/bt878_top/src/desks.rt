@@ -38,7 +38,12 @@ fn make_room(bytes: &mut Vec<u8>, end: usize) -> Result<(), Answer>
 }
 
 /// Reads a piece of the open input into the bytes from `at` to `end`, and answers its length.
-pub fn read_into<D: Desk>(bytes: &mut [u8], at: usize, end: usize, desk: &mut D) -> Result<usize, Failed>
+pub fn read_into<D: Desk>(
+    bytes: &mut [u8],
+    at: usize,
+    end: usize,
+    desk: &mut D,
+) -> Result<usize, Failed>
     requires open { IsTrue (D.told desk.old).input_open }
     requires some { at < end }
     requires room { end ≤ length bytes.old }
@@ -53,7 +58,12 @@ pub fn read_into<D: Desk>(bytes: &mut [u8], at: usize, end: usize, desk: &mut D)
 }
 
 /// Reads a piece of the open input behind the first `at` bytes, up to `end`, and answers its length.
-fn read_piece<D: Desk>(bytes: &mut Vec<u8>, at: usize, end: usize, desk: &mut D) -> Result<usize, Answer>
+fn read_piece<D: Desk>(
+    bytes: &mut Vec<u8>,
+    at: usize,
+    end: usize,
+    desk: &mut D,
+) -> Result<usize, Answer>
     requires open { IsTrue (D.told desk.old).input_open }
     requires filled { at ≤ vec_len bytes.old }
     requires some { at < end }
@@ -95,7 +105,12 @@ fn read_rest<D: Desk>(alloc: Global, most: usize, desk: &mut D) -> Result<Vec<u8
 }
 
 /// Reads an input until it ends or one byte more than `most` was read.
-pub fn read_whole<D: Desk>(alloc: Global, name: &str, most: usize, desk: &mut D) -> Result<Vec<u8>, Answer>
+pub fn read_whole<D: Desk>(
+    alloc: Global,
+    name: &str,
+    most: usize,
+    desk: &mut D,
+) -> Result<Vec<u8>, Answer>
     requires allowed { IsAllowed name.now (D.told desk.old).may_open }
     requires few { most < 2 ^ 32 }
     ensures bytes { IfOk result (λ bytes. OfInput name.now (D.told desk.old).inputs (λ content. bytes.items ≡ take (most + 1) content)) }
@@ -122,14 +137,16 @@ pub fn say_all<D: Desk>(text: &[u8], desk: &mut D) -> Result<(), Failed>
 
 /// Says a text as the last act: a fault of the desk changes nothing more.
 pub fn say_last<D: Desk>(text: &str, desk: &mut D)
-    ensures { Says text.now (seen_by D.told D.read_faults D.write_faults desk.old) (seen_by D.told D.read_faults D.write_faults desk.new) }
+    ensures reads { D.read_faults desk.old ≤ D.read_faults desk.new }
+    ensures says { Says text.now (seen_by D.told D.read_faults D.write_faults desk.old) (seen_by D.told D.read_faults D.write_faults desk.new) }
 {
     let _ = say_all(text.as_bytes(), desk);
 }
 
 /// Says the text of a refusal, and answers it; `NoMemory` where there is none for the text.
 pub fn refuse<D: Desk>(alloc: Global, answer: Answer, desk: &mut D) -> Answer
-    ensures { Refused answer result (seen_by D.told D.read_faults D.write_faults desk.old) (seen_by D.told D.read_faults D.write_faults desk.new) }
+    ensures reads { D.read_faults desk.old ≤ D.read_faults desk.new }
+    ensures refused { Refused answer result (seen_by D.told D.read_faults D.write_faults desk.old) (seen_by D.told D.read_faults D.write_faults desk.new) }
 {
     let text = match answer {
         Answer::Malformed(input, fault) => malformed_text(alloc, input, fault.at, fault.kind),

@@ -50,7 +50,11 @@ fn hand<R: Ram>(machine: &mut Machine<R>, step: Step)
 /// Hands the record at the front of a piece to the machine, and answers how many bytes of the piece it
 /// took; none where the piece ends before a record does.
 #[inline]
-fn hand_front<R: Ram>(machine: &mut Machine<R>, reader: &mut StepReader, piece: &[u8]) -> Result<Option<usize>, FileFault>
+fn hand_front<R: Ram>(
+    machine: &mut Machine<R>,
+    reader: &mut StepReader,
+    piece: &[u8],
+) -> Result<Option<usize>, FileFault>
     ensures handed { IfOk result (λ used. HandedFront used machine.old reader.old piece.now machine.new reader.new) }
     ensures fault { IfErr result (λ fault. IsAtFault reader.old piece.now fault) }
 {
@@ -67,7 +71,11 @@ fn hand_front<R: Ram>(machine: &mut Machine<R>, reader: &mut StepReader, piece: 
 }
 
 /// Hands a piece to the machine, record by record, up to its end or the stream's first fault.
-fn hand_piece<R: Ram>(machine: &mut Machine<R>, reader: &mut StepReader, piece: &[u8]) -> Result<(), FileFault>
+fn hand_piece<R: Ram>(
+    machine: &mut Machine<R>,
+    reader: &mut StepReader,
+    piece: &[u8],
+) -> Result<(), FileFault>
     ensures handed { IfOk result (λ _. Handed machine.old reader.old piece.now machine.new reader.new) }
     ensures place { IfOk result (λ _. reader.new.place ≡ reader.old.place + length piece.now) }
     ensures fault { IfErr result (λ fault. IsAtFault reader.old piece.now fault) }
@@ -113,7 +121,11 @@ fn hand_all<D: Desk, R: Ram>(
 }
 
 /// Plays the stream that is open to its end.
-pub fn play<D: Desk, R: Ram>(machine: &mut Machine<R>, desk: &mut D, buffer: &mut [u8]) -> Result<(), Answer>
+pub fn play<D: Desk, R: Ram>(
+    machine: &mut Machine<R>,
+    desk: &mut D,
+    buffer: &mut [u8],
+) -> Result<(), Answer>
     requires open { IsTrue (D.told desk.old).input_open }
     requires room { length buffer.old ≡ 65536 }
     ensures played { IfOk result (λ _. OfRest (D.told desk.old).rest (λ bytes. HasPlayed bytes machine.old machine.new)) }

@@ -112,7 +112,12 @@ pub fn rejected_text(alloc: Global, at: u64, nth: u64, cause: Cause) -> Result<S
 }
 
 /// The text of a fault of a file.
-pub fn malformed_text(alloc: Global, input: Input, at: u64, kind: FileKind) -> Result<String, AllocError>
+pub fn malformed_text(
+    alloc: Global,
+    input: Input,
+    at: u64,
+    kind: FileKind,
+) -> Result<String, AllocError>
     ensures { IfOk result (λ text. string_bytes text ≡ answer_text (Answer.Malformed input (record { at = at; kind = kind }))) }
 {
     let input = input_words(input);

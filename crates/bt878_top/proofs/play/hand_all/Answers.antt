@@ -16,9 +16,9 @@ loop-place-preserved g c =
       told = e.told ∙ ap (λ t. after_read n t) i.told ∙ after_read-after_read c.loop-place.place n _;
       at = omega (arith, size, e.few, c.min-end.ensures, c.in_default.ensures.place, i.at, c.requires.room, c.loop-place.auto.buffer, c.read_into.auto.bytes);
       handed =
-        handed_more _ _ _ _ _ _ c.loop-place.buffer _ _ _ i.handed
-        (subst (λ (t : Told). OfRest t.rest (λ rest. Grows 0 n rest c.loop-place.buffer c.read_into.new.bytes)) i.told e.grows)
-        c.in_default.ensures.handed;
+          handed_more _ _ _ _ _ _ c.loop-place.buffer _ _ _ i.handed
+          (subst (λ (t : Told). OfRest t.rest (λ rest. Grows 0 n rest c.loop-place.buffer c.read_into.new.bytes)) i.told e.grows)
+          c.in_default.ensures.handed;
       reads = e.counts.0 ∙ i.reads;
       writes = e.counts.1 ∙ i.writes;
     }

@@ -1,0 +1,81 @@
+//! The commands.
+
+ghost use Rattle.std.specs.Prelude.{◌≡◌, [], ◌∷◌, MatchResult};
+ghost use Rattle.capture_desk.specs.Desks.{IsAllowed, WriteCounts, after_create, after_finish, after_write};
+ghost use Rattle.capture_file.specs.Images.{image_of};
+ghost use Rattle.bt878_top.specs.Desks.{IsFilePart, IsPart, delivered, seen_by};
+ghost use Rattle.bt878_top.specs.Tasks.{Ends, Runs, Verifies};
+
+use crate::answer::Answer;
+use crate::desks::{refuse, say_all};
+use crate::programs::{accept, play_and_report};
+use crate::texts::ACCEPTED;
+use capture_desk::{Desk, Failed};
+use capture_file::write_image;
+use page_ram::Ram;
+use std::alloc::Global;
+
+/// Writes the image of a memory.
+fn write_out<R: Ram, D: Desk>(name: &str, ram: &R, desk: &mut D) -> Result<(), Failed>
+    requires { IsAllowed name.now (D.told desk.old).may_create }
+    ensures left { MatchResult result
+        (λ _. D.told desk.new ≡ after_finish (after_write (image_of (R.memory ram.now)) (after_create name.now (D.told desk.old))))
+        (λ _. IsFilePart name.now (image_of (R.memory ram.now)) (D.told desk.old) (D.told desk.new)) }
+    ensures counts { WriteCounts result (D.read_faults desk.old) (D.read_faults desk.new)
+        (D.write_faults desk.old) (D.write_faults desk.new) }
+{
+    desk.create_out(name)?;
+    write_image(ram, desk)?;
+    match desk.finish() {
+        Ok(()) => Ok(()),
+        Err(failed) => Err(failed),
+    }
+}
+
+/// Writes the image of a memory and then says a text.
+fn deliver<R: Ram, D: Desk>(name: &str, ram: &R, text: &str, desk: &mut D) -> Result<(), Failed>
+    requires { IsAllowed name.now (D.told desk.old).may_create }
+    ensures left { MatchResult result
+        (λ _. D.told desk.new ≡ delivered ((name.now, image_of (R.memory ram.now)) ∷ []) text.now (D.told desk.old))
+        (λ _. IsPart ((name.now, image_of (R.memory ram.now)) ∷ []) text.now (D.told desk.old) (D.told desk.new)) }
+    ensures counts { WriteCounts result (D.read_faults desk.old) (D.read_faults desk.new)
+        (D.write_faults desk.old) (D.write_faults desk.new) }
+{
+    write_out(name, ram, desk)?;
+    match say_all(text.as_bytes(), desk) {
+        Ok(()) => Ok(()),
+        Err(failed) => Err(failed),
+    }
+}
+
+/// `verify PROG`: says whether the program is sound.
+pub fn verify<D: Desk>(alloc: Global, program: &str, desk: &mut D) -> Answer
+    requires { IsAllowed program.now (D.told desk.old).may_open }
+    ensures { Ends (Verifies program.now) result (seen_by D.told D.read_faults D.write_faults desk.old) (seen_by D.told D.read_faults D.write_faults desk.new) }
+{
+    match accept(alloc, program, desk) {
+        Ok(_) => {}
+        Err(answer) => return refuse(alloc, answer, desk),
+    }
+    match say_all(ACCEPTED.as_bytes(), desk) {
+        Ok(()) => Answer::Done,
+        Err(_) => Answer::WriteFault,
+    }
+}
+
+/// `run PROG STREAM IMAGE`: runs the program over the stream, writes the image of its memory and says its report.
+pub fn run<D: Desk>(alloc: Global, program: &str, stream: &str, image: &str, desk: &mut D) -> Answer
+    requires program { IsAllowed program.now (D.told desk.old).may_open }
+    requires stream { IsAllowed stream.now (D.told desk.old).may_open }
+    requires image { IsAllowed image.now (D.told desk.old).may_create }
+    ensures { Ends (Runs program.now stream.now image.now) result (seen_by D.told D.read_faults D.write_faults desk.old) (seen_by D.told D.read_faults D.write_faults desk.new) }
+{
+    let ran = match play_and_report(alloc, program, stream, desk) {
+        Ok(ran) => ran,
+        Err(answer) => return refuse(alloc, answer, desk),
+    };
+    match deliver(image, ran.machine.ram(), &ran.report, desk) {
+        Ok(()) => Answer::Done,
+        Err(_) => Answer::WriteFault,
+    }
+}
