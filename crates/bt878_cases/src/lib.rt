@@ -3,14 +3,7 @@
 
 #[cfg(test)]
 mod cases;
-
 #[cfg(test)]
-mod tests {
-    use super::cases::{JUDGED, PLAYED};
-
-    #[test]
-    fn tables(rt: HostRuntime) {
-        assert_eq!(rt; JUDGED.len(), 13);
-        assert_eq!(rt; PLAYED.len(), 31);
-    }
-}
+mod desks;
+#[cfg(test)]
+mod tests;

@@ -1,0 +1,42 @@
+//! bt878: verifies the RISC capture programs of the Bt878 and runs them on recorded streams.
+#![tactic(auto)]
+
+use bt878_top::bt878;
+use capture_desk::OsDesk;
+use std::env;
+use std::io;
+use std::process::ExitCode;
+
+/// The status where a word of the command line is no text.
+const NO_TEXT: u8 = 8;
+
+/// The status where taking the words finds no memory.
+const NO_MEMORY: u8 = 6;
+
+/// The words after the program's name.
+fn words(rt: &HostRuntime) -> Result<Vec<String>, u8> {
+    match env::args(rt) {
+        Ok(args) => args.skip(1).collect(rt.alloc()).map_err(|_| NO_MEMORY),
+        Err(error) if error.kind() == io::ErrorKind::InvalidData => Err(NO_TEXT),
+        Err(_) => Err(NO_MEMORY),
+    }
+}
+
+/// The status of the call, or that of words that can't be taken.
+fn status(rt: &HostRuntime) -> Result<u8, u8> {
+    let words = words(rt)?;
+    let mut texts: Vec<&str> = Vec::new(rt.alloc());
+    for word in words.iter() {
+        if texts.push(word.as_str()).is_err() {
+            return Err(NO_MEMORY);
+        }
+    }
+    let mut desk = OsDesk::new(rt);
+    Ok(bt878(rt.alloc(), &texts, &mut desk).status())
+}
+
+fn main(rt: HostRuntime) -> ExitCode {
+    match status(&rt) {
+        Ok(status) | Err(status) => ExitCode::from(status),
+    }
+}
