@@ -92,7 +92,10 @@ pub fn bare_desk(alloc: Global) -> Result<MemDesk, AllocError>
     ensures opens { IfOk result (λ desk. (all_told desk).may_open ≡ Some (codes "program" ∷ codes "stream" ∷ [])) }
     ensures creates { IfOk result (λ desk. (all_told desk).may_create ≡ Some (codes "image" ∷ [])) }
 {
-    let opens = vec![in alloc; Octets::from_list(alloc, b"program")?, Octets::from_list(alloc, b"stream")?]?;
+    let opens = vec![in alloc;
+        Octets::from_list(alloc, b"program")?,
+        Octets::from_list(alloc, b"stream")?,
+    ]?;
     let creates = vec![in alloc; Octets::from_list(alloc, b"image")?]?;
     MemDesk::new(
         alloc,

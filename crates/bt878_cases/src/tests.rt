@@ -104,7 +104,7 @@ fn one_call_fails(rt: HostRuntime) -> Result<(), Fail> {
             assert_eq!(rt; left.desk.faults(), [1, 0]);
         } else {
             assert_eq!(rt; left.status, 5);
-            assert_eq!(rt; left.desk.said(), b"");
+            assert_eq!(rt; left.desk.said().len(), 0);
             assert_eq!(rt; left.desk.faults(), [0, 1]);
         }
     }
@@ -114,9 +114,13 @@ fn one_call_fails(rt: HostRuntime) -> Result<(), Fail> {
 #[test]
 fn an_input_is_missing(rt: HostRuntime) -> Result<(), Fail> {
     let mut desk = bare_desk(rt.alloc())?;
-    let answer = bt878(rt.alloc(), &["run", "program", "stream", "image"], &mut desk);
+    let answer = bt878(
+        rt.alloc(),
+        &["run", "program", "stream", "image"],
+        &mut desk,
+    );
     assert_eq!(rt; answer.status(), 4);
-    assert_eq!(rt; desk.said(), b"read fault\n");
+    assert_eq!(rt; desk.said(), b"read fault\n".as_slice());
     assert_eq!(rt; desk.faults(), [0, 0]);
     Ok(())
 }
@@ -128,8 +132,12 @@ fn words_are_at_fault(rt: HostRuntime) -> Result<(), Fail> {
     assert_eq!(rt; bt878(alloc, &[], &mut desk).status(), 2);
     assert_eq!(rt; bt878(alloc, &["play", "a"], &mut desk).status(), 2);
     assert_eq!(rt; bt878(alloc, &["run", "a", "b"], &mut desk).status(), 2);
-    assert_eq!(rt; bt878(alloc, &["run", "a", "b", "a"], &mut desk).status(), 2);
-    let said = b"usage: no command\nusage: unknown command\nusage: wrong number of words\nusage: same name\n";
+    assert_eq!(rt;
+        bt878(alloc, &["run", "a", "b", "a"], &mut desk).status(),
+        2
+    );
+    let said =
+        b"usage: no command\nusage: unknown command\nusage: wrong number of words\nusage: same name\n";
     assert_eq!(rt; desk.said(), said.as_slice());
     Ok(())
 }

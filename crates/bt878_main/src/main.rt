@@ -3,9 +3,8 @@
 
 use bt878_top::bt878;
 use capture_desk::OsDesk;
-use std::env;
-use std::io;
 use std::process::ExitCode;
+use std::{env, io};
 
 /// The status where a word of the command line is no text.
 const NO_TEXT: u8 = 8;
