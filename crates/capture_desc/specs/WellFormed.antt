@@ -1,0 +1,21 @@
+-- What every description meets.
+use Rattle.std.specs.Prelude.{◌≡◌, ℕ, ◌+◌, ◌≤◌, List, [], ◌∷◌, Option, length, IfSome}
+use Rattle.pixel_layout.specs.Layouts.{layout, planes_of}
+use Rattle.capture_desc.specs.declared.desc.Desc.{Desc}
+
+-- the bytes of chunks, each an address and a length
+abbrev pub bytes_of_chunks : List (ℕ × ℕ) → ℕ
+bytes_of_chunks [] = 0
+bytes_of_chunks (chunk ∷ chunks) = chunk.1 + bytes_of_chunks chunks
+
+-- a list with a number for each plane, where it is there
+abbrev pub HasPlanes : Desc → Option (List ℕ) → Type 0
+HasPlanes d numbers = IfSome numbers (λ ns. length ns ≡ planes_of (layout d.format))
+
+pub record IsWellFormed (d : Desc) : Type 0 where
+  pub stride : HasPlanes d d.stride
+  pub offset : HasPlanes d d.offset
+  pub pages : length d.pages ≤ 4096
+  pub no_pages : IfSome d.chunks (λ _. d.pages ≡ [])
+  pub chunks : IfSome d.chunks (λ cs. length cs ≤ 4096)
+  pub bytes : IfSome d.chunks (λ cs. bytes_of_chunks cs ≤ 16777216)

@@ -1,0 +1,74 @@
+//! Why a text describes no capture.
+ghost use Rattle.std.specs.Prelude.{◌≡◌};
+ghost use Rattle.capture_desc.specs.declared.fault.DescError.TheVariants.{Memory};
+
+use crate::lists::KeyText;
+use std::alloc::AllocError;
+
+/// A key of a description (this project's own form).
+#[derive(Clone, Copy, Debug, PartialEq, Eq)]
+pub enum Key {
+    /// `format`: the name of a pixel format.
+    Format,
+    /// `width`: the pixels of a row.
+    Width,
+    /// `height`: the rows of the picture.
+    Height,
+    /// `fields`: which fields are captured.
+    Fields,
+    /// `stride`: for each plane the bytes from a row to the next.
+    Stride,
+    /// `offset`: for each plane where its first byte stands among the picture's bytes.
+    Offset,
+    /// `skip_lines`: the lines of a field that are passed over before its first row.
+    SkipLines,
+    /// `vbi_lines`: the lines of a field that are captured in the vertical blanking interval.
+    VbiLines,
+    /// `vbi_bytes`: the bytes of such a line.
+    VbiBytes,
+    /// `vbi_offset`: where the first of these bytes stands among the picture's bytes.
+    VbiOffset,
+    /// `clip`: rectangles that keep what memory held.
+    Clip,
+    /// `base`: the address of the program.
+    Base,
+    /// `pages`: the addresses of the pages that take the picture's bytes, in their order.
+    Pages,
+    /// `chunks`: addresses and lengths of the memory that takes the picture's bytes, in place of pages.
+    Chunks,
+    /// `fill`: the byte that memory holds before the capture.
+    Fill,
+}
+
+/// Why a text is no description (this project's own rules).
+#[derive(Drop)]
+pub enum DescFault {
+    /// No TOML document.
+    NotToml,
+    /// A key that no description has: of several the least in byte order.
+    Unknown(KeyText),
+    /// A key that has to be there is not.
+    Missing(Key),
+    /// The key's value, a member of it or a member's member has another TOML type.
+    WrongKind(Key),
+    /// The key's value is none of the words or numbers that it may be, or has not as many members as
+    /// it may have.
+    OutOfRange(Key),
+}
+
+/// Why no description was read.
+#[derive(Drop)]
+pub enum DescError {
+    /// The text is none.
+    Bad(DescFault),
+    /// Want of memory.
+    Memory,
+}
+
+impl From<AllocError> for DescError {
+    ghost from_gives = { λ _ error. error ≡ Memory };
+
+    fn from(_error: AllocError) -> DescError {
+        DescError::Memory
+    }
+}
