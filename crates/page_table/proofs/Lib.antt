@@ -6,3 +6,6 @@ pub mod Pages
 pub mod Covering
 pub mod Memory
 pub mod Grants
+pub mod Scattered
+pub mod Ends
+pub mod ScatterLists

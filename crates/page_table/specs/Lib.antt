@@ -1,3 +1,4 @@
 pub mod Grants
 pub mod Blocks
 pub mod Taken
+pub mod Scattered

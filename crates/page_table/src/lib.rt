@@ -12,6 +12,10 @@ use std::alloc::{AllocError, AllocFailed, Global};
 use std::collections::BTreeMap;
 use std::marker::Model;
 
+mod scatter;
+
+pub use scatter::{Scatter, ScatterFault};
+
 const MOST_CHUNKS: usize = 4096;
 
 const MOST_BYTES: u64 = 16_777_216;
@@ -59,7 +63,7 @@ fn is_aligned(at: u32, len: u32) -> bool
 }
 
 fn total(chunks: &[(u32, u32)]) -> u64
-    requires { length chunks.now ≤ 4096 }
+    requires { length chunks.now ≤ 2 ^ 30 }
     ensures { result ≡ total (listed chunks.now) }
 {
     chunks.iter().map(|pair| u64::from(pair.1)).sum()
