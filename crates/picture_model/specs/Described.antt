@@ -1,0 +1,147 @@
+-- What a description asks for: its fields, the rows of its planes and where they lie, its VBI areas and
+-- its memory. Planes are counted from 1, offsets are bytes, counted along the pages or chunks.
+use Rattle.std.specs.Prelude.{ℕ, zero, suc, ◌+◌, ◌-◌, ◌*◌, ◌/◌, ◌^◌, ◌<◌, ◌≤◌, Bool, true, false, ◌==◌, All, length, List, [], ◌∷◌, ◌++◌, map, Option, Some, None, unwrap_or, if◌then◌else◌, max, slice_index}
+use Rattle.std.specs.List.{range_with_len}
+use Rattle.pixel_layout.specs.declared.Parity.{Parity}
+use Rattle.pixel_layout.specs.declared.Parity.TheVariants.{Top, Bottom}
+use Rattle.pixel_layout.specs.Layouts.{Layout, layout, planes_of, row_bytes, chroma_rows}
+use Rattle.page_table.specs.Grants.{Chunk}
+use Rattle.page_table.specs.Taken.{listed, page_at}
+use Rattle.capture_desc.specs.WellFormed.{IsWellFormed}
+use Rattle.capture_desc.specs.declared.desc.Desc.{Desc}
+use Rattle.capture_desc.specs.declared.desc.Fields.{Fields}
+use Rattle.capture_desc.specs.declared.desc.Fields.TheVariants as fields
+
+-- what every description meets, its pages are addresses, and it has at most 64 clip rectangles
+pub record IsDescription (d : Desc) : Type 0 where
+  pub formed : IsWellFormed d
+  pub pages : All (λ page. page < 2 ^ 32) d.pages
+  pub clips : length d.clip ≤ 64
+
+-- the fields
+
+abbrev pub is_both : Fields → Bool
+is_both fields.Top = false
+is_both fields.Bottom = false
+is_both fields.Both = true
+
+-- the described fields, in the order of the program
+abbrev pub fields_of : Fields → List Parity
+fields_of fields.Top = Top ∷ []
+fields_of fields.Bottom = Bottom ∷ []
+fields_of fields.Both = Top ∷ Bottom ∷ []
+
+abbrev pub describes : Fields → Parity → Bool
+describes fields.Both field = true
+describes fields.Top Top = true
+describes fields.Top Bottom = false
+describes fields.Bottom Top = false
+describes fields.Bottom Bottom = true
+
+abbrev pub layout_of : Desc → Layout
+layout_of d = layout d.format
+
+abbrev pub both : Desc → Bool
+both d = is_both d.fields
+
+-- how many rows a field has; none where it isn't described
+abbrev pub field_height : Desc → Parity → ℕ
+field_height d field =
+    if describes d.fields field then (if both d then d.height / 2 else d.height) else 0
+
+-- the picture row that is row `number` of a field: with both fields, the top field has the even rows
+abbrev pub picture_row : Bool → Parity → ℕ → ℕ
+picture_row false field number = number
+picture_row true Top number = 2 * number
+picture_row true Bottom number = 2 * number + 1
+
+-- the picture rows of a field, in order
+abbrev pub rows_of : Desc → Parity → List ℕ
+rows_of d field = map (picture_row (both d) field) (range_with_len 0 (field_height d field))
+
+-- the planes
+
+-- the planes of a picture, in order
+abbrev pub planes : Desc → List ℕ
+planes d = range_with_len 1 (planes_of (layout_of d))
+
+-- the number given for a plane, or its default
+abbrev pub given_or : Option (List ℕ) → ℕ → ℕ → ℕ
+given_or (Some numbers) plane default = slice_index numbers (plane - 1)
+given_or None plane default = default
+
+abbrev pub plane_row_bytes : Desc → ℕ → ℕ
+plane_row_bytes d plane = row_bytes (layout_of d) plane d.width
+
+abbrev pub plane_rows : Desc → ℕ → ℕ
+plane_rows d plane =
+    if plane == 1 then d.height else chroma_rows (layout_of d) (both d) d.height
+
+-- from one row of a plane to the next; by default rows stand close
+abbrev pub stride : Desc → ℕ → ℕ
+stride d plane = given_or d.stride plane (plane_row_bytes d plane)
+
+-- from the first byte of a plane to the end of its last row
+abbrev pub plane_bytes : Desc → ℕ → ℕ
+plane_bytes d plane = (plane_rows d plane - 1) * stride d plane + plane_row_bytes d plane
+
+-- by default plane 1 begins at 0 and each next plane at the end of the one before it
+abbrev pub default_offset : Desc → ℕ → ℕ
+default_offset d zero = 0
+default_offset d (suc zero) = 0
+default_offset d (suc (suc before)) = default_offset d (suc before) + plane_bytes d (suc before)
+
+abbrev pub offset : Desc → ℕ → ℕ
+offset d plane = given_or d.offset plane (default_offset d plane)
+
+-- the stretches of offsets that a picture takes
+
+-- the offsets from `from` up to `to`, which isn't part of it
+pub record Extent : Type 0 where
+  pub from : ℕ
+  pub to : ℕ
+
+abbrev pub stretch : ℕ → ℕ → Extent
+stretch from count = record { from = from; to = from + count }
+
+abbrev pub extent : Desc → ℕ → Extent
+extent d plane = stretch (offset d plane) (plane_bytes d plane)
+
+abbrev pub highest_end : List Extent → ℕ
+highest_end [] = 0
+highest_end (e ∷ rest) = max e.to (highest_end rest)
+
+abbrev pub extents : Desc → List Extent
+extents d = map (extent d) (planes d)
+
+-- a field's VBI lines stand close; by default they begin at the highest end of a plane, and with both
+-- fields the bottom field's follow the top field's
+abbrev pub vbi_size : Desc → ℕ
+vbi_size d = d.vbi_lines * d.vbi_bytes
+
+abbrev pub vbi_begin : Desc → ℕ
+vbi_begin d = unwrap_or d.vbi_offset (highest_end (extents d))
+
+abbrev pub areas_before : Fields → Parity → ℕ
+areas_before fields.Both Bottom = 1
+areas_before _ field = 0
+
+abbrev pub vbi_offset : Desc → Parity → ℕ
+vbi_offset d field = vbi_begin d + areas_before d.fields field * vbi_size d
+
+abbrev pub vbi_area : Desc → Parity → Extent
+vbi_area d field = stretch (vbi_offset d field) (vbi_size d)
+
+-- the extents of the planes and the VBI areas of the described fields, of which some may be empty
+abbrev pub taken : Desc → List Extent
+taken d = extents d ++ map (vbi_area d) (fields_of d.fields)
+
+-- the memory
+
+-- the pages or chunks in the order in which the picture's bytes lie in them
+abbrev pub memory_from : Option (List (ℕ × ℕ)) → List ℕ → List Chunk
+memory_from None pages = map page_at pages
+memory_from (Some pairs) pages = listed pairs
+
+abbrev pub memory_of : Desc → List Chunk
+memory_of d = memory_from d.chunks d.pages

@@ -1,0 +1,5 @@
+pub mod Described
+pub mod Places
+pub mod Plans
+pub mod Programs
+pub mod Geometry

@@ -1,0 +1,230 @@
+-- The plan of a line: how it is cut into pieces.
+use Rattle.std.specs.Prelude.{ℕ, zero, suc, ◌+◌, ◌-◌, ◌*◌, ◌/◌, ◌<◌, ◌≤◌, ◌≡◌, Bool, true, false, ◌==◌, List, [], ◌∷◌, ◌++◌, map, Option, Some, None, if◌then◌else◌, min}
+use Rattle.std.specs.List.{flat_map}
+use Rattle.risc_word.specs.declared.Ends.{Ends}
+use Rattle.pixel_layout.specs.declared.Parity.{Parity}
+use Rattle.pixel_layout.specs.Layouts.{Layout, chroma_row}
+use Rattle.clip_spans.specs.declared.Span.{Span}
+use Rattle.clip_spans.specs.Runs.{span, spans_of}
+use Rattle.page_table.specs.Grants.{Chunk}
+use Rattle.capture_desc.specs.declared.desc.Desc.{Desc}
+use Rattle.picture_model.specs.declared.PieceKind.{PieceKind}
+use Rattle.picture_model.specs.declared.PieceKind.TheVariants.{Write, WriteLuma, Skip}
+use Rattle.picture_model.specs.declared.Piece.{Piece}
+use Rattle.page_table.specs.Scattered.{address_at, room_at}
+use Rattle.picture_model.specs.Described.{both, layout_of, memory_of}
+use Rattle.picture_model.specs.Places.{row_offset, vbi_line_offset}
+
+-- a line before it is cut
+
+-- a grain is what no cut divides: a byte of a packed line, a unit of a planar one. A track is what a line
+-- moves on a plane: the bytes of a grain, and the offset of the line's first byte, where it is written
+pub record Track : Type 0 where
+  pub size : ℕ
+  pub start : Option ℕ
+
+abbrev pub track : ℕ → Option ℕ → Track
+track size start = record { size = size; start = start }
+
+-- a line: its grains, its spans in grains, what its unclipped pieces do, whether it is of the planar form,
+-- and its three tracks
+pub record Strip : Type 0 where
+  pub grains : ℕ
+  pub spans : List Span
+  pub kind : PieceKind
+  pub planar : Bool
+  pub one : Track
+  pub two : Track
+  pub three : Track
+
+-- the grains in so many pixels
+abbrev pub grains_of : Layout → ℕ → ℕ
+grains_of l pixels = if l.planar then pixels / l.pixels else pixels / l.pixels * l.bytes
+
+abbrev pub in_grains : Layout → Span → Span
+in_grains l s = span (grains_of l s.from) (grains_of l s.to) s.clipped
+
+-- the bytes of a grain on a plane; 0 where a packed format has no such plane
+abbrev pub grain_bytes : Layout → ℕ → ℕ
+grain_bytes l plane =
+    if plane == 1 then (if l.planar then l.bytes else 1) else (if l.planar then 1 else 0)
+
+-- what the unclipped pieces of a row do, by the row that its chroma is kept in
+abbrev pub kind_by : Bool → Option ℕ → PieceKind
+kind_by true None = WriteLuma
+kind_by _ chroma = Write
+
+abbrev pub row_track : Desc → ℕ → ℕ → Track
+row_track d plane row = track (grain_bytes (layout_of d) plane) (row_offset d plane row)
+
+-- a row of the picture
+abbrev pub row_strip : Desc → ℕ → Strip
+row_strip d row =
+    record {
+      grains = grains_of (layout_of d) d.width;
+      spans = map (in_grains (layout_of d)) (spans_of d.clip row d.width (layout_of d).pixels);
+      kind = kind_by (layout_of d).planar (chroma_row (layout_of d) (both d) row);
+      planar = (layout_of d).planar;
+      one = row_track d 1 row;
+      two = row_track d 2 row;
+      three = row_track d 3 row;
+    }
+
+-- a skipped line: as long as a row, and clipped whole
+abbrev pub skipped_strip : Desc → Strip
+skipped_strip d =
+    record {
+      grains = grains_of (layout_of d) d.width;
+      spans = span 0 (grains_of (layout_of d) d.width) true ∷ [];
+      kind = Skip;
+      planar = (layout_of d).planar;
+      one = track (grain_bytes (layout_of d) 1) None;
+      two = track (grain_bytes (layout_of d) 2) None;
+      three = track (grain_bytes (layout_of d) 3) None;
+    }
+
+-- a VBI line: packed, and not clipped
+abbrev pub vbi_strip : Desc → Parity → ℕ → Strip
+vbi_strip d field line =
+    record {
+      grains = d.vbi_bytes;
+      spans = span 0 d.vbi_bytes false ∷ [];
+      kind = Write;
+      planar = false;
+      one = track 1 (Some (vbi_line_offset d field line));
+      two = track 0 None;
+      three = track 0 None;
+    }
+
+-- how a line is cut
+
+-- n grains of a line, from grain `at` on, within a span
+pub record Cut : Type 0 where
+  pub at : ℕ
+  pub n : ℕ
+  pub clipped : Bool
+
+-- the bytes lie in one chunk, where they are written
+abbrev pub IsInOneChunk : List Chunk → Bool → ℕ → Option ℕ → ℕ → ℕ → Type 0
+IsInOneChunk memory false size (Some start) at n = n * size ≤ room_at memory (start + at * size)
+IsInOneChunk memory _ size _ at n = Unit {0}
+
+-- n grains keep the limits of a track: at most 4,092 bytes, and those written within one chunk
+pub record FitsTrack (memory : List Chunk) (clipped : Bool) (at n : ℕ) (t : Track) : Type 0 where
+  pub few : n * t.size ≤ 4092
+  pub whole : IsInOneChunk memory clipped t.size t.start at n
+
+-- n grains stand within their span and keep the limits of each track
+pub record Fits (memory : List Chunk) (strip : Strip) (s : Span) (at n : ℕ) : Type 0 where
+  pub within : at + n ≤ s.to
+  pub one : FitsTrack memory s.clipped at n strip.one
+  pub two : FitsTrack memory s.clipped at n strip.two
+  pub three : FitsTrack memory s.clipped at n strip.three
+
+-- the cuts of a span from grain `at` on: in order and without a gap, each as long as its limits allow
+pub record IsCut (memory : List Chunk) (strip : Strip) (s : Span) (at : ℕ) (k : Cut) : Type 0 where
+  pub here : k.at ≡ at
+  pub same : k.clipped ≡ s.clipped
+  pub some : 0 < k.n
+  pub fits : Fits memory strip s at k.n
+  pub longest : Fits memory strip s at (k.n + 1) → ⊥
+
+abbrev pub AreCutsFrom : List Chunk → Strip → Span → ℕ → List Cut → Type 0
+AreCutsFrom memory strip s at [] = at ≡ s.to
+AreCutsFrom memory strip s at (k ∷ rest) =
+    IsCut memory strip s at k × AreCutsFrom memory strip s (at + k.n) rest
+
+-- the cuts of a line, span by span
+abbrev pub AreCuts : List Chunk → Strip → List Span → List Cut → Type 0
+AreCuts memory strip [] cuts = cuts ≡ []
+AreCuts memory strip (s ∷ rest) cuts =
+    (first later : List Cut) × (cuts ≡ first ++ later) × AreCutsFrom memory strip s s.from first
+    × AreCuts memory strip rest later
+
+-- the same by a function
+
+-- how many grains fit into so many bytes; a track without bytes sets no limit
+abbrev pub most : ℕ → ℕ → ℕ → ℕ
+most zero bytes otherwise = otherwise
+most (suc less) bytes otherwise = bytes / suc less
+
+-- the bytes that a cut may have on a track
+abbrev pub bytes_free : List Chunk → Bool → ℕ → Option ℕ → ℕ → ℕ
+bytes_free memory false size (Some start) at = min 4092 (room_at memory (start + at * size))
+bytes_free memory _ size _ at = 4092
+
+abbrev pub most_of : List Chunk → Bool → ℕ → ℕ → Track → ℕ
+most_of memory clipped at otherwise t =
+    most t.size (bytes_free memory clipped t.size t.start at) otherwise
+
+-- the most grains that fit
+abbrev pub longest : List Chunk → Strip → Span → ℕ → ℕ
+longest memory strip s at =
+    let rest = s.to - at in
+    min (min rest (most_of memory s.clipped at rest strip.one))
+    (min (most_of memory s.clipped at rest strip.two) (most_of memory s.clipped at rest strip.three))
+
+abbrev pub cut : ℕ → ℕ → Bool → Cut
+cut at n clipped = record { at = at; n = n; clipped = clipped }
+
+-- at most `fuel` cuts of a span, of which `rest` grains are left
+abbrev pub cuts_from : ℕ → ℕ → List Chunk → Strip → Span → ℕ → List Cut
+cuts_from zero rest memory strip s at = []
+cuts_from (suc fuel) zero memory strip s at = []
+cuts_from (suc fuel) (suc rest) memory strip s at =
+    let n = longest memory strip s at in
+    cut at n s.clipped ∷ cuts_from fuel (suc rest - n) memory strip s (at + n)
+
+abbrev pub span_cuts : List Chunk → Strip → Span → List Cut
+span_cuts memory strip s = cuts_from (s.to - s.from) (s.to - s.from) memory strip s s.from
+
+abbrev pub cuts_of : List Chunk → Strip → List Span → List Cut
+cuts_of memory strip spans = flat_map (span_cuts memory strip) spans
+
+-- the pieces
+
+-- clipped pieces write nothing
+abbrev pub kind_of : Bool → PieceKind → PieceKind
+kind_of true kind = Skip
+kind_of false kind = kind
+
+abbrev pub ends_of : Strip → Cut → Ends
+ends_of strip k = record { sol = k.at == 0; eol = k.at + k.n == strip.grains }
+
+-- where a piece writes on a track
+abbrev pub address_of : List Chunk → Bool → ℕ → Option ℕ → ℕ → ℕ
+address_of memory false size (Some start) at = address_at memory (start + at * size)
+address_of memory _ size _ at = 0
+
+abbrev pub on_track : List Chunk → Cut → Track → ℕ
+on_track memory k t = address_of memory k.clipped t.size t.start k.at
+
+abbrev pub piece_of : List Chunk → Strip → Cut → Piece
+piece_of memory strip k =
+    record {
+      kind = kind_of k.clipped strip.kind;
+      ends = ends_of strip k;
+      counts = k.n * strip.one.size ∷ k.n * strip.two.size ∷ k.n * strip.three.size ∷ [];
+      addrs = on_track memory k strip.one ∷ on_track memory k strip.two ∷ on_track memory k strip.three ∷ [];
+    }
+
+abbrev pub pieces_of : List Chunk → Strip → List Cut → List Piece
+pieces_of memory strip cuts = map (piece_of memory strip) cuts
+
+-- a list of pieces is the plan of a line
+abbrev pub IsPlan : List Chunk → Strip → List Piece → Type 0
+IsPlan memory strip pieces =
+    (cuts : List Cut) × AreCuts memory strip strip.spans cuts × (pieces ≡ pieces_of memory strip cuts)
+
+-- the one plan of a line
+abbrev pub plan : List Chunk → Strip → List Piece
+plan memory strip = pieces_of memory strip (cuts_of memory strip strip.spans)
+
+abbrev pub row_plan : Desc → ℕ → List Piece
+row_plan d row = plan (memory_of d) (row_strip d row)
+
+abbrev pub skipped_plan : Desc → List Piece
+skipped_plan d = plan (memory_of d) (skipped_strip d)
+
+abbrev pub vbi_plan : Desc → Parity → ℕ → List Piece
+vbi_plan d field line = plan (memory_of d) (vbi_strip d field line)
