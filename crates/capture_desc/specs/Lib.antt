@@ -1,1 +1,4 @@
 pub mod WellFormed
+pub mod Keys
+pub mod Values
+pub mod Description

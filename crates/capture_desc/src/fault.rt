@@ -1,6 +1,7 @@
 //! Why a text describes no capture.
 ghost use Rattle.std.specs.Prelude.{◌≡◌};
-ghost use Rattle.capture_desc.specs.declared.fault.DescError.TheVariants.{Memory};
+ghost use Rattle.capture_desc.specs.declared.fault.DescError.TheVariants.{Bad, Memory};
+ghost use Rattle.capture_desc.specs.Keys.{is_known, name_of};
 
 use crate::lists::KeyText;
 use std::alloc::AllocError;
@@ -40,6 +41,44 @@ pub enum Key {
     Fill,
 }
 
+impl Key {
+    /// The key as it is written.
+    pub(crate) fn name(self) -> &'static str
+        ensures { result.now ≡ name_of self }
+    {
+        match self {
+            Key::Format => "format",
+            Key::Width => "width",
+            Key::Height => "height",
+            Key::Fields => "fields",
+            Key::Stride => "stride",
+            Key::Offset => "offset",
+            Key::SkipLines => "skip_lines",
+            Key::VbiLines => "vbi_lines",
+            Key::VbiBytes => "vbi_bytes",
+            Key::VbiOffset => "vbi_offset",
+            Key::Clip => "clip",
+            Key::Base => "base",
+            Key::Pages => "pages",
+            Key::Chunks => "chunks",
+            Key::Fill => "fill",
+        }
+    }
+}
+
+/// Whether a key is one of a description.
+pub(crate) fn is_known(name: &str) -> bool
+    ensures { result ≡ is_known name.now }
+{
+    match name {
+        "format" | "width" | "height" | "fields" => true,
+        "stride" | "offset" | "skip_lines" => true,
+        "vbi_lines" | "vbi_bytes" | "vbi_offset" => true,
+        "clip" | "base" | "pages" | "chunks" | "fill" => true,
+        _ => false,
+    }
+}
+
 /// Why a text is no description (this project's own rules).
 #[derive(Drop)]
 pub enum DescFault {
@@ -70,5 +109,13 @@ impl From<AllocError> for DescError {
 
     fn from(_error: AllocError) -> DescError {
         DescError::Memory
+    }
+}
+
+impl From<DescFault> for DescError {
+    ghost from_gives = { λ fault error. error ≡ Bad fault };
+
+    fn from(fault: DescFault) -> DescError {
+        DescError::Bad(fault)
     }
 }

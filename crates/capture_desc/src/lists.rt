@@ -19,6 +19,13 @@ impl Model for Numbers {
 }
 
 impl Numbers {
+    /// Keeps a list.
+    pub(crate) fn from_vec(numbers: Vec<u32>) -> Numbers
+        ensures { result ≡ numbers.items }
+    {
+        Numbers { numbers }
+    }
+
     /// Keeps a copy of a list.
     pub fn from_list(alloc: Global, numbers: &[u32]) -> Result<Numbers, AllocError>
         ensures { IfOk result (λ kept. kept ≡ numbers.now) }
@@ -51,6 +58,13 @@ impl Model for ChunkList {
 }
 
 impl ChunkList {
+    /// Keeps a list.
+    pub(crate) fn from_vec(pairs: Vec<(u32, u32)>) -> ChunkList
+        ensures { result ≡ pairs.items }
+    {
+        ChunkList { pairs }
+    }
+
     /// Keeps a copy of a list of addresses and lengths.
     pub fn from_list(alloc: Global, pairs: &[(u32, u32)]) -> Result<ChunkList, AllocError>
         ensures { IfOk result (λ kept. kept ≡ pairs.now) }

@@ -1,0 +1,37 @@
+-- What a text describes, by what `toml` says of it.
+use Rattle.std.proofs.Common.{◌≡◌, ℕ, Bool, false, List, Some, None, Result, Err, inl, inr, sym, ◌∙◌}
+use Rattle.std.specs.Prelude.{IsUtf8, IsTrue, ◌↔◌}
+use Rattle.std.specs.Str.{is_utf8}
+use Rattle.std.proofs.lemmas.Bool.{cases_Bool, false≢true}
+use Rattle.std.proofs.lemmas.Str.{IsUtf8-from_is_utf8, is_utf8-from_IsUtf8}
+use Rattle.toml.specs.Data.{Members}
+use Rattle.toml.specs.Parse.{parse_document}
+use Rattle.toml.specs.Errors.{IsMemory}
+use Rattle.toml.specs.declared.de.error.Error.{Error}
+use Rattle.capture_desc.specs.declared.desc.Desc.{Desc}
+use Rattle.capture_desc.specs.declared.fault.DescError.{DescError}
+use Rattle.capture_desc.specs.declared.fault.DescFault.TheVariants.{NotToml, Unknown}
+use Rattle.capture_desc.specs.Keys.{least, unknown_names}
+use Rattle.capture_desc.specs.Description.{Answers, described, document_of, values}
+
+no_document : (text : List ℕ) → (IsUtf8 text → parse_document text ≡ None) → document_of text ≡ None
+no_document text refused =
+    elim (cases_Bool (is_utf8 text)) [
+      | inl utf8 ↦ rw (utf8, refused (IsUtf8-from_is_utf8 text utf8))
+      | inr other ↦ rw other
+    ]
+
+some_document : (text : List ℕ) (ms : Members) → IsUtf8 text × (parse_document text ≡ Some ms) → document_of text ≡ Some ms
+some_document text ms parsed = rw (is_utf8-from_IsUtf8 text parsed.0, parsed.1)
+
+pub described-refused : (text : List ℕ) (error : Error) (memory : Bool) → (IsTrue memory ↔ IsMemory error) → memory ≡ false → ((IsMemory error → ⊥) → IsUtf8 text → parse_document text ≡ None) → described text ≡ Err NotToml
+described-refused text error memory decides other refused =
+    rw (no_document text (refused (λ is_memory. false≢true (sym other ∙ decides.1 is_memory))))
+
+pub described-unknown : (text : List ℕ) (ms : Members) (name key : List ℕ) → IsUtf8 text × (parse_document text ≡ Some ms) → Some name ≡ least (unknown_names ms) → key ≡ name → described text ≡ Err (Unknown key)
+described-unknown text ms name key parsed unknown same =
+    rw (some_document text ms parsed, ← unknown, same)
+
+pub described-known : (text : List ℕ) (ms : Members) (answer : Result Desc DescError) → IsUtf8 text × (parse_document text ≡ Some ms) → None ≡ least (unknown_names ms) → Answers (values ms) answer → Answers (described text) answer
+described-known text ms answer parsed known answered =
+    rw (some_document text ms parsed, ← known) answered

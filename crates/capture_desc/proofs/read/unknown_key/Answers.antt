@@ -1,0 +1,20 @@
+use Rattle.std.proofs.Common.{◌∙◌, ap, sym}
+use Rattle.capture_desc.specs.Keys.{is_known}
+use Rattle.capture_desc.proofs.Least.{next_known, next_sorted, next_unknown}
+use Rattle.capture_desc.proofs.read.unknown_key.Goals as goal
+
+pub returns-then-not-is_known : goal.returns-then-not-is_known
+returns-then-not-is_known c =
+    next_unknown _ c.loop-key.key-iterator c.next.new.self (c.in-Some.key.now, c.in-Some._value.now) c.in-Some.ensures.steps
+    (ap is_known (sym c.as_str.ensures.value) ∙ sym c.is_known.ensures ∙ c.if-not-is_known.true)
+    c.loop-key.invariant.2 c.loop-key.invariant.3
+
+pub loop-key-preserved : goal.loop-key-preserved
+loop-key-preserved c = (
+  tt,
+  tt,
+  next_known _ c.loop-key.key-iterator c.next.new.self (c.in-Some.key.now, c.in-Some._value.now) c.in-Some.ensures.steps
+      (ap is_known (sym c.as_str.ensures.value) ∙ sym c.is_known.ensures ∙ c.if-not-is_known.false)
+      c.loop-key.invariant.2,
+  next_sorted c.loop-key.key-iterator c.next.new.self (c.in-Some.key.now, c.in-Some._value.now) c.in-Some.ensures.steps c.loop-key.invariant.3,
+)
