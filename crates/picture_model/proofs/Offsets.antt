@@ -165,7 +165,7 @@ pub record IsRowAt (d : Desc) (plane row from : ℕ) : Type 0 where
   pub held : plane_row (layout_of d) (both d) plane row ≡ Some number
   pub at : from ≡ offset d plane + number * stride d plane
 
-mapped_some : (f : ℕ → ℕ) (o : Option ℕ) (y : ℕ) → option_map f o ≡ Some y → (x : ℕ) × (o ≡ Some x) × (f x ≡ y)
+pub mapped_some : (f : ℕ → ℕ) (o : Option ℕ) (y : ℕ) → option_map f o ≡ Some y → (x : ℕ) × (o ≡ Some x) × (f x ≡ y)
 mapped_some f None y is = cc
 mapped_some f (Some x) y is = let same : f x ≡ y = cc in (x, refl, same)
 
@@ -190,7 +190,7 @@ row_end d plane row from right has below is =
     let within = row_within d plane row from right below is in
     let all = extent_within d plane right has in omega arith
 
-vbi_line_within : (lines bytes line : ℕ) → line < lines → line * bytes + bytes ≤ lines * bytes
+pub vbi_line_within : (lines bytes line : ℕ) → line < lines → line * bytes + bytes ≤ lines * bytes
 vbi_line_within lines bytes line below = row_fits line bytes lines bytes below (omega arith)
 
 pub vbi_end : (d : Desc) (field : Parity) (line : ℕ) → IsRight d → describes d.fields field ≡ true → line < d.vbi_lines → vbi_line_offset d field line + d.vbi_bytes ≤ total (memory_of d)
@@ -200,7 +200,7 @@ vbi_end d field line right is below =
 
 -- different bytes have different offsets
 
-rows_differ : (d : Desc) (plane row other from from' x y : ℕ) → IsRight d → HasPlane d plane → IsRowAt d plane row from → IsRowAt d plane other from' → x < plane_row_bytes d plane → y < plane_row_bytes d plane → from + x ≡ from' + y → (row ≡ other) × (x ≡ y)
+pub rows_differ : (d : Desc) (plane row other from from' x y : ℕ) → IsRight d → HasPlane d plane → IsRowAt d plane row from → IsRowAt d plane other from' → x < plane_row_bytes d plane → y < plane_row_bytes d plane → from + x ≡ from' + y → (row ≡ other) × (x ≡ y)
 rows_differ d plane row other from from' x y right has is is' x_in y_in same =
     let at = is.at in let at' = is'.at in
     let wide = right.rows_apart plane has.low has.high in
@@ -212,18 +212,18 @@ module _ (d : Desc) (right : IsRight d) where
   apart : IsApart (extent d) 1 (planes_of (layout_of d)) (map (vbi_area d) (fields_of d.fields))
   apart = are_apart (extent d) 1 (planes_of (layout_of d)) (map (vbi_area d) (fields_of d.fields)) right.parts_apart
 
-  planes_differ : (plane other row row' from from' x y : ℕ) → HasPlane d plane → HasPlane d other → plane < other → row < d.height → row' < d.height → IsRowAt d plane row from → IsRowAt d other row' from' → x < plane_row_bytes d plane → y < plane_row_bytes d other → from + x ≡ from' + y → ⊥
+  pub planes_differ : (plane other row row' from from' x y : ℕ) → HasPlane d plane → HasPlane d other → plane < other → row < d.height → row' < d.height → IsRowAt d plane row from → IsRowAt d other row' from' → x < plane_row_bytes d plane → y < plane_row_bytes d other → from + x ≡ from' + y → ⊥
   planes_differ plane other row row' from from' x y has has' order below below' is is' x_in y_in same =
       let one = row_within d plane row from right below is in
       let two = row_within d other row' from' right below' is' in
       let high = has'.high in
       no_common (extent d plane) (extent d other) (from + x) (apart.later plane other has.low order (omega arith)) (omega arith) (omega arith) (omega arith) (omega arith)
 
-  plane_and_area : (plane : ℕ) (field : Parity) (o : ℕ) → HasPlane d plane → describes d.fields field ≡ true → offset d plane ≤ o → o < offset d plane + plane_bytes d plane → vbi_offset d field ≤ o → o < vbi_offset d field + vbi_size d → ⊥
+  pub plane_and_area : (plane : ℕ) (field : Parity) (o : ℕ) → HasPlane d plane → describes d.fields field ≡ true → offset d plane ≤ o → o < offset d plane + plane_bytes d plane → vbi_offset d field ≤ o → o < vbi_offset d field + vbi_size d → ⊥
   plane_and_area plane field o has is p_from p_to a_from a_to =
       let high = has.high in
       let none = apart.other plane has.low (omega arith) in
       no_common (extent d plane) (vbi_area d field) o (none_of_areas (overlaps (extent d plane)) (vbi_area d) d.fields field is none) p_from p_to a_from a_to
 
-  areas_differ : (o : ℕ) (field other : Parity) → describes d.fields field ≡ true → describes d.fields other ≡ true → vbi_offset d field ≤ o → o < vbi_offset d field + vbi_size d → vbi_offset d other ≤ o → o < vbi_offset d other + vbi_size d → field ≡ other
+  pub areas_differ : (o : ℕ) (field other : Parity) → describes d.fields field ≡ true → describes d.fields other ≡ true → vbi_offset d field ≤ o → o < vbi_offset d field + vbi_size d → vbi_offset d other ≤ o → o < vbi_offset d other + vbi_size d → field ≡ other
   areas_differ o field other is is' f_from f_to o_from o_to = same_area (vbi_area d) d.fields field other o is is' apart.rest f_from f_to o_from o_to

@@ -5,6 +5,7 @@ use Rattle.risc_word.specs.declared.Ends.{Ends}
 use Rattle.pixel_layout.specs.declared.Parity.{Parity}
 use Rattle.pixel_layout.specs.Layouts.{Layout, chroma_row}
 use Rattle.clip_spans.specs.declared.Span.{Span}
+use Rattle.clip_spans.specs.Clipping.{unit_clipped}
 use Rattle.clip_spans.specs.Runs.{span, spans_of}
 use Rattle.page_table.specs.Grants.{Chunk}
 use Rattle.capture_desc.specs.declared.desc.Desc.{Desc}
@@ -43,6 +44,14 @@ grains_of l pixels = if l.planar then pixels / l.pixels else pixels / l.pixels *
 
 abbrev pub in_grains : Layout → Span → Span
 in_grains l s = span (grains_of l s.from) (grains_of l s.to) s.clipped
+
+-- a grain of a row is clipped with its unit
+abbrev pub unit_of : Layout → ℕ → ℕ
+unit_of l grain = if l.planar then grain else grain / l.bytes
+
+abbrev pub grain_clipped : Desc → ℕ → ℕ → Bool
+grain_clipped d row grain =
+    unit_clipped d.clip row (layout_of d).pixels (unit_of (layout_of d) grain)
 
 -- the bytes of a grain on a plane; 0 where a packed format has no such plane
 abbrev pub grain_bytes : Layout → ℕ → ℕ

@@ -3,6 +3,8 @@
 //! definitions stand in `specs/`.
 #![tactic(auto)]
 
+pub mod laws;
+
 use risc_word::Ends;
 
 /// Why a description has no program: the faults of its geometry, in the order in which they are judged

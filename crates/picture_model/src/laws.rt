@@ -1,0 +1,39 @@
+//! Laws of descriptions whose geometry has no fault. The functions do nothing; their contracts are the
+//! laws.
+
+ghost use Rattle.std.specs.Prelude.{◌≡◌, ◌↔◌, ℕ, ◌<◌, true, Some, List};
+ghost use Rattle.capture_desc.specs.declared.desc.Desc.{Desc};
+ghost use Rattle.clip_spans.specs.Runs.{AreRunsFrom};
+ghost use Rattle.page_table.specs.Grants.{granted};
+ghost use Rattle.pixel_layout.specs.declared.Parity.{Parity};
+ghost use Rattle.picture_model.specs.declared.Piece.{Piece};
+ghost use Rattle.picture_model.specs.Described.{IsDescription, describes, layout_of, memory_of};
+ghost use Rattle.picture_model.specs.Geometry.{IsFrame};
+ghost use Rattle.picture_model.specs.Places.{Byte, IsByte, byte_place};
+ghost use Rattle.picture_model.specs.Plans.{IsPlan, grain_clipped, grains_of, row_plan, row_strip, skipped_plan, skipped_strip, vbi_plan, vbi_strip};
+ghost use Rattle.picture_model.specs.Programs.{compiled};
+
+/// Each row, each skipped line and each VBI line has exactly one plan, the one that is computed.
+pub fn every_line_has_one_plan()
+    ensures row { (d : Desc) (row : ℕ) (pieces : List Piece) → IsDescription d → IsFrame d → row < d.height →
+        (IsPlan (memory_of d) (row_strip d row) pieces ↔ (pieces ≡ row_plan d row)) }
+    ensures skipped { (d : Desc) (pieces : List Piece) → (IsPlan (memory_of d) (skipped_strip d) pieces ↔ (pieces ≡ skipped_plan d)) }
+    ensures vbi { (d : Desc) (field : Parity) (line : ℕ) (pieces : List Piece) → IsDescription d → IsFrame d → describes d.fields field ≡ true → line < d.vbi_lines →
+        (IsPlan (memory_of d) (vbi_strip d field line) pieces ↔ (pieces ≡ vbi_plan d field line)) }
+{}
+
+/// The spans that a row is cut by are its maximal segments of clipped and of unclipped grains, in order
+/// and without a gap.
+pub fn rows_are_cut_by_segments()
+    ensures { (d : Desc) (row : ℕ) → IsDescription d → IsFrame d →
+        AreRunsFrom (grain_clipped d row) (grains_of (layout_of d) d.width) 0 (row_strip d row).spans }
+{}
+
+/// Each byte of a picture and of its VBI lines that is kept lies at an address that the program may
+/// write, and no two of them at the same.
+pub fn places_are_granted_and_differ()
+    ensures granted { (d : Desc) (byte : Byte) (address : ℕ) → IsDescription d → IsFrame d → IsByte d byte →
+        byte_place d byte ≡ Some address → granted (compiled d).grants address ≡ true }
+    ensures differ { (d : Desc) (byte other : Byte) (address : ℕ) → IsDescription d → IsFrame d → IsByte d byte → IsByte d other →
+        byte_place d byte ≡ Some address → byte_place d other ≡ Some address → byte ≡ other }
+{}
