@@ -1,8 +1,9 @@
 -- Laws of runs and of streams that come in pieces.
 use Rattle.std.proofs.Common.{◌≡◌, ℕ, zero, suc, ◌+◌, ◌-◌, ◌<◌, ◌≤◌, ◌⊎◌, inl, inr, false, true, List, [], ◌∷◌, ◌++◌, length, take, drop, replicate, option_map, Option, Some, None, Ok, Err, Result, refl, sym, ap, subst, ◌∙◌, arith, length-drop, length-take, zero-add, append_assoc, add-one}
 use Rattle.std.proofs.lemmas.Bool.{lt-ltb}
+use Rattle.std.proofs.Math.Nat.{add-sub_of_le}
 use Rattle.std.proofs.Math.Seq.{take-add}
-use Rattle.std.proofs.lemmas.List.{append-nil, take_all, drop-drop, take-append-drop, take-take}
+use Rattle.std.proofs.lemmas.List.{append-nil, take_all, drop-drop, take-append-drop, take-take, replicate-append-replicate}
 use Rattle.bt878_top.specs.Desks.{OfRest, Grows}
 use Rattle.capture_file.specs.Streams.{steps_of}
 use Rattle.capture_file.specs.declared.FileFault.{FileFault}
@@ -21,6 +22,15 @@ turn_more (suc k) m = turn_more k (turn m)
 
 pub one_turn_more : (m : State) (k : ℕ) → run m (replicate (k + 1) Turn) ≡ turn (run m (replicate k Turn))
 one_turn_more m k = ap (λ n. run m (replicate n Turn)) (add-one k) ∙ turn_more k m
+
+-- turns taken in two parts
+pub turns_after : (m now : State) (some whole : ℕ) → some ≤ whole → now ≡ run m (replicate some Turn) →
+    run now (replicate (whole - some) Turn) ≡ run m (replicate whole Turn)
+turns_after m now some whole few is =
+    ap (λ n. run n (replicate (whole - some) Turn)) is
+    ∙ sym (run-append m (replicate some Turn) (replicate (whole - some) Turn))
+    ∙ ap (run m) (replicate-append-replicate some (whole - some) Turn)
+    ∙ ap (λ n. run m (replicate n Turn)) (add-sub_of_le few)
 
 pub GoesOn-itself : (m : State) (whole : Reading) → GoesOn m whole m whole
 GoesOn-itself m whole = record { ran = refl; ending = refl }

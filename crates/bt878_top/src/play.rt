@@ -18,13 +18,29 @@ use page_ram::Ram;
 /// The most bytes of a stream.
 const LONGEST_STREAM: u64 = 4_294_967_295;
 
-/// Lets the machine take turns.
+/// Lets the machine take a group of turns.
 #[inline]
-fn take_turns<R: Ram>(machine: &mut Machine<R>, count: u32)
+fn take_group<R: Ram>(machine: &mut Machine<R>, count: u32)
     ensures { machine.new ≡ run machine.old (replicate count Turn) }
 {
     for _turn in 0..count {
         machine.turn();
+    }
+}
+
+/// Lets the machine take turns, in groups that grow: most turns of a recording find the machine still, and
+/// a group that begins with a still machine costs next to nothing.
+#[inline]
+fn take_turns<R: Ram>(machine: &mut Machine<R>, count: u32)
+    ensures { machine.new ≡ run machine.old (replicate count Turn) }
+{
+    let mut left = count;
+    let mut group: u32 = 1;
+    while left > 0 {
+        let some = left.min(group);
+        take_group(machine, some);
+        left -= some;
+        group = group.saturating_mul(16);
     }
 }
 

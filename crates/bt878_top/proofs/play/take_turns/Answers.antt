@@ -1,7 +1,12 @@
-use Rattle.std.proofs.Common.{◌≡◌, ◌∙◌, ap, sym}
-use Rattle.machine_model.specs.Turns.{turn}
-use Rattle.bt878_top.proofs.Playing.{one_turn_more}
+use Rattle.std.proofs.Common.{◌≡◌, ◌∙◌, ◌-◌, arith}
+use Rattle.bt878_top.proofs.Playing.{turns_after}
 use Rattle.bt878_top.proofs.play.take_turns.Goals as goal
 
-pub loop-turn-preserved : goal.loop-turn-preserved
-loop-turn-preserved g c = c.turn.ensures.state ∙ ap turn c.loop-turn.invariant ∙ sym (one_turn_more c.args.machine.now c.loop-turn._turn)
+pub loop-left-preserved : goal.loop-left-preserved
+loop-left-preserved g c =
+    record {
+      left =
+          turns_after c.loop-left.machine c.take_group.new.machine c.min-some.result c.loop-left.left (omega (arith, c.min-some.ensures)) c.take_group.ensures
+          ∙ c.loop-left.invariant.left;
+      group = omega (arith, c.saturating_mul-group.ensures, c.loop-left.invariant.group);
+    }

@@ -1,6 +1,13 @@
-use Rattle.std.proofs.Common.{◌≡◌, replicate}
+use Rattle.std.proofs.Common.{◌≡◌, ◌<◌, ℕ, replicate}
 use Rattle.machine_model.specs.Steps.{Turn, run}
 use Rattle.bt878_top.proofs.play.take_turns.Given as goal
 
-abbrev pub invariant-loop-turn : goal.invariant-loop-turn
-invariant-loop-turn g l = l.machine ≡ run l.fn.machine (replicate l._turn Turn)
+abbrev pub invariant-loop-left : goal.invariant-loop-left
+invariant-loop-left g l =
+    record {
+      left : run l.machine (replicate l.left Turn) ≡ run l.fn.machine (replicate l.count Turn);
+      group : 0 < l.group;
+    }
+
+abbrev pub decreases-loop-left : goal.decreases-loop-left
+decreases-loop-left g l = l.left
