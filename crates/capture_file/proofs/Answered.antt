@@ -13,7 +13,7 @@ use Rattle.capture_file.specs.declared.records.Found.{Found}
 use Rattle.capture_file.specs.declared.records.Found.TheVariants.{Cut, Wrong, Last, Whole}
 use Rattle.capture_file.specs.Records.{HasFour, Spans, Passes}
 use Rattle.capture_file.specs.Streams.{Reading, reading, Unfinished, Ended, number_at, form_of, record_at, records, within, within_if, opened_by, after_end, stream_of, judged, Bad}
-use Rattle.capture_file.specs.Readers.{Reader, Taken, resumed, taken, taken_in, unfinished_if, found_taken, record_taken, form_taken, word_taken, closed_taken, behind_word, begun, resumed_in, ending_in, Uses, Counts, IsAt, IsReader, Stays, PlacedAt}
+use Rattle.capture_file.specs.Readers.{Reader, Taken, taking, resumed, taken, taken_in, unfinished_if, found_taken, record_taken, form_taken, word_taken, closed_taken, behind_word, begun, resumed_in, ending_in, Uses, Counts, IsAt, IsReader, Stays, PlacedAt}
 use Rattle.capture_file.proofs.Fields.{number_at-four, record_at-spans, record_at-passes}
 use Rattle.capture_file.proofs.Readings.{records-front, front_of}
 
@@ -179,6 +179,10 @@ stays-phase (Failed fault) r piece is = is
 pub taken-stays : (r : Reader) (piece : List ℕ) → let t = taken r piece in Stays t.answer t.reader.phase
 unfolding taken
 taken-stays r piece = stays-phase r.phase r piece refl
+
+pub taken-again : (r : Reader) (piece : List ℕ) (fault : FileFault) → r.phase ≡ Failed fault → taken r piece ≡ taking 0 (got.Bad fault) r
+unfolding taken
+taken-again r piece fault is = ap (λ (phase : Phase). taken_in phase r piece) is
 
 -- The bytes that were used.
 

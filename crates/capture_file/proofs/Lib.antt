@@ -10,3 +10,6 @@ pub mod Images
 pub mod Spelled
 pub mod Unspelled
 pub mod Feeding
+pub mod Imaged
+pub mod Growing
+pub mod Faults

@@ -25,7 +25,7 @@ front_of Last form turns place bytes = reading [] (after_end (place + 1) (drop 1
 front_of (Whole step len) form turns place bytes =
     with_step step (records form (turns + turns_of step) (place + len) 0 (drop len bytes))
 
-abbrev cons_of : Found → Form → ℕ → ℕ → List ℕ → Reading
+abbrev pub cons_of : Found → Form → ℕ → ℕ → List ℕ → Reading
 cons_of Cut form turns place rest = reading [] Unfinished
 cons_of (Wrong from to kind) form turns place rest = reading [] (Bad (fault_at (place + from) kind))
 cons_of Last form turns place rest = reading [] (after_end (place + 1) rest)
@@ -45,7 +45,7 @@ cons-front (Whole step (suc len)) form turns place tag rest h =
     ∙ records-skip form (turns + turns_of step) (place + 1) len rest
     ∙ ap (λ (at : ℕ). records form (turns + turns_of step) at 0 (drop len rest)) on)
 
-records-cons : (form : Form) (turns place tag : ℕ) (rest : List ℕ) → records form turns place 0 (tag ∷ rest) ≡ cons_of (record_at form turns (tag ∷ rest)) form turns place rest
+pub records-cons : (form : Form) (turns place tag : ℕ) (rest : List ℕ) → records form turns place 0 (tag ∷ rest) ≡ cons_of (record_at form turns (tag ∷ rest)) form turns place rest
 unfolding records
 records-cons form turns place tag rest =
     elim (record_at form turns (tag ∷ rest)) as

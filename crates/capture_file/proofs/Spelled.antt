@@ -174,11 +174,11 @@ unfolding fill_field
 fill_again layout size fill chunks e = ap (λ (k : Option FileKind). judged k size (fill ∷ []) >>= λ _. Ok fill) e
 
 -- the chunks stand in the form that is theirs
-abbrev IsFor : Layout → List Chunk → Type 0
+abbrev pub IsFor : Layout → List Chunk → Type 0
 IsFor Paged chunks = list_all is_page chunks ≡ true
 IsFor Chunked chunks = list_all is_page chunks ≡ false
 
-is_for : (chunks : List Chunk) → IsFor (layout_for chunks) chunks
+pub is_for : (chunks : List Chunk) → IsFor (layout_for chunks) chunks
 is_for chunks =
     elim (list_all is_page chunks) as (λ (b : Bool). list_all is_page chunks ≡ b → IsFor (cond b Paged Chunked) chunks) [
       | true ↦ λ e. e

@@ -8,13 +8,13 @@ use Rattle.std.proofs.lemmas.Nat.{le_bytes_4}
 use Rattle.std.proofs.lemmas.List.Elements.{All-cons}
 use Rattle.byteorder.specs.Endian.{little_number, little_bytes}
 use Rattle.page_table.specs.Grants.{Chunk, chunk, AreGrants, is_page}
-use Rattle.machine_model.specs.Paths.{RiscProgram, IsProgram, shares_byte}
+use Rattle.machine_model.specs.Paths.{RiscProgram, shares_byte}
 use Rattle.capture_file.specs.declared.FileKind.{FileKind}
 use Rattle.capture_file.specs.declared.FileKind.TheVariants as fault
 use Rattle.capture_file.specs.declared.program.Layout.{Layout}
 use Rattle.capture_file.specs.declared.program.Layout.TheVariants.{Paged, Chunked}
 use Rattle.capture_file.specs.declared.program.ProgramFile.{ProgramFile}
-use Rattle.capture_file.specs.Programs.{◌>>=◌, number_field, layout_field, layout_or_magic, base_field, word_count_field, words_in, words_field, chunk_count_field, page_field, long_chunk_field, chunk_field, chunks_field, fill_field, program_of, without_grants, base_fault, word_count_fault, chunk_count_fault, page_fault, address_fault, length_fault, fill_fault, judged, nothing_after, numbers_spelled, page_spelled, chunk_spelled, name_of, layout_for, spelled, spelled_as, cut}
+use Rattle.capture_file.specs.Programs.{◌>>=◌, number_field, layout_field, layout_or_magic, base_field, word_count_field, words_in, words_field, chunk_count_field, page_field, long_chunk_field, chunk_field, chunks_field, fill_field, program_of, without_grants, base_fault, word_count_fault, chunk_count_fault, page_fault, address_fault, length_fault, fill_fault, judged, nothing_after, numbers_spelled, page_spelled, chunk_spelled, name_of, layout_for, spelled, spelled_as, cut, IsFile}
 use Rattle.capture_file.proofs.Chunks.{bind_ok, judged_ok, ok_is, no_fault, not_false, both_true, IsBytes, IsBytes-drop, chunks_read, totals_small}
 use Rattle.capture_file.proofs.Spelled.{one, tail_of, line_of, in_line, with_layout, with_base, with_count, with_words, with_chunk_count, with_chunks, field_by_field}
 
@@ -355,13 +355,6 @@ words_read size layout base x file fits e =
         let words = words_takes size x.0 x.1 y fits is in
         let b = bind_ok (chunk_count_field size y.1) (λ z. with_chunk_count size layout base y.0 z) file rest in
         after_count y b.0 words.0 (words.1, words.2) b.1 b.2
-
--- a file that is read
-pub record IsFile (bytes : List ℕ) (file : ProgramFile) : Type 0 where
-  pub parts : bytes ≡ spelled file.program file.fill
-  pub made : IsProgram file.program
-  pub base : file.program.base < 2 ^ 32
-  pub fill : file.fill < 256
 
 pub file_read : (bytes : List ℕ) (file : ProgramFile) → IsBytes bytes → program_of bytes ≡ Ok file → IsFile bytes file
 unfolding spelled

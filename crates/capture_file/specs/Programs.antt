@@ -1,9 +1,9 @@
 -- What the bytes of a program file stand for, and the one spelling of a program.
-use Rattle.std.specs.Prelude.{◌≡◌, ℕ, zero, suc, ◌+◌, ◌-◌, ◌*◌, ◌%◌, ◌^◌, Bool, not, ◌&&◌, List, [], ◌∷◌, ◌++◌, length, drop, Option, Some, None, Result, Ok, Err, if◌then◌else◌, ◌==◌, nat_lt, nat_le, codes}
+use Rattle.std.specs.Prelude.{◌≡◌, ℕ, zero, suc, ◌+◌, ◌-◌, ◌*◌, ◌%◌, ◌^◌, ◌<◌, Bool, not, ◌&&◌, List, [], ◌∷◌, ◌++◌, length, drop, Option, Some, None, Result, Ok, Err, if◌then◌else◌, ◌==◌, nat_lt, nat_le, codes}
 use Rattle.std.specs.List.{flat_map, list_all}
 use Rattle.byteorder.specs.Endian.{little_number, little_bytes}
 use Rattle.page_table.specs.Grants.{Chunk, chunk, is_page}
-use Rattle.machine_model.specs.Paths.{RiscProgram, shares_byte}
+use Rattle.machine_model.specs.Paths.{RiscProgram, IsProgram, shares_byte}
 use Rattle.capture_file.specs.declared.FileKind.{FileKind}
 use Rattle.capture_file.specs.declared.FileKind.TheVariants as fault
 use Rattle.capture_file.specs.declared.FileFault.{FileFault}
@@ -224,3 +224,16 @@ layout_for chunks = if list_all is_page chunks then Paged else Chunked
 
 unfoldable pub spelled : RiscProgram → ℕ → List ℕ
 spelled program fill = spelled_as (layout_for program.grants) program fill
+
+-- bytes that are the one spelling of a program that can be made, and of a fill
+pub record IsFile (bytes : List ℕ) (file : ProgramFile) : Type 0 where
+  pub parts : bytes ≡ spelled file.program file.fill
+  pub made : IsProgram file.program
+  pub base : file.program.base < 2 ^ 32
+  pub fill : file.fill < 256
+
+abbrev pub HasProgram : List ℕ → Type 0
+HasProgram bytes = (file : ProgramFile) × IsFile bytes file
+
+abbrev pub HasFault : List ℕ → Type 0
+HasFault bytes = (fault : FileFault) × (program_of bytes ≡ Err fault)

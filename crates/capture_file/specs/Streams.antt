@@ -1,5 +1,5 @@
 -- What the bytes of a stream stand for.
-use Rattle.std.specs.Prelude.{ℕ, zero, suc, ◌+◌, ◌-◌, ◌/◌, ◌%◌, ◌^◌, Bool, true, false, not, ◌&&◌, ◌||◌, List, [], ◌∷◌, length, take, drop, replicate, Option, Some, None, Result, Ok, Err, if◌then◌else◌, ◌==◌, nat_lt, nat_le, codes}
+use Rattle.std.specs.Prelude.{◌≡◌, ℕ, zero, suc, ◌+◌, ◌-◌, ◌/◌, ◌%◌, ◌^◌, Bool, true, false, not, ◌&&◌, ◌||◌, List, [], ◌∷◌, ◌++◌, length, take, drop, replicate, Option, Some, None, Result, Ok, Err, if◌then◌else◌, ◌==◌, nat_lt, nat_le, codes}
 use Rattle.std.specs.List.{flat_map}
 use Rattle.byteorder.specs.Endian.{little_number}
 use Rattle.risc_word.specs.declared.Code.{Code}
@@ -226,6 +226,16 @@ within limit count below = within_if (nat_lt limit count) limit below
 -- what the bytes of a stream stand for as far as they reach
 unfoldable pub stream_of : ℕ → Bool → List ℕ → Reading
 stream_of limit chained bytes = within limit (length bytes) (judged chained (take limit bytes))
+
+-- What a stream's first bytes stand for, and what more of its bytes do: the steps stay, and a fault
+-- stays the first, whatever follows it.
+abbrev pub IsFinal : Ending → Reading → Reading → Type 0
+IsFinal (Bad fault) first more = more ≡ first
+IsFinal _ first more = Unit {0}
+
+abbrev pub GoesOn : Reading → Reading → Type 0
+GoesOn first more =
+    ((steps : List Step) × (more.steps ≡ first.steps ++ steps)) × IsFinal first.ending first more
 
 -- the steps of a stream file, or its first fault
 abbrev pub whole_file : ℕ → List Step → Ending → Result (List Step) FileFault

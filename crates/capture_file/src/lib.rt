@@ -11,10 +11,12 @@ mod pieces;
 mod program;
 mod reader;
 mod records;
+#[cfg(test)]
+mod tests;
 mod writing;
 
 pub use image::write_image;
-pub use laws::one_spelling;
+pub use laws::{one_image, one_spelling, stream_goes_on, value_or_fault};
 pub use pieces::read_stream;
 pub use program::{ProgramError, ProgramFile, read_program};
 pub use reader::{Got, StepReader};

@@ -1,10 +1,10 @@
 //! Program files.
 
-ghost use Rattle.capture_file.specs.Programs.{Gives, address_fault, base_field, base_fault, chunk_count_fault, chunk_count_field, chunk_field, chunks_field, fill_fault, fill_field, is_length, judged, layout_field, layout_of, length_fault, long_chunk_field, number_field, page_fault, page_field, program_of, without_grants, word_count_fault, word_count_field, words_field, words_in, wrong};
+ghost use Rattle.capture_file.specs.Programs.{Gives, address_fault, base_field, base_fault, chunk_count_fault, chunk_count_field, chunk_field, chunks_field, cut, fill_fault, fill_field, is_length, judged, layout_field, layout_of, length_fault, long_chunk_field, number_field, page_fault, page_field, program_of, without_grants, word_count_fault, word_count_field, words_field, words_in, wrong};
 ghost use Rattle.std.specs.List.{All, list_all};
 ghost use Rattle.byteorder.specs.Endian.{little_number};
 ghost use Rattle.page_table.specs.Grants.{AreRising, chunk, is_page, total};
-ghost use Rattle.capture_file.specs.declared.program.ProgramError.TheVariants.{Memory};
+ghost use Rattle.capture_file.specs.declared.program.ProgramError.TheVariants.{File, Memory};
 ghost use Rattle.page_table.specs.Taken.{listed, pair_chunk};
 ghost use Rattle.machine_model.specs.Paths.{shares_byte};
 ghost use Rattle.std.specs.Prelude.{false, ◌%◌, ◌≡◌, ◌+◌, ◌-◌, ◌*◌, ◌^◌, ◌≤◌, ◌<◌, List, ℕ, [], drop, length, IfOk, IfErr, Ok};
@@ -101,16 +101,23 @@ fn judge(wrong: Option<FileKind>, size: usize, bytes: &[u8]) -> Result<(), Progr
     }
 }
 
+// The fault of a file of `size` bytes whose end cuts a field.
+fn short(size: usize) -> ProgramError
+    ensures { result ≡ File (cut size) }
+{
+    ProgramError::File(FileFault {
+        at: size as u64,
+        kind: FileKind::Short,
+    })
+}
+
 fn read_number(size: usize, bytes: &[u8]) -> Result<(u32, &[u8]), ProgramError>
     ensures value { Gives (λ x. (x.0, x.1.now)) result (number_field size bytes.now) }
     ensures rest { IfOk result (λ x. length x.1.now ≤ length bytes.now) }
 {
     match number(bytes) {
         Some(n) => Ok((n, &bytes[4..])),
-        None => Err(ProgramError::File(FileFault {
-            at: size as u64,
-            kind: FileKind::Short,
-        })),
+        None => Err(short(size)),
     }
 }
 
@@ -235,10 +242,7 @@ fn read_words(
 {
     let long = 4 * u64::from(count);
     if (bytes.len() as u64) < long {
-        return Err(ProgramError::File(FileFault {
-            at: size as u64,
-            kind: FileKind::Short,
-        }));
+        return Err(short(size));
     }
     let words = words_of(alloc, count, bytes)?;
     Ok((words, &bytes[long as usize..]))
@@ -437,10 +441,7 @@ fn read_fill(
     ensures { Gives (λ x. x) result (fill_field layout size (listed chunks.now) bytes.now) }
 {
     match bytes {
-        [] => Err(ProgramError::File(FileFault {
-            at: size as u64,
-            kind: FileKind::Short,
-        })),
+        [] => Err(short(size)),
         [fill, rest @ ..] => {
             judge(fill_wrong(layout, chunks), size, bytes)?;
             if rest.is_empty() {

@@ -1,7 +1,8 @@
 //! A reader of streams that come in pieces.
 
-ghost use Rattle.capture_file.specs.Readers.{AnswerFits, Closed, Opening, Records, Counts, IsReader, PlacedAt, Stays, Uses, after_answer, behind_word, closed_by, closed_taken, ending_in, fresh, record_taken, resumed, room, taken, taking, word_taken};
+ghost use Rattle.capture_file.specs.Readers.{AnswerFits, Closed, Failed, Opening, Records, Counts, IsReader, PlacedAt, Stays, Uses, after_answer, behind_word, closed_by, closed_taken, ending_in, fresh, record_taken, resumed, room, taken, taking, word_taken};
 ghost use Rattle.capture_file.specs.Records.{FoundFits, HasFour, Passes, Spans, StepFits, Sums};
+ghost use Rattle.capture_file.specs.declared.FileFault.{FileFault};
 ghost use Rattle.capture_file.specs.declared.records.Found.TheVariants.{Cut};
 ghost use Rattle.capture_file.specs.Streams.{fault_at, most_turns, number_at, reading, record_at, stream_of, turns_of};
 ghost use Rattle.std.specs.Prelude.{◌≡◌, ◌≤◌, ◌<◌, ◌+◌, ◌-◌, ◌^◌, ◌++◌, List, ℕ, [], None, IfSome, IfNone, take, drop, length, true, false};
@@ -200,20 +201,26 @@ impl Model for StepReader {
 }
 
 impl StepReader {
+    fn opening(limit: u64, chained: bool) -> StepReader
+        ensures { result ≡ fresh limit chained }
+    {
+        StepReader {
+            limit,
+            room: limit,
+            turns: 0,
+            chained,
+            state: State::Opening,
+            held: Held::none(),
+        }
+    }
+
     /// A reader of BFS1 and BFS2 streams of at most `limit` bytes.
     #[tactic(auto, unfolding(crate::specs::Readers::resumed))]
     pub fn new(limit: u64) -> StepReader
         ensures made { result ≡ fresh limit false }
         ensures whole { (bytes : List ℕ) → resumed result bytes ≡ stream_of limit false bytes }
     {
-        StepReader {
-            limit,
-            room: limit,
-            turns: 0,
-            chained: false,
-            state: State::Opening,
-            held: Held::none(),
-        }
+        StepReader::opening(limit, false)
     }
 
     /// A reader of BFS3 streams of at most `limit` bytes.
@@ -222,14 +229,7 @@ impl StepReader {
         ensures made { result ≡ fresh limit true }
         ensures whole { (bytes : List ℕ) → resumed result bytes ≡ stream_of limit true bytes }
     {
-        StepReader {
-            limit,
-            room: limit,
-            turns: 0,
-            chained: true,
-            state: State::Opening,
-            held: Held::none(),
-        }
+        StepReader::opening(limit, true)
     }
 
     /// The step of a record that lies whole at the front of a piece, and its length.
@@ -409,8 +409,8 @@ impl StepReader {
     }
 
     /// Uses bytes from the front of the piece until a record ends, the stream is at fault or the piece
-    /// is used up, and answers how many. Where the record at the front lies whole in the piece,
-    /// nothing is copied.
+    /// is used up, and answers how many. After a fault it answers the same fault, and uses none. Where
+    /// the record at the front lies whole in the piece, nothing is copied.
     #[inline(always)]
     pub fn take(&mut self, piece: &[u8]) -> (usize, Got)
         ensures exact { taking result.0 result.1 self.new ≡ taken self.old piece.now }
@@ -421,6 +421,8 @@ impl StepReader {
         ensures moves { (before : ℕ) → PlacedAt self.old.phase self.old.place before
             → PlacedAt self.new.phase self.new.place (before + result.0) }
         ensures stays { Stays result.1 self.new.phase }
+        ensures again { (fault : FileFault) → self.old.phase ≡ Failed fault
+            → (result.0 ≡ 0) × (result.1 ≡ Got.Bad fault) × (self.new ≡ self.old) }
         ensures fits { AnswerFits result.1 }
     {
         self.advance(piece)

@@ -1,7 +1,7 @@
 use Rattle.std.proofs.Common.{◌+◌, ◌++◌, length, drop, sym, ◌∙◌, ap, subst}
 use Rattle.capture_file.specs.Readers.{Taken, resumed, after_answer, Uses, Counts, Stays, PlacedAt}
 use Rattle.capture_file.proofs.Resumed.{taken-goes}
-use Rattle.capture_file.proofs.Answered.{taken-moves, taken-stays, taken-placed}
+use Rattle.capture_file.proofs.Answered.{taken-moves, taken-stays, taken-placed, taken-again}
 use Rattle.capture_file.proofs.reader.StepReader.take.Goals as goal
 
 pub returns-clause-whole : goal.returns-clause-whole
@@ -28,3 +28,8 @@ pub returns-clause-moves : goal.returns-clause-moves
 returns-clause-moves c before placed =
     subst (λ (t : Taken). PlacedAt t.reader.phase t.reader.place (before + t.used)) (sym c.advance.ensures.exact)
     (taken-placed c.args.self.now c.args.piece.now before c.advance.ensures.valid placed)
+
+pub returns-clause-again : goal.returns-clause-again
+returns-clause-again c fault is =
+    let same = c.advance.ensures.exact ∙ taken-again c.args.self.now c.args.piece.now fault is in
+    (ap (λ (t : Taken). t.used) same, ap (λ (t : Taken). t.answer) same, ap (λ (t : Taken). t.reader) same)
