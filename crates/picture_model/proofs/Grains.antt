@@ -2,7 +2,7 @@
 use Rattle.std.proofs.Common.{◌≡◌, ℕ, ◌+◌, ◌-◌, ◌*◌, ◌/◌, ◌%◌, ◌<◌, ◌≤◌, ◌⊎◌, inl, inr, Bool, true, false, List, Option, Some, None, refl, sym, ap, ◌∙◌, subst, arith, ⊎_elim, if◌then◌else◌}
 use Rattle.std.specs.Prelude.{◌==◌}
 use Rattle.std.specs.List.{All}
-use Rattle.std.proofs.lemmas.Bool.{cases_Bool, cases_lt, eqb-true, eqb-false, cond-true, cond-false}
+use Rattle.std.proofs.lemmas.Bool.{cases_Bool, eqb-true, eqb-false, cond-true, cond-false}
 use Rattle.std.proofs.lemmas.Nat.{mul-mod_second, row_fits}
 use Rattle.std.proofs.Math.Nat.{zero-mod}
 use Rattle.pixel_layout.specs.declared.Format.{Format}
@@ -60,6 +60,12 @@ size_small true false bytes units = omega arith
 size_small false true bytes units = omega arith
 size_small false false bytes units = omega arith
 
+size_some : (planar first : Bool) (bytes : ℕ) → (first ≡ false → planar ≡ true) → 1 ≤ bytes → 0 < size_by planar first bytes
+size_some true true bytes has some = some
+size_some true false bytes has some = omega arith
+size_some false true bytes has some = omega arith
+size_some false false bytes has some = let no = has refl in cc
+
 zero_product : (n unit : ℕ) → 0 < unit → (n * 0) % unit ≡ 0
 zero_product n unit some = let e : n * 0 ≡ 0 = omega arith in ap (λ (m : ℕ). m % unit) e ∙ zero-mod unit
 
@@ -106,6 +112,10 @@ planes_by : (planar : Bool) (plane : ℕ) → 1 ≤ plane → plane ≤ (if plan
 planes_by true plane low high other = refl
 planes_by false plane low high other = absurd (other (omega arith))
 
+-- a plane after the first is one of a planar format
+pub other_planes : (d : Desc) (plane : ℕ) → HasPlane d plane → (plane == 1) ≡ false → (layout_of d).planar ≡ true
+other_planes d plane has other = planes_by (layout_of d).planar plane has.low has.high (eqb-false plane 1 other)
+
 pub row_grains : (d : Desc) (plane : ℕ) → HasPlane d plane → grains_of (layout_of d) d.width * grain_bytes (layout_of d) plane ≡ plane_row_bytes d plane
 row_grains d plane has =
     let l = layout_of d in
@@ -126,7 +136,7 @@ planes_least false plane first = omega arith
 abbrev pub GrainsFit : List Chunk → ℕ → ℕ → Option ℕ → Type 0
 GrainsFit memory grains size None = Unit {0}
 GrainsFit memory grains size (Some start) =
-    (start + grains * size ≤ total memory) × ((at : ℕ) → at < grains → size ≤ room_at memory (start + at * size))
+    (0 < size) × (start + grains * size ≤ total memory) × ((at : ℕ) → at < grains → size ≤ room_at memory (start + at * size))
 
 pub record IsTrack (memory : List Chunk) (grains : ℕ) (t : Track) : Type 0 where
   pub small : t.size ≤ 4
@@ -170,20 +180,19 @@ module _ (d : Desc) (right : IsRight d) (plane row : ℕ) (low : 1 ≤ plane) (h
       let at_row = row_offset-IsRowAt d plane row from is in
       let has = held_plane d plane row at_row.number low high at_row.held in
       let end = row_end d plane row from right has below at_row in
-      let all = row_grains d plane has in (
+      let all = row_grains d plane has in
+      let some : 0 < size = size_some l.planar (plane == 1) l.bytes (λ other. planes_by l.planar plane low has.high (eqb-false plane 1 other)) (layout_sizes d.format).some_bytes in (
+        some,
         omega arith,
         λ at inside.
             let step : at * size + size ≤ grains * size = row_fits at size grains size inside (omega arith) in
-            ⊎_elim
-            (λ some. size_room (memory_of d) l.planar (plane == 1) l.bytes (from + at * size) right.aligned (omega arith) (bytes_units d)
+            size_room (memory_of d) l.planar (plane == 1) l.bytes (from + at * size) right.aligned (omega arith) (bytes_units d)
             (λ planar first.
             let same : size ≡ l.bytes = cond-true (plane == 1) _ _ first ∙ cond-true l.planar _ _ planar in
             let unit = bytes_units d planar in
             let from_is = from_whole from at_row planar (eqb-true plane 1 first) in
             let size_is : size % l.bytes ≡ 0 = ap (λ (n : ℕ). n % l.bytes) same ∙ unit_whole l.bytes unit in
-            whole_sum l.bytes from at size unit from_is size_is))
-            (λ none. omega arith)
-            (cases_lt 0 size),
+            whole_sum l.bytes from at size unit from_is size_is),
       )
 
   pub row_track-IsTrack : IsTrack (memory_of d) (grains_of (layout_of d) d.width) (row_track d plane row)

@@ -5,3 +5,8 @@ pub mod Grains
 pub mod Spans
 pub mod Strips
 pub mod Places
+pub mod Safe
+pub mod Each
+pub mod Circle
+pub mod Fine
+pub mod Sections

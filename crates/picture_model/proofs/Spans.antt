@@ -10,8 +10,11 @@ use Rattle.clip_spans.proofs.Runs.{spans_of-spans}
 use Rattle.pixel_layout.proofs.Table.{layout_sizes}
 use Rattle.capture_desc.specs.declared.desc.Desc.{Desc}
 use Rattle.picture_model.specs.Described.{layout_of}
-use Rattle.picture_model.specs.Plans.{grain_clipped, grains_of, row_strip}
+use Rattle.picture_model.specs.Places.{HasPlane, byte_clipped}
+use Rattle.picture_model.specs.Plans.{grain_bytes, grain_clipped, grains_of, row_strip}
 use Rattle.picture_model.proofs.Right.{IsRight}
+use Rattle.picture_model.proofs.Grains.{other_planes}
+use Rattle.std.specs.Prelude.{◌==◌}
 
 not_both : (b : Bool) → b ≡ not b → ⊥
 not_both true e = cc
@@ -132,3 +135,32 @@ row_runs d row right =
     let width = whole_is d.width l.pixels right.units in
     let runs = subst (λ n. AreRunsFrom (clipped_at d.clip row l.pixels) n 0 (spans_of d.clip row d.width l.pixels)) (sym width) (spans_of-spans d.clip row d.width l.pixels) in
     grain_runs l.planar (unit_clipped d.clip row l.pixels) l.pixels l.bytes (d.width / l.pixels) (spans_of d.clip row d.width l.pixels) sizes.some_pixels sizes.some_bytes runs
+
+-- a byte of a row is clipped with its grain
+
+one_unit : (p : ℕ) → 1 ≤ p → p / p ≡ 1
+one_unit p some = let e : 1 * p ≡ p = omega arith in ap (λ n. n / p) (sym e) ∙ mul_div 1 p some
+
+in_unit : (planar first : Bool) (p m across g j : ℕ) → 1 ≤ p → (planar ≡ true → p ≡ across) → (first ≡ false → planar ≡ true) → j < (if first then (if planar then m else 1) else (if planar then 1 else 0)) → (g * (if first then (if planar then m else 1) else (if planar then 1 else 0)) + j) / (if first then p / p * m else p / across) ≡ (if planar then g else g / m)
+in_unit true true p m across g j some same has inside =
+    let one = one_unit p some in
+    let e : p / p * m ≡ 1 * m = ap (λ n. n * m) one in
+    let whole : p / p * m ≡ m = omega arith in
+    ap (λ n. (g * m + j) / n) whole ∙ div-mul-add g m j inside
+in_unit true false p m across g j some same has inside =
+    let one : p / across ≡ 1 = ap (λ n. p / n) (sym (same refl)) ∙ one_unit p some in
+    ap (λ n. (g * 1 + j) / n) one ∙ div-mul-add g 1 j inside
+in_unit false true p m across g j some same has inside =
+    let one = one_unit p some in
+    let e : p / p * m ≡ 1 * m = ap (λ n. n * m) one in
+    let whole : p / p * m ≡ m = omega arith in
+    let grain : g * 1 + j ≡ g = omega arith in
+    ap (λ n. (g * 1 + j) / n) whole ∙ ap (λ n. n / m) grain
+in_unit false false p m across g j some same has inside = let no = has refl in cc
+
+pub byte_clipped-grain : (d : Desc) (plane row g j : ℕ) → HasPlane d plane → j < grain_bytes (layout_of d) plane → byte_clipped d plane row (g * grain_bytes (layout_of d) plane + j) ≡ grain_clipped d row g
+byte_clipped-grain d plane row g j has inside =
+    let l = layout_of d in
+    let sizes = layout_sizes d.format in
+    ap (unit_clipped d.clip row l.pixels)
+    (in_unit l.planar (plane == 1) l.pixels l.bytes l.across g j sizes.some_pixels (λ planar. (sizes.unit planar).0) (λ other. other_planes d plane has other) inside)

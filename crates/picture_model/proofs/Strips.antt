@@ -6,10 +6,14 @@ use Rattle.page_table.proofs.Scattered.{lt-room_at}
 use Rattle.clip_spans.specs.Runs.{AreRunsFrom}
 use Rattle.clip_spans.specs.declared.Span.{Span}
 use Rattle.capture_desc.specs.declared.desc.Desc.{Desc}
+use Rattle.picture_model.specs.declared.PieceKind.{PieceKind}
+use Rattle.picture_model.specs.declared.PieceKind.TheVariants.{Write, WriteLuma, Skip}
 use Rattle.picture_model.specs.declared.Piece.{Piece}
-use Rattle.picture_model.specs.Described.{describes, layout_of, memory_of}
+use Rattle.pixel_layout.specs.Layouts.{chroma_row}
+use Rattle.std.specs.Prelude.{option_map}
+use Rattle.picture_model.specs.Described.{both, describes, layout_of, memory_of, offset, stride}
 use Rattle.picture_model.specs.Places.{vbi_line_offset}
-use Rattle.picture_model.specs.Plans.{Track, Strip, IsInOneChunk, FitsTrack, AreCuts, IsPlan, cuts_of, grain_bytes, grain_clipped, grains_of, pieces_of, plan, row_strip, skipped_strip, vbi_strip, track}
+use Rattle.picture_model.specs.Plans.{Track, Strip, IsInOneChunk, FitsTrack, AreCuts, IsPlan, cuts_of, grain_bytes, grain_clipped, grains_of, kind_by, pieces_of, plan, row_strip, skipped_strip, vbi_strip, track}
 use Rattle.picture_model.proofs.Right.{IsRight}
 use Rattle.picture_model.proofs.Offsets.{vbi_end}
 use Rattle.picture_model.proofs.Grains.{IsTrack, GrainsFit, grain_small, row_track-IsTrack, unwritten-IsTrack}
@@ -21,7 +25,7 @@ abbrev pub Cover : ℕ → ℕ → List Span → Type 0
 Cover end at [] = at ≡ end
 Cover end at (s ∷ rest) = (s.from ≡ at) × (s.from ≤ s.to) × Cover end s.to rest
 
-cover_end : (end at : ℕ) (spans : List Span) → Cover end at spans → at ≤ end
+pub cover_end : (end at : ℕ) (spans : List Span) → Cover end at spans → at ≤ end
 cover_end end at [] cover = omega arith
 cover_end end at (s ∷ rest) cover =
     let later = cover_end end s.to rest cover.2 in let order = cover.1 in let here = cover.0 in omega arith
@@ -35,17 +39,26 @@ runs_cover test end at [] runs = runs
 runs_cover test end at (s ∷ rest) runs =
     let some = runs.1.some in (runs.0, omega arith, runs_cover test end s.to rest runs.2)
 
+-- what the unclipped pieces of a line write has a place
+abbrev pub HasPlaces : Bool → PieceKind → Option ℕ → Option ℕ → Option ℕ → Type 0
+HasPlaces planar Skip one two three = Unit {0}
+HasPlaces true Write (Some one) (Some two) (Some three) = Unit {0}
+HasPlaces true WriteLuma (Some one) two three = Unit {0}
+HasPlaces false Write (Some one) two three = Unit {0}
+HasPlaces planar kind one two three = ⊥
+
 -- a line that can be cut
 pub record IsStrip (memory : List Chunk) (strip : Strip) : Type 0 where
   pub covers : Cover strip.grains 0 strip.spans
   pub one : IsTrack memory strip.grains strip.one
   pub two : IsTrack memory strip.grains strip.two
   pub three : IsTrack memory strip.grains strip.three
+  pub placed : HasPlaces strip.planar strip.kind strip.one.start strip.two.start strip.three.start
 
 one_in_chunk : (memory : List Chunk) (clipped : Bool) (grains size : ℕ) (start : Option ℕ) (at : ℕ) → at < grains → GrainsFit memory grains size start → IsInOneChunk memory clipped size start at 1
 one_in_chunk memory true grains size start at inside fit = tt
 one_in_chunk memory false grains size None at inside fit = tt
-one_in_chunk memory false grains size (Some start) at inside fit = let room = fit.1 at inside in omega arith
+one_in_chunk memory false grains size (Some start) at inside fit = let room = fit.2 at inside in omega arith
 
 one_fits : (memory : List Chunk) (clipped : Bool) (grains at : ℕ) (t : Track) → at < grains → IsTrack memory grains t → FitsTrack memory clipped at 1 t
 one_fits memory clipped grains at t inside is =
@@ -80,6 +93,12 @@ plan_is memory strip pieces is same = (cuts_of memory strip strip.spans, strip_c
 
 -- the lines of a description
 
+row_placed : (planar : Bool) (chroma : Option ℕ) (one : ℕ) (f g : ℕ → ℕ) → HasPlaces planar (kind_by planar chroma) (Some one) (option_map f chroma) (option_map g chroma)
+row_placed true None one f g = tt
+row_placed true (Some row) one f g = tt
+row_placed false None one f g = tt
+row_placed false (Some row) one f g = tt
+
 pub row-IsStrip : (d : Desc) (row : ℕ) → IsRight d → row < d.height → IsStrip (memory_of d) (row_strip d row)
 row-IsStrip d row right below =
     record {
@@ -87,6 +106,7 @@ row-IsStrip d row right below =
       one = row_track-IsTrack d right 1 row (omega arith) (omega arith) below;
       two = row_track-IsTrack d right 2 row (omega arith) (omega arith) below;
       three = row_track-IsTrack d right 3 row (omega arith) (omega arith) below;
+      placed = row_placed (layout_of d).planar (chroma_row (layout_of d) (both d) row) (offset d 1 + row * stride d 1) (λ kept. offset d 2 + kept * stride d 2) (λ kept. offset d 3 + kept * stride d 3);
     }
 
 pub skipped-IsStrip : (d : Desc) → IsStrip (memory_of d) (skipped_strip d)
@@ -97,13 +117,14 @@ skipped-IsStrip d =
       one = unwritten-IsTrack (memory_of d) grains (grain_bytes (layout_of d) 1) (grain_small d 1);
       two = unwritten-IsTrack (memory_of d) grains (grain_bytes (layout_of d) 2) (grain_small d 2);
       three = unwritten-IsTrack (memory_of d) grains (grain_bytes (layout_of d) 3) (grain_small d 3);
+      placed = tt;
     }
 
 vbi_track : (memory : List Chunk) (bytes start : ℕ) → start + bytes ≤ total memory → IsTrack memory bytes (track 1 (Some start))
 vbi_track memory bytes start within =
     record {
       small = omega arith;
-      fit = (omega arith, λ at inside. lt-room_at memory (start + at * 1) (omega arith));
+      fit = (omega arith, omega arith, λ at inside. lt-room_at memory (start + at * 1) (omega arith));
     }
 
 pub vbi-IsStrip : (d : Desc) (field : Parity) (line : ℕ) → IsRight d → describes d.fields field ≡ true → line < d.vbi_lines → IsStrip (memory_of d) (vbi_strip d field line)
@@ -113,4 +134,5 @@ vbi-IsStrip d field line right described below =
       one = vbi_track (memory_of d) d.vbi_bytes (vbi_line_offset d field line) (vbi_end d field line right described below);
       two = unwritten-IsTrack (memory_of d) d.vbi_bytes 0 (omega arith);
       three = unwritten-IsTrack (memory_of d) d.vbi_bytes 0 (omega arith);
+      placed = tt;
     }

@@ -1,13 +1,13 @@
 -- The plan of a line: how it is cut into pieces.
-use Rattle.std.specs.Prelude.{ℕ, zero, suc, ◌+◌, ◌-◌, ◌*◌, ◌/◌, ◌<◌, ◌≤◌, ◌≡◌, Bool, true, false, ◌==◌, List, [], ◌∷◌, ◌++◌, map, Option, Some, None, if◌then◌else◌, min}
-use Rattle.std.specs.List.{flat_map}
+use Rattle.std.specs.Prelude.{ℕ, zero, suc, ◌+◌, ◌-◌, ◌*◌, ◌/◌, ◌^◌, ◌<◌, ◌≤◌, ◌≡◌, Bool, true, false, ◌==◌, List, [], ◌∷◌, ◌++◌, map, Option, Some, None, if◌then◌else◌, min}
+use Rattle.std.specs.List.{All, flat_map}
 use Rattle.risc_word.specs.declared.Ends.{Ends}
 use Rattle.pixel_layout.specs.declared.Parity.{Parity}
 use Rattle.pixel_layout.specs.Layouts.{Layout, chroma_row}
 use Rattle.clip_spans.specs.declared.Span.{Span}
 use Rattle.clip_spans.specs.Clipping.{unit_clipped}
 use Rattle.clip_spans.specs.Runs.{span, spans_of}
-use Rattle.page_table.specs.Grants.{Chunk}
+use Rattle.page_table.specs.Grants.{Chunk, first_ungranted}
 use Rattle.capture_desc.specs.declared.desc.Desc.{Desc}
 use Rattle.picture_model.specs.declared.PieceKind.{PieceKind}
 use Rattle.picture_model.specs.declared.PieceKind.TheVariants.{Write, WriteLuma, Skip}
@@ -150,7 +150,38 @@ AreCuts memory strip (s ∷ rest) cuts =
     (first later : List Cut) × (cuts ≡ first ++ later) × AreCutsFrom memory strip s s.from first
     × AreCuts memory strip rest later
 
--- the same by a function
+-- cuts that follow each other up to an end, each of some grains
+abbrev pub Follow : ℕ → ℕ → List Cut → Type 0
+Follow end at [] = at ≡ end
+Follow end at (k ∷ rest) = (k.at ≡ at) × (0 < k.n) × Follow end (at + k.n) rest
+
+-- what is written from an offset on: some bytes of one chunk, all of them granted
+pub record IsWritten (memory : List Chunk) (from count : ℕ) : Type 0 where
+  pub some : 0 < count
+  pub room : count ≤ room_at memory from
+  pub granted : first_ungranted memory (address_at memory from) count ≡ None
+  pub ends : address_at memory from + count ≤ 2 ^ 32
+
+abbrev pub Writes : List Chunk → Bool → ℕ → Option ℕ → ℕ → ℕ → Type 0
+Writes memory false size (Some start) at n = IsWritten memory (start + at * size) (n * size)
+Writes memory _ size _ at n = Unit {0}
+
+-- a cut moves at most 4,092 bytes of a track, and what it writes there is granted
+pub record IsMoved (memory : List Chunk) (k : Cut) (t : Track) : Type 0 where
+  pub few : k.n * t.size ≤ 4092
+  pub written : Writes memory k.clipped t.size t.start k.at k.n
+
+pub record IsSafeCut (memory : List Chunk) (strip : Strip) (k : Cut) : Type 0 where
+  pub one : IsMoved memory k strip.one
+  pub two : IsMoved memory k strip.two
+  pub three : IsMoved memory k strip.three
+
+-- cuts that cover a line, and write to granted memory alone
+pub record CoverSafely (memory : List Chunk) (strip : Strip) (cuts : List Cut) : Type 0 where
+  pub follow : Follow strip.grains 0 cuts
+  pub safe : All (IsSafeCut memory strip) cuts
+
+-- the plan by a function
 
 -- how many grains fit into so many bytes; a track without bytes sets no limit
 abbrev pub most : ℕ → ℕ → ℕ → ℕ

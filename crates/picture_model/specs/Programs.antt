@@ -87,10 +87,13 @@ signal Bottom = record { irq = true; set = 2; reset = 13 }
 abbrev pub closing : Parity → ℕ → Instr
 closing field target = instr.Jump (signal field) target
 
+-- what a section does between its opening and its closing
+abbrev pub body : Desc → Parity → List Instr
+body d field = vbi_instrs d field ++ field_instrs d field
+
 -- the section of a field, whose closing leads to an address
 abbrev pub section : Desc → Parity → ℕ → List Instr
-section d field target =
-    opening field ∷ vbi_instrs d field ++ field_instrs d field ++ closing field target ∷ []
+section d field target = opening field ∷ body d field ++ closing field target ∷ []
 
 -- how many instructions a section has, from its opening to its closing
 abbrev pub size : Desc → Parity → ℕ

@@ -1,16 +1,17 @@
 //! Laws of descriptions whose geometry has no fault. The functions do nothing; their contracts are the
 //! laws.
 
-ghost use Rattle.std.specs.Prelude.{◌≡◌, ◌↔◌, ℕ, ◌<◌, true, Some, List};
+ghost use Rattle.std.specs.Prelude.{◌≡◌, ◌↔◌, ℕ, ◌+◌, ◌*◌, ◌<◌, true, Some, List};
 ghost use Rattle.capture_desc.specs.declared.desc.Desc.{Desc};
 ghost use Rattle.clip_spans.specs.Runs.{AreRunsFrom};
+ghost use Rattle.machine_model.specs.Paths.{IsSound};
 ghost use Rattle.page_table.specs.Grants.{granted};
 ghost use Rattle.pixel_layout.specs.declared.Parity.{Parity};
 ghost use Rattle.picture_model.specs.declared.Piece.{Piece};
-ghost use Rattle.picture_model.specs.Described.{IsDescription, describes, layout_of, memory_of};
+ghost use Rattle.picture_model.specs.Described.{IsDescription, describes, layout_of, memory_of, plane_row_bytes};
 ghost use Rattle.picture_model.specs.Geometry.{IsFrame};
-ghost use Rattle.picture_model.specs.Places.{Byte, IsByte, byte_place};
-ghost use Rattle.picture_model.specs.Plans.{IsPlan, grain_clipped, grains_of, row_plan, row_strip, skipped_plan, skipped_strip, vbi_plan, vbi_strip};
+ghost use Rattle.picture_model.specs.Places.{Byte, HasPlane, IsByte, byte_clipped, byte_place};
+ghost use Rattle.picture_model.specs.Plans.{CoverSafely, IsPlan, cuts_of, grain_bytes, grain_clipped, grains_of, row_plan, row_strip, skipped_plan, skipped_strip, vbi_plan, vbi_strip};
 ghost use Rattle.picture_model.specs.Programs.{compiled};
 
 /// Each row, each skipped line and each VBI line has exactly one plan, the one that is computed.
@@ -29,6 +30,25 @@ pub fn rows_are_cut_by_segments()
         AreRunsFrom (grain_clipped d row) (grains_of (layout_of d) d.width) 0 (row_strip d row).spans }
 {}
 
+/// The grains of a row are its bytes on each plane, and a byte is clipped with its grain.
+pub fn grains_are_the_bytes_of_rows()
+    ensures bytes { (d : Desc) (plane : ℕ) → HasPlane d plane →
+        grains_of (layout_of d) d.width * grain_bytes (layout_of d) plane ≡ plane_row_bytes d plane }
+    ensures clipped { (d : Desc) (plane row grain part : ℕ) → HasPlane d plane → part < grain_bytes (layout_of d) plane →
+        byte_clipped d plane row (grain * grain_bytes (layout_of d) plane + part) ≡ grain_clipped d row grain }
+{}
+
+/// The cuts of each line cover it in order and without a gap, move at most 4,092 bytes of a plane each,
+/// and what one writes on a plane lies in one chunk and is granted.
+pub fn cuts_cover_their_lines()
+    ensures row { (d : Desc) (row : ℕ) → IsDescription d → IsFrame d → row < d.height →
+        CoverSafely (memory_of d) (row_strip d row) (cuts_of (memory_of d) (row_strip d row) (row_strip d row).spans) }
+    ensures skipped { (d : Desc) → IsDescription d → IsFrame d →
+        CoverSafely (memory_of d) (skipped_strip d) (cuts_of (memory_of d) (skipped_strip d) (skipped_strip d).spans) }
+    ensures vbi { (d : Desc) (field : Parity) (line : ℕ) → IsDescription d → IsFrame d → describes d.fields field ≡ true → line < d.vbi_lines →
+        CoverSafely (memory_of d) (vbi_strip d field line) (cuts_of (memory_of d) (vbi_strip d field line) (vbi_strip d field line).spans) }
+{}
+
 /// Each byte of a picture and of its VBI lines that is kept lies at an address that the program may
 /// write, and no two of them at the same.
 pub fn places_are_granted_and_differ()
@@ -36,4 +56,9 @@ pub fn places_are_granted_and_differ()
         byte_place d byte ≡ Some address → granted (compiled d).grants address ≡ true }
     ensures differ { (d : Desc) (byte other : Byte) (address : ℕ) → IsDescription d → IsFrame d → IsByte d byte → IsByte d other →
         byte_place d byte ≡ Some address → byte_place d other ≡ Some address → byte ≡ other }
+{}
+
+/// The program of a description is sound: its path has no fault.
+pub fn compiled_programs_are_sound()
+    ensures { (d : Desc) → IsDescription d → IsFrame d → IsSound (compiled d) }
 {}
