@@ -1,10 +1,10 @@
 -- The cuts of a span: what fits, that there is one list of them, and what it covers.
-use Rattle.std.proofs.Common.{◌≡◌, ℕ, zero, suc, ◌+◌, ◌-◌, ◌*◌, ◌<◌, ◌≤◌, Bool, true, false, List, [], ◌∷◌, ◌++◌, Option, Some, None, refl, ap, ◌∙◌, subst, arith, ⊎_elim}
+use Rattle.std.proofs.Common.{sym, ◌≡◌, ℕ, zero, suc, ◌+◌, ◌-◌, ◌*◌, ◌<◌, ◌≤◌, Bool, true, false, List, [], ◌∷◌, ◌++◌, Option, Some, None, refl, ap, ◌∙◌, subst, arith, ⊎_elim}
 use Rattle.std.proofs.lemmas.Bool.{cases_lt}
 use Rattle.std.proofs.Math.Nat.{le-div_iff_mul-le}
 use Rattle.page_table.specs.Grants.{Chunk}
 use Rattle.clip_spans.specs.declared.Span.{Span}
-use Rattle.picture_model.specs.Plans.{Track, Strip, Cut, IsInOneChunk, FitsTrack, Fits, IsCut, AreCutsFrom, AreCuts, most, bytes_free, most_of, longest, cut, cuts_from, span_cuts, cuts_of}
+use Rattle.picture_model.specs.Plans.{Track, Strip, Cut, IsInOneChunk, FitsTrack, Fits, IsCut, AreCutsFrom, AreCuts, most, bytes_free, most_of, longest, cut, cuts_from, cuts_left, span_cuts, cuts_of}
 
 -- so many grains fit exactly where they are no more than the most
 
@@ -119,6 +119,21 @@ module _ (memory : List Chunk) (strip : Strip) (s : Span) where
       only_cuts fuel (suc rest - k.n) (at + k.n) cuts (omega arith) (omega arith) are.1 in
       let same : cuts ≡ cuts_from fuel (suc rest - longest memory strip s at) memory strip s (at + longest memory strip s at) = subst (λ (n : ℕ). cuts ≡ cuts_from fuel (suc rest - n) memory strip s (at + n)) long later in
       cc
+
+module _ (memory : List Chunk) (strip : Strip) (s : Span) where
+  -- the cuts that are left are the longest that fits here, and those left behind it
+  pub next_cut : (at : ℕ) → EachFits memory strip s → s.from ≤ at → at < s.to → cuts_left memory strip s at ≡ cut at (longest memory strip s at) s.clipped ∷ cuts_left memory strip s (at + longest memory strip s at)
+  next_cut at each from inside =
+      let n = longest memory strip s at in
+      let some : 1 ≤ n = Fits-longest memory strip s at 1 (each at from inside) in
+      let fits = longest-Fits memory strip s at n (omega arith) (omega arith) in
+      let within = fits.within in
+      let later = cuts_are memory strip s each (s.to - (at + n)) (s.to - (at + n)) (at + n) (omega arith) (omega arith) (omega arith) in
+      sym (only_cuts memory strip s (s.to - at) (s.to - at) at (cut at n s.clipped ∷ cuts_left memory strip s (at + n)) (omega arith) (omega arith) (longest_cut memory strip s at inside some, later))
+
+  pub no_cut : (at : ℕ) → s.to ≤ at → cuts_left memory strip s at ≡ []
+  no_cut at done =
+      let none : s.to - at ≡ 0 = omega arith in ap (λ (n : ℕ). cuts_from n n memory strip s at) none
 
 -- the cuts of a line
 

@@ -123,7 +123,7 @@ row_grains d plane has =
     (λ other. planes_by l.planar plane has.low has.high (eqb-false plane 1 other))
     (λ planar. ap (λ n. d.width / n) ((layout_sizes d.format).unit planar).0)
 
-bytes_units : (d : Desc) → (layout_of d).planar ≡ true → ((layout_of d).bytes ≡ 2) ⊎ ((layout_of d).bytes ≡ 4)
+pub bytes_units : (d : Desc) → (layout_of d).planar ≡ true → ((layout_of d).bytes ≡ 2) ⊎ ((layout_of d).bytes ≡ 4)
 bytes_units d planar =
     let same = planar_bytes d.format planar in
     ⊎_elim (λ two. inl (same ∙ two)) (λ four. inr (same ∙ four)) (planar_pixels d.format planar)
@@ -150,7 +150,7 @@ grain_small d plane =
     size_small (layout_of d).planar (plane == 1) (layout_of d).bytes (bytes_units d)
 
 -- a plane that holds a row is one of the picture's
-held_plane : (d : Desc) (plane row c : ℕ) → 1 ≤ plane → plane ≤ 3 → plane_row (layout_of d) (both d) plane row ≡ Some c → HasPlane d plane
+pub held_plane : (d : Desc) (plane row c : ℕ) → 1 ≤ plane → plane ≤ 3 → plane_row (layout_of d) (both d) plane row ≡ Some c → HasPlane d plane
 held_plane d plane row c low high held =
     record {
       low = low;

@@ -10,3 +10,7 @@ pub mod Each
 pub mod Circle
 pub mod Fine
 pub mod Sections
+pub mod Ends
+pub mod Counting
+pub mod Limit
+pub mod Made

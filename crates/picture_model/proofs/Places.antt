@@ -1,5 +1,6 @@
 -- The places of a picture's bytes: each is granted, and all differ.
 use Rattle.std.proofs.Common.{◌≡◌, ℕ, ◌+◌, ◌<◌, ◌≤◌, Bool, true, false, ◌||◌, List, [], ◌∷◌, Some, refl, sym, ap, ◌∙◌, subst, arith, ⊎_elim}
+use Rattle.std.specs.List.{list_any}
 use Rattle.std.proofs.lemmas.Bool.{cases_order}
 use Rattle.std.proofs.lemmas.Nat.{same_from_place}
 use Rattle.pixel_layout.specs.declared.Parity.{Parity}
@@ -14,7 +15,7 @@ use Rattle.picture_model.specs.Places.{Byte, IsByte, byte_offset, byte_place, ro
 use Rattle.picture_model.proofs.Right.{IsRight}
 use Rattle.picture_model.proofs.Offsets.{IsRowAt, areas_differ, mapped_some, plane_and_area, planes_differ, row_end, row_offset-IsRowAt, row_within, rows_differ, vbi_end, vbi_line_within}
 
--- what a list of chunks grants, it grants in rising order too
+-- some chunk of a list passes a test exactly where one in rising order does
 
 or_none : (a : Bool) → a ≡ (a || false)
 or_none true = refl
@@ -25,15 +26,18 @@ or_turn true true c = refl
 or_turn true false c = refl
 or_turn false b c = refl
 
-granted-all_placed : (rising rest : List Chunk) (a : ℕ) → granted (all_placed rising rest) a ≡ (granted rising a || granted rest a)
-granted-all_placed rising [] a = or_none (granted rising a)
-granted-all_placed rising (c ∷ rest) a =
-    granted-all_placed (placed c rising) rest a
-    ∙ ap (λ b. b || granted rest a) (list_any-placed (λ (k : Chunk). covers k a) c rising)
-    ∙ or_turn (covers c a) (granted rising a) (granted rest a)
+any-all_placed : (test : Chunk → Bool) (rising rest : List Chunk) → list_any test (all_placed rising rest) ≡ (list_any test rising || list_any test rest)
+any-all_placed test rising [] = or_none (list_any test rising)
+any-all_placed test rising (c ∷ rest) =
+    any-all_placed test (placed c rising) rest
+    ∙ ap (λ b. b || list_any test rest) (list_any-placed test c rising)
+    ∙ or_turn (test c) (list_any test rising) (list_any test rest)
+
+pub any-in_order : (test : Chunk → Bool) (chunks : List Chunk) → list_any test (in_order chunks) ≡ list_any test chunks
+any-in_order test chunks = any-all_placed test [] chunks
 
 pub granted-in_order : (chunks : List Chunk) (a : ℕ) → granted (in_order chunks) a ≡ granted chunks a
-granted-in_order chunks a = granted-all_placed [] chunks a
+granted-in_order chunks a = any-in_order (λ (c : Chunk). covers c a) chunks
 
 -- a byte's place is the address of its offset
 pub record IsPlaceAt (d : Desc) (b : Byte) (a : ℕ) : Type 0 where

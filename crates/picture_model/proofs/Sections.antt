@@ -84,7 +84,7 @@ closing_fine program field target word =
       fine = λ before. cond-true (is_word program target) _ _ word;
     }
 
-closing_words : (field : Parity) (target : ℕ) → target < 2 ^ 32 → AreWords (encoded (closing field target))
+pub closing_words : (field : Parity) (target : ℕ) → target < 2 ^ 32 → AreWords (encoded (closing field target))
 closing_words Top target small = (omega arith, (small, tt))
 closing_words Bottom target small = (omega arith, (small, tt))
 

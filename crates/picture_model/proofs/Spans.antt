@@ -20,13 +20,13 @@ not_both : (b : Bool) → b ≡ not b → ⊥
 not_both true e = cc
 not_both false e = cc
 
-mul_div : (a p : ℕ) → 1 ≤ p → a * p / p ≡ a
+pub mul_div : (a p : ℕ) → 1 ≤ p → a * p / p ≡ a
 mul_div a p some = let e : a * p ≡ a * p + 0 = omega arith in ap (λ n. n / p) e ∙ div-mul-add a p 0 some
 
 whole_product : (a p : ℕ) → 1 ≤ p → (a * p) % p ≡ 0
 whole_product a p some = let e : a * p ≡ a * p + 0 = omega arith in ap (λ n. n % p) e ∙ mod-mul-add a p 0 some
 
-whole_is : (x p : ℕ) → x % p ≡ 0 → x / p * p ≡ x
+pub whole_is : (x p : ℕ) → x % p ≡ 0 → x / p * p ≡ x
 whole_is x p whole = let parts = div-add-mod' x p in omega arith
 
 div_before : (x p : ℕ) → 1 ≤ p → 0 < x % p → (x - 1) / p ≡ x / p
@@ -35,10 +35,10 @@ div_before x p some part =
     let e : x - 1 ≡ x / p * p + (x % p - 1) = omega arith in
     ap (λ n. n / p) e ∙ div-mul-add (x / p) p (x % p - 1) (omega arith)
 
-less_product : (a b p : ℕ) → 1 ≤ p → a < b → a * p < b * p
+pub less_product : (a b p : ℕ) → 1 ≤ p → a < b → a * p < b * p
 less_product a b p some less = let fits = row_fits a p b p less (omega arith) in omega arith
 
-product_less : (a b p : ℕ) → a * p < b * p → a < b
+pub product_less : (a b p : ℕ) → a * p < b * p → a < b
 product_less a b p less =
     ⊎_elim (λ yes. yes) (λ no. let more = mul-le b p a p no (omega arith) in absurd (omega arith)) (cases_lt a b)
 

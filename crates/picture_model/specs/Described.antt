@@ -12,11 +12,13 @@ use Rattle.capture_desc.specs.declared.desc.Desc.{Desc}
 use Rattle.capture_desc.specs.declared.desc.Fields.{Fields}
 use Rattle.capture_desc.specs.declared.desc.Fields.TheVariants as fields
 
--- what every description meets, its pages are addresses, and it has at most 64 clip rectangles
+-- what every description meets; its pages are addresses, and it has at most 64 clip rectangles and 255
+-- skipped lines
 pub record IsDescription (d : Desc) : Type 0 where
   pub formed : IsWellFormed d
   pub pages : All (λ page. page < 2 ^ 32) d.pages
   pub clips : length d.clip ≤ 64
+  pub skipped : d.skip_lines ≤ 255
 
 -- the fields
 

@@ -215,8 +215,12 @@ cuts_from (suc fuel) (suc rest) memory strip s at =
     let n = longest memory strip s at in
     cut at n s.clipped ∷ cuts_from fuel (suc rest - n) memory strip s (at + n)
 
+-- the cuts of a span from a grain on, and of all of it
+abbrev pub cuts_left : List Chunk → Strip → Span → ℕ → List Cut
+cuts_left memory strip s at = cuts_from (s.to - at) (s.to - at) memory strip s at
+
 abbrev pub span_cuts : List Chunk → Strip → Span → List Cut
-span_cuts memory strip s = cuts_from (s.to - s.from) (s.to - s.from) memory strip s s.from
+span_cuts memory strip s = cuts_left memory strip s s.from
 
 abbrev pub cuts_of : List Chunk → Strip → List Span → List Cut
 cuts_of memory strip spans = flat_map (span_cuts memory strip) spans

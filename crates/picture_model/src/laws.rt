@@ -1,15 +1,15 @@
 //! Laws of descriptions whose geometry has no fault. The functions do nothing; their contracts are the
 //! laws.
 
-ghost use Rattle.std.specs.Prelude.{◌≡◌, ◌↔◌, ℕ, ◌+◌, ◌*◌, ◌<◌, true, Some, List};
+ghost use Rattle.std.specs.Prelude.{◌≡◌, ◌↔◌, ℕ, ◌+◌, ◌*◌, ◌<◌, ◌≤◌, true, Some, List, length};
 ghost use Rattle.capture_desc.specs.declared.desc.Desc.{Desc};
 ghost use Rattle.clip_spans.specs.Runs.{AreRunsFrom};
-ghost use Rattle.machine_model.specs.Paths.{IsSound};
+ghost use Rattle.machine_model.specs.Paths.{IsProgram, IsSound};
 ghost use Rattle.page_table.specs.Grants.{granted};
 ghost use Rattle.pixel_layout.specs.declared.Parity.{Parity};
 ghost use Rattle.picture_model.specs.declared.Piece.{Piece};
 ghost use Rattle.picture_model.specs.Described.{IsDescription, describes, layout_of, memory_of, plane_row_bytes};
-ghost use Rattle.picture_model.specs.Geometry.{IsFrame};
+ghost use Rattle.picture_model.specs.Geometry.{IsFrame, IsValid};
 ghost use Rattle.picture_model.specs.Places.{Byte, HasPlane, IsByte, byte_clipped, byte_place};
 ghost use Rattle.picture_model.specs.Plans.{CoverSafely, IsPlan, cuts_of, grain_bytes, grain_clipped, grains_of, row_plan, row_strip, skipped_plan, skipped_strip, vbi_plan, vbi_strip};
 ghost use Rattle.picture_model.specs.Programs.{compiled};
@@ -61,4 +61,11 @@ pub fn places_are_granted_and_differ()
 /// The program of a description is sound: its path has no fault.
 pub fn compiled_programs_are_sound()
     ensures { (d : Desc) → IsDescription d → IsFrame d → IsSound (compiled d) }
+{}
+
+/// The program of a description has no more words than a program may have, and where the description
+/// has no fault at all, it is a program.
+pub fn compiled_programs_can_be_made()
+    ensures words { (d : Desc) → IsDescription d → IsFrame d → length (compiled d).words ≤ 1048576 }
+    ensures program { (d : Desc) → IsDescription d → IsValid d → IsProgram (compiled d) }
 {}
