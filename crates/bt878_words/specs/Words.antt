@@ -26,6 +26,7 @@ verb_named word =
 
 -- the commands that this version has; the others are unknown
 abbrev pub is_built : Verb → Bool
+is_built verb.List = true
 is_built verb.Verify = true
 is_built verb.Run = true
 is_built _ = false

@@ -82,7 +82,7 @@ impl Verb {
         ensures { result ≡ is_built self }
     {
         match self {
-            Verb::Verify | Verb::Run => true,
+            Verb::List | Verb::Verify | Verb::Run => true,
             _ => false,
         }
     }
@@ -249,6 +249,7 @@ mod tests {
         );
         assert_eq!(rt; read_words(&["run", "a", "a", "b"]), Ok(Command::Run));
         assert_eq!(rt; read_words(&["verify", "a"]), Ok(Command::Verify));
+        assert_eq!(rt; read_words(&["list", "a"]), Ok(Command::List));
     }
 
     #[test]
