@@ -3,7 +3,7 @@
 /// Bytes in parts: each so many times.
 pub type Parts = &'static [(usize, &'static [u8])];
 
-/// A program file that is judged.
+/// A program file, and what is said of it.
 pub struct Judged {
     pub program: &'static [u8],
     pub status: u8,
@@ -26,6 +26,40 @@ pub const ONE_LINE: &[u8] =
 /// A field of that line on queue 1, then nine turns.
 pub const ONE_LINE_STREAM: &[u8] =
     b"BFS1\x04\x04\x04\x06\x01\x02\x10\x11\x12\x13\x01\x01\x14\x15\x16\x17\x05\x09\x00\x00\x00\x00";
+
+/// What `list` says.
+pub static LISTED: [Judged; 5] = [
+    // instructions with the fields that aren't 0
+    Judged {
+        program: ONE_LINE,
+        status: 0,
+        said: b"base 00001000\n00001000 sync vre resync\n00001008 sync fm1\n00001010 write sol eol 8 00020000\n00001018 jump irq set=1 reset=e 00001000\npage 00020000\nfill 00\n",
+    },
+    // a program that isn't sound, with words that are no spelling
+    Judged {
+        program: b"BRP1\x00\x10\x00\x00\x04\x00\x00\x00\x04\x80\x00\x80\x04\x00\x00\x10\x00\x00\x00p\x04\x10\x00\x00\x01\x00\x00\x00\x00\x00\x02\x00\x00",
+        status: 0,
+        said: b"base 00001000\n00001000 word 80008004\n00001004 write 4 70000000\n0000100c word 00001004\npage 00020000\nfill 00\n",
+    },
+    // a chunk that is no page has its length
+    Judged {
+        program: b"BRP2\x00\x10\x00\x00\x08\x00\x00\x00\x04\x80\x00\x80\x00\x00\x00\x00\x06\x00\x00\x80\x00\x00\x00\x00\x08\x00\x00\x1c\x04\x00\x02\x00\x00\x00\xe1q\x00\x10\x00\x00\x01\x00\x00\x00\x04\x00\x02\x00\x08\x00\x00\x00\x00",
+        status: 0,
+        said: b"base 00001000\n00001000 sync vre resync\n00001008 sync fm1\n00001010 write sol eol 8 00020004\n00001018 jump irq set=1 reset=e 00001000\nchunk 00020004 8\nfill 00\n",
+    },
+    // pages alone are no chunks of the second form
+    Judged {
+        program: b"BRP2\x00\x10\x00\x00\x08\x00\x00\x00\x04\x80\x00\x80\x00\x00\x00\x00\x06\x00\x00\x80\x00\x00\x00\x00\x08\x00\x00\x1c\x00\x00\x02\x00\x00\x00\xe1q\x00\x10\x00\x00\x01\x00\x00\x00\x00\x00\x02\x00\x00\x10\x00\x00\x00",
+        status: 3,
+        said: b"program file: pages at 56\n",
+    },
+    // an empty program file is short
+    Judged {
+        program: b"",
+        status: 3,
+        said: b"program file: short at 0\n",
+    },
+];
 
 /// What `verify` says.
 pub static JUDGED: [Judged; 13] = [

@@ -64,8 +64,8 @@ pub fn run_desk(
     MemDesk::new(alloc, inputs, opens, creates, failures, longest, 5000)
 }
 
-/// The desk of `verify program`.
-pub fn verify_desk(alloc: Global, program: &[u8]) -> Result<MemDesk, AllocError>
+/// The desk of `list program` and `verify program`.
+pub fn program_desk(alloc: Global, program: &[u8]) -> Result<MemDesk, AllocError>
     ensures opens { IfOk result (λ desk. (all_told desk).may_open ≡ Some (codes "program" ∷ [])) }
     ensures creates { IfOk result (λ desk. (all_told desk).may_create ≡ Some []) }
 {

@@ -1,5 +1,5 @@
-use crate::cases::{JUDGED, ONE_LINE, ONE_LINE_STREAM, PLAYED, Parts};
-use crate::desks::{are_parts, bare_desk, empty_desk, joined, run_desk, verify_desk};
+use crate::cases::{JUDGED, LISTED, ONE_LINE, ONE_LINE_STREAM, PLAYED, Parts};
+use crate::desks::{are_parts, bare_desk, empty_desk, joined, program_desk, run_desk};
 use bt878_top::bt878;
 use capture_desk::MemDesk;
 use std::alloc::{AllocError, Global};
@@ -23,8 +23,17 @@ impl Left {
     }
 }
 
+fn listed(alloc: Global, program: &[u8]) -> Result<Left, AllocError> {
+    let mut desk = program_desk(alloc, program)?;
+    let answer = bt878(alloc, &["list", "program"], &mut desk);
+    Ok(Left {
+        status: answer.status(),
+        desk,
+    })
+}
+
 fn judged(alloc: Global, program: &[u8]) -> Result<Left, AllocError> {
-    let mut desk = verify_desk(alloc, program)?;
+    let mut desk = program_desk(alloc, program)?;
     let answer = bt878(alloc, &["verify", "program"], &mut desk);
     Ok(Left {
         status: answer.status(),
@@ -53,6 +62,15 @@ fn play_all(rt: &impl Abort, alloc: Global, longest: usize) -> Result<(), AllocE
         let left = played(alloc, case.program, &stream, &[], longest)?;
         assert!(rt; left.has(case.status, case.said, case.image));
         assert_eq!(rt; left.desk.faults(), [0, 0]);
+    }
+    Ok(())
+}
+
+#[test]
+fn programs_are_listed(rt: HostRuntime) -> Result<(), Fail> {
+    for case in &LISTED {
+        let left = listed(rt.alloc(), case.program)?;
+        assert!(rt; left.has(case.status, case.said, &[]));
     }
     Ok(())
 }

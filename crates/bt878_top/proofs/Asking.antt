@@ -1,14 +1,14 @@
 -- The words as they are passed, and the names in them.
-use Rattle.std.proofs.Common.{◌≡◌, ℕ, true, false, Bool, ◌||◌, List, [], ◌∷◌, length, map, Option, Some, None, Ok, refl, sym, ap, subst, ◌∙◌, slice_index_or}
+use Rattle.std.proofs.Common.{◌≡◌, ℕ, true, false, Bool, ◌||◌, List, [], ◌∷◌, map, Option, Some, None, Ok, refl, sym, ap, subst, ◌∙◌, slice_index_or}
 use Rattle.std.specs.Bool.{Decides}
 use Rattle.std.specs.Str.{bytes_eq}
 use Rattle.std.proofs.lemmas.Slice.Eq.{bytes_eq-Decides}
 use Rattle.std.proofs.Math.ListN.{get_or-map}
 use Rattle.bt878_words.specs.declared.Command.TheVariants as command
 use Rattle.bt878_words.specs.Words.{command_of, inputs_of, outputs_of}
-use Rattle.bt878_words.proofs.Asked.{AsksRun, AsksVerify, asked}
+use Rattle.bt878_words.proofs.Asked.{AsksProgram, AsksRun, asked}
 use Rattle.capture_desk.specs.Desks.{IsAllowed, is_among}
-use Rattle.bt878_top.specs.Tasks.{AreNames, Task, Verifies, Runs, task_of, task_with}
+use Rattle.bt878_top.specs.Tasks.{AreNames, Lists, Verifies, Runs, task_of, task_with}
 
 -- ---- the names may be used
 
@@ -41,17 +41,25 @@ module _ {X : Type 0} (f : X → List ℕ) (xs : List X) (d : X) where
   at : (k : ℕ) (words : List (List ℕ)) → map f xs ≡ words → word_at k ≡ slice_index_or words k (f d)
   at k words e = sym (get_or-map f xs k d) ∙ ap (λ l. slice_index_or l k (f d)) e
 
-  verify_is : command_of (map f xs) ≡ Ok command.Verify → AsksVerify (map f xs)
+  list_is : command_of (map f xs) ≡ Ok command.List → AsksProgram (map f xs)
+  list_is e = asked (map f xs) command.List e
+
+  verify_is : command_of (map f xs) ≡ Ok command.Verify → AsksProgram (map f xs)
   verify_is e = asked (map f xs) command.Verify e
 
   run_is : command_of (map f xs) ≡ Ok command.Run → AsksRun (map f xs)
   run_is e = asked (map f xs) command.Run e
 
-  pub verify_allowed : (told : Option (List (List ℕ))) → command_of (map f xs) ≡ Ok command.Verify → AreNames (inputs_of (map f xs)) told → IsAllowed (word_at 1) told
-  verify_allowed told e are =
-      let h = verify_is e in
+  program_allowed : (told : Option (List (List ℕ))) (h : AsksProgram (map f xs)) → AreNames (inputs_of (map f xs)) told → IsAllowed (word_at 1) told
+  program_allowed told h are =
       allowed (inputs_of (map f xs)) told (word_at 1) are
       (subst (λ names. is_among (word_at 1) names ≡ true) (sym h.opens) (first_among (word_at 1) h.program [] (at 1 (h.word ∷ h.program ∷ []) h.are)))
+
+  pub list_allowed : (told : Option (List (List ℕ))) → command_of (map f xs) ≡ Ok command.List → AreNames (inputs_of (map f xs)) told → IsAllowed (word_at 1) told
+  list_allowed told e are = program_allowed told (list_is e) are
+
+  pub verify_allowed : (told : Option (List (List ℕ))) → command_of (map f xs) ≡ Ok command.Verify → AreNames (inputs_of (map f xs)) told → IsAllowed (word_at 1) told
+  verify_allowed told e are = program_allowed told (verify_is e) are
 
   pub run_program_allowed : (told : Option (List (List ℕ))) → command_of (map f xs) ≡ Ok command.Run → AreNames (inputs_of (map f xs)) told → IsAllowed (word_at 1) told
   run_program_allowed told e are =
@@ -71,6 +79,12 @@ module _ {X : Type 0} (f : X → List ℕ) (xs : List X) (d : X) where
       let h = run_is e in
       allowed (outputs_of (map f xs)) told (word_at 3) are
       (subst (λ names. is_among (word_at 3) names ≡ true) (sym h.creates) (first_among (word_at 3) h.image [] (at 3 _ h.are)))
+
+  pub list_task : command_of (map f xs) ≡ Ok command.List → task_of (map f xs) ≡ Ok (Lists (word_at 1))
+  list_task e =
+      let h = list_is e in
+      ap (λ c. task_with c (map f xs)) e ∙ ap (task_with (Ok command.List)) h.are
+      ∙ ap (λ program. Ok (Lists program)) (sym (at 1 _ h.are))
 
   pub verify_task : command_of (map f xs) ≡ Ok command.Verify → task_of (map f xs) ≡ Ok (Verifies (word_at 1))
   verify_task e =

@@ -1,23 +1,22 @@
 -- How the parts of a command make the whole.
-use Rattle.std.proofs.Common.{◌≡◌, ℕ, ◌+◌, ◌<◌, ◌≤◌, ◌⊎◌, inl, inr, true, false, List, [], ◌∷◌, length, take, Option, Some, None, Result, Ok, Err, refl, sym, ap, subst, ◌∙◌, arith}
+use Rattle.std.proofs.Common.{◌≡◌, ℕ, ◌<◌, ◌≤◌, ◌⊎◌, inl, inr, List, [], ◌∷◌, length, take, Option, refl, sym, ap, subst, ◌∙◌, arith}
 use Rattle.std.proofs.lemmas.List.{take_all}
-use Rattle.capture_desk.specs.Desks.{HasRisen, Inputs, Told, Puts, after_create, after_finish, after_say, after_write}
-use Rattle.capture_file.specs.declared.Input.TheVariants.{Program, Stream, Desc, Ring}
+use Rattle.capture_desk.specs.Desks.{HasRisen, Inputs, Told, after_create, after_finish, after_say, after_write}
+use Rattle.capture_file.specs.declared.Input.TheVariants.{Program, Stream}
 use Rattle.capture_file.specs.Images.{image_of}
 use Rattle.capture_file.specs.Streams.{steps_run}
 use Rattle.machine_model.specs.States.{State, first_state}
 use Rattle.machine_model.specs.Steps.{run}
-use Rattle.machine_model.specs.Safety.{IsInside}
 use Rattle.machine_model.proofs.Runs.{IsInside-first_state}
 use Rattle.dma_machine.specs.Facts.{report_of}
 use Rattle.bt878_words.specs.declared.UsageFault.{UsageFault}
 use Rattle.bt878_top.specs.declared.answer.Answer.{Answer}
 use Rattle.bt878_top.specs.declared.answer.Answer.TheVariants.{Done, Usage, ReadFault, WriteFault, Malformed, Rejected, NoMemory}
-use Rattle.bt878_top.specs.Desks.{Seen, Product, OfInput, OfFile, NeedsMemory, Refused, Says, SameCounts, WritesRose, IsFilePart, IsPart, IsUnread, apart, delivered}
-use Rattle.bt878_top.specs.Texts.{accepted_text, answer_text, report_text}
-use Rattle.bt878_top.specs.Programs.{Accepts, HasRun, IsTaken, StopsAtProgram, StopsAtStream, StopsAtRun}
-use Rattle.bt878_top.specs.Tasks.{Task, Verifies, Runs, Ends, HasOutput, IsDone, IsPartDone, IsRefused, Makes, RunMakes, Stops}
-use Rattle.bt878_top.proofs.Loading.{OfInput-map, OfInput-both, same_inputs}
+use Rattle.bt878_top.specs.Desks.{Seen, OfInput, NeedsMemory, Refused, Says, SameCounts, WritesRose, IsFilePart, IsPart, apart, delivered}
+use Rattle.bt878_top.specs.Texts.{answer_text, report_text}
+use Rattle.bt878_top.specs.Programs.{HasRun, StopsAtFile, StopsAtProgram, StopsAtStream}
+use Rattle.bt878_top.specs.Tasks.{Task, Lists, Verifies, Runs, Ends, IsDone, IsPartDone, Makes, RunMakes, Stops}
+use Rattle.bt878_top.proofs.Loading.{OfInput-map}
 use Rattle.bt878_top.proofs.Fitting.{steps_fit}
 
 -- ---- one file and a text
@@ -79,33 +78,24 @@ run_product program stream image inputs m h = (
 
 -- ---- refusals
 
+stops_at_file_later : (name : List ℕ) (answer : Answer) (old mid new : Seen) → mid.reads ≤ new.reads → StopsAtFile name answer old mid → StopsAtFile name answer old new
+stops_at_file_later name ReadFault old mid new more (inl rose) = inl (omega arith)
+stops_at_file_later name ReadFault old mid new more (inr missing) = inr missing
+stops_at_file_later name (Malformed Program fault) old mid new more h = h
+stops_at_file_later name answer old mid new more h = h
+
 stops_at_program_later : (name : List ℕ) (answer : Answer) (old mid new : Seen) → mid.reads ≤ new.reads → StopsAtProgram name answer old mid → StopsAtProgram name answer old new
-stops_at_program_later name ReadFault old mid new more (inl rose) = inl (omega arith)
-stops_at_program_later name ReadFault old mid new more (inr missing) = inr missing
-stops_at_program_later name (Malformed Program fault) old mid new more h = h
-stops_at_program_later name (Malformed Stream fault) old mid new more h = h
-stops_at_program_later name (Malformed Desc fault) old mid new more h = h
-stops_at_program_later name (Malformed Ring fault) old mid new more h = h
 stops_at_program_later name (Rejected at nth cause) old mid new more h = h
-stops_at_program_later name NoMemory old mid new more h = tt
-stops_at_program_later name Done old mid new more h = h
-stops_at_program_later name (Usage fault) old mid new more h = h
-stops_at_program_later name WriteFault old mid new more h = h
+stops_at_program_later name answer old mid new more h = stops_at_file_later name answer old mid new more h
 
 stops_at_stream_later : (name : List ℕ) (answer : Answer) (old mid new : Seen) → mid.reads ≤ new.reads → StopsAtStream name answer old mid → StopsAtStream name answer old new
 stops_at_stream_later name ReadFault old mid new more (inl rose) = inl (omega arith)
 stops_at_stream_later name ReadFault old mid new more (inr missing) = inr missing
 stops_at_stream_later name (Malformed Stream fault) old mid new more h = h
-stops_at_stream_later name (Malformed Program fault) old mid new more h = h
-stops_at_stream_later name (Malformed Desc fault) old mid new more h = h
-stops_at_stream_later name (Malformed Ring fault) old mid new more h = h
-stops_at_stream_later name (Rejected at nth cause) old mid new more h = h
-stops_at_stream_later name NoMemory old mid new more h = tt
-stops_at_stream_later name Done old mid new more h = h
-stops_at_stream_later name (Usage fault) old mid new more h = h
-stops_at_stream_later name WriteFault old mid new more h = h
+stops_at_stream_later name answer old mid new more h = h
 
 stops_later : (task : Task) (answer : Answer) (old mid new : Seen) → mid.reads ≤ new.reads → Stops task answer old mid → Stops task answer old new
+stops_later (Lists program) answer old mid new more h = stops_at_file_later program answer old mid new more h
 stops_later (Verifies program) answer old mid new more h = stops_at_program_later program answer old mid new more h
 stops_later (Runs program stream image) answer old mid new more (inl h) = inl (stops_at_program_later program answer old mid new more h)
 stops_later (Runs program stream image) answer old mid new more (inr h) = inr (h.0, stops_at_stream_later stream answer old mid new more h.1)
@@ -118,21 +108,25 @@ said_from text old mid new more same (n, few, e, whole) = (n, few, e ∙ ap (aft
     from (inr rose) = inr (omega arith)
 
 never_done : (task : Task) (old new : Seen) → Stops task Done old new → ⊥
+never_done (Lists program) old new h = h
 never_done (Verifies program) old new h = h
 never_done (Runs program stream image) old new (inl h) = h
 never_done (Runs program stream image) old new (inr h) = h.1
 
 never_write_fault : (task : Task) (old new : Seen) → Stops task WriteFault old new → ⊥
+never_write_fault (Lists program) old new h = h
 never_write_fault (Verifies program) old new h = h
 never_write_fault (Runs program stream image) old new (inl h) = h
 never_write_fault (Runs program stream image) old new (inr h) = h.1
 
 never_usage : (task : Task) (fault : UsageFault) (old new : Seen) → Stops task (Usage fault) old new → ⊥
+never_usage (Lists program) fault old new h = h
 never_usage (Verifies program) fault old new h = h
 never_usage (Runs program stream image) fault old new (inl h) = h
 never_usage (Runs program stream image) fault old new (inr h) = h.1
 
 no_memory : (task : Task) (old new : Seen) → Stops task NoMemory old new
+no_memory (Lists program) old new = tt
 no_memory (Verifies program) old new = tt
 no_memory (Runs program stream image) old new = inl tt
 
@@ -156,23 +150,24 @@ ends_refused task wanted answer old mid new writes reads same why refused =
 
 -- ---- what is done
 
-pub verify_done : (program : List ℕ) (old mid new : Seen) → OfInput program old.told.inputs IsTaken → SameCounts old mid → apart mid.told ≡ apart old.told →
-    new.told ≡ after_say accepted_text mid.told → SameCounts mid new → IsDone (Verifies program) old new
-verify_done program old mid new taken counts same said more =
+-- a command that only says a text
+pub text_done : (task : Task) (text : List ℕ) (old mid new : Seen) → Makes task old.told.inputs (record { files = []; text = text }) → SameCounts old mid →
+    apart mid.told ≡ apart old.told → new.told ≡ after_say text mid.told → SameCounts mid new → IsDone task old new
+text_done task text old mid new makes counts same said more =
     record {
-      product = record { files = []; text = accepted_text };
-      made = (taken, refl);
-      left = ap apart said ∙ ap (after_say accepted_text) same;
+      product = record { files = []; text = text };
+      made = makes;
+      left = ap apart said ∙ ap (after_say text) same;
       counts = (more.0 ∙ counts.0, more.1 ∙ counts.1);
     }
 
-pub verify_part : (program : List ℕ) (old mid new : Seen) → OfInput program old.told.inputs IsTaken → SameCounts old mid → apart mid.told ≡ apart old.told →
-    (n : ℕ) × (n < length accepted_text) × (new.told ≡ after_say (take n accepted_text) mid.told) → WritesRose mid new → IsPartDone (Verifies program) old new
-verify_part program old mid new taken counts same (n, few, said) rose =
+pub text_part_done : (task : Task) (text : List ℕ) (old mid new : Seen) → Makes task old.told.inputs (record { files = []; text = text }) → SameCounts old mid →
+    apart mid.told ≡ apart old.told → (n : ℕ) × (n < length text) × (new.told ≡ after_say (take n text) mid.told) → WritesRose mid new → IsPartDone task old new
+text_part_done task text old mid new makes counts same (n, few, said) rose =
     record {
-      product = record { files = []; text = accepted_text };
-      made = (taken, refl);
-      left = (n, le_of_lt n (length accepted_text) few, ap apart said ∙ ap (after_say (take n accepted_text)) same);
+      product = record { files = []; text = text };
+      made = makes;
+      left = (n, le_of_lt n (length text) few, ap apart said ∙ ap (after_say (take n text)) same);
       rose = subst (λ w. HasRisen w new.writes) counts.1 rose;
     }
   where

@@ -1,5 +1,5 @@
 -- Laws of programs that are loaded and streams that are played.
-use Rattle.std.proofs.Common.{◌≡◌, ℕ, ◌≤◌, ◌⊎◌, inl, inr, true, false, Bool, List, [], Option, Some, None, Err, refl, sym, ap, subst, ◌∙◌, arith}
+use Rattle.std.proofs.Common.{◌≡◌, ℕ, inl, inr, true, false, Bool, List, Option, Some, None, Err, sym, ap, subst, ◌∙◌}
 use Rattle.capture_desk.specs.Desks.{HasRisen, Inputs, Told, named, is_missing, first_rest, after_open}
 use Rattle.machine_model.specs.States.{State}
 use Rattle.bt878_top.specs.declared.answer.Answer.{Answer}
@@ -8,7 +8,7 @@ use Rattle.capture_file.specs.declared.Input.TheVariants.{Program, Stream, Desc,
 use Rattle.capture_file.specs.Streams.{steps_of}
 use Rattle.bt878_top.specs.Desks.{Seen, OfInput, OfRest, OfFile, SameCounts, apart}
 use Rattle.bt878_top.specs.Plays.{HasPlayed, StopsPlaying, longest_stream}
-use Rattle.bt878_top.specs.Programs.{Accepts, HasRun, IsMade, IsTaken, StopsAtProgram, StopsAtStream, StopsAtRun, program_in}
+use Rattle.bt878_top.specs.Programs.{HasRun, IsMade, IsTaken, StopsAtStream}
 
 -- the inputs stay through what only reads
 pub same_inputs : (a b : Told) → apart a ≡ apart b → a.inputs ≡ b.inputs

@@ -8,6 +8,7 @@ use Rattle.capture_file.specs.declared.Input.TheVariants.{Program, Stream}
 use Rattle.capture_file.specs.declared.program.ProgramFile.{ProgramFile}
 use Rattle.capture_file.specs.Programs.{program_of}
 use Rattle.capture_file.specs.Streams.{steps_of}
+use Rattle.risc_listing.specs.Listings.{listing}
 use Rattle.bt878_top.specs.declared.answer.Answer.{Answer}
 use Rattle.bt878_top.specs.declared.answer.Answer.TheVariants.{ReadFault, Malformed, Rejected, NoMemory}
 use Rattle.bt878_top.specs.Desks.{Seen, OfInput, IsUnread}
@@ -31,22 +32,31 @@ pub record Rejects (found : Result ProgramFile FileFault) (at nth : ℕ) (cause 
   pub reads : found ≡ Ok file
   pub bad : IsFirstBad file.program at nth cause
 
--- why a file's program is refused, where it was read
-abbrev pub Refuses : Result ProgramFile FileFault → Answer → Type 0
-Refuses found (Malformed Program fault) = found ≡ Err fault
-Refuses found (Rejected at nth cause) = Rejects found at nth cause
-Refuses found NoMemory = ⊤
-Refuses found _ = ⊥
+-- why a file isn't one of a program, where it was read
+abbrev pub Misreads : Result ProgramFile FileFault → Answer → Type 0
+Misreads found (Malformed Program fault) = found ≡ Err fault
+Misreads found NoMemory = ⊤
+Misreads found _ = ⊥
 
--- why an input's program isn't taken
-abbrev pub StopsAtProgram : List ℕ → Answer → Seen → Seen → Type 0
-StopsAtProgram name ReadFault old new = IsUnread name old new
-StopsAtProgram name (Malformed Program fault) old new =
+-- why a program isn't taken
+abbrev pub Refuses : ProgramFile → Answer → Type 0
+Refuses file (Rejected at nth cause) = IsFirstBad file.program at nth cause
+Refuses file NoMemory = ⊤
+Refuses file _ = ⊥
+
+-- why an input isn't read as a program
+abbrev pub StopsAtFile : List ℕ → Answer → Seen → Seen → Type 0
+StopsAtFile name ReadFault old new = IsUnread name old new
+StopsAtFile name (Malformed Program fault) old new =
     OfInput name old.told.inputs (λ bytes. program_in bytes ≡ Err fault)
+StopsAtFile name NoMemory old new = ⊤
+StopsAtFile name _ old new = ⊥
+
+-- why an input's program isn't taken: it isn't sound, or it isn't read
+abbrev pub StopsAtProgram : List ℕ → Answer → Seen → Seen → Type 0
 StopsAtProgram name (Rejected at nth cause) old new =
     OfInput name old.told.inputs (λ bytes. Rejects (program_in bytes) at nth cause)
-StopsAtProgram name NoMemory old new = ⊤
-StopsAtProgram name _ old new = ⊥
+StopsAtProgram name answer old new = StopsAtFile name answer old new
 
 -- why an input's stream isn't played
 abbrev pub StopsAtStream : List ℕ → Answer → Seen → Seen → Type 0
@@ -55,6 +65,12 @@ StopsAtStream name (Malformed Stream fault) old new =
     OfInput name old.told.inputs (λ bytes. steps_of longest_stream false bytes ≡ Err fault)
 StopsAtStream name NoMemory old new = ⊤
 StopsAtStream name _ old new = ⊥
+
+-- a text is the listing of a file's program
+pub record IsListed (bytes text : List ℕ) : Type 0 where
+  pub file : ProgramFile
+  pub reads : program_in bytes ≡ Ok file
+  pub lists : text ≡ listing file.program file.fill
 
 -- a file's program is taken
 abbrev pub IsTaken : List ℕ → Type 0

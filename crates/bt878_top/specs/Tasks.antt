@@ -1,13 +1,13 @@
 -- What the words ask for, what comes of it, and why it is refused.
-use Rattle.std.specs.Prelude.{◌≡◌, ℕ, ◌⊎◌, ⊤, List, [], ◌∷◌, false, Option, MatchOption, Result, Ok, Err}
+use Rattle.std.specs.Prelude.{◌≡◌, ℕ, ⊤, List, [], ◌∷◌, false, Option, MatchOption, Result, Ok, Err}
 use Rattle.bt878_words.specs.declared.Command.{Command}
 use Rattle.bt878_words.specs.declared.Command.TheVariants as command
 use Rattle.bt878_words.specs.declared.UsageFault.{UsageFault}
 use Rattle.bt878_words.specs.declared.UsageFault.TheVariants.{UnknownCommand}
 use Rattle.bt878_words.specs.Words.{command_of}
 use Rattle.capture_desk.specs.Desks.{Inputs, is_among}
-use Rattle.machine_model.specs.Paths.{RiscProgram, IsSound}
-use Rattle.machine_model.specs.States.{State, first_state}
+use Rattle.machine_model.specs.Paths.{RiscProgram}
+use Rattle.machine_model.specs.States.{first_state}
 use Rattle.machine_model.specs.Steps.{run, state_at}
 use Rattle.machine_model.specs.Safety.{IsInside}
 use Rattle.capture_file.specs.declared.Step.{Step}
@@ -15,20 +15,22 @@ use Rattle.capture_file.specs.Streams.{steps_of, steps_run}
 use Rattle.capture_file.specs.Images.{image_of}
 use Rattle.dma_machine.specs.Facts.{report_of}
 use Rattle.bt878_top.specs.declared.answer.Answer.{Answer}
-use Rattle.bt878_top.specs.declared.answer.Answer.TheVariants.{Done, Usage, ReadFault, WriteFault, Malformed, Rejected, NoMemory}
+use Rattle.bt878_top.specs.declared.answer.Answer.TheVariants.{Done, Usage, WriteFault}
 use Rattle.bt878_top.specs.Desks.{Seen, Product, OfInput, SameCounts, WritesRose, Says, apart, delivered, IsPart}
 use Rattle.bt878_top.specs.Texts.{accepted_text, answer_text, report_text}
-use Rattle.bt878_top.specs.Programs.{Accepts, IsTaken, StopsAtProgram, StopsAtRun, program_in}
+use Rattle.bt878_top.specs.Programs.{Accepts, IsListed, IsTaken, StopsAtFile, StopsAtProgram, StopsAtRun, program_in}
 use Rattle.bt878_top.specs.Plays.{longest_stream}
 
 -- what is asked for, with the names of the files
 pub data Task : Type 0 where
+  Lists : List ℕ → Task
   Verifies : List ℕ → Task
   Runs : List ℕ → List ℕ → List ℕ → Task
 
 -- words without a fault are those of one of these commands
 abbrev pub task_with : Result Command UsageFault → List (List ℕ) → Result Task UsageFault
 task_with (Err fault) words = Err fault
+task_with (Ok command.List) (_ ∷ program ∷ _) = Ok (Lists program)
 task_with (Ok command.Verify) (_ ∷ program ∷ _) = Ok (Verifies program)
 task_with (Ok command.Run) (_ ∷ program ∷ stream ∷ image ∷ _) = Ok (Runs program stream image)
 task_with (Ok _) words = Err UnknownCommand
@@ -60,6 +62,8 @@ HasOutput name product = (bytes : List ℕ) × (product.files ≡ (name, bytes) 
 
 -- what a task makes of its inputs
 abbrev pub Makes : Task → Option Inputs → Product → Type 0
+Makes (Lists program) inputs product =
+    OfInput program inputs (λ bytes. IsListed bytes product.text) × (product.files ≡ [])
 Makes (Verifies program) inputs product =
     OfInput program inputs IsTaken × (product ≡ record { files = []; text = accepted_text })
 Makes (Runs program stream image) inputs product =
@@ -69,6 +73,7 @@ Makes (Runs program stream image) inputs product =
 
 -- why it is refused
 abbrev pub Stops : Task → Answer → Seen → Seen → Type 0
+Stops (Lists program) answer old new = StopsAtFile program answer old new
 Stops (Verifies program) answer old new = StopsAtProgram program answer old new
 Stops (Runs program stream image) answer old new = StopsAtRun program stream answer old new
 

@@ -6,7 +6,7 @@ ghost use Rattle.bt878_top.specs.Desks.{seen_by};
 ghost use Rattle.bt878_top.specs.Tasks.{Answers, AreNames, task_of};
 
 use crate::answer::Answer;
-use crate::commands::{run, verify};
+use crate::commands::{list, run, verify};
 use crate::desks::refuse;
 use bt878_words::{Command, read_words};
 use capture_desk::Desk;
@@ -23,6 +23,7 @@ fn answer_words<D: Desk>(alloc: Global, words: &[&str], desk: &mut D) -> Answer
         Err(fault) => return refuse(alloc, Answer::Usage(fault), desk),
     };
     match command {
+        Command::List => list(alloc, words[1], desk),
         Command::Verify => verify(alloc, words[1], desk),
         Command::Run => run(alloc, words[1], words[2], words[3], desk),
         _ => unreachable!(),

@@ -4,11 +4,11 @@ ghost use Rattle.std.specs.Prelude.{◌≡◌, [], ◌∷◌, MatchResult};
 ghost use Rattle.capture_desk.specs.Desks.{IsAllowed, WriteCounts, after_create, after_finish, after_write};
 ghost use Rattle.capture_file.specs.Images.{image_of};
 ghost use Rattle.bt878_top.specs.Desks.{IsFilePart, IsPart, delivered, seen_by};
-ghost use Rattle.bt878_top.specs.Tasks.{Ends, Runs, Verifies};
+ghost use Rattle.bt878_top.specs.Tasks.{Ends, Lists, Runs, Verifies};
 
 use crate::answer::Answer;
 use crate::desks::{refuse, say_all};
-use crate::programs::{accept, play_and_report};
+use crate::programs::{accept, list_file, play_and_report};
 use crate::texts::ACCEPTED;
 use capture_desk::{Desk, Failed};
 use capture_file::write_image;
@@ -45,6 +45,21 @@ fn deliver<R: Ram, D: Desk>(name: &str, ram: &R, text: &str, desk: &mut D) -> Re
     match say_all(text.as_bytes(), desk) {
         Ok(()) => Ok(()),
         Err(failed) => Err(failed),
+    }
+}
+
+/// `list PROG`: says the listing of the program, which need not be sound.
+pub fn list<D: Desk>(alloc: Global, program: &str, desk: &mut D) -> Answer
+    requires { IsAllowed program.now (D.told desk.old).may_open }
+    ensures { Ends (Lists program.now) result (seen_by D.told D.read_faults D.write_faults desk.old) (seen_by D.told D.read_faults D.write_faults desk.new) }
+{
+    let text = match list_file(alloc, program, desk) {
+        Ok(text) => text,
+        Err(answer) => return refuse(alloc, answer, desk),
+    };
+    match say_all(&text, desk) {
+        Ok(()) => Answer::Done,
+        Err(_) => Answer::WriteFault,
     }
 }
 

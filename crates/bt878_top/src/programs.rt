@@ -1,10 +1,10 @@
 //! A program file, read and judged, and the machine that it makes.
 
-ghost use Rattle.std.specs.Prelude.{◌≡◌, ◌<◌, length, string_bytes, IfErr, IfOk};
+ghost use Rattle.std.specs.Prelude.{◌≡◌, ◌<◌, length, string_bytes, IfErr, IfOk, Ok};
 ghost use Rattle.capture_desk.specs.Desks.{IsAllowed};
 ghost use Rattle.capture_file.specs.Programs.{program_of};
 ghost use Rattle.bt878_top.specs.Desks.{CountsBy, OfInput, apart, seen_by};
-ghost use Rattle.bt878_top.specs.Programs.{Accepts, HasRun, IsMade, Refuses, StopsAtProgram, StopsAtRun, StopsAtStream, program_in};
+ghost use Rattle.bt878_top.specs.Programs.{Accepts, HasRun, IsListed, IsMade, Misreads, Refuses, StopsAtFile, StopsAtProgram, StopsAtRun, StopsAtStream, program_in};
 ghost use Rattle.bt878_top.specs.Plays.{HasPlayed};
 ghost use Rattle.bt878_top.specs.Texts.{report_text};
 ghost use Rattle.dma_machine.specs.Facts.{report_of};
@@ -19,6 +19,7 @@ use capture_file::{Input, ProgramError, ProgramFile, read_program};
 use dma_machine::Machine;
 use fifo_model::Fifo;
 use page_ram::{MapRam, Ram};
+use risc_listing::list;
 use risc_verify::{Accepted, Steps, Why, verify};
 use std::alloc::{AllocError, Global};
 use std::marker::Brand;
@@ -41,19 +42,54 @@ pub struct Ran {
     pub report: String,
 }
 
-/// Judges a program file. The verifier's steps are counted in a ledger of their own.
-fn judge<L: Ledger>(alloc: Global, bytes: &[u8], blank: Blank) -> Result<Loaded, Answer>
+/// Reads the bytes of a program file.
+fn parse(alloc: Global, bytes: &[u8]) -> Result<ProgramFile, Answer>
+    ensures reads { IfOk result (λ file. program_of bytes.now ≡ Ok file) }
+    ensures misreads { IfErr result (λ answer. Misreads (program_of bytes.now) answer) }
+{
+    match read_program(alloc, bytes) {
+        Ok(file) => Ok(file),
+        Err(ProgramError::File(fault)) => Err(Answer::Malformed(Input::Program, fault)),
+        Err(ProgramError::Memory) => Err(Answer::NoMemory),
+    }
+}
+
+/// Reads a program file.
+fn read_file<D: Desk>(alloc: Global, name: &str, desk: &mut D) -> Result<ProgramFile, Answer>
+    requires { IsAllowed name.now (D.told desk.old).may_open }
+    ensures reads { IfOk result (λ file. OfInput name.now (D.told desk.old).inputs (λ bytes. program_in bytes ≡ Ok file)) }
+    ensures stops { IfErr result (λ answer. StopsAtFile name.now answer (seen_by D.told D.read_faults D.write_faults desk.old) (seen_by D.told D.read_faults D.write_faults desk.new)) }
+    ensures told { apart (D.told desk.new) ≡ apart (D.told desk.old) }
+    ensures counts { CountsBy result (seen_by D.told D.read_faults D.write_faults desk.old) (seen_by D.told D.read_faults D.write_faults desk.new) }
+{
+    let bytes = read_whole(alloc, name, LONGEST_PROGRAM, desk)?;
+    parse(alloc, &bytes)
+}
+
+/// Reads a program file, whose program need not be sound, and makes its listing.
+pub fn list_file<D: Desk>(alloc: Global, name: &str, desk: &mut D) -> Result<Vec<u8>, Answer>
+    requires { IsAllowed name.now (D.told desk.old).may_open }
+    ensures lists { IfOk result (λ text. OfInput name.now (D.told desk.old).inputs (λ bytes. IsListed bytes text.items)) }
+    ensures stops { IfErr result (λ answer. StopsAtFile name.now answer (seen_by D.told D.read_faults D.write_faults desk.old) (seen_by D.told D.read_faults D.write_faults desk.new)) }
+    ensures told { apart (D.told desk.new) ≡ apart (D.told desk.old) }
+    ensures counts { CountsBy result (seen_by D.told D.read_faults D.write_faults desk.old) (seen_by D.told D.read_faults D.write_faults desk.new) }
+{
+    let ProgramFile { program, fill } = read_file(alloc, name, desk)?;
+    match list(alloc, &program, fill) {
+        Ok(text) => Ok(text),
+        Err(_) => Err(Answer::NoMemory),
+    }
+}
+
+/// Judges a program. The verifier's steps are counted in a ledger of their own.
+fn judge<L: Ledger>(alloc: Global, file: ProgramFile, blank: Blank) -> Result<Loaded, Answer>
     requires name { blank.name ≡ L.name }
     requires parts { blank.parts ≡ L.parts }
     requires some { 0 < blank.parts }
-    ensures accepts { IfOk result (λ loaded. Accepts (program_of bytes.now) loaded.accepted loaded.fill) }
-    ensures refuses { IfErr result (λ answer. Refuses (program_of bytes.now) answer) }
+    ensures accepts { IfOk result (λ loaded. Accepts (Ok file) loaded.accepted loaded.fill) }
+    ensures refuses { IfErr result (λ answer. Refuses file answer) }
 {
-    let ProgramFile { program, fill } = match read_program(alloc, bytes) {
-        Ok(file) => file,
-        Err(ProgramError::File(fault)) => return Err(Answer::Malformed(Input::Program, fault)),
-        Err(ProgramError::Memory) => return Err(Answer::NoMemory),
-    };
+    let ProgramFile { program, fill } = file;
     let mut steps = Steps::<L>::new(blank);
     match verify(alloc, program, &mut steps) {
         Ok(accepted) => Ok(Loaded { accepted, fill }),
@@ -64,7 +100,7 @@ fn judge<L: Ledger>(alloc: Global, bytes: &[u8], blank: Blank) -> Result<Loaded,
     }
 }
 
-/// Reads a program file and judges it.
+/// Reads a program file and judges its program.
 pub fn accept<D: Desk>(alloc: Global, name: &str, desk: &mut D) -> Result<Loaded, Answer>
     requires { IsAllowed name.now (D.told desk.old).may_open }
     ensures accepts { IfOk result (λ loaded. OfInput name.now (D.told desk.old).inputs (λ bytes. Accepts (program_in bytes) loaded.accepted loaded.fill)) }
@@ -72,8 +108,14 @@ pub fn accept<D: Desk>(alloc: Global, name: &str, desk: &mut D) -> Result<Loaded
     ensures told { apart (D.told desk.new) ≡ apart (D.told desk.old) }
     ensures counts { CountsBy result (seen_by D.told D.read_faults D.write_faults desk.old) (seen_by D.told D.read_faults D.write_faults desk.new) }
 {
-    let bytes = read_whole(alloc, name, LONGEST_PROGRAM, desk)?;
-    judge::<Brand>(alloc, &bytes, Blank::new(1))
+    let file = match read_file(alloc, name, desk) {
+        Ok(file) => file,
+        Err(answer) => return Err(answer),
+    };
+    match judge::<Brand>(alloc, file, Blank::new(1)) {
+        Ok(loaded) => Ok(loaded),
+        Err(answer) => Err(answer),
+    }
 }
 
 /// The machine of a sound program before its first step. All memory that it needs is taken here.

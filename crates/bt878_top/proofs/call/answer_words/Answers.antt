@@ -1,11 +1,15 @@
-use Rattle.std.proofs.Common.{◌≡◌, ◌∙◌, ap, sym, subst, Bor, List, ℕ, Ok}
+use Rattle.std.proofs.Common.{◌∙◌, ap, sym, subst, Bor, List, ℕ, Ok}
 use Rattle.bt878_top.specs.Desks.{seen_by}
 use Rattle.bt878_top.specs.Tasks.{Answers}
-use Rattle.bt878_top.proofs.Asking.{run_image_allowed, run_program_allowed, run_stream_allowed, run_task, verify_allowed, verify_task}
+use Rattle.bt878_top.proofs.Asking.{list_allowed, list_task, run_image_allowed, run_program_allowed, run_stream_allowed, run_task, verify_allowed, verify_task}
 use Rattle.bt878_top.proofs.call.answer_words.Goals as goal
 
 abbrev text : Bor (List ℕ) → List ℕ
 text word = word.now
+
+pub list-requires : goal.list-requires
+list-requires g c =
+    list_allowed text c.args.words.now _ _ (sym c.read_words.ensures ∙ c.in-Ok.is ∙ ap Ok c.in-List.is) c.requires.opens
 
 pub verify-requires : goal.verify-requires
 verify-requires g c =
@@ -22,6 +26,12 @@ run-requires-clause-stream g c =
 pub run-requires-clause-image : goal.run-requires-clause-image
 run-requires-clause-image g c =
     run_image_allowed text c.args.words.now _ _ (sym c.read_words.ensures ∙ c.in-Ok.is ∙ ap Ok c.in-Run.is) c.requires.creates
+
+pub returns-in-List : goal.returns-in-List
+returns-in-List g c =
+    let see = seen_by g.D.Desk.told g.D.Desk.read_faults g.D.Desk.write_faults in
+    subst (λ task. Answers task c.list.result (see c.args.desk.now) (see c.list.new.desk))
+    (sym (list_task text c.args.words.now _ (sym c.read_words.ensures ∙ c.in-Ok.is ∙ ap Ok c.in-List.is))) c.list.ensures
 
 pub returns-in-Verify : goal.returns-in-Verify
 returns-in-Verify g c =

@@ -1,4 +1,4 @@
-use Rattle.std.proofs.Common.{ℕ, ◌+◌, ◌-◌, ◌≤◌, ◌≡◌, List, length, take, drop, ◌++◌, Option, Some, None, option_map, ◌∙◌, ap, sym, subst, arith, length-drop, rules}
+use Rattle.std.proofs.Common.{ℕ, ◌+◌, ◌≤◌, ◌≡◌, List, length, take, drop, ◌++◌, Option, Some, None, option_map, ◌∙◌, ap, sym, subst, arith, length-drop}
 use Rattle.std.proofs.Math.Seq.{take-add}
 use Rattle.capture_desk.specs.Desks.{Told, after_read}
 use Rattle.capture_desk.proofs.Laws.{after_read-after_read}
