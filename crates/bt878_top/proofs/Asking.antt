@@ -27,10 +27,10 @@ pub allowed : (names : List (List ℕ)) (told : Option (List (List ℕ))) (name 
 allowed names None name are among = tt
 allowed names (Some known) name are among = are name ∙ among
 
-first_among : (name other : List ℕ) (names : List (List ℕ)) → name ≡ other → is_among name (other ∷ names) ≡ true
+pub first_among : (name other : List ℕ) (names : List (List ℕ)) → name ≡ other → is_among name (other ∷ names) ≡ true
 first_among name other names e = subst (λ n. is_among name (n ∷ names) ≡ true) e (ap (λ t. t || is_among name names) (same_name name))
 
-later_among : (name other : List ℕ) (names : List (List ℕ)) → is_among name names ≡ true → is_among name (other ∷ names) ≡ true
+pub later_among : (name other : List ℕ) (names : List (List ℕ)) → is_among name names ≡ true → is_among name (other ∷ names) ≡ true
 later_among name other names h = or_true (bytes_eq other name) (is_among name names) h
 
 -- the words as they are passed

@@ -3,3 +3,5 @@ pub mod Asking
 pub mod Loading
 pub mod Fitting
 pub mod Composing
+pub mod Lengths
+pub mod Consequences

@@ -4,3 +4,4 @@ pub mod Desks
 pub mod Plays
 pub mod Programs
 pub mod Tasks
+pub mod Clauses
