@@ -1,0 +1,155 @@
+-- One queue while the opening waits: entries before the field, then the field.
+use Rattle.std.proofs.Common.{◌≡◌, suc, ◌+◌, true, false, not, All, List, [], ◌∷◌, ◌++◌, length, drop, Option, Some, None, refl, sym, ap, ◌∙◌, arith}
+use Rattle.std.proofs.lemmas.List.Elements.{All-head, All-tail}
+use Rattle.risc_word.specs.declared.Code.{Code}
+use Rattle.risc_word.specs.declared.Code.TheVariants.{Vre, Vro, Fm1, Fm3}
+use Rattle.risc_word.specs.Words.{code_number, code_numbered}
+use Rattle.sync_status.specs.declared.StatusKind.{StatusKind}
+use Rattle.sync_status.specs.declared.StatusKind.TheVariants.{Control, Start, Pixels, End, Reserved}
+use Rattle.sync_status.specs.Statuses.{kind_of, is_control}
+use Rattle.fifo_model.specs.declared.Entry.{Entry}
+use Rattle.fifo_model.specs.Queues.{Lane, Queues, first, code_of_kind, front_code_of, front_code, codes_of, IsFifo}
+use Rattle.fifo_model.proofs.Codes.{codes-without_code}
+use Rattle.machine_model.specs.Turns.{no_code, is_stray, code_if}
+use Rattle.field_law.specs.Fields.{Token, Mark, Brings}
+
+-- an entry is that control code, or it is not
+abbrev pub HasCode : Code → Entry → Type 0
+HasCode code entry = code_of_kind (kind_of entry.status) ≡ Some code
+
+-- ---- the front of a queue
+
+pub record HasFront (lane : Lane) (code : Option Code) : Type 0 where
+  pub entry : Entry
+  pub behind : List Entry
+  pub same : lane.entries ≡ entry ∷ behind
+  pub is_code : code_of_kind (kind_of entry.status) ≡ code
+
+coded : (entries : List Entry) (lane : Lane) (code : Code) → lane.entries ≡ entries → front_code_of (first entries) ≡ Some code → HasFront lane (Some code)
+coded [] lane code e h = cc
+coded (entry ∷ behind) lane code e h = record { entry = entry; behind = behind; same = e; is_code = h }
+
+pub code-HasFront : (lane : Lane) (code : Code) → front_code lane ≡ Some code → HasFront lane (Some code)
+code-HasFront lane code h = coded lane.entries lane code refl h
+
+no_control : (kind : StatusKind) → not (is_control kind) ≡ true → code_of_kind kind ≡ None
+no_control (Control code) h = cc
+no_control Start h = refl
+no_control Pixels h = refl
+no_control (End count) h = refl
+no_control Reserved h = refl
+
+stray : (entries : List Entry) (lane : Lane) → lane.entries ≡ entries → no_code (first entries) ≡ true → HasFront lane None
+stray [] lane e h = cc
+stray (entry ∷ behind) lane e h = record { entry = entry; behind = behind; same = e; is_code = no_control (kind_of entry.status) h }
+
+pub stray-HasFront : (lane : Lane) → is_stray lane ≡ true → HasFront lane None
+stray-HasFront lane h = stray lane.entries lane refl h
+
+control_code : (kind : StatusKind) → not (is_control kind) ≡ false → (code : Code) × (code_of_kind kind ≡ Some code)
+control_code (Control code) h = (code, refl)
+control_code Start h = cc
+control_code Pixels h = cc
+control_code (End count) h = cc
+control_code Reserved h = cc
+
+-- a queue that is not stray and not empty has a code in front
+pub held_code : (entries : List Entry) → no_code (first entries) ≡ false → (entries ≡ [] → ⊥) → (code : Code) × (front_code_of (first entries) ≡ Some code)
+held_code [] h some = absurd (some refl)
+held_code (entry ∷ behind) h some = control_code (kind_of entry.status) h
+
+-- ---- codes
+
+number_read : (code : Code) → code_numbered (code_number code) ≡ Some code
+number_read Vre = refl
+number_read Vro = refl
+number_read Fm1 = refl
+number_read Fm3 = refl
+
+pub same_code : (one two : Code) → code_number one ≡ code_number two → one ≡ two
+same_code one two h =
+    let same : Some one ≡ Some two = sym (number_read one) ∙ ap code_numbered h ∙ number_read two in
+    cc
+
+-- the codes in front of two queues are the same
+fronts_agree : (one two : List Entry) (a b : Code) → codes_of two ≡ codes_of one → front_code_of (first one) ≡ Some a → front_code_of (first two) ≡ Some b → b ≡ a
+fronts_agree one two a b same ea eb =
+    let first = codes-without_code one a ea in
+    let second = codes-without_code two b eb in
+    cc
+
+pub record Common (queues : Queues) (code : Code) : Type 0 where
+  pub one : front_code queues.one ≡ Some code
+  pub two : front_code queues.two ≡ Some code
+  pub three : front_code queues.three ≡ Some code
+
+parts_of : (one two three : Option Code) (seen : Code) → code_if one two three ≡ Some seen → (one ≡ Some seen) × ((b : Code) × (two ≡ Some b)) × ((c : Code) × (three ≡ Some c))
+parts_of (Some a) (Some b) (Some c) seen h = (h, (b, refl), (c, refl))
+parts_of (Some a) (Some b) None seen h = cc
+parts_of (Some a) None three seen h = cc
+parts_of None two three seen h = cc
+
+pub code-Common : (queues : Queues) (seen : Code) → IsFifo queues → code_if (front_code queues.one) (front_code queues.two) (front_code queues.three) ≡ Some seen → Common queues seen
+code-Common queues seen fifo h =
+    let parts = parts_of (front_code queues.one) (front_code queues.two) (front_code queues.three) seen h in
+    let two = fronts_agree queues.one.entries queues.two.entries seen parts.1.0 fifo.second parts.0 parts.1.1 in
+    let three = fronts_agree queues.one.entries queues.three.entries seen parts.2.0 fifo.third parts.0 parts.2.1 in
+    record { one = parts.0; two = parts.1.1 ∙ ap Some two; three = parts.2.1 ∙ ap Some three }
+
+-- ---- what is before the field
+
+abbrev pub IsUnmarked : Code → List Entry → Type 0
+IsUnmarked code before = All (λ entry. HasCode code entry → ⊥) before
+
+-- the front goes, and it was before the field
+pub record Dropped (code : Code) (lane : Lane) (later before entries rest : List Entry) : Type 0 where
+  pub after : List Entry
+  pub less : length before ≡ suc (length after)
+  pub order : drop 1 lane.entries ++ later ≡ after ++ (entries ++ rest)
+  pub unmarked : IsUnmarked code after
+
+-- the front goes, and it was the code that begins the field
+pub record Opened (tokens : List Token) (lane : Lane) (later before entries rest : List Entry) : Type 0 where
+  pub field : List Entry
+  pub less : length before + length entries ≡ suc (length field)
+  pub order : drop 1 lane.entries ++ later ≡ field ++ rest
+  pub brings : Brings tokens field
+
+pub drops : (code : Code) (tokens : List Token) (lane : Lane) (later before entries rest : List Entry) (front : Option Code) (h : HasFront lane front) →
+    (front ≡ Some code → ⊥) → lane.entries ++ later ≡ before ++ (entries ++ rest) → Brings (Mark code ∷ tokens) entries → IsUnmarked code before →
+    Dropped code lane later before entries rest
+drops code tokens lane later [] entries rest front h other order brings unmarked =
+    let split = brings.2 in
+    let seen : h.entry ∷ (h.behind ++ later) ≡ brings.0 ∷ (brings.1 ++ rest) =
+    sym (ap (λ (held : List Entry). held ++ later) h.same) ∙ order ∙ ap (λ (entries : List Entry). entries ++ rest) split in
+    let same : h.entry ≡ brings.0 = cc in
+    absurd (other (sym h.is_code ∙ ap (λ (entry : Entry). code_of_kind (kind_of entry.status)) same ∙ brings.3))
+drops code tokens lane later (top ∷ before) entries rest front h other order brings unmarked =
+    let seen : h.entry ∷ (h.behind ++ later) ≡ top ∷ (before ++ (entries ++ rest)) = sym (ap (λ (held : List Entry). held ++ later) h.same) ∙ order in
+    let behind : h.behind ++ later ≡ before ++ (entries ++ rest) = cc in
+    record {
+      after = before;
+      less = refl;
+      order = ap (λ (held : List Entry). drop 1 held ++ later) h.same ∙ behind;
+      unmarked = All-tail (λ entry. HasCode code entry → ⊥) top before unmarked;
+    }
+
+pub opens : (code : Code) (tokens : List Token) (lane : Lane) (later before entries rest : List Entry) (h : HasFront lane (Some code)) →
+    lane.entries ++ later ≡ before ++ (entries ++ rest) → Brings (Mark code ∷ tokens) entries → IsUnmarked code before →
+    Opened tokens lane later before entries rest
+opens code tokens lane later [] entries rest h order brings unmarked =
+    let split = brings.2 in
+    let long = ap (λ (entries : List Entry). length entries) split in
+    let seen : h.entry ∷ (h.behind ++ later) ≡ brings.0 ∷ (brings.1 ++ rest) =
+    sym (ap (λ (held : List Entry). held ++ later) h.same) ∙ order ∙ ap (λ (entries : List Entry). entries ++ rest) split in
+    let behind : h.behind ++ later ≡ brings.1 ++ rest = cc in
+    record {
+      field = brings.1;
+      less = omega arith;
+      order = ap (λ (held : List Entry). drop 1 held ++ later) h.same ∙ behind;
+      brings = brings.4;
+    }
+opens code tokens lane later (top ∷ before) entries rest h order brings unmarked =
+    let seen : h.entry ∷ (h.behind ++ later) ≡ top ∷ (before ++ (entries ++ rest)) = sym (ap (λ (held : List Entry). held ++ later) h.same) ∙ order in
+    let same : h.entry ≡ top = cc in
+    absurd (All-head (λ entry. HasCode code entry → ⊥) top before unmarked (sym (ap (λ (entry : Entry). code_of_kind (kind_of entry.status)) same) ∙ h.is_code))

@@ -1,0 +1,17 @@
+pub mod Lines
+pub mod Served
+pub mod Asked
+pub mod Changed
+pub mod Painting
+pub mod Within
+pub mod Running
+pub mod Fetching
+pub mod Waiting
+pub mod Before
+pub mod Opening
+pub mod Turns
+pub mod Pushes
+pub mod Runs
+pub mod Closing
+pub mod Laws
+pub mod Worked

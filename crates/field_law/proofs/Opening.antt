@@ -1,0 +1,225 @@
+-- Turns of the machine while a section's opening waits for its field.
+use Rattle.std.proofs.Common.{◌≡◌, ℕ, suc, ◌+◌, ◌*◌, ◌<◌, ◌≤◌, Bool, true, false, ◌==◌, List, [], ◌∷◌, ◌++◌, length, Option, Some, None, refl, sym, ap, subst, ◌∙◌, arith, ◌⊎◌, inl, inr, eqb-true, length-append}
+use Rattle.std.proofs.lemmas.Bool.{eqb-false}
+use Rattle.risc_word.specs.declared.Code.{Code}
+use Rattle.risc_word.specs.Words.{code_number}
+use Rattle.fifo_model.specs.declared.Entry.{Entry}
+use Rattle.fifo_model.specs.declared.Queue.{Queue}
+use Rattle.fifo_model.specs.declared.Queue.TheVariants.{One, Two, Three}
+use Rattle.fifo_model.specs.Queues.{Lane, Queues, lane_of, removed, front_code, IsFifo}
+use Rattle.irq_status.specs.Register.{fdsr, has}
+use Rattle.irq_status.proofs.Laws.{fdsr-applied}
+use Rattle.page_table.specs.Grants.{Chunk}
+use Rattle.page_table.specs.Blocks.{Block}
+use Rattle.machine_model.specs.declared.Job.{Job}
+use Rattle.machine_model.specs.declared.Job.TheVariants.{Waiting}
+use Rattle.machine_model.specs.declared.Skipping.{Skipping}
+use Rattle.machine_model.specs.declared.Skipping.TheVariants.{Nothing}
+use Rattle.machine_model.specs.States.{State}
+use Rattle.machine_model.specs.Turns.{is_stray, lowest_stray, code_if, common_code, dropped, met, code_seen, stray_seen, waited}
+use Rattle.field_law.specs.Fields.{Token, Mark, Brings}
+use Rattle.field_law.specs.Sections.{Section, HoldsFrom, Uses, asks, section_stores}
+use Rattle.field_law.specs.Arrivals.{over_queues}
+use Rattle.field_law.proofs.Changed.{changed, each_lane}
+use Rattle.field_law.proofs.Painting.{Settles}
+use Rattle.field_law.proofs.Served.{Outlook}
+use Rattle.field_law.proofs.Asked.{outlook_at_start}
+use Rattle.field_law.proofs.Within.{IsWithin}
+use Rattle.field_law.proofs.Running.{lowest_some, lowest_none}
+use Rattle.field_law.proofs.Waiting.{each_removed}
+use Rattle.field_law.proofs.Before.{IsUnmarked, stray-HasFront, code-HasFront, held_code, same_code, Common, code-Common, Dropped, drops, Opened, opens}
+
+-- what is there before the field, the field, and what comes after it
+pub record Opening (s : Section) (field : Queue → List Token) (given : Type 0) (chunks : List Chunk) (final : ℕ → ℕ) (later : Queue → List Entry) (bound : ℕ)
+    (risc_on : Bool) (pc : ℕ) (skipping : Skipping) (job : Job) (queues : Queues) (memory : List Block) : Type 0 where
+  pub on : risc_on ≡ true
+  pub unskipped : skipping ≡ Nothing
+  pub waits : job ≡ Waiting s.opening true s.code
+  pub there : pc ≡ s.at
+  pub before : Queue → List Entry
+  pub entries : Queue → List Entry
+  pub rest : Queue → List Entry
+  pub order : (q : Queue) → (lane_of q queues).entries ++ later q ≡ before q ++ (entries q ++ rest q)
+  pub unmarked : (q : Queue) → IsUnmarked s.code (before q)
+  pub brings : (q : Queue) → Brings (Mark s.code ∷ field q) (entries q)
+  pub painted : given → Settles chunks final memory (section_stores s field)
+  pub bounded : 5 * suc (length s.body) + 1 + over_queues (λ q. length (before q) + length (entries q)) ≤ bound
+
+less_before : (q : Queue) (new : List Entry) (before entries : Queue → List Entry) → length (before q) ≡ suc (length new) →
+    over_queues (λ p. length (changed q new before p) + length (entries p)) < over_queues (λ p. length (before p) + length (entries p))
+less_before One new before entries h = omega arith
+less_before Two new before entries h = omega arith
+less_before Three new before entries h = omega arith
+
+-- the field is still to come, so something is
+field_ahead : (code : Code) (tokens : List Token) (held later before entries rest : List Entry) → later ≡ [] → held ++ later ≡ before ++ (entries ++ rest) →
+    Brings (Mark code ∷ tokens) entries → held ≡ [] → ⊥
+field_ahead code tokens held later before entries rest none order brings empty =
+    let long = ap (λ (entries : List Entry). length entries) order in
+    let field = ap (λ (entries : List Entry). length entries) brings.2 in
+    let zero_held = ap (λ (entries : List Entry). length entries) empty in
+    let zero_later = ap (λ (entries : List Entry). length entries) none in
+    omega (arith, length-append held later, length-append before (entries ++ rest), length-append entries rest)
+
+some_code : (one two three : Option Code) (a b c : Code) → one ≡ Some a → two ≡ Some b → three ≡ Some c → code_if one two three ≡ None → ⊥
+some_code None two three a b c ea eb ec h = cc
+some_code (Some one) None three a b c ea eb ec h = cc
+some_code (Some one) (Some two) None a b c ea eb ec h = cc
+some_code (Some one) (Some two) (Some three) a b c ea eb ec h = cc
+
+module _ (s : Section) (field : Queue → List Token) (uses : Uses s field) (given : Type 0) (chunks : List Chunk) (final : ℕ → ℕ) (later : Queue → List Entry) where
+  abbrev pub IsOpening : ℕ → State → Type 0
+  IsOpening bound m = Opening s field given chunks final later bound m.risc_on m.pc m.skipping m.job m.queues m.memory
+
+  abbrev pub IsReached : ℕ → State → Type 0
+  IsReached bound m = IsOpening bound m ⊎ IsWithin s given chunks final later bound m
+
+  -- what a turn leaves: the opening or the section, by less once all entries are there, and FDSR as it was
+  pub record Reaches (bound interrupts : ℕ) (m : State) : Type 0 where
+    pub next : ℕ
+    pub reached : IsReached next m
+    pub most : next ≤ bound
+    pub less : ((q : Queue) → later q ≡ []) → next < bound
+    pub quiet : has fdsr m.interrupts ≡ has fdsr interrupts
+
+  module _ (bound : ℕ) (m : State) (h : IsOpening bound m) where
+    -- an entry before the field is dropped
+    drops_one : (q : Queue) → is_stray (lane_of q m.queues) ≡ true → Reaches bound m.interrupts (dropped q true m)
+    drops_one q stray =
+        let lane : Lane = lane_of q m.queues in
+        let front = stray-HasFront lane stray in
+        let d : Dropped s.code lane (later q) (h.before q) (h.entries q) (h.rest q) =
+        drops s.code (field q) lane (later q) (h.before q) (h.entries q) (h.rest q) None front (λ same. cc) (h.order q) (h.brings q) (h.unmarked q) in
+        let bounded = h.bounded in
+        let less = less_before q d.after h.before h.entries d.less in
+        record {
+          next = 5 * suc (length s.body) + 1 + over_queues (λ p. length (changed q d.after h.before p) + length (h.entries p));
+          reached =
+              inl (record {
+                on = h.on;
+                unskipped = h.unskipped;
+                waits = h.waits;
+                there = h.there;
+                before = changed q d.after h.before;
+                entries = h.entries;
+                rest = h.rest;
+                order =
+                    each_lane (λ p lane before. lane.entries ++ later p ≡ before ++ (h.entries p ++ h.rest p)) q (removed lane) d.after m.queues h.before h.order d.order;
+                unmarked = each_lane (λ p lane before. IsUnmarked s.code before) q (removed lane) d.after m.queues h.before h.unmarked d.unmarked;
+                brings = h.brings;
+                painted = h.painted;
+                bounded = omega arith;
+              });
+          most = omega arith;
+          less = λ _. omega arith;
+          quiet = refl;
+        }
+
+    -- a code before the field is removed from each queue
+    drops_all : ((q : Queue) → Dropped s.code (lane_of q m.queues) (later q) (h.before q) (h.entries q) (h.rest q)) → Reaches bound m.interrupts (met false s.opening true m)
+    drops_all d =
+        let bounded = h.bounded in
+        let one = (d One).less in
+        let two = (d Two).less in
+        let three = (d Three).less in
+        record {
+          next = 5 * suc (length s.body) + 1 + over_queues (λ q. length (d q).after + length (h.entries q));
+          reached =
+              inl (record {
+                on = h.on;
+                unskipped = h.unskipped;
+                waits = h.waits;
+                there = h.there;
+                before = λ q. (d q).after;
+                entries = h.entries;
+                rest = h.rest;
+                order = each_removed (λ q lane. lane.entries ++ later q ≡ (d q).after ++ (h.entries q ++ h.rest q)) m.queues (λ q. (d q).order);
+                unmarked = λ q. (d q).unmarked;
+                brings = h.brings;
+                painted = h.painted;
+                bounded = omega arith;
+              });
+          most = omega arith;
+          less = λ _. omega arith;
+          quiet = refl;
+        }
+
+    -- the code that begins the field is removed from each queue
+    opens_all : ((q : Queue) → Opened (field q) (lane_of q m.queues) (later q) (h.before q) (h.entries q) (h.rest q)) → Reaches bound m.interrupts (met true s.opening true m)
+    opens_all o =
+        let bounded = h.bounded in
+        let one = (o One).less in
+        let two = (o Two).less in
+        let three = (o Three).less in
+        let there = h.there in
+        record {
+          next = 5 * suc (length s.body) + 0 + over_queues (λ q. length (o q).field);
+          reached =
+              inr (record {
+                on = h.on;
+                unskipped = h.unskipped;
+                body = s.body;
+                holds = λ program held. subst (λ (at : ℕ). HoldsFrom program at s.body s.closing s.target) (sym h.there) held;
+                there = omega arith;
+                plain = tt;
+                stores = section_stores s field;
+                left = λ q. length (o q).field;
+                outlook =
+                    each_removed (λ q lane. Outlook (asks q s.body) (section_stores s field q) (length (o q).field) lane.taken (lane.entries ++ later q)) m.queues
+                    (λ q.
+                    subst (λ (ahead : List Entry). Outlook (asks q s.body) (section_stores s field q) (length (o q).field) 0 ahead) (sym (o q).order)
+                    (outlook_at_start (asks q s.body) (field q) (o q).field (h.rest q) (uses q) (o q).brings));
+                painted = h.painted;
+                bounded = omega arith;
+              });
+          most = omega arith;
+          less = λ _. omega arith;
+          quiet = fdsr-applied s.opening m.interrupts;
+        }
+
+    common_front : (seen : Code) → Common m.queues seen → (q : Queue) → front_code (lane_of q m.queues) ≡ Some seen
+    common_front seen c One = c.one
+    common_front seen c Two = c.two
+    common_front seen c Three = c.three
+
+    meets : (seen : Code) → Common m.queues seen → (same : Bool) → (code_number seen == code_number s.code) ≡ same → Reaches bound m.interrupts (met same s.opening true m)
+    meets seen c true e =
+        let same : seen ≡ s.code = same_code seen s.code (eqb-true _ _ e) in
+        opens_all (λ q.
+        opens s.code (field q) (lane_of q m.queues) (later q) (h.before q) (h.entries q) (h.rest q)
+        (code-HasFront (lane_of q m.queues) s.code (common_front seen c q ∙ ap Some same)) (h.order q) (h.brings q) (h.unmarked q))
+    meets seen c false e =
+        let other : seen ≡ s.code → ⊥ = λ same. eqb-false _ _ e (ap code_number same) in
+        drops_all (λ q.
+        drops s.code (field q) (lane_of q m.queues) (later q) (h.before q) (h.entries q) (h.rest q) (Some seen)
+        (code-HasFront (lane_of q m.queues) seen (common_front seen c q)) (λ same. other cc) (h.order q) (h.brings q) (h.unmarked q))
+
+    -- without a stray front, every queue that is not empty has a code in front
+    held_front : lowest_stray m.queues ≡ None → (q : Queue) → later q ≡ [] → (code : Code) × (front_code (lane_of q m.queues) ≡ Some code)
+    held_front none q empty =
+        held_code (lane_of q m.queues).entries
+        (lowest_none (λ q. is_stray (lane_of q m.queues)) (is_stray m.queues.one) (is_stray m.queues.two) (is_stray m.queues.three) refl refl refl q none)
+        (field_ahead s.code (field q) (lane_of q m.queues).entries (later q) (h.before q) (h.entries q) (h.rest q) empty (h.order q) (h.brings q))
+
+    sees : (seen : Option Code) → lowest_stray m.queues ≡ None → IsFifo m.queues → common_code m.queues ≡ seen → Reaches bound m.interrupts (code_seen seen s.opening true s.code m)
+    sees None none fifo e =
+        record {
+          next = bound;
+          reached = inl h;
+          most = omega arith;
+          less = λ empty.
+              let one = held_front none One (empty One) in
+              let two = held_front none Two (empty Two) in
+              let three = held_front none Three (empty Three) in
+              absurd (some_code (front_code m.queues.one) (front_code m.queues.two) (front_code m.queues.three) one.0 two.0 three.0 one.1 two.1 three.1 e);
+          quiet = refl;
+        }
+    sees (Some seen) none fifo e = meets seen (code-Common m.queues seen fifo e) _ refl
+
+    waits_for : (stray : Option Queue) → lowest_stray m.queues ≡ stray → IsFifo m.queues → Reaches bound m.interrupts (stray_seen stray s.opening true s.code m)
+    waits_for (Some q) e fifo =
+        drops_one q (lowest_some (λ q. is_stray (lane_of q m.queues)) (is_stray m.queues.one) (is_stray m.queues.two) (is_stray m.queues.three) refl refl refl q e)
+    waits_for None e fifo = sees (common_code m.queues) e fifo refl
+
+    pub opening-Reaches : IsFifo m.queues → Reaches bound m.interrupts (waited s.opening true s.code m)
+    opening-Reaches fifo = waits_for (lowest_stray m.queues) refl fifo

@@ -1,0 +1,8 @@
+use Rattle.field_law.proofs.Laws.{shows_no_fault, signals_closing}
+use Rattle.field_law.proofs.field_shows_no_fault.Goals as goal
+
+pub returns-clause-quiet : goal.returns-clause-quiet
+returns-clause-quiet c = shows_no_fault
+
+pub returns-clause-signalled : goal.returns-clause-signalled
+returns-clause-signalled c = signals_closing

@@ -1,0 +1,97 @@
+-- When a field arrives at a machine that waits for it, and when its section signals.
+use Rattle.std.specs.Prelude.{◌≡◌, ℕ, ◌+◌, Bool, true, false, ◌&&◌, ◌||◌, All, List, [], ◌∷◌, ◌++◌, length, Some, if◌then◌else◌, ◌==◌}
+use Rattle.sync_status.specs.Statuses.{kind_of, is_control}
+use Rattle.fifo_model.specs.declared.Entry.{Entry}
+use Rattle.fifo_model.specs.declared.Queue.{Queue}
+use Rattle.fifo_model.specs.declared.Queue.TheVariants.{One, Two, Three}
+use Rattle.fifo_model.specs.declared.Pushed.TheVariants.{Held}
+use Rattle.fifo_model.specs.Queues.{lane_of, control_entry, code_of_kind}
+use Rattle.irq_status.specs.declared.HostWrite.TheVariants.{Ack, Enable, Trigger}
+use Rattle.machine_model.specs.declared.Job.{Job}
+use Rattle.machine_model.specs.declared.Job.TheVariants.{Idle, Waiting}
+use Rattle.machine_model.specs.Paths.{RiscProgram}
+use Rattle.machine_model.specs.States.{State}
+use Rattle.machine_model.specs.Steps.{Step, Push, Control, Turn, Host, pushed_as, control_pushed_as, step, with_program}
+use Rattle.field_law.specs.Fields.{Token, Mark, Brings}
+use Rattle.field_law.specs.Sections.{Section, closing_at}
+
+-- a step, and the program that it meets
+abbrev pub Met : Type 0
+Met = RiscProgram × Step
+
+abbrev pub after : State → Met → State
+after m met = step met.1 (with_program met.0 m)
+
+-- what steps push to a queue; a control code goes to each
+abbrev pub is_queue : Queue → Queue → Bool
+is_queue One One = true
+is_queue Two Two = true
+is_queue Three Three = true
+is_queue _ _ = false
+
+abbrev pub pushed_by : Step → Queue → List Entry
+pushed_by (Push to entry) q = if is_queue to q then entry ∷ [] else []
+pushed_by (Control code) q = control_entry code ∷ []
+pushed_by Turn q = []
+pushed_by (Host write) q = []
+
+abbrev pub coming : List Met → Queue → List Entry
+coming [] q = []
+coming (met ∷ steps) q = pushed_by met.1 q ++ coming steps q
+
+-- no push is lost or ignored, no control code comes as data, and the host acknowledges or sets the trigger point
+abbrev pub IsQuiet : State → Step → Type 0
+IsQuiet m (Push q entry) = (pushed_as q m ≡ Held) × (is_control (kind_of entry.status) ≡ false)
+IsQuiet m (Control code) = control_pushed_as m ≡ Held
+IsQuiet m Turn = Unit {0}
+IsQuiet m (Host (Ack mask)) = Unit {0}
+IsQuiet m (Host (Enable fifo risc)) = ⊥
+IsQuiet m (Host (Trigger number)) = Unit {0}
+
+abbrev pub AreQuiet : State → List Met → Type 0
+AreQuiet m [] = Unit {0}
+AreQuiet m (met ∷ steps) = IsQuiet (with_program met.0 m) met.1 × AreQuiet (after m met) steps
+
+-- the machine waits in a section's opening; each queue holds and is brought some entries without the code awaited, then
+-- the field, then any others
+pub record Arrives (s : Section) (field : Queue → List Token) (m : State) (steps : List Met) : Type 0 where
+  pub fifo_on : m.fifo_on ≡ true
+  pub risc_on : m.risc_on ≡ true
+  pub waits : m.job ≡ Waiting s.opening true s.code
+  pub there : m.pc ≡ s.at
+  pub quiet : AreQuiet m steps
+  pub before : Queue → List Entry
+  pub entries : Queue → List Entry
+  pub rest : Queue → List Entry
+  pub order : (q : Queue) → (lane_of q m.queues).entries ++ coming steps q ≡ before q ++ (entries q ++ rest q)
+  pub unmarked : (q : Queue) → All (λ entry. (code_of_kind (kind_of entry.status) ≡ Some s.code) → ⊥) (before q)
+  pub brings : (q : Queue) → Brings (Mark s.code ∷ field q) (entries q)
+
+-- how many entries that is, over the three queues
+abbrev pub over_queues : (Queue → ℕ) → ℕ
+over_queues count = count One + count Two + count Three
+
+abbrev pub entries_of : (Queue → List Entry) → (Queue → List Entry) → Queue → ℕ
+entries_of before entries q = length (before q) + length (entries q)
+
+-- a signal: a turn that executes the closing
+abbrev pub is_idle : Job → Bool
+is_idle Idle = true
+is_idle _ = false
+
+abbrev pub is_signal : Section → State → Step → Bool
+is_signal s m Turn = m.risc_on && is_idle m.job && m.pc == closing_at s
+is_signal s m _ = false
+
+abbrev pub has_signal : Section → State → List Met → Bool
+has_signal s m [] = false
+has_signal s m (met ∷ steps) = is_signal s m met.1 || has_signal s (after m met) steps
+
+-- how many turns there are among steps
+abbrev pub turn_count : Step → ℕ
+turn_count Turn = 1
+turn_count _ = 0
+
+abbrev pub turns_in : List Met → ℕ
+turns_in [] = 0
+turns_in (met ∷ steps) = turn_count met.1 + turns_in steps

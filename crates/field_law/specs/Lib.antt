@@ -1,0 +1,5 @@
+pub mod Fields
+pub mod Sections
+pub mod Arrivals
+pub mod Laws
+pub mod Worked

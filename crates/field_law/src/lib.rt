@@ -1,0 +1,45 @@
+//! The law of the picture: what a section of a RISC program, from its opening SYNC to its closing JUMP, does with a
+//! field that arrives at it. The functions do nothing; their contracts are the laws, over the machine's definitions
+//! alone: a section at any word, another program at every step as long as each holds this section, and pushes, turns
+//! and register writes in any order.
+#![tactic(auto)]
+
+ghost use Rattle.std.specs.Prelude.{◌≡◌, List, [], ◌∷◌, ◌++◌, true, false, map};
+ghost use Rattle.machine_model.specs.States.{State};
+ghost use Rattle.machine_model.specs.Steps.{Step, Turn, run, run_in};
+ghost use Rattle.field_law.specs.Sections.{Paints};
+ghost use Rattle.field_law.specs.Arrivals.{is_signal, has_signal};
+ghost use Rattle.field_law.specs.Laws.{Receives, ShowsPicture, ShowsNoFault, SignalsClosing, IsBounded};
+ghost use Rattle.field_law.specs.Worked.{program, section, field, machine, early, final};
+
+/// After the first signal each stored byte of the field is at its place, and every other byte is as it was when the
+/// machine waited in the opening.
+pub fn signal_shows_the_picture()
+    ensures { ShowsPicture }
+{}
+
+/// No turn up to the signal changes FDSR, and the signal applies the control bits of the closing.
+pub fn field_shows_no_fault()
+    ensures quiet { ShowsNoFault }
+    ensures signalled { SignalsClosing }
+{}
+
+/// Once all entries up to the field's last were pushed, the signal comes within five turns for each instruction from
+/// the opening to the closing and one for each entry.
+pub fn signal_comes_in_time()
+    ensures { IsBounded }
+{}
+
+/// A run is one in which each step meets the machine's own program.
+pub fn run_meets_its_program()
+    ensures { (m : State) (steps : List Step) → run m steps ≡ run_in m (map (λ step. (m.program, step)) steps) }
+{}
+
+/// The premises of these laws can be met: a field of one line does, behind an entry of an earlier field, and its section
+/// signals.
+pub fn worked_field_arrives()
+    ensures received { Receives section field machine (early ++ (program, Turn) ∷ []) }
+    ensures painted { Paints section field machine.memory final }
+    ensures silent { has_signal section machine early ≡ false }
+    ensures signalled { is_signal section (run_in machine early) Turn ≡ true }
+{}
