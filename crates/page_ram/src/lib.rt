@@ -6,6 +6,10 @@ ghost use Rattle.std.specs.List.{prefix_len};
 ghost use Rattle.page_table.specs.Grants.{chunk, covers, granted, AreRising};
 ghost use Rattle.page_table.specs.Blocks.{Block, AreBlocks, byte_at, chunk_of, chunks_of, filled, filled_block, stored};
 
+mod cells;
+
+#[doc(hidden)]
+pub use cells::{Base, Cells, Deed};
 use page_table::PageSet;
 use std::alloc::{AllocError, Global};
 use std::marker::Model;
