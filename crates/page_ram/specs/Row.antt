@@ -11,6 +11,16 @@ use denote.Sharing.{nothing, said, beside}
 use denote.RawPtr.{Ptr, block_ptr, null_ptr}
 
 module _ {X : Type 0} where
+  -- the values that are there
+  abbrev pub somes : List (Option X) → List X
+  somes [] = []
+  somes (None ∷ cs) = somes cs
+  somes (Some x ∷ cs) = x ∷ somes cs
+
+  -- every place holds a value
+  abbrev pub AreFilled : List (Option X) → Type 0
+  AreFilled cs = cs ≡ map Some (somes cs)
+
   -- the place at the index holds a value
   abbrev pub IsFilled : List (Option X) → ℕ → Type 0
   IsFilled cs i = (x : X) × (get_or cs i None ≡ Some x)

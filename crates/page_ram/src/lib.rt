@@ -7,6 +7,7 @@ ghost use Rattle.page_table.specs.Grants.{chunk, covers, granted, AreRising};
 ghost use Rattle.page_table.specs.Blocks.{Block, AreBlocks, byte_at, chunk_of, chunks_of, filled, filled_block, stored};
 
 mod cells;
+mod raw_block;
 
 #[doc(hidden)]
 pub use cells::{Base, Cells, Deed};
