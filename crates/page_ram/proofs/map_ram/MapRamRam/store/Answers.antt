@@ -1,35 +1,35 @@
 use Rattle.std.proofs.Common.{arith, sym, refl, subst}
 use Rattle.page_table.specs.Blocks.{AreBlocks}
 use Rattle.page_table.proofs.Memory.{AreBlocks-stored}
-use Rattle.page_ram.proofs.Places.{place_of_search, covered_at, stored_at}
-use Rattle.page_ram.proofs.MapRamRam.store.Goals as goal
+use Rattle.page_ram.proofs.Places.{place_of_call, covered_at, stored_at}
+use Rattle.page_ram.proofs.map_ram.MapRamRam.store.Goals as goal
 
 pub index_mut-stretch-requires : goal.index_mut-stretch-requires
 index_mut-stretch-requires c =
-    let found = place_of_search c.self.inside.stretches.items c.args.self.now c.deref.result.now c.args.addr c.place_of-place.result c.self.view_is c.deref.ensures.value c.place_of-place.ensures c.self.invariant.grants.rising c.requires in
+    let found = place_of_call c.self.inside.stretches.items c.deref.result.now c.args.addr c.place_of-place.result c.deref.ensures.value c.self.invariant.grants.rising c.place_of-place.ensures in
     let within = found.within in
     omega arith
 
 pub set_byte-requires : goal.set_byte-requires
 set_byte-requires c =
-    let found = place_of_search c.self.inside.stretches.items c.args.self.now c.deref.result.now c.args.addr c.place_of-place.result c.self.view_is c.deref.ensures.value c.place_of-place.ensures c.self.invariant.grants.rising c.requires in
+    let found = place_of_call c.self.inside.stretches.items c.deref.result.now c.args.addr c.place_of-place.result c.deref.ensures.value c.self.invariant.grants.rising c.place_of-place.ensures in
     covered_at c.self.inside.stretches.items c.args.addr c.place_of-place.result c.index_mut-stretch.result.now found c.index_mut-stretch.ensures.value
 
 pub returns-clause-stored : goal.returns-clause-stored
 returns-clause-stored c =
-    let found = place_of_search c.self.inside.stretches.items c.args.self.now c.deref.result.now c.args.addr c.place_of-place.result c.self.view_is c.deref.ensures.value c.place_of-place.ensures c.self.invariant.grants.rising c.requires in
+    let found = place_of_call c.self.inside.stretches.items c.deref.result.now c.args.addr c.place_of-place.result c.deref.ensures.value c.self.invariant.grants.rising c.place_of-place.ensures in
     stored_at c.self.inside.stretches.items c.args.self.now c.args.addr c.args.byte c.place_of-place.result c.index_mut-stretch.result.now c.set_byte.new.self c.self.view_is found c.index_mut-stretch.ensures.value c.set_byte.ensures
 
 pub invariant_of-self : goal.invariant_of-self
 invariant_of-self c =
-    let found = place_of_search c.self.inside.stretches.items c.args.self.now c.deref.result.now c.args.addr c.place_of-place.result c.self.view_is c.deref.ensures.value c.place_of-place.ensures c.self.invariant.grants.rising c.requires in
+    let found = place_of_call c.self.inside.stretches.items c.deref.result.now c.args.addr c.place_of-place.result c.deref.ensures.value c.self.invariant.grants.rising c.place_of-place.ensures in
     let items = c.self.inside.stretches.items in
     let written = stored_at items items c.args.addr c.args.byte c.place_of-place.result c.index_mut-stretch.result.now c.set_byte.new.self refl found c.index_mut-stretch.ensures.value c.set_byte.ensures in
     subst AreBlocks (sym written) (AreBlocks-stored items c.args.addr c.args.byte (omega arith) c.self.invariant)
 
 pub returns-clause-sound : goal.returns-clause-sound
 returns-clause-sound c =
-    let found = place_of_search c.self.inside.stretches.items c.args.self.now c.deref.result.now c.args.addr c.place_of-place.result c.self.view_is c.deref.ensures.value c.place_of-place.ensures c.self.invariant.grants.rising c.requires in
+    let found = place_of_call c.self.inside.stretches.items c.deref.result.now c.args.addr c.place_of-place.result c.deref.ensures.value c.self.invariant.grants.rising c.place_of-place.ensures in
     let items = c.self.inside.stretches.items in
     let written = stored_at items items c.args.addr c.args.byte c.place_of-place.result c.index_mut-stretch.result.now c.set_byte.new.self refl found c.index_mut-stretch.ensures.value c.set_byte.ensures in
     subst AreBlocks (sym written) (AreBlocks-stored items c.args.addr c.args.byte (omega arith) c.self.invariant)

@@ -2,7 +2,7 @@ use Rattle.std.proofs.Common.{arith, sym, subst, ap, ◌∙◌}
 use Rattle.std.proofs.lemmas.List.{take_all}
 use Rattle.page_table.specs.Blocks.{AreBlocks, filled}
 use Rattle.page_table.proofs.Memory.{AreBlocks-filled}
-use Rattle.page_ram.proofs.MapRam.new.Goals as goal
+use Rattle.page_ram.proofs.map_ram.MapRam.new.Goals as goal
 
 pub invariant_of-result : goal.invariant_of-result
 invariant_of-result c =

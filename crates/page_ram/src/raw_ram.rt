@@ -1,0 +1,125 @@
+//! Memory in one raw block.
+ghost use Rattle.std.specs.Prelude.{◌≡◌, List, IsTrue, IfOk};
+ghost use Rattle.page_table.specs.Grants.{Chunk, granted, total, AreGrants};
+ghost use Rattle.page_table.specs.Blocks.{Block, filled};
+ghost use Rattle.page_ram.specs.Extents.{extent_chunk, extent_chunks, AreLaid, StandsAt};
+
+use crate::raw_block::RawBlock;
+use crate::span::{place_of, Span};
+use crate::Ram;
+use page_table::PageSet;
+use std::alloc::{AllocError, Global};
+use std::marker::Model;
+
+// One chunk: the address of its first byte, its length in bytes, and where its bytes begin in the block.
+#[derive(Drop)]
+pub struct Extent {
+    at: u32,
+    len: u32,
+    from: usize,
+}
+
+impl Span for Extent {
+    ghost chunk = { extent_chunk };
+
+    fn at(&self) -> u32 {
+        self.at
+    }
+
+    fn end(&self) -> u64 {
+        u64::from(self.at) + u64::from(self.len)
+    }
+}
+
+// Where the byte at an address stands: the place of its chunk, looked for first at the place `near`, and its
+// index in the block.
+fn locate(extents: &[Extent], near: usize, addr: u32) -> (usize, usize)
+    requires grants { AreGrants (extent_chunks extents.now) }
+    requires laid { AreLaid 0 extents.now }
+    requires granted { IsTrue (granted (extent_chunks extents.now) addr) }
+    ensures { StandsAt extents.now addr result.0 result.1 }
+{
+    let place = place_of(extents, near, addr);
+    let extent = &extents[place];
+    (place, extent.from + (addr - extent.at) as usize)
+}
+
+// The chunks one behind the other, and how many bytes they take together.
+fn lay_out(alloc: Global, grants: &PageSet) -> Result<(Vec<Extent>, usize), AllocError>
+    ensures grants { AreGrants grants.now }
+    ensures laid { IfOk result (λ r. (extent_chunks r.0.items ≡ grants.now) × AreLaid 0 r.0.items × (r.1 ≡ total grants.now)) }
+{
+    let mut extents = Vec::with_capacity(alloc, grants.len())?;
+    let mut from = 0;
+    for i in 0..grants.len() {
+        let len = grants.size(i);
+        extents.push(Extent {
+            at: grants.get(i),
+            len,
+            from,
+        })?;
+        from += len as usize;
+    }
+    Ok((extents, from))
+}
+
+/// The fast memory: the bytes of all chunks one behind the other in one raw block, which is taken in
+/// `new` and freed once, when the memory is dropped.
+#[derive(Drop)]
+pub struct PageRam {
+    extents: Vec<Extent>,
+    // the place of the chunk that was written last
+    near: usize,
+    block: RawBlock,
+}
+
+impl Model for PageRam {
+    ghost use Rattle.std.specs.Prelude.{List};
+    ghost use Rattle.page_table.specs.Blocks.{Block};
+    ghost use Rattle.page_ram.specs.Extents.{laid, AreCut};
+
+    ghost Value = { List Block };
+
+    ghost view = { λ ram. laid ram.block ram.extents.items };
+
+    ghost invariant = { λ ram. AreCut ram.block ram.extents.items };
+}
+
+impl PageRam {
+    /// Memory for these chunks in which every byte is `fill`.
+    pub fn new(alloc: Global, grants: &PageSet, fill: u8) -> Result<PageRam, AllocError>
+        ensures { IfOk result (λ ram. ram ≡ filled fill grants.now) }
+    {
+        let (extents, size) = lay_out(alloc, grants)?;
+        let block = RawBlock::filled(alloc, size, fill)?;
+        Ok(PageRam {
+            extents,
+            near: 0,
+            block,
+        })
+    }
+}
+
+impl Ram for PageRam {
+    ghost memory = { λ ram. ram };
+
+    fn store(&mut self, addr: u32, byte: u8) {
+        let (place, index) = locate(&self.extents, self.near, addr);
+        self.near = place;
+        self.block.set(index, byte);
+    }
+
+    fn load(&self, addr: u32) -> u8 {
+        let (_, index) = locate(&self.extents, self.near, addr);
+        self.block.byte(index)
+    }
+
+    fn pages(&self) -> usize {
+        self.extents.len()
+    }
+
+    fn page(&self, i: usize) -> (u32, &[u8]) {
+        let extent = &self.extents[i];
+        (extent.at, self.block.slice(extent.from, extent.len as usize))
+    }
+}
