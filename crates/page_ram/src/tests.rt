@@ -1,0 +1,67 @@
+//! Both memories, under the same stores.
+ghost use Rattle.std.specs.Prelude.{◌≡◌, IsTrue};
+ghost use Rattle.std.specs.List.{All};
+ghost use Rattle.page_table.specs.Grants.{granted};
+ghost use Rattle.page_table.specs.Blocks.{chunks_of};
+
+use crate::{MapRam, PageRam, Ram};
+use page_table::PageSet;
+use std::test::Fail;
+
+// Writes a byte and reads it back.
+fn exchange<R: Ram>(ram: &mut R, addr: u32, byte: u8) -> u8
+    requires { IsTrue (granted (chunks_of (R.memory ram.old)) addr) }
+    ensures kept { chunks_of (R.memory ram.new) ≡ chunks_of (R.memory ram.old) }
+    ensures read { result ≡ byte }
+{
+    ram.store(addr, byte);
+    ram.load(addr)
+}
+
+// Writes a list of bytes, each read back at once, and tells whether each was read as it was written.
+fn exchange_all<R: Ram>(ram: &mut R, stores: &[(u32, u8)]) -> bool
+    requires { All (λ store. IsTrue (granted (chunks_of (R.memory ram.old)) store.0)) stores.now }
+    ensures kept { chunks_of (R.memory ram.new) ≡ chunks_of (R.memory ram.old) }
+{
+    let mut same = true;
+    for &(addr, byte) in stores {
+        same &= exchange(ram, addr, byte) == byte;
+    }
+    same
+}
+
+#[test]
+fn pages_at_both_ends(rt: HostRuntime) -> Result<(), Fail> {
+    let grants = PageSet::from_list(rt.alloc(), &[0xffff_f000, 0])?;
+    let mut map = MapRam::new(rt.alloc(), &grants, 7)?;
+    let mut raw = PageRam::new(rt.alloc(), &grants, 7)?;
+    let stores = [(0, 1), (0xffff_ffff, 2), (0xfff, 3), (0, 4), (0xffff_f000, 5)];
+    assert!(rt; exchange_all(&mut map, &stores));
+    assert!(rt; exchange_all(&mut raw, &stores));
+    assert_eq!(rt; map.load(0), 4);
+    assert_eq!(rt; raw.load(0), 4);
+    assert_eq!(rt; raw.load(1), 7);
+    assert_eq!(rt; raw.page(0).1, map.page(0).1);
+    let (at, bytes) = raw.page(1);
+    assert_eq!(rt; at, 0xffff_f000);
+    assert_eq!(rt; bytes, map.page(1).1);
+    assert_eq!(rt; bytes.first(), Some(&5));
+    assert_eq!(rt; bytes.last(), Some(&2));
+    Ok(())
+}
+
+#[test]
+fn chunks_that_touch(rt: HostRuntime) -> Result<(), Fail> {
+    let chunks = [(0x20004, 4), (0xffff_fffc, 4), (0x20000, 4)];
+    let grants = PageSet::from_chunks(rt.alloc(), &chunks)?;
+    let mut map = MapRam::new(rt.alloc(), &grants, 0)?;
+    let mut raw = PageRam::new(rt.alloc(), &grants, 0)?;
+    let stores = [(0x20004, 1), (0x20003, 2), (0xffff_fffc, 3), (0xffff_ffff, 4)];
+    assert!(rt; exchange_all(&mut map, &stores));
+    assert!(rt; exchange_all(&mut raw, &stores));
+    assert_eq!(rt; raw.page(0).1, [0, 0, 0, 2].as_slice());
+    assert_eq!(rt; raw.page(1).1, [1, 0, 0, 0].as_slice());
+    assert_eq!(rt; raw.page(2).1, [3, 0, 0, 4].as_slice());
+    assert_eq!(rt; map.page(1).1, [1, 0, 0, 0].as_slice());
+    Ok(())
+}
