@@ -1,5 +1,5 @@
 -- Chunks that lie one behind the other in one block.
-use Rattle.std.proofs.Common.{◌≡◌, ℕ, zero, suc, ◌+◌, ◌-◌, ◌≤◌, ◌<◌, true, List, [], ◌∷◌, ◌++◌, length, map, get_or, take, drop, replicate, refl, sym, ap, ◌∙◌, arith, subst}
+use Rattle.std.proofs.Common.{◌≡◌, ℕ, zero, suc, ◌+◌, ◌-◌, ◌≤◌, ◌<◌, true, List, [], ◌∷◌, ◌++◌, length, get_or, take, drop, replicate, refl, sym, ap, ◌∙◌, arith, subst}
 use Rattle.std.proofs.Math.ListN.{set, get_or-map, length-set}
 use Rattle.std.proofs.Math.Seq.{take-set-lt}
 use Rattle.std.proofs.lemmas.List.{length-map, map-append, take_more, length-drop, length-replicate, length-take-le, get_or-take, get_or-drop, drop-set-lt, drop-set-add, take-set-le, drop-replicate, take-replicate}
@@ -7,13 +7,13 @@ use Rattle.std.proofs.lemmas.List.Sums.{sum_by-append, sum_by_more}
 use Rattle.std.proofs.lemmas.Option.{slice_get-map, slice_get-get_or}
 use Rattle.std.specs.Prelude.{Some, slice_get, option_map}
 use Rattle.std.proofs.lemmas.Bool.{and_parts, leb-true, ltb-true}
-use Rattle.page_table.specs.Grants.{Chunk, chunk, chunk_at, covers, granted, total, AreRising, AreGrants}
-use Rattle.page_table.specs.Blocks.{Block, chunk_of, chunks_of, byte_at, stored, filled, AreBlocks}
+use Rattle.page_table.specs.Grants.{Chunk, chunk, chunk_at, covers, granted, total, AreGrants}
+use Rattle.page_table.specs.Blocks.{Block, chunks_of, byte_at, stored, filled, AreBlocks}
 use Rattle.page_table.proofs.Memory.{with_byte, AreBlocks-stored, AreBlocks-filled}
 use Rattle.page_ram.specs.declared.raw_ram.Extent.{Extent}
 use Rattle.page_ram.specs.Places.{HasAddress}
 use Rattle.page_ram.specs.Extents.{extent_chunk, extent_chunks, extent_block, laid, AreLaid, AreCut, StandsAt}
-use Rattle.page_ram.proofs.Places.{IsPlace, place_held}
+use Rattle.page_ram.proofs.Places.{place_held}
 
 le-from : (from : ℕ) (extents : List Extent) (j : ℕ) (d : Extent) → AreLaid from extents → j < length extents → from ≤ (get_or extents j d).from
 le-from from [] j d lie within = absurd (omega arith)
@@ -149,22 +149,25 @@ AreLaid-push from (first ∷ rest) e lie next = (lie.0, AreLaid-push (from + fir
 pub AreCut-filled : (fill size : ℕ) (extents : List Extent) (chunks : List Chunk) → fill < 256 → AreGrants chunks → extent_chunks extents ≡ chunks → AreLaid 0 extents → size ≡ total chunks → AreCut (replicate size fill) extents × (laid (replicate size fill) extents ≡ filled fill chunks)
 AreCut-filled fill size extents chunks small grants same lie long =
     let all : size ≡ total (extent_chunks extents) = long ∙ ap total (sym same) in
-    let whole = laid-replicate 0 size fill extents lie (omega arith) ∙ ap (filled fill) same in
-    (record {
-      blocks = subst AreBlocks (sym whole) (AreBlocks-filled fill chunks small grants);
-      lie = lie;
-      long = length-replicate size fill ∙ all;
-    }, whole)
+    let whole = laid-replicate 0 size fill extents lie (omega arith) ∙ ap (filled fill) same in (
+      record {
+        blocks = subst AreBlocks (sym whole) (AreBlocks-filled fill chunks small grants);
+        lie = lie;
+        long = length-replicate size fill ∙ all;
+      },
+      whole,
+    )
 
 -- a chunk with its bytes
 pub page_found : (bytes : List ℕ) (extents : List Extent) (memory : List Block) (i : ℕ) (e : Extent) → AreCut bytes extents → laid bytes extents ≡ memory → i < length memory → e ≡ get_or extents i e
     → (e.from + e.len ≤ length bytes) × (slice_get memory i ≡ Some (extent_block bytes e))
 page_found bytes extents memory i e cut same inside is =
     let within : i < length extents = omega (arith, ap length same, length-map extents (extent_block bytes)) in
-    let ends = le-end 0 extents i e cut.lie within in
-    (subst (λ (x : Extent). x.from + x.len ≤ length bytes) (sym is) (omega (arith, cut.long)),
-    ap (λ (m : List Block). slice_get m i) (sym same) ∙ slice_get-map (extent_block bytes) extents i
-    ∙ ap (option_map (extent_block bytes)) (slice_get-get_or extents i e within) ∙ ap (λ (x : Extent). Some (extent_block bytes x)) (sym is))
+    let ends = le-end 0 extents i e cut.lie within in (
+      subst (λ (x : Extent). x.from + x.len ≤ length bytes) (sym is) (omega (arith, cut.long)),
+      ap (λ (m : List Block). slice_get m i) (sym same) ∙ slice_get-map (extent_block bytes) extents i
+          ∙ ap (option_map (extent_block bytes)) (slice_get-get_or extents i e within) ∙ ap (λ (x : Extent). Some (extent_block bytes x)) (sym is),
+    )
 
 -- the extents of one more chunk
 pub laid_more : (extents more : List Extent) (chunks : List Chunk) (i from : ℕ) (e : Extent) → i < length chunks → extent_chunks extents ≡ take i chunks → AreLaid 0 extents → from ≡ total (take i chunks)
@@ -174,7 +177,8 @@ laid_more extents more chunks i from e within same lie so_far begins next is =
     map-append extent_chunk extents (e ∷ []) ∙ ap (λ (cs : List Chunk). cs ++ extent_chunk e ∷ []) same
     ∙ ap (λ (c : Chunk). take i chunks ++ c ∷ []) next ∙ sym (take_more chunks i (chunk 0 0) within) in
     let sum : total (take (i + 1) chunks) ≡ total (take i chunks) + (chunk_at chunks i).len = sum_by_more (λ (c : Chunk). c.len) chunks i (chunk 0 0) within in
-    let len : e.len ≡ (chunk_at chunks i).len = ap (λ (c : Chunk). c.len) next in
-    (ap extent_chunks is ∙ longer,
-    subst (AreLaid 0) (sym is) (AreLaid-push 0 extents e lie (omega (arith, begins ∙ so_far ∙ sym (ap total same)))),
-    omega arith)
+    let len : e.len ≡ (chunk_at chunks i).len = ap (λ (c : Chunk). c.len) next in (
+      ap extent_chunks is ∙ longer,
+      subst (AreLaid 0) (sym is) (AreLaid-push 0 extents e lie (omega (arith, begins ∙ so_far ∙ sym (ap total same)))),
+      omega arith,
+    )

@@ -1,8 +1,8 @@
 -- Rows in which every place holds a value.
-use Rattle.std.proofs.Common.{◌≡◌, ℕ, zero, suc, ◌+◌, ◌≤◌, ◌<◌, List, [], ◌∷◌, ◌++◌, length, get_or, take, drop, replicate, map, refl, sym, ap, ◌∙◌, arith, Option, Some, None}
+use Rattle.std.proofs.Common.{◌≡◌, ℕ, zero, suc, ◌+◌, ◌<◌, List, [], ◌∷◌, ◌++◌, length, get_or, take, drop, replicate, map, refl, sym, ap, ◌∙◌, arith, Option, Some, None}
 use Rattle.std.proofs.Math.ListN.{set}
 use Rattle.std.proofs.lemmas.List.{length-map, take-map, drop-map, map-set, get_or-map, replicate-append-replicate, take_more_set, take_all}
-use Rattle.page_ram.specs.Row.{somes, AreFilled, IsFilled, IsRun}
+use Rattle.page_ram.specs.Row.{somes, AreFilled}
 
 module _ {X : Type 0} where
   pub somes-map : (xs : List X) → somes (map Some xs) ≡ xs

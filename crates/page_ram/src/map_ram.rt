@@ -3,8 +3,8 @@ ghost use Rattle.std.specs.Prelude.{◌≡◌, ◌-◌, List, IsTrue, length, sl
 ghost use Rattle.page_table.specs.Grants.{chunk, covers};
 ghost use Rattle.page_table.specs.Blocks.{Block, chunk_of, filled, filled_block};
 
-use crate::span::{place_of, Span};
 use crate::Ram;
+use crate::span::{Span, place_of};
 use page_table::PageSet;
 use std::alloc::{AllocError, Global};
 use std::marker::Model;

@@ -1,7 +1,7 @@
 //! A block of bytes in raw memory.
 ghost use Rattle.std.specs.Prelude.{◌≡◌, ◌+◌, ◌^◌, ◌<◌, ◌≤◌, length, take, drop, replicate, slice_index, slice_set, IfOk};
 
-use crate::cells::{allocate, deallocate, Base, Cells, Deed};
+use crate::cells::{Base, Cells, Deed, allocate, deallocate};
 use std::alloc::{AllocError, Global};
 use std::marker::Model;
 

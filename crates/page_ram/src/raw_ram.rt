@@ -4,9 +4,9 @@ ghost use Rattle.page_table.specs.Grants.{Chunk, granted, total, AreGrants};
 ghost use Rattle.page_table.specs.Blocks.{Block, filled};
 ghost use Rattle.page_ram.specs.Extents.{extent_chunk, extent_chunks, AreLaid, StandsAt};
 
-use crate::raw_block::RawBlock;
-use crate::span::{place_of, Span};
 use crate::Ram;
+use crate::raw_block::RawBlock;
+use crate::span::{Span, place_of};
 use page_table::PageSet;
 use std::alloc::{AllocError, Global};
 use std::marker::Model;
@@ -120,6 +120,9 @@ impl Ram for PageRam {
 
     fn page(&self, i: usize) -> (u32, &[u8]) {
         let extent = &self.extents[i];
-        (extent.at, self.block.slice(extent.from, extent.len as usize))
+        (
+            extent.at,
+            self.block.slice(extent.from, extent.len as usize),
+        )
     }
 }

@@ -35,7 +35,13 @@ fn pages_at_both_ends(rt: HostRuntime) -> Result<(), Fail> {
     let grants = PageSet::from_list(rt.alloc(), &[0xffff_f000, 0])?;
     let mut map = MapRam::new(rt.alloc(), &grants, 7)?;
     let mut raw = PageRam::new(rt.alloc(), &grants, 7)?;
-    let stores = [(0, 1), (0xffff_ffff, 2), (0xfff, 3), (0, 4), (0xffff_f000, 5)];
+    let stores = [
+        (0, 1),
+        (0xffff_ffff, 2),
+        (0xfff, 3),
+        (0, 4),
+        (0xffff_f000, 5),
+    ];
     assert!(rt; exchange_all(&mut map, &stores));
     assert!(rt; exchange_all(&mut raw, &stores));
     assert_eq!(rt; map.load(0), 4);
@@ -56,7 +62,12 @@ fn chunks_that_touch(rt: HostRuntime) -> Result<(), Fail> {
     let grants = PageSet::from_chunks(rt.alloc(), &chunks)?;
     let mut map = MapRam::new(rt.alloc(), &grants, 0)?;
     let mut raw = PageRam::new(rt.alloc(), &grants, 0)?;
-    let stores = [(0x20004, 1), (0x20003, 2), (0xffff_fffc, 3), (0xffff_ffff, 4)];
+    let stores = [
+        (0x20004, 1),
+        (0x20003, 2),
+        (0xffff_fffc, 3),
+        (0xffff_ffff, 4),
+    ];
     assert!(rt; exchange_all(&mut map, &stores));
     assert!(rt; exchange_all(&mut raw, &stores));
     assert_eq!(rt; raw.page(0).1, [0, 0, 0, 2].as_slice());

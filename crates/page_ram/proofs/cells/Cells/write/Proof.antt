@@ -46,7 +46,7 @@ use Rattle.std.specs.Prelude.{Some, None}
 use Rattle.core.proofs.mem.Param.{El, R, args, elτ}
 use Rattle.core.proofs.ptr.Rows.{times_below, one_below}
 use Rattle.page_ram.specs.Row.{slot, slots, cells_own}
-use Rattle.page_ram.proofs.Row.{Cr, Bs, sz, Place, word_had, value_in, tells, Besides, slot_out, slot_in, emptied}
+use Rattle.page_ram.proofs.Row.{Cr, Bs, sz, word_had, value_in, tells, Besides, slot_out, slot_in, emptied}
 use Rattle.page_ram.specs.contracts.cells.Cells.write.Key.{name as #self}
 use Rattle.page_ram.proofs.cells.Cells.write.Statement as stated
 use Rattle.page_ram.proofs.cells.Cells.write.Code as code

@@ -1,4 +1,4 @@
-use Rattle.std.proofs.Common.{arith, sym, ap, ◌∙◌, get_or, length}
+use Rattle.std.proofs.Common.{arith, sym, ap, get_or, length}
 use Rattle.page_ram.specs.Row.{somes}
 use Rattle.page_ram.proofs.Filled.{filled_at}
 use Rattle.page_ram.proofs.raw_block.RawBlock.byte.Goals as goal

@@ -6,9 +6,13 @@ use Rattle.page_ram.proofs.raw_block.RawBlock.slice.Goals as goal
 pub slice-requires : goal.slice-requires
 slice-requires c =
     let slots = c.self.inside.cells.slots in
-    let long = length_filled slots c.self.invariant.5 in
-    (sym c.self.invariant.0, (omega (arith, ap length c.self.view_is),
-    (take c.args.len (drop c.args.from (somes slots)), filled_run slots c.args.from c.args.len c.self.invariant.5)))
+    let long = length_filled slots c.self.invariant.5 in (
+      sym c.self.invariant.0,
+      (
+        omega (arith, ap length c.self.view_is),
+        (take c.args.len (drop c.args.from (somes slots)), filled_run slots c.args.from c.args.len c.self.invariant.5),
+      ),
+    )
 
 pub returns : goal.returns
 returns c =
