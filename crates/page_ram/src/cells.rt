@@ -12,7 +12,7 @@ use std::mem::{align_of, size_of};
 use std::slice;
 
 /// Where the block begins. It owns nothing.
-pub struct Base<T> {
+pub(crate) struct Base<T> {
     ptr: *mut T,
 }
 
@@ -29,7 +29,7 @@ impl<T> Clone for Base<T> {
 impl<T> Copy for Base<T> {}
 
 /// The owner of the places. It takes no space: the pointer is passed beside it.
-pub struct Cells<T> {
+pub(crate) struct Cells<T> {
     mark: PhantomData<*const T>,
     ghost at: { Ptr },
     ghost slots: { List (Option T) },
@@ -42,7 +42,7 @@ impl<T> Model for Cells<T> {
 }
 
 /// The right to give the block of `len` places at `at` back to `alloc`. It takes no space.
-pub struct Deed<T, A: Allocator> {
+pub(crate) struct Deed<T, A: Allocator> {
     mark: PhantomData<*const (T, A)>,
     ghost at: { Ptr },
     ghost len: { ℕ },

@@ -6,7 +6,7 @@ use std::alloc::{AllocError, Global};
 use std::marker::Model;
 
 /// A block of bytes, taken once and given back when it is dropped. Contracts see its bytes.
-pub struct RawBlock {
+pub(crate) struct RawBlock {
     base: Base<u8>,
     cells: Cells<u8>,
     deed: Deed<u8, Global>,

@@ -13,7 +13,7 @@ use std::marker::Model;
 
 // One chunk: the address of its first byte, its length in bytes, and where its bytes begin in the block.
 #[derive(Drop)]
-pub struct Extent {
+struct Extent {
     at: u32,
     len: u32,
     from: usize,
@@ -63,8 +63,8 @@ fn lay_out(alloc: Global, grants: &PageSet) -> Result<(Vec<Extent>, usize), Allo
     Ok((extents, from))
 }
 
-/// The fast memory: the bytes of all chunks one behind the other in one raw block, which is taken in
-/// `new` and freed once, when the memory is dropped.
+/// The fast memory: the bytes of all chunks stand one behind the other in one raw block, which is taken
+/// in `new` and freed once, when the memory is dropped. Only `new` takes memory.
 #[derive(Drop)]
 pub struct PageRam {
     extents: Vec<Extent>,

@@ -4,7 +4,7 @@ ghost use Rattle.page_table.specs.Grants.{Chunk, covers, granted, AreRising};
 ghost use Rattle.page_ram.specs.Places.{HasAddress};
 
 /// A chunk, wherever its bytes are kept.
-pub trait Span {
+pub(crate) trait Span {
     ghost chunk: { Self → Chunk };
 
     /// The address of the first byte.
@@ -15,12 +15,14 @@ pub trait Span {
     fn end(&self) -> u64
         ensures { result ≡ (chunk self.now).at + (chunk self.now).len };
 
+    /// Whether the chunk ends at an address or before it.
     fn ends_by(&self, addr: u32) -> bool
         ensures { result ≡ nat_le ((chunk self.now).at + (chunk self.now).len) addr }
     {
         self.end() <= u64::from(addr)
     }
 
+    /// Whether the chunk has an address.
     fn holds(&self, addr: u32) -> bool
         ensures { result ≡ covers (chunk self.now) addr }
     {
