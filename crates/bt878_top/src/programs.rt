@@ -18,7 +18,7 @@ use capture_desk::Desk;
 use capture_file::{Input, ProgramError, ProgramFile, read_program};
 use dma_machine::Machine;
 use fifo_model::Fifo;
-use page_ram::{MapRam, Ram};
+use page_ram::{PageRam, Ram};
 use risc_listing::list;
 use risc_verify::{Accepted, Steps, Why, verify};
 use std::alloc::{AllocError, Global};
@@ -38,7 +38,7 @@ pub struct Loaded {
 /// A machine after its stream, and the text of its report.
 #[derive(Drop)]
 pub struct Ran {
-    pub machine: Machine<MapRam>,
+    pub machine: Machine<PageRam>,
     pub report: String,
 }
 
@@ -119,16 +119,16 @@ pub fn accept<D: Desk>(alloc: Global, name: &str, desk: &mut D) -> Result<Loaded
 }
 
 /// The machine of a sound program before its first step. All memory that it needs is taken here.
-fn machine_of(alloc: Global, accepted: Accepted, fill: u8) -> Result<Machine<MapRam>, AllocError>
+fn machine_of(alloc: Global, accepted: Accepted, fill: u8) -> Result<Machine<PageRam>, AllocError>
     ensures { IfOk result (λ machine. machine ≡ first_state accepted fill) }
 {
-    let ram = MapRam::new(alloc, accepted.program().grants(), fill)?;
+    let ram = PageRam::new(alloc, accepted.program().grants(), fill)?;
     let fifo = Fifo::new(alloc, [70, 35, 35])?;
     Ok(Machine::new(accepted, ram, fifo))
 }
 
 /// Reads a program file and makes its machine.
-fn load<D: Desk>(alloc: Global, name: &str, desk: &mut D) -> Result<Machine<MapRam>, Answer>
+fn load<D: Desk>(alloc: Global, name: &str, desk: &mut D) -> Result<Machine<PageRam>, Answer>
     requires { IsAllowed name.now (D.told desk.old).may_open }
     ensures made { IfOk result (λ machine. OfInput name.now (D.told desk.old).inputs (λ bytes. IsMade bytes machine)) }
     ensures stops { IfErr result (λ answer. StopsAtProgram name.now answer (seen_by D.told D.read_faults D.write_faults desk.old) (seen_by D.told D.read_faults D.write_faults desk.new)) }
@@ -169,7 +169,7 @@ fn play_on<D: Desk>(
     program: &str,
     stream: &str,
     desk: &mut D,
-) -> Result<Machine<MapRam>, Answer>
+) -> Result<Machine<PageRam>, Answer>
     requires program { IsAllowed program.now (D.told desk.old).may_open }
     requires stream { IsAllowed stream.now (D.told desk.old).may_open }
     ensures ran { IfOk result (λ machine. OfInput program.now (D.told desk.old).inputs (λ program_bytes. OfInput stream.now (D.told desk.old).inputs (λ stream_bytes. HasRun program_bytes stream_bytes machine))) }
