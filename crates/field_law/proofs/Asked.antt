@@ -1,7 +1,7 @@
 -- One queue of a section: the turns that take no bytes of it.
-use Rattle.std.proofs.Common.{◌≡◌, ℕ, zero, suc, ◌+◌, ◌<◌, Bool, true, false, List, [], ◌∷◌, ◌++◌, length, drop, Option, Some, None, refl, sym, ap, subst, ◌∙◌, arith, ◌⊎◌, inl, inr, ⊎_elim, append_assoc}
-use Rattle.std.specs.List.{list_any}
-use Rattle.std.proofs.lemmas.Bool.{or_left, or_right, or_cases}
+use Rattle.std.proofs.Common.{◌≡◌, ℕ, zero, suc, ◌+◌, ◌<◌, Bool, true, false, List, [], ◌∷◌, ◌++◌, length, drop, Option, Some, None, refl, sym, ap, subst, ◌∙◌, arith, ◌⊎◌, inl, inr, append_assoc}
+use Rattle.std.proofs.lemmas.List.Folds.{list_any-append}
+use Rattle.std.proofs.lemmas.Bool.{or_left}
 use Rattle.risc_word.specs.declared.Code.{Code}
 use Rattle.sync_status.specs.Statuses.{kind_of}
 use Rattle.fifo_model.specs.declared.Entry.{Entry}
@@ -157,15 +157,10 @@ outlook_shows code asks stores left taken lane later h =
 
 -- ---- once all of the field is there
 
-any_append : (test : Entry → Bool) (xs ys : List Entry) → list_any test xs ≡ true → list_any test (xs ++ ys) ≡ true
-any_append test [] ys h = cc
-any_append test (x ∷ xs) ys h =
-    ⊎_elim (λ here. or_left (test x) (list_any test (xs ++ ys)) here) (λ later. or_right (test x) (list_any test (xs ++ ys)) (any_append test xs ys later))
-    (or_cases (test x) (list_any test xs) h)
-
 -- the queue is ready where bytes are asked of it
 pub outlook_wakes : (d : Demand) (asks : List Ask) (stores : List Store) (left taken : ℕ) (ahead : List Entry) → 0 < d.rest → Outlook (ask_of d ∷ asks) stores left taken ahead →
     has_waking ahead ≡ true
 outlook_wakes d asks stores left taken ahead some h =
     let f = front_of d.needs_sol d.rest d.address asks stores left taken ahead some h in
-    ap has_waking f.order ∙ any_append (λ entry. wakes (kind_of entry.status)) (f.entry ∷ f.half) (f.entries ++ f.rest) (part-waking taken f.line f.entry f.half f.part)
+    ap has_waking f.order ∙ list_any-append (λ entry. wakes (kind_of entry.status)) (f.entry ∷ f.half) (f.entries ++ f.rest)
+    ∙ or_left (has_waking (f.entry ∷ f.half)) (has_waking (f.entries ++ f.rest)) (part-waking taken f.line f.entry f.half f.part)

@@ -15,3 +15,4 @@ pub mod Runs
 pub mod Closing
 pub mod Laws
 pub mod Worked
+pub mod CutLines

@@ -1,5 +1,6 @@
 -- Memory on its way to what it is to be: each address holds that already, or is still to be stored to.
 use Rattle.std.proofs.Common.{◌≡◌, ℕ, true, false, ◌==◌, List, [], ◌∷◌, ◌++◌, All, refl, sym, ap, subst, ◌∙◌, ⊎_elim}
+use Rattle.std.proofs.lemmas.List.Folds.{list_any-append}
 use Rattle.std.proofs.lemmas.Bool.{cases_Bool, or_parts, or_from, or_cases, eqb-true, eqb-false}
 use Rattle.std.proofs.lemmas.List.Elements.{All-nil, All-cons, All-head, All-tail}
 use Rattle.fifo_model.specs.declared.Queue.{Queue}
@@ -49,10 +50,8 @@ all_right P [] ys h = h
 all_right P (x ∷ xs) ys h = all_right P xs ys (All-tail P x (xs ++ ys) h)
 
 stored_in_neither : (address : ℕ) (xs ys : List Store) → is_stored address xs ≡ false → is_stored address ys ≡ false → is_stored address (xs ++ ys) ≡ false
-stored_in_neither address [] ys none none' = none'
-stored_in_neither address (x ∷ xs) ys none none' =
-    let parts = or_parts (x.address == address) (is_stored address xs) none in
-    or_from (x.address == address) (is_stored address (xs ++ ys)) parts.0 (stored_in_neither address xs ys parts.1 none')
+stored_in_neither address xs ys none none' =
+    list_any-append (λ store. store.address == address) xs ys ∙ or_from (is_stored address xs) (is_stored address ys) none none'
 
 -- ---- memory under way
 

@@ -3,3 +3,4 @@ pub mod Sections
 pub mod Arrivals
 pub mod Laws
 pub mod Worked
+pub mod CutLines

@@ -4,10 +4,13 @@
 //! and register writes in any order.
 #![tactic(auto)]
 
-ghost use Rattle.std.specs.Prelude.{◌≡◌, List, [], ◌∷◌, ◌++◌, true, false, map};
+ghost use Rattle.std.specs.Prelude.{◌≡◌, ◌<◌, ℕ, Bool, Some, All, List, [], ◌∷◌, ◌++◌, true, false, length, map, slice_index_or};
 ghost use Rattle.machine_model.specs.States.{State};
 ghost use Rattle.machine_model.specs.Steps.{Step, Turn, run, run_in};
-ghost use Rattle.field_law.specs.Sections.{Paints};
+ghost use Rattle.machine_model.specs.Turns.{Store};
+ghost use Rattle.field_law.specs.Fields.{Token};
+ghost use Rattle.field_law.specs.Sections.{Ask, UsesUp, planned, is_stored, Paints};
+ghost use Rattle.field_law.specs.CutLines.{CutLine, IsCovered, lines_asks, lines_rows, lines_stores, address_in, EachByte};
 ghost use Rattle.field_law.specs.Arrivals.{is_signal, has_signal};
 ghost use Rattle.field_law.specs.Laws.{Receives, ShowsPicture, ShowsNoFault, SignalsClosing, IsBounded};
 ghost use Rattle.field_law.specs.Worked.{program, section, field, machine, early, final};
@@ -33,6 +36,19 @@ pub fn signal_comes_in_time()
 /// A run is one in which each step meets the machine's own program.
 pub fn run_meets_its_program()
     ensures { (m : State) (steps : List Step) → run m steps ≡ run_in m (map (λ step. (m.program, step)) steps) }
+{}
+
+/// Lines cut into stretches that cover them are used up, whatever comes after them; each byte that a stretch writes is
+/// stored at its address, and the stores of the lines come first.
+pub fn cut_lines_are_used_up()
+    ensures used { (lines : List CutLine) (later : List Ask) (tokens : List Token) → All IsCovered lines → UsesUp later [] tokens →
+        UsesUp (lines_asks lines ++ later) [] (lines_rows lines ++ tokens) }
+    ensures stores { (lines : List CutLine) (later : List Ask) (tokens : List Token) → All IsCovered lines →
+        planned (lines_asks lines ++ later) [] (lines_rows lines ++ tokens) ≡ lines_stores lines ++ planned later [] tokens }
+    ensures each { (test : Store → Bool) (lines : List CutLine) → All IsCovered lines → All (EachByte (λ store. test store ≡ true)) lines →
+        All (λ store. test store ≡ true) (lines_stores lines) }
+    ensures stored { (lines : List CutLine) (line : CutLine) (number x address : ℕ) → All IsCovered lines → number < length lines → slice_index_or lines number line ≡ line →
+        x < length line.bytes → address_in line.stretches x ≡ Some address → is_stored address (lines_stores lines) ≡ true }
 {}
 
 /// The premises of these laws can be met: a field of one line does, behind an entry of an earlier field, and its section
