@@ -108,7 +108,7 @@ module _ (program : RiscProgram) (instrs : List Instr) (spelled : program.words 
       let some = (instr_fine address at).some in
       subst (λ (a : ℕ). is_word program a ≡ true) (sym at.at) (a_word program (length (words_of at.before)) (omega arith))
 
-  fetch_at : (address : ℕ) (at : IsAt program.base instrs address) → fetch program address ≡ Ok (at.instr, length (encoded at.instr))
+  pub fetch_at : (address : ℕ) (at : IsAt program.base instrs address) → fetch program address ≡ Ok (at.instr, length (encoded at.instr))
   fetch_at address at =
       let e = at.at in
       let number : word_number program address ≡ length (words_of at.before) = omega arith in

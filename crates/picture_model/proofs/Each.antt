@@ -39,3 +39,7 @@ each_replicate P (suc n) x here = (here, each_replicate P n x here)
 pub each_range : (from count end : ℕ) → from + count ≤ end → Each (λ k. k < end) (range_with_len from count)
 each_range from zero end within = tt
 each_range from (suc count) end within = (omega arith, each_range (from + 1) count end (omega arith))
+
+pub each_both : {A : Type 0} (P Q : A → Type 0) (xs : List A) → Each P xs → Each Q xs → Each (λ x. P x × Q x) xs
+each_both P Q [] one two = tt
+each_both P Q (x ∷ xs) one two = ((one.0, two.0), each_both P Q xs one.1 two.1)

@@ -14,3 +14,4 @@ pub mod Ends
 pub mod Counting
 pub mod Limit
 pub mod Made
+pub mod Rows

@@ -4,6 +4,7 @@ use Rattle.std.specs.Prelude.{replicate}
 use Rattle.std.specs.List.{range_with_len}
 use Rattle.std.proofs.lemmas.Bool.{cond-true}
 use Rattle.std.proofs.lemmas.Grind.{flat_map-append}
+use Rattle.std.proofs.lemmas.List.{append-nil}
 use Rattle.risc_word.specs.declared.Code.TheVariants.{Fm1}
 use Rattle.risc_word.specs.Words.{IsInstr, encoded}
 use Rattle.pixel_layout.specs.declared.Parity.{Parity}
@@ -15,7 +16,7 @@ use Rattle.capture_desc.specs.declared.desc.Fields.{Fields}
 use Rattle.capture_desc.specs.declared.desc.Fields.TheVariants as fields
 use Rattle.picture_model.specs.Described.{both, describes, field_height, layout_of, memory_of, picture_row, rows_of}
 use Rattle.picture_model.specs.Plans.{Strip, row_strip, skipped_strip, vbi_strip}
-use Rattle.picture_model.specs.Programs.{body, closing, compiled, data_code, field_instrs, line_instrs, lines_instrs, opening, picture_strips, section, section_length, sections_by, vbi_from, vbi_instrs, vbi_strips, vertical, words_of}
+use Rattle.picture_model.specs.Programs.{Stands, begin_by, body, closing, closing_begin, compiled, data_code, field_instrs, field_words, line_instrs, lines_instrs, next_by, opening, picture_strips, section, section_begin, section_length, section_next, sections, sections_by, vbi_from, vbi_instrs, vbi_strips, vbi_words, vertical, words_of}
 use Rattle.picture_model.proofs.Circle.{IsAt, IsFineInstr, IsPlain, Lead, a_word, circle_sound, lead_plain, split_length, words_split}
 use Rattle.picture_model.proofs.Each.{Each, each_append, each_flat_map, each_map, each_only, each_range, each_replicate}
 use Rattle.picture_model.proofs.Fine.{AreWords, IsGoodInstr, good_line, good_sync}
@@ -97,6 +98,12 @@ section_long d field target = with_closing target ∙ sym (with_closing 0)
         ap length (words_split (opening field ∷ body d field) (closing field at) [])
         ∙ split_length (words_of (opening field ∷ body d field)) (encoded (closing field at)) []
 
+in_parts : (a b c e : List ℕ) → (a ++ (b ++ c)) ++ (e ++ []) ≡ ((a ++ b) ++ c) ++ e
+in_parts a b c e = simp (append_assoc, append-nil)
+
+regrouped : (a b c e : List ℕ) → a ++ ((b ++ (c ++ [])) ++ e) ≡ (a ++ b) ++ (c ++ ([] ++ e))
+regrouped a b c e = simp (append_assoc, append-nil)
+
 -- the program of one section, or of two
 
 module _ (d : Desc) (program : RiscProgram) where
@@ -159,3 +166,57 @@ sound_by fields.Both d program good words = two_sections d program (good Top ref
 
 pub compiled_sound : (d : Desc) → IsRight d → IsSound (compiled d)
 compiled_sound d right = sound_by d.fields d (compiled d) (good_body d right (compiled d) refl) refl
+
+-- each section stands where it is said to, with its closing at its end
+
+stands_by : (which : Fields) (d : Desc) (from last : ℕ) (field : Parity) → describes which field ≡ true → Stands (words_of (sections_by which d from last)) from (words_of (section d field (next_by which d from last field))) (begin_by which d from field)
+stands_by fields.Top d from last Top is =
+    record { before = []; after = []; split = sym (append-nil _); at = omega arith }
+stands_by fields.Bottom d from last Bottom is =
+    record { before = []; after = []; split = sym (append-nil _); at = omega arith }
+stands_by fields.Both d from last Top is =
+    let mid = from + 4 * section_length d Top in
+    record {
+      before = [];
+      after = words_of (section d Bottom last);
+      split = flat_map-append encoded (section d Top mid) (section d Bottom last);
+      at = omega arith;
+    }
+stands_by fields.Both d from last Bottom is =
+    let mid = from + 4 * section_length d Top in
+    let long = section_long d Top mid in
+    record {
+      before = words_of (section d Top mid);
+      after = [];
+      split = flat_map-append encoded (section d Top mid) (section d Bottom last) ∙ ap (λ (words : List ℕ). words_of (section d Top mid) ++ words) (sym (append-nil (words_of (section d Bottom last))));
+      at = omega arith;
+    }
+stands_by fields.Top d from last Bottom is = cc
+stands_by fields.Bottom d from last Top is = cc
+
+pub section_stands : (d : Desc) (from last : ℕ) (field : Parity) → describes d.fields field ≡ true → Stands (words_of (sections d from last)) from (words_of (section d field (section_next d from last field))) (section_begin d from field)
+section_stands d from last field is = stands_by d.fields d from last field is
+
+pub closing_stands : (d : Desc) (from last : ℕ) (field : Parity) → describes d.fields field ≡ true → Stands (words_of (sections d from last)) from (encoded (closing field (section_next d from last field))) (closing_begin d from field)
+closing_stands d from last field is =
+    let target = section_next d from last field in
+    let whole = section_stands d from last field is in
+    let start = words_of (opening field ∷ body d field) in
+    let parts : words_of (section d field target) ≡ start ++ (encoded (closing field target) ++ []) = words_split (opening field ∷ body d field) (closing field target) [] in
+    let long = section_long d field target in
+    let size : length (words_of (section d field target)) ≡ length start + 2 = ap length parts ∙ split_length start (encoded (closing field target)) [] in
+    let both : length (whole.before ++ start) ≡ length whole.before + length start = length-append whole.before start in
+    let at = whole.at in
+    record {
+      before = whole.before ++ start;
+      after = [] ++ whole.after;
+      split = whole.split ∙ ap (λ (words : List ℕ). whole.before ++ (words ++ whole.after)) parts ∙ regrouped whole.before start (encoded (closing field target)) whole.after;
+      at = omega arith;
+    }
+
+-- the words of a section are those of its parts
+pub section_parts : (d : Desc) (field : Parity) (target : ℕ) → words_of (section d field target) ≡ encoded (opening field) ++ vbi_words d field ++ field_words d field ++ encoded (closing field target)
+section_parts d field target =
+    words_split (opening field ∷ body d field) (closing field target) []
+    ∙ ap (λ (words : List ℕ). (encoded (opening field) ++ words) ++ (encoded (closing field target) ++ [])) (flat_map-append encoded (vbi_instrs d field) (field_instrs d field))
+    ∙ in_parts (encoded (opening field)) (vbi_words d field) (field_words d field) (encoded (closing field target))

@@ -14,7 +14,7 @@ use Rattle.picture_model.specs.declared.PieceKind.TheVariants.{Write, WriteLuma,
 use Rattle.picture_model.specs.declared.Piece.{Piece}
 use Rattle.page_table.specs.Scattered.{address_at, room_at}
 use Rattle.picture_model.specs.Described.{both, layout_of, memory_of}
-use Rattle.picture_model.specs.Places.{row_offset, vbi_line_offset}
+use Rattle.picture_model.specs.Places.{HasPlane, place, row_offset, vbi_line_offset, vbi_place}
 
 -- a line before it is cut
 
@@ -272,3 +272,16 @@ skipped_plan d = plan (memory_of d) (skipped_strip d)
 
 abbrev pub vbi_plan : Desc → Parity → ℕ → List Piece
 vbi_plan d field line = plan (memory_of d) (vbi_strip d field line)
+
+-- a cut of a row: its grains are clipped, or not, as it says, and where it isn't clipped, what it writes on
+-- a plane stands at the places of its bytes
+pub record IsRowCut (d : Desc) (row : ℕ) (k : Cut) : Type 0 where
+  pub answer : (grain : ℕ) → k.at ≤ grain → grain < k.at + k.n → grain_clipped d row grain ≡ k.clipped
+  pub places : (plane j address : ℕ) → HasPlane d plane → k.clipped ≡ false → j < k.n * grain_bytes (layout_of d) plane →
+      place d plane row (k.at * grain_bytes (layout_of d) plane + j) ≡ Some address →
+      address ≡ on_track (memory_of d) k (row_track d plane row) + j
+
+-- a cut of a VBI line: it writes its bytes at their places
+pub record IsVbiCut (d : Desc) (field : Parity) (line : ℕ) (k : Cut) : Type 0 where
+  pub plain : k.clipped ≡ false
+  pub places : (j : ℕ) → j < k.n → vbi_place d field line (k.at + j) ≡ on_track (memory_of d) k (vbi_strip d field line).one + j

@@ -1,5 +1,5 @@
 -- The program of a description.
-use Rattle.std.specs.Prelude.{ℕ, ◌+◌, ◌*◌, Bool, true, false, List, [], ◌∷◌, ◌++◌, map, length, replicate, slice_index, zero, suc}
+use Rattle.std.specs.Prelude.{ℕ, ◌+◌, ◌-◌, ◌*◌, ◌≡◌, Bool, true, false, List, [], ◌∷◌, ◌++◌, map, length, replicate, slice_index, zero, suc}
 use Rattle.std.specs.List.{flat_map, range_with_len}
 use Rattle.risc_word.specs.declared.Code.{Code}
 use Rattle.risc_word.specs.declared.Code.TheVariants.{Vre, Vro, Fm1, Fm3}
@@ -123,8 +123,19 @@ begin_by _ d from field = from
 abbrev pub section_begin : Desc → ℕ → Parity → ℕ
 section_begin d from field = begin_by d.fields d from field
 
--- the sections of the described fields, which stand from an address on: the top one leads to the bottom
--- one, and the last one to an address that is given
+-- where a section's closing stands: it is the section's last instruction
+abbrev pub closing_begin : Desc → ℕ → Parity → ℕ
+closing_begin d from field = section_begin d from field + 4 * (section_length d field - 2)
+
+-- where it leads: from the top section to the bottom one, and from the last to an address that is given
+abbrev pub next_by : Fields → Desc → ℕ → ℕ → Parity → ℕ
+next_by fields.Both d from last Top = from + 4 * section_length d Top
+next_by _ d from last field = last
+
+abbrev pub section_next : Desc → ℕ → ℕ → Parity → ℕ
+section_next d from last field = next_by d.fields d from last field
+
+-- the sections of the described fields, which stand from an address on
 abbrev pub sections_by : Fields → Desc → ℕ → ℕ → List Instr
 sections_by fields.Top d from last = section d Top last
 sections_by fields.Bottom d from last = section d Bottom last
@@ -141,3 +152,10 @@ compiled d =
       words = words_of (sections d d.base d.base);
       grants = in_order (memory_of d);
     }
+
+-- a part of some words stands at an address, where the words begin at another
+pub record Stands (words : List ℕ) (from : ℕ) (part : List ℕ) (address : ℕ) : Type 0 where
+  pub before : List ℕ
+  pub after : List ℕ
+  pub split : words ≡ before ++ (part ++ after)
+  pub at : address ≡ from + 4 * length before

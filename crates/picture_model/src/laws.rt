@@ -1,18 +1,20 @@
 //! Laws of descriptions whose geometry has no fault. The functions do nothing; their contracts are the
 //! laws.
 
-ghost use Rattle.std.specs.Prelude.{◌≡◌, ◌↔◌, ℕ, ◌+◌, ◌*◌, ◌<◌, ◌≤◌, true, Some, List, length};
+ghost use Rattle.std.specs.Prelude.{◌≡◌, ◌↔◌, ℕ, ◌+◌, ◌*◌, ◌<◌, ◌≤◌, ◌++◌, true, Some, List, length};
+ghost use Rattle.std.specs.List.{All};
 ghost use Rattle.capture_desc.specs.declared.desc.Desc.{Desc};
 ghost use Rattle.clip_spans.specs.Runs.{AreRunsFrom};
 ghost use Rattle.machine_model.specs.Paths.{IsProgram, IsSound};
 ghost use Rattle.page_table.specs.Grants.{granted};
 ghost use Rattle.pixel_layout.specs.declared.Parity.{Parity};
+ghost use Rattle.risc_word.specs.Words.{encoded};
 ghost use Rattle.picture_model.specs.declared.Piece.{Piece};
 ghost use Rattle.picture_model.specs.Described.{IsDescription, describes, layout_of, memory_of, plane_row_bytes};
 ghost use Rattle.picture_model.specs.Geometry.{IsFrame, IsValid};
 ghost use Rattle.picture_model.specs.Places.{Byte, HasPlane, IsByte, byte_clipped, byte_place};
-ghost use Rattle.picture_model.specs.Plans.{CoverSafely, IsPlan, cuts_of, grain_bytes, grain_clipped, grains_of, row_plan, row_strip, skipped_plan, skipped_strip, vbi_plan, vbi_strip};
-ghost use Rattle.picture_model.specs.Programs.{compiled};
+ghost use Rattle.picture_model.specs.Plans.{CoverSafely, IsPlan, IsRowCut, IsVbiCut, cuts_of, grain_bytes, grain_clipped, grains_of, row_plan, row_strip, skipped_plan, skipped_strip, vbi_plan, vbi_strip};
+ghost use Rattle.picture_model.specs.Programs.{Stands, closing, closing_begin, compiled, field_words, opening, section, section_begin, section_next, sections, vbi_words, words_of};
 
 /// Each row, each skipped line and each VBI line has exactly one plan, the one that is computed.
 pub fn every_line_has_one_plan()
@@ -49,6 +51,15 @@ pub fn cuts_cover_their_lines()
         CoverSafely (memory_of d) (vbi_strip d field line) (cuts_of (memory_of d) (vbi_strip d field line) (vbi_strip d field line).spans) }
 {}
 
+/// The cuts of a row tell of its grains whether they are clipped, and what an unclipped cut writes stands
+/// at the places of its bytes. So do the cuts of a VBI line, of which none is clipped.
+pub fn cuts_write_the_picture()
+    ensures row { (d : Desc) (row : ℕ) → IsDescription d → IsFrame d → row < d.height →
+        All (IsRowCut d row) (cuts_of (memory_of d) (row_strip d row) (row_strip d row).spans) }
+    ensures vbi { (d : Desc) (field : Parity) (line : ℕ) → IsDescription d → IsFrame d → describes d.fields field ≡ true → line < d.vbi_lines →
+        All (IsVbiCut d field line) (cuts_of (memory_of d) (vbi_strip d field line) (vbi_strip d field line).spans) }
+{}
+
 /// Each byte of a picture and of its VBI lines that is kept lies at an address that the program may
 /// write, and no two of them at the same.
 pub fn places_are_granted_and_differ()
@@ -56,6 +67,18 @@ pub fn places_are_granted_and_differ()
         byte_place d byte ≡ Some address → granted (compiled d).grants address ≡ true }
     ensures differ { (d : Desc) (byte other : Byte) (address : ℕ) → IsDescription d → IsFrame d → IsByte d byte → IsByte d other →
         byte_place d byte ≡ Some address → byte_place d other ≡ Some address → byte ≡ other }
+{}
+
+/// The sections of the described fields, set up from an address on, stand where they are said to begin,
+/// each with its closing at its end. The words of a section are those of its opening, its VBI part, its
+/// picture part and its closing.
+pub fn sections_stand_in_their_program()
+    ensures parts { (d : Desc) (field : Parity) (target : ℕ) →
+        words_of (section d field target) ≡ encoded (opening field) ++ vbi_words d field ++ field_words d field ++ encoded (closing field target) }
+    ensures whole { (d : Desc) (from last : ℕ) (field : Parity) → describes d.fields field ≡ true →
+        Stands (words_of (sections d from last)) from (words_of (section d field (section_next d from last field))) (section_begin d from field) }
+    ensures closing { (d : Desc) (from last : ℕ) (field : Parity) → describes d.fields field ≡ true →
+        Stands (words_of (sections d from last)) from (encoded (closing field (section_next d from last field))) (closing_begin d from field) }
 {}
 
 /// The program of a description is sound: its path has no fault.
