@@ -2,3 +2,4 @@ pub mod WellFormed
 pub mod Keys
 pub mod Values
 pub mod Description
+pub mod Faults

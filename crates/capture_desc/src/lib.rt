@@ -12,4 +12,4 @@ mod values;
 pub use desc::{Desc, Fields};
 pub use fault::{DescError, DescFault, Key};
 pub use lists::{ChunkList, KeyText, Numbers};
-pub use read::read_desc;
+pub use read::{read_desc, what_a_text_describes};

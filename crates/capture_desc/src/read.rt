@@ -1,11 +1,12 @@
 //! Reading a description.
-ghost use Rattle.std.specs.Prelude.{◌≡◌, ◌≤◌, [], Option, length, option_map, string_bytes, is_some, IfOk, IsUtf8};
+ghost use Rattle.std.specs.Prelude.{◌≡◌, ◌≤◌, [], Option, length, option_map, string_bytes, ℕ, List, IfOk, IfErr};
 ghost use Rattle.toml.specs.View.{table_view};
 ghost use Rattle.pixel_layout.specs.Layouts.{format_named};
 ghost use Rattle.capture_desc.specs.Keys.{least, unknown_names};
 ghost use Rattle.capture_desc.specs.Values.{number, otherwise, required, u32_max, word};
 ghost use Rattle.capture_desc.specs.WellFormed.{IsWellFormed, bytes_of_chunks};
-ghost use Rattle.capture_desc.specs.Description.{Answers, chunks, clips, described, fields_named, is_there, pages, plane_numbers, values};
+ghost use Rattle.capture_desc.specs.Description.{Answers, chunks, clips, described, document_of, fields_named, is_there, pages, plane_numbers, values};
+ghost use Rattle.capture_desc.specs.Faults.{Explains, Shows};
 
 use crate::desc::{Desc, Fields};
 use crate::fault::{DescError, DescFault, Key, is_known};
@@ -173,6 +174,28 @@ fn unknown_key(table: &Table) -> Option<&String>
     None
 }
 
+// What a text describes.
+fn read_text(alloc: Global, text: &[u8]) -> Result<Desc, DescError>
+    ensures { Answers (described text.now) result }
+{
+    let table = match toml::table_from_slice(alloc, text) {
+        Ok(table) => table,
+        Err(error) => {
+            if error.is_memory() {
+                return Err(DescError::Memory);
+            }
+            return Err(DescError::Bad(DescFault::NotToml));
+        }
+    };
+    match unknown_key(&table) {
+        Some(key) => {
+            let key = KeyText::from_list(alloc, key.as_bytes())?;
+            Err(DescError::Bad(DescFault::Unknown(key)))
+        }
+        None => values(alloc, &table),
+    }
+}
+
 /// Reads a description: a TOML table with these keys and no other (this project's own form). A number
 /// is a whole number from 0 to 4,294,967,295 unless other bounds stand here.
 ///
@@ -196,21 +219,16 @@ fn unknown_key(table: &Table) -> Option<&String>
 /// for each of them Missing before WrongKind before OutOfRange. Memory may come in place of any answer.
 pub fn read_desc(alloc: Global, text: &[u8]) -> Result<Desc, DescError>
     ensures answer { Answers (described text.now) result }
+    ensures well_formed { IfOk result IsWellFormed }
+    ensures shown { IfErr result (Explains (document_of text.now)) }
 {
-    let table = match toml::table_from_slice(alloc, text) {
-        Ok(table) => table,
-        Err(error) => {
-            if error.is_memory() {
-                return Err(DescError::Memory);
-            }
-            return Err(DescError::Bad(DescFault::NotToml));
-        }
-    };
-    match unknown_key(&table) {
-        Some(key) => {
-            let key = KeyText::from_list(alloc, key.as_bytes())?;
-            Err(DescError::Bad(DescFault::Unknown(key)))
-        }
-        None => values(alloc, &table),
-    }
+    read_text(alloc, text)
 }
+
+/// What is read is well formed, and a fault shows in the document: NotToml says that there is none,
+/// Unknown names its least key that no description has, Missing an absent key, and the others one that
+/// is there. The function does nothing; its contract is the law.
+pub fn what_a_text_describes()
+    ensures well_formed { (text : List ℕ) (desc : Desc) → described text ≡ Ok desc → IsWellFormed desc }
+    ensures shown { (text : List ℕ) (fault : DescFault) → described text ≡ Err fault → Shows (document_of text) fault }
+{}
