@@ -80,7 +80,7 @@ pub(crate) fn is_known(name: &str) -> bool
 }
 
 /// Why a text is no description (this project's own rules).
-#[derive(Drop)]
+#[derive(Debug, Drop)]
 pub enum DescFault {
     /// No TOML document.
     NotToml,
@@ -96,7 +96,7 @@ pub enum DescFault {
 }
 
 /// Why no description was read.
-#[derive(Drop)]
+#[derive(Debug, Drop)]
 pub enum DescError {
     /// The text is none.
     Bad(DescFault),

@@ -19,8 +19,8 @@ impl Model for Numbers {
 }
 
 impl Numbers {
-    /// Keeps a list.
-    pub(crate) fn from_vec(numbers: Vec<u32>) -> Numbers
+    /// Keeps a list, without a copy.
+    pub fn from_vec(numbers: Vec<u32>) -> Numbers
         ensures { result ≡ numbers.items }
     {
         Numbers { numbers }
@@ -58,8 +58,8 @@ impl Model for ChunkList {
 }
 
 impl ChunkList {
-    /// Keeps a list.
-    pub(crate) fn from_vec(pairs: Vec<(u32, u32)>) -> ChunkList
+    /// Keeps a list, without a copy.
+    pub fn from_vec(pairs: Vec<(u32, u32)>) -> ChunkList
         ensures { result ≡ pairs.items }
     {
         ChunkList { pairs }
@@ -83,7 +83,7 @@ impl ChunkList {
 }
 
 /// The bytes of a key that a description may not have.
-#[derive(Drop)]
+#[derive(Debug, Drop)]
 pub struct KeyText {
     bytes: Vec<u8>,
 }

@@ -26,16 +26,13 @@ const MOST_BYTES: u64 = 16_777_216;
 fn format(table: &Table) -> Result<Format, DescError>
     ensures { Answers (required Key.Format (word format_named Key.Format (table_view table.now))) result }
 {
-    let format = word::<Format>(table, Key::Format)?;
-    let format = format.ok_or(DescFault::Missing(Key::Format))?;
-    Ok(format)
+    Ok(word::<Format>(table, Key::Format)?.ok_or(DescFault::Missing(Key::Format))?)
 }
 
 fn fields(table: &Table) -> Result<Fields, DescError>
     ensures { Answers (otherwise Fields.Both (word fields_named Key.Fields (table_view table.now))) result }
 {
-    let fields = word::<Fields>(table, Key::Fields)?;
-    Ok(fields.unwrap_or(Fields::Both))
+    Ok(word::<Fields>(table, Key::Fields)?.unwrap_or(Fields::Both))
 }
 
 // A number for each plane.

@@ -46,9 +46,7 @@ pub(crate) fn number(table: &Table, key: Key, most: u32) -> Result<Option<u32>, 
 pub(crate) fn required_number(table: &Table, key: Key) -> Result<u32, DescError>
     ensures { Answers (required key (number u32_max key (table_view table.now))) result }
 {
-    let number = number(table, key, u32::MAX)?;
-    let number = number.ok_or(DescFault::Missing(key))?;
-    Ok(number)
+    Ok(number(table, key, u32::MAX)?.ok_or(DescFault::Missing(key))?)
 }
 
 /// The number at a key, from 0 to `most`, or `default` where the key is absent.
@@ -57,8 +55,7 @@ pub(crate) fn number_or(table: &Table, key: Key, default: u32, most: u32) -> Res
     ensures value { Answers (otherwise default (number most key (table_view table.now))) result }
     ensures within { IfOk result (λ n. n ≤ most) }
 {
-    let number = number(table, key, most)?;
-    Ok(number.unwrap_or(default))
+    Ok(number(table, key, most)?.unwrap_or(default))
 }
 
 /// What is written by its name.
