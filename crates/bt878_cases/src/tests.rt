@@ -1,8 +1,9 @@
 use crate::cases::{JUDGED, LISTED, ONE_LINE, ONE_LINE_STREAM, PLAYED, Parts};
 use crate::desks::{are_parts, bare_desk, empty_desk, joined, program_desk, run_desk};
 use bt878_top::bt878;
-use capture_desk::MemDesk;
+use capture_desk::{MemDesk, OsDesk};
 use std::alloc::{AllocError, Global};
+use std::fs;
 use std::process::Abort;
 use std::test::Fail;
 
@@ -157,5 +158,17 @@ fn words_are_at_fault(rt: HostRuntime) -> Result<(), Fail> {
     let said =
         b"usage: no command\nusage: unknown command\nusage: wrong number of words\nusage: same name\n";
     assert_eq!(rt; desk.said(), said.as_slice());
+    Ok(())
+}
+
+#[test]
+fn real_files_are_read_and_written(rt: HostRuntime) -> Result<(), Fail> {
+    fs::write(&rt, "one_line.brp", ONE_LINE)?;
+    fs::write(&rt, "one_line.bfs", ONE_LINE_STREAM)?;
+    let mut desk = OsDesk::new(&rt);
+    let words = ["run", "one_line.brp", "one_line.bfs", "one_line.bmi"];
+    assert_eq!(rt; bt878(rt.alloc(), &words, &mut desk).status(), 0);
+    let image = fs::read(&rt, "one_line.bmi")?;
+    assert!(rt; are_parts(&image, PLAYED[0].image));
     Ok(())
 }
