@@ -1,0 +1,154 @@
+-- The first of some faults, and the faults of pages and chunks.
+use Rattle.std.proofs.Common.{◌≡◌, ℕ, ◌^◌, ◌≤◌, ◌&&◌, ◌||◌, List, [], ◌∷◌, ◌++◌, take, drop, length, Option, Some, None, Result, Ok, Err, IfOk, refl, ap, ◌∙◌, arith}
+use Rattle.std.specs.Prelude.{not, nat_lt, IfSome}
+use Rattle.std.proofs.lemmas.Bool.{cond-false, le-ltb, or_from}
+use Rattle.page_table.specs.declared.PageFault.TheVariants.{TooMany, Unaligned, Twice}
+use Rattle.page_table.specs.Grants.{Chunk, total}
+use Rattle.page_table.specs.Scattered.{IsScatterList, ScatterList, scatter_list}
+use Rattle.page_table.specs.Taken.{first_shared, listed, pair_chunk, unless_shared, unless_unaligned}
+use Rattle.page_table.proofs.Placing.{total-cons}
+use Rattle.capture_desc.specs.declared.desc.Desc.{Desc}
+use Rattle.capture_desc.specs.WellFormed.{IsWellFormed, bytes_of_chunks}
+use Rattle.picture_model.specs.declared.BuildFault.{BuildFault}
+use Rattle.picture_model.specs.declared.BuildFault.TheVariants.{Overlap, VbiRange}
+use Rattle.picture_model.specs.Described.{highest_end, memory_from, memory_of, taken}
+use Rattle.picture_model.specs.Geometry.{Check, first_after, first_missing, first_unaligned, frame_fault, frame_faults, is_between, some_overlap, when}
+use Rattle.planar_plan.specs.declared.judge.BuildError.{BuildError}
+use Rattle.planar_plan.specs.declared.judge.BuildError.TheVariants.{Bad, Memory}
+use Rattle.planar_plan.specs.Frames.{HasScatter, IsFramed, Judges, taken_memory}
+
+-- the first of some faults
+
+pub first_after-append : (found : Option BuildFault) (checks more : List Check) (d : Desc) → first_after found (checks ++ more) d ≡ first_after (first_after found checks d) more d
+first_after-append (Some fault) checks more d = refl
+first_after-append None [] more d = refl
+first_after-append None (check ∷ rest) more d = first_after-append (check d) rest more d
+
+module _ (checks more : List Check) (d : Desc) where
+  -- a fault among the front ones is the first, and where there is none the others tell
+  pub some_front : (fault : BuildFault) → first_after None checks d ≡ Some fault → first_after None (checks ++ more) d ≡ Some fault
+  some_front fault is = first_after-append None checks more d ∙ ap (λ (o : Option BuildFault). first_after o more d) is
+
+  pub none_front : first_after None checks d ≡ None → first_after None (checks ++ more) d ≡ first_after None more d
+  none_front is = first_after-append None checks more d ∙ ap (λ (o : Option BuildFault). first_after o more d) is
+
+last_alone : (found : Option BuildFault) (d : Desc) → first_after found [] d ≡ found
+last_alone (Some fault) d = refl
+last_alone None d = refl
+
+pub one_alone : (check : Check) (d : Desc) → first_after None (check ∷ []) d ≡ check d
+one_alone check d = last_alone (check d) d
+
+-- the faults of a frame, as they are judged: in groups
+
+abbrev pub size_checks : List Check
+size_checks = take 7 frame_faults
+
+abbrev pub overlap_check : List Check
+overlap_check = take 1 (drop 7 frame_faults)
+
+abbrev pub vbi_fault : Check
+vbi_fault d =
+    when (nat_lt 32 d.vbi_lines || (nat_lt 0 d.vbi_lines && not (is_between 5 4092 d.vbi_bytes))) VbiRange
+
+abbrev vbi_check : List Check
+vbi_check = vbi_fault ∷ []
+
+abbrev pub page_checks : List Check
+page_checks = take 2 (drop 9 frame_faults)
+
+module _ (d : Desc) where
+  pub at_sizes : (fault : BuildFault) → first_after None size_checks d ≡ Some fault → first_after None (take 9 frame_faults) d ≡ Some fault
+  at_sizes = some_front size_checks (overlap_check ++ vbi_check) d
+
+  pub at_overlap : (fault : BuildFault) → first_after None size_checks d ≡ None → when (some_overlap (taken d)) Overlap ≡ Some fault → first_after None (take 9 frame_faults) d ≡ Some fault
+  at_overlap fault sizes is =
+      none_front size_checks (overlap_check ++ vbi_check) d sizes
+      ∙ some_front overlap_check vbi_check d fault (one_alone (λ e. when (some_overlap (taken e)) Overlap) d ∙ is)
+
+  pub at_vbi : (found : Option BuildFault) → first_after None size_checks d ≡ None → when (some_overlap (taken d)) Overlap ≡ None → vbi_fault d ≡ found → first_after None (take 9 frame_faults) d ≡ found
+  at_vbi found sizes overlap is =
+      none_front size_checks (overlap_check ++ vbi_check) d sizes
+      ∙ none_front overlap_check vbi_check d (one_alone (λ e. when (some_overlap (taken e)) Overlap) d ∙ overlap)
+      ∙ one_alone vbi_fault d ∙ is
+
+  pub at_picture : (fault : BuildFault) → first_after None (take 9 frame_faults) d ≡ Some fault → frame_fault d ≡ Some fault
+  at_picture = some_front (take 9 frame_faults) (drop 9 frame_faults) d
+
+  pub at_pages : (fault : BuildFault) → first_after None (take 9 frame_faults) d ≡ None → first_after None page_checks d ≡ Some fault → frame_fault d ≡ Some fault
+  at_pages fault picture is =
+      none_front (take 9 frame_faults) (drop 9 frame_faults) d picture ∙ some_front page_checks (drop 11 frame_faults) d fault is
+
+  pub at_memory : first_after None (take 9 frame_faults) d ≡ None → first_after None page_checks d ≡ None → frame_fault d ≡ first_missing d.chunks d.pages (highest_end (taken d))
+  at_memory picture pages =
+      none_front (take 9 frame_faults) (drop 9 frame_faults) d picture
+      ∙ none_front page_checks (drop 11 frame_faults) d pages
+      ∙ one_alone (λ e. first_missing e.chunks e.pages (highest_end (taken e))) d
+
+-- pages and chunks
+
+bytes-total : (pairs : List (ℕ × ℕ)) → total (listed pairs) ≡ bytes_of_chunks pairs
+bytes-total [] = refl
+bytes-total (pair ∷ rest) = let whole = total-cons (pair_chunk pair) (listed rest) in let more = bytes-total rest in omega arith
+
+few_pages : (pages : List ℕ) → length pages ≤ 4096 → taken_memory None pages ≡ unless_unaligned (first_unaligned None pages) (memory_from None pages)
+few_pages pages few = cond-false (nat_lt 4096 (length pages)) _ _ (le-ltb 4096 (length pages) few)
+
+few_chunks : (pairs : List (ℕ × ℕ)) (pages : List ℕ) → length pairs ≤ 4096 → bytes_of_chunks pairs ≤ 16777216 → taken_memory (Some pairs) pages ≡ unless_unaligned (first_unaligned (Some pairs) pages) (memory_from (Some pairs) pages)
+few_chunks pairs pages few small =
+    let bytes = bytes-total pairs in
+    cond-false (nat_lt 4096 (length pairs) || nat_lt (2 ^ 24) (total (listed pairs))) _ _
+    (or_from _ _ (le-ltb 4096 (length pairs) few) (le-ltb (2 ^ 24) (total (listed pairs)) (omega arith)))
+
+few_in : (chunks : Option (List (ℕ × ℕ))) (pages : List ℕ) → length pages ≤ 4096 → IfSome chunks (λ cs. length cs ≤ 4096) → IfSome chunks (λ cs. bytes_of_chunks cs ≤ 16777216) → taken_memory chunks pages ≡ unless_unaligned (first_unaligned chunks pages) (memory_from chunks pages)
+few_in None pages few chunks bytes = few_pages pages few
+few_in (Some pairs) pages few chunks bytes = few_chunks pairs pages chunks bytes
+
+-- the pages or chunks of a description are not too many
+pub few_of : (d : Desc) → IsWellFormed d → taken_memory d.chunks d.pages ≡ unless_unaligned (first_unaligned d.chunks d.pages) (memory_of d)
+few_of d formed = few_in d.chunks d.pages formed.pages formed.chunks formed.bytes
+
+-- what each answer means
+module _ (chunks : List Chunk) where
+  shared_ok : (place : Option ℕ) (grants : List Chunk) → unless_shared place chunks ≡ Ok grants → place ≡ None
+  shared_ok None grants is = refl
+  shared_ok (Some place) grants is = cc
+
+  pub taken_ok : (place : Option ℕ) (grants : List Chunk) → unless_unaligned place chunks ≡ Ok grants → (place ≡ None) × (first_shared [] chunks ≡ None)
+  taken_ok None grants is = (refl, shared_ok (first_shared [] chunks) grants is)
+  taken_ok (Some place) grants is = cc
+
+  shared_twice : (place : Option ℕ) (p : ℕ) → unless_shared place chunks ≡ Err (Twice p) → place ≡ Some p
+  shared_twice None p is = cc
+  shared_twice (Some place) p is = cc
+
+  pub taken_twice : (place : Option ℕ) (p : ℕ) → unless_unaligned place chunks ≡ Err (Twice p) → (place ≡ None) × (first_shared [] chunks ≡ Some p)
+  taken_twice None p is = (refl, shared_twice (first_shared [] chunks) p is)
+  taken_twice (Some place) p is = cc
+
+  shared_unaligned : (place : Option ℕ) (p : ℕ) → unless_shared place chunks ≡ Err (Unaligned p) → ⊥
+  shared_unaligned None p is = cc
+  shared_unaligned (Some place) p is = cc
+
+  pub taken_unaligned : (place : Option ℕ) (p : ℕ) → unless_unaligned place chunks ≡ Err (Unaligned p) → place ≡ Some p
+  taken_unaligned None p is = absurd (shared_unaligned (first_shared [] chunks) p is)
+  taken_unaligned (Some place) p is = cc
+
+  shared_many : (place : Option ℕ) → unless_shared place chunks ≡ Err TooMany → ⊥
+  shared_many None is = cc
+  shared_many (Some place) is = cc
+
+  pub taken_many : (place : Option ℕ) → unless_unaligned place chunks ≡ Err TooMany → ⊥
+  taken_many None is = shared_many (first_shared [] chunks) is
+  taken_many (Some place) is = cc
+
+-- what a call judged, said of another fault that stands for it
+
+pub judges_err : (A B : Type 0) (found other : Option BuildFault) (error : BuildError) → ((fault : BuildFault) → found ≡ Some fault → other ≡ Some fault) → Judges {T = A} found (Err error) → Judges {T = B} other (Err error)
+judges_err A B found other (Bad fault) stands judged = stands fault judged
+judges_err A B found other Memory stands judged = judged
+
+pub has_scatter : (d : Desc) (found : Option BuildFault) (result : Result ScatterList BuildError) → (found ≡ None → IsFramed d) → Judges found result → IfOk result (λ s. s ≡ scatter_list (memory_of d) (highest_end (taken d))) → IfOk result IsScatterList → IfOk result (HasScatter d)
+has_scatter d found (Ok s) framed judged scatter list =
+    record { framed = framed judged; list = list; scatter = scatter }
+has_scatter d found (Err error) framed judged scatter list = tt

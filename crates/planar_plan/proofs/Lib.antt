@@ -1,0 +1,5 @@
+pub mod Bounds
+pub mod Faults
+pub mod Reaching
+pub mod Cuts
+pub mod Held

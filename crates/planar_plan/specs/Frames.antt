@@ -1,0 +1,36 @@
+-- What a frame keeps, and what the making of one answers.
+use Rattle.std.specs.Prelude.{◌≡◌, ℕ, ◌^◌, ◌<◌, ◌≤◌, List, Option, Some, None, Result, Ok, Err, ⊤}
+use Rattle.std.specs.List.{All}
+use Rattle.page_table.specs.Scattered.{IsScatterList, ScatterList, scatter_list}
+use Rattle.page_table.specs.Taken.{Taking, taken_chunks, taken_pages}
+use Rattle.capture_desc.specs.declared.desc.Desc.{Desc}
+use Rattle.capture_desc.specs.WellFormed.{IsWellFormed}
+use Rattle.picture_model.specs.declared.BuildFault.{BuildFault}
+use Rattle.picture_model.specs.Described.{highest_end, memory_of, taken}
+use Rattle.picture_model.specs.Geometry.{IsFrame}
+use Rattle.planar_plan.specs.declared.judge.BuildError.{BuildError}
+use Rattle.planar_plan.specs.declared.judge.BuildError.TheVariants.{Bad, Memory}
+
+-- a call refuses exactly with the fault that was found; only want of memory is free
+abbrev pub Judges : {T : Type 0} → Option BuildFault → Result T BuildError → Type 0
+Judges found (Ok _) = found ≡ None
+Judges found (Err (Bad fault)) = found ≡ Some fault
+Judges found (Err Memory) = ⊤
+
+-- the pages or chunks as grants, or their fault
+abbrev pub taken_memory : Option (List (ℕ × ℕ)) → List ℕ → Taking
+taken_memory None pages = taken_pages pages
+taken_memory (Some pairs) pages = taken_chunks pairs
+
+-- the description of a frame: what every description meets, and that none of the faults of a frame holds
+pub record IsFramed (d : Desc) : Type 0 where
+  pub formed : IsWellFormed d
+  pub pages : All (λ page. page < 2 ^ 32) d.pages
+  pub skipped : d.skip_lines ≤ 255
+  pub geometry : IsFrame d
+
+-- a frame's scatter list has the bytes that its picture takes
+pub record HasScatter (d : Desc) (s : ScatterList) : Type 0 where
+  pub framed : IsFramed d
+  pub list : IsScatterList s
+  pub scatter : s ≡ scatter_list (memory_of d) (highest_end (taken d))

@@ -1,0 +1,63 @@
+-- A line as the code keeps it, and that it can be cut.
+use Rattle.std.specs.Prelude.{◌≡◌, ℕ, ◌+◌, ◌*◌, ◌^◌, ◌<◌, ◌≤◌, false, List, [], ◌∷◌, Option, Some, None, IsTrue, min}
+use Rattle.risc_word.specs.Words.{counts_fit}
+use Rattle.page_table.specs.Scattered.{ScatterList, room_at}
+use Rattle.clip_spans.specs.declared.Span.{Span}
+use Rattle.picture_model.specs.declared.Piece.{Piece}
+use Rattle.picture_model.specs.Plans.{Strip, Track, track}
+use Rattle.planar_plan.specs.declared.cut.Line.{Line}
+use Rattle.planar_plan.specs.declared.cut.PlaneTrack.{PlaneTrack}
+use Rattle.planar_plan.specs.declared.cut.Reach.{Reach}
+
+abbrev pub track_of : PlaneTrack → Track
+track_of t = track t.size t.start
+
+-- a line without its spans, which are cut one by one, and without its form
+abbrev pub bare : Strip → Strip
+bare strip = record strip { spans = []; planar = false }
+
+abbrev pub strip_of : Line → Strip
+strip_of line =
+    record {
+      grains = line.grains;
+      spans = [];
+      kind = line.kind;
+      planar = false;
+      one = track_of line.one;
+      two = track_of line.two;
+      three = track_of line.three;
+    }
+
+-- the grains of a track have some bytes and lie among the bytes used, each in one chunk, where they are
+-- written
+abbrev pub AreHeld : ScatterList → ℕ → ℕ → Option ℕ → Type 0
+AreHeld s grains size None = Unit {0}
+AreHeld s grains size (Some start) =
+    (1 ≤ size) × (start + grains * size ≤ s.len)
+    × ((at : ℕ) → at < grains → size ≤ room_at s.chunks (start + at * size))
+
+pub record IsHeld (s : ScatterList) (grains : ℕ) (t : Track) : Type 0 where
+  pub small : t.size ≤ 4
+  pub held : AreHeld s grains t.size t.start
+
+-- a line that can be cut
+pub record CanBeCut (s : ScatterList) (strip : Strip) : Type 0 where
+  pub bytes : s.len ≤ 2 ^ 32
+  pub one : IsHeld s strip.grains strip.one
+  pub two : IsHeld s strip.grains strip.two
+  pub three : IsHeld s strip.grains strip.three
+
+-- spans of a line of so many grains
+abbrev pub AreWithin : ℕ → List Span → Type 0
+AreWithin grains [] = Unit {0}
+AreWithin grains (s ∷ rest) = (s.from ≤ s.to) × (s.to ≤ grains) × AreWithin grains rest
+
+-- a piece reaches to the end of its span or as far as it may, from its address on
+pub record Reaches (rest size far from : ℕ) (r : Reach) : Type 0 where
+  pub address : r.address ≡ from
+  pub grains : r.grains ≡ min rest far
+  pub few : r.grains * size ≤ 4092
+
+-- the bytes of a piece on each plane are as few as an instruction can count
+abbrev pub CountsFit : Piece → Type 0
+CountsFit piece = IsTrue (counts_fit piece.counts)

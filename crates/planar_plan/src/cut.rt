@@ -1,0 +1,265 @@
+//! How a line is cut into pieces.
+
+ghost use Rattle.std.specs.Prelude.{◌≡◌, ◌+◌, ◌*◌, ◌^◌, ◌<◌, ◌≤◌, ◌∷◌, ◌++◌, [], map, min, IfOk};
+ghost use Rattle.std.specs.List.{All};
+ghost use Rattle.clip_spans.specs.Runs.{span};
+ghost use Rattle.pixel_layout.specs.Layouts.{layout};
+ghost use Rattle.page_table.specs.Scattered.{address_at, room_at};
+ghost use Rattle.picture_model.specs.Plans.{address_of, cut, cuts_of, grains_of, in_grains, longest, most, most_of, piece_of, pieces_of, span_cuts};
+ghost use Rattle.planar_plan.specs.Lines.{AreHeld, AreWithin, CanBeCut, CountsFit, IsHeld, Reaches, strip_of, track_of};
+
+use clip_spans::Span;
+use page_table::Scatter;
+use picture_model::{Piece, PieceKind};
+use pixel_layout::Format;
+use risc_word::Ends;
+use std::alloc::{AllocError, Global};
+use std::marker::Model;
+
+// The most bytes of a piece on a plane.
+const MOST_BYTES: u32 = 4092;
+
+/// The pieces of a line, in order. Contracts see the list.
+#[derive(Drop)]
+pub struct Pieces {
+    pieces: Vec<Piece>,
+}
+
+impl Model for Pieces {
+    ghost use Rattle.std.specs.Prelude.{List};
+    ghost use Rattle.picture_model.specs.declared.Piece.{Piece};
+
+    ghost Value = { List Piece };
+
+    ghost view = { λ p. p.pieces.items };
+}
+
+impl Pieces {
+    // Keeps a list.
+    pub(crate) fn new(pieces: Vec<Piece>) -> Pieces
+        ensures { result ≡ pieces.items }
+    {
+        Pieces { pieces }
+    }
+
+    /// The list.
+    pub fn as_slice(&self) -> &[Piece]
+        ensures { result.now ≡ self.now }
+    {
+        &self.pieces
+    }
+}
+
+// What a line moves on a plane: the bytes of a grain, and the offset of the line's first byte, where it
+// is written. A grain is what no cut divides: a byte of a packed line, a unit of a planar one.
+#[derive(Clone, Copy)]
+pub(crate) struct PlaneTrack {
+    pub(crate) size: u32,
+    pub(crate) start: Option<u64>,
+}
+
+// A line: its grains, what its pieces do where it isn't clipped, and its tracks.
+#[derive(Clone, Copy)]
+pub(crate) struct Line {
+    pub(crate) grains: u32,
+    pub(crate) kind: PieceKind,
+    pub(crate) one: PlaneTrack,
+    pub(crate) two: PlaneTrack,
+    pub(crate) three: PlaneTrack,
+}
+
+// How far a piece may reach on a track: its address there, 0 where it isn't written, and its grains.
+#[derive(Clone, Copy)]
+struct Reach {
+    address: u32,
+    grains: u32,
+}
+
+// A track that isn't written. `rest` grains are left in the span.
+fn unwritten(size: u32, rest: u32) -> Reach
+    ensures { Reaches rest size (most size 4092 rest) 0 result }
+{
+    let most = match size {
+        0 => rest,
+        _ => MOST_BYTES / size,
+    };
+    Reach {
+        address: 0,
+        grains: rest.min(most),
+    }
+}
+
+// A track that is written from an offset on, at grain `at`.
+fn written(scatter: &Scatter, size: u32, start: u64, at: u32, rest: u32) -> Reach
+    requires len { scatter.now.len ≤ 2 ^ 32 }
+    requires some { 1 ≤ rest }
+    requires held { AreHeld scatter.now (at + rest) size (Some start) }
+    ensures { Reaches rest size (most size (min 4092 (room_at scatter.now.chunks (start + at * size))) rest) (address_at scatter.now.chunks (start + at * size)) result }
+{
+    let offset = start + u64::from(at) * u64::from(size);
+    let (address, bytes) = scatter.run(offset, MOST_BYTES);
+    Reach {
+        address,
+        grains: rest.min(bytes / size),
+    }
+}
+
+fn reach_on(scatter: &Scatter, track: PlaneTrack, clipped: bool, at: u32, rest: u32) -> Reach
+    requires len { scatter.now.len ≤ 2 ^ 32 }
+    requires some { 1 ≤ rest }
+    requires held { IsHeld scatter.now (at + rest) (track_of track) }
+    ensures { Reaches rest track.size (most_of scatter.now.chunks clipped at rest (track_of track)) (address_of scatter.now.chunks clipped track.size track.start at) result }
+{
+    if clipped {
+        return unwritten(track.size, rest);
+    }
+    match track.start {
+        Some(start) => written(scatter, track.size, start, at, rest),
+        None => unwritten(track.size, rest),
+    }
+}
+
+// The bytes of some grains, which are no more than a piece may have.
+#[tactic(auto, using(crate::proofs::Bounds::fewer_fit))]
+fn bytes(grains: u32, size: u32, most: u32) -> u16
+    requires fewer { grains ≤ most }
+    requires few { most * size ≤ 4092 }
+    ensures value { result ≡ grains * size }
+    ensures few { result < 4096 }
+{
+    (grains * size) as u16
+}
+
+// The longest piece of a span from grain `at` on, and its grains.
+fn next_piece(scatter: &Scatter, line: &Line, span: Span, at: u32) -> (Piece, u32)
+    requires line { CanBeCut scatter.now (strip_of line.now) }
+    requires before { at < span.to }
+    requires within { span.to ≤ line.now.grains }
+    ensures grains { result.1 ≡ longest scatter.now.chunks (strip_of line.now) span at }
+    ensures piece { result.0 ≡ piece_of scatter.now.chunks (strip_of line.now) (cut at result.1 span.clipped) }
+    ensures counts { CountsFit result.0 }
+    ensures some { 1 ≤ result.1 }
+    ensures inside { at + result.1 ≤ span.to }
+{
+    let rest = span.to - at;
+    let one = reach_on(scatter, line.one, span.clipped, at, rest);
+    let two = reach_on(scatter, line.two, span.clipped, at, rest);
+    let three = reach_on(scatter, line.three, span.clipped, at, rest);
+    let grains = one.grains.min(two.grains).min(three.grains);
+    let piece = Piece {
+        kind: if span.clipped {
+            PieceKind::Skip
+        } else {
+            line.kind
+        },
+        ends: Ends {
+            sol: at == 0,
+            eol: at + grains == line.grains,
+        },
+        counts: [
+            bytes(grains, line.one.size, one.grains),
+            bytes(grains, line.two.size, two.grains),
+            bytes(grains, line.three.size, three.grains),
+        ],
+        addrs: [one.address, two.address, three.address],
+    };
+    (piece, grains)
+}
+
+// Adds the pieces of a span, which is counted in grains.
+pub(crate) fn cut_span(
+    scatter: &Scatter,
+    line: &Line,
+    span: Span,
+    pieces: &mut Vec<Piece>,
+) -> Result<(), AllocError>
+    requires line { CanBeCut scatter.now (strip_of line.now) }
+    requires order { span.from ≤ span.to }
+    requires within { span.to ≤ line.now.grains }
+    ensures pieces { IfOk result (λ _. pieces.new.items ≡ pieces.old.items ++ pieces_of scatter.now.chunks (strip_of line.now) (span_cuts scatter.now.chunks (strip_of line.now) span)) }
+    ensures counts { All CountsFit pieces.old.items → IfOk result (λ _. All CountsFit pieces.new.items) }
+{
+    let mut at = span.from;
+    while at < span.to {
+        let (piece, grains) = next_piece(scatter, line, span, at);
+        pieces.push(piece)?;
+        at += grains;
+    }
+    Ok(())
+}
+
+// The bytes of a unit on plane 1.
+pub(crate) fn unit_bytes(format: Format) -> u32
+    ensures value { result ≡ (layout format).bytes }
+    ensures few { result ≤ 12 }
+{
+    format.row_bytes(1, format.unit_pixels())
+}
+
+// The grains in so many pixels of a row.
+#[tactic(auto, using(pixel_layout::proofs::Sizes::units_fit))]
+pub(crate) fn grains_of(format: Format, pixels: u32) -> u32
+    requires { pixels ≤ 1024 }
+    ensures { result ≡ grains_of (layout format) pixels }
+{
+    let units = pixels / format.unit_pixels();
+    if format.is_planar() {
+        units
+    } else {
+        units * unit_bytes(format)
+    }
+}
+
+fn in_grains(format: Format, span: &Span) -> Span
+    requires from { span.now.from ≤ 1024 }
+    requires to { span.now.to ≤ 1024 }
+    ensures { result ≡ in_grains (layout format) span.now }
+{
+    Span {
+        from: grains_of(format, span.from),
+        to: grains_of(format, span.to),
+        clipped: span.clipped,
+    }
+}
+
+// The pieces of a row with these spans, which are counted in pixels.
+pub(crate) fn cut_row(
+    alloc: Global,
+    scatter: &Scatter,
+    line: &Line,
+    format: Format,
+    spans: &[Span],
+) -> Result<Vec<Piece>, AllocError>
+    requires line { CanBeCut scatter.now (strip_of line.now) }
+    requires pixels { AreWithin 1024 spans.now }
+    requires grains { AreWithin line.now.grains (map (in_grains (layout format)) spans.now) }
+    ensures pieces { IfOk result (λ pieces. pieces.items ≡ pieces_of scatter.now.chunks (strip_of line.now) (cuts_of scatter.now.chunks (strip_of line.now) (map (in_grains (layout format)) spans.now))) }
+    ensures counts { IfOk result (λ pieces. All CountsFit pieces.items) }
+{
+    let mut pieces = Vec::new(alloc);
+    for span in spans {
+        cut_span(scatter, line, in_grains(format, span), &mut pieces)?;
+    }
+    Ok(pieces)
+}
+
+// The pieces of a line that is one span.
+pub(crate) fn cut_whole(
+    alloc: Global,
+    scatter: &Scatter,
+    line: &Line,
+    clipped: bool,
+) -> Result<Vec<Piece>, AllocError>
+    requires { CanBeCut scatter.now (strip_of line.now) }
+    ensures pieces { IfOk result (λ pieces. pieces.items ≡ pieces_of scatter.now.chunks (strip_of line.now) (cuts_of scatter.now.chunks (strip_of line.now) (span 0 line.now.grains clipped ∷ []))) }
+    ensures counts { IfOk result (λ pieces. All CountsFit pieces.items) }
+{
+    let mut pieces = Vec::new(alloc);
+    let whole = Span {
+        from: 0,
+        to: line.grains,
+        clipped,
+    };
+    cut_span(scatter, line, whole, &mut pieces)?;
+    Ok(pieces)
+}

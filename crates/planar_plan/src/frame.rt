@@ -1,0 +1,150 @@
+//! A frame and the plans of its lines.
+
+ghost use Rattle.std.specs.Prelude.{◌≡◌, ◌<◌, take, true, IfOk, None};
+ghost use Rattle.std.specs.List.{All};
+ghost use Rattle.capture_desc.specs.WellFormed.{IsWellFormed};
+ghost use Rattle.picture_model.specs.Described.{IsDescription, describes, field_height, highest_end, taken};
+ghost use Rattle.picture_model.specs.Geometry.{first_after, frame_fault, frame_faults};
+ghost use Rattle.picture_model.specs.Plans.{row_plan, skipped_plan, vbi_plan};
+ghost use Rattle.planar_plan.specs.Frames.{HasScatter, IsFramed, Judges};
+ghost use Rattle.planar_plan.specs.Lines.{CountsFit};
+
+use crate::cut::{Pieces, cut_row, cut_whole};
+use crate::judge::{BuildError, highest_end, overlap, size_faults, vbi_range};
+use crate::lines::{row_line, skipped_line, vbi_line};
+use crate::memory::{page_faults, scatter};
+use crate::places::{field_height, taken};
+use capture_desc::Desc;
+use page_table::Scatter;
+use pixel_layout::{Format, Parity};
+use std::alloc::{AllocError, Global};
+use std::marker::Model;
+
+/// A description whose geometry is right, with the scatter list of its memory. Contracts see the
+/// description.
+#[derive(Drop)]
+pub struct Frame {
+    desc: Desc,
+    scatter: Scatter,
+}
+
+impl Model for Frame {
+    ghost use Rattle.capture_desc.specs.declared.desc.Desc.{Desc};
+    ghost use Rattle.planar_plan.specs.Frames.{HasScatter};
+
+    ghost Value = { Desc };
+
+    ghost view = { λ frame. frame.desc };
+
+    ghost invariant = { λ frame. HasScatter frame.desc frame.scatter };
+}
+
+// Judges the picture and its VBI lines, and answers their highest end.
+fn end_of(alloc: Global, desc: &Desc) -> Result<u64, BuildError>
+    requires { IsWellFormed desc.now }
+    ensures answer { Judges (first_after None (take 9 frame_faults) desc.now) result }
+    ensures end { IfOk result (λ end. end ≡ highest_end (taken desc.now)) }
+{
+    size_faults(desc)?;
+    let taken = taken(alloc, desc)?;
+    overlap(&taken)?;
+    vbi_range(desc)?;
+    Ok(highest_end(&taken) as u64)
+}
+
+// Judges the geometry of a description, and scatters the bytes that its picture takes.
+fn scatter_of(alloc: Global, desc: &Desc) -> Result<Scatter, BuildError>
+    requires { IsWellFormed desc.now }
+    ensures answer { Judges (frame_fault desc.now) result }
+    ensures scatter { IfOk result (HasScatter desc.now) }
+{
+    let _skipped = desc.skip_lines;
+    let end = end_of(alloc, desc)?;
+    page_faults(alloc, desc)?;
+    scatter(alloc, desc, end)
+}
+
+impl Frame {
+    /// Judges the geometry of a description: `Bad` holds the first fault in the order of `BuildFault`,
+    /// of those up to `TooFewBytes`.
+    pub fn new(alloc: Global, desc: Desc) -> Result<Frame, BuildError>
+        requires { IsWellFormed desc }
+        ensures answer { Judges (frame_fault desc) result }
+        ensures same { IfOk result (λ frame. frame ≡ desc) }
+        ensures framed { IfOk result IsFramed }
+    {
+        let scatter = scatter_of(alloc, &desc)?;
+        Ok(Frame { desc, scatter })
+    }
+
+    /// The description.
+    pub fn desc(&self) -> &Desc
+        ensures value { result.now ≡ self.now }
+        ensures framed { IsFramed self.now }
+    {
+        &self.desc
+    }
+
+    /// The format of the picture's pixels.
+    pub fn format(&self) -> Format
+        ensures value { result ≡ self.now.format }
+        ensures framed { IsFramed self.now }
+    {
+        self.desc.format
+    }
+
+    /// How many rows a field has: 0 where it isn't described.
+    pub fn rows_of(&self, field: Parity) -> u32
+        ensures value { result ≡ field_height self.now field }
+        ensures framed { IsFramed self.now }
+    {
+        field_height(&self.desc, field)
+    }
+
+    /// The pieces of a picture row, in order.
+    pub fn plan_row(&self, alloc: Global, row: u32) -> Result<Pieces, AllocError>
+        requires { row < self.now.height }
+        ensures plan { IfOk result (λ pieces. pieces ≡ row_plan self.now row) }
+        ensures counts { IfOk result (All CountsFit) }
+        ensures description { IfOk result (λ _. IsDescription self.now) }
+        ensures framed { IsFramed self.now }
+    {
+        let format = self.desc.format;
+        let line = row_line(&self.desc, row);
+        let spans = self
+            .desc
+            .clip
+            .spans(alloc, row, self.desc.width, format.unit_pixels())?;
+        let pieces = cut_row(alloc, &self.scatter, &line, format, spans.as_slice())?;
+        Ok(Pieces::new(pieces))
+    }
+
+    /// The pieces of a skipped line, in order. They write nothing.
+    pub fn plan_skip_line(&self, alloc: Global) -> Result<Pieces, AllocError>
+        ensures plan { IfOk result (λ pieces. pieces ≡ skipped_plan self.now) }
+        ensures counts { IfOk result (All CountsFit) }
+        ensures framed { IsFramed self.now }
+    {
+        let line = skipped_line(&self.desc);
+        let pieces = cut_whole(alloc, &self.scatter, &line, true)?;
+        Ok(Pieces::new(pieces))
+    }
+
+    /// The pieces of a field's VBI line, in order. VBI lines are counted from 0 in each field.
+    pub fn plan_vbi_line(
+        &self,
+        alloc: Global,
+        field: Parity,
+        line: u32,
+    ) -> Result<Pieces, AllocError>
+        requires described { describes self.now.fields field ≡ true }
+        requires line { line < self.now.vbi_lines }
+        ensures plan { IfOk result (λ pieces. pieces ≡ vbi_plan self.now field line) }
+        ensures counts { IfOk result (All CountsFit) }
+        ensures framed { IsFramed self.now }
+    {
+        let line = vbi_line(&self.desc, field, line);
+        let pieces = cut_whole(alloc, &self.scatter, &line, false)?;
+        Ok(Pieces::new(pieces))
+    }
+}

@@ -1,0 +1,196 @@
+//! The faults of a description's geometry, each by a function of its own.
+
+ghost use Rattle.std.specs.Prelude.{◌≡◌, ℕ, ◌+◌, ◌*◌, ◌%◌, ◌^◌, ◌<◌, ◌≤◌, not, ◌&&◌, ◌||◌, nat_lt, take, IfOk, None};
+ghost use Rattle.std.specs.List.{list_any};
+ghost use Rattle.std.specs.Result.{result_err};
+ghost use Rattle.picture_model.specs.Described.{both, highest_end, layout_of, offset, plane_row_bytes, planes, stride, vbi_size};
+ghost use Rattle.capture_desc.specs.WellFormed.{IsWellFormed};
+ghost use Rattle.picture_model.specs.Geometry.{first_after, frame_faults, is_between, is_multiple, overlaps, some_overlap, when};
+ghost use Rattle.planar_plan.specs.Sizes.{IsPlane, IsSized};
+ghost use Rattle.planar_plan.specs.declared.judge.BuildError.TheVariants.{Bad, Memory};
+
+use crate::places::{Stretch, is_both, offset, plane_row_bytes, stride};
+use capture_desc::Desc;
+use picture_model::BuildFault;
+use std::alloc::{AllocError, AllocFailed};
+
+/// Why no frame or program is made of a description.
+#[derive(Clone, Copy, Debug, PartialEq, Eq)]
+pub enum BuildError {
+    /// The description has this fault, and none of those before it.
+    Bad(BuildFault),
+    /// Want of memory.
+    Memory,
+}
+
+impl From<BuildFault> for BuildError {
+    ghost from_gives = { λ fault error. error ≡ Bad fault };
+
+    fn from(fault: BuildFault) -> BuildError {
+        BuildError::Bad(fault)
+    }
+}
+
+impl From<AllocError> for BuildError {
+    ghost from_gives = { λ _ error. error ≡ Memory };
+
+    fn from(_error: AllocError) -> BuildError {
+        BuildError::Memory
+    }
+}
+
+impl<T: Drop> From<AllocFailed<T>> for BuildError {
+    ghost from_gives = { λ _ error. error ≡ Memory };
+
+    fn from(_error: AllocFailed<T>) -> BuildError {
+        BuildError::Memory
+    }
+}
+
+// Refuses with a fault where it holds.
+fn refuse(holds: bool, fault: BuildFault) -> Result<(), BuildFault>
+    ensures { result_err result ≡ when holds fault }
+{
+    if holds { Err(fault) } else { Ok(()) }
+}
+
+fn width_range(desc: &Desc) -> Result<(), BuildFault>
+    ensures fault { result_err result ≡ when (not (is_between 1 1024 desc.now.width)) BuildFault.WidthRange }
+    ensures range { IfOk result (λ _. (1 ≤ desc.now.width) × (desc.now.width ≤ 1024)) }
+{
+    refuse(!(1..=1024).contains(&desc.width), BuildFault::WidthRange)
+}
+
+fn height_range(desc: &Desc) -> Result<(), BuildFault>
+    ensures fault { result_err result ≡ when (not (is_between 1 1024 desc.now.height)) BuildFault.HeightRange }
+    ensures range { IfOk result (λ _. (1 ≤ desc.now.height) × (desc.now.height ≤ 1024)) }
+{
+    refuse(!(1..=1024).contains(&desc.height), BuildFault::HeightRange)
+}
+
+fn width_off_unit(desc: &Desc) -> Result<(), BuildFault>
+    ensures fault { result_err result ≡ when (not (is_multiple (layout_of desc.now).pixels desc.now.width)) BuildFault.WidthOffUnit }
+    ensures units { IfOk result (λ _. desc.now.width % (layout_of desc.now).pixels ≡ 0) }
+{
+    refuse(
+        desc.width % desc.format.unit_pixels() != 0,
+        BuildFault::WidthOffUnit,
+    )
+}
+
+fn odd_height(desc: &Desc) -> Result<(), BuildFault>
+    ensures { result_err result ≡ when (both desc.now && not (is_multiple 2 desc.now.height)) BuildFault.OddHeight }
+{
+    refuse(
+        is_both(desc.fields) && desc.height % 2 != 0,
+        BuildFault::OddHeight,
+    )
+}
+
+// Whether some plane has rows of fewer than 5 bytes.
+fn has_narrow_plane(desc: &Desc) -> bool
+    requires { IsSized desc.now }
+    ensures { result ≡ list_any (λ p. nat_lt (plane_row_bytes desc.now p) 5) (planes desc.now) }
+{
+    plane_row_bytes(desc, 1) < 5
+        || desc.format.is_planar() && (plane_row_bytes(desc, 2) < 5 || plane_row_bytes(desc, 3) < 5)
+}
+
+fn too_narrow(desc: &Desc) -> Result<(), BuildFault>
+    requires { IsSized desc.now }
+    ensures { result_err result ≡ when (list_any (λ p. nat_lt (plane_row_bytes desc.now p) 5) (planes desc.now)) BuildFault.TooNarrow }
+{
+    refuse(has_narrow_plane(desc), BuildFault::TooNarrow)
+}
+
+// Whether the rows of a plane overlap.
+fn is_stride_short(desc: &Desc, plane: u32) -> bool
+    requires sized { IsSized desc.now }
+    requires plane { IsPlane desc.now plane }
+    ensures { result ≡ nat_lt (stride desc.now plane) (plane_row_bytes desc.now plane) }
+{
+    stride(desc, plane) < plane_row_bytes(desc, plane)
+}
+
+fn stride_short(desc: &Desc) -> Result<(), BuildFault>
+    requires { IsSized desc.now }
+    ensures { result_err result ≡ when (list_any (λ p. nat_lt (stride desc.now p) (plane_row_bytes desc.now p)) (planes desc.now)) BuildFault.StrideShort }
+{
+    let short = is_stride_short(desc, 1)
+        || desc.format.is_planar() && (is_stride_short(desc, 2) || is_stride_short(desc, 3));
+    refuse(short, BuildFault::StrideShort)
+}
+
+fn off_unit(desc: &Desc) -> Result<(), BuildFault>
+    requires { IsSized desc.now }
+    ensures { result_err result ≡ when ((layout_of desc.now).planar && not (is_multiple (layout_of desc.now).pixels (offset desc.now 1) && is_multiple (layout_of desc.now).pixels (stride desc.now 1))) BuildFault.OffUnit }
+{
+    let unit = desc.format.unit_pixels();
+    let on_units = offset(desc, 1) % u64::from(unit) == 0 && stride(desc, 1) % unit == 0;
+    refuse(desc.format.is_planar() && !on_units, BuildFault::OffUnit)
+}
+
+// Judges the sizes of the picture and of its planes.
+pub(crate) fn size_faults(desc: &Desc) -> Result<(), BuildFault>
+    requires { IsWellFormed desc.now }
+    ensures fault { result_err result ≡ first_after None (take 7 frame_faults) desc.now }
+    ensures sized { IfOk result (λ _. IsSized desc.now) }
+{
+    width_range(desc)?;
+    height_range(desc)?;
+    width_off_unit(desc)?;
+    odd_height(desc)?;
+    too_narrow(desc)?;
+    stride_short(desc)?;
+    off_unit(desc)
+}
+
+// Whether two stretches have an offset in common.
+fn overlaps(first: &Stretch, second: &Stretch) -> bool
+    ensures { result ≡ overlaps first.now second.now }
+{
+    first.from.max(second.from) < first.to.min(second.to)
+}
+
+// Whether a stretch has an offset in common with one of some others.
+fn meets_one(first: &Stretch, others: &[Stretch]) -> bool
+    ensures { result ≡ list_any (overlaps first.now) others.now }
+{
+    others.iter().any(|other| overlaps(first, other))
+}
+
+fn some_overlap(taken: &[Stretch]) -> bool
+    ensures { result ≡ some_overlap taken.now }
+{
+    match taken {
+        [] => false,
+        [first, rest @ ..] => meets_one(first, rest) || some_overlap(rest),
+    }
+}
+
+pub(crate) fn overlap(taken: &[Stretch]) -> Result<(), BuildFault>
+    ensures { result_err result ≡ when (some_overlap taken.now) BuildFault.Overlap }
+{
+    refuse(some_overlap(taken), BuildFault::Overlap)
+}
+
+pub(crate) fn vbi_range(desc: &Desc) -> Result<(), BuildFault>
+    ensures few { IfOk result (λ _. vbi_size desc.now ≤ 2 ^ 17) }
+    ensures fault { result_err result ≡ when (nat_lt 32 desc.now.vbi_lines || (nat_lt 0 desc.now.vbi_lines && not (is_between 5 4092 desc.now.vbi_bytes))) BuildFault.VbiRange }
+{
+    let bytes_out = !(5..=4092).contains(&desc.vbi_bytes);
+    refuse(
+        desc.vbi_lines > 32 || desc.vbi_lines > 0 && bytes_out,
+        BuildFault::VbiRange,
+    )
+}
+
+// The highest end of some stretches, of which an empty one ends where it begins.
+pub(crate) fn highest_end(taken: &[Stretch]) -> u128
+    ensures { result ≡ highest_end taken.now }
+{
+    match taken {
+        [] => 0,
+        [first, rest @ ..] => first.to.max(highest_end(rest)),
+    }
+}

@@ -1,0 +1,271 @@
+//! Where the planes and the VBI areas of a description lie. Planes are counted from 1; offsets are bytes,
+//! counted along the pages or chunks.
+
+ghost use Rattle.std.specs.Prelude.{◌≡◌, ℕ, ◌+◌, ◌^◌, ◌≤◌, length, unwrap_or, IfOk, IfSome};
+ghost use Rattle.pixel_layout.specs.Layouts.{layout};
+ghost use Rattle.picture_model.specs.Described.{default_offset, describes, extent, extents, field_height, given_or, highest_end, is_both, offset, plane_bytes, plane_row_bytes, plane_rows, stride, taken, vbi_area, vbi_begin, vbi_offset, vbi_size};
+ghost use Rattle.planar_plan.specs.Sizes.{IsPlane, IsSized};
+
+use capture_desc::{Desc, Fields, Numbers};
+use pixel_layout::{Format, Parity};
+use std::alloc::{AllocError, Global};
+use std::marker::Model;
+
+// The offsets from `from` up to `to`, which isn't part of them. The end of a VBI area passes 2^64 where
+// its lines are many and long.
+#[derive(Clone, Copy)]
+pub(crate) struct Stretch {
+    pub(crate) from: u128,
+    pub(crate) to: u128,
+}
+
+impl Model for Stretch {
+    ghost use Rattle.picture_model.specs.Described.{Extent};
+
+    ghost Value = { Extent };
+
+    ghost view = { λ s. record { from = s.from; to = s.to } };
+
+    ghost inverse = { λ e. record { from = e.from; to = e.to } };
+}
+
+pub(crate) fn is_both(fields: Fields) -> bool
+    ensures { result ≡ is_both fields }
+{
+    match fields {
+        Fields::Top | Fields::Bottom => false,
+        Fields::Both => true,
+    }
+}
+
+pub(crate) fn describes(fields: Fields, field: Parity) -> bool
+    ensures { result ≡ describes fields field }
+{
+    match (fields, field) {
+        (Fields::Both, _) | (Fields::Top, Parity::Top) | (Fields::Bottom, Parity::Bottom) => true,
+        (Fields::Top, Parity::Bottom) | (Fields::Bottom, Parity::Top) => false,
+    }
+}
+
+// The rows of a field: none where it isn't described.
+pub(crate) fn field_height(desc: &Desc, field: Parity) -> u32
+    ensures { result ≡ field_height desc.now field }
+{
+    if !describes(desc.fields, field) {
+        0
+    } else if is_both(desc.fields) {
+        desc.height / 2
+    } else {
+        desc.height
+    }
+}
+
+// How many rows of a field share a row of chroma.
+fn rows_of_chroma(format: Format) -> u32
+    ensures value { result ≡ (layout format).down }
+    ensures some { (1 ≤ result) × (result ≤ 4) }
+{
+    match format {
+        Format::Yuv420p => 2,
+        Format::Yuv410p => 4,
+        _ => 1,
+    }
+}
+
+// The rows of a plane.
+#[tactic(auto, using(pixel_layout::proofs::Sizes::place_fits))]
+fn plane_rows(desc: &Desc, plane: u32) -> u32
+    requires { IsSized desc.now }
+    ensures value { result ≡ plane_rows desc.now plane }
+    ensures few { result ≤ 2048 }
+{
+    if plane == 1 {
+        return desc.height;
+    }
+    let down = rows_of_chroma(desc.format);
+    if is_both(desc.fields) {
+        2 * ((desc.height / 2 + down - 1) / down)
+    } else {
+        (desc.height + down - 1) / down
+    }
+}
+
+// The bytes of a row on a plane.
+pub(crate) fn plane_row_bytes(desc: &Desc, plane: u32) -> u32
+    requires sized { IsSized desc.now }
+    requires plane { IsPlane desc.now plane }
+    ensures value { result ≡ plane_row_bytes desc.now plane }
+    ensures few { result ≤ 4096 }
+{
+    desc.format.row_bytes(plane, desc.width)
+}
+
+// The number given for a plane.
+fn given(numbers: &Option<Numbers>, plane: u32) -> Option<u32>
+    requires some { 1 ≤ plane }
+    requires within { IfSome numbers.now (λ ns. plane ≤ length ns) }
+    ensures { (default : ℕ) → unwrap_or result default ≡ given_or numbers.now plane default }
+{
+    match numbers {
+        Some(numbers) => Some(numbers.as_slice()[plane as usize - 1]),
+        None => None,
+    }
+}
+
+// From one row of a plane to the next.
+pub(crate) fn stride(desc: &Desc, plane: u32) -> u32
+    requires sized { IsSized desc.now }
+    requires plane { IsPlane desc.now plane }
+    ensures { result ≡ stride desc.now plane }
+{
+    match given(&desc.stride, plane) {
+        Some(stride) => stride,
+        None => plane_row_bytes(desc, plane),
+    }
+}
+
+// From the first byte of a plane to the end of its last row.
+#[tactic(auto, using(crate::proofs::Bounds::product_fits))]
+fn plane_bytes(desc: &Desc, plane: u32) -> u64
+    requires sized { IsSized desc.now }
+    requires plane { IsPlane desc.now plane }
+    ensures value { result ≡ plane_bytes desc.now plane }
+    ensures few { result ≤ 2 ^ 44 }
+{
+    let rows = plane_rows(desc, plane);
+    let stride = stride(desc, plane);
+    u64::from(rows.saturating_sub(1)) * u64::from(stride) + u64::from(plane_row_bytes(desc, plane))
+}
+
+// Where a plane begins unless another offset is given: at the end of the one before it.
+fn default_offset(desc: &Desc, plane: u32) -> u64
+    requires sized { IsSized desc.now }
+    requires plane { IsPlane desc.now plane }
+    ensures value { result ≡ default_offset desc.now plane }
+    ensures few { result ≤ 2 ^ 45 }
+{
+    match plane {
+        1 => 0,
+        2 => plane_bytes(desc, 1),
+        _ => plane_bytes(desc, 1) + plane_bytes(desc, 2),
+    }
+}
+
+// Where a plane begins.
+pub(crate) fn offset(desc: &Desc, plane: u32) -> u64
+    requires sized { IsSized desc.now }
+    requires plane { IsPlane desc.now plane }
+    ensures value { result ≡ offset desc.now plane }
+    ensures few { result ≤ 2 ^ 45 }
+{
+    match given(&desc.offset, plane) {
+        Some(offset) => u64::from(offset),
+        None => default_offset(desc, plane),
+    }
+}
+
+// The offsets that a plane takes.
+fn extent(desc: &Desc, plane: u32) -> Stretch
+    requires sized { IsSized desc.now }
+    requires plane { IsPlane desc.now plane }
+    ensures value { result ≡ extent desc.now plane }
+    ensures few { result.to ≤ 2 ^ 46 }
+{
+    let from = offset(desc, plane);
+    let to = from + plane_bytes(desc, plane);
+    Stretch {
+        from: u128::from(from),
+        to: u128::from(to),
+    }
+}
+
+// The highest end of a plane.
+fn planes_end(desc: &Desc) -> u128
+    requires { IsSized desc.now }
+    ensures value { result ≡ highest_end (extents desc.now) }
+    ensures few { result ≤ 2 ^ 46 }
+{
+    let first = extent(desc, 1).to;
+    if desc.format.is_planar() {
+        first.max(extent(desc, 2).to).max(extent(desc, 3).to)
+    } else {
+        first
+    }
+}
+
+// The bytes of a field's VBI lines.
+#[tactic(auto, using(crate::proofs::Bounds::product_fits))]
+fn vbi_size(desc: &Desc) -> u128
+    ensures value { result ≡ vbi_size desc.now }
+    ensures few { result ≤ 2 ^ 64 }
+{
+    u128::from(desc.vbi_lines) * u128::from(desc.vbi_bytes)
+}
+
+// Where the VBI lines of the first described field begin.
+fn vbi_begin(desc: &Desc) -> u128
+    requires { IsSized desc.now }
+    ensures value { result ≡ vbi_begin desc.now }
+    ensures few { result ≤ 2 ^ 46 }
+{
+    match desc.vbi_offset {
+        Some(offset) => u128::from(offset),
+        None => planes_end(desc),
+    }
+}
+
+// Where the VBI lines of a field begin.
+pub(crate) fn vbi_offset(desc: &Desc, field: Parity) -> u128
+    requires { IsSized desc.now }
+    ensures value { result ≡ vbi_offset desc.now field }
+    ensures few { result ≤ 2 ^ 46 + vbi_size desc.now }
+{
+    match (desc.fields, field) {
+        (Fields::Both, Parity::Bottom) => vbi_begin(desc) + vbi_size(desc),
+        _ => vbi_begin(desc),
+    }
+}
+
+// The offsets that the VBI lines of a field take.
+fn vbi_area(desc: &Desc, field: Parity) -> Stretch
+    requires { IsSized desc.now }
+    ensures value { result ≡ vbi_area desc.now field }
+    ensures few { vbi_size desc.now ≤ 2 ^ 17 → result.to ≤ 2 ^ 47 }
+{
+    let from = vbi_offset(desc, field);
+    Stretch {
+        from,
+        to: from + vbi_size(desc),
+    }
+}
+
+// The stretches of the planes.
+fn extents(alloc: Global, desc: &Desc) -> Result<Vec<Stretch>, AllocError>
+    requires { IsSized desc.now }
+    ensures value { IfOk result (λ stretches. stretches.items ≡ extents desc.now) }
+    ensures few { IfOk result (λ stretches. highest_end stretches.items ≤ 2 ^ 46) }
+{
+    let mut stretches = Vec::new(alloc);
+    stretches.push(extent(desc, 1))?;
+    if desc.format.is_planar() {
+        stretches.push(extent(desc, 2))?;
+        stretches.push(extent(desc, 3))?;
+    }
+    Ok(stretches)
+}
+
+// The stretches of the planes and of the VBI areas, of which some may be empty.
+pub(crate) fn taken(alloc: Global, desc: &Desc) -> Result<Vec<Stretch>, AllocError>
+    requires { IsSized desc.now }
+    ensures value { IfOk result (λ stretches. stretches.items ≡ taken desc.now) }
+    ensures few { IfOk result (λ stretches. vbi_size desc.now ≤ 2 ^ 17 → highest_end stretches.items ≤ 2 ^ 47) }
+{
+    let mut stretches = extents(alloc, desc)?;
+    if desc.fields != Fields::Bottom {
+        stretches.push(vbi_area(desc, Parity::Top))?;
+    }
+    if desc.fields != Fields::Top {
+        stretches.push(vbi_area(desc, Parity::Bottom))?;
+    }
+    Ok(stretches)
+}
