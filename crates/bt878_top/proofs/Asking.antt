@@ -33,6 +33,16 @@ first_among name other names e = subst (λ n. is_among name (n ∷ names) ≡ tr
 pub later_among : (name other : List ℕ) (names : List (List ℕ)) → is_among name names ≡ true → is_among name (other ∷ names) ≡ true
 later_among name other names h = or_true (bytes_eq other name) (is_among name names) h
 
+-- what the words ask for
+pub lists_task : (words : List (List ℕ)) (h : AsksProgram words) → command_of words ≡ Ok command.List → task_of words ≡ Ok (Lists h.program)
+lists_task words h e = ap (λ c. task_with c words) e ∙ ap (task_with (Ok command.List)) h.are
+
+pub verifies_task : (words : List (List ℕ)) (h : AsksProgram words) → command_of words ≡ Ok command.Verify → task_of words ≡ Ok (Verifies h.program)
+verifies_task words h e = ap (λ c. task_with c words) e ∙ ap (task_with (Ok command.Verify)) h.are
+
+pub runs_task : (words : List (List ℕ)) (h : AsksRun words) → command_of words ≡ Ok command.Run → task_of words ≡ Ok (Runs h.program h.stream h.image)
+runs_task words h e = ap (λ c. task_with c words) e ∙ ap (task_with (Ok command.Run)) h.are
+
 -- the words as they are passed
 module _ {X : Type 0} (f : X → List ℕ) (xs : List X) (d : X) where
   abbrev word_at : ℕ → List ℕ
@@ -83,19 +93,19 @@ module _ {X : Type 0} (f : X → List ℕ) (xs : List X) (d : X) where
   pub list_task : command_of (map f xs) ≡ Ok command.List → task_of (map f xs) ≡ Ok (Lists (word_at 1))
   list_task e =
       let h = list_is e in
-      ap (λ c. task_with c (map f xs)) e ∙ ap (task_with (Ok command.List)) h.are
+      lists_task (map f xs) h e
       ∙ ap (λ program. Ok (Lists program)) (sym (at 1 _ h.are))
 
   pub verify_task : command_of (map f xs) ≡ Ok command.Verify → task_of (map f xs) ≡ Ok (Verifies (word_at 1))
   verify_task e =
       let h = verify_is e in
-      ap (λ c. task_with c (map f xs)) e ∙ ap (task_with (Ok command.Verify)) h.are
+      verifies_task (map f xs) h e
       ∙ ap (λ program. Ok (Verifies program)) (sym (at 1 _ h.are))
 
   pub run_task : command_of (map f xs) ≡ Ok command.Run → task_of (map f xs) ≡ Ok (Runs (word_at 1) (word_at 2) (word_at 3))
   run_task e =
       let h = run_is e in
-      ap (λ c. task_with c (map f xs)) e ∙ ap (task_with (Ok command.Run)) h.are
+      runs_task (map f xs) h e
       ∙ ap (λ program. Ok (Runs program h.stream h.image)) (sym (at 1 _ h.are))
       ∙ ap (λ stream. Ok (Runs (word_at 1) stream h.image)) (sym (at 2 _ h.are))
       ∙ ap (λ image. Ok (Runs (word_at 1) (word_at 2) image)) (sym (at 3 _ h.are))

@@ -26,11 +26,10 @@ use Rattle.bt878_top.specs.declared.answer.Answer.TheVariants.{Done, Usage, Read
 use Rattle.bt878_top.specs.Desks.{Seen, Product, OfInput, OfFile, Says, SameCounts, ReadsRose, WritesRose, IsUnread, IsPart, apart, delivered}
 use Rattle.bt878_top.specs.Texts.{accepted_text, answer_text, report_text}
 use Rattle.bt878_top.specs.Plays.{longest_stream}
-use Rattle.bt878_top.specs.Programs.{IsListed, IsTaken, Rejects, StopsAtFile, StopsAtProgram, StopsAtStream, program_in}
+use Rattle.bt878_top.specs.Programs.{HoldsSound, IsListed, Rejects, StopsAtFile, StopsAtProgram, StopsAtStream}
 use Rattle.bt878_top.specs.Tasks.{Task, Lists, Verifies, Runs, Answers, Ends, HasOutput, IsDone, Makes, RunMakes, Stops, task_of, task_with}
-use Rattle.bt878_top.specs.Clauses.{IsUsage, AreTold, HoldsSound, HoldsBad, IsFaultyProgram, IsFaultyStream, Played, first_of, last_of, OfRun, IsOutput, SameOutput, SaysAll, SaysPart, CreatesNone, IsSoundAt, ImageAndReport, StaysInside, SaysAccepted, SaysListing, IsUnreadOf, HasFault, HasBad, IsGood, IsCut, UnlessCut, IsRefusal, OnlySays, IsCutOff, StandsAt, OnlyOutputs, SameNames}
-use Rattle.bt878_top.proofs.Asking.{first_among, later_among}
-use Rattle.bt878_top.proofs.Lengths.{as_read, as_whole}
+use Rattle.bt878_top.specs.Clauses.{IsUsage, AreTold, HoldsBad, IsFaultyProgram, IsFaultyStream, Played, first_of, last_of, OfRun, IsOutput, SameOutput, SaysAll, SaysPart, CreatesNone, IsSoundAt, ImageAndReport, StaysInside, SaysAccepted, SaysListing, IsUnreadOf, HasFault, HasBad, IsGood, IsCut, UnlessCut, IsRefusal, OnlySays, IsCutOff, StandsAt, OnlyOutputs, SameNames}
+use Rattle.bt878_top.proofs.Asking.{first_among, later_among, lists_task, runs_task, verifies_task}
 use Rattle.bt878_top.proofs.Loading.{OfInput-map}
 
 -- ---- the words
@@ -55,21 +54,21 @@ asked_by : (c : Command) (words : List (List ℕ)) → command_of words ≡ Ok c
 asked_by command.List words e h =
     record {
       task = Lists h.program;
-      is = ap (λ c. task_with c words) e ∙ ap (task_with (Ok command.List)) h.are;
+      is = lists_task words h e;
       opens = h.opens;
       creates = h.creates;
     }
 asked_by command.Verify words e h =
     record {
       task = Verifies h.program;
-      is = ap (λ c. task_with c words) e ∙ ap (task_with (Ok command.Verify)) h.are;
+      is = verifies_task words h e;
       opens = h.opens;
       creates = h.creates;
     }
 asked_by command.Run words e h =
     record {
       task = Runs h.program h.stream h.image;
-      is = ap (λ c. task_with c words) e ∙ ap (task_with (Ok command.Run)) h.are;
+      is = runs_task words h e;
       opens = h.opens;
       creates = h.creates;
     }
@@ -123,14 +122,6 @@ not_missing name (Some inputs) P told h missing = of_file (named name inputs) h 
 abbrev IsRead : List ℕ → Type 0
 IsRead bytes = (file : ProgramFile) × (program_of bytes ≡ Ok file)
 
-taken_sound : (bytes : List ℕ) → IsTaken bytes → HoldsSound bytes
-taken_sound bytes h =
-    let file : ProgramFile = record { program = h.0; fill = h.1 } in
-    (file, as_whole bytes file h.2.reads, h.2.sound)
-
-rejects_bad : (at nth : ℕ) (cause : Cause) (bytes : List ℕ) → Rejects (program_in bytes) at nth cause → HoldsBad at nth cause bytes
-rejects_bad at nth cause bytes h = (h.file, as_whole bytes h.file h.reads, h.bad)
-
 -- a sound program has no bad place, and there is one first bad place
 same_file : (bytes : List ℕ) (a b : ProgramFile) → program_of bytes ≡ Ok a → program_of bytes ≡ Ok b → a ≡ b
 same_file bytes a b e f = cc
@@ -140,7 +131,8 @@ not_bad program at nth cause sound bad = let fine = sound nth in let other = bad
 
 sound_or_bad : (at nth : ℕ) (cause : Cause) (bytes : List ℕ) → HoldsSound bytes → HoldsBad at nth cause bytes → ⊥
 sound_or_bad at nth cause bytes a b =
-    not_bad b.0.program at nth cause (subst (λ (f : ProgramFile). IsSound f.program) (same_file bytes a.0 b.0 a.1 b.1) a.2) b.2
+    not_bad b.file.program at nth cause
+    (subst (λ (f : ProgramFile). IsSound f.program) (same_file bytes (record { program = a.0; fill = a.1 }) b.file a.2.reads b.reads) a.2.sound) b.bad
 
 not_earlier : (program : RiscProgram) (a b n k : ℕ) (c d : Cause) → IsFirstBad program a n c → IsFirstBad program b k d → n < k → ⊥
 not_earlier program a b n k c d one two less = let fine = two.fine n less in let other = one.bad in absurd (cc)
@@ -162,7 +154,7 @@ one_bad program a b n k c d one two =
 
 one_rejection : (a b n k : ℕ) (c d : Cause) (bytes : List ℕ) → HoldsBad a n c bytes → HoldsBad b k d bytes → Rejected a n c ≡ Rejected b k d
 one_rejection a b n k c d bytes h other =
-    one_bad other.0.program a b n k c d (subst (λ (f : ProgramFile). IsFirstBad f.program a n c) (same_file bytes h.0 other.0 h.1 other.1) h.2) other.2
+    one_bad other.file.program a b n k c d (subst (λ (f : ProgramFile). IsFirstBad f.program a n c) (same_file bytes h.file other.file h.reads other.reads) h.bad) other.bad
 
 -- ---- why a command stops, where the desk tells its inputs
 
@@ -175,36 +167,36 @@ module _ (name : List ℕ) (old new : Seen) (told : AreTold old.told.inputs) whe
   stops_good_file : (answer : Answer) → OfInput name old.told.inputs IsRead → StopsAtFile name answer old new → IsCut answer old new
   stops_good_file ReadFault good h = cut_unread IsRead good h
   stops_good_file (Malformed Program fault) good h =
-      both_of name old.told.inputs IsRead (λ bytes. program_in bytes ≡ Err fault) (IsCut (Malformed Program fault) old new) told
-      (λ bytes read wrong. let right = as_read bytes read.0 read.1 in absurd (cc)) good h
+      both_of name old.told.inputs IsRead (λ bytes. program_of bytes ≡ Err fault) (IsCut (Malformed Program fault) old new) told
+      (λ bytes read wrong. let right = read.1 in absurd (cc)) good h
   stops_good_file NoMemory good h = inl refl
   stops_good_file answer good h = absurd h
 
   stops_bad_file : (answer : Answer) (fault : FileFault) → OfInput name old.told.inputs (IsFaultyProgram fault) → StopsAtFile name answer old new → UnlessCut (Malformed Program fault) answer old new
   stops_bad_file ReadFault fault bad h = inr (cut_unread (IsFaultyProgram fault) bad h)
   stops_bad_file (Malformed Program other) fault bad h =
-      inl (both_of name old.told.inputs (IsFaultyProgram fault) (λ bytes. program_in bytes ≡ Err other) (Malformed Program other ≡ Malformed Program fault) told
+      inl (both_of name old.told.inputs (IsFaultyProgram fault) (λ bytes. program_of bytes ≡ Err other) (Malformed Program other ≡ Malformed Program fault) told
       (λ bytes one two. cc) bad h)
   stops_bad_file NoMemory fault bad h = inr (inl refl)
   stops_bad_file answer fault bad h = absurd h
 
   -- a program that is sound, or that has this bad place
   read_of : OfInput name old.told.inputs HoldsSound → OfInput name old.told.inputs IsRead
-  read_of h = OfInput-map name old.told.inputs HoldsSound IsRead (λ bytes k. (k.0, k.1)) h
+  read_of h = OfInput-map name old.told.inputs HoldsSound IsRead (λ bytes k. (record { program = k.0; fill = k.1 }, k.2.reads)) h
 
   stops_good_program : (answer : Answer) → OfInput name old.told.inputs HoldsSound → StopsAtProgram name answer old new → IsCut answer old new
   stops_good_program (Rejected at nth cause) good h =
-      absurd (both_of name old.told.inputs HoldsSound (λ bytes. Rejects (program_in bytes) at nth cause) ⊥ told
-      (λ bytes sound rejected. sound_or_bad at nth cause bytes sound (rejects_bad at nth cause bytes rejected)) good h)
+      absurd (both_of name old.told.inputs HoldsSound (λ bytes. Rejects (program_of bytes) at nth cause) ⊥ told
+      (λ bytes sound rejected. sound_or_bad at nth cause bytes sound rejected) good h)
   stops_good_program answer good h = stops_good_file answer (read_of good) h
 
   stops_bad_program : (answer : Answer) (at nth : ℕ) (cause : Cause) → OfInput name old.told.inputs (HoldsBad at nth cause) → StopsAtProgram name answer old new →
       UnlessCut (Rejected at nth cause) answer old new
   stops_bad_program (Rejected a n c) at nth cause bad h =
-      inl (both_of name old.told.inputs (HoldsBad at nth cause) (λ bytes. Rejects (program_in bytes) a n c) (Rejected a n c ≡ Rejected at nth cause) told
-      (λ bytes is rejected. one_rejection a at n nth c cause bytes (rejects_bad a n c bytes rejected) is) bad h)
+      inl (both_of name old.told.inputs (HoldsBad at nth cause) (λ bytes. Rejects (program_of bytes) a n c) (Rejected a n c ≡ Rejected at nth cause) told
+      (λ bytes is rejected. one_rejection a at n nth c cause bytes rejected is) bad h)
   stops_bad_program answer at nth cause bad h =
-      inr (stops_good_file answer (OfInput-map name old.told.inputs (HoldsBad at nth cause) IsRead (λ bytes k. (k.0, k.1)) bad) h)
+      inr (stops_good_file answer (OfInput-map name old.told.inputs (HoldsBad at nth cause) IsRead (λ bytes k. (k.file, k.reads)) bad) h)
 
   -- a stream that is whole, or that has this fault
   stops_good_stream : (answer : Answer) → OfInput name old.told.inputs (λ bytes. (steps : List Step) × (steps_of longest_stream false bytes ≡ Ok steps)) → StopsAtStream name answer old new → IsCut answer old new
@@ -254,7 +246,7 @@ same_outputs name old new h = ap (option_map (output_named name)) h.0
 abbrev played_of : (a b image : List ℕ) (product : Product) → RunMakes a b image product → Played a b
 played_of a b image product m =
     let file : ProgramFile = record { program = m.program; fill = m.fill } in
-    record { file = file; steps = m.steps; program = as_whole a file m.accepts.reads; stream = m.reads }
+    record { file = file; steps = m.steps; program = m.accepts.reads; stream = m.reads }
 
 module _ (program stream image : List ℕ) (inputs : Option Inputs) (product : Product) (P : (a b : List ℕ) → Played a b → Type 0) where
   of_run : ((a b : List ℕ) (m : RunMakes a b image product) → P a b (played_of a b image product m)) →
@@ -276,7 +268,7 @@ pub done_sound : (r : Result Task UsageFault) (answer : Answer) (old new : Seen)
 done_sound (Err fault) answer old new h e = tt
 done_sound (Ok (Lists program)) answer old new h e = tt
 done_sound (Ok (Verifies program)) answer old new h e =
-    OfInput-map program old.told.inputs IsTaken HoldsSound taken_sound (done_by (Verifies program) answer old new h e).made.0
+    (done_by (Verifies program) answer old new h e).made.0
 done_sound (Ok (Runs program stream image)) answer old new h e =
     let d = done_by (Runs program stream image) answer old new h e in
     of_run program stream image old.told.inputs d.product (λ a b r. IsSound r.file.program) (λ a b m. m.accepts.sound) d.made.1
@@ -336,7 +328,7 @@ done_listed (Ok (Lists program)) answer old new h e =
     let said = says_only d.product.text old.told new.told (d.left ∙ ap (λ files. delivered files d.product.text (apart old.told)) d.made.1) in (
       OfInput-map program old.told.inputs (λ bytes. IsListed bytes d.product.text)
           (λ bytes. (file : ProgramFile) × (program_of bytes ≡ Ok file) × SaysAll (listing file.program file.fill) old.told new.told)
-          (λ bytes is. (is.file, as_whole bytes is.file is.reads, subst (λ text. SaysAll text old.told new.told) is.lists said.1)) d.made.0,
+          (λ bytes is. (is.file, is.reads, subst (λ text. SaysAll text old.told new.told) is.lists said.1)) d.made.0,
       said.0,
     )
 
@@ -376,7 +368,7 @@ faulty_of (Verifies program) Ring fault old new h = h
 faulty_of (Runs program stream image) Program fault old new (inl h) = h
 faulty_of (Runs program stream image) Program fault old new (inr h) = absurd h.1
 faulty_of (Runs program stream image) Stream fault old new (inl h) = absurd h
-faulty_of (Runs program stream image) Stream fault old new (inr h) = (OfInput-map program old.told.inputs IsTaken HoldsSound taken_sound h.0, h.1)
+faulty_of (Runs program stream image) Stream fault old new (inr h) = h
 faulty_of (Runs program stream image) Desc fault old new (inl h) = h
 faulty_of (Runs program stream image) Desc fault old new (inr h) = h.1
 faulty_of (Runs program stream image) Ring fault old new (inl h) = h
@@ -389,10 +381,8 @@ malformed_comes (Ok task) answer old new h file fault e = faulty_of task file fa
 
 bad_of : (task : Task) (at nth : ℕ) (cause : Cause) (old new : Seen) → Stops task (Rejected at nth cause) old new → HasBad (Ok task) at nth cause old.told.inputs
 bad_of (Lists program) at nth cause old new h = h
-bad_of (Verifies program) at nth cause old new h =
-    OfInput-map program old.told.inputs (λ bytes. Rejects (program_in bytes) at nth cause) (HoldsBad at nth cause) (rejects_bad at nth cause) h
-bad_of (Runs program stream image) at nth cause old new (inl h) =
-    OfInput-map program old.told.inputs (λ bytes. Rejects (program_in bytes) at nth cause) (HoldsBad at nth cause) (rejects_bad at nth cause) h
+bad_of (Verifies program) at nth cause old new h = h
+bad_of (Runs program stream image) at nth cause old new (inl h) = h
 bad_of (Runs program stream image) at nth cause old new (inr h) = absurd h.1
 
 pub rejected_comes : (r : Result Task UsageFault) (answer : Answer) (old new : Seen) → Answers r answer old new → (at nth : ℕ) (cause : Cause) → answer ≡ Rejected at nth cause →
@@ -421,9 +411,9 @@ abbrev IsStream : List ℕ → Type 0
 IsStream bytes = (steps : List Step) × (steps_of longest_stream false bytes ≡ Ok steps)
 
 module _ (program stream image : List ℕ) (inputs : Option Inputs) (product : Product) (told : AreTold inputs) where
-  run_taken : OfInput program inputs (λ a. OfInput stream inputs (λ b. RunMakes a b image product)) → OfInput program inputs IsTaken
+  run_taken : OfInput program inputs (λ a. OfInput stream inputs (λ b. RunMakes a b image product)) → OfInput program inputs HoldsSound
   run_taken h =
-      OfInput-map program inputs (λ a. OfInput stream inputs (λ b. RunMakes a b image product)) IsTaken
+      OfInput-map program inputs (λ a. OfInput stream inputs (λ b. RunMakes a b image product)) HoldsSound
       (λ a k. let some = told_some stream inputs (λ b. RunMakes a b image product) told k in (some.1.program, some.1.fill, some.1.accepts)) h
 
   run_steps : OfInput program inputs (λ a. OfInput stream inputs (λ b. RunMakes a b image product)) → OfInput stream inputs IsStream
@@ -432,17 +422,17 @@ module _ (program stream image : List ℕ) (inputs : Option Inputs) (product : P
       OfInput-map stream inputs (λ b. RunMakes some.0 b image product) IsStream (λ b m. (m.steps, m.reads)) some.1
 
 module _ (name : List ℕ) (old new : Seen) (told : AreTold old.told.inputs) where
-  taken_or_faulty : (R : Type 0) (fault : FileFault) → OfInput name old.told.inputs IsTaken → OfInput name old.told.inputs (IsFaultyProgram fault) → R
+  taken_or_faulty : (R : Type 0) (fault : FileFault) → OfInput name old.told.inputs HoldsSound → OfInput name old.told.inputs (IsFaultyProgram fault) → R
   taken_or_faulty R fault taken bad =
-      both_of name old.told.inputs IsTaken (IsFaultyProgram fault) R told (λ bytes is wrong. let right = is.2.reads in absurd (cc)) taken bad
+      both_of name old.told.inputs HoldsSound (IsFaultyProgram fault) R told (λ bytes is wrong. let right = is.2.reads in absurd (cc)) taken bad
 
-  taken_or_bad : (R : Type 0) (at nth : ℕ) (cause : Cause) → OfInput name old.told.inputs IsTaken → OfInput name old.told.inputs (HoldsBad at nth cause) → R
+  taken_or_bad : (R : Type 0) (at nth : ℕ) (cause : Cause) → OfInput name old.told.inputs HoldsSound → OfInput name old.told.inputs (HoldsBad at nth cause) → R
   taken_or_bad R at nth cause taken bad =
-      both_of name old.told.inputs IsTaken (HoldsBad at nth cause) R told (λ bytes is wrong. absurd (sound_or_bad at nth cause bytes (taken_sound bytes is) wrong)) taken bad
+      both_of name old.told.inputs HoldsSound (HoldsBad at nth cause) R told (λ bytes is wrong. absurd (sound_or_bad at nth cause bytes is wrong)) taken bad
 
   stops_at_fault : (answer : Answer) (fault : FileFault) → OfInput name old.told.inputs (IsFaultyProgram fault) → StopsAtProgram name answer old new → UnlessCut (Malformed Program fault) answer old new
   stops_at_fault (Rejected at nth cause) fault bad h =
-      both_of name old.told.inputs (IsFaultyProgram fault) (λ bytes. Rejects (program_in bytes) at nth cause) (UnlessCut (Malformed Program fault) (Rejected at nth cause) old new) told
+      both_of name old.told.inputs (IsFaultyProgram fault) (λ bytes. Rejects (program_of bytes) at nth cause) (UnlessCut (Malformed Program fault) (Rejected at nth cause) old new) told
       (λ bytes wrong is. let right = is.reads in absurd (cc)) bad h
   stops_at_fault answer fault bad h = stops_bad_file name old new told answer fault bad h
 
@@ -554,7 +544,7 @@ write_fault_stands (Ok (Lists program)) answer old new h e =
     let part = said_part p.product.text old.told new.told (subst (λ files. IsPart files p.product.text (apart old.told) (apart new.told)) p.made.1 p.left) in (
       OfInput-map program old.told.inputs (λ bytes. IsListed bytes p.product.text)
           (λ bytes. (file : ProgramFile) × (program_of bytes ≡ Ok file) × SaysPart (listing file.program file.fill) old.told new.told)
-          (λ bytes is. (is.file, as_whole bytes is.file is.reads, subst (λ text. SaysPart text old.told new.told) is.lists part.0)) p.made.0,
+          (λ bytes is. (is.file, is.reads, subst (λ text. SaysPart text old.told new.told) is.lists part.0)) p.made.0,
       part.1,
     )
 write_fault_stands (Ok (Verifies program)) answer old new h e =

@@ -1,23 +1,16 @@
--- A program file is no longer than the longest, so what is read of it is all of it.
-use Rattle.std.proofs.Common.{◌≡◌, ℕ, zero, suc, ◌+◌, ◌*◌, ◌≤◌, Bool, true, false, cond, List, [], ◌∷◌, length, take, drop, Option, Some, None, Ok, Err, refl, sym, ap, subst, ◌∙◌, arith, length-drop}
+-- The bytes of each field of a program file that is right.
+use Rattle.std.proofs.Common.{◌≡◌, ℕ, zero, suc, ◌+◌, ◌*◌, ◌≤◌, Bool, true, false, cond, List, [], ◌∷◌, length, drop, Option, Some, None, Ok, Err, refl, ap, subst, ◌∙◌, arith, length-drop}
 use Rattle.std.specs.Prelude.{nat_le, ◌&&◌, ◌^◌}
 use Rattle.std.proofs.lemmas.Bool.{leb-true}
-use Rattle.std.proofs.lemmas.List.{length-take, take_all}
 use Rattle.page_table.specs.Grants.{Chunk, chunk}
 use Rattle.machine_model.specs.Paths.{RiscProgram}
 use Rattle.capture_file.specs.declared.FileKind.{FileKind}
 use Rattle.capture_file.specs.declared.FileKind.TheVariants as fault
 use Rattle.capture_file.specs.declared.program.Layout.{Layout}
 use Rattle.capture_file.specs.declared.program.Layout.TheVariants.{Paged, Chunked}
-use Rattle.capture_file.specs.declared.program.ProgramFile.{ProgramFile}
-use Rattle.capture_file.specs.Programs as file
-use Rattle.capture_file.specs.Programs.{◌>>=◌, number_or_cut, number_field, layout_field, layout_or_magic, layout_of, base_field, word_count_field, words_in, words_field, chunk_count_field, page_field, long_chunk_field, chunk_field, chunks_field, fill_field, program_of, without_grants, base_fault, word_count_fault, chunk_count_fault, page_fault, address_fault, length_fault, fill_fault, judged, nothing_after, cut}
+use Rattle.capture_file.specs.Programs.{◌>>=◌, number_or_cut, number_field, layout_field, layout_or_magic, layout_of, base_field, word_count_field, words_in, words_field, chunk_count_field, page_field, long_chunk_field, chunk_field, chunks_field, base_fault, word_count_fault, chunk_count_fault, page_fault, address_fault, length_fault, judged, cut}
 use Rattle.capture_file.specs.Streams.{number_at}
 use Rattle.capture_file.proofs.Chunks.{bind_ok, judged_ok, ok_is, both_true}
-use Rattle.capture_file.proofs.Spelled.{with_layout, with_base, with_count, with_words, with_chunk_count, with_chunks, field_by_field}
-use Rattle.bt878_top.specs.Programs.{longest_program, program_in}
-
--- ---- each field has so many bytes
 
 number_rest : (size : ℕ) (n : Option ℕ) (rest : List ℕ) (x : ℕ × List ℕ) → number_or_cut size n rest ≡ Ok x → rest ≡ x.1
 number_rest size None rest x e = absurd (cc)
@@ -44,13 +37,13 @@ magic_len : (size : ℕ) (bytes rest : List ℕ) (layout : Option Layout) (x : L
 magic_len size bytes rest None x e = absurd (cc)
 magic_len size bytes rest (Some layout) x e = ap (λ (p : Layout × List ℕ). p.1) (ok_is (layout, rest) x e)
 
-layout_len : (size : ℕ) (bytes : List ℕ) (x : Layout × List ℕ) → layout_field size bytes ≡ Ok x → length bytes ≡ 4 + length x.1
+pub layout_len : (size : ℕ) (bytes : List ℕ) (x : Layout × List ℕ) → layout_field size bytes ≡ Ok x → length bytes ≡ 4 + length x.1
 unfolding layout_field
 layout_len size bytes x e =
     let a = bind_ok (number_field size bytes) (λ word. layout_or_magic size bytes (layout_of word.0) word.1) x e in
     number_len size bytes a.0 a.1 ∙ ap (λ rest. 4 + length rest) (magic_len size bytes a.0.1 (layout_of a.0.0) x a.2)
 
-base_len : (size : ℕ) (bytes : List ℕ) (x : ℕ × List ℕ) → base_field size bytes ≡ Ok x → length bytes ≡ 4 + length x.1
+pub base_len : (size : ℕ) (bytes : List ℕ) (x : ℕ × List ℕ) → base_field size bytes ≡ Ok x → length bytes ≡ 4 + length x.1
 unfolding base_field
 base_len size bytes x e = (judged_len base_fault size bytes x e).0
 
@@ -58,7 +51,7 @@ none_fault : (b : Bool) (kind : FileKind) → cond b None (Some kind) ≡ None �
 none_fault true kind e = refl
 none_fault false kind e = absurd (cc)
 
-word_count_len : (size base : ℕ) (bytes : List ℕ) (x : ℕ × List ℕ) → word_count_field size base bytes ≡ Ok x → (length bytes ≡ 4 + length x.1) × (x.0 ≤ 1048576)
+pub word_count_len : (size base : ℕ) (bytes : List ℕ) (x : ℕ × List ℕ) → word_count_field size base bytes ≡ Ok x → (length bytes ≡ 4 + length x.1) × (x.0 ≤ 1048576)
 unfolding word_count_field
 word_count_len size base bytes x e =
     let a = judged_len (word_count_fault base) size bytes x e in
@@ -74,11 +67,11 @@ words_if size count bytes x true is e =
     (omega (arith, enough, left))
 words_if size count bytes x false is e = absurd (cc)
 
-words_len : (size count : ℕ) (bytes : List ℕ) (x : List ℕ × List ℕ) → words_field size count bytes ≡ Ok x → length bytes ≡ 4 * count + length x.1
+pub words_len : (size count : ℕ) (bytes : List ℕ) (x : List ℕ × List ℕ) → words_field size count bytes ≡ Ok x → length bytes ≡ 4 * count + length x.1
 unfolding words_field
 words_len size count bytes x e = words_if size count bytes x (nat_le (4 * count) (length bytes)) refl e
 
-chunk_count_len : (size : ℕ) (bytes : List ℕ) (x : ℕ × List ℕ) → chunk_count_field size bytes ≡ Ok x → (length bytes ≡ 4 + length x.1) × (x.0 ≤ 4096)
+pub chunk_count_len : (size : ℕ) (bytes : List ℕ) (x : ℕ × List ℕ) → chunk_count_field size bytes ≡ Ok x → (length bytes ≡ 4 + length x.1) × (x.0 ≤ 4096)
 unfolding chunk_count_field
 chunk_count_len size bytes x e =
     let a = judged_len chunk_count_fault size bytes x e in
@@ -107,11 +100,11 @@ long_chunk_len size program from sum bytes x e =
     let two = number_len size a.0.1 c.0 c.1 in
     subst (λ (y : Chunk × List ℕ). length bytes ≤ 8 + length y.1) {x = (chunk a.0.0 c.0.0, c.0.1)} same (omega (arith, one, two))
 
-chunk_len : (layout : Layout) (size : ℕ) (program : RiscProgram) (from sum : ℕ) (bytes : List ℕ) (x : Chunk × List ℕ) → chunk_field layout size program from sum bytes ≡ Ok x → length bytes ≤ 8 + length x.1
+pub chunk_len : (layout : Layout) (size : ℕ) (program : RiscProgram) (from sum : ℕ) (bytes : List ℕ) (x : Chunk × List ℕ) → chunk_field layout size program from sum bytes ≡ Ok x → length bytes ≤ 8 + length x.1
 chunk_len Paged size program from sum bytes x e = page_len size program from bytes x e
 chunk_len Chunked size program from sum bytes x e = long_chunk_len size program from sum bytes x e
 
-chunks_len : (layout : Layout) (size : ℕ) (program : RiscProgram) (count from sum : ℕ) (bytes : List ℕ) (x : List Chunk × List ℕ) → chunks_field layout size program count from sum bytes ≡ Ok x →
+pub chunks_len : (layout : Layout) (size : ℕ) (program : RiscProgram) (count from sum : ℕ) (bytes : List ℕ) (x : List Chunk × List ℕ) → chunks_field layout size program count from sum bytes ≡ Ok x →
     length bytes ≤ 8 * count + length x.1
 unfolding chunks_field
 chunks_len layout size program zero from sum bytes x e =
@@ -123,49 +116,3 @@ chunks_len layout size program (suc count) from sum bytes x e =
     let one = chunk_len layout size program from sum bytes a.0 a.1 in
     let rest = chunks_len layout size program count (a.0.0.at + a.0.0.len) (sum + a.0.0.len) a.0.1 b.0 b.1 in
     subst (λ (y : List Chunk × List ℕ). length bytes ≤ 8 * suc count + length y.1) {x = (a.0.0 ∷ b.0.0, b.0.1)} (ok_is (a.0.0 ∷ b.0.0, b.0.1) x b.2) (omega (arith, one, rest))
-
-ended_len : (size fill : ℕ) (rest : List ℕ) (x : ℕ) → nothing_after size fill rest ≡ Ok x → length rest ≡ 0
-ended_len size fill [] x e = refl
-ended_len size fill (byte ∷ rest) x e = absurd (cc)
-
-fill_len : (layout : Layout) (size : ℕ) (chunks : List Chunk) (bytes : List ℕ) (x : ℕ) → fill_field layout size chunks bytes ≡ Ok x → length bytes ≡ 1
-unfolding fill_field
-fill_len layout size chunks [] x e = absurd (cc)
-fill_len layout size chunks (fill ∷ rest) x e =
-    let a = bind_ok (judged (fill_fault layout chunks) size (fill ∷ rest)) (λ _. nothing_after size fill rest) x e in
-    let none = ended_len size fill rest x a.2 in
-    omega (arith, none)
-
--- ---- the whole file
-
-longest : (size : ℕ) (bytes : List ℕ) (found : ProgramFile) → file.program_in size bytes ≡ Ok found → length bytes ≤ longest_program
-longest size bytes found e =
-    let layout = bind_ok (layout_field size bytes) (λ x. with_layout size x) found (sym (field_by_field size bytes) ∙ e) in
-    let base = bind_ok (base_field size layout.0.1) (λ y. with_base size layout.0.0 y) found layout.2 in
-    let count = bind_ok (word_count_field size base.0.0 base.0.1) (λ y. with_count size layout.0.0 base.0.0 y) found base.2 in
-    let words = bind_ok (words_field size count.0.0 count.0.1) (λ y. with_words size layout.0.0 base.0.0 y) found count.2 in
-    let chunk_count = bind_ok (chunk_count_field size words.0.1) (λ z. with_chunk_count size layout.0.0 base.0.0 words.0.0 z) found words.2 in
-    let chunks = bind_ok (chunks_field layout.0.0 size (without_grants base.0.0 words.0.0) chunk_count.0.0 0 0 chunk_count.0.1) (λ y. with_chunks size layout.0.0 base.0.0 words.0.0 y) found chunk_count.2 in
-    let fill = bind_ok (fill_field layout.0.0 size chunks.0.0 chunks.0.1) (λ f. Ok (record { program = record { base = base.0.0; words = words.0.0; grants = chunks.0.0 }; fill = f })) found chunks.2 in
-    sum (length bytes) (length layout.0.1) (length base.0.1) (length count.0.1) (length words.0.1) (length chunk_count.0.1) (length chunks.0.1) count.0.0 chunk_count.0.0
-    (layout_len size bytes layout.0 layout.1) (base_len size layout.0.1 base.0 base.1) (word_count_len size base.0.0 base.0.1 count.0 count.1)
-    (words_len size count.0.0 count.0.1 words.0 words.1) (chunk_count_len size words.0.1 chunk_count.0 chunk_count.1)
-    (chunks_len layout.0.0 size (without_grants base.0.0 words.0.0) chunk_count.0.0 0 0 chunk_count.0.1 chunks.0 chunks.1)
-    (fill_len layout.0.0 size chunks.0.0 chunks.0.1 fill.0 fill.1)
-  where
-    sum : (a b c d e f g n k : ℕ) → a ≡ 4 + b → b ≡ 4 + c → (c ≡ 4 + d) × (n ≤ 1048576) → d ≡ 4 * n + e → (e ≡ 4 + f) × (k ≤ 4096) → f ≤ 8 * k + g → g ≡ 1 → a ≤ 4227089
-    sum a b c d e f g n k one two three four five six seven = omega (arith, one, two, three.0, three.1, four, five.0, five.1, six, seven)
-
--- what is read of a program file is all of it
-same_of : (bytes : List ℕ) → length bytes ≤ longest_program → program_in bytes ≡ program_of bytes
-same_of bytes few = ap program_of (take_all (longest_program + 1) bytes (omega (arith, few)))
-
-pub as_whole : (bytes : List ℕ) (found : ProgramFile) → program_in bytes ≡ Ok found → program_of bytes ≡ Ok found
-as_whole bytes found e =
-    let front : List ℕ = take (longest_program + 1) bytes in
-    let few = longest (length front) front found e in
-    let size = length-take (longest_program + 1) bytes in
-    sym (same_of bytes (omega (arith, few, size))) ∙ e
-
-pub as_read : (bytes : List ℕ) (found : ProgramFile) → program_of bytes ≡ Ok found → program_in bytes ≡ Ok found
-as_read bytes found e = same_of bytes (longest (length bytes) bytes found e) ∙ e

@@ -4,4 +4,5 @@ pub mod Loading
 pub mod Fitting
 pub mod Composing
 pub mod Lengths
+pub mod Whole
 pub mod Consequences

@@ -8,7 +8,7 @@ use Rattle.capture_file.specs.declared.Input.TheVariants.{Program, Stream, Desc,
 use Rattle.capture_file.specs.Streams.{steps_of}
 use Rattle.bt878_top.specs.Desks.{Seen, OfInput, OfRest, OfFile, SameCounts, apart}
 use Rattle.bt878_top.specs.Plays.{HasPlayed, StopsPlaying, longest_stream}
-use Rattle.bt878_top.specs.Programs.{HasRun, IsMade, IsTaken, StopsAtStream}
+use Rattle.bt878_top.specs.Programs.{HasRun, IsMade, HoldsSound, StopsAtStream}
 
 -- the inputs stay through what only reads
 pub same_inputs : (a b : Told) → apart a ≡ apart b → a.inputs ≡ b.inputs
@@ -86,8 +86,8 @@ stops_before WriteFault name old mid new same counts h = h
 stops_before (Rejected at nth cause) name old mid new same counts h = h
 stops_before NoMemory name old mid new same counts h = tt
 
-pub made_is_taken : (name : List ℕ) (inputs : Option Inputs) (m : State) → OfInput name inputs (λ bytes. IsMade bytes m) → OfInput name inputs IsTaken
-made_is_taken name inputs m h = OfInput-map name inputs (λ bytes. IsMade bytes m) IsTaken (λ bytes made. (made.program, made.fill, made.accepts)) h
+pub made_is_taken : (name : List ℕ) (inputs : Option Inputs) (m : State) → OfInput name inputs (λ bytes. IsMade bytes m) → OfInput name inputs HoldsSound
+made_is_taken name inputs m h = OfInput-map name inputs (λ bytes. IsMade bytes m) HoldsSound (λ bytes made. (made.program, made.fill, made.accepts)) h
 
 pub has_run : (program stream : List ℕ) (old mid : Told) (first last : State) → apart mid ≡ apart old →
     OfInput program old.inputs (λ bytes. IsMade bytes first) → OfInput stream mid.inputs (λ bytes. HasPlayed bytes first last) →

@@ -4,7 +4,7 @@ use Rattle.bt878_words.specs.declared.Command.{Command}
 use Rattle.bt878_words.specs.declared.UsageFault.{UsageFault}
 use Rattle.capture_desk.specs.Desks.{Inputs, Outputs, Told, is_among, is_missing, output_named}
 use Rattle.machine_model.specs.declared.Cause.{Cause}
-use Rattle.machine_model.specs.Paths.{IsSound, IsFirstBad}
+use Rattle.machine_model.specs.Paths.{IsSound}
 use Rattle.machine_model.specs.States.{State, first_state}
 use Rattle.machine_model.specs.Steps.{run, state_at}
 use Rattle.machine_model.specs.Safety.{IsInside}
@@ -23,7 +23,7 @@ use Rattle.bt878_top.specs.declared.answer.Answer.TheVariants.{Done, Usage, Read
 use Rattle.bt878_top.specs.Desks.{Seen, OfInput, ReadsRose, WritesRose}
 use Rattle.bt878_top.specs.Texts.{accepted_text, report_text}
 use Rattle.bt878_top.specs.Plays.{longest_stream}
-use Rattle.bt878_top.specs.Programs.{program_in}
+use Rattle.bt878_top.specs.Programs.{HoldsSound, Rejects}
 use Rattle.bt878_top.specs.Tasks.{Task, Lists, Verifies, Runs}
 
 -- ---- the words
@@ -40,17 +40,13 @@ abbrev pub AreTold : Option Inputs → Type 0
 AreTold None = ⊥
 AreTold (Some inputs) = ⊤
 
--- the whole file is that of a sound program
-abbrev pub HoldsSound : List ℕ → Type 0
-HoldsSound bytes = (file : ProgramFile) × (program_of bytes ≡ Ok file) × IsSound file.program
-
--- the whole file is that of a program with a place of its path that isn't fine: the first is this one
+-- a file is that of a program with a place of its path that isn't fine: the first is this one
 abbrev pub HoldsBad : ℕ → ℕ → Cause → List ℕ → Type 0
-HoldsBad at nth cause bytes = (file : ProgramFile) × (program_of bytes ≡ Ok file) × IsFirstBad file.program at nth cause
+HoldsBad at nth cause bytes = Rejects (program_of bytes) at nth cause
 
--- the first fault of a program file, as far as it is read: to one byte beyond the longest
+-- the first fault of a program file
 abbrev pub IsFaultyProgram : FileFault → List ℕ → Type 0
-IsFaultyProgram fault bytes = program_in bytes ≡ Err fault
+IsFaultyProgram fault bytes = program_of bytes ≡ Err fault
 
 -- the first fault of a stream file
 abbrev pub IsFaultyStream : FileFault → List ℕ → Type 0

@@ -1,5 +1,5 @@
 -- A program file that is read and judged, and the machine that it makes.
-use Rattle.std.specs.Prelude.{◌≡◌, ℕ, ◌+◌, ◌⊎◌, ⊤, false, List, take, Result, Ok, Err}
+use Rattle.std.specs.Prelude.{◌≡◌, ℕ, ◌⊎◌, ⊤, false, List, Result, Ok, Err}
 use Rattle.machine_model.specs.declared.Cause.{Cause}
 use Rattle.machine_model.specs.Paths.{RiscProgram, IsSound, IsFirstBad}
 use Rattle.machine_model.specs.States.{State, first_state}
@@ -17,9 +17,6 @@ use Rattle.bt878_top.specs.Plays.{HasPlayed, longest_stream}
 -- the most bytes of a program file, which is read to one byte beyond them at most
 abbrev pub longest_program : ℕ
 longest_program = 4227089
-
-abbrev pub program_in : List ℕ → Result ProgramFile FileFault
-program_in bytes = program_of (take (longest_program + 1) bytes)
 
 -- a file gives this program, which is sound, and this fill
 pub record Accepts (found : Result ProgramFile FileFault) (program : RiscProgram) (fill : ℕ) : Type 0 where
@@ -48,14 +45,14 @@ Refuses file _ = ⊥
 abbrev pub StopsAtFile : List ℕ → Answer → Seen → Seen → Type 0
 StopsAtFile name ReadFault old new = IsUnread name old new
 StopsAtFile name (Malformed Program fault) old new =
-    OfInput name old.told.inputs (λ bytes. program_in bytes ≡ Err fault)
+    OfInput name old.told.inputs (λ bytes. program_of bytes ≡ Err fault)
 StopsAtFile name NoMemory old new = ⊤
 StopsAtFile name _ old new = ⊥
 
 -- why an input's program isn't taken: it isn't sound, or it isn't read
 abbrev pub StopsAtProgram : List ℕ → Answer → Seen → Seen → Type 0
 StopsAtProgram name (Rejected at nth cause) old new =
-    OfInput name old.told.inputs (λ bytes. Rejects (program_in bytes) at nth cause)
+    OfInput name old.told.inputs (λ bytes. Rejects (program_of bytes) at nth cause)
 StopsAtProgram name answer old new = StopsAtFile name answer old new
 
 -- why an input's stream isn't played
@@ -69,24 +66,24 @@ StopsAtStream name _ old new = ⊥
 -- a text is the listing of a file's program
 pub record IsListed (bytes text : List ℕ) : Type 0 where
   pub file : ProgramFile
-  pub reads : program_in bytes ≡ Ok file
+  pub reads : program_of bytes ≡ Ok file
   pub lists : text ≡ listing file.program file.fill
 
--- a file's program is taken
-abbrev pub IsTaken : List ℕ → Type 0
-IsTaken bytes = (program : RiscProgram) × (fill : ℕ) × Accepts (program_in bytes) program fill
+-- a file is that of a sound program
+abbrev pub HoldsSound : List ℕ → Type 0
+HoldsSound bytes = (program : RiscProgram) × (fill : ℕ) × Accepts (program_of bytes) program fill
 
 -- why a run stops: at its program, or the program is taken and it stops at its stream
 abbrev pub StopsAtRun : List ℕ → List ℕ → Answer → Seen → Seen → Type 0
 StopsAtRun program stream answer old new =
     StopsAtProgram program answer old new
-    ⊎ (OfInput program old.told.inputs IsTaken × StopsAtStream stream answer old new)
+    ⊎ (OfInput program old.told.inputs HoldsSound × StopsAtStream stream answer old new)
 
 -- the machine that a program file makes
 pub record IsMade (bytes : List ℕ) (m : State) : Type 0 where
   pub program : RiscProgram
   pub fill : ℕ
-  pub accepts : Accepts (program_in bytes) program fill
+  pub accepts : Accepts (program_of bytes) program fill
   pub first : m ≡ first_state program fill
 
 -- the machine that a program file made, after a whole stream

@@ -11,6 +11,7 @@ use Rattle.machine_model.specs.States.{first_state}
 use Rattle.machine_model.specs.Steps.{run, state_at}
 use Rattle.machine_model.specs.Safety.{IsInside}
 use Rattle.capture_file.specs.declared.Step.{Step}
+use Rattle.capture_file.specs.Programs.{program_of}
 use Rattle.capture_file.specs.Streams.{steps_of, steps_run}
 use Rattle.capture_file.specs.Images.{image_of}
 use Rattle.dma_machine.specs.Facts.{report_of}
@@ -18,7 +19,7 @@ use Rattle.bt878_top.specs.declared.answer.Answer.{Answer}
 use Rattle.bt878_top.specs.declared.answer.Answer.TheVariants.{Done, Usage, WriteFault}
 use Rattle.bt878_top.specs.Desks.{Seen, Product, OfInput, SameCounts, WritesRose, Says, apart, delivered, IsPart}
 use Rattle.bt878_top.specs.Texts.{accepted_text, answer_text, report_text}
-use Rattle.bt878_top.specs.Programs.{Accepts, IsListed, IsTaken, StopsAtFile, StopsAtProgram, StopsAtRun, program_in}
+use Rattle.bt878_top.specs.Programs.{Accepts, IsListed, HoldsSound, StopsAtFile, StopsAtProgram, StopsAtRun}
 use Rattle.bt878_top.specs.Plays.{longest_stream}
 
 -- what is asked for, with the names of the files
@@ -50,7 +51,7 @@ pub record RunMakes (program_bytes stream_bytes image : List ℕ) (product : Pro
   pub program : RiscProgram
   pub fill : ℕ
   pub steps : List Step
-  pub accepts : Accepts (program_in program_bytes) program fill
+  pub accepts : Accepts (program_of program_bytes) program fill
   pub reads : steps_of longest_stream false stream_bytes ≡ Ok steps
   pub images : product.files ≡ (image, image_of (run (first_state program fill) (steps_run steps)).memory) ∷ []
   pub reports : product.text ≡ report_text (report_of (run (first_state program fill) (steps_run steps)))
@@ -65,7 +66,7 @@ abbrev pub Makes : Task → Option Inputs → Product → Type 0
 Makes (Lists program) inputs product =
     OfInput program inputs (λ bytes. IsListed bytes product.text) × (product.files ≡ [])
 Makes (Verifies program) inputs product =
-    OfInput program inputs IsTaken × (product ≡ record { files = []; text = accepted_text })
+    OfInput program inputs HoldsSound × (product ≡ record { files = []; text = accepted_text })
 Makes (Runs program stream image) inputs product =
     HasOutput image product
     × OfInput program inputs (λ program_bytes.

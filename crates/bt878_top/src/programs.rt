@@ -4,7 +4,7 @@ ghost use Rattle.std.specs.Prelude.{◌≡◌, ◌<◌, length, string_bytes, If
 ghost use Rattle.capture_desk.specs.Desks.{IsAllowed};
 ghost use Rattle.capture_file.specs.Programs.{program_of};
 ghost use Rattle.bt878_top.specs.Desks.{CountsBy, OfInput, apart, seen_by};
-ghost use Rattle.bt878_top.specs.Programs.{Accepts, HasRun, IsListed, IsMade, Misreads, Refuses, StopsAtFile, StopsAtProgram, StopsAtRun, StopsAtStream, program_in};
+ghost use Rattle.bt878_top.specs.Programs.{Accepts, HasRun, IsListed, IsMade, Misreads, Refuses, StopsAtFile, StopsAtProgram, StopsAtRun, StopsAtStream};
 ghost use Rattle.bt878_top.specs.Plays.{HasPlayed};
 ghost use Rattle.bt878_top.specs.Texts.{report_text};
 ghost use Rattle.dma_machine.specs.Facts.{report_of};
@@ -57,13 +57,16 @@ fn parse(alloc: Global, bytes: &[u8]) -> Result<ProgramFile, Answer>
 /// Reads a program file.
 fn read_file<D: Desk>(alloc: Global, name: &str, desk: &mut D) -> Result<ProgramFile, Answer>
     requires { IsAllowed name.now (D.told desk.old).may_open }
-    ensures reads { IfOk result (λ file. OfInput name.now (D.told desk.old).inputs (λ bytes. program_in bytes ≡ Ok file)) }
+    ensures reads { IfOk result (λ file. OfInput name.now (D.told desk.old).inputs (λ bytes. program_of bytes ≡ Ok file)) }
     ensures stops { IfErr result (λ answer. StopsAtFile name.now answer (seen_by D.told D.read_faults D.write_faults desk.old) (seen_by D.told D.read_faults D.write_faults desk.new)) }
     ensures told { apart (D.told desk.new) ≡ apart (D.told desk.old) }
     ensures counts { CountsBy result (seen_by D.told D.read_faults D.write_faults desk.old) (seen_by D.told D.read_faults D.write_faults desk.new) }
 {
     let bytes = read_whole(alloc, name, LONGEST_PROGRAM, desk)?;
-    parse(alloc, &bytes)
+    match parse(alloc, &bytes) {
+        Ok(file) => Ok(file),
+        Err(answer) => Err(answer),
+    }
 }
 
 /// Reads a program file, whose program need not be sound, and makes its listing.
@@ -103,7 +106,7 @@ fn judge<L: Ledger>(alloc: Global, file: ProgramFile, blank: Blank) -> Result<Lo
 /// Reads a program file and judges its program.
 pub fn accept<D: Desk>(alloc: Global, name: &str, desk: &mut D) -> Result<Loaded, Answer>
     requires { IsAllowed name.now (D.told desk.old).may_open }
-    ensures accepts { IfOk result (λ loaded. OfInput name.now (D.told desk.old).inputs (λ bytes. Accepts (program_in bytes) loaded.accepted loaded.fill)) }
+    ensures accepts { IfOk result (λ loaded. OfInput name.now (D.told desk.old).inputs (λ bytes. Accepts (program_of bytes) loaded.accepted loaded.fill)) }
     ensures stops { IfErr result (λ answer. StopsAtProgram name.now answer (seen_by D.told D.read_faults D.write_faults desk.old) (seen_by D.told D.read_faults D.write_faults desk.new)) }
     ensures told { apart (D.told desk.new) ≡ apart (D.told desk.old) }
     ensures counts { CountsBy result (seen_by D.told D.read_faults D.write_faults desk.old) (seen_by D.told D.read_faults D.write_faults desk.new) }
