@@ -35,54 +35,98 @@ fn answer_words<D: Desk>(alloc: Global, words: &[&str], desk: &mut D) -> Answer
     }
 }
 
-/// Does what the words after the program's name ask for, over the files of a desk. It opens no name but the command's
-/// inputs, one after the other, each judged before the next is opened; creates no name but its outputs, and only after
-/// all inputs were found good; and says its text last. What a clause says of a content holds where the desk tells it.
+/// Does what the words after the program's name ask for, over the files of a desk. It opens no name but
+/// the command's inputs, one after the other, each judged before the next is opened; creates no name but
+/// its outputs, and only after all inputs were found good; and says its text last. What a clause says of
+/// a content holds where the desk tells it. (The commands, their texts and their order of work are this
+/// project's own rules.)
 pub fn bt878<D: Desk>(alloc: Global, words: &[&str], desk: &mut D) -> Answer
     requires opens { AreNames (inputs_of (map (λ w. w.now) words.now)) (D.told desk.old).may_open }
     requires creates { AreNames (outputs_of (map (λ w. w.now) words.now)) (D.told desk.old).may_create }
 
     // All that is promised, by cases on the words and the answer. What follows says its parts.
-    ensures answers { Answers (task_of (map (λ w. w.now) words.now)) result (seen_by D.told D.read_faults D.write_faults desk.old) (seen_by D.told D.read_faults D.write_faults desk.new) }
+    ensures answers { Answers (task_of (map (λ w. w.now) words.now)) result
+        (seen_by D.told D.read_faults D.write_faults desk.old)
+        (seen_by D.told D.read_faults D.write_faults desk.new) }
 
-    // The words: Usage comes exactly where they have a fault, and is the first; so NoMemory never comes there.
+    // The words: Usage comes exactly where they have a fault, and is the first; so NoMemory never
+    // comes there.
     ensures usage { IsUsage (command_of (map (λ w. w.now) words.now)) result }
 
     // At Done of `run` and `verify` the program of the whole program file is sound.
-    ensures sound { (result ≡ Answer.Done) → IsSoundAt (task_of (map (λ w. w.now) words.now)) (D.told desk.old).inputs }
+    ensures sound { (result ≡ Answer.Done) →
+        IsSoundAt (task_of (map (λ w. w.now) words.now)) (D.told desk.old).inputs }
 
-    // At Done of `run` the image is that of the memory after exactly the steps of the whole stream, from the first
-    // state, in which every granted byte is the fill, and the text is the report of that same state.
-    ensures image_and_report { (result ≡ Answer.Done) → ImageAndReport (task_of (map (λ w. w.now) words.now)) (D.told desk.old) (D.told desk.new) }
+    // At Done of `run` the image is that of the memory after exactly the steps of the whole stream,
+    // from the first state, in which every granted byte is the fill, and the text is the report of
+    // that same state.
+    ensures image_and_report { (result ≡ Answer.Done) →
+        ImageAndReport (task_of (map (λ w. w.now) words.now)) (D.told desk.old) (D.told desk.new) }
 
-    // At Done of `run`: at every place of those steps, what the turn there writes is granted, what it fetches is a word
-    // of the program, and OCERR is 0.
-    ensures inside { (result ≡ Answer.Done) → StaysInside (task_of (map (λ w. w.now) words.now)) (D.told desk.old).inputs }
+    // At Done of `run`: at every place of those steps, what the turn there writes is granted, what it
+    // fetches is a word of the program, and OCERR is 0.
+    ensures inside { (result ≡ Answer.Done) →
+        StaysInside (task_of (map (λ w. w.now) words.now)) (D.told desk.old).inputs }
 
-    // At Done of `verify` and of `list`: what was said, and that nothing was created.
-    ensures accepted { (result ≡ Answer.Done) → SaysAccepted (task_of (map (λ w. w.now) words.now)) (D.told desk.old) (D.told desk.new) }
-    ensures listed { (result ≡ Answer.Done) → SaysListing (task_of (map (λ w. w.now) words.now)) (D.told desk.old) (D.told desk.new) }
-    ensures done { (result ≡ Answer.Done) → SameCounts (seen_by D.told D.read_faults D.write_faults desk.old) (seen_by D.told D.read_faults D.write_faults desk.new) }
+    // At Done of `verify` and of `list`: what was said, and that nothing was created. At Done both
+    // counts of faults are as they were.
+    ensures accepted { (result ≡ Answer.Done) →
+        SaysAccepted (task_of (map (λ w. w.now) words.now)) (D.told desk.old) (D.told desk.new) }
+    ensures listed { (result ≡ Answer.Done) →
+        SaysListing (task_of (map (λ w. w.now) words.now)) (D.told desk.old) (D.told desk.new) }
+    ensures done { (result ≡ Answer.Done) →
+        SameCounts
+        (seen_by D.told D.read_faults D.write_faults desk.old)
+        (seen_by D.told D.read_faults D.write_faults desk.new) }
 
     // When each refusal comes, and, but for want of memory and faults of reading, that it must come.
-    ensures read_fault { (result ≡ Answer.ReadFault) → IsUnreadOf (inputs_of (map (λ w. w.now) words.now)) (seen_by D.told D.read_faults D.write_faults desk.old) (seen_by D.told D.read_faults D.write_faults desk.new) }
-    ensures malformed { (file : Input) → (fault : FileFault) → (result ≡ Answer.Malformed file fault) → HasFault (task_of (map (λ w. w.now) words.now)) file fault (D.told desk.old).inputs }
-    ensures malformed_must { AreTold (D.told desk.old).inputs → (file : Input) → (fault : FileFault) → HasFault (task_of (map (λ w. w.now) words.now)) file fault (D.told desk.old).inputs → UnlessCut (Answer.Malformed file fault) result (seen_by D.told D.read_faults D.write_faults desk.old) (seen_by D.told D.read_faults D.write_faults desk.new) }
-    ensures rejected { (at : ℕ) → (nth : ℕ) → (cause : Cause) → (result ≡ Answer.Rejected at nth cause) → HasBad (task_of (map (λ w. w.now) words.now)) at nth cause (D.told desk.old).inputs }
-    ensures rejected_must { AreTold (D.told desk.old).inputs → (at : ℕ) → (nth : ℕ) → (cause : Cause) → HasBad (task_of (map (λ w. w.now) words.now)) at nth cause (D.told desk.old).inputs → UnlessCut (Answer.Rejected at nth cause) result (seen_by D.told D.read_faults D.write_faults desk.old) (seen_by D.told D.read_faults D.write_faults desk.new) }
+    ensures read_fault { (result ≡ Answer.ReadFault) →
+        IsUnreadOf (inputs_of (map (λ w. w.now) words.now))
+        (seen_by D.told D.read_faults D.write_faults desk.old)
+        (seen_by D.told D.read_faults D.write_faults desk.new) }
+    ensures malformed { (file : Input) (fault : FileFault) → (result ≡ Answer.Malformed file fault) →
+        HasFault (task_of (map (λ w. w.now) words.now)) file fault (D.told desk.old).inputs }
+    ensures malformed_must { AreTold (D.told desk.old).inputs → (file : Input) (fault : FileFault) →
+        HasFault (task_of (map (λ w. w.now) words.now)) file fault (D.told desk.old).inputs →
+        UnlessCut (Answer.Malformed file fault) result
+        (seen_by D.told D.read_faults D.write_faults desk.old)
+        (seen_by D.told D.read_faults D.write_faults desk.new) }
+    ensures rejected { (at nth : ℕ) (cause : Cause) → (result ≡ Answer.Rejected at nth cause) →
+        HasBad (task_of (map (λ w. w.now) words.now)) at nth cause (D.told desk.old).inputs }
+    ensures rejected_must { AreTold (D.told desk.old).inputs → (at nth : ℕ) (cause : Cause) →
+        HasBad (task_of (map (λ w. w.now) words.now)) at nth cause (D.told desk.old).inputs →
+        UnlessCut (Answer.Rejected at nth cause) result
+        (seen_by D.told D.read_faults D.write_faults desk.old)
+        (seen_by D.told D.read_faults D.write_faults desk.new) }
 
     // Good inputs and no fault of the desk give Done, or want of memory.
-    ensures complete { AreTold (D.told desk.old).inputs → IsGood (task_of (map (λ w. w.now) words.now)) (D.told desk.old).inputs → ¬ (ReadsRose (seen_by D.told D.read_faults D.write_faults desk.old) (seen_by D.told D.read_faults D.write_faults desk.new)) → ¬ (WritesRose (seen_by D.told D.read_faults D.write_faults desk.old) (seen_by D.told D.read_faults D.write_faults desk.new)) → ((result ≡ Answer.Done) ⊎ (result ≡ Answer.NoMemory)) }
+    ensures complete { AreTold (D.told desk.old).inputs →
+        IsGood (task_of (map (λ w. w.now) words.now)) (D.told desk.old).inputs →
+        ¬ (ReadsRose
+        (seen_by D.told D.read_faults D.write_faults desk.old)
+        (seen_by D.told D.read_faults D.write_faults desk.new)) →
+        ¬ (WritesRose
+        (seen_by D.told D.read_faults D.write_faults desk.old)
+        (seen_by D.told D.read_faults D.write_faults desk.new)) →
+        ((result ≡ Answer.Done) ⊎ (result ≡ Answer.NoMemory)) }
 
-    // A refusal creates nothing and says its text, or a part of it where the desk met a fault of writing.
-    ensures refused { IsRefusal result → OnlySays (answer_text result) (seen_by D.told D.read_faults D.write_faults desk.old) (seen_by D.told D.read_faults D.write_faults desk.new) }
+    // A refusal creates nothing and says its text, or a part of it where the desk met a fault of
+    // writing.
+    ensures refused { IsRefusal result →
+        OnlySays (answer_text result)
+        (seen_by D.told D.read_faults D.write_faults desk.old)
+        (seen_by D.told D.read_faults D.write_faults desk.new) }
 
     // A fault of writing: when it comes, and what stands after it.
-    ensures write_fault { (result ≡ Answer.WriteFault) → WritesRose (seen_by D.told D.read_faults D.write_faults desk.old) (seen_by D.told D.read_faults D.write_faults desk.new) }
-    ensures stands { (result ≡ Answer.WriteFault) → StandsAt (task_of (map (λ w. w.now) words.now)) (D.told desk.old) (D.told desk.new) }
+    ensures write_fault { (result ≡ Answer.WriteFault) →
+        WritesRose
+        (seen_by D.told D.read_faults D.write_faults desk.old)
+        (seen_by D.told D.read_faults D.write_faults desk.new) }
+    ensures stands { (result ≡ Answer.WriteFault) →
+        StandsAt (task_of (map (λ w. w.now) words.now)) (D.told desk.old) (D.told desk.new) }
 
-    // Whatever the answer: an output whose name isn't the command's is as it was, and so are the inputs and the names
-    // that may be opened and created.
+    // Whatever the answer: an output whose name isn't the command's is as it was, and so are the
+    // inputs and the names that may be opened and created.
     ensures untouched { OnlyOutputs (outputs_of (map (λ w. w.now) words.now)) (D.told desk.old) (D.told desk.new) }
     ensures names { SameNames (D.told desk.old) (D.told desk.new) }
 {
