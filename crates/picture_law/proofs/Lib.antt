@@ -1,0 +1,6 @@
+pub mod Program
+pub mod Cuts
+pub mod Goes
+pub mod Lines
+pub mod Serves
+pub mod Body

@@ -1,0 +1,165 @@
+-- The section of a field stands in the program of its description.
+use Rattle.std.proofs.Common.{◌≡◌, ℕ, zero, suc, ◌+◌, ◌-◌, ◌*◌, ◌<◌, Bool, true, false, List, [], ◌∷◌, ◌++◌, length, length-append, append_assoc, map, Option, None, Ok, refl, sym, ap, ◌∙◌, subst, arith}
+use Rattle.std.proofs.lemmas.Bool.{cond-true}
+use Rattle.std.proofs.lemmas.List.{append-nil}
+use Rattle.risc_word.specs.declared.Ctl.{Ctl}
+use Rattle.risc_word.specs.declared.Instr.{Instr}
+use Rattle.risc_word.specs.declared.Instr.TheVariants as instr
+use Rattle.risc_word.specs.Words.{IsInstr, encoded, instr_at}
+use Rattle.risc_word.proofs.ReadBack.{reads_back}
+use Rattle.pixel_layout.specs.declared.Parity.{Parity}
+use Rattle.pixel_layout.specs.declared.Parity.TheVariants.{Top, Bottom}
+use Rattle.machine_model.specs.Paths.{RiscProgram, is_word, word_number, fetch, demands_of, demands_cause, instr_cause}
+use Rattle.capture_desc.specs.declared.desc.Desc.{Desc}
+use Rattle.capture_desc.specs.declared.desc.Fields.{Fields}
+use Rattle.capture_desc.specs.declared.desc.Fields.TheVariants as fields
+use Rattle.picture_model.specs.declared.PieceKind.{PieceKind}
+use Rattle.picture_model.specs.declared.PieceKind.TheVariants.{Write, WriteLuma, Skip}
+use Rattle.picture_model.specs.declared.Piece.{Piece}
+use Rattle.picture_model.specs.Described.{describes, memory_of}
+use Rattle.picture_model.specs.Plans.{Strip, plan}
+use Rattle.picture_model.specs.Programs.{begin_by, body, closing, closing_begin, compiled, instr_by, instr_of, line_instrs, lines_instrs, next_by, opening, picture_strips, section, section_begin, section_length, section_next, sections, signal, vbi_from, vbi_instrs, vbi_strips, field_instrs, words_of}
+use Rattle.picture_model.proofs.Circle.{a_word, split_length, words_split}
+use Rattle.picture_model.proofs.Each.{Each, each_append}
+use Rattle.picture_model.proofs.Fine.{IsGoodInstr}
+use Rattle.picture_model.proofs.Right.{IsRight}
+use Rattle.picture_model.proofs.Sections.{good_body, section_stands}
+use Rattle.field_law.specs.Sections.{IsPlain, HoldsFrom, Holds, closing_at, words_in}
+use Rattle.picture_law.specs.Arrivals.{after_opening}
+use Rattle.picture_law.specs.Sections.{section_of}
+
+-- ---- the instructions of a body
+
+piece_plain : (planar : Bool) (kind : PieceKind) (p : Piece) → IsPlain (instr_by planar kind p)
+piece_plain true Write p = refl
+piece_plain true WriteLuma p = refl
+piece_plain true Skip p = tt
+piece_plain false Write p = refl
+piece_plain false WriteLuma p = refl
+piece_plain false Skip p = tt
+
+pieces_plain : (planar : Bool) (pieces : List Piece) → Each IsPlain (map (instr_of planar) pieces)
+pieces_plain planar [] = tt
+pieces_plain planar (p ∷ pieces) = (piece_plain planar p.kind p, pieces_plain planar pieces)
+
+lines_plain : (d : Desc) (strips : List Strip) → Each IsPlain (lines_instrs d strips)
+lines_plain d [] = tt
+lines_plain d (strip ∷ strips) =
+    each_append IsPlain (line_instrs d strip) (lines_instrs d strips) (pieces_plain strip.planar (plan (memory_of d) strip)) (lines_plain d strips)
+
+vbi_plain : (d : Desc) (field : Parity) (lines : ℕ) → Each IsPlain (vbi_from lines d field)
+vbi_plain d field zero = tt
+vbi_plain d field (suc more) = (tt, lines_plain d (vbi_strips d field))
+
+body_plain : (d : Desc) (field : Parity) → Each IsPlain (body d field)
+body_plain d field =
+    each_append IsPlain (vbi_instrs d field) (field_instrs d field) (vbi_plain d field d.vbi_lines) (tt, lines_plain d (picture_strips d field))
+
+-- what an instruction without a fault writes is granted
+granted_demands : (program : RiscProgram) (i : Instr) → IsPlain i → ((target : Option ℕ) → instr_cause program i target ≡ None) →
+    demands_cause program.grants (demands_of i None) ≡ None
+granted_demands program (instr.Write ctl ends off count addr) plain fine = fine None
+granted_demands program (instr.Skip ctl ends count) plain fine = fine None
+granted_demands program (instr.WriteC ctl ends off count) plain fine = absurd plain
+granted_demands program (instr.Jump ctl addr) plain fine = absurd plain
+granted_demands program (instr.Sync ctl resync code) plain fine = refl
+granted_demands program (instr.Write123 ctl ends off counts addrs) plain fine = fine None
+granted_demands program (instr.Skip123 ctl ends counts) plain fine = fine None
+granted_demands program (instr.Write1S23 ctl ends off counts addr) plain fine = fine None
+
+-- ---- where they stand
+
+-- an instruction is read where its words stand
+fetched_at : (program : RiscProgram) (before after : List ℕ) (i : Instr) (address : ℕ) → program.words ≡ before ++ (encoded i ++ after) →
+    address ≡ program.base + 4 * length before → IsInstr i → 0 < length (encoded i) → fetch program address ≡ Ok (i, length (encoded i))
+fetched_at program before after i address words at is some =
+    let all : length program.words ≡ length before + (length (encoded i) + length after) = ap length words ∙ split_length before (encoded i) after in
+    let word : is_word program address ≡ true = subst (λ (a : ℕ). is_word program a ≡ true) (sym at) (a_word program (length before) (omega arith)) in
+    let number : word_number program address ≡ length before = omega arith in
+    cond-true (is_word program address) _ _ word
+    ∙ ap (instr_at program.words) number
+    ∙ ap (λ (words : List ℕ). instr_at words (length before)) (words ∙ sym (append_assoc before (encoded i) after))
+    ∙ reads_back i is before after
+
+module _ (program : RiscProgram) (ctl : Ctl) (target : ℕ) (spelled : IsInstr (instr.Jump ctl target)) (word : is_word program target ≡ true) (after : List ℕ) where
+  holds_from : (instrs : List Instr) (before : List ℕ) (address : ℕ) → program.words ≡ before ++ (words_of instrs ++ (encoded (instr.Jump ctl target) ++ after)) →
+      address ≡ program.base + 4 * length before → Each (IsGoodInstr program) instrs → Each IsPlain instrs → HoldsFrom program address instrs ctl target
+  holds_from [] before address words at good plain = (fetched_at program before after (instr.Jump ctl target) address words at spelled (omega arith), word)
+  holds_from (i ∷ rest) before address words at good plain =
+      let later : List ℕ = words_of rest ++ (encoded (instr.Jump ctl target) ++ after) in
+      let split : program.words ≡ before ++ (encoded i ++ later) =
+      words ∙ ap (λ (ws : List ℕ). before ++ ws) (append_assoc (encoded i) (words_of rest) (encoded (instr.Jump ctl target) ++ after)) in (
+        fetched_at program before later i address split at good.0.fine.spelled good.0.fine.some,
+        plain.0,
+        granted_demands program i plain.0 good.0.fine.fine,
+        holds_from rest (before ++ encoded i) (address + 4 * length (encoded i)) (split ∙ sym (append_assoc before (encoded i) later))
+        (omega (arith, length-append before (encoded i))) good.1 plain.1,
+      )
+
+-- ---- the closing
+
+closing_spelled : (field : Parity) (target : ℕ) → IsInstr (closing field target)
+closing_spelled Top target = (refl, tt)
+closing_spelled Bottom target = (refl, tt)
+
+-- it leads to the beginning of a section
+next_field : (which : Fields) (d : Desc) (from : ℕ) (field : Parity) → describes which field ≡ true →
+    (next : Parity) × (describes which next ≡ true) × (next_by which d from from field ≡ begin_by which d from next)
+next_field fields.Top d from Top is = (Top, refl, refl)
+next_field fields.Top d from Bottom is = cc
+next_field fields.Bottom d from Top is = cc
+next_field fields.Bottom d from Bottom is = (Bottom, refl, refl)
+next_field fields.Both d from Top is = (Bottom, refl, refl)
+next_field fields.Both d from Bottom is = (Top, refl, refl)
+
+section_some : (d : Desc) (field : Parity) (target : ℕ) → 0 < length (words_of (section d field target))
+section_some d field target =
+    let long : length (words_of (section d field target)) ≡ suc (suc (length (words_of (body d field ++ closing field target ∷ [])))) = refl in omega arith
+
+begin_is_word : (d : Desc) (field : Parity) → describes d.fields field ≡ true → is_word (compiled d) (section_begin d d.base field) ≡ true
+begin_is_word d field is =
+    let stands = section_stands d d.base d.base field is in
+    let part = words_of (section d field (section_next d d.base d.base field)) in
+    let all : length (compiled d).words ≡ length stands.before + (length part + length stands.after) = ap length stands.split ∙ split_length stands.before part stands.after in
+    let some = section_some d field (section_next d d.base d.base field) in
+    subst (λ (a : ℕ). is_word (compiled d) a ≡ true) (sym stands.at) (a_word (compiled d) (length stands.before) (omega arith))
+
+next_is_word : (d : Desc) (field : Parity) → describes d.fields field ≡ true → is_word (compiled d) (section_next d d.base d.base field) ≡ true
+next_is_word d field is =
+    let next = next_field d.fields d d.base field is in
+    subst (λ (a : ℕ). is_word (compiled d) a ≡ true) (sym next.2) (begin_is_word d next.0 next.1)
+
+-- ---- the section
+
+regrouped : (a b c e f : List ℕ) → a ++ ((b ++ (c ++ (e ++ []))) ++ f) ≡ (a ++ b) ++ (c ++ (e ++ f))
+regrouped a b c e f = simp (append_assoc, append-nil)
+
+pub section_holds : (d : Desc) (field : Parity) → IsRight d → describes d.fields field ≡ true → Holds (section_of d field) (compiled d)
+section_holds d field right is =
+    let target = section_next d d.base d.base field in
+    let stands = section_stands d d.base d.base field is in
+    let start = encoded (opening field) in
+    let end = encoded (closing field target) in
+    let good = good_body d right (compiled d) refl field is in
+    let at = stands.at in
+    holds_from (compiled d) (signal field) target (closing_spelled field target) (next_is_word d field is) stands.after (body d field) (stands.before ++ start) (after_opening d field)
+    (stands.split
+    ∙ ap (λ (words : List ℕ). stands.before ++ ((start ++ words) ++ stands.after)) (words_split (body d field) (closing field target) [])
+    ∙ regrouped stands.before start (words_of (body d field)) end stands.after)
+    (omega (arith, length-append stands.before start)) good.1 (body_plain d field)
+
+words_in-words_of : (instrs : List Instr) → words_in instrs ≡ length (words_of instrs)
+words_in-words_of [] = refl
+words_in-words_of (i ∷ rest) =
+    ap (λ (n : ℕ). length (encoded i) + n) (words_in-words_of rest) ∙ sym (length-append (encoded i) (words_of rest))
+
+-- its closing stands where the description has it
+pub closing_there : (d : Desc) (field : Parity) → closing_at (section_of d field) ≡ closing_begin d d.base field
+closing_there d field =
+    let instrs = body d field in
+    let inner = words_in-words_of instrs in
+    let tail : length (words_of (instrs ++ closing field 0 ∷ [])) ≡ length (words_of instrs) + (2 + 0) =
+    ap length (words_split instrs (closing field 0) []) ∙ split_length (words_of instrs) (encoded (closing field 0)) [] in
+    let long : section_length d field ≡ suc (suc (length (words_of (instrs ++ closing field 0 ∷ [])))) = refl in
+    let open_long : length (encoded (opening field)) ≡ 2 = refl in
+    omega arith

@@ -1,0 +1,4 @@
+pub mod Pictures
+pub mod Arrivals
+pub mod Sections
+pub mod Laws
