@@ -4,3 +4,5 @@ pub mod Goes
 pub mod Lines
 pub mod Serves
 pub mod Body
+pub mod Kept
+pub mod Painted

@@ -1,0 +1,140 @@
+-- Memory with a picture: what the section of its field stores paints it.
+use Rattle.std.proofs.Common.{◌≡◌, ℕ, true, false, List, [], ◌∷◌, ◌++◌, All, slice_index_or, sym, ap, ◌∙◌, subst, ⊎_elim}
+use Rattle.std.specs.Prelude.{◌==◌}
+use Rattle.std.proofs.lemmas.Bool.{cases_Bool, eqb-true, or_cases, or_from}
+use Rattle.std.proofs.lemmas.List.Folds.{list_any-append}
+use Rattle.std.proofs.lemmas.List.Elements.{All-append, All-head, All-tail}
+use Rattle.fifo_model.specs.declared.Queue.{Queue}
+use Rattle.fifo_model.specs.declared.Queue.TheVariants.{One, Two, Three}
+use Rattle.pixel_layout.specs.declared.Parity.{Parity}
+use Rattle.page_table.specs.Grants.{Chunk, granted}
+use Rattle.page_table.specs.Blocks.{Block, byte_at, chunks_of, stored}
+use Rattle.page_table.specs.Taken.{in_order}
+use Rattle.page_table.proofs.Memory.{chunks_of-stored, byte_at-stored_same}
+use Rattle.machine_model.specs.Turns.{Store, stored_all}
+use Rattle.capture_desc.specs.declared.desc.Desc.{Desc}
+use Rattle.picture_model.specs.Described.{describes, memory_of}
+use Rattle.picture_model.proofs.Right.{IsRight}
+use Rattle.field_law.specs.Sections.{Paints, is_stored, section_stores}
+use Rattle.field_law.proofs.Painting.{byte_at-unstored}
+use Rattle.picture_law.specs.Pictures.{Picture, After, AreRows, FieldByte, IsKeptAt, IsPicture, field_tokens, shown_as}
+use Rattle.picture_law.specs.Sections.{section_of}
+use Rattle.picture_law.proofs.Body.{field_stores, section_makes}
+use Rattle.picture_law.proofs.Kept.{IsOfPicture, all_of, kept_granted, kept_once, kept_stored, queue_of, stored_first, stored_later}
+
+-- ---- stores one after another
+
+-- a store of a list to an address, whose byte is there in the end
+pub record IsLastAt (P : Store → Type 0) (memory : List Block) (address : ℕ) : Type 0 where
+  pub store : Store
+  pub holds : P store
+  pub there : store.address ≡ address
+  pub byte : byte_at memory address ≡ store.byte
+
+last_at : (P : Store → Type 0) (chunks : List Chunk) (memory : List Block) (stores : List Store) (address : ℕ) → chunks_of memory ≡ chunks →
+    All (λ store. granted chunks store.address ≡ true) stores → All P stores → is_stored address stores ≡ true → IsLastAt P (stored_all memory stores) address
+last_at P chunks memory [] address same within all some = cc
+last_at P chunks memory (store ∷ stores) address same within all some =
+    let after : List Block = stored memory store.address store.byte in
+    ⊎_elim
+    (λ later.
+    last_at P chunks after stores address (chunks_of-stored memory store.address store.byte ∙ same)
+    (All-tail (λ store. granted chunks store.address ≡ true) store stores within) (All-tail P store stores all) later)
+    (λ last.
+    let here = ⊎_elim (λ here. here) (λ later. cc) (or_cases (store.address == address) (is_stored address stores) some) in
+    let at = eqb-true store.address address here in
+    let allowed : granted (chunks_of memory) store.address ≡ true = ap (λ (chunks : List Chunk). granted chunks store.address) same ∙ All-head (λ store. granted chunks store.address ≡ true) store stores within in
+    record {
+      store = store;
+      holds = All-head P store stores all;
+      there = at;
+      byte = byte_at-unstored after stores address last ∙ ap (byte_at after) (sym at) ∙ byte_at-stored_same memory store.address store.byte allowed;
+    })
+    (cases_Bool (is_stored address stores))
+
+stored_in_none : (address : ℕ) (xs ys : List Store) → is_stored address xs ≡ false → is_stored address ys ≡ false → is_stored address (xs ++ ys) ≡ false
+stored_in_none address xs ys none none' =
+    list_any-append (λ store. store.address == address) xs ys ∙ or_from (is_stored address xs) (is_stored address ys) none none'
+
+-- ---- the picture
+
+module _ (d : Desc) (right : IsRight d) (field : Parity) (described : describes d.fields field ≡ true) (picture : Picture) (is : IsPicture d field picture)
+    (skipped : Queue → List (List ℕ)) (skips : (q : Queue) → AreRows d q d.skip_lines (skipped q)) (memory : List Block) (chunks : chunks_of memory ≡ in_order (memory_of d)) where
+  abbrev stores : Queue → List Store
+  stores q = field_stores d right field described picture is skipped skips q
+
+  abbrev every : List Store
+  every = stores One ++ (stores Two ++ stores Three)
+
+  -- memory as it is to be in the end
+  abbrev pub painted : ℕ → ℕ
+  painted address = byte_at (stored_all memory every) address
+
+  abbrev IsStore : Store → Type 0
+  IsStore = IsOfPicture d field picture
+
+  of_picture : (q : Queue) → All IsStore (stores q)
+  of_picture q = all_of d right field described picture is skipped skips q
+
+  is_granted : (store : Store) → IsStore store → granted (in_order (memory_of d)) store.address ≡ true
+  is_granted store of = kept_granted d right field described of.byte store.address of.kept
+
+  every_of : All IsStore every
+  every_of = All-append IsStore (stores One) (stores Two ++ stores Three) (of_picture One) (All-append IsStore (stores Two) (stores Three) (of_picture Two) (of_picture Three))
+
+  among : (q : Queue) (address : ℕ) → is_stored address (stores q) ≡ true → is_stored address every ≡ true
+  among One address h = stored_first address (stores One) (stores Two ++ stores Three) h
+  among Two address h = stored_later address (stores One) (stores Two ++ stores Three) (stored_first address (stores Two) (stores Three) h)
+  among Three address h = stored_later address (stores One) (stores Two ++ stores Three) (stored_later address (stores Two) (stores Three) h)
+
+  last : (address : ℕ) → is_stored address every ≡ true → IsLastAt IsStore (stored_all memory every) address
+  last address some =
+      last_at IsStore (in_order (memory_of d)) memory every address chunks (λ k other within. is_granted (slice_index_or every k other) (every_of k other within)) every_of some
+
+  -- a byte that is kept is painted
+  pub painted_kept : (byte : FieldByte) (address : ℕ) → IsKeptAt d field byte address → painted address ≡ shown_as picture byte
+  painted_kept byte address kept =
+      let some = among (queue_of d right field described picture is skipped skips byte) address (kept_stored d right field described picture is skipped skips byte address kept) in
+      let found = last address some in
+      let of = found.holds in
+      let there = subst (λ (a : ℕ). IsKeptAt d field of.byte a) found.there of.kept in
+      found.byte ∙ sym of.shown ∙ ap (shown_as picture) (kept_once d right field described of.byte byte address there kept)
+
+  -- nothing else is
+  pub painted_other : (address : ℕ) → ((byte : FieldByte) → IsKeptAt d field byte address → ⊥) → painted address ≡ byte_at memory address
+  painted_other address none =
+      ⊎_elim
+      (λ some.
+      let found = last address some in
+      let of = found.holds in
+      absurd (none of.byte (subst (λ (a : ℕ). IsKeptAt d field of.byte a) found.there of.kept)))
+      (λ unstored. byte_at-unstored memory every address unstored)
+      (cases_Bool (is_stored address every))
+
+  store_painted : (store : Store) → IsStore store → painted store.address ≡ store.byte
+  store_painted store of = painted_kept of.byte store.address of.kept ∙ of.shown
+
+  makes : (q : Queue) → stores q ≡ section_stores (section_of d field) (field_tokens d picture skipped) q
+  makes q = sym (section_makes d right field described picture is skipped skips q)
+
+  pub section_paints : Paints (section_of d field) (field_tokens d picture skipped) memory painted
+  section_paints =
+      record {
+        within = λ q. subst (λ (made : List Store). All (λ store. granted (chunks_of memory) store.address ≡ true) made) (makes q)
+            (λ k other within. ap (λ (cs : List Chunk). granted cs (slice_index_or (stores q) k other).address) chunks ∙ is_granted (slice_index_or (stores q) k other) (of_picture q k other within));
+        agree = λ q. subst (λ (made : List Store). All (λ store. painted store.address ≡ store.byte) made) (makes q)
+            (λ k other within. store_painted (slice_index_or (stores q) k other) (of_picture q k other within));
+        others = λ address none. sym (byte_at-unstored memory every address (in_no_queue address (λ q. ap (is_stored address) (makes q) ∙ none q)));
+      }
+    where
+      in_no_queue : (address : ℕ) → ((q : Queue) → is_stored address (stores q) ≡ false) → is_stored address every ≡ false
+      in_no_queue address none = stored_in_none address (stores One) (stores Two ++ stores Three) (none One) (stored_in_none address (stores Two) (stores Three) (none Two) (none Three))
+
+  -- memory with these bytes is memory after the picture
+  pub painted_after : (now : List Block) → chunks_of now ≡ chunks_of memory → ((address : ℕ) → byte_at now address ≡ painted address) → After d field picture memory now
+  painted_after now keys same =
+      record {
+        keys = keys;
+        shown = λ byte address kept. same address ∙ painted_kept byte address kept;
+        others = λ address none. same address ∙ painted_other address none;
+      }
