@@ -1,5 +1,5 @@
 -- The section of a field uses up what each queue brings for a picture.
-use Rattle.std.proofs.Common.{◌≡◌, ℕ, zero, suc, ◌+◌, ◌*◌, ◌<◌, ◌≤◌, Bool, true, false, List, [], ◌∷◌, ◌++◌, length, map, replicate, Option, Some, None, if◌then◌else◌, refl, sym, ap, ◌∙◌, subst, arith, ⊎_elim}
+use Rattle.std.proofs.Common.{◌≡◌, ℕ, zero, suc, ◌+◌, ◌*◌, ◌<◌, Bool, true, false, List, [], ◌∷◌, ◌++◌, length, map, replicate, Option, Some, None, if◌then◌else◌, refl, sym, ap, ◌∙◌, subst, arith, ⊎_elim}
 use Rattle.std.specs.Prelude.{option_map, nat_le}
 use Rattle.std.specs.List.{range_with_len}
 use Rattle.std.proofs.lemmas.Bool.{cases_Bool, cond-true, cond-false}
@@ -17,20 +17,20 @@ use Rattle.machine_model.specs.Turns.{Store}
 use Rattle.capture_desc.specs.declared.desc.Desc.{Desc}
 use Rattle.picture_model.specs.declared.PieceKind.TheVariants.{Skip}
 use Rattle.picture_model.specs.Described.{both, describes, field_height, layout_of, offset, picture_row, plane_row_bytes, rows_of, stride}
-use Rattle.picture_model.specs.Plans.{Strip, grain_bytes, grains_of, kind_by, row_strip, row_track, skipped_strip, vbi_strip}
+use Rattle.picture_model.specs.Plans.{Strip, grain_bytes, grains_of, kind_by, row_strip, skipped_strip, vbi_strip}
 use Rattle.picture_model.specs.Programs.{body, data_code, field_instrs, line_instrs, lines_instrs, picture_strips, sync, vbi_from, vbi_instrs, vbi_strips}
 use Rattle.picture_model.proofs.Each.{each_All}
 use Rattle.picture_model.proofs.Grains.{row_grains}
 use Rattle.picture_model.proofs.Right.{IsRight}
 use Rattle.picture_model.proofs.Sections.{rows_below}
 use Rattle.picture_model.proofs.Strips.{row-IsStrip, skipped-IsStrip, vbi-IsStrip}
-use Rattle.field_law.specs.Fields.{Token, Mark}
+use Rattle.field_law.specs.Fields.{Mark}
 use Rattle.field_law.specs.Sections.{Uses, section_stores}
 use Rattle.field_law.specs.CutLines.{lines_stores}
-use Rattle.picture_law.specs.Pictures.{Picture, AreLines, AreRows, IsPicture, field_tokens, has_plane, lines_of, lines_on, picture_tokens, plane_of, rows_on, vbi_on, vbi_tokens}
+use Rattle.picture_law.specs.Pictures.{Picture, AreRows, IsPicture, field_tokens, has_plane, lines_of, picture_tokens, plane_of, rows_on, vbi_on, vbi_tokens}
 use Rattle.picture_law.specs.Sections.{section_of}
 use Rattle.picture_law.proofs.Cuts.{Starts, moves, track_on}
-use Rattle.picture_law.proofs.Goes.{grain_some, queue_plane, row_track_on, some_factor}
+use Rattle.picture_law.proofs.Goes.{grain_some, queue_plane, row_track_on}
 use Rattle.picture_law.proofs.Lines.{Carries, CarriesAll, carries_all, cut_lines}
 use Rattle.picture_law.proofs.Serves.{Serves, serves_both, serves_idle_lines, serves_lines, serves_made, serves_none, serves_sync, serves_used}
 

@@ -1,5 +1,5 @@
 -- Where the bytes of rows, skipped lines and VBI lines go: to their places.
-use Rattle.std.proofs.Common.{◌≡◌, ℕ, zero, suc, ◌+◌, ◌-◌, ◌*◌, ◌/◌, ◌%◌, ◌<◌, ◌≤◌, Bool, true, false, List, [], ◌∷◌, Option, Some, None, option_map, if◌then◌else◌, refl, sym, ap, ◌∙◌, subst, arith}
+use Rattle.std.proofs.Common.{◌≡◌, ℕ, zero, suc, ◌+◌, ◌-◌, ◌*◌, ◌/◌, ◌%◌, ◌<◌, ◌≤◌, Bool, true, false, List, [], ◌∷◌, Option, Some, None, option_map, if◌then◌else◌, refl, sym, ap, ◌∙◌, arith}
 use Rattle.std.specs.List.{All}
 use Rattle.std.proofs.Math.Nat.{div-lt_iff_lt-mul, le-div_iff_mul-le}
 use Rattle.std.proofs.lemmas.Nat.{div-add-mod'}
@@ -14,7 +14,7 @@ use Rattle.page_table.specs.Scattered.{address_at}
 use Rattle.capture_desc.specs.declared.desc.Desc.{Desc}
 use Rattle.picture_model.specs.Described.{describes, layout_of, memory_of, plane_row_bytes}
 use Rattle.picture_model.specs.Places.{HasPlane, byte_clipped, place, row_offset, vbi_line_offset, vbi_place}
-use Rattle.picture_model.specs.Plans.{Cut, IsRowCut, IsVbiCut, Strip, Track, address_of, cuts_of, grain_bytes, grain_clipped, grains_of, row_strip, row_track, skipped_strip, track, vbi_strip}
+use Rattle.picture_model.specs.Plans.{Cut, IsRowCut, IsVbiCut, Strip, Track, address_of, cuts_of, grain_bytes, grains_of, row_strip, row_track, skipped_strip, track, vbi_strip}
 use Rattle.picture_model.proofs.Each.{Each}
 use Rattle.picture_model.proofs.Grains.{row_grains}
 use Rattle.picture_model.proofs.Right.{IsRight}

@@ -1,5 +1,5 @@
 -- The bytes of a field that are kept: each is stored, nothing else is, and each address has one of them at most.
-use Rattle.std.proofs.Common.{◌≡◌, ℕ, zero, suc, ◌+◌, ◌*◌, ◌<◌, ◌≤◌, Bool, true, false, List, [], ◌∷◌, ◌++◌, All, length, Option, Some, None, if◌then◌else◌, slice_index, slice_index_or, refl, sym, ap, ◌∙◌, subst, arith, ⊎_elim}
+use Rattle.std.proofs.Common.{◌≡◌, ℕ, ◌<◌, Bool, true, false, List, [], ◌++◌, All, length, Option, Some, None, if◌then◌else◌, slice_index_or, refl, sym, ◌∙◌, subst, arith, ⊎_elim}
 use Rattle.std.proofs.lemmas.Bool.{cases_Bool, cond-false, or_left, or_right}
 use Rattle.std.proofs.lemmas.List.{nil_from_length}
 use Rattle.std.proofs.lemmas.List.Folds.{list_any-append}
@@ -14,13 +14,13 @@ use Rattle.page_table.specs.Taken.{in_order}
 use Rattle.machine_model.specs.Turns.{Store}
 use Rattle.capture_desc.specs.declared.desc.Desc.{Desc}
 use Rattle.picture_model.specs.Described.{both, describes, field_height, memory_of, picture_row, plane_row_bytes}
-use Rattle.picture_model.specs.Places.{Byte, IsByte, byte_clipped, byte_place, place, row_byte, vbi_byte, vbi_place}
+use Rattle.picture_model.specs.Places.{IsByte, byte_clipped, place, row_byte, vbi_byte}
 use Rattle.picture_model.specs.Plans.{vbi_strip}
 use Rattle.picture_model.proofs.Places.{place_granted, places_differ}
 use Rattle.picture_model.proofs.Right.{IsRight}
 use Rattle.field_law.specs.Sections.{is_stored}
 use Rattle.field_law.specs.CutLines.{EachByte, lines_stores}
-use Rattle.picture_law.specs.Pictures.{Picture, AreRows, FieldByte, of_row, of_vbi, IsKeptAt, IsPicture, IsUnclipped, byte_in, has_plane, plane_of, rows_on, shown_as, vbi_on}
+use Rattle.picture_law.specs.Pictures.{Picture, AreRows, FieldByte, of_row, of_vbi, IsKeptAt, IsPicture, IsUnclipped, byte_in, has_plane, plane_of, rows_on, shown_as}
 use Rattle.picture_law.proofs.Goes.{queue_plane, queue_row_goes, skipped_goes, vbi_goes}
 use Rattle.picture_law.proofs.Lines.{all_stores, cut_line, cut_lines, stored_there}
 use Rattle.picture_law.proofs.Body.{field_row_strip, field_stores, row_below, row_stores, rows_all, rows_many, skipped_all, skipped_stores, skipped_strips, vbi_all, vbi_stores}

@@ -6,3 +6,5 @@ pub mod Serves
 pub mod Body
 pub mod Kept
 pub mod Painted
+pub mod Meets
+pub mod Laws

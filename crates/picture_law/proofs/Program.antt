@@ -1,5 +1,5 @@
 -- The section of a field stands in the program of its description.
-use Rattle.std.proofs.Common.{◌≡◌, ℕ, zero, suc, ◌+◌, ◌-◌, ◌*◌, ◌<◌, Bool, true, false, List, [], ◌∷◌, ◌++◌, length, length-append, append_assoc, map, Option, None, Ok, refl, sym, ap, ◌∙◌, subst, arith}
+use Rattle.std.proofs.Common.{◌≡◌, ℕ, zero, suc, ◌+◌, ◌*◌, ◌<◌, Bool, true, false, List, [], ◌∷◌, ◌++◌, length, length-append, append_assoc, map, Option, None, Ok, refl, sym, ap, ◌∙◌, subst, arith}
 use Rattle.std.proofs.lemmas.Bool.{cond-true}
 use Rattle.std.proofs.lemmas.List.{append-nil}
 use Rattle.risc_word.specs.declared.Ctl.{Ctl}
@@ -18,7 +18,7 @@ use Rattle.picture_model.specs.declared.PieceKind.TheVariants.{Write, WriteLuma,
 use Rattle.picture_model.specs.declared.Piece.{Piece}
 use Rattle.picture_model.specs.Described.{describes, memory_of}
 use Rattle.picture_model.specs.Plans.{Strip, plan}
-use Rattle.picture_model.specs.Programs.{begin_by, body, closing, closing_begin, compiled, instr_by, instr_of, line_instrs, lines_instrs, next_by, opening, picture_strips, section, section_begin, section_length, section_next, sections, signal, vbi_from, vbi_instrs, vbi_strips, field_instrs, words_of}
+use Rattle.picture_model.specs.Programs.{begin_by, body, closing, closing_begin, compiled, instr_by, instr_of, line_instrs, lines_instrs, next_by, opening, picture_strips, section, section_begin, section_length, section_next, signal, vbi_from, vbi_instrs, vbi_strips, field_instrs, words_of}
 use Rattle.picture_model.proofs.Circle.{a_word, split_length, words_split}
 use Rattle.picture_model.proofs.Each.{Each, each_append}
 use Rattle.picture_model.proofs.Fine.{IsGoodInstr}

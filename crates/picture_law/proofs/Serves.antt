@@ -1,5 +1,5 @@
 -- Instructions one after another that use up what a queue brings for each.
-use Rattle.std.proofs.Common.{◌≡◌, ℕ, zero, suc, ◌+◌, true, false, Bool, List, [], ◌∷◌, ◌++◌, length, map, None, refl, sym, ap, ◌∙◌, subst, append_assoc, replicate}
+use Rattle.std.proofs.Common.{◌≡◌, ℕ, zero, suc, ◌+◌, false, Bool, List, [], ◌∷◌, ◌++◌, length, map, None, refl, sym, ap, ◌∙◌, subst, append_assoc, replicate}
 use Rattle.std.specs.List.{range_with_len}
 use Rattle.std.proofs.lemmas.List.{append-nil}
 use Rattle.risc_word.specs.declared.Code.{Code}
@@ -17,7 +17,7 @@ use Rattle.picture_model.specs.Programs.{instr_by, instr_of, line_instrs, lines_
 use Rattle.picture_model.proofs.Each.{Each, each_append}
 use Rattle.field_law.specs.Fields.{Token, Mark}
 use Rattle.field_law.specs.Sections.{Ask, GoOn, asked, asks, UsesUp, planned}
-use Rattle.field_law.specs.CutLines.{lines_asks, lines_rows, lines_stores}
+use Rattle.field_law.specs.CutLines.{lines_asks, lines_stores}
 use Rattle.field_law.proofs.CutLines.{asks-append, lines_used, lines_planned, idle_used, idle_planned}
 use Rattle.picture_law.specs.Pictures.{lines_of}
 use Rattle.picture_law.proofs.Cuts.{moves}

@@ -1,5 +1,4 @@
 -- The section of a field in the program of a description, as the law of the picture sees it.
-use Rattle.std.specs.Prelude.{ℕ}
 use Rattle.pixel_layout.specs.declared.Parity.{Parity}
 use Rattle.capture_desc.specs.declared.desc.Desc.{Desc}
 use Rattle.picture_model.specs.Programs.{body, no_control, section_next, signal, vertical}
