@@ -9,12 +9,15 @@ use Rattle.page_table.specs.Taken.{in_order}
 use Rattle.pixel_layout.specs.declared.Parity.{Parity}
 use Rattle.pixel_layout.specs.declared.Parity.TheVariants.{Top, Bottom}
 use Rattle.machine_model.specs.Paths.{RiscProgram}
-use Rattle.machine_model.specs.States.{State}
+use Rattle.machine_model.specs.States.{State, first_state}
 use Rattle.machine_model.specs.Steps.{Step, Turn, run, run_in}
-use Rattle.machine_model.proofs.Runs.{chunks-run}
+use Rattle.machine_model.proofs.Runs.{IsOrderly-run, chunks-run, program-run}
+use Rattle.machine_model.proofs.Orderly.{IsOrderly-first_state}
+use Rattle.machine_model.specs.Safety.{IsStep}
+use Rattle.page_table.proofs.Memory.{chunks_of-filled}
 use Rattle.capture_desc.specs.declared.desc.Desc.{Desc}
 use Rattle.picture_model.specs.Described.{memory_of}
-use Rattle.picture_model.specs.Programs.{body, closing, signal, size}
+use Rattle.picture_model.specs.Programs.{body, closing, compiled, signal, size}
 use Rattle.picture_model.proofs.Right.{IsRight, IsFrame-IsRight, IsValid-IsFrame}
 use Rattle.field_law.specs.Arrivals as law
 use Rattle.field_law.specs.Arrivals.{Met, entries_of, over_queues}
@@ -26,11 +29,11 @@ use Rattle.field_law.proofs.Runs.{run-run_in}
 use Rattle.picture_law.specs.Pictures.{Picture, field_tokens}
 use Rattle.picture_law.specs.Arrivals.{has_signal, is_signal}
 use Rattle.picture_law.specs.Sections.{section_of}
-use Rattle.picture_law.specs.Laws.{Captures, ShowsPicture, ShowsNoFault, SignalsField, SignalsInTime, TellsField}
+use Rattle.picture_law.specs.Laws.{Captures, HoldsSection, PaintsPicture, RunsCompiled, UsesPicture, ShowsPicture, ShowsNoFault, SignalsField, SignalsInTime, TellsField}
 use Rattle.picture_law.proofs.Program.{section_holds}
 use Rattle.picture_law.proofs.Body.{section_uses}
 use Rattle.picture_law.proofs.Meets.{meets, meets-append, coming_same, turns_same, quiet_steps, held_steps, signal_same, signals_same}
-use Rattle.picture_law.proofs.Painted.{painted, painted_after, section_paints}
+use Rattle.picture_law.proofs.Painted.{painted, painted_after, after_paints, after_same}
 
 module _ (d : Desc) (field : Parity) (picture : Picture) (m : State) (steps : List Step) (c : Captures d field picture m steps) where
   right : IsRight d
@@ -105,12 +108,14 @@ shows_picture d field picture m early late c silent signal =
     let skips = c.arrives.brought.lines in
     let is_right = right d field picture m steps c in
     let chunks = memory_is d field picture m steps c in
-    painted_after d is_right field c.described picture c.pictured skipped skips m.memory chunks (run m (early ++ Turn ∷ [])).memory (chunks-run m (early ++ Turn ∷ []))
+    let now = painted d is_right field c.described picture c.pictured skipped skips m.memory chunks in
+    let after = painted_after d is_right field c.described picture c.pictured skipped skips m.memory chunks in
+    after_same d field picture m.memory now (run m (early ++ Turn ∷ [])).memory after (chunks-run m (early ++ Turn ∷ []))
     (λ address.
     ap (λ (m' : State). byte_at m'.memory address) (turned d field picture m early late c silent)
-    ∙ proved.shows_picture (section_of d field) (field_tokens d picture skipped) (painted d is_right field c.described picture c.pictured skipped skips m.memory chunks) m
+    ∙ proved.shows_picture (section_of d field) (field_tokens d picture skipped) (byte_at now) m
     (meets m.program early) (meets m.program late) m.program (received d field picture m early late c silent)
-    (section_paints d is_right field c.described picture c.pictured skipped skips m.memory chunks)
+    (after_paints d is_right field c.described picture c.pictured skipped skips m.memory chunks now after)
     (no_signal d field picture m early late c silent) (signalled d field picture m early late c silent signal) address)
 
 pub shows_no_fault : ShowsNoFault
@@ -150,3 +155,27 @@ signals_in_time d field picture m early late c come many =
     (receives d field picture m (early ++ late) c (meets program early ++ meets program late) split)
     (λ q. let known = come q in let same = ap length (coming_same program early q) in omega arith)
     (omega arith)
+
+-- ---- the states of a run
+
+pub runs_compiled : (d : Desc) (fill : ℕ) (steps : List Step) → All IsStep steps → RunsCompiled d (run (first_state (compiled d) fill) steps)
+runs_compiled d fill steps made =
+    let start = first_state (compiled d) fill in
+    let program = program-run start steps in
+    record {
+      program = program;
+      orderly = IsOrderly-run start steps made (IsOrderly-first_state (compiled d) fill);
+      chunks = chunks-run start steps ∙ chunks_of-filled fill (compiled d).grants ∙ ap (λ (program : RiscProgram). program.grants) (sym program);
+    }
+
+-- ---- a section meets the law of a section
+
+pub holds_section : HoldsSection
+holds_section d field is frame described = section_holds d field (IsFrame-IsRight d is frame) described
+
+pub uses_picture : UsesPicture
+uses_picture d field picture skipped is frame described pictured skips = section_uses d (IsFrame-IsRight d is frame) field described picture pictured skipped skips
+
+pub paints_picture : PaintsPicture
+paints_picture d field picture skipped memory now is frame described pictured skips chunks after =
+    after_paints d (IsFrame-IsRight d is frame) field described picture pictured skipped skips memory chunks now after

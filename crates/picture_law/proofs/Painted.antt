@@ -12,6 +12,7 @@ use Rattle.page_table.specs.Blocks.{Block, byte_at, chunks_of, stored}
 use Rattle.page_table.specs.Taken.{in_order}
 use Rattle.page_table.proofs.Memory.{chunks_of-stored, byte_at-stored_same}
 use Rattle.machine_model.specs.Turns.{Store, stored_all}
+use Rattle.machine_model.proofs.Memory.{chunks-stored_all}
 use Rattle.capture_desc.specs.declared.desc.Desc.{Desc}
 use Rattle.picture_model.specs.Described.{describes, memory_of}
 use Rattle.picture_model.proofs.Right.{IsRight}
@@ -52,10 +53,6 @@ last_at P chunks memory (store ∷ stores) address same within all some =
     })
     (cases_Bool (is_stored address stores))
 
-stored_in_none : (address : ℕ) (xs ys : List Store) → is_stored address xs ≡ false → is_stored address ys ≡ false → is_stored address (xs ++ ys) ≡ false
-stored_in_none address xs ys none none' =
-    list_any-append (λ store. store.address == address) xs ys ∙ or_from (is_stored address xs) (is_stored address ys) none none'
-
 -- ---- the picture
 
 module _ (d : Desc) (right : IsRight d) (field : Parity) (described : describes d.fields field ≡ true) (picture : Picture) (is : IsPicture d field picture)
@@ -65,10 +62,6 @@ module _ (d : Desc) (right : IsRight d) (field : Parity) (described : describes 
 
   abbrev every : List Store
   every = stores One ++ (stores Two ++ stores Three)
-
-  -- memory as it is to be in the end
-  abbrev pub painted : ℕ → ℕ
-  painted address = byte_at (stored_all memory every) address
 
   abbrev IsStore : Store → Type 0
   IsStore = IsOfPicture d field picture
@@ -91,8 +84,11 @@ module _ (d : Desc) (right : IsRight d) (field : Parity) (described : describes 
   last address some =
       last_at IsStore (in_order (memory_of d)) memory every address chunks (λ k other within. is_granted (slice_index_or every k other) (every_of k other within)) every_of some
 
-  -- a byte that is kept is painted
-  pub painted_kept : (byte : FieldByte) (address : ℕ) → IsKeptAt d field byte address → painted address ≡ shown_as picture byte
+  -- memory after all these stores
+  abbrev pub painted : List Block
+  painted = stored_all memory every
+
+  painted_kept : (byte : FieldByte) (address : ℕ) → IsKeptAt d field byte address → byte_at painted address ≡ shown_as picture byte
   painted_kept byte address kept =
       let some = among (queue_of d right field described picture is skipped skips byte) address (kept_stored d right field described picture is skipped skips byte address kept) in
       let found = last address some in
@@ -100,8 +96,7 @@ module _ (d : Desc) (right : IsRight d) (field : Parity) (described : describes 
       let there = subst (λ (a : ℕ). IsKeptAt d field of.byte a) found.there of.kept in
       found.byte ∙ sym of.shown ∙ ap (shown_as picture) (kept_once d right field described of.byte byte address there kept)
 
-  -- nothing else is
-  pub painted_other : (address : ℕ) → ((byte : FieldByte) → IsKeptAt d field byte address → ⊥) → painted address ≡ byte_at memory address
+  painted_other : (address : ℕ) → ((byte : FieldByte) → IsKeptAt d field byte address → ⊥) → byte_at painted address ≡ byte_at memory address
   painted_other address none =
       ⊎_elim
       (λ some.
@@ -111,30 +106,39 @@ module _ (d : Desc) (right : IsRight d) (field : Parity) (described : describes 
       (λ unstored. byte_at-unstored memory every address unstored)
       (cases_Bool (is_stored address every))
 
-  store_painted : (store : Store) → IsStore store → painted store.address ≡ store.byte
-  store_painted store of = painted_kept of.byte store.address of.kept ∙ of.shown
+  pub painted_after : After d field picture memory painted
+  painted_after = record { keys = chunks-stored_all memory every; shown = painted_kept; others = painted_other }
+
+  -- ---- whatever memory shows the picture, the section paints it
 
   makes : (q : Queue) → stores q ≡ section_stores (section_of d field) (field_tokens d picture skipped) q
   makes q = sym (section_makes d right field described picture is skipped skips q)
 
-  pub section_paints : Paints (section_of d field) (field_tokens d picture skipped) memory painted
-  section_paints =
+  in_no_queue : (address : ℕ) → ((q : Queue) → is_stored address (stores q) ≡ false) → (byte : FieldByte) → IsKeptAt d field byte address → ⊥
+  in_no_queue address none byte kept =
+      let some = kept_stored d right field described picture is skipped skips byte address kept in
+      let no = none (queue_of d right field described picture is skipped skips byte) in
+      cc
+
+  pub after_paints : (now : List Block) → After d field picture memory now → Paints (section_of d field) (field_tokens d picture skipped) memory (byte_at now)
+  after_paints now after =
       record {
         within = λ q. subst (λ (made : List Store). All (λ store. granted (chunks_of memory) store.address ≡ true) made) (makes q)
             (λ k other within. ap (λ (cs : List Chunk). granted cs (slice_index_or (stores q) k other).address) chunks ∙ is_granted (slice_index_or (stores q) k other) (of_picture q k other within));
-        agree = λ q. subst (λ (made : List Store). All (λ store. painted store.address ≡ store.byte) made) (makes q)
-            (λ k other within. store_painted (slice_index_or (stores q) k other) (of_picture q k other within));
-        others = λ address none. sym (byte_at-unstored memory every address (in_no_queue address (λ q. ap (is_stored address) (makes q) ∙ none q)));
+        agree = λ q. subst (λ (made : List Store). All (λ store. byte_at now store.address ≡ store.byte) made) (makes q)
+            (λ k other within. agrees (slice_index_or (stores q) k other) (of_picture q k other within));
+        others = λ address none. sym (after.others address (in_no_queue address (λ q. ap (is_stored address) (makes q) ∙ none q)));
       }
     where
-      in_no_queue : (address : ℕ) → ((q : Queue) → is_stored address (stores q) ≡ false) → is_stored address every ≡ false
-      in_no_queue address none = stored_in_none address (stores One) (stores Two ++ stores Three) (none One) (stored_in_none address (stores Two) (stores Three) (none Two) (none Three))
+      agrees : (store : Store) → IsStore store → byte_at now store.address ≡ store.byte
+      agrees store of = after.shown of.byte store.address of.kept ∙ of.shown
 
-  -- memory with these bytes is memory after the picture
-  pub painted_after : (now : List Block) → chunks_of now ≡ chunks_of memory → ((address : ℕ) → byte_at now address ≡ painted address) → After d field picture memory now
-  painted_after now keys same =
-      record {
-        keys = keys;
-        shown = λ byte address kept. same address ∙ painted_kept byte address kept;
-        others = λ address none. same address ∙ painted_other address none;
-      }
+-- memory with the same bytes shows the same picture
+pub after_same : (d : Desc) (field : Parity) (picture : Picture) (before now other : List Block) → After d field picture before now → chunks_of other ≡ chunks_of before →
+    ((address : ℕ) → byte_at other address ≡ byte_at now address) → After d field picture before other
+after_same d field picture before now other after keys same =
+    record {
+      keys = keys;
+      shown = λ byte address kept. same address ∙ after.shown byte address kept;
+      others = λ address none. same address ∙ after.others address none;
+    }

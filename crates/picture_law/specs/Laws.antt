@@ -3,18 +3,21 @@ use Rattle.std.specs.Prelude.{◌≡◌, ℕ, ◌+◌, ◌*◌, ◌≤◌, true,
 use Rattle.fifo_model.specs.declared.Queue.{Queue}
 use Rattle.fifo_model.specs.Queues.{lane_of}
 use Rattle.irq_status.specs.Register.{fdsr, risci, has, risc_status}
-use Rattle.page_table.specs.Blocks.{chunks_of}
+use Rattle.page_table.specs.Blocks.{Block, byte_at, chunks_of}
 use Rattle.pixel_layout.specs.declared.Parity.{Parity}
 use Rattle.pixel_layout.specs.declared.Parity.TheVariants.{Top, Bottom}
 use Rattle.machine_model.specs.States.{State}
 use Rattle.machine_model.specs.Steps.{Step, Turn, run}
 use Rattle.machine_model.specs.Safety.{IsStep, IsOrderly}
 use Rattle.capture_desc.specs.declared.desc.Desc.{Desc}
-use Rattle.picture_model.specs.Described.{IsDescription, describes}
-use Rattle.picture_model.specs.Geometry.{IsValid}
+use Rattle.page_table.specs.Taken.{in_order}
+use Rattle.picture_model.specs.Described.{IsDescription, describes, memory_of}
+use Rattle.picture_model.specs.Geometry.{IsFrame, IsValid}
 use Rattle.picture_model.specs.Programs.{compiled, size}
 use Rattle.field_law.specs.Arrivals.{entries_of, over_queues}
-use Rattle.picture_law.specs.Pictures.{Picture, IsPicture, After}
+use Rattle.field_law.specs.Sections.{Holds, Uses, Paints}
+use Rattle.picture_law.specs.Pictures.{Picture, AreRows, IsPicture, After, field_tokens}
+use Rattle.picture_law.specs.Sections.{section_of}
 use Rattle.picture_law.specs.Arrivals.{Arrives, coming, has_signal, is_signal, turns_in}
 
 -- a state of a run of a program: its memory is what the program may write
@@ -67,3 +70,18 @@ SignalsInTime = (d : Desc) (field : Parity) (picture : Picture) (m : State) (ear
     ((q : Queue) → entries_of captures.arrives.before captures.arrives.entries q ≤ length (lane_of q m.queues).entries + length (coming early q)) →
     5 * size d field + over_queues (entries_of captures.arrives.before captures.arrives.entries) ≤ turns_in late →
     has_signal d field m (early ++ late) ≡ true
+
+-- The premises that the law of a section asks for, of a description whose geometry is right: its program holds the
+-- section of each field, the section uses up what each queue brings for a picture, and what it stores paints any memory
+-- that shows the picture
+abbrev pub HoldsSection : Type 0
+HoldsSection = (d : Desc) (field : Parity) → IsDescription d → IsFrame d → describes d.fields field ≡ true → Holds (section_of d field) (compiled d)
+
+abbrev pub UsesPicture : Type 0
+UsesPicture = (d : Desc) (field : Parity) (picture : Picture) (skipped : Queue → List (List ℕ)) → IsDescription d → IsFrame d → describes d.fields field ≡ true →
+    IsPicture d field picture → ((q : Queue) → AreRows d q d.skip_lines (skipped q)) → Uses (section_of d field) (field_tokens d picture skipped)
+
+abbrev pub PaintsPicture : Type 0
+PaintsPicture = (d : Desc) (field : Parity) (picture : Picture) (skipped : Queue → List (List ℕ)) (memory now : List Block) → IsDescription d → IsFrame d → describes d.fields field ≡ true →
+    IsPicture d field picture → ((q : Queue) → AreRows d q d.skip_lines (skipped q)) → chunks_of memory ≡ in_order (memory_of d) → After d field picture memory now →
+    Paints (section_of d field) (field_tokens d picture skipped) memory (byte_at now)

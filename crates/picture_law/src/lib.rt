@@ -2,17 +2,13 @@
 //! program of a valid description is shown at its places. The functions do nothing; their contracts are the laws.
 #![tactic(auto)]
 
-ghost use Rattle.std.specs.Prelude.{◌≡◌, true};
-ghost use Rattle.fifo_model.specs.declared.Queue.{Queue};
-ghost use Rattle.pixel_layout.specs.declared.Parity.{Parity};
+ghost use Rattle.std.specs.Prelude.{◌≡◌, ℕ, List, All};
+ghost use Rattle.machine_model.specs.Safety.{IsStep};
+ghost use Rattle.machine_model.specs.States.{first_state};
+ghost use Rattle.machine_model.specs.Steps.{Step, run};
 ghost use Rattle.capture_desc.specs.declared.desc.Desc.{Desc};
-ghost use Rattle.picture_model.specs.Described.{IsDescription, describes};
-ghost use Rattle.picture_model.specs.Geometry.{IsFrame};
 ghost use Rattle.picture_model.specs.Programs.{compiled};
-ghost use Rattle.field_law.specs.Sections.{Holds, Uses};
-ghost use Rattle.picture_law.specs.Pictures.{Picture, IsPicture, IsField, field_tokens};
-ghost use Rattle.picture_law.specs.Sections.{section_of};
-ghost use Rattle.picture_law.specs.Laws.{ShowsPicture, ShowsNoFault, SignalsField, SignalsInTime};
+ghost use Rattle.picture_law.specs.Laws.{RunsCompiled, HoldsSection, UsesPicture, PaintsPicture, ShowsPicture, ShowsNoFault, SignalsField, SignalsInTime};
 
 /// After the first signal of a field that arrives, each of its bytes that is not clipped stands at its place where it
 /// has one, and every other byte of memory is as it was when the machine waited in the field's opening.
@@ -31,4 +27,17 @@ pub fn fields_show_no_fault()
 /// the opening to the closing and one for each entry.
 pub fn signals_come_in_time()
     ensures { SignalsInTime }
+{}
+
+/// Each state of a run from the machine's first state is one of which these laws speak.
+pub fn runs_are_met()
+    ensures { (d : Desc) (fill : ℕ) (steps : List Step) → All IsStep steps → RunsCompiled d (run (first_state (compiled d) fill) steps) }
+{}
+
+/// The section of a field meets the premises of the law of a section, also where the program as a whole has no room: it
+/// stands in the compiled program, it uses up a picture of the field, and it paints what shows the picture.
+pub fn sections_meet_their_law()
+    ensures holds { HoldsSection }
+    ensures uses { UsesPicture }
+    ensures paints { PaintsPicture }
 {}
