@@ -8,3 +8,4 @@ pub mod Kept
 pub mod Painted
 pub mod Meets
 pub mod Laws
+pub mod Worked

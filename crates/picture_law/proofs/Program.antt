@@ -93,7 +93,7 @@ module _ (program : RiscProgram) (ctl : Ctl) (target : ℕ) (spelled : IsInstr (
         plain.0,
         granted_demands program i plain.0 good.0.fine.fine,
         holds_from rest (before ++ encoded i) (address + 4 * length (encoded i)) (split ∙ sym (append_assoc before (encoded i) later))
-        (omega (arith, length-append before (encoded i))) good.1 plain.1,
+            (omega (arith, length-append before (encoded i))) good.1 plain.1,
       )
 
 -- ---- the closing

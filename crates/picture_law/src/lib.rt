@@ -2,13 +2,17 @@
 //! program of a valid description is shown at its places. The functions do nothing; their contracts are the laws.
 #![tactic(auto)]
 
-ghost use Rattle.std.specs.Prelude.{◌≡◌, ℕ, List, All};
+ghost use Rattle.std.specs.Prelude.{◌≡◌, ℕ, true, false, All, List, [], ◌∷◌, ◌++◌};
+ghost use Rattle.pixel_layout.specs.declared.Parity.TheVariants.{Top};
 ghost use Rattle.machine_model.specs.Safety.{IsStep};
 ghost use Rattle.machine_model.specs.States.{first_state};
-ghost use Rattle.machine_model.specs.Steps.{Step, run};
+ghost use Rattle.machine_model.specs.Steps.{Step, Turn, run};
 ghost use Rattle.capture_desc.specs.declared.desc.Desc.{Desc};
 ghost use Rattle.picture_model.specs.Programs.{compiled};
-ghost use Rattle.picture_law.specs.Laws.{RunsCompiled, HoldsSection, UsesPicture, PaintsPicture, ShowsPicture, ShowsNoFault, SignalsField, SignalsInTime};
+ghost use Rattle.field_law.specs.Worked.{moves};
+ghost use Rattle.picture_law.specs.Arrivals.{has_signal, is_signal};
+ghost use Rattle.picture_law.specs.Worked.{description, machine, picture};
+ghost use Rattle.picture_law.specs.Laws.{Captures, RunsCompiled, HoldsSection, UsesPicture, PaintsPicture, ShowsPicture, ShowsNoFault, SignalsField, SignalsInTime};
 
 /// After the first signal of a field that arrives, each of its bytes that is not clipped stands at its place where it
 /// has one, and every other byte of memory is as it was when the machine waited in the field's opening.
@@ -40,4 +44,12 @@ pub fn sections_meet_their_law()
     ensures holds { HoldsSection }
     ensures uses { UsesPicture }
     ensures paints { PaintsPicture }
+{}
+
+/// The premises of these laws can be met: a picture of one line does, behind an entry of an earlier field, and its field
+/// is signalled.
+pub fn worked_picture_arrives()
+    ensures captured { Captures description Top picture machine (moves ++ Turn ∷ []) }
+    ensures silent { has_signal description Top machine moves ≡ false }
+    ensures signalled { is_signal description Top (run machine moves) Turn ≡ true }
 {}
