@@ -6,4 +6,6 @@ mod cases;
 #[cfg(test)]
 mod desks;
 #[cfg(test)]
+mod memory;
+#[cfg(test)]
 mod tests;
