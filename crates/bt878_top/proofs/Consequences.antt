@@ -1,5 +1,5 @@
 -- What the top call promises, said one by one, follows from its one exact clause.
-use Rattle.std.proofs.Common.{◌≡◌, ◌≢◌, ℕ, ◌<◌, ◌⊎◌, inl, inr, true, false, Bool, List, [], ◌∷◌, ◌++◌, take, Option, Some, None, option_map, Result, Ok, Err, refl, sym, ap, subst, ◌∙◌, arith}
+use Rattle.std.proofs.Common.{◌≡◌, ◌≢◌, ℕ, ◌<◌, ◌⊎◌, inl, inr, true, false, Bool, List, [], ◌∷◌, ◌++◌, take, Option, Some, None, option_map, Result, Ok, Err, All, refl, sym, ap, subst, ◌∙◌, arith}
 use Rattle.bt878_words.specs.declared.Command.{Command}
 use Rattle.bt878_words.specs.declared.Command.TheVariants as command
 use Rattle.bt878_words.specs.declared.UsageFault.{UsageFault}
@@ -9,8 +9,10 @@ use Rattle.capture_desk.specs.Desks.{Inputs, Outputs, Told, is_among, is_missing
 use Rattle.capture_desk.proofs.Outputs.{output_created, output_created_other, output_appended, output_appended_other}
 use Rattle.machine_model.specs.declared.Cause.{Cause}
 use Rattle.machine_model.specs.Paths.{RiscProgram, IsSound, IsFirstBad}
-use Rattle.machine_model.specs.Safety.{IsInside}
+use Rattle.machine_model.specs.Safety.{IsInside, IsStep}
+use Rattle.machine_model.specs.States.{State, first_state}
 use Rattle.machine_model.specs.Steps.{state_at}
+use Rattle.machine_model.specs.Steps as machine
 use Rattle.capture_file.specs.declared.FileFault.{FileFault}
 use Rattle.capture_file.specs.declared.Input.{Input}
 use Rattle.capture_file.specs.declared.Input.TheVariants.{Program, Stream, Desc, Ring}
@@ -28,9 +30,10 @@ use Rattle.bt878_top.specs.Texts.{accepted_text, answer_text, report_text}
 use Rattle.bt878_top.specs.Plays.{longest_stream}
 use Rattle.bt878_top.specs.Programs.{HoldsSound, IsListed, Rejects, StopsAtFile, StopsAtProgram, StopsAtStream}
 use Rattle.bt878_top.specs.Tasks.{Task, Lists, Verifies, Runs, Answers, Ends, HasOutput, IsDone, Makes, RunMakes, Stops, task_of, task_with}
-use Rattle.bt878_top.specs.Clauses.{IsUsage, AreTold, HoldsBad, IsFaultyProgram, IsFaultyStream, Played, first_of, last_of, OfRun, IsOutput, SameOutput, SaysAll, SaysPart, CreatesNone, IsSoundAt, ImageAndReport, StaysInside, SaysAccepted, SaysListing, IsUnreadOf, HasFault, HasBad, IsGood, IsCut, UnlessCut, IsRefusal, OnlySays, IsCutOff, StandsAt, OnlyOutputs, SameNames}
+use Rattle.bt878_top.specs.Clauses.{IsUsage, AreTold, HoldsBad, IsFaultyProgram, IsFaultyStream, Played, first_of, last_of, OfRun, OfCapture, IsOutput, SameOutput, SaysAll, SaysPart, CreatesNone, IsSoundAt, ImageAndReport, StaysInside, SaysAccepted, SaysListing, IsUnreadOf, HasFault, HasBad, IsGood, IsCut, UnlessCut, IsRefusal, OnlySays, IsCutOff, StandsAt, OnlyOutputs, SameNames}
 use Rattle.bt878_top.proofs.Asking.{first_among, later_among, lists_task, runs_task, verifies_task}
 use Rattle.bt878_top.proofs.Loading.{OfInput-map}
+use Rattle.bt878_top.proofs.Fitting.{steps_fit}
 
 -- ---- the words
 
@@ -281,6 +284,17 @@ done_inside (Ok (Runs program stream image)) answer old new h e =
     let d = done_by (Runs program stream image) answer old new h e in
     of_run program stream image old.told.inputs d.product
     (λ a b r. (place : ℕ) → IsInside r.file.program (state_at (first_of r) (steps_run r.steps) place)) (λ a b m. m.inside) d.made.1
+
+-- what `run` promises of its first state and its steps
+module _ (P : State → List machine.Step → Type 0) (always : (program : RiscProgram) (fill : ℕ) (steps : List machine.Step) → All IsStep steps → P (first_state program fill) steps) where
+  pub done_captured : (r : Result Task UsageFault) (answer : Answer) (old new : Seen) → Answers r answer old new → answer ≡ Done → OfCapture r old.told.inputs P
+  done_captured (Err fault) answer old new h e = tt
+  done_captured (Ok (Lists program)) answer old new h e = tt
+  done_captured (Ok (Verifies program)) answer old new h e = tt
+  done_captured (Ok (Runs program stream image)) answer old new h e =
+      let d = done_by (Runs program stream image) answer old new h e in
+      of_run program stream image old.told.inputs d.product
+      (λ a b r. P (first_of r) (steps_run r.steps)) (λ a b m. always m.program m.fill (steps_run m.steps) (steps_fit b m.steps m.reads)) d.made.1
 
 module _ (image bytes text : List ℕ) (old new : Told) (left : apart new ≡ delivered ((image, bytes) ∷ []) text (apart old)) where
   delivered_output : IsOutput image bytes new.outputs

@@ -6,3 +6,4 @@ pub mod Composing
 pub mod Lengths
 pub mod Whole
 pub mod Consequences
+pub mod Pictures

@@ -1,5 +1,5 @@
 -- Laws of runs and of streams that come in pieces.
-use Rattle.std.proofs.Common.{◌≡◌, ℕ, zero, suc, ◌+◌, ◌-◌, ◌<◌, ◌≤◌, ◌⊎◌, inl, inr, false, true, List, [], ◌∷◌, ◌++◌, length, take, drop, replicate, option_map, Option, Some, None, Ok, Err, Result, refl, sym, ap, subst, ◌∙◌, arith, length-drop, length-take, zero-add, append_assoc, add-one}
+use Rattle.std.proofs.Common.{◌≡◌, ℕ, zero, suc, ◌+◌, ◌-◌, ◌<◌, ◌≤◌, ◌⊎◌, inl, inr, false, List, [], ◌∷◌, ◌++◌, length, take, drop, replicate, option_map, Option, Some, None, Ok, Err, Result, refl, sym, ap, subst, ◌∙◌, arith, length-drop, length-take, zero-add, append_assoc, add-one}
 use Rattle.std.proofs.lemmas.Bool.{lt-ltb}
 use Rattle.std.proofs.Math.Nat.{add-sub_of_le}
 use Rattle.std.proofs.Math.Seq.{take-add}
@@ -12,7 +12,7 @@ use Rattle.machine_model.specs.Steps.{Turn, run}
 use Rattle.machine_model.specs.Turns.{turn}
 use Rattle.machine_model.proofs.Runs.{run-append}
 use Rattle.capture_file.specs.declared.Step.{Step}
-use Rattle.capture_file.specs.Streams.{Reading, reading, with_step, Ending, Unfinished, Ended, Bad, atomic, steps_run, stream_of, whole_file, fault_at, within, within_if, too_long, judged}
+use Rattle.capture_file.specs.Streams.{Reading, reading, with_step, Ending, Unfinished, Ended, Bad, atomic, steps_run, stream_of, whole_file, within_if, too_long, judged}
 use Rattle.capture_file.specs.Readers.{Reader, fresh, resumed, closed_by}
 use Rattle.bt878_top.specs.Plays.{GoesOn, Handed, HandedAll, HasPlayed, IsAtFault, longest_stream}
 

@@ -7,6 +7,7 @@ use Rattle.machine_model.specs.declared.Cause.{Cause}
 use Rattle.machine_model.specs.Paths.{IsSound}
 use Rattle.machine_model.specs.States.{State, first_state}
 use Rattle.machine_model.specs.Steps.{run, state_at}
+use Rattle.machine_model.specs.Steps as machine
 use Rattle.machine_model.specs.Safety.{IsInside}
 use Rattle.capture_file.specs.declared.FileFault.{FileFault}
 use Rattle.capture_file.specs.declared.Input.{Input}
@@ -116,6 +117,11 @@ StaysInside (Ok (Runs program stream image)) inputs =
     OfRun program stream inputs (λ a b r.
     (place : ℕ) → IsInside r.file.program (state_at (first_of r) (steps_run r.steps) place))
 StaysInside _ inputs = ⊤
+
+-- P of the machine before its first step, and of the steps of the whole stream
+abbrev pub OfCapture : Result Task UsageFault → Option Inputs → (State → List machine.Step → Type 0) → Type 0
+OfCapture (Ok (Runs program stream image)) inputs P = OfRun program stream inputs (λ a b r. P (first_of r) (steps_run r.steps))
+OfCapture _ inputs P = ⊤
 
 -- `accepted` is said of the program
 abbrev pub SaysAccepted : Result Task UsageFault → Told → Told → Type 0

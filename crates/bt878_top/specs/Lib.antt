@@ -5,3 +5,4 @@ pub mod Plays
 pub mod Programs
 pub mod Tasks
 pub mod Clauses
+pub mod Pictures

@@ -1,5 +1,5 @@
 -- A stream that is handed to a machine piece by piece.
-use Rattle.std.specs.Prelude.{◌≡◌, ℕ, ◌+◌, ◌<◌, ◌≤◌, ◌⊎◌, false, List, ◌++◌, length, take, drop, Option, Some, None, Result, Ok, Err}
+use Rattle.std.specs.Prelude.{◌≡◌, ℕ, ◌+◌, ◌<◌, ◌≤◌, ◌⊎◌, false, List, ◌++◌, length, take, drop, Option, Some, None, Ok, Err}
 use Rattle.machine_model.specs.States.{State}
 use Rattle.machine_model.specs.Steps.{run}
 use Rattle.capture_file.specs.declared.Step.{Step}

@@ -5,8 +5,9 @@ ghost use Rattle.bt878_words.specs.Words.{command_of, inputs_of, outputs_of};
 ghost use Rattle.capture_file.specs.declared.FileFault.{FileFault};
 ghost use Rattle.capture_file.specs.declared.Input.{Input};
 ghost use Rattle.machine_model.specs.declared.Cause.{Cause};
-ghost use Rattle.bt878_top.specs.Clauses.{AreTold, HasBad, HasFault, ImageAndReport, IsGood, IsRefusal, IsSoundAt, IsUnreadOf, IsUsage, OnlyOutputs, OnlySays, SameNames, SaysAccepted, SaysListing, StandsAt, StaysInside, UnlessCut};
+ghost use Rattle.bt878_top.specs.Clauses.{AreTold, HasBad, HasFault, ImageAndReport, IsGood, IsRefusal, IsSoundAt, IsUnreadOf, IsUsage, OfCapture, OnlyOutputs, OnlySays, SameNames, SaysAccepted, SaysListing, StandsAt, StaysInside, UnlessCut};
 ghost use Rattle.bt878_top.specs.Desks.{ReadsRose, SameCounts, WritesRose, seen_by};
+ghost use Rattle.bt878_top.specs.Pictures.{ShowsNoFault, ShowsPictures, SignalsInTime};
 ghost use Rattle.bt878_top.specs.Tasks.{Answers, AreNames, task_of};
 ghost use Rattle.bt878_top.specs.Texts.{answer_text};
 
@@ -67,6 +68,18 @@ pub fn bt878<D: Desk>(alloc: Global, words: &[&str], desk: &mut D) -> Answer
     // fetches is a word of the program, and OCERR is 0.
     ensures inside { (result ≡ Answer.Done) →
         StaysInside (task_of (map (λ w. w.now) words.now)) (D.told desk.old).inputs }
+
+    // At Done of `run`, for every valid description whose program is the one that ran, every field of it,
+    // every picture and all places of those steps: after the first signal of a field that arrived in
+    // order and lost nothing, memory holds each byte of the picture that is not clipped at its place and
+    // is as it was everywhere else; no turn up to the signal sets FDSR, and the RISC status tells the
+    // field; and once all entries were pushed the signal comes within a bound of turns.
+    ensures pictures { (result ≡ Answer.Done) →
+        OfCapture (task_of (map (λ w. w.now) words.now)) (D.told desk.old).inputs ShowsPictures }
+    ensures no_fault_shown { (result ≡ Answer.Done) →
+        OfCapture (task_of (map (λ w. w.now) words.now)) (D.told desk.old).inputs ShowsNoFault }
+    ensures in_time { (result ≡ Answer.Done) →
+        OfCapture (task_of (map (λ w. w.now) words.now)) (D.told desk.old).inputs SignalsInTime }
 
     // At Done of `verify` and of `list`: what was said, and that nothing was created. At Done both
     // counts of faults are as they were.

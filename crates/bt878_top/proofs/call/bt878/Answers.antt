@@ -2,7 +2,9 @@
 use Rattle.std.proofs.Common.{Bor, List, ℕ, map}
 use Rattle.bt878_top.specs.Desks.{seen_by}
 use Rattle.bt878_top.specs.Tasks.{task_of}
-use Rattle.bt878_top.proofs.Consequences.{completes, done_accepted, done_counts, done_image_and_report, done_inside, done_listed, done_sound, malformed_comes, malformed_must, names_kept, others_untouched, read_fault_comes, refused_only_says, rejected_comes, rejected_must, usage_comes, write_fault_comes, write_fault_stands}
+use Rattle.bt878_top.specs.Pictures.{ShowsPictures, ShowsNoFault, SignalsInTime}
+use Rattle.bt878_top.proofs.Pictures.{pictures_shown, no_fault_shown, signals_come}
+use Rattle.bt878_top.proofs.Consequences.{completes, done_accepted, done_captured, done_counts, done_image_and_report, done_inside, done_listed, done_sound, malformed_comes, malformed_must, names_kept, others_untouched, read_fault_comes, refused_only_says, rejected_comes, rejected_must, usage_comes, write_fault_comes, write_fault_stands}
 use Rattle.bt878_top.proofs.call.bt878.Goals as goal
 
 abbrev text : Bor (List ℕ) → List ℕ
@@ -22,6 +24,21 @@ pub returns-clause-inside : goal.returns-clause-inside
 returns-clause-inside g c =
     let see = seen_by g.D.Desk.told g.D.Desk.read_faults g.D.Desk.write_faults in
     done_inside (task_of (map text c.args.words.now)) c.answer_words.result (see c.args.desk.now) (see c.answer_words.new.desk) c.answer_words.ensures
+
+pub returns-clause-pictures : goal.returns-clause-pictures
+returns-clause-pictures g c =
+    let see = seen_by g.D.Desk.told g.D.Desk.read_faults g.D.Desk.write_faults in
+    done_captured ShowsPictures pictures_shown (task_of (map text c.args.words.now)) c.answer_words.result (see c.args.desk.now) (see c.answer_words.new.desk) c.answer_words.ensures
+
+pub returns-clause-no_fault_shown : goal.returns-clause-no_fault_shown
+returns-clause-no_fault_shown g c =
+    let see = seen_by g.D.Desk.told g.D.Desk.read_faults g.D.Desk.write_faults in
+    done_captured ShowsNoFault no_fault_shown (task_of (map text c.args.words.now)) c.answer_words.result (see c.args.desk.now) (see c.answer_words.new.desk) c.answer_words.ensures
+
+pub returns-clause-in_time : goal.returns-clause-in_time
+returns-clause-in_time g c =
+    let see = seen_by g.D.Desk.told g.D.Desk.read_faults g.D.Desk.write_faults in
+    done_captured SignalsInTime signals_come (task_of (map text c.args.words.now)) c.answer_words.result (see c.args.desk.now) (see c.answer_words.new.desk) c.answer_words.ensures
 
 pub returns-clause-accepted : goal.returns-clause-accepted
 returns-clause-accepted g c =

@@ -1,4 +1,4 @@
-use Rattle.std.proofs.Common.{◌≡◌, ◌+◌, ◌∙◌, ap, sym, subst, arith, take, length, length-take}
+use Rattle.std.proofs.Common.{◌∙◌, ap, subst, arith, length-take}
 use Rattle.capture_desk.specs.Desks.{Told, after_read}
 use Rattle.capture_desk.proofs.Laws.{after_read-after_read}
 use Rattle.bt878_top.specs.Desks.{Grows, OfRest}

@@ -1,4 +1,4 @@
-use Rattle.std.proofs.Common.{◌≡◌, ◌+◌, ◌-◌, ◌≤◌, ◌++◌, List, ℕ, length, take, false}
+use Rattle.std.proofs.Common.{◌≡◌, ◌+◌, ◌-◌, ◌≤◌, length, take, false}
 use Rattle.capture_desk.specs.Desks.{after_read}
 use Rattle.capture_file.specs.Readers.{fresh}
 use Rattle.bt878_top.specs.Desks.{OfRest}

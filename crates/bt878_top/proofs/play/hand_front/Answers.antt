@@ -1,4 +1,4 @@
-use Rattle.std.proofs.Common.{◌≡◌, ◌+◌, ◌++◌, ◌∙◌, ap, length, drop, subst}
+use Rattle.std.proofs.Common.{◌+◌, ◌++◌, ◌∙◌, ap, length, drop, subst}
 use Rattle.capture_file.specs.Readers.{Uses, Counts, after_answer, resumed}
 use Rattle.bt878_top.proofs.Playing.{GoesOn-after}
 use Rattle.bt878_top.proofs.play.hand_front.Goals as goal

@@ -1,6 +1,6 @@
-use Rattle.std.proofs.Common.{◌∙◌, ap, sym, []}
+use Rattle.std.proofs.Common.{◌∙◌, ap, sym}
 use Rattle.capture_file.specs.Streams.{Reading}
-use Rattle.capture_file.specs.Readers.{closed_by, resumed}
+use Rattle.capture_file.specs.Readers.{closed_by}
 use Rattle.bt878_top.proofs.Playing.{not_played, played}
 use Rattle.bt878_top.proofs.play.play.Goals as goal
 

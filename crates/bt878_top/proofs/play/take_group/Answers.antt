@@ -1,4 +1,4 @@
-use Rattle.std.proofs.Common.{◌≡◌, ◌∙◌, ap, sym}
+use Rattle.std.proofs.Common.{◌∙◌, ap, sym}
 use Rattle.machine_model.specs.Turns.{turn}
 use Rattle.bt878_top.proofs.Playing.{one_turn_more}
 use Rattle.bt878_top.proofs.play.take_group.Goals as goal

@@ -1,4 +1,4 @@
-use Rattle.std.proofs.Common.{◌≡◌, ◌∙◌, ◌-◌, arith}
+use Rattle.std.proofs.Common.{◌∙◌, arith}
 use Rattle.bt878_top.proofs.Playing.{turns_after}
 use Rattle.bt878_top.proofs.play.take_turns.Goals as goal
 

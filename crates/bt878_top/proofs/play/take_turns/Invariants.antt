@@ -1,4 +1,4 @@
-use Rattle.std.proofs.Common.{◌≡◌, ◌<◌, ℕ, replicate}
+use Rattle.std.proofs.Common.{◌≡◌, ◌<◌, replicate}
 use Rattle.machine_model.specs.Steps.{Turn, run}
 use Rattle.bt878_top.proofs.play.take_turns.Given as goal
 
