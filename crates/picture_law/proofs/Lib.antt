@@ -9,3 +9,5 @@ pub mod Painted
 pub mod Meets
 pub mod Laws
 pub mod Worked
+pub mod Between
+pub mod Places

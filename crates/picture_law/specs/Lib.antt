@@ -3,3 +3,4 @@ pub mod Arrivals
 pub mod Sections
 pub mod Laws
 pub mod Worked
+pub mod Runs

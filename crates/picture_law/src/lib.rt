@@ -11,6 +11,7 @@ ghost use Rattle.capture_desc.specs.declared.desc.Desc.{Desc};
 ghost use Rattle.picture_model.specs.Programs.{compiled};
 ghost use Rattle.field_law.specs.Worked.{moves};
 ghost use Rattle.picture_law.specs.Arrivals.{has_signal, is_signal};
+ghost use Rattle.picture_law.specs.Runs.{RunShowsPicture, RunShowsNoFault, RunTellsField, RunSignalsInTime};
 ghost use Rattle.picture_law.specs.Worked.{description, machine, picture};
 ghost use Rattle.picture_law.specs.Laws.{Captures, RunsCompiled, HoldsSection, UsesPicture, PaintsPicture, ShowsPicture, ShowsNoFault, SignalsField, SignalsInTime};
 
@@ -31,6 +32,15 @@ pub fn fields_show_no_fault()
 /// the opening to the closing and one for each entry.
 pub fn signals_come_in_time()
     ensures { SignalsInTime }
+{}
+
+/// The same over the places of a run of the compiled program from the machine's first state, whatever its history: where
+/// the first signal of a field after place j is step k, and a picture arrives at j over the steps j to k.
+pub fn runs_show_their_pictures()
+    ensures shown { RunShowsPicture }
+    ensures quiet { RunShowsNoFault }
+    ensures signalled { RunTellsField }
+    ensures in_time { RunSignalsInTime }
 {}
 
 /// Each state of a run from the machine's first state is one of which these laws speak.

@@ -1,0 +1,102 @@
+-- Parts of a run from one place to another.
+use Rattle.std.proofs.Common.{◌≡◌, ℕ, zero, suc, ◌+◌, ◌-◌, ◌<◌, ◌≤◌, Bool, true, false, ◌||◌, List, [], ◌∷◌, ◌++◌, length, take, drop, refl, sym, ap, ◌∙◌, subst, arith, ⊎_elim}
+use Rattle.std.proofs.Math.Seq.{take-add}
+use Rattle.std.proofs.lemmas.Bool.{cases_Bool, cases_lt, or_cases, or_from}
+use Rattle.std.proofs.lemmas.List.{drop-drop, drop_more, take_more}
+use Rattle.pixel_layout.specs.declared.Parity.{Parity}
+use Rattle.machine_model.specs.States.{State}
+use Rattle.machine_model.specs.Steps.{Step, Push, Control, Turn, Host, run, state_at, step}
+use Rattle.machine_model.proofs.Runs.{run-append}
+use Rattle.capture_desc.specs.declared.desc.Desc.{Desc}
+use Rattle.picture_law.specs.Arrivals.{has_signal, is_signal}
+use Rattle.picture_law.specs.Runs.{IsFirstSignal, between, signals_at, step_at}
+
+-- ---- steps
+
+pub between_both : (j i l : ℕ) (steps : List Step) → j ≤ i → i ≤ l → between j l steps ≡ between j i steps ++ between i l steps
+between_both j i l steps first later =
+    let all : l - j ≡ i - j + (l - i) = omega arith in
+    let there : j + (i - j) ≡ i = omega arith in
+    ap (λ (n : ℕ). take n (drop j steps)) all
+    ∙ take-add (i - j) (l - i) (drop j steps)
+    ∙ ap (λ (rest : List Step). between j i steps ++ take (l - i) rest) (drop-drop (i - j) j steps ∙ ap (λ (n : ℕ). drop n steps) there)
+
+pub between_first : (i l : ℕ) (steps : List Step) → i < l → i < length steps → between i l steps ≡ step_at steps i ∷ between (i + 1) l steps
+between_first i l steps before within =
+    let more : l - i ≡ suc (l - (i + 1)) = omega arith in
+    ap (λ (n : ℕ). take n (drop i steps)) more ∙ ap (λ (rest : List Step). take (suc (l - (i + 1))) rest) (drop_more steps i Turn within)
+
+pub between_none : (i : ℕ) (steps : List Step) → between i i steps ≡ []
+between_none i steps = let none : i - i ≡ 0 = omega arith in ap (λ (n : ℕ). take n (drop i steps)) none
+
+-- the steps up to one at a place, that one, and those after it
+pub between_at : (j i l : ℕ) (steps : List Step) → j ≤ i → i < l → i < length steps → between j l steps ≡ between j i steps ++ step_at steps i ∷ between (i + 1) l steps
+between_at j i l steps first before within =
+    between_both j i l steps first (omega arith) ∙ ap (λ (rest : List Step). between j i steps ++ rest) (between_first i l steps before within)
+
+pub between_last : (j k : ℕ) (steps : List Step) → j ≤ k → k < length steps → between j (k + 1) steps ≡ between j k steps ++ step_at steps k ∷ []
+between_last j k steps first within =
+    between_at j k (k + 1) steps first (omega arith) within ∙ ap (λ (rest : List Step). between j k steps ++ step_at steps k ∷ rest) (between_none (k + 1) steps)
+
+-- ---- states
+
+pub state_next : (m : State) (steps : List Step) (k : ℕ) → k < length steps → state_at m steps (k + 1) ≡ step (step_at steps k) (state_at m steps k)
+state_next m steps k within = ap (run m) (take_more steps k Turn within) ∙ run-append m (take k steps) (step_at steps k ∷ [])
+
+pub state_between : (m : State) (steps : List Step) (j i : ℕ) → j ≤ i → run (state_at m steps j) (between j i steps) ≡ state_at m steps i
+state_between m steps j i first =
+    let there : j + (i - j) ≡ i = omega arith in
+    sym (run-append m (take j steps) (between j i steps)) ∙ ap (run m) (sym (take-add j (i - j) steps)) ∙ ap (λ (n : ℕ). run m (take n steps)) there
+
+-- ---- signals
+
+-- only a turn is a signal
+pub signal_turn : (d : Desc) (field : Parity) (m : State) (st : Step) → is_signal d field m st ≡ true → st ≡ Turn
+signal_turn d field m Turn signal = refl
+signal_turn d field m (Push q entry) signal = cc
+signal_turn d field m (Control code) signal = cc
+signal_turn d field m (Host write) signal = cc
+
+module _ (d : Desc) (field : Parity) (m : State) (steps : List Step) where
+  abbrev signals_from : ℕ → ℕ → Bool
+  signals_from j l = has_signal d field (state_at m steps j) (between j l steps)
+
+  none_from : (j : ℕ) → signals_from j j ≡ false
+  none_from j = ap (has_signal d field (state_at m steps j)) (between_none j steps)
+
+  signals_first : (j l : ℕ) → j < l → l ≤ length steps → signals_from j l ≡ (signals_at d field m steps j || signals_from (j + 1) l)
+  signals_first j l before within =
+      ap (has_signal d field (state_at m steps j)) (between_first j l steps before (omega arith))
+      ∙ ap (λ (m' : State). signals_at d field m steps j || has_signal d field m' (between (j + 1) l steps)) (sym (state_next m steps j (omega arith)))
+
+  -- no step signals
+  pub no_signal : (n j l : ℕ) → j + n ≡ l → l ≤ length steps → ((i : ℕ) → j ≤ i → i < l → signals_at d field m steps i ≡ false) → signals_from j l ≡ false
+  no_signal zero j l end within none = let here : l ≡ j = omega arith in ap (signals_from j) here ∙ none_from j
+  no_signal (suc n) j l end within none =
+      signals_first j l (omega arith) within
+      ∙ or_from (signals_at d field m steps j) (signals_from (j + 1) l) (none j (omega arith) (omega arith))
+      (no_signal n (j + 1) l (omega arith) within (λ i from to. none i (omega arith) to))
+
+  -- some step does: the first
+  pub some_signal : (n j l : ℕ) → j + n ≡ l → l ≤ length steps → signals_from j l ≡ true → (k : ℕ) × IsFirstSignal d field m steps j k × (k < l)
+  some_signal zero j l end within signal =
+      let here : l ≡ j = omega arith in
+      let none : signals_from j l ≡ false = ap (signals_from j) here ∙ none_from j in cc
+  some_signal (suc n) j l end within signal =
+      ⊎_elim
+      (λ now. (j, record { later = omega arith; there = omega arith; signal = now; first = λ i from to. absurd (omega arith) }, omega arith))
+      (λ not_now.
+      let both : (signals_at d field m steps j || signals_from (j + 1) l) ≡ true = sym (signals_first j l (omega arith) within) ∙ signal in
+      let rest : signals_from (j + 1) l ≡ true =
+      ⊎_elim (λ now. cc) (λ more. more) (or_cases (signals_at d field m steps j) (signals_from (j + 1) l) both) in
+      let found = some_signal n (j + 1) l (omega arith) within rest in
+      let later = found.1.later in
+      (found.0, record { later = omega arith; there = found.1.there; signal = found.1.signal; first = first_of found.0 not_now found.1 }, found.2))
+      (cases_Bool (signals_at d field m steps j))
+    where
+      first_of : (k : ℕ) → signals_at d field m steps j ≡ false → IsFirstSignal d field m steps (j + 1) k → (i : ℕ) → j ≤ i → i < k → signals_at d field m steps i ≡ false
+      first_of k not_now first i from to =
+          ⊎_elim
+          (λ after. first.first i (omega arith) to)
+          (λ here. let same : j ≡ i = omega arith in subst (λ (n : ℕ). signals_at d field m steps n ≡ false) same not_now)
+          (cases_lt j i)
