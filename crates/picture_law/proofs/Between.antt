@@ -1,7 +1,7 @@
 -- Parts of a run from one place to another.
 use Rattle.std.proofs.Common.{◌≡◌, ℕ, zero, suc, ◌+◌, ◌-◌, ◌<◌, ◌≤◌, Bool, true, false, ◌||◌, List, [], ◌∷◌, ◌++◌, length, take, drop, refl, sym, ap, ◌∙◌, subst, arith, ⊎_elim}
 use Rattle.std.proofs.Math.Seq.{take-add}
-use Rattle.std.proofs.lemmas.Bool.{cases_Bool, cases_lt, or_cases, or_from}
+use Rattle.std.proofs.lemmas.Bool.{cases_Bool, cases_lt, or_cases, or_from, or_parts}
 use Rattle.std.proofs.lemmas.List.{drop-drop, drop_more, take_more}
 use Rattle.pixel_layout.specs.declared.Parity.{Parity}
 use Rattle.machine_model.specs.States.{State}
@@ -100,3 +100,13 @@ module _ (d : Desc) (field : Parity) (m : State) (steps : List Step) where
           (λ after. first.first i (omega arith) to)
           (λ here. let same : j ≡ i = omega arith in subst (λ (n : ℕ). signals_at d field m steps n ≡ false) same not_now)
           (cases_lt j i)
+
+  -- where none does, the step at each place doesn't
+  pub silent_at : (n j l i : ℕ) → j + n ≡ l → l ≤ length steps → signals_from j l ≡ false → j ≤ i → i < l → signals_at d field m steps i ≡ false
+  silent_at zero j l i end within silent from to = absurd (omega arith)
+  silent_at (suc n) j l i end within silent from to =
+      let parts = or_parts (signals_at d field m steps j) (signals_from (j + 1) l) (sym (signals_first j l (omega arith) within) ∙ silent) in
+      ⊎_elim
+      (λ after. silent_at n (j + 1) l i (omega arith) within parts.1 (omega arith) to)
+      (λ here. let same : j ≡ i = omega arith in subst (λ (k : ℕ). signals_at d field m steps k ≡ false) same parts.0)
+      (cases_lt j i)

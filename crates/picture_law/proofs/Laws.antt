@@ -37,7 +37,7 @@ use Rattle.picture_law.proofs.Painted.{painted, painted_after, after_paints, aft
 
 module _ (d : Desc) (field : Parity) (picture : Picture) (m : State) (steps : List Step) (c : Captures d field picture m steps) where
   right : IsRight d
-  right = IsFrame-IsRight d c.description (IsValid-IsFrame d c.valid)
+  right = IsFrame-IsRight d c.capture.description (IsValid-IsFrame d c.capture.valid)
 
   abbrev section : Section
   section = section_of d field
@@ -49,7 +49,7 @@ module _ (d : Desc) (field : Parity) (picture : Picture) (m : State) (steps : Li
   memory_is = c.machine.chunks ∙ ap (λ (program : RiscProgram). program.grants) c.machine.program
 
   held : Holds section m.program
-  held = subst (Holds section) (sym c.machine.program) (section_holds d field right c.described)
+  held = subst (Holds section) (sym c.machine.program) (section_holds d field right c.capture.described)
 
   -- the field arrives at its section, whatever the spelling of the steps
   abbrev receives : (mets : List Met) → meets m.program steps ≡ mets → Receives section tokens m mets
@@ -57,13 +57,13 @@ module _ (d : Desc) (field : Parity) (picture : Picture) (m : State) (steps : Li
       record {
         orderly = c.machine.orderly;
         held = subst (λ (mets : List Met). All (λ met. Holds section met.0) mets) same (held_steps section m.program steps held);
-        uses = section_uses d right field c.described picture c.pictured c.arrives.brought.skipped c.arrives.brought.lines;
+        uses = section_uses d right field c.capture.described picture c.capture.pictured c.arrives.brought.skipped c.arrives.brought.lines;
         arrives = record {
           fifo_on = c.arrives.fifo_on;
           risc_on = c.arrives.risc_on;
           waits = c.arrives.waits;
           there = c.arrives.there;
-          quiet = subst (law.AreQuiet m) same (quiet_steps m steps c.made c.arrives.kept);
+          quiet = subst (law.AreQuiet m) same (quiet_steps m steps c.capture.made c.arrives.kept);
           before = c.arrives.before;
           entries = c.arrives.entries;
           rest = c.arrives.rest;
@@ -108,14 +108,14 @@ shows_picture d field picture m early late c silent signal =
     let skips = c.arrives.brought.lines in
     let is_right = right d field picture m steps c in
     let chunks = memory_is d field picture m steps c in
-    let now = painted d is_right field c.described picture c.pictured skipped skips m.memory chunks in
-    let after = painted_after d is_right field c.described picture c.pictured skipped skips m.memory chunks in
+    let now = painted d is_right field c.capture.described picture c.capture.pictured skipped skips m.memory chunks in
+    let after = painted_after d is_right field c.capture.described picture c.capture.pictured skipped skips m.memory chunks in
     after_same d field picture m.memory now (run m (early ++ Turn ∷ [])).memory after (chunks-run m (early ++ Turn ∷ []))
     (λ address.
     ap (λ (m' : State). byte_at m'.memory address) (turned d field picture m early late c silent)
     ∙ proved.shows_picture (section_of d field) (field_tokens d picture skipped) (byte_at now) m
     (meets m.program early) (meets m.program late) m.program (received d field picture m early late c silent)
-    (after_paints d is_right field c.described picture c.pictured skipped skips m.memory chunks now after)
+    (after_paints d is_right field c.capture.described picture c.capture.pictured skipped skips m.memory chunks now after)
     (no_signal d field picture m early late c silent) (signalled d field picture m early late c silent signal) address)
 
 pub shows_no_fault : ShowsNoFault

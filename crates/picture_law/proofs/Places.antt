@@ -13,8 +13,8 @@ use Rattle.picture_model.specs.Programs.{compiled, size}
 use Rattle.field_law.specs.Arrivals.{entries_of, over_queues}
 use Rattle.picture_law.specs.Pictures.{Picture, After}
 use Rattle.picture_law.specs.Arrivals.{Arrives, coming, has_signal, is_signal, turns_in}
-use Rattle.picture_law.specs.Laws.{Captures, TellsField}
-use Rattle.picture_law.specs.Runs.{IsCapture, IsSignalled, between, state_of, step_at, RunShowsPicture, RunShowsNoFault, RunTellsField, RunSignalsInTime}
+use Rattle.picture_law.specs.Laws.{Captures, IsCapture, TellsField}
+use Rattle.picture_law.specs.Runs.{IsSignalled, between, state_of, step_at, RunShowsPicture, RunShowsNoFault, RunTellsField, RunSignalsInTime}
 use Rattle.picture_law.proofs.Between.{between_at, between_both, between_last, no_signal, signal_turn, some_signal, state_between}
 use Rattle.picture_law.proofs.Laws.{runs_compiled, shows_picture, shows_no_fault, signals_field, signals_in_time}
 
@@ -29,12 +29,14 @@ module _ (d : Desc) (field : Parity) (picture : Picture) (fill : ℕ) (steps : L
   abbrev captures : (l : ℕ) (part : List Step) → between j l steps ≡ part → Arrives d field picture m part → Captures d field picture m part
   captures l part same arrives =
       record {
-        description = c.description;
-        valid = c.valid;
-        described = c.described;
-        pictured = c.pictured;
+        capture = record {
+          description = c.description;
+          valid = c.valid;
+          described = c.described;
+          pictured = c.pictured;
+          made = subst (λ (part : List Step). All IsStep part) same (All-take IsStep (l - j) (drop j steps) (All-drop IsStep j steps c.made));
+        };
         machine = runs_compiled d fill (take j steps) (All-take IsStep j steps c.made);
-        made = subst (λ (part : List Step). All IsStep part) same (All-take IsStep (l - j) (drop j steps) (All-drop IsStep j steps c.made));
         arrives = arrives;
       }
 

@@ -1,21 +1,25 @@
 -- The worked picture meets the premises of the laws.
 use Rattle.std.proofs.Common.{◌≡◌, ℕ, ◌^◌, ◌<◌, true, false, All, List, [], ◌∷◌, ◌++◌, length, refl, arith}
-use Rattle.std.proofs.lemmas.List.Elements.{All-nil, All-from_recursion}
+use Rattle.std.proofs.lemmas.List.Elements.{All-nil, All-append, All-from_recursion}
 use Rattle.risc_word.specs.declared.Code.TheVariants.{Vre, Fm1}
 use Rattle.fifo_model.specs.Queues.{lane_of, control_entry}
 use Rattle.fifo_model.specs.declared.Entry.{Entry}
 use Rattle.fifo_model.specs.declared.Queue.{Queue}
 use Rattle.fifo_model.specs.declared.Queue.TheVariants.{One, Two, Three}
 use Rattle.pixel_layout.specs.declared.Parity.TheVariants.{Top}
-use Rattle.machine_model.specs.Steps.{Push, Turn, run}
+use Rattle.machine_model.specs.States.{first_state}
+use Rattle.picture_model.specs.Programs.{compiled}
+use Rattle.machine_model.specs.Steps.{Step, Push, Turn, run}
 use Rattle.machine_model.specs.Safety.{IsStep}
 use Rattle.picture_model.specs.Described.{IsDescription, field_height}
 use Rattle.field_law.specs.Fields.{IsLine, Mark, Brings}
 use Rattle.field_law.specs.Worked.{entry, line, moves}
 use Rattle.picture_law.specs.Pictures.{AreLines, AreRows, HoldBytes, IsPicture, field_tokens, rows_on}
 use Rattle.picture_law.specs.Arrivals.{Arrives, IsVertical, coming, has_signal, is_signal}
-use Rattle.picture_law.specs.Laws.{Captures}
-use Rattle.picture_law.specs.Worked.{description, machine, picture}
+use Rattle.picture_law.specs.Laws.{Captures, IsCapture}
+use Rattle.picture_law.specs.Worked.{description, machine, picture, steps}
+use Rattle.picture_law.specs.Runs.{IsSignalled}
+use Rattle.picture_law.proofs.Between.{silent_at}
 use Rattle.picture_law.proofs.Laws.{runs_compiled}
 
 described : IsDescription description
@@ -119,17 +123,37 @@ arrives =
       brought = record { skipped = λ q. []; lines = no_skips; brings = brings };
     }
 
+abbrev captured_over : (steps : List Step) → All IsStep steps → IsCapture description Top picture steps
+captured_over made_steps made = record { description = described; valid = refl; described = refl; pictured = pictured; made = made }
+
+first_steps : All IsStep (Push One (entry 0 0xffffffff) ∷ Turn ∷ [])
+first_steps = All-from_recursion IsStep (Push One (entry 0 0xffffffff) ∷ Turn ∷ []) (refl, (tt, tt))
+
+more_steps : All IsStep (moves ++ Turn ∷ [])
+more_steps = All-from_recursion IsStep (moves ++ Turn ∷ []) (tt, (tt, (tt, (tt, (refl, (tt, (tt, (tt, (tt, (refl, (tt, (tt, (tt, tt)))))))))))))
+
 pub captures : Captures description Top picture machine (moves ++ Turn ∷ [])
 captures =
     record {
-      description = described;
-      valid = refl;
-      described = refl;
-      pictured = pictured;
-      machine = runs_compiled description 0 (Push One (entry 0 0xffffffff) ∷ Turn ∷ []) (All-from_recursion IsStep (Push One (entry 0 0xffffffff) ∷ Turn ∷ []) (refl, (tt, tt)));
-      made = All-from_recursion IsStep (moves ++ Turn ∷ []) (tt, (tt, (tt, (tt, (refl, (tt, (tt, (tt, (tt, (refl, (tt, (tt, (tt, tt)))))))))))));
+      capture = captured_over (moves ++ Turn ∷ []) more_steps;
+      machine = runs_compiled description 0 (Push One (entry 0 0xffffffff) ∷ Turn ∷ []) first_steps;
       arrives = arrives;
     }
 
 pub signals : (has_signal description Top machine moves ≡ false) × (is_signal description Top (run machine moves) Turn ≡ true)
 signals = (refl, refl)
+
+-- ---- over the places of a run
+
+pub signalled : IsSignalled description Top picture 0 steps 2 14
+signalled =
+    record {
+      capture = captured_over steps (All-append IsStep (Push One (entry 0 0xffffffff) ∷ Turn ∷ []) (moves ++ Turn ∷ []) first_steps more_steps);
+      signal = record {
+        later = omega arith;
+        there = omega arith;
+        signal = refl;
+        first = λ i from to. silent_at description Top (first_state (compiled description) 0) steps 12 2 14 i refl (omega arith) refl from to;
+      };
+      arrives = arrives;
+    }

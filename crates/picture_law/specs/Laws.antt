@@ -26,14 +26,18 @@ pub record RunsCompiled (d : Desc) (m : State) : Type 0 where
   pub orderly : IsOrderly m
   pub chunks : chunks_of m.memory ≡ m.program.grants
 
--- a picture of a field that a valid description describes arrives at a machine that runs its program
-pub record Captures (d : Desc) (field : Parity) (picture : Picture) (m : State) (steps : List Step) : Type 0 where
+-- steps, and a picture of a field that a valid description describes
+pub record IsCapture (d : Desc) (field : Parity) (picture : Picture) (steps : List Step) : Type 0 where
   pub description : IsDescription d
   pub valid : IsValid d
   pub described : describes d.fields field ≡ true
   pub pictured : IsPicture d field picture
-  pub machine : RunsCompiled d m
   pub made : All IsStep steps
+
+-- the picture arrives over these steps at a machine that runs the description's program
+pub record Captures (d : Desc) (field : Parity) (picture : Picture) (m : State) (steps : List Step) : Type 0 where
+  pub capture : IsCapture d field picture steps
+  pub machine : RunsCompiled d m
   pub arrives : Arrives d field picture m steps
 
 -- after the first signal of the field memory is that of before with the picture

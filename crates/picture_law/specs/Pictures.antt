@@ -13,7 +13,8 @@ use Rattle.picture_model.specs.Places.{Byte, row_byte, vbi_byte, byte_clipped, b
 use Rattle.picture_model.specs.Programs.{data_code, vertical}
 use Rattle.field_law.specs.Fields.{Token, Mark, Row, Brings}
 
--- a picture of a field: the bytes of each of its VBI lines, and of each of its rows on each plane
+-- a picture of a field: the bytes of each of its VBI lines, and of each of its rows on each plane, in order; a plane that
+-- the format doesn't have has no rows
 pub record Picture : Type 0 where
   pub vbi : List (List ℕ)
   pub one : List (List ℕ)

@@ -1,20 +1,17 @@
 -- The law of the picture over the places of a run: place k is the moment before step k.
-use Rattle.std.specs.Prelude.{◌≡◌, ℕ, ◌+◌, ◌-◌, ◌*◌, ◌<◌, ◌≤◌, Bool, true, false, All, List, length, take, drop, slice_index_or}
+use Rattle.std.specs.Prelude.{◌≡◌, ℕ, ◌+◌, ◌-◌, ◌*◌, ◌<◌, ◌≤◌, Bool, true, false, List, length, take, drop, slice_index_or}
 use Rattle.fifo_model.specs.declared.Queue.{Queue}
 use Rattle.fifo_model.specs.Queues.{lane_of}
 use Rattle.irq_status.specs.Register.{fdsr, has}
 use Rattle.pixel_layout.specs.declared.Parity.{Parity}
 use Rattle.machine_model.specs.States.{State, first_state}
 use Rattle.machine_model.specs.Steps.{Step, Turn, state_at}
-use Rattle.machine_model.specs.Safety.{IsStep}
 use Rattle.capture_desc.specs.declared.desc.Desc.{Desc}
-use Rattle.picture_model.specs.Described.{IsDescription, describes}
-use Rattle.picture_model.specs.Geometry.{IsValid}
 use Rattle.picture_model.specs.Programs.{compiled, size}
 use Rattle.field_law.specs.Arrivals.{entries_of, over_queues}
-use Rattle.picture_law.specs.Pictures.{Picture, IsPicture, After}
+use Rattle.picture_law.specs.Pictures.{Picture, After}
 use Rattle.picture_law.specs.Arrivals.{Arrives, coming, is_signal, turns_in}
-use Rattle.picture_law.specs.Laws.{TellsField}
+use Rattle.picture_law.specs.Laws.{IsCapture, TellsField}
 
 -- the steps from a place up to another, and the step at a place
 abbrev pub between : ℕ → ℕ → List Step → List Step
@@ -33,14 +30,6 @@ pub record IsFirstSignal (d : Desc) (field : Parity) (m : State) (steps : List S
   pub there : k < length steps
   pub signal : signals_at d field m steps k ≡ true
   pub first : (i : ℕ) → j ≤ i → i < k → signals_at d field m steps i ≡ false
-
--- steps, and a picture of a field that a valid description describes
-pub record IsCapture (d : Desc) (field : Parity) (picture : Picture) (steps : List Step) : Type 0 where
-  pub description : IsDescription d
-  pub valid : IsValid d
-  pub described : describes d.fields field ≡ true
-  pub pictured : IsPicture d field picture
-  pub made : All IsStep steps
 
 -- the state at a place of a run of the description's program from the first state
 abbrev pub state_of : Desc → ℕ → List Step → ℕ → State

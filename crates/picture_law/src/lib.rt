@@ -11,8 +11,8 @@ ghost use Rattle.capture_desc.specs.declared.desc.Desc.{Desc};
 ghost use Rattle.picture_model.specs.Programs.{compiled};
 ghost use Rattle.field_law.specs.Worked.{moves};
 ghost use Rattle.picture_law.specs.Arrivals.{has_signal, is_signal};
-ghost use Rattle.picture_law.specs.Runs.{RunShowsPicture, RunShowsNoFault, RunTellsField, RunSignalsInTime};
-ghost use Rattle.picture_law.specs.Worked.{description, machine, picture};
+ghost use Rattle.picture_law.specs.Runs.{IsSignalled, RunShowsPicture, RunShowsNoFault, RunTellsField, RunSignalsInTime};
+ghost use Rattle.picture_law.specs.Worked.{description, machine, picture, steps};
 ghost use Rattle.picture_law.specs.Laws.{Captures, RunsCompiled, HoldsSection, UsesPicture, PaintsPicture, ShowsPicture, ShowsNoFault, SignalsField, SignalsInTime};
 
 /// After the first signal of a field that arrives, each of its bytes that is not clipped stands at its place where it
@@ -62,4 +62,5 @@ pub fn worked_picture_arrives()
     ensures captured { Captures description Top picture machine (moves ++ Turn ∷ []) }
     ensures silent { has_signal description Top machine moves ≡ false }
     ensures signalled { is_signal description Top (run machine moves) Turn ≡ true }
+    ensures in_a_run { IsSignalled description Top picture 0 steps 2 14 }
 {}
