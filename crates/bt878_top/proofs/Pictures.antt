@@ -1,61 +1,62 @@
 -- Every run shows the pictures that it captures, by the law of the picture.
-use Rattle.std.proofs.Common.{◌≡◌, ℕ, List, [], ◌∷◌, ◌++◌, All, sym, subst}
-use Rattle.std.proofs.lemmas.List.Elements.{All-nil, All-cons, All-head, All-tail}
+use Rattle.std.proofs.Common.{◌≡◌, ℕ, ◌+◌, ◌*◌, ◌<◌, ◌≤◌, List, length, All, sym, subst}
+use Rattle.fifo_model.specs.declared.Queue.{Queue}
+use Rattle.fifo_model.specs.Queues.{lane_of}
+use Rattle.irq_status.specs.Register.{fdsr, has}
 use Rattle.pixel_layout.specs.declared.Parity.{Parity}
 use Rattle.machine_model.specs.Paths.{RiscProgram}
-use Rattle.machine_model.specs.States.{State, first_state}
-use Rattle.machine_model.specs.Steps.{Step, Turn, run}
+use Rattle.machine_model.specs.States.{first_state}
+use Rattle.machine_model.specs.Steps.{Step, Turn, state_at}
 use Rattle.machine_model.specs.Safety.{IsStep}
 use Rattle.capture_desc.specs.declared.desc.Desc.{Desc}
+use Rattle.picture_model.specs.Programs.{compiled, size}
+use Rattle.field_law.specs.Arrivals.{entries_of, over_queues}
 use Rattle.picture_law.specs.Pictures.{Picture}
-use Rattle.picture_law.specs.Arrivals.{Arrives}
-use Rattle.picture_law.specs.Laws.{Captures, RunsCompiled}
-use Rattle.picture_law.proofs.Laws.{runs_compiled, shows_picture, shows_no_fault, signals_field, signals_in_time}
-use Rattle.bt878_top.specs.Pictures.{IsCompiled, ShowsPictures, ShowsNoFault, SignalsInTime}
-
-made_first : (first later : List Step) → All IsStep (first ++ later) → All IsStep first
-made_first [] later all = All-nil IsStep
-made_first (s ∷ first) later all =
-    All-cons IsStep s first (All-head IsStep s (first ++ later) all) (made_first first later (All-tail IsStep s (first ++ later) all))
-
-made_later : (first later : List Step) → All IsStep (first ++ later) → All IsStep later
-made_later [] later all = all
-made_later (s ∷ first) later all = made_later first later (All-tail IsStep s (first ++ later) all)
+use Rattle.picture_law.specs.Arrivals.{Arrives, coming, turns_in}
+use Rattle.picture_law.specs.Laws.{IsCapture}
+use Rattle.picture_law.specs.Runs.{IsFirstSignal, IsSignalled, between, step_at}
+use Rattle.picture_law.proofs.Places.{run_shows_picture, run_shows_no_fault, run_tells_field, run_signals_in_time}
+use Rattle.bt878_top.specs.Pictures.{ArrivesUpTo, IsCompiled, IsShown, ShowsPictures, ShowsNoFault, SignalsInTime}
 
 module _ (program : RiscProgram) (fill : ℕ) (steps : List Step) (made : All IsStep steps) where
-  abbrev first : State
-  first = first_state program fill
-
-  captures : (d : Desc) (field : Parity) (picture : Picture) (before during late : List Step) → IsCompiled program d field picture →
-      steps ≡ before ++ (during ++ late) → Arrives d field picture (run first before) during → Captures d field picture (run first before) during
-  captures d field picture before during late c e arrives =
-      let all = subst (All IsStep) e made in
+  capture : (d : Desc) (field : Parity) (picture : Picture) → IsCompiled program d field picture → IsCapture d field picture steps
+  capture d field picture c =
       record {
         description = c.description;
         valid = c.valid;
         described = c.described;
         pictured = c.pictured;
-        machine =
-            subst (λ (p : RiscProgram). RunsCompiled d (run (first_state p fill) before)) (sym c.same)
-            (runs_compiled d fill before (made_first before (during ++ late) all));
-        made = made_first during late (made_later before (during ++ late) all);
-        arrives = arrives;
+        made = made;
       }
 
-  pub pictures_shown : ShowsPictures first steps
-  pictures_shown d field picture before early late c e a =
-      let captured = captures d field picture before (early ++ Turn ∷ []) late c e a.arrives in
-      let m = run first before in
-      record {
-        memory = shows_picture d field picture m early [] captured a.silent a.signal;
-        told = signals_field d field picture m early [] captured a.silent a.signal;
-      }
+  signalled : (d : Desc) (field : Parity) (picture : Picture) (j k : ℕ) → IsCompiled program d field picture →
+      ArrivesUpTo d field picture (first_state (compiled d) fill) steps j k → IsSignalled d field picture fill steps j k
+  signalled d field picture j k c a = record { capture = capture d field picture c; signal = a.signal; arrives = a.arrives }
 
-  pub no_fault_shown : ShowsNoFault first steps
-  no_fault_shown d field picture before early between late c e arrives silent =
-      shows_no_fault d field picture (run first before) early between (captures d field picture before (early ++ Turn ∷ between) late c e arrives) silent
+  pub pictures_shown : ShowsPictures (first_state program fill) steps
+  pictures_shown d field picture j k c =
+      subst
+      (λ (p : RiscProgram).
+      ArrivesUpTo d field picture (first_state p fill) steps j k →
+      IsShown d field picture (state_at (first_state p fill) steps j) (state_at (first_state p fill) steps (k + 1)))
+      (sym c.same) (λ a.
+      let s = signalled d field picture j k c a in
+      record { memory = run_shows_picture d field picture fill steps j k s; told = run_tells_field d field picture fill steps j k s })
 
-  pub signals_come : SignalsInTime first steps
-  unfolding captures
-  signals_come d field picture before early late after c e arrives come turns =
-      signals_in_time d field picture (run first before) early late (captures d field picture before (early ++ late) after c e arrives) come turns
+  pub no_fault_shown : ShowsNoFault (first_state program fill) steps
+  no_fault_shown d field picture j k i c =
+      subst
+      (λ (p : RiscProgram).
+      ArrivesUpTo d field picture (first_state p fill) steps j k → j ≤ i → i ≤ k → step_at steps i ≡ Turn →
+      has fdsr (state_at (first_state p fill) steps (i + 1)).interrupts ≡ has fdsr (state_at (first_state p fill) steps i).interrupts)
+      (sym c.same) (λ a. run_shows_no_fault d field picture fill steps j k i (signalled d field picture j k c a))
+
+  pub signals_come : SignalsInTime (first_state program fill) steps
+  signals_come d field picture j i l c =
+      subst
+      (λ (p : RiscProgram).
+      j ≤ i → i ≤ l → l ≤ length steps → (arrives : Arrives d field picture (state_at (first_state p fill) steps j) (between j l steps)) →
+      ((q : Queue) → entries_of arrives.before arrives.entries q ≤ length (lane_of q (state_at (first_state p fill) steps j).queues).entries + length (coming (between j i steps) q)) →
+      5 * size d field + over_queues (entries_of arrives.before arrives.entries) ≤ turns_in (between i l steps) →
+      (k : ℕ) × IsFirstSignal d field (first_state p fill) steps j k × (k < l))
+      (sym c.same) (run_signals_in_time d field picture fill steps j i l (capture d field picture c))
