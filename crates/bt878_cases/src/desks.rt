@@ -87,6 +87,25 @@ pub fn program_desk(alloc: Global, program: &[u8]) -> Result<MemDesk, AllocError
     )
 }
 
+/// The desk of `run a a b`.
+pub fn twice_desk(alloc: Global, file: &[u8]) -> Result<MemDesk, AllocError>
+    ensures opens { IfOk result (λ desk. (all_told desk).may_open ≡ Some (codes "a" ∷ codes "a" ∷ [])) }
+    ensures creates { IfOk result (λ desk. (all_told desk).may_create ≡ Some (codes "b" ∷ [])) }
+{
+    let inputs = vec![in alloc;
+        (
+            Octets::from_list(alloc, b"a")?,
+            Octets::from_list(alloc, file)?
+        ),
+    ]?;
+    let opens = vec![in alloc;
+        Octets::from_list(alloc, b"a")?,
+        Octets::from_list(alloc, b"a")?,
+    ]?;
+    let creates = vec![in alloc; Octets::from_list(alloc, b"b")?]?;
+    MemDesk::new(alloc, inputs, opens, creates, Vec::new(alloc), 65536, 100)
+}
+
 /// The desk of `run program stream image`, with none of its inputs.
 pub fn bare_desk(alloc: Global) -> Result<MemDesk, AllocError>
     ensures opens { IfOk result (λ desk. (all_told desk).may_open ≡ Some (codes "program" ∷ codes "stream" ∷ [])) }

@@ -1,5 +1,5 @@
 use crate::cases::{JUDGED, LISTED, ONE_LINE, ONE_LINE_STREAM, PLAYED, Parts};
-use crate::desks::{are_parts, bare_desk, empty_desk, joined, program_desk, run_desk};
+use crate::desks::{are_parts, bare_desk, empty_desk, joined, program_desk, run_desk, twice_desk};
 use bt878_top::bt878;
 use capture_desk::{MemDesk, OsDesk};
 use std::alloc::{AllocError, Global};
@@ -113,20 +113,74 @@ fn cut_files_are_short(rt: HostRuntime) -> Result<(), Fail> {
     Ok(())
 }
 
-/// The call of this number alone fails: the first six read, the others write.
+/// What is left where the call of this number alone fails: an answer of reading or of writing, and no text but
+/// that of the answer. Done where no call has this number.
+fn fails_alone(left: &Left) -> bool {
+    match left.status {
+        4 => left.has(4, b"read fault\n", &[]) && left.desk.faults() == [1, 0],
+        5 => {
+            let whole = left.desk.said().is_empty() || left.desk.output("image").is_some();
+            whole && left.desk.faults() == [0, 1]
+        }
+        status => status == 0,
+    }
+}
+
+/// How many calls fail alone with this status, from one of this number on.
+fn failing_calls(alloc: Global, longest: usize, first: u64, status: u8) -> Result<u64, AllocError> {
+    let mut count = 0;
+    for number in first..10_000 {
+        let left = played(alloc, ONE_LINE, ONE_LINE_STREAM, &[number], longest)?;
+        if left.status != status || !fails_alone(&left) {
+            break;
+        }
+        count = number - first + 1;
+    }
+    Ok(count)
+}
+
+/// A call that fails alone is one of reading up to a number, then one of writing up to the last.
+fn each_call_fails(
+    rt: &impl Abort,
+    alloc: Global,
+    longest: usize,
+    reads: u64,
+) -> Result<(), AllocError> {
+    assert_eq!(rt; failing_calls(alloc, longest, 1, 4)?, reads);
+    let writes = failing_calls(alloc, longest, reads.saturating_add(1), 5)?;
+    let last = reads.saturating_add(writes);
+    let left = played(
+        alloc,
+        ONE_LINE,
+        ONE_LINE_STREAM,
+        &[last.saturating_add(1)],
+        longest,
+    )?;
+    assert!(rt; left.has(0, PLAYED[0].said, PLAYED[0].image));
+    Ok(())
+}
+
+/// Two files are opened; each is read once, and once more at its end.
 #[test]
 fn one_call_fails(rt: HostRuntime) -> Result<(), Fail> {
-    for number in 1..=10 {
-        let left = played(rt.alloc(), ONE_LINE, ONE_LINE_STREAM, &[number], 65536)?;
-        if number <= 6 {
-            assert!(rt; left.has(4, b"read fault\n", &[]));
-            assert_eq!(rt; left.desk.faults(), [1, 0]);
-        } else {
-            assert_eq!(rt; left.status, 5);
-            assert_eq!(rt; left.desk.said().len(), 0);
-            assert_eq!(rt; left.desk.faults(), [0, 1]);
-        }
-    }
+    each_call_fails(&rt, rt.alloc(), 65536, 6)?;
+    Ok(())
+}
+
+/// The same where each call moves a byte: the files have 53 and 26 bytes.
+#[test]
+fn one_call_fails_byte_by_byte(rt: HostRuntime) -> Result<(), Fail> {
+    each_call_fails(&rt, rt.alloc(), 1, 2 + 53 + 1 + 26 + 1)?;
+    Ok(())
+}
+
+/// The same file may be both inputs; a program is no stream.
+#[test]
+fn an_input_is_given_twice(rt: HostRuntime) -> Result<(), Fail> {
+    let mut desk = twice_desk(rt.alloc(), ONE_LINE)?;
+    let answer = bt878(rt.alloc(), &["run", "a", "a", "b"], &mut desk);
+    assert_eq!(rt; answer.status(), 3);
+    assert_eq!(rt; desk.said(), b"stream file: magic at 0\n".as_slice());
     Ok(())
 }
 
