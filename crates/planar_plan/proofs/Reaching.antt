@@ -1,17 +1,14 @@
 -- How far a piece reaches on a track.
 use Rattle.std.proofs.Common.{◌≡◌, ℕ, zero, suc, ◌+◌, ◌-◌, ◌*◌, ◌/◌, ◌<◌, ◌≤◌, Bool, true, false, Option, Some, None, refl, sym, ap, ◌∙◌, subst, arith, ⊎_elim, min}
 use Rattle.std.proofs.lemmas.Bool.{cases_lt}
-use Rattle.std.proofs.lemmas.Nat.{mul-le}
 use Rattle.std.proofs.Math.Nat.{le-div_iff_mul-le, div-mul-le_self}
 use Rattle.page_table.specs.Scattered.{ScatterList, address_at, room_at, run_at}
 use Rattle.clip_spans.specs.declared.Span.{Span}
 use Rattle.picture_model.specs.Plans.{Strip, Track, bytes_free, longest, most, most_of}
 use Rattle.picture_model.proofs.Cutting.{EachFits, longest-Fits}
+use Rattle.planar_plan.proofs.Bounds.{fewer_grains}
 use Rattle.planar_plan.specs.declared.cut.Reach.{Reach}
 use Rattle.planar_plan.specs.Lines.{AreHeld, CanBeCut, IsHeld, Reaches}
-
-pub fewer_grains : (n m size : ℕ) → n ≤ m → n * size ≤ m * size
-fewer_grains n m size fewer = mul-le n size m size fewer (omega arith)
 
 -- a front of a line can be cut where the line can
 held_front : (s : ScatterList) (grains n size : ℕ) (start : Option ℕ) → n ≤ grains → AreHeld s grains size start → AreHeld s n size start

@@ -120,7 +120,7 @@ fn reach_on(scatter: &Scatter, track: PlaneTrack, clipped: bool, at: u32, rest: 
 }
 
 // The bytes of some grains, which are no more than a piece may have.
-#[tactic(auto, using(crate::proofs::Bounds::fewer_fit))]
+#[tactic(auto, using(crate::proofs::Bounds::fewer_grains))]
 fn bytes(grains: u32, size: u32, most: u32) -> u16
     requires fewer { grains ≤ most }
     requires few { most * size ≤ 4092 }

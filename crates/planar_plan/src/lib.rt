@@ -10,6 +10,8 @@ mod judge;
 mod lines;
 mod memory;
 mod places;
+#[cfg(test)]
+mod tests;
 
 pub use cut::Pieces;
 pub use frame::Frame;

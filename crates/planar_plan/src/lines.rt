@@ -48,7 +48,7 @@ fn plane_row(desc: &Desc, plane: u32, row: u32) -> Option<u32>
 }
 
 // The offset of the first byte of a picture row on a plane.
-#[tactic(auto, using(crate::proofs::Bounds::product_fits))]
+#[tactic(auto, using(crate::proofs::Bounds::products))]
 fn row_offset(desc: &Desc, plane: u32, row: u32) -> Option<u64>
     requires sized { IsSized desc.now }
     requires row { row ≤ 1024 }

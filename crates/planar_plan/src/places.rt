@@ -125,7 +125,7 @@ pub(crate) fn stride(desc: &Desc, plane: u32) -> u32
 }
 
 // From the first byte of a plane to the end of its last row.
-#[tactic(auto, using(crate::proofs::Bounds::product_fits))]
+#[tactic(auto, using(crate::proofs::Bounds::products))]
 fn plane_bytes(desc: &Desc, plane: u32) -> u64
     requires sized { IsSized desc.now }
     requires plane { IsPlane desc.now plane }
@@ -194,7 +194,7 @@ fn planes_end(desc: &Desc) -> u128
 }
 
 // The bytes of a field's VBI lines.
-#[tactic(auto, using(crate::proofs::Bounds::product_fits))]
+#[tactic(auto, using(crate::proofs::Bounds::products))]
 fn vbi_size(desc: &Desc) -> u128
     ensures value { result ≡ vbi_size desc.now }
     ensures few { result ≤ 2 ^ 64 }
