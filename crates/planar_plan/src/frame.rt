@@ -58,15 +58,16 @@ fn scatter_of(alloc: Global, desc: &Desc) -> Result<Scatter, BuildError>
     ensures answer { Judges (frame_fault desc.now) result }
     ensures scatter { IfOk result (HasScatter desc.now) }
 {
-    let _skipped = desc.skip_lines;
+    // read, so that it is known to be at most 255
+    let _skip_lines = desc.skip_lines;
     let end = end_of(alloc, desc)?;
     page_faults(alloc, desc)?;
     scatter(alloc, desc, end)
 }
 
 impl Frame {
-    /// Judges the geometry of a description: `Bad` holds the first fault in the order of `BuildFault`,
-    /// of those up to `TooFewBytes`.
+    /// Judges the geometry of a description and keeps it. `Bad` holds the first fault in the order of
+    /// `BuildFault`, of those up to `TooFewBytes`; `Memory` is want of memory.
     pub fn new(alloc: Global, desc: Desc) -> Result<Frame, BuildError>
         requires { IsWellFormed desc }
         ensures answer { Judges (frame_fault desc) result }
@@ -101,7 +102,7 @@ impl Frame {
         field_height(&self.desc, field)
     }
 
-    /// The pieces of a picture row, in order.
+    /// The pieces of a picture row, in order. Rows are counted from 0, those of both fields together.
     pub fn plan_row(&self, alloc: Global, row: u32) -> Result<Pieces, AllocError>
         requires { row < self.now.height }
         ensures plan { IfOk result (λ pieces. pieces ≡ row_plan self.now row) }
