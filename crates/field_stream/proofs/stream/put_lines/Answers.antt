@@ -1,0 +1,21 @@
+use Rattle.std.proofs.Common.{arith, refl, ◌∙◌}
+use Rattle.std.proofs.lemmas.Result.{err_from_is_err_and}
+use Rattle.field_stream.specs.Lines.{line_pushes}
+use Rattle.field_stream.proofs.Moving.{moved_none, repeat_broken, repeat_moved}
+use Rattle.field_stream.proofs.stream.put_lines.Goals as goal
+
+pub loop-done-init : goal.loop-done-init
+loop-done-init g c = record { moved = moved_none _ _; reads = refl; writes = refl }
+
+pub loop-done-preserved : goal.loop-done-preserved
+loop-done-preserved g c =
+    record {
+      moved = repeat_moved c.loop-done._done (line_pushes c.args.line) _ _ _ _ _ _ c.loop-done.invariant.moved c.in_ok-put_line.ensures.moves;
+      reads = c.in_ok-put_line.ensures.counts.0 ∙ c.loop-done.invariant.reads;
+      writes = c.in_ok-put_line.ensures.counts.1 ∙ c.loop-done.invariant.writes;
+    }
+
+pub returns-in_err-put_line-clause-moves : goal.returns-in_err-put_line-clause-moves
+returns-in_err-put_line-clause-moves g c =
+    let p = err_from_is_err_and c.from_residual.result c.from_residual.ensures.1 in
+    rw p.1 (repeat_broken c.loop-done._done c.args.count (line_pushes c.args.line) _ _ _ _ _ (omega (arith, c.loop-done-test.true)) c.loop-done.invariant.moved c.in_err-put_line.ensures.moves)

@@ -1,0 +1,48 @@
+-- The bytes of a stream that are made but not put yet.
+use Rattle.std.specs.Prelude.{◌≡◌, ℕ, ◌<◌, List, [], ◌∷◌, ◌++◌, length, take, Result, Ok, Err}
+use Rattle.fifo_model.specs.Queues.{more}
+use Rattle.capture_desk.specs.Desks.{Told, after_write}
+use Rattle.field_stream.specs.Pushes.{Push, Mark, Fill}
+use Rattle.field_stream.specs.Made.{after, records_of}
+
+-- with the number of the generator, and how many entries were made so far
+pub record Drafted : Type 0 where
+  pub bytes : List ℕ
+  pub number : ℕ
+  pub entries : ℕ
+
+-- the count of entries after a push: at the greatest number of 64 bits it stands still
+abbrev pub counted : Push → ℕ → ℕ
+counted (Mark code) count = count
+counted (Fill queue status) count = more count 1
+
+-- with one more push, and with some
+abbrev pub pushed : Push → Drafted → Drafted
+pushed push d =
+    record {
+      bytes = d.bytes ++ records_of d.number push;
+      number = after d.number push;
+      entries = counted push d.entries;
+    }
+
+abbrev pub pushed_all : List Push → Drafted → Drafted
+pushed_all [] d = d
+pushed_all (push ∷ rest) d = pushed_all rest (pushed push d)
+
+-- of the bytes that a draft would hold a front was put, and it holds the others
+pub record IsMoved (whole held : Drafted) (old told : Told) : Type 0 where
+  pub front : List ℕ
+  pub bytes : whole.bytes ≡ front ++ held.bytes
+  pub put : told ≡ after_write front old
+  pub number : held.number ≡ whole.number
+  pub entries : held.entries ≡ whole.entries
+
+-- a front of them was put, and then came a fault
+pub record IsBroken (whole : Drafted) (old told : Told) : Type 0 where
+  pub count : ℕ
+  pub within : count < length whole.bytes
+  pub put : told ≡ after_write (take count whole.bytes) old
+
+abbrev pub Moves : {A E : Type 0} → Drafted → Result A E → Drafted → Told → Told → Type 0
+Moves whole (Ok _) held old told = IsMoved whole held old told
+Moves whole (Err _) held old told = IsBroken whole old told

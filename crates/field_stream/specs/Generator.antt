@@ -1,0 +1,21 @@
+-- The generator: a number, of which each byte that is drawn makes the next.
+use Rattle.std.specs.Prelude.{ℕ, zero, suc, ◌+◌, ◌*◌, ◌%◌, ◌-◌, List, [], ◌∷◌, ◌++◌, replicate}
+
+abbrev pub first_number : ℕ → ℕ
+first_number seed = seed % 65537
+
+abbrev pub next : ℕ → ℕ
+next number = (75 * number + 74) % 65537
+
+-- so many bytes that are drawn, in order, and the number after them
+abbrev pub drawn : ℕ → ℕ → List ℕ
+drawn number zero = []
+drawn number (suc count) = next number % 256 ∷ drawn (next number) count
+
+abbrev pub number_after : ℕ → ℕ → ℕ
+number_after number zero = number
+number_after number (suc count) = number_after (next number) count
+
+-- the lanes of an entry of which so many are valid: the others aren't drawn
+abbrev pub lanes : ℕ → ℕ → List ℕ
+lanes number valid = drawn number valid ++ replicate (4 - valid) 255

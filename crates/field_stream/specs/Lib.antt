@@ -1,0 +1,5 @@
+pub mod Generator
+pub mod Pushes
+pub mod Lines
+pub mod Made
+pub mod Drafts

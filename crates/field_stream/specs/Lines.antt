@@ -1,0 +1,14 @@
+-- A line as the code keeps it.
+use Rattle.std.specs.Prelude.{ℕ, ◌≤◌, List}
+use Rattle.field_stream.specs.declared.lines.Line.{Line}
+use Rattle.field_stream.specs.declared.lines.Line.TheVariants.{Packed, Planar}
+use Rattle.field_stream.specs.Pushes.{Push, packed_line, planar_line}
+
+abbrev pub line_pushes : Line → List Push
+line_pushes (Packed bytes) = packed_line bytes
+line_pushes (Planar luma chroma across) = planar_line luma chroma across
+
+-- its records have 11,264 bytes at most: 11 for each entry
+abbrev pub IsShort : Line → Type 0
+IsShort (Packed bytes) = (5 ≤ bytes) × (bytes ≤ 4096)
+IsShort (Planar luma chroma across) = (5 ≤ luma) × (luma ≤ 1024) × (5 ≤ chroma) × (1 ≤ across)

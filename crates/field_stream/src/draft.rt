@@ -1,0 +1,191 @@
+//! Bytes of a stream that are made but not put yet.
+
+ghost use Rattle.std.specs.Prelude.{◌≡◌, ◌+◌, ◌*◌, ◌<◌, ◌≤◌, [], ◌++◌, length};
+ghost use Rattle.sync_status.specs.Statuses.{valid_bytes};
+ghost use Rattle.field_stream.specs.Generator.{first_number};
+ghost use Rattle.field_stream.specs.Pushes.{Mark, Fill, chroma_after, line_entries, packed_line, planar_at, planar_line};
+ghost use Rattle.field_stream.specs.Made.{tag_of};
+ghost use Rattle.field_stream.specs.Lines.{IsShort, line_pushes};
+ghost use Rattle.field_stream.specs.Drafts.{Drafted, pushed, pushed_all};
+
+use crate::generator::{draw, first_number};
+use crate::lines::{Line, line_entries, status};
+use fifo_model::Queue;
+use risc_word::Code;
+use std::marker::Model;
+use sync_status::{Status, valid};
+
+// How many bytes a draft holds at most.
+pub(crate) const ROOM: usize = 32_768;
+
+// How many bytes the records of a line have at most.
+pub(crate) const LINE: usize = 11_264;
+
+// The bytes that are not put yet, the number of the generator and the entries that were made so far.
+#[derive(Drop)]
+pub(crate) struct Draft {
+    room: [u8; ROOM],
+    len: usize,
+    number: u32,
+    entries: u64,
+}
+
+impl Model for Draft {
+    ghost use Rattle.std.specs.Prelude.{◌<◌, ◌≤◌, take};
+    ghost use Rattle.field_stream.specs.Lines.{IsShort, line_pushes};
+ghost use Rattle.field_stream.specs.Drafts.{Drafted};
+
+    ghost Value = { Drafted };
+
+    ghost view = { λ d. record { bytes = take d.len d.room; number = d.number; entries = d.entries } };
+
+    ghost invariant = { λ d. (d.len ≤ 32768) × (d.number < 65537) };
+}
+
+// The tag of a push to a queue.
+#[inline]
+fn tag(queue: Queue) -> u8
+    ensures { result ≡ tag_of queue }
+{
+    match queue {
+        Queue::One => 1,
+        Queue::Two => 2,
+        Queue::Three => 3,
+    }
+}
+
+impl Draft {
+    // Nothing yet, with the first number of a seed.
+    pub(crate) fn new(seed: u64) -> Draft
+        ensures { result ≡ record { bytes = []; number = first_number seed; entries = 0 } }
+    {
+        Draft {
+            room: [0; ROOM],
+            len: 0,
+            number: first_number(seed),
+            entries: 0,
+        }
+    }
+
+    pub(crate) fn entries(&self) -> u64
+        ensures { result ≡ self.now.entries }
+    {
+        self.entries
+    }
+
+    pub(crate) fn as_slice(&self) -> &[u8]
+        ensures value { result.now ≡ self.now.bytes }
+        ensures few { length self.now.bytes ≤ 32768 }
+    {
+        &self.room[..self.len]
+    }
+
+    pub(crate) fn clear(&mut self)
+        ensures { self.new ≡ record self.old { bytes = [] } }
+    {
+        self.len = 0;
+    }
+
+    #[inline]
+    pub(crate) fn append(&mut self, piece: &[u8])
+        requires { length self.old.bytes + length piece.now ≤ 32768 }
+        ensures { self.new ≡ record self.old { bytes = self.old.bytes ++ piece.now } }
+    {
+        let end = self.len + piece.len();
+        self.room[self.len..end].copy_from_slice(piece);
+        self.len = end;
+    }
+
+    // A control code, and 16 turns.
+    pub(crate) fn mark(&mut self, code: Code)
+        requires { length self.old.bytes + 7 ≤ 32768 }
+        ensures { self.new ≡ pushed (Mark code) self.old }
+    {
+        self.append(&[4, code.nibble(), 5, 16, 0, 0, 0]);
+    }
+
+    // An entry with drawn bytes, and 16 turns.
+    #[inline]
+    fn entry(&mut self, queue: Queue, status: Status)
+        requires data { 1 ≤ valid_bytes status }
+        requires room { length self.old.bytes + 11 ≤ 32768 }
+        ensures value { self.new ≡ pushed (Fill queue status) self.old }
+        ensures length { length self.new.bytes ≡ length self.old.bytes + 11 }
+    {
+        let ([a, b, c, d], number) = draw(self.number, valid(status));
+        self.append(&[tag(queue), status.nibble(), a, b, c, d, 5, 16, 0, 0, 0]);
+        self.number = number;
+        self.entries = self.entries.saturating_add(1);
+    }
+
+    // A line of a packed format.
+    fn packed_line(&mut self, bytes: u32)
+        requires bytes { 5 ≤ bytes }
+        requires room { length self.old.bytes + 11 * line_entries bytes ≤ 32768 }
+        ensures { self.new ≡ pushed_all (packed_line bytes) self.old }
+    {
+        for index in 0..line_entries(bytes) {
+            self.entry(Queue::One, status(bytes, index));
+        }
+    }
+
+    // The two entries of chroma that follow an entry of luma, if there are any.
+    #[inline]
+    fn chroma_after(&mut self, chroma: u32, across: u32, index: u32)
+        requires chroma { 5 ≤ chroma }
+        requires across { 1 ≤ across }
+        requires room { length self.old.bytes + 22 ≤ 32768 }
+        ensures value { self.new ≡ pushed_all (chroma_after chroma across index) self.old }
+        ensures length { length self.new.bytes ≤ length self.old.bytes + 22 }
+    {
+        if index % across == 0 && index / across < line_entries(chroma) {
+            let status = status(chroma, index / across);
+            self.entry(Queue::Two, status);
+            self.entry(Queue::Three, status);
+        }
+    }
+
+    // An entry of luma, and the entries of chroma that follow it.
+    #[inline]
+    fn planar_at(&mut self, luma: u32, chroma: u32, across: u32, index: u32)
+        requires luma { 5 ≤ luma }
+        requires index { index < line_entries luma }
+        requires chroma { 5 ≤ chroma }
+        requires across { 1 ≤ across }
+        requires room { length self.old.bytes + 33 ≤ 32768 }
+        ensures value { self.new ≡ pushed_all (planar_at luma chroma across index) self.old }
+        ensures length { length self.new.bytes ≤ length self.old.bytes + 33 }
+    {
+        self.entry(Queue::One, status(luma, index));
+        self.chroma_after(chroma, across, index);
+    }
+
+    // A line of a planar format: so many bytes of luma, and of chroma on each of two queues.
+    fn planar_line(&mut self, luma: u32, chroma: u32, across: u32)
+        requires luma { 5 ≤ luma }
+        requires chroma { 5 ≤ chroma }
+        requires across { 1 ≤ across }
+        requires room { length self.old.bytes + 33 * line_entries luma ≤ 32768 }
+        ensures { self.new ≡ pushed_all (planar_line luma chroma across) self.old }
+    {
+        for index in 0..line_entries(luma) {
+            self.planar_at(luma, chroma, across, index);
+        }
+    }
+
+    // A line, which is short enough for the room that is left.
+    pub(crate) fn line(&mut self, line: Line)
+        requires short { IsShort line }
+        requires room { length self.old.bytes + 11264 ≤ 32768 }
+        ensures { self.new ≡ pushed_all (line_pushes line) self.old }
+    {
+        match line {
+            Line::Packed { bytes } => self.packed_line(bytes),
+            Line::Planar {
+                luma,
+                chroma,
+                across,
+            } => self.planar_line(luma, chroma, across),
+        }
+    }
+}

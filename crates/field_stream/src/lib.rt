@@ -1,0 +1,10 @@
+//! The generator of streams: the pushes of whole frames of a description, with drawn bytes.
+#![tactic(auto)]
+
+mod draft;
+mod generator;
+mod lines;
+mod stream;
+
+pub use lines::line_entries;
+pub use stream::{Made, make};

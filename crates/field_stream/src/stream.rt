@@ -1,0 +1,233 @@
+//! The making of a stream.
+
+ghost use Rattle.std.specs.Prelude.{◌≡◌, ◌+◌, ◌<◌, ◌≤◌, [], ◌∷◌, ◌++◌, length, IsTrue, IfOk};
+ghost use Rattle.capture_desk.specs.Desks.{Puts, WriteCounts, after_write};
+ghost use Rattle.picture_model.specs.Described.{describes, fields_of, layout_of};
+ghost use Rattle.picture_model.specs.Programs.{data_code, vertical};
+ghost use Rattle.field_stream.specs.Pushes.{Mark, field_pushes, frame_pushes, picture_pushes, repeated, stream_pushes, vbi_pushes};
+ghost use Rattle.field_stream.specs.Lines.{IsShort, line_pushes};
+ghost use Rattle.field_stream.specs.Made.{made, made_entries, made_fields};
+ghost use Rattle.field_stream.specs.Drafts.{Moves, pushed, pushed_all};
+
+use crate::draft::{Draft, LINE, ROOM};
+use crate::lines::{Line, picture_line, vbi_line};
+use capture_desc::Fields;
+use capture_desk::{Desk, Failed, put};
+use pixel_layout::Parity;
+use planar_plan::Frame;
+use risc_word::Code;
+
+/// How much a stream has that was made.
+#[derive(Clone, Copy, Debug, PartialEq, Eq)]
+pub struct Made {
+    /// The fields of its frames.
+    pub fields: u32,
+    /// The data entries that it pushes.
+    pub entries: u64,
+}
+
+// Puts what a draft holds where a line might not fit behind it.
+fn make_room<D: Desk>(draft: &mut Draft, desk: &mut D) -> Result<(), Failed>
+    requires open { IsTrue (D.told desk.old).output_open }
+    ensures moves { Moves draft.old result draft.new (D.told desk.old) (D.told desk.new) }
+    ensures room { IfOk result (λ _. length draft.new.bytes + 11264 ≤ 32768) }
+    ensures counts { WriteCounts result (D.read_faults desk.old) (D.read_faults desk.new)
+        (D.write_faults desk.old) (D.write_faults desk.new) }
+{
+    if draft.as_slice().len() > ROOM - LINE {
+        put(desk, draft.as_slice())?;
+        draft.clear();
+    }
+    Ok(())
+}
+
+fn put_mark<D: Desk>(draft: &mut Draft, desk: &mut D, code: Code) -> Result<(), Failed>
+    requires open { IsTrue (D.told desk.old).output_open }
+    ensures moves { Moves (pushed (Mark code) draft.old) result draft.new (D.told desk.old) (D.told desk.new) }
+    ensures counts { WriteCounts result (D.read_faults desk.old) (D.read_faults desk.new)
+        (D.write_faults desk.old) (D.write_faults desk.new) }
+{
+    make_room(draft, desk)?;
+    draft.mark(code);
+    Ok(())
+}
+
+fn put_line<D: Desk>(draft: &mut Draft, desk: &mut D, line: Line) -> Result<(), Failed>
+    requires open { IsTrue (D.told desk.old).output_open }
+    requires short { IsShort line }
+    ensures moves { Moves (pushed_all (line_pushes line) draft.old) result draft.new (D.told desk.old) (D.told desk.new) }
+    ensures counts { WriteCounts result (D.read_faults desk.old) (D.read_faults desk.new)
+        (D.write_faults desk.old) (D.write_faults desk.new) }
+{
+    make_room(draft, desk)?;
+    draft.line(line);
+    Ok(())
+}
+
+fn put_lines<D: Desk>(
+    draft: &mut Draft,
+    desk: &mut D,
+    count: u32,
+    line: Line,
+) -> Result<(), Failed>
+    requires open { IsTrue (D.told desk.old).output_open }
+    requires short { IsShort line }
+    ensures moves { Moves (pushed_all (repeated count (line_pushes line)) draft.old) result draft.new (D.told desk.old) (D.told desk.new) }
+    ensures counts { WriteCounts result (D.read_faults desk.old) (D.read_faults desk.new)
+        (D.write_faults desk.old) (D.write_faults desk.new) }
+{
+    for _done in 0..count {
+        put_line(draft, desk, line)?;
+    }
+    Ok(())
+}
+
+// The VBI lines of a field, if there are any.
+fn put_vbi<D: Desk>(draft: &mut Draft, desk: &mut D, frame: &Frame) -> Result<(), Failed>
+    requires open { IsTrue (D.told desk.old).output_open }
+    ensures moves { Moves (pushed_all (vbi_pushes frame.now.vbi_lines frame.now.vbi_bytes) draft.old) result draft.new
+        (D.told desk.old) (D.told desk.new) }
+    ensures counts { WriteCounts result (D.read_faults desk.old) (D.read_faults desk.new)
+        (D.write_faults desk.old) (D.write_faults desk.new) }
+{
+    let count = frame.desc().vbi_lines;
+    if count == 0 {
+        return Ok(());
+    }
+    put_mark(draft, desk, Code::Fm1)?;
+    put_lines(draft, desk, count, vbi_line(frame))
+}
+
+// The vertical code of a field.
+fn vertical(field: Parity) -> Code
+    ensures { result ≡ vertical field }
+{
+    match field {
+        Parity::Top => Code::Vre,
+        Parity::Bottom => Code::Vro,
+    }
+}
+
+// The code that announces the data of a frame.
+fn data_code(frame: &Frame) -> Code
+    ensures { result ≡ data_code (layout_of frame.now).planar }
+{
+    if frame.format().is_planar() {
+        Code::Fm3
+    } else {
+        Code::Fm1
+    }
+}
+
+// The skipped lines and the rows of a field.
+fn put_picture<D: Desk>(
+    draft: &mut Draft,
+    desk: &mut D,
+    frame: &Frame,
+    field: Parity,
+) -> Result<(), Failed>
+    requires open { IsTrue (D.told desk.old).output_open }
+    ensures moves { Moves (pushed_all (picture_pushes frame.now field) draft.old) result draft.new (D.told desk.old) (D.told desk.new) }
+    ensures counts { WriteCounts result (D.read_faults desk.old) (D.read_faults desk.new)
+        (D.write_faults desk.old) (D.write_faults desk.new) }
+{
+    put_mark(draft, desk, data_code(frame))?;
+    let count = u32::from(frame.desc().skip_lines) + frame.rows_of(field);
+    put_lines(draft, desk, count, picture_line(frame))
+}
+
+fn put_field<D: Desk>(
+    draft: &mut Draft,
+    desk: &mut D,
+    frame: &Frame,
+    field: Parity,
+) -> Result<(), Failed>
+    requires open { IsTrue (D.told desk.old).output_open }
+    ensures moves { Moves (pushed_all (field_pushes frame.now field) draft.old) result draft.new (D.told desk.old) (D.told desk.new) }
+    ensures counts { WriteCounts result (D.read_faults desk.old) (D.read_faults desk.new)
+        (D.write_faults desk.old) (D.write_faults desk.new) }
+{
+    put_mark(draft, desk, vertical(field))?;
+    put_vbi(draft, desk, frame)?;
+    put_picture(draft, desk, frame, field)
+}
+
+// The described fields, top before bottom.
+fn put_frame<D: Desk>(draft: &mut Draft, desk: &mut D, frame: &Frame) -> Result<(), Failed>
+    requires open { IsTrue (D.told desk.old).output_open }
+    ensures moves { Moves (pushed_all (frame_pushes frame.now) draft.old) result draft.new (D.told desk.old) (D.told desk.new) }
+    ensures counts { WriteCounts result (D.read_faults desk.old) (D.read_faults desk.new)
+        (D.write_faults desk.old) (D.write_faults desk.new) }
+{
+    match frame.desc().fields {
+        Fields::Top => put_field(draft, desk, frame, Parity::Top),
+        Fields::Bottom => put_field(draft, desk, frame, Parity::Bottom),
+        Fields::Both => {
+            put_field(draft, desk, frame, Parity::Top)?;
+            put_field(draft, desk, frame, Parity::Bottom)
+        }
+    }
+}
+
+fn put_frames<D: Desk>(
+    draft: &mut Draft,
+    desk: &mut D,
+    frame: &Frame,
+    frames: u8,
+) -> Result<(), Failed>
+    requires open { IsTrue (D.told desk.old).output_open }
+    ensures moves { Moves (pushed_all (stream_pushes frame.now frames) draft.old) result draft.new (D.told desk.old) (D.told desk.new) }
+    ensures counts { WriteCounts result (D.read_faults desk.old) (D.read_faults desk.new)
+        (D.write_faults desk.old) (D.write_faults desk.new) }
+{
+    for _done in 0..frames {
+        put_frame(draft, desk, frame)?;
+    }
+    Ok(())
+}
+
+// The end record, and all that was not put yet.
+fn put_end<D: Desk>(draft: &mut Draft, desk: &mut D) -> Result<(), Failed>
+    requires open { IsTrue (D.told desk.old).output_open }
+    ensures puts { Puts (draft.old.bytes ++ 0 ∷ []) result after_write (D.told desk.old) (D.told desk.new) }
+    ensures entries { IfOk result (λ _. draft.new.entries ≡ draft.old.entries) }
+    ensures counts { WriteCounts result (D.read_faults desk.old) (D.read_faults desk.new)
+        (D.write_faults desk.old) (D.write_faults desk.new) }
+{
+    make_room(draft, desk)?;
+    draft.append(&[0]);
+    put(desk, draft.as_slice())
+}
+
+// How many fields a frame has.
+fn fields(frame: &Frame) -> u32
+    ensures value { result ≡ length (fields_of frame.now.fields) }
+    ensures few { result ≤ 2 }
+{
+    match frame.desc().fields {
+        Fields::Top | Fields::Bottom => 1,
+        Fields::Both => 2,
+    }
+}
+
+/// Puts a stream of so many frames of a description, whose bytes are drawn from the seed, and answers how
+/// many fields and data entries it has. It takes no memory. Where a write fails, a front of the stream was
+/// appended (the generator and the stream are this project's own).
+pub fn make<D: Desk>(frame: &Frame, seed: u64, frames: u8, desk: &mut D) -> Result<Made, Failed>
+    requires frames { (1 ≤ frames) × (frames ≤ 16) }
+    requires open { IsTrue (D.told desk.old).output_open }
+    ensures puts { Puts (made frame.now seed frames) result after_write (D.told desk.old) (D.told desk.new) }
+    ensures fields { IfOk result (λ made. made.fields ≡ made_fields frame.now frames) }
+    ensures entries { IfOk result (λ made. made.entries ≡ made_entries frame.now frames) }
+    ensures counts { WriteCounts result (D.read_faults desk.old) (D.read_faults desk.new)
+        (D.write_faults desk.old) (D.write_faults desk.new) }
+{
+    let mut draft = Draft::new(seed);
+    draft.append(b"BFS1");
+    put_frames(&mut draft, desk, frame, frames)?;
+    put_end(&mut draft, desk)?;
+    Ok(Made {
+        fields: u32::from(frames) * fields(frame),
+        entries: draft.entries(),
+    })
+}
