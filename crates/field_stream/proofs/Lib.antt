@@ -1,3 +1,5 @@
 pub mod Framed
 pub mod Drafting
 pub mod Moving
+pub mod Counting
+pub mod Making

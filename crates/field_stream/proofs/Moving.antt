@@ -137,6 +137,9 @@ repeat_broken i count pushes first mid old t told below m b =
 pub moves_as : {A E : Type 0} (a b : List Push) (d held : Drafted) (old told : Told) (r : Result A E) → a ≡ b → Moves (pushed_all a d) r held old told → Moves (pushed_all b d) r held old told
 moves_as a b d held old told r e m = subst (λ (ps : List Push). Moves (pushed_all ps d) r held old told) e m
 
+pub broken_as : (a b : List Push) (d : Drafted) (old told : Told) → a ≡ b → IsBroken (pushed_all a d) old told → IsBroken (pushed_all b d) old told
+broken_as a b d old told e m = subst (λ (ps : List Push). IsBroken (pushed_all ps d) old told) e m
+
 pub lines_as : {A E : Type 0} (i k : ℕ) (a b : List Push) (d held : Drafted) (old told : Told) (r : Result A E) → i ≡ k → a ≡ b → Moves (pushed_all (repeated i a) d) r held old told → Moves (pushed_all (repeated k b) d) r held old told
 lines_as i k a b d held old told r e f m =
     moves_as (repeated i a) (repeated k b) d held old told r (ap (λ (n : ℕ). repeated n a) e ∙ ap (repeated k) f) m
@@ -197,11 +200,12 @@ puts_last whole held last piece old t told r m e p =
     p
 
 -- a fault came before it
-pub puts_broken : {E : Type 0} (A : Type 0) (whole : Drafted) (last : List ℕ) (old told : Told) (e : E) → IsBroken whole old told → Puts {A = A} (whole.bytes ++ last) (Err e) after_write old told
-puts_broken A whole last old told e b = (
+pub broken_puts : (whole : Drafted) (last all : List ℕ) (old told : Told) → whole.bytes ++ last ≡ all → IsBroken whole old told →
+    (n : ℕ) × (n < length all) × (told ≡ after_write (take n all) old)
+broken_puts whole last all old told e b = (
   b.count,
-  omega (arith, length-append whole.bytes last, b.within),
-  b.put ∙ ap (λ (bs : List ℕ). after_write bs old) (sym (take-append-le b.count whole.bytes last (omega (arith, b.within)))),
+  (let n = ap (λ (bs : List ℕ). length bs) e in omega (arith, n, length-append whole.bytes last, b.within)),
+  b.put ∙ ap (λ (bs : List ℕ). after_write bs old) (sym (take-append-le b.count whole.bytes last (omega (arith, b.within))) ∙ ap (λ (bs : List ℕ). take b.count bs) e),
 )
 
 pub puts_as : {A E : Type 0} (a b : List ℕ) (old told : Told) (r : Result A E) → a ≡ b → Puts a r after_write old told → Puts b r after_write old told

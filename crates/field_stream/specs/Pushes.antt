@@ -1,7 +1,7 @@
 -- What a decoder pushes in frames of a description, before the bytes are drawn.
-use Rattle.std.specs.Prelude.{ℕ, zero, suc, ◌+◌, ◌-◌, ◌*◌, ◌/◌, ◌%◌, ◌&&◌, ◌==◌, nat_lt, List, [], ◌∷◌, ◌++◌, length, map, if◌then◌else◌, slice_index}
+use Rattle.std.specs.Prelude.{ℕ, zero, suc, ◌+◌, ◌-◌, ◌*◌, ◌/◌, ◌%◌, ◌&&◌, ◌==◌, nat_lt, List, [], ◌∷◌, ◌++◌, map, if◌then◌else◌, slice_index}
 use Rattle.std.specs.Int.{div_ceil}
-use Rattle.std.specs.List.{flat_map, range_with_len, sum_by}
+use Rattle.std.specs.List.{flat_map, range_with_len}
 use Rattle.risc_word.specs.declared.Code.{Code}
 use Rattle.risc_word.specs.declared.Code.TheVariants.{Fm1}
 use Rattle.fifo_model.specs.declared.Queue.{Queue}
@@ -91,4 +91,5 @@ entries_of (Mark code) = 0
 entries_of (Fill queue status) = 1
 
 abbrev pub entries_in : List Push → ℕ
-entries_in pushes = sum_by entries_of pushes
+entries_in [] = 0
+entries_in (push ∷ rest) = entries_of push + entries_in rest

@@ -4,6 +4,7 @@ ghost use Rattle.std.specs.Prelude.{◌≡◌, ◌+◌, ◌<◌, ◌≤◌, [], 
 ghost use Rattle.capture_desk.specs.Desks.{Puts, WriteCounts, after_write};
 ghost use Rattle.picture_model.specs.Described.{describes, fields_of, layout_of};
 ghost use Rattle.picture_model.specs.Programs.{data_code, vertical};
+ghost use Rattle.planar_plan.specs.Frames.{IsFramed};
 ghost use Rattle.field_stream.specs.Pushes.{Mark, field_pushes, frame_pushes, picture_pushes, repeated, stream_pushes, vbi_pushes};
 ghost use Rattle.field_stream.specs.Lines.{IsShort, line_pushes};
 ghost use Rattle.field_stream.specs.Made.{made, made_entries, made_fields};
@@ -203,6 +204,7 @@ fn put_end<D: Desk>(draft: &mut Draft, desk: &mut D) -> Result<(), Failed>
 fn fields(frame: &Frame) -> u32
     ensures value { result ≡ length (fields_of frame.now.fields) }
     ensures few { result ≤ 2 }
+    ensures framed { IsFramed frame.now }
 {
     match frame.desc().fields {
         Fields::Top | Fields::Bottom => 1,
