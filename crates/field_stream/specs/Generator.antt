@@ -19,3 +19,7 @@ number_after number (suc count) = number_after (next number) count
 -- the lanes of an entry of which so many are valid: the others aren't drawn
 abbrev pub lanes : ℕ → ℕ → List ℕ
 lanes number valid = drawn number valid ++ replicate (4 - valid) 255
+
+-- the numbers after one, two, three and four bytes
+abbrev pub next_four : ℕ → List ℕ
+next_four number = number_after number 1 ∷ number_after number 2 ∷ number_after number 3 ∷ number_after number 4 ∷ []

@@ -1,7 +1,7 @@
 //! The generator of bytes.
 
-ghost use Rattle.std.specs.Prelude.{◌≡◌, ◌*◌, ◌+◌, ◌-◌, ◌%◌, ◌<◌, ◌≤◌};
-ghost use Rattle.field_stream.specs.Generator.{first_number, lanes, next, number_after};
+ghost use Rattle.std.specs.Prelude.{◌≡◌, ◌*◌, ◌+◌, ◌-◌, ◌%◌, ◌<◌, ◌≤◌, [], ◌∷◌, slice_index, EachIndex};
+ghost use Rattle.field_stream.specs.Generator.{first_number, lanes, next_four, number_after};
 
 const MODULUS: u32 = 65_537;
 
@@ -16,13 +16,20 @@ pub(crate) fn first_number(seed: u64) -> u32
     (seed % u64::from(MODULUS)) as u32
 }
 
-// The number after a byte is drawn.
-fn next(number: u32) -> u32
+// The numbers after one, two, three and four bytes are drawn. With y one above the number, each byte
+// makes y 75 times as much, modulo a prime: so each number comes from the first by a product of its own.
+#[inline]
+fn next_four(number: u32) -> [u32; 4]
     requires { number < 65537 }
-    ensures value { result ≡ next number }
-    ensures small { result < 65537 }
+    ensures numbers { result ≡ next_four number }
+    ensures small { EachIndex result (λ k. slice_index result k < 65537) }
 {
-    (75 * number + 74) % MODULUS
+    [
+        (75 * number + 74) % MODULUS,
+        (5_625 * number + 5_624) % MODULUS,
+        (28_653 * number + 28_652) % MODULUS,
+        (51_791 * number + 51_790) % MODULUS,
+    ]
 }
 
 // The byte that is drawn as the number becomes this one.
@@ -41,10 +48,7 @@ pub(crate) fn draw(number: u32, valid: u8) -> ([u8; 4], u32)
     ensures number { result.1 ≡ number_after number valid }
     ensures small { result.1 < 65537 }
 {
-    let first = next(number);
-    let second = next(first);
-    let third = next(second);
-    let fourth = next(third);
+    let [first, second, third, fourth] = next_four(number);
     match valid {
         1 => ([byte(first), FREE, FREE, FREE], first),
         2 => ([byte(first), byte(second), FREE, FREE], second),
