@@ -5,6 +5,8 @@ mod draft;
 mod generator;
 mod lines;
 mod stream;
+#[cfg(test)]
+mod tests;
 
 pub use lines::line_entries;
 pub use stream::{Made, make};
