@@ -1,11 +1,10 @@
 -- How many entries a stream has: fewer than 2^64.
-use Rattle.std.proofs.Common.{◌≡◌, ℕ, zero, suc, ◌+◌, ◌-◌, ◌*◌, ◌/◌, ◌%◌, ◌^◌, ◌≤◌, ◌<◌, min, Bool, true, false, List, [], ◌∷◌, ◌++◌, map, refl, sym, ap, ◌∙◌, arith, if◌then◌else◌, ◌&&◌}
+use Rattle.std.proofs.Common.{◌≡◌, ℕ, zero, suc, ◌+◌, ◌-◌, ◌*◌, ◌/◌, ◌%◌, ◌^◌, ◌≤◌, ◌<◌, min, Bool, true, false, List, [], ◌∷◌, ◌++◌, map, refl, arith, if◌then◌else◌, ◌&&◌}
 use Rattle.std.specs.Prelude.{◌==◌, nat_lt}
 use Rattle.std.specs.List.{flat_map, range_with_len}
 use Rattle.std.proofs.lemmas.Nat.{mul-le}
 use Rattle.std.proofs.Math.Nat.{div-le_self}
-use Rattle.fifo_model.specs.declared.Queue.{Queue}
-use Rattle.fifo_model.specs.declared.Queue.TheVariants.{One, Two, Three}
+use Rattle.fifo_model.specs.declared.Queue.TheVariants.{One}
 use Rattle.pixel_layout.specs.declared.Format.{Format}
 use Rattle.pixel_layout.specs.declared.Format.TheVariants.{Rgb32, Rgb24, Rgb16, Rgb15, Yuy2, Y8, Rgb8, BtYuv, Yuv422p, Yuv411p, Yuv420p, Yuv410p}
 use Rattle.pixel_layout.specs.declared.Parity.{Parity}
@@ -16,8 +15,8 @@ use Rattle.capture_desc.specs.declared.desc.Fields.{Fields}
 use Rattle.capture_desc.specs.declared.desc.Fields.TheVariants as fields
 use Rattle.picture_model.specs.Described.{both, describes, field_height, fields_of, layout_of, plane_row_bytes}
 use Rattle.planar_plan.specs.Frames.{IsFramed}
-use Rattle.field_stream.specs.Pushes.{Push, Mark, Fill, chroma_after, entries_in, entries_of, field_pushes, frame_pushes, line_entries, packed_line, picture_line, picture_pushes, planar_at, planar_line, repeated, status_at, stream_pushes, vbi_pushes}
-use Rattle.field_stream.specs.Drafts.{Drafted, counted, pushed, pushed_all}
+use Rattle.field_stream.specs.Pushes.{Push, Mark, Fill, chroma_after, entries_in, field_pushes, frame_pushes, line_entries, packed_line, picture_line, picture_pushes, planar_at, repeated, status_at, stream_pushes, vbi_pushes}
+use Rattle.field_stream.specs.Drafts.{Drafted, pushed, pushed_all}
 use Rattle.field_stream.proofs.Framed.{picture_range, vbi_range}
 
 -- the count of a draft

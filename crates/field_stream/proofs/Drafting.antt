@@ -1,10 +1,10 @@
 -- Pushes that are drafted one after the other.
-use Rattle.std.proofs.Common.{◌≡◌, ℕ, zero, suc, ◌+◌, List, [], ◌∷◌, ◌++◌, map, length, refl, sym, ap, ◌∙◌, arith, add-one}
+use Rattle.std.proofs.Common.{◌≡◌, ℕ, zero, suc, ◌+◌, List, [], ◌∷◌, ◌++◌, map, refl, sym, ap, ◌∙◌, arith, add-one}
 use Rattle.std.proofs.lemmas.List.{append-nil}
 use Rattle.std.proofs.lemmas.List.Concat.{flat_map-append}
 use Rattle.std.proofs.lemmas.List.FromFn.{map-range_with_len_more}
 use Rattle.std.specs.List.{flat_map, range_with_len}
-use Rattle.field_stream.specs.Pushes.{Push, repeated}
+use Rattle.field_stream.specs.Pushes.{Push}
 use Rattle.field_stream.specs.Drafts.{Drafted, pushed, pushed_all}
 
 pub pushed_all-append : (a b : List Push) (d : Drafted) → pushed_all (a ++ b) d ≡ pushed_all b (pushed_all a d)

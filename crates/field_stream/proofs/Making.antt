@@ -1,5 +1,5 @@
 -- A whole stream.
-use Rattle.std.proofs.Common.{◌≡◌, ℕ, ◌-◌, ◌^◌, ◌≤◌, List, [], ◌∷◌, ◌++◌, refl, sym, ap, ◌∙◌, arith, subst}
+use Rattle.std.proofs.Common.{◌≡◌, ℕ, ◌≤◌, List, [], ◌∷◌, ◌++◌, sym, ap, ◌∙◌, arith}
 use Rattle.std.specs.Prelude.{codes}
 use Rattle.std.specs.List.{flat_map}
 use Rattle.std.proofs.lemmas.List.{append-nil}
@@ -10,7 +10,7 @@ use Rattle.capture_desc.specs.declared.desc.Fields.TheVariants as fields
 use Rattle.picture_model.specs.Described.{fields_of}
 use Rattle.planar_plan.specs.Frames.{IsFramed}
 use Rattle.field_stream.specs.Generator.{first_number}
-use Rattle.field_stream.specs.Pushes.{Push, entries_in, field_pushes, frame_pushes, stream_pushes}
+use Rattle.field_stream.specs.Pushes.{Push, field_pushes, frame_pushes, stream_pushes}
 use Rattle.field_stream.specs.Made.{made, made_entries}
 use Rattle.field_stream.specs.Drafts.{Drafted, pushed_all}
 use Rattle.field_stream.proofs.Counting.{few_stream, pushed_all-entries}
@@ -38,5 +38,5 @@ pub made_count : (d : Desc) (seed frames : ℕ) (draft : Drafted) → IsFramed d
 made_count d seed frames draft is few e =
     ap (λ (first : Drafted). (pushed_all (stream_pushes d frames) first).entries) e
     ∙ (let all = pushed_all-entries (stream_pushes d frames) (begun seed) (omega arith) in
-       let bound = few_stream d frames is few in
-       omega (arith, all, bound))
+    let bound = few_stream d frames is few in
+    omega (arith, all, bound))

@@ -1,5 +1,5 @@
 -- Bytes that are drafted and put, one part after the other.
-use Rattle.std.proofs.Common.{◌≡◌, ℕ, zero, suc, ◌+◌, ◌-◌, ◌<◌, ◌≤◌, IsTrue, zero-add, suc-add, List, [], ◌∷◌, ◌++◌, length, take, Result, Ok, Err, refl, sym, ap, subst, ◌∙◌, arith, append_assoc, length-append}
+use Rattle.std.proofs.Common.{◌≡◌, ℕ, zero, suc, ◌+◌, ◌-◌, ◌<◌, IsTrue, zero-add, suc-add, List, [], ◌∷◌, ◌++◌, length, take, Result, Ok, Err, refl, sym, ap, subst, ◌∙◌, arith, append_assoc, length-append}
 use Rattle.std.proofs.lemmas.List.{take-append-le, append-nil}
 use Rattle.std.proofs.Math.Seq.{take-append-add}
 use Rattle.capture_desk.specs.Desks.{Told, after_write, Puts}
@@ -176,7 +176,7 @@ pub broken_second : (a b e : List Push) (d mid : Drafted) (old t told : Told) �
     IsBroken (pushed_all (a ++ (b ++ e)) d) old told
 broken_second a b e d mid old t told m n =
     subst (λ (ps : List Push). IsBroken (pushed_all ps d) old told) (append_assoc a b e) (broken_first (a ++ b) e d old told
-        (subst (λ (whole : Drafted). IsBroken whole old told) (sym (pushed_all-append a b d)) (broken_after (pushed_all b (pushed_all a d)) (pushed_all b mid) old t told (moved_on b (pushed_all a d) mid old t m) n)))
+    (subst (λ (whole : Drafted). IsBroken whole old told) (sym (pushed_all-append a b d)) (broken_after (pushed_all b (pushed_all a d)) (pushed_all b mid) old t told (moved_on b (pushed_all a d) mid old t m) n)))
 
 -- ---- the end
 
@@ -188,8 +188,8 @@ last_by front piece all old t told (Err x) m e p = (
   length front + p.0,
   (let n = ap (λ (bs : List ℕ). length bs) e in omega (arith, n, length-append front piece, p.1)),
   p.2 ∙ ap (after_write (take p.0 piece)) m
-  ∙ after_write-after_write front (take p.0 piece) old
-  ∙ ap (λ (bs : List ℕ). after_write bs old) (sym (take-append-add front piece p.0) ∙ ap (λ (bs : List ℕ). take (length front + p.0) bs) e),
+      ∙ after_write-after_write front (take p.0 piece) old
+      ∙ ap (λ (bs : List ℕ). after_write bs old) (sym (take-append-add front piece p.0) ∙ ap (λ (bs : List ℕ). take (length front + p.0) bs) e),
 )
 
 pub puts_last : {A E : Type 0} (whole held : Drafted) (last piece : List ℕ) (old t told : Told) (r : Result A E) → IsMoved whole held old t → piece ≡ held.bytes ++ last →

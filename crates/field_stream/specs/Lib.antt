@@ -3,3 +3,4 @@ pub mod Pushes
 pub mod Lines
 pub mod Made
 pub mod Drafts
+pub mod Worked

@@ -1,5 +1,5 @@
 -- A line as the code keeps it.
-use Rattle.std.specs.Prelude.{ℕ, ◌≤◌, List}
+use Rattle.std.specs.Prelude.{◌≤◌, List}
 use Rattle.field_stream.specs.declared.lines.Line.{Line}
 use Rattle.field_stream.specs.declared.lines.Line.TheVariants.{Packed, Planar}
 use Rattle.field_stream.specs.Pushes.{Push, packed_line, planar_line}

@@ -32,8 +32,7 @@ pub(crate) struct Draft {
 
 impl Model for Draft {
     ghost use Rattle.std.specs.Prelude.{◌<◌, ◌≤◌, take};
-    ghost use Rattle.field_stream.specs.Lines.{IsShort, line_pushes};
-ghost use Rattle.field_stream.specs.Drafts.{Drafted};
+    ghost use Rattle.field_stream.specs.Drafts.{Drafted};
 
     ghost Value = { Drafted };
 

@@ -53,6 +53,9 @@ pub(crate) fn draw(number: u32, valid: u8) -> ([u8; 4], u32)
         1 => ([byte(first), FREE, FREE, FREE], first),
         2 => ([byte(first), byte(second), FREE, FREE], second),
         3 => ([byte(first), byte(second), byte(third), FREE], third),
-        _ => ([byte(first), byte(second), byte(third), byte(fourth)], fourth),
+        _ => (
+            [byte(first), byte(second), byte(third), byte(fourth)],
+            fourth,
+        ),
     }
 }

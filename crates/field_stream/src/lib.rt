@@ -3,10 +3,12 @@
 
 mod draft;
 mod generator;
+mod laws;
 mod lines;
 mod stream;
 #[cfg(test)]
 mod tests;
 
+pub use laws::the_smallest_stream;
 pub use lines::line_entries;
 pub use stream::{Made, make};

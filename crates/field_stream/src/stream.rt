@@ -65,12 +65,7 @@ fn put_line<D: Desk>(draft: &mut Draft, desk: &mut D, line: Line) -> Result<(), 
     Ok(())
 }
 
-fn put_lines<D: Desk>(
-    draft: &mut Draft,
-    desk: &mut D,
-    count: u32,
-    line: Line,
-) -> Result<(), Failed>
+fn put_lines<D: Desk>(draft: &mut Draft, desk: &mut D, count: u32, line: Line) -> Result<(), Failed>
     requires open { IsTrue (D.told desk.old).output_open }
     requires short { IsShort line }
     ensures moves { Moves (pushed_all (repeated count (line_pushes line)) draft.old) result draft.new (D.told desk.old) (D.told desk.new) }

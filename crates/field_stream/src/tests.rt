@@ -56,9 +56,16 @@ fn the_smallest_stream(rt: HostRuntime) -> Result<(), Fail> {
         Ok(made) => made,
         Err(_) => panic!(rt; "the desk failed"),
     };
-    let want = b"BFS1\x04\x04\x05\x10\0\0\0\x04\x06\x05\x10\0\0\0\x01\x02\x95\xf1\xd9\x9c\x05\x10\0\0\0\x01\x01\xd3\xf3\x5f\x01\x05\x10\0\0\0\0";
+    let want =
+        b"BFS1\x04\x04\x05\x10\0\0\0\x04\x06\x05\x10\0\0\0\x01\x02\x95\xf1\xd9\x9c\x05\x10\0\0\0\x01\x01\xd3\xf3\x5f\x01\x05\x10\0\0\0\0";
     assert!(rt; desk.output("stream") == Some(want.as_slice()));
-    assert_eq!(rt; made, Made { fields: 1, entries: 2 });
+    assert_eq!(rt;
+        made,
+        Made {
+            fields: 1,
+            entries: 2
+        }
+    );
     Ok(())
 }
 
@@ -74,7 +81,13 @@ fn two_fields_of_planar_lines(rt: HostRuntime) -> Result<(), Fail> {
         Ok(made) => made,
         Err(_) => panic!(rt; "the desk failed"),
     };
-    assert_eq!(rt; made, Made { fields: 2, entries: 48 });
+    assert_eq!(rt;
+        made,
+        Made {
+            fields: 2,
+            entries: 48
+        }
+    );
     Ok(())
 }
 

@@ -13,7 +13,7 @@ returns-in_err-put_field-in-Both-clause-moves g c =
     let d = c.args.frame.now in
     let is = sym (ap (λ (d : Desc). d.fields) c.desc.ensures.value) ∙ c.in-Both.is in
     rw p.1 (broken_as _ (frame_pushes d) _ _ _ (frame_both d is)
-        (broken_first (field_pushes d Top) (field_pushes d Bottom) _ _ _ c.in_err-put_field-in-Both.ensures.moves))
+    (broken_first (field_pushes d Top) (field_pushes d Bottom) _ _ _ c.in_err-put_field-in-Both.ensures.moves))
 
 pub returns-in_ok-put_field-in-Both-clause-moves : goal.returns-in_ok-put_field-in-Both-clause-moves
 returns-in_ok-put_field-in-Both-clause-moves g c =

@@ -1,9 +1,9 @@
-use Rattle.std.proofs.Common.{[], ◌∷◌, ◌∙◌, sym, ap, arith}
+use Rattle.std.proofs.Common.{[], ◌∷◌, sym, ap, arith}
 use Rattle.std.proofs.lemmas.Result.{err_from_is_err_and}
 use Rattle.capture_desc.specs.declared.desc.Desc.{Desc}
 use Rattle.field_stream.specs.Pushes.{Mark, packed_line, repeated, vbi_pushes}
 use Rattle.risc_word.specs.declared.Code.TheVariants.{Fm1}
-use Rattle.field_stream.proofs.Moving.{broken_first, lines_as, moved_none, moves_as, moves_both, vbi_none, vbi_some, vbi_broken}
+use Rattle.field_stream.proofs.Moving.{lines_as, moves_as, moves_both, vbi_none, vbi_some, vbi_broken}
 use Rattle.field_stream.proofs.stream.put_vbi.Goals as goal
 
 pub returns-then-count-eq0-clause-moves : goal.returns-then-count-eq0-clause-moves
@@ -24,4 +24,4 @@ returns-clause-moves g c =
     moves_as (Mark Fm1 ∷ repeated d.vbi_lines (packed_line d.vbi_bytes)) (vbi_pushes d.vbi_lines d.vbi_bytes) _ _ _ _ c.put_lines.result
     (sym (vbi_some d.vbi_lines d.vbi_bytes (omega (arith, lines, c.if-count-eq0.false))))
     (moves_both (Mark Fm1 ∷ []) (repeated d.vbi_lines (packed_line d.vbi_bytes)) _ _ _ _ _ _ c.put_lines.result c.in_ok-put_mark.ensures.moves
-        (lines_as _ _ _ _ _ _ _ _ c.put_lines.result lines c.vbi_line.ensures.pushes c.put_lines.ensures.moves))
+    (lines_as _ _ _ _ _ _ _ _ c.put_lines.result lines c.vbi_line.ensures.pushes c.put_lines.ensures.moves))
