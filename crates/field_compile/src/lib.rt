@@ -1,0 +1,96 @@
+//! The words of a field's picture: the lines that are skipped, then the field's rows.
+//!
+//! The instructions are those of the Bt878 data sheet, "RISC instructions"; which of them a line takes is
+//! this project's own rule.
+#![tactic(auto)]
+
+mod words;
+
+ghost use Rattle.std.specs.Prelude.{◌≡◌, ◌++◌, ◌^◌, ◌<◌, true, map, replicate, OnOk};
+ghost use Rattle.field_compile.specs.Kept.{BeginsWith};
+ghost use Rattle.picture_model.specs.Described.{IsDescription, describes, is_both, picture_row, rows_of};
+ghost use Rattle.picture_model.specs.Plans.{row_strip, skipped_strip};
+ghost use Rattle.picture_model.specs.Programs.{data_code, field_words, lines_instrs, words_of};
+
+use capture_desc::Fields;
+use pixel_layout::Parity;
+use planar_plan::Frame;
+use risc_word::Code;
+use std::alloc::{AllocError, Global};
+pub use words::{push_instr, push_pieces, sync};
+
+// The code that announces packed or planar data.
+fn data_code(planar: bool) -> Code
+    ensures { result ≡ data_code planar }
+{
+    if planar { Code::Fm3 } else { Code::Fm1 }
+}
+
+// Appends the lines that are skipped, which are all the same.
+fn push_skipped_lines(alloc: Global, frame: &Frame, out: &mut Vec<u32>) -> Result<(), AllocError>
+    ensures words { OnOk result (out.new.items ≡ out.old.items ++ words_of (lines_instrs frame.now (replicate frame.now.skip_lines (skipped_strip frame.now)))) }
+    ensures kept { BeginsWith out.old.items out.new.items }
+{
+    let pieces = frame.plan_skip_line(alloc)?;
+    let planar = frame.format().is_planar();
+    for _ in 0..frame.desc().skip_lines {
+        push_pieces(planar, pieces.as_slice(), out)?;
+    }
+    Ok(())
+}
+
+// The picture row that is row `number` of a field.
+fn picture_row(fields: Fields, field: Parity, number: u32) -> u32
+    requires { picture_row (is_both fields) field number < 2 ^ 32 }
+    ensures { result ≡ picture_row (is_both fields) field number }
+{
+    match (fields, field) {
+        (Fields::Both, Parity::Top) => 2 * number,
+        (Fields::Both, Parity::Bottom) => 2 * number + 1,
+        _ => number,
+    }
+}
+
+// Appends the rows of a field.
+fn push_rows(
+    alloc: Global,
+    frame: &Frame,
+    field: Parity,
+    out: &mut Vec<u32>,
+) -> Result<(), AllocError>
+    requires { describes frame.now.fields field ≡ true }
+    ensures words { OnOk result (out.new.items ≡ out.old.items ++ words_of (lines_instrs frame.now (map (row_strip frame.now) (rows_of frame.now field)))) }
+    ensures kept { BeginsWith out.old.items out.new.items }
+    ensures description { OnOk result (IsDescription frame.now) }
+{
+    let fields = frame.desc().fields;
+    let planar = frame.format().is_planar();
+    for number in 0..frame.rows_of(field) {
+        let pieces = frame.plan_row(alloc, picture_row(fields, field, number))?;
+        push_pieces(planar, pieces.as_slice(), out)?;
+    }
+    Ok(())
+}
+
+/// Appends the picture part of a field's section: SYNC on FM1 for packed and FM3 for planar formats, the
+/// skipped lines, and the field's rows in order. After a refusal, which want of memory alone brings, the
+/// old words still stand before what was added.
+pub fn compile_field(
+    alloc: Global,
+    frame: &Frame,
+    field: Parity,
+    out: &mut Vec<u32>,
+) -> Result<(), AllocError>
+    requires { describes frame.now.fields field ≡ true }
+    ensures words { OnOk result (out.new.items ≡ out.old.items ++ field_words frame.now field) }
+    ensures kept { BeginsWith out.old.items out.new.items }
+    ensures description { OnOk result (IsDescription frame.now) }
+{
+    let code = data_code(frame.format().is_planar());
+    push_instr(&sync(false, code), out)?;
+    push_skipped_lines(alloc, frame, out)?;
+    push_rows(alloc, frame, field, out)
+}
+
+#[cfg(test)]
+mod tests;
