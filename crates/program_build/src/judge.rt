@@ -1,0 +1,87 @@
+//! The words of a program, and the faults of its place in memory.
+
+ghost use Rattle.std.specs.Prelude.{◌≡◌, ◌+◌, ◌*◌, ◌^◌, ◌≤◌, not, ◌&&◌, nat_le, IfOk, OnOk, None};
+ghost use Rattle.std.specs.List.{list_any};
+ghost use Rattle.std.specs.Result.{result_err};
+ghost use Rattle.page_table.specs.Grants.{chunk};
+ghost use Rattle.page_table.specs.Taken.{page_at, pair_chunk};
+ghost use Rattle.picture_model.specs.Described.{IsDescription, memory_of};
+ghost use Rattle.picture_model.specs.Geometry.{first_after, is_multiple, program_faults, when};
+ghost use Rattle.picture_model.specs.Programs.{compiled};
+ghost use Rattle.planar_plan.specs.Frames.{Judges};
+ghost use Rattle.program_build.specs.Checks.{is_met};
+
+use crate::sections::program_words;
+use capture_desc::Desc;
+use picture_model::BuildFault;
+use planar_plan::{BuildError, Frame};
+use std::alloc::Global;
+
+const PAGE: u32 = 4096;
+
+// Judges where a program begins and ends.
+fn program_base(base: u32, end: u64) -> Result<(), BuildFault>
+    ensures { result_err result ≡ when (not (is_multiple 4 base && nat_le end (2 ^ 32))) BuildFault.ProgramBase }
+{
+    if base % 4 == 0 && end <= 1 << 32 {
+        Ok(())
+    } else {
+        Err(BuildFault::ProgramBase)
+    }
+}
+
+// Whether a chunk shares a byte with a program.
+fn is_met(base: u32, end: u64, at: u32, len: u32) -> bool
+    ensures { result ≡ is_met base end (chunk at len) }
+{
+    u64::from(base.max(at)) < end.min(u64::from(at) + u64::from(len))
+}
+
+fn meets_pages(base: u32, end: u64, pages: &[u32]) -> bool
+    ensures { result ≡ list_any (λ page. is_met base end (page_at page)) pages.now }
+{
+    pages.iter().any(|page| is_met(base, end, *page, PAGE))
+}
+
+fn meets_chunks(base: u32, end: u64, chunks: &[(u32, u32)]) -> bool
+    ensures { result ≡ list_any (λ pair. is_met base end (pair_chunk pair)) chunks.now }
+{
+    chunks
+        .iter()
+        .any(|chunk| is_met(base, end, chunk.0, chunk.1))
+}
+
+// Whether a page or chunk of a description shares a byte with its program.
+fn meets_memory(base: u32, end: u64, desc: &Desc) -> bool
+    ensures { result ≡ list_any (is_met base end) (memory_of desc.now) }
+{
+    match &desc.chunks {
+        None => meets_pages(base, end, desc.pages.as_slice()),
+        Some(chunks) => meets_chunks(base, end, chunks.as_slice()),
+    }
+}
+
+// Judges a program against the pages or chunks.
+fn program_on_page(base: u32, end: u64, desc: &Desc) -> Result<(), BuildFault>
+    ensures { result_err result ≡ when (list_any (is_met base end) (memory_of desc.now)) BuildFault.ProgramOnPage }
+{
+    if meets_memory(base, end, desc) {
+        Err(BuildFault::ProgramOnPage)
+    } else {
+        Ok(())
+    }
+}
+
+// The words of a frame's program, unless its place has a fault.
+pub(crate) fn judged_words(alloc: Global, frame: &Frame) -> Result<Vec<u32>, BuildError>
+    ensures answer { Judges (first_after None program_faults frame.now) result }
+    ensures words { IfOk result (λ words. words.items ≡ (compiled frame.now).words) }
+    ensures description { OnOk result (IsDescription frame.now) }
+{
+    let words = program_words(alloc, frame)?;
+    let desc = frame.desc();
+    let end = u64::from(desc.base) + 4 * words.len() as u64;
+    program_base(desc.base, end)?;
+    program_on_page(desc.base, end, desc)?;
+    Ok(words)
+}
