@@ -8,7 +8,7 @@ use Rattle.bt878_words.specs.declared.Command.TheVariants as command
 use Rattle.bt878_words.specs.Words.{command_of, inputs_of, outputs_of}
 use Rattle.bt878_words.proofs.Asked.{AsksProgram, AsksRun, asked}
 use Rattle.capture_desk.specs.Desks.{IsAllowed, is_among}
-use Rattle.bt878_top.specs.Tasks.{AreNames, Lists, Verifies, Runs, task_of, task_with}
+use Rattle.bt878_tasks.specs.Tasks.{AreNames, Lists, Verifies, Runs, task_of, task_with}
 
 -- ---- the names may be used
 

@@ -10,14 +10,14 @@ use Rattle.machine_model.specs.Steps.{run}
 use Rattle.machine_model.proofs.Runs.{IsInside-first_state}
 use Rattle.dma_machine.specs.Facts.{report_of}
 use Rattle.bt878_words.specs.declared.UsageFault.{UsageFault}
-use Rattle.bt878_top.specs.declared.answer.Answer.{Answer}
-use Rattle.bt878_top.specs.declared.answer.Answer.TheVariants.{Done, Usage, ReadFault, WriteFault, Malformed, Rejected, NoMemory}
-use Rattle.bt878_top.specs.Desks.{Seen, OfInput, NeedsMemory, Refused, Says, SameCounts, WritesRose, IsFilePart, IsPart, apart, delivered}
-use Rattle.bt878_top.specs.Texts.{answer_text, report_text}
-use Rattle.bt878_top.specs.Programs.{HasRun, StopsAtFile, StopsAtProgram, StopsAtStream}
-use Rattle.bt878_top.specs.Tasks.{Task, Lists, Verifies, Runs, Ends, IsDone, IsPartDone, Makes, RunMakes, Stops}
-use Rattle.bt878_top.proofs.Loading.{OfInput-map}
-use Rattle.bt878_top.proofs.Fitting.{steps_fit}
+use Rattle.command_steps.specs.declared.answer.Answer.{Answer}
+use Rattle.command_steps.specs.declared.answer.Answer.TheVariants.{Done, Usage, ReadFault, WriteFault, Malformed, Rejected, NoMemory}
+use Rattle.command_steps.specs.Desks.{Seen, OfInput, NeedsMemory, Refused, Says, SameCounts, WritesRose, IsFilePart, IsPart, apart, delivered}
+use Rattle.command_steps.specs.Texts.{answer_text, report_text}
+use Rattle.program_play.specs.Programs.{HasRun, StopsAtFile, StopsAtProgram, StopsAtStream}
+use Rattle.bt878_tasks.specs.Tasks.{Task, Lists, Verifies, Runs, Ends, IsDone, IsPartDone, Makes, RunMakes, Stops}
+use Rattle.program_play.proofs.Loading.{OfInput-map}
+use Rattle.program_play.proofs.Fitting.{steps_fit}
 
 -- ---- one file and a text
 

@@ -5,11 +5,11 @@ ghost use Rattle.bt878_words.specs.Words.{command_of, inputs_of, outputs_of};
 ghost use Rattle.capture_file.specs.declared.FileFault.{FileFault};
 ghost use Rattle.capture_file.specs.declared.Input.{Input};
 ghost use Rattle.machine_model.specs.declared.Cause.{Cause};
-ghost use Rattle.bt878_top.specs.Clauses.{AreTold, HasBad, HasFault, ImageAndReport, IsGood, IsRefusal, IsSoundAt, IsUnreadOf, IsUsage, OfCapture, OnlyOutputs, OnlySays, SameNames, SaysAccepted, SaysListing, StandsAt, StaysInside, UnlessCut};
-ghost use Rattle.bt878_top.specs.Desks.{ReadsRose, SameCounts, WritesRose, seen_by};
-ghost use Rattle.bt878_top.specs.Pictures.{ShowsNoFault, ShowsPictures, SignalsInTime};
-ghost use Rattle.bt878_top.specs.Tasks.{Answers, AreNames, task_of};
-ghost use Rattle.bt878_top.specs.Texts.{answer_text};
+ghost use Rattle.bt878_tasks.specs.Clauses.{AreTold, HasBad, HasFault, ImageAndReport, IsGood, IsRefusal, IsSoundAt, IsUnreadOf, IsUsage, OfCapture, OnlyOutputs, OnlySays, SameNames, SaysAccepted, SaysListing, StandsAt, StaysInside, UnlessCut};
+ghost use Rattle.command_steps.specs.Desks.{ReadsRose, SameCounts, WritesRose, seen_by};
+ghost use Rattle.bt878_tasks.specs.Pictures.{ShowsNoFault, ShowsPictures, SignalsInTime};
+ghost use Rattle.bt878_tasks.specs.Tasks.{Answers, AreNames, task_of};
+ghost use Rattle.command_steps.specs.Texts.{answer_text};
 
 use crate::answer::Answer;
 use crate::commands::{list, run, verify};

@@ -3,8 +3,8 @@
 ghost use Rattle.std.specs.Prelude.{◌≡◌, [], ◌∷◌, MatchResult};
 ghost use Rattle.capture_desk.specs.Desks.{IsAllowed, WriteCounts, after_create, after_finish, after_write};
 ghost use Rattle.capture_file.specs.Images.{image_of};
-ghost use Rattle.bt878_top.specs.Desks.{IsFilePart, IsPart, delivered, seen_by};
-ghost use Rattle.bt878_top.specs.Tasks.{Ends, Lists, Runs, Verifies};
+ghost use Rattle.command_steps.specs.Desks.{IsFilePart, IsPart, delivered, seen_by};
+ghost use Rattle.bt878_tasks.specs.Tasks.{Ends, Lists, Runs, Verifies};
 
 use crate::answer::Answer;
 use crate::desks::{refuse, say_all};

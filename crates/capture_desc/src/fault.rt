@@ -43,7 +43,7 @@ pub enum Key {
 
 impl Key {
     /// The key as it is written.
-    pub(crate) fn name(self) -> &'static str
+    pub fn name(self) -> &'static str
         ensures { result.now ≡ name_of self }
     {
         match self {

@@ -1,6 +1,6 @@
 use Rattle.std.proofs.Common.{◌∙◌, ap, sym, subst, Bor, List, ℕ, Ok}
-use Rattle.bt878_top.specs.Desks.{seen_by}
-use Rattle.bt878_top.specs.Tasks.{Answers}
+use Rattle.command_steps.specs.Desks.{seen_by}
+use Rattle.bt878_tasks.specs.Tasks.{Answers}
 use Rattle.bt878_top.proofs.Asking.{list_allowed, list_task, run_image_allowed, run_program_allowed, run_stream_allowed, run_task, verify_allowed, verify_task}
 use Rattle.bt878_top.proofs.call.answer_words.Goals as goal
 

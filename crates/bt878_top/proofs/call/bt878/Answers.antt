@@ -1,10 +1,10 @@
 -- Each clause follows from the one exact clause.
 use Rattle.std.proofs.Common.{Bor, List, ℕ, map}
-use Rattle.bt878_top.specs.Desks.{seen_by}
-use Rattle.bt878_top.specs.Tasks.{task_of}
-use Rattle.bt878_top.specs.Pictures.{ShowsPictures, ShowsNoFault, SignalsInTime}
-use Rattle.bt878_top.proofs.Pictures.{pictures_shown, no_fault_shown, signals_come}
-use Rattle.bt878_top.proofs.Consequences.{completes, done_accepted, done_captured, done_counts, done_image_and_report, done_inside, done_listed, done_sound, malformed_comes, malformed_must, names_kept, others_untouched, read_fault_comes, refused_only_says, rejected_comes, rejected_must, usage_comes, write_fault_comes, write_fault_stands}
+use Rattle.command_steps.specs.Desks.{seen_by}
+use Rattle.bt878_tasks.specs.Tasks.{task_of}
+use Rattle.bt878_tasks.specs.Pictures.{ShowsPictures, ShowsNoFault, SignalsInTime}
+use Rattle.bt878_tasks.proofs.Pictures.{pictures_shown, no_fault_shown, signals_come}
+use Rattle.bt878_tasks.proofs.Consequences.{completes, done_accepted, done_captured, done_counts, done_image_and_report, done_inside, done_listed, done_sound, malformed_comes, malformed_must, names_kept, others_untouched, read_fault_comes, refused_only_says, rejected_comes, rejected_must, usage_comes, write_fault_comes, write_fault_stands}
 use Rattle.bt878_top.proofs.call.bt878.Goals as goal
 
 abbrev text : Bor (List ℕ) → List ℕ

@@ -1,7 +1,7 @@
 use Rattle.std.proofs.Common.{◌≡◌, ◌<◌, ℕ, length, take, refl, subst}
 use Rattle.capture_desk.specs.Desks.{after_say}
-use Rattle.bt878_top.specs.Desks.{seen_by}
-use Rattle.bt878_top.specs.Tasks.{Lists}
+use Rattle.command_steps.specs.Desks.{seen_by}
+use Rattle.bt878_tasks.specs.Tasks.{Lists}
 use Rattle.bt878_top.proofs.Composing.{text_done, text_part_done}
 use Rattle.bt878_top.proofs.commands.list.Goals as goal
 

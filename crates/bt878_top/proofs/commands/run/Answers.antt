@@ -1,8 +1,8 @@
 use Rattle.std.proofs.Common.{◌≡◌, [], ◌∷◌, ◌∙◌, ap, sym, subst}
 use Rattle.capture_desk.specs.Desks.{IsAllowed, Told}
 use Rattle.capture_file.specs.Images.{image_of}
-use Rattle.bt878_top.specs.Desks.{IsPart, delivered, seen_by}
-use Rattle.bt878_top.specs.Tasks.{Runs}
+use Rattle.command_steps.specs.Desks.{IsPart, delivered, seen_by}
+use Rattle.bt878_tasks.specs.Tasks.{Runs}
 use Rattle.bt878_top.proofs.Composing.{ends_refused, run_done, run_part}
 use Rattle.bt878_top.proofs.commands.run.Goals as goal
 

@@ -1,0 +1,18 @@
+use Rattle.std.proofs.Common.{length, ◌+◌, ◌-◌, ◌≡◌, ◌≤◌, take, vec_len}
+use Rattle.capture_desk.specs.Desks.{after_read}
+use Rattle.command_steps.specs.Desks.{OfRest}
+use Rattle.command_steps.proofs.desks.read_rest.Given as goal
+
+abbrev pub invariant-loop-at : goal.invariant-loop-at
+invariant-loop-at g l =
+    record {
+      within : l.at ≤ l.most + 1;
+      filled : l.at ≤ vec_len l.bytes;
+      told : g.D.Desk.told l.desk ≡ after_read l.at (g.D.Desk.told l.fn.desk);
+      taken : OfRest (g.D.Desk.told l.fn.desk).rest (λ rest. (l.at ≤ length rest) × (take l.at l.bytes.items ≡ take l.at rest));
+      reads : g.D.Desk.read_faults l.desk ≡ g.D.Desk.read_faults l.fn.desk;
+      writes : g.D.Desk.write_faults l.desk ≡ g.D.Desk.write_faults l.fn.desk;
+    }
+
+abbrev pub decreases-loop-at : goal.decreases-loop-at
+decreases-loop-at g l = l.most + 1 - l.at

@@ -1,0 +1,171 @@
+//! The steps that all commands share: to read an input whole, and to say a text.
+
+ghost use Rattle.std.specs.Prelude.{◌≡◌, ◌+◌, ◌-◌, ◌<◌, ◌≤◌, ◌^◌, length, take, IfErr, IfOk, IsTrue, vec_len};
+ghost use Rattle.capture_desk.specs.Desks.{IsAllowed, Puts, ReadCounts, WriteCounts, after_read, after_say};
+ghost use Rattle.command_steps.specs.Desks.{CountsBy, Grows, OfInput, OfRest, Opened, Refused, Says, StopsAtRead, StopsReading, apart, seen_by};
+
+use crate::answer::Answer;
+use crate::texts::{desc_text, geometry_text, malformed_text, plain_text, rejected_text};
+use capture_desk::{Desk, Failed, OpenFault};
+use std::alloc::Global;
+
+/// The most bytes that one read asks for.
+pub const PIECE: usize = 65_536;
+
+/// Opens an input.
+pub fn open<D: Desk>(name: &str, desk: &mut D) -> Result<(), Answer>
+    requires { IsAllowed name.now (D.told desk.old).may_open }
+    ensures opened { Opened name.now result (seen_by D.told D.read_faults D.write_faults desk.old) (seen_by D.told D.read_faults D.write_faults desk.new) }
+    ensures counts { CountsBy result (seen_by D.told D.read_faults D.write_faults desk.old) (seen_by D.told D.read_faults D.write_faults desk.new) }
+{
+    match desk.open_in(name) {
+        Ok(()) => Ok(()),
+        Err(OpenFault::Missing) => Err(Answer::ReadFault),
+        Err(OpenFault::Failed) => Err(Answer::ReadFault),
+    }
+}
+
+/// Makes a vector at least so long.
+fn make_room(bytes: &mut Vec<u8>, end: usize) -> Result<(), Answer>
+    ensures kept { IfOk result (λ _. take (vec_len bytes.old) bytes.new.items ≡ bytes.old.items) }
+    ensures long { IfOk result (λ _. (end ≤ vec_len bytes.new) × (vec_len bytes.old ≤ vec_len bytes.new)) }
+    ensures memory { IfErr result (λ answer. answer ≡ Answer.NoMemory) }
+{
+    if bytes.len() < end && bytes.resize(end, 0).is_err() {
+        return Err(Answer::NoMemory);
+    }
+    Ok(())
+}
+
+/// Reads a piece of the open input into the bytes from `at` to `end`, and answers its length.
+pub fn read_into<D: Desk>(
+    bytes: &mut [u8],
+    at: usize,
+    end: usize,
+    desk: &mut D,
+) -> Result<usize, Failed>
+    requires open { IsTrue (D.told desk.old).input_open }
+    requires some { at < end }
+    requires room { end ≤ length bytes.old }
+    ensures few { IfOk result (λ n. n ≤ end - at) }
+    ensures grows { IfOk result (λ n. OfRest (D.told desk.old).rest (λ rest. Grows at n rest bytes.old bytes.new)) }
+    ensures told { IfOk result (λ n. D.told desk.new ≡ after_read n (D.told desk.old)) }
+    ensures same { IfErr result (λ _. D.told desk.new ≡ D.told desk.old) }
+    ensures counts { ReadCounts result (D.read_faults desk.old) (D.read_faults desk.new)
+        (D.write_faults desk.old) (D.write_faults desk.new) }
+{
+    desk.read(&mut bytes[at..end])
+}
+
+/// Reads a piece of the open input behind the first `at` bytes, up to `end`, and answers its length.
+fn read_piece<D: Desk>(
+    bytes: &mut Vec<u8>,
+    at: usize,
+    end: usize,
+    desk: &mut D,
+) -> Result<usize, Answer>
+    requires open { IsTrue (D.told desk.old).input_open }
+    requires filled { at ≤ vec_len bytes.old }
+    requires some { at < end }
+    ensures few { IfOk result (λ n. (n ≤ end - at) × (at + n ≤ vec_len bytes.new)) }
+    ensures grows { IfOk result (λ n. OfRest (D.told desk.old).rest (λ rest. Grows at n rest bytes.old.items bytes.new.items)) }
+    ensures told { IfOk result (λ n. D.told desk.new ≡ after_read n (D.told desk.old)) }
+    ensures same { IfErr result (λ _. D.told desk.new ≡ D.told desk.old) }
+    ensures stops { IfErr result (λ answer. StopsAtRead answer (seen_by D.told D.read_faults D.write_faults desk.old) (seen_by D.told D.read_faults D.write_faults desk.new)) }
+    ensures counts { CountsBy result (seen_by D.told D.read_faults D.write_faults desk.old) (seen_by D.told D.read_faults D.write_faults desk.new) }
+{
+    make_room(bytes, end)?;
+    match read_into(bytes, at, end, desk) {
+        Ok(count) => Ok(count),
+        Err(_) => Err(Answer::ReadFault),
+    }
+}
+
+/// Reads the open input until it ends or one byte more than `most` was read.
+fn read_rest<D: Desk>(alloc: Global, most: usize, desk: &mut D) -> Result<Vec<u8>, Answer>
+    requires open { IsTrue (D.told desk.old).input_open }
+    requires few { most < 2 ^ 32 }
+    ensures bytes { IfOk result (λ bytes. OfRest (D.told desk.old).rest (λ rest. bytes.items ≡ take (most + 1) rest)) }
+    ensures told { apart (D.told desk.new) ≡ apart (D.told desk.old) }
+    ensures stops { IfErr result (λ answer. StopsAtRead answer (seen_by D.told D.read_faults D.write_faults desk.old) (seen_by D.told D.read_faults D.write_faults desk.new)) }
+    ensures counts { CountsBy result (seen_by D.told D.read_faults D.write_faults desk.old) (seen_by D.told D.read_faults D.write_faults desk.new) }
+{
+    let mut bytes = Vec::new(alloc);
+    let mut at = 0;
+    while at <= most {
+        let end = (at + PIECE).min(most + 1);
+        let count = read_piece(&mut bytes, at, end, desk)?;
+        if count == 0 {
+            break;
+        }
+        at += count;
+    }
+    bytes.truncate(at);
+    Ok(bytes)
+}
+
+/// Reads an input until it ends or one byte more than `most` was read.
+pub fn read_whole<D: Desk>(
+    alloc: Global,
+    name: &str,
+    most: usize,
+    desk: &mut D,
+) -> Result<Vec<u8>, Answer>
+    requires allowed { IsAllowed name.now (D.told desk.old).may_open }
+    requires few { most < 2 ^ 32 }
+    ensures bytes { IfOk result (λ bytes. OfInput name.now (D.told desk.old).inputs (λ content. bytes.items ≡ take (most + 1) content)) }
+    ensures told { apart (D.told desk.new) ≡ apart (D.told desk.old) }
+    ensures stops { IfErr result (λ answer. StopsReading name.now answer (seen_by D.told D.read_faults D.write_faults desk.old) (seen_by D.told D.read_faults D.write_faults desk.new)) }
+    ensures counts { CountsBy result (seen_by D.told D.read_faults D.write_faults desk.old) (seen_by D.told D.read_faults D.write_faults desk.new) }
+{
+    open(name, desk)?;
+    read_rest(alloc, most, desk)
+}
+
+/// Says a whole text. Where the desk fails, the bytes before it were said.
+pub fn say_all<D: Desk>(text: &[u8], desk: &mut D) -> Result<(), Failed>
+    ensures says { Puts text.now result after_say (D.told desk.old) (D.told desk.new) }
+    ensures counts { WriteCounts result (D.read_faults desk.old) (D.read_faults desk.new)
+        (D.write_faults desk.old) (D.write_faults desk.new) }
+{
+    let mut at = 0;
+    while at < text.len() {
+        at += desk.say(&text[at..])?;
+    }
+    Ok(())
+}
+
+/// Says a text as the last act: a fault of the desk changes nothing more.
+fn say_last<D: Desk>(text: &[u8], desk: &mut D)
+    ensures reads { D.read_faults desk.old ≤ D.read_faults desk.new }
+    ensures says { Says text.now (seen_by D.told D.read_faults D.write_faults desk.old) (seen_by D.told D.read_faults D.write_faults desk.new) }
+{
+    let _ = say_all(text, desk);
+}
+
+/// Says the text of a refusal, and answers it; `NoMemory` where there is none for the text.
+pub fn refuse<D: Desk>(alloc: Global, answer: Answer, desk: &mut D) -> Answer
+    ensures reads { D.read_faults desk.old ≤ D.read_faults desk.new }
+    ensures refused { Refused answer result (seen_by D.told D.read_faults D.write_faults desk.old) (seen_by D.told D.read_faults D.write_faults desk.new) }
+{
+    let text = match &answer {
+        Answer::Malformed(input, fault) => malformed_text(alloc, *input, fault.at, fault.kind),
+        Answer::BadDesc(fault) => desc_text(alloc, fault),
+        Answer::BadGeometry(fault) => geometry_text(alloc, *fault),
+        Answer::Rejected { at, nth, cause } => rejected_text(alloc, *at, *nth, *cause),
+        plain => {
+            say_last(plain_text(plain).as_bytes(), desk);
+            return answer;
+        }
+    };
+    match text {
+        Ok(text) => {
+            say_last(&text, desk);
+            answer
+        }
+        Err(_) => {
+            say_last(plain_text(&Answer::NoMemory).as_bytes(), desk);
+            Answer::NoMemory
+        }
+    }
+}

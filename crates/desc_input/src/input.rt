@@ -1,0 +1,58 @@
+//! A description file, read and judged.
+
+ghost use Rattle.std.specs.Prelude.{◌≡◌, ◌≤◌, length, IfErr, IfOk};
+ghost use Rattle.capture_desk.specs.Desks.{IsAllowed};
+ghost use Rattle.command_steps.specs.Desks.{CountsBy, OfInput, StopsAt, apart, seen_by};
+ghost use Rattle.desc_input.specs.Descriptions.{Describes, IsBadDesc, IsRefused, longest_description};
+
+use capture_desc::{DescError, read_desc};
+use capture_desk::Desk;
+use capture_file::{FileFault, FileKind, Input};
+use command_steps::{Answer, read_whole};
+use program_build::{BuildError, Checked, check};
+use std::alloc::Global;
+
+/// The most bytes of a description file.
+const LONGEST_DESCRIPTION: usize = 1_048_576;
+
+/// Reads and judges the bytes of a description file.
+fn check_bytes(alloc: Global, bytes: &[u8]) -> Result<Checked, Answer>
+    requires { length bytes.now ≤ longest_description }
+    ensures describes { IfOk result (Describes bytes.now) }
+    ensures refuses { IfErr result (IsRefused bytes.now) }
+{
+    let desc = match read_desc(alloc, bytes) {
+        Ok(desc) => desc,
+        Err(DescError::Bad(fault)) => return Err(Answer::BadDesc(fault)),
+        Err(DescError::Memory) => return Err(Answer::NoMemory),
+    };
+    match check(alloc, desc) {
+        Ok(checked) => Ok(checked),
+        Err(BuildError::Bad(fault)) => Err(Answer::BadGeometry(fault)),
+        Err(BuildError::Memory) => Err(Answer::NoMemory),
+    }
+}
+
+/// Reads a description file and judges its description: `Malformed` where it has more than 1,048,576
+/// bytes, `BadDesc` where its text describes no capture, `BadGeometry` with the first fault of the
+/// geometry (this project's own rules).
+pub fn check_file<D: Desk>(alloc: Global, name: &str, desk: &mut D) -> Result<Checked, Answer>
+    requires { IsAllowed name.now (D.told desk.old).may_open }
+    ensures describes { IfOk result (λ checked. OfInput name.now (D.told desk.old).inputs (λ bytes. Describes bytes checked)) }
+    ensures stops { IfErr result (λ answer. StopsAt IsBadDesc name.now answer (seen_by D.told D.read_faults D.write_faults desk.old) (seen_by D.told D.read_faults D.write_faults desk.new)) }
+    ensures told { apart (D.told desk.new) ≡ apart (D.told desk.old) }
+    ensures counts { CountsBy result (seen_by D.told D.read_faults D.write_faults desk.old) (seen_by D.told D.read_faults D.write_faults desk.new) }
+{
+    let bytes = read_whole(alloc, name, LONGEST_DESCRIPTION, desk)?;
+    if bytes.len() > LONGEST_DESCRIPTION {
+        let fault = FileFault {
+            at: LONGEST_DESCRIPTION as u64,
+            kind: FileKind::TooLong,
+        };
+        return Err(Answer::Malformed(Input::Desc, fault));
+    }
+    match check_bytes(alloc, &bytes) {
+        Ok(checked) => Ok(checked),
+        Err(answer) => Err(answer),
+    }
+}

@@ -1,0 +1,5 @@
+pub mod Playing
+pub mod Loading
+pub mod Fitting
+pub mod Lengths
+pub mod Whole

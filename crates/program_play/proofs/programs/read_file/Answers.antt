@@ -1,0 +1,32 @@
+-- What is read to one byte beyond the longest tells what the whole file is.
+use Rattle.std.proofs.Common.{◌≡◌, ◌+◌, ◌∙◌, List, ℕ, take, Ok, Err, ap, sym, subst}
+use Rattle.capture_file.specs.declared.Input.TheVariants.{Program}
+use Rattle.capture_file.specs.Programs.{program_of}
+use Rattle.command_steps.specs.declared.answer.Answer.{Answer}
+use Rattle.command_steps.specs.declared.answer.Answer.TheVariants.{Malformed, NoMemory, ReadFault}
+use Rattle.command_steps.specs.Desks.{OfInput, Seen, StopsAt, seen_by}
+use Rattle.program_play.specs.Programs.{IsBadFile, Misreads, longest_program}
+use Rattle.program_play.proofs.Loading.{OfInput-map}
+use Rattle.program_play.proofs.Whole.{read_is_whole}
+use Rattle.program_play.proofs.programs.read_file.Goals as goal
+
+misread : (name : List ℕ) (answer : Answer) (old new : Seen) (bytes : List ℕ) → OfInput name old.told.inputs (λ content. bytes ≡ take (longest_program + 1) content) →
+    Misreads (program_of bytes) answer → StopsAt IsBadFile name answer old new
+misread name (Malformed Program fault) old new bytes read h =
+    OfInput-map name old.told.inputs (λ content. bytes ≡ take (longest_program + 1) content) (λ content. program_of content ≡ Err fault)
+    (λ content e. sym (read_is_whole content) ∙ ap program_of (sym e) ∙ h) read
+misread name NoMemory old new bytes read h = tt
+misread name ReadFault old new bytes read h = absurd h
+misread name answer old new bytes read h = h
+
+pub returns-in-Ok-clause-reads : goal.returns-in-Ok-clause-reads
+returns-in-Ok-clause-reads g c =
+    OfInput-map c.args.name.now (g.D.Desk.told c.args.desk.now).inputs (λ content. c.in_ok-bytes.bytes.items ≡ take (longest_program + 1) content)
+    (λ content. program_of content ≡ Ok c.in-Ok.file)
+    (λ content e. sym (read_is_whole content) ∙ ap program_of (sym e) ∙ ap program_of (sym c.deref.ensures.value) ∙ c.in-Ok.ensures.reads) c.in_ok-bytes.ensures.bytes
+
+pub returns-clause-stops : goal.returns-clause-stops
+returns-clause-stops g c =
+    let see = seen_by g.D.Desk.told g.D.Desk.read_faults g.D.Desk.write_faults in
+    misread c.args.name.now c.in-Err.answer (see c.args.desk.now) _ c.in_ok-bytes.bytes.items c.in_ok-bytes.ensures.bytes
+    (subst (λ bytes. Misreads (program_of bytes) c.in-Err.answer) c.deref.ensures.value c.in-Err.ensures.misreads)

@@ -1,0 +1,113 @@
+//! A stream file, played on the machine of a sound program.
+
+ghost use Rattle.std.specs.Prelude.{◌≡◌, length, string_bytes, IfOk, IfErr};
+ghost use Rattle.capture_desk.specs.Desks.{IsAllowed};
+ghost use Rattle.command_steps.specs.Desks.{CountsBy, OfInput, StopsAt, apart, seen_by};
+ghost use Rattle.command_steps.specs.Texts.{report_text};
+ghost use Rattle.dma_machine.specs.Facts.{report_of};
+ghost use Rattle.machine_model.specs.States.{first_state};
+ghost use Rattle.program_play.specs.Plays.{HasPlayed};
+ghost use Rattle.program_play.specs.Programs.{IsBadStream};
+
+use crate::play::play;
+use capture_desk::Desk;
+use command_steps::{Answer, PIECE, open, report_text};
+use dma_machine::Machine;
+use fifo_model::Fifo;
+use page_ram::{PageRam, Ram};
+use risc_verify::Accepted;
+use std::alloc::{AllocError, Global};
+
+/// A machine after its stream, the byte that filled its memory, and the text of its report.
+#[derive(Drop)]
+pub struct Played {
+    pub machine: Machine<PageRam>,
+    pub fill: u8,
+    pub report: String,
+}
+
+/// The machine of a sound program before its first step. All memory that it needs is taken here.
+fn machine_of(alloc: Global, accepted: Accepted, fill: u8) -> Result<Machine<PageRam>, AllocError>
+    ensures { IfOk result (λ machine. machine ≡ first_state accepted fill) }
+{
+    let ram = PageRam::new(alloc, accepted.program().grants(), fill)?;
+    let fifo = Fifo::new(alloc, [70, 35, 35])?;
+    Ok(Machine::new(accepted, ram, fifo))
+}
+
+/// Plays an input's stream to its end.
+fn play_input<D: Desk, R: Ram>(
+    machine: &mut Machine<R>,
+    name: &str,
+    desk: &mut D,
+    buffer: &mut [u8],
+) -> Result<(), Answer>
+    requires allowed { IsAllowed name.now (D.told desk.old).may_open }
+    requires room { length buffer.old ≡ 65536 }
+    ensures played { IfOk result (λ _. OfInput name.now (D.told desk.old).inputs (λ bytes. HasPlayed bytes machine.old machine.new)) }
+    ensures stops { IfErr result (λ answer. StopsAt IsBadStream name.now answer (seen_by D.told D.read_faults D.write_faults desk.old) (seen_by D.told D.read_faults D.write_faults desk.new)) }
+    ensures told { apart (D.told desk.new) ≡ apart (D.told desk.old) }
+    ensures counts { CountsBy result (seen_by D.told D.read_faults D.write_faults desk.old) (seen_by D.told D.read_faults D.write_faults desk.new) }
+{
+    open(name, desk)?;
+    match play(machine, desk, buffer) {
+        Ok(()) => Ok(()),
+        Err(answer) => Err(answer),
+    }
+}
+
+/// Plays an input's stream on a machine that is made for it.
+fn play_on<D: Desk>(
+    alloc: Global,
+    accepted: Accepted,
+    fill: u8,
+    stream: &str,
+    desk: &mut D,
+) -> Result<Machine<PageRam>, Answer>
+    requires { IsAllowed stream.now (D.told desk.old).may_open }
+    ensures played { IfOk result (λ machine. OfInput stream.now (D.told desk.old).inputs (λ bytes. HasPlayed bytes (first_state accepted fill) machine)) }
+    ensures stops { IfErr result (λ answer. StopsAt IsBadStream stream.now answer (seen_by D.told D.read_faults D.write_faults desk.old) (seen_by D.told D.read_faults D.write_faults desk.new)) }
+    ensures told { apart (D.told desk.new) ≡ apart (D.told desk.old) }
+    ensures counts { CountsBy result (seen_by D.told D.read_faults D.write_faults desk.old) (seen_by D.told D.read_faults D.write_faults desk.new) }
+{
+    let mut machine = match machine_of(alloc, accepted, fill) {
+        Ok(machine) => machine,
+        Err(_) => return Err(Answer::NoMemory),
+    };
+    let mut buffer = match vec![in alloc; 0; PIECE] {
+        Ok(buffer) => buffer,
+        Err(_) => return Err(Answer::NoMemory),
+    };
+    match play_input(&mut machine, stream, desk, &mut buffer) {
+        Ok(()) => Ok(machine),
+        Err(answer) => Err(answer),
+    }
+}
+
+/// Plays a whole stream file on the machine of a sound program, whose memory is filled with a byte, and
+/// makes the report. All memory is taken before the stream is opened, but for the report's text.
+pub fn play_file<D: Desk>(
+    alloc: Global,
+    accepted: Accepted,
+    fill: u8,
+    stream: &str,
+    desk: &mut D,
+) -> Result<Played, Answer>
+    requires { IsAllowed stream.now (D.told desk.old).may_open }
+    ensures played { IfOk result (λ played. OfInput stream.now (D.told desk.old).inputs (λ bytes. HasPlayed bytes (first_state accepted fill) played.machine)) }
+    ensures fill { IfOk result (λ played. played.fill ≡ fill) }
+    ensures report { IfOk result (λ played. string_bytes played.report ≡ report_text (report_of played.machine)) }
+    ensures stops { IfErr result (λ answer. StopsAt IsBadStream stream.now answer (seen_by D.told D.read_faults D.write_faults desk.old) (seen_by D.told D.read_faults D.write_faults desk.new)) }
+    ensures told { apart (D.told desk.new) ≡ apart (D.told desk.old) }
+    ensures counts { CountsBy result (seen_by D.told D.read_faults D.write_faults desk.old) (seen_by D.told D.read_faults D.write_faults desk.new) }
+{
+    let machine = play_on(alloc, accepted, fill, stream, desk)?;
+    match report_text(alloc, &machine.report()) {
+        Ok(report) => Ok(Played {
+            machine,
+            fill,
+            report,
+        }),
+        Err(_) => Err(Answer::NoMemory),
+    }
+}
