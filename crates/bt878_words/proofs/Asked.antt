@@ -1,119 +1,101 @@
 -- What words without a fault are, and the names that they give.
-use Rattle.std.proofs.Common.{◌≡◌, ℕ, true, false, Bool, List, [], ◌∷◌, length, Option, Some, None, Result, Ok, Err, refl, sym, ap, subst, ◌∙◌, arith}
-use Rattle.std.proofs.lemmas.Bool.{ne_eqb}
-use Rattle.std.specs.Prelude.{◌==◌}
+use Rattle.std.proofs.Common.{◌≡◌, ◌≢◌, ℕ, ◌||◌, true, false, Bool, List, [], ◌∷◌, length, Option, Some, None, Result, Ok, Err, refl, sym, ap, subst, ◌∙◌, arith}
+use Rattle.std.proofs.lemmas.Bool.{eqb-true}
+use Rattle.std.specs.Prelude.{◌==◌, ◌&&◌, nat_le, if◌then◌else◌}
+use Rattle.std.specs.Bool.{Decides}
+use Rattle.std.specs.Str.{bytes_eq}
+use Rattle.std.proofs.lemmas.Slice.Eq.{bytes_eq-Decides}
 use Rattle.bt878_words.specs.declared.Command.{Command}
 use Rattle.bt878_words.specs.declared.Command.TheVariants as command
 use Rattle.bt878_words.specs.declared.UsageFault.{UsageFault}
+use Rattle.bt878_words.specs.declared.UsageFault.TheVariants.{Number}
 use Rattle.bt878_words.specs.declared.Verb.{Verb}
 use Rattle.bt878_words.specs.declared.Verb.TheVariants as verb
-use Rattle.bt878_words.specs.Words.{command_of, verb_named, with_verb, of_length, unless_clash, has_clash, inputs_of, outputs_of, names_if, names_of, names_with, input_names, output_names}
+use Rattle.bt878_words.specs.Words.{command_of, command_with, verb_named, with_verb, if_built, is_built, of_length, clash_after, unless_clash, has_clash, is_among, operands, inputs_of, outputs_of, names_if, names_of, names_with, input_names, output_names, make_of, made_with, number_of}
 
--- the word of a command, and the names after it: of a program alone, or those of `run`
-record SaysProgram (v : Verb) (words : List (List ℕ)) : Type 0 where
+-- the words after the command, of which there are as many as it takes, and no output has another's name
+pub record IsFound (words : List (List ℕ)) (c : Command) : Type 0 where
   pub word : List ℕ
-  pub program : List ℕ
-  pub are : words ≡ word ∷ program ∷ []
-  pub names : verb_named word ≡ Some v
-
-record SaysRun (words : List (List ℕ)) : Type 0 where
-  pub word : List ℕ
-  pub program : List ℕ
-  pub stream : List ℕ
-  pub image : List ℕ
-  pub are : words ≡ word ∷ program ∷ stream ∷ image ∷ []
-  pub names : verb_named word ≡ Some verb.Run
-
-abbrev Says : List (List ℕ) → Command → Type 0
-Says words command.List = SaysProgram verb.List words
-Says words command.Verify = SaysProgram verb.Verify words
-Says words command.Run = SaysRun words
-Says words _ = ⊥
+  pub others : List (List ℕ)
+  pub verb : Verb
+  pub are : words ≡ word ∷ others
+  pub built : is_built verb ≡ true
+  pub many : length others ≡ operands verb
+  pub asks : command_with verb others ≡ Ok c
+  pub apart : has_clash (input_names verb others) (output_names verb others) ≡ false
+  pub opens : inputs_of words ≡ input_names verb others
+  pub creates : outputs_of words ≡ output_names verb others
 
 IsFine : Result Command UsageFault → Type 0
 IsFine (Ok c) = Unit {0}
 IsFine (Err f) = ⊥
 
-or_else : Command → Result Command UsageFault → Command
-or_else none (Ok c) = c
-or_else none (Err f) = none
-
-not_fault : (f : UsageFault) (words : List (List ℕ)) (c : Command) → Err f ≡ Ok c → Says words c
+not_fault : {P : Type 0} (f : UsageFault) (c : Command) → Err f ≡ Ok c → P
 unfolding IsFine
-not_fault f words c e = absurd (subst IsFine (sym e) tt)
+not_fault f c e = absurd (subst IsFine (sym e) tt)
 
--- the command of a word that takes one name, of an input
-record TakesProgram (v : Verb) (made : Command) : Type 0 where
-  pub makes : (program : List ℕ) → of_length true v (program ∷ []) ≡ Ok made
-  pub opens : (program : List ℕ) → input_names v (program ∷ []) ≡ program ∷ []
-  pub creates : (program : List ℕ) → output_names v (program ∷ []) ≡ []
-  pub says : (words : List (List ℕ)) → SaysProgram v words → Says words made
+unclashed : (b : Bool) (found : Result Command UsageFault) (c : Command) → unless_clash b found ≡ Ok c → (found ≡ Ok c) × (b ≡ false)
+unclashed true found c e = not_fault _ c e
+unclashed false found c e = (e, refl)
 
-says_program : (v : Verb) (made : Command) (word : List ℕ) (others : List (List ℕ)) (c : Command) → TakesProgram v made → verb_named word ≡ Some v →
-    of_length (length others == 1) v others ≡ Ok c → Says (word ∷ others) c
-unfolding or_else
-says_program v made word [] c takes names e = not_fault _ (word ∷ []) c e
-says_program v made word (program ∷ []) c takes names e =
-    subst (Says (word ∷ program ∷ [])) (ap (or_else c) (sym (takes.makes program) ∙ e))
-    (takes.says (word ∷ program ∷ []) (record { word = word; program = program; are = refl; names = names }))
-says_program v made word (program ∷ other ∷ rest) c takes names e =
-    let long : (length (program ∷ other ∷ rest) == 1) ≡ false = ne_eqb _ _ (λ is. absurd (omega arith)) in
-    not_fault _ (word ∷ program ∷ other ∷ rest) c (sym (ap (λ t. of_length t v (program ∷ other ∷ rest)) long) ∙ e)
+module _ (word : List ℕ) (others : List (List ℕ)) (c : Command) where
+  judged : (v : Verb) (found : Result Command UsageFault) → clash_after v others found ≡ Ok c →
+      (found ≡ Ok c) × (has_clash (input_names v others) (output_names v others) ≡ false)
+  judged v (Err fault) e = not_fault fault c e
+  judged v (Ok found) e = unclashed (has_clash (input_names v others) (output_names v others)) (Ok found) c e
 
-takes_list : TakesProgram verb.List command.List
-takes_list = record { makes = λ program. refl; opens = λ program. refl; creates = λ program. refl; says = λ words h. h }
+  as_many : (b : Bool) (v : Verb) → of_length b v others ≡ Ok c →
+      (b ≡ true) × (command_with v others ≡ Ok c) × (has_clash (input_names v others) (output_names v others) ≡ false)
+  as_many true v e = let j = judged v (command_with v others) e in (refl, j.0, j.1)
+  as_many false v e = not_fault _ c e
 
-takes_verify : TakesProgram verb.Verify command.Verify
-takes_verify = record { makes = λ program. refl; opens = λ program. refl; creates = λ program. refl; says = λ words h. h }
+  known : (b : Bool) (v : Verb) → if_built b v others ≡ Ok c → (b ≡ true) × (of_length (length others == operands v) v others ≡ Ok c)
+  known true v e = (refl, e)
+  known false v e = not_fault _ c e
 
-run_unless : (t : Bool) (word program stream image : List ℕ) (c : Command) → verb_named word ≡ Some verb.Run → unless_clash t (Ok command.Run) ≡ Ok c →
-    Says (word ∷ program ∷ stream ∷ image ∷ []) c
-unfolding or_else
-run_unless true word program stream image c names e = not_fault _ (word ∷ program ∷ stream ∷ image ∷ []) c e
-run_unless false word program stream image c names e =
-    subst (Says (word ∷ program ∷ stream ∷ image ∷ [])) (ap (or_else c) e)
-    (record { word = word; program = program; stream = stream; image = image; are = refl; names = names })
+  found_with : (o : Option Verb) → verb_named word ≡ o → with_verb o others ≡ Ok c → command_of (word ∷ others) ≡ Ok c → IsFound (word ∷ others) c
+  found_with None names e all = not_fault _ c e
+  found_with (Some v) names e all =
+      let k = known (is_built v) v e in
+      let m = as_many (length others == operands v) v k.1 in
+      record {
+        word = word;
+        others = others;
+        verb = v;
+        are = refl;
+        built = k.0;
+        many = eqb-true (length others) (operands v) m.0;
+        asks = m.1;
+        apart = m.2;
+        opens = ap (λ r. names_if r (names_of input_names (word ∷ others))) all ∙ ap (λ o. names_with input_names o others) names;
+        creates = ap (λ r. names_if r (names_of output_names (word ∷ others))) all ∙ ap (λ o. names_with output_names o others) names;
+      }
 
-says_run : (word : List ℕ) (others : List (List ℕ)) (c : Command) → verb_named word ≡ Some verb.Run → of_length (length others == 3) verb.Run others ≡ Ok c → Says (word ∷ others) c
-says_run word [] c names e = not_fault _ (word ∷ []) c e
-says_run word (program ∷ []) c names e = not_fault _ (word ∷ program ∷ []) c e
-says_run word (program ∷ stream ∷ []) c names e = not_fault _ (word ∷ program ∷ stream ∷ []) c e
-says_run word (program ∷ stream ∷ image ∷ []) c names e =
-    run_unless (has_clash (program ∷ stream ∷ []) (image ∷ [])) word program stream image c names e
-says_run word (program ∷ stream ∷ image ∷ more ∷ rest) c names e =
-    let long : (length (program ∷ stream ∷ image ∷ more ∷ rest) == 3) ≡ false = ne_eqb _ _ (λ is. absurd (omega arith)) in
-    not_fault _ (word ∷ program ∷ stream ∷ image ∷ more ∷ rest) c (sym (ap (λ t. of_length t verb.Run (program ∷ stream ∷ image ∷ more ∷ rest)) long) ∙ e)
+found : (words : List (List ℕ)) (c : Command) → command_of words ≡ Ok c → IsFound words c
+found [] c e = not_fault _ c e
+found (word ∷ others) c e = found_with word others c (verb_named word) refl e e
 
-says_with : (v : Option Verb) (word : List ℕ) (others : List (List ℕ)) (c : Command) → verb_named word ≡ v → with_verb v others ≡ Ok c → Says (word ∷ others) c
-says_with None word others c names e = not_fault _ (word ∷ others) c e
-says_with (Some verb.List) word others c names e = says_program verb.List command.List word others c takes_list names e
-says_with (Some verb.Verify) word others c names e = says_program verb.Verify command.Verify word others c takes_verify names e
-says_with (Some verb.Run) word others c names e = says_run word others c names e
-says_with (Some verb.Compile) word others c names e = not_fault _ (word ∷ others) c e
-says_with (Some verb.Capture) word others c names e = not_fault _ (word ∷ others) c e
-says_with (Some verb.Make) word others c names e = not_fault _ (word ∷ others) c e
-says_with (Some verb.Chain) word others c names e = not_fault _ (word ∷ others) c e
-says_with (Some verb.Damage) word others c names e = not_fault _ (word ∷ others) c e
-says_with (Some verb.Ring) word others c names e = not_fault _ (word ∷ others) c e
-says_with (Some verb.Assemble) word others c names e = not_fault _ (word ∷ others) c e
+-- ---- lists of so many
 
-said : (words : List (List ℕ)) (c : Command) → command_of words ≡ Ok c → Says words c
-said [] c e = not_fault _ [] c e
-said (word ∷ others) c e = says_with (verb_named word) word others c refl e
+one_of : (l : List (List ℕ)) → length l ≡ 1 → (a : List ℕ) × (l ≡ a ∷ [])
+one_of [] e = absurd (omega arith)
+one_of (a ∷ []) e = (a, refl)
+one_of (a ∷ b ∷ l) e = absurd (omega arith)
 
-inputs_are : (words : List (List ℕ)) (c : Command) → command_of words ≡ Ok c → inputs_of words ≡ names_of input_names words
-inputs_are words c e = ap (λ r. names_if r (names_of input_names words)) e
+two_of : (l : List (List ℕ)) → length l ≡ 2 → (a b : List ℕ) × (l ≡ a ∷ b ∷ [])
+two_of [] e = absurd (omega arith)
+two_of (a ∷ l) e = let rest = one_of l (omega arith) in (a, rest.0, ap (λ r. a ∷ r) rest.1)
 
-outputs_are : (words : List (List ℕ)) (c : Command) → command_of words ≡ Ok c → outputs_of words ≡ names_of output_names words
-outputs_are words c e = ap (λ r. names_if r (names_of output_names words)) e
+three_of : (l : List (List ℕ)) → length l ≡ 3 → (a b c : List ℕ) × (l ≡ a ∷ b ∷ c ∷ [])
+three_of [] e = absurd (omega arith)
+three_of (a ∷ l) e = let rest = two_of l (omega arith) in (a, rest.0, rest.1, ap (λ r. a ∷ r) rest.2)
 
-run_inputs : (words : List (List ℕ)) (h : SaysRun words) → command_of words ≡ Ok command.Run → inputs_of words ≡ h.program ∷ h.stream ∷ []
-run_inputs words h e = inputs_are words command.Run e ∙ ap (names_of input_names) h.are ∙ ap (λ v. names_with input_names v (h.program ∷ h.stream ∷ h.image ∷ [])) h.names
+four_of : (l : List (List ℕ)) → length l ≡ 4 → (a b c d : List ℕ) × (l ≡ a ∷ b ∷ c ∷ d ∷ [])
+four_of [] e = absurd (omega arith)
+four_of (a ∷ l) e = let rest = three_of l (omega arith) in (a, rest.0, rest.1, rest.2, ap (λ r. a ∷ r) rest.3)
 
-run_outputs : (words : List (List ℕ)) (h : SaysRun words) → command_of words ≡ Ok command.Run → outputs_of words ≡ h.image ∷ []
-run_outputs words h e = outputs_are words command.Run e ∙ ap (names_of output_names) h.are ∙ ap (λ v. names_with output_names v (h.program ∷ h.stream ∷ h.image ∷ [])) h.names
+-- ---- seen from outside: the names in the words
 
--- seen from outside
 pub record AsksProgram (words : List (List ℕ)) : Type 0 where
   pub word : List ℕ
   pub program : List ℕ
@@ -130,47 +112,175 @@ pub record AsksRun (words : List (List ℕ)) : Type 0 where
   pub opens : inputs_of words ≡ program ∷ stream ∷ []
   pub creates : outputs_of words ≡ image ∷ []
 
+pub record AsksCompile (words : List (List ℕ)) : Type 0 where
+  pub word : List ℕ
+  pub desc : List ℕ
+  pub program : List ℕ
+  pub are : words ≡ word ∷ desc ∷ program ∷ []
+  pub opens : inputs_of words ≡ desc ∷ []
+  pub creates : outputs_of words ≡ program ∷ []
+
+-- no output has the name of another
+pub record AsksCapture (words : List (List ℕ)) : Type 0 where
+  pub word : List ℕ
+  pub desc : List ℕ
+  pub stream : List ℕ
+  pub program : List ℕ
+  pub image : List ℕ
+  pub are : words ≡ word ∷ desc ∷ stream ∷ program ∷ image ∷ []
+  pub opens : inputs_of words ≡ desc ∷ stream ∷ []
+  pub creates : outputs_of words ≡ program ∷ image ∷ []
+  pub apart : program ≢ image
+
+pub record AsksMake (words : List (List ℕ)) : Type 0 where
+  pub word : List ℕ
+  pub desc : List ℕ
+  pub seed : List ℕ
+  pub frames : List ℕ
+  pub stream : List ℕ
+  pub are : words ≡ word ∷ desc ∷ seed ∷ frames ∷ stream ∷ []
+  pub opens : inputs_of words ≡ desc ∷ []
+  pub creates : outputs_of words ≡ stream ∷ []
+
 abbrev pub Asks : List (List ℕ) → Command → Type 0
 Asks words command.List = AsksProgram words
 Asks words command.Verify = AsksProgram words
 Asks words command.Run = AsksRun words
+Asks words command.Compile = AsksCompile words
+Asks words command.Capture = AsksCapture words
+Asks words (command.Make seed frames) = AsksMake words
 Asks words _ = ⊥
 
-asks_program : (v : Verb) (c : Command) (words : List (List ℕ)) → TakesProgram v c → command_of words ≡ Ok c → SaysProgram v words → AsksProgram words
-asks_program v c words takes e h =
-    record {
-      word = h.word;
-      program = h.program;
-      are = h.are;
-      opens =
-          inputs_are words c e ∙ ap (names_of input_names) h.are ∙ ap (λ w. names_with input_names w (h.program ∷ [])) h.names
-          ∙ takes.opens h.program;
-      creates =
-          outputs_are words c e ∙ ap (names_of output_names) h.are ∙ ap (λ w. names_with output_names w (h.program ∷ [])) h.names
-          ∙ takes.creates h.program;
-    }
+-- two outputs that clash with nothing have different names
+or_false : (a b : Bool) → (a || b) ≡ false → (a ≡ false) × (b ≡ false)
+or_false true b e = absurd (cc)
+or_false false b e = (refl, e)
 
-asks_by : (c : Command) (words : List (List ℕ)) → command_of words ≡ Ok c → Says words c → Asks words c
-asks_by command.List words e h = asks_program verb.List command.List words takes_list e h
-asks_by command.Verify words e h = asks_program verb.Verify command.Verify words takes_verify e h
-asks_by command.Run words e h =
-    record {
-      word = h.word;
-      program = h.program;
-      stream = h.stream;
-      image = h.image;
-      are = h.are;
-      opens = run_inputs words h e;
-      creates = run_outputs words h e;
-    }
-asks_by command.Compile words e h = h
-asks_by command.Capture words e h = h
-asks_by (command.Make seed frames) words e h = h
-asks_by command.Chain words e h = h
-asks_by command.Damage words e h = h
-asks_by command.Ring words e h = h
-asks_by command.Assemble words e h = h
+same_name : (name : List ℕ) → bytes_eq name name ≡ true
+same_name name = of_decides (bytes_eq name name) (bytes_eq-Decides name name)
+  where
+    of_decides : (b : Bool) → Decides b (name ≡ name) → b ≡ true
+    of_decides true d = refl
+    of_decides false d = d.1 refl
+
+among_itself : (name : List ℕ) → is_among name (name ∷ []) ≡ true
+among_itself name = ap (λ t. t || false) (same_name name)
+
+unlike : (taken : List (List ℕ)) (a b : List ℕ) → has_clash taken (a ∷ b ∷ []) ≡ false → a ≢ b
+unlike taken a b e same =
+    let none = or_false (is_among a taken) (is_among a (b ∷ [])) (or_false (is_among a taken || is_among a (b ∷ [])) (has_clash taken (b ∷ [])) e).0 in
+    let there : is_among a (b ∷ []) ≡ true = subst (λ other. is_among a (other ∷ []) ≡ true) same (among_itself a) in
+    absurd (cc)
+
+or_made : Command → Result Command UsageFault → Command
+or_made made (Ok found) = found
+or_made made (Err fault) = made
+
+abbrev fine : Command → Result Command UsageFault
+fine c = Ok c
+
+is_command : (words : List (List ℕ)) (c made : Command) → fine made ≡ fine c → Asks words made → Asks words c
+unfolding or_made
+is_command words c made e a = subst (Asks words) {x = made} {y = c} (ap (or_made made) e) a
+
+asks_by : (v : Verb) (words : List (List ℕ)) (c : Command) (h : IsFound words c) → h.verb ≡ v → Asks words c
+asks_by v words c h e = of_verb v e (subst (λ w. is_built w ≡ true) e h.built) (subst (λ w. length h.others ≡ operands w) e h.many)
+    (subst (λ w. command_with w h.others ≡ Ok c) e h.asks)
+  where
+    opens_as : (v : Verb) → h.verb ≡ v → (others : List (List ℕ)) → h.others ≡ others → inputs_of words ≡ input_names v others
+    opens_as v e others f = h.opens ∙ ap (λ w. input_names w h.others) e ∙ ap (input_names v) f
+
+    creates_as : (v : Verb) → h.verb ≡ v → (others : List (List ℕ)) → h.others ≡ others → outputs_of words ≡ output_names v others
+    creates_as v e others f = h.creates ∙ ap (λ w. output_names w h.others) e ∙ ap (output_names v) f
+
+    are_as : (others : List (List ℕ)) → h.others ≡ others → words ≡ h.word ∷ others
+    are_as others f = h.are ∙ ap (λ o. h.word ∷ o) f
+
+    made_by : (a b : Option ℕ) → made_with a b ≡ Ok c → AsksMake words → Asks words c
+    made_by None b e a = not_fault _ c e
+    made_by (Some seed) None e a = not_fault _ c e
+    made_by (Some seed) (Some frames) e a = of_frames (nat_le 1 frames && nat_le frames 16) e
+      where
+        of_frames : (t : Bool) → (if t then Ok (command.Make seed frames) else Err Number) ≡ Ok c → Asks words c
+        of_frames true e = is_command words c (command.Make seed frames) e a
+        of_frames false e = not_fault _ c e
+
+    one_program : (v : Verb) → h.verb ≡ v → length h.others ≡ 1 → ((name : List ℕ) → input_names v (name ∷ []) ≡ name ∷ []) → ((name : List ℕ) → output_names v (name ∷ []) ≡ []) → AsksProgram words
+    one_program v e many ins outs =
+        let o = one_of h.others many in
+        record {
+          word = h.word;
+          program = o.0;
+          are = are_as (o.0 ∷ []) o.1;
+          opens = opens_as v e (o.0 ∷ []) o.1 ∙ ins o.0;
+          creates = creates_as v e (o.0 ∷ []) o.1 ∙ outs o.0;
+        }
+
+    of_verb : (v : Verb) → h.verb ≡ v → is_built v ≡ true → length h.others ≡ operands v → command_with v h.others ≡ Ok c → Asks words c
+    of_verb verb.List e built many asks = is_command words c command.List asks (one_program verb.List e many (λ name. refl) (λ name. refl))
+    of_verb verb.Verify e built many asks = is_command words c command.Verify asks (one_program verb.Verify e many (λ name. refl) (λ name. refl))
+    of_verb verb.Run e built many asks =
+        let o = three_of h.others many in
+        let l : List (List ℕ) = o.0 ∷ o.1 ∷ o.2 ∷ [] in
+        is_command words c command.Run asks
+        (record {
+          word = h.word;
+          program = o.0;
+          stream = o.1;
+          image = o.2;
+          are = are_as l o.3;
+          opens = opens_as verb.Run e l o.3;
+          creates = creates_as verb.Run e l o.3;
+        })
+    of_verb verb.Compile e built many asks =
+        let o = two_of h.others many in
+        let l : List (List ℕ) = o.0 ∷ o.1 ∷ [] in
+        is_command words c command.Compile asks
+        (record {
+          word = h.word;
+          desc = o.0;
+          program = o.1;
+          are = are_as l o.2;
+          opens = opens_as verb.Compile e l o.2;
+          creates = creates_as verb.Compile e l o.2;
+        })
+    of_verb verb.Capture e built many asks =
+        let o = four_of h.others many in
+        let l : List (List ℕ) = o.0 ∷ o.1 ∷ o.2 ∷ o.3 ∷ [] in
+        let apart : has_clash (input_names verb.Capture l) (output_names verb.Capture l) ≡ false =
+        subst (λ others. has_clash (input_names verb.Capture others) (output_names verb.Capture others) ≡ false) o.4
+        (subst (λ w. has_clash (input_names w h.others) (output_names w h.others) ≡ false) e h.apart) in
+        is_command words c command.Capture asks
+        (record {
+          word = h.word;
+          desc = o.0;
+          stream = o.1;
+          program = o.2;
+          image = o.3;
+          are = are_as l o.4;
+          opens = opens_as verb.Capture e l o.4;
+          creates = creates_as verb.Capture e l o.4;
+          apart = unlike (o.0 ∷ o.1 ∷ []) o.2 o.3 apart;
+        })
+    of_verb verb.Make e built many asks =
+        let o = four_of h.others many in
+        let l : List (List ℕ) = o.0 ∷ o.1 ∷ o.2 ∷ o.3 ∷ [] in
+        made_by (number_of o.1) (number_of o.2) (subst (λ others. make_of others ≡ Ok c) o.4 asks)
+        (record {
+          word = h.word;
+          desc = o.0;
+          seed = o.1;
+          frames = o.2;
+          stream = o.3;
+          are = are_as l o.4;
+          opens = opens_as verb.Make e l o.4;
+          creates = creates_as verb.Make e l o.4;
+        })
+    of_verb verb.Chain e built many asks = absurd (cc)
+    of_verb verb.Damage e built many asks = absurd (cc)
+    of_verb verb.Ring e built many asks = absurd (cc)
+    of_verb verb.Assemble e built many asks = absurd (cc)
 
 -- words without a fault are those of a command that this version has
 pub asked : (words : List (List ℕ)) (c : Command) → command_of words ≡ Ok c → Asks words c
-asked words c e = asks_by c words e (said words c e)
+asked words c e = let h = found words c e in asks_by h.verb words c h refl

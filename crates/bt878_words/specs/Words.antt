@@ -29,6 +29,9 @@ abbrev pub is_built : Verb → Bool
 is_built verb.List = true
 is_built verb.Verify = true
 is_built verb.Run = true
+is_built verb.Compile = true
+is_built verb.Capture = true
+is_built verb.Make = true
 is_built _ = false
 
 -- how many words follow the first, how many of these, from the front, are inputs, and how many, at the end, are

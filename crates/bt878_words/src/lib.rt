@@ -83,7 +83,8 @@ impl Verb {
     {
         match self {
             Verb::List | Verb::Verify | Verb::Run => true,
-            _ => false,
+            Verb::Compile | Verb::Capture | Verb::Make => true,
+            Verb::Chain | Verb::Damage | Verb::Ring | Verb::Assemble => false,
         }
     }
 
@@ -250,6 +251,14 @@ mod tests {
         assert_eq!(rt; read_words(&["run", "a", "a", "b"]), Ok(Command::Run));
         assert_eq!(rt; read_words(&["verify", "a"]), Ok(Command::Verify));
         assert_eq!(rt; read_words(&["list", "a"]), Ok(Command::List));
+        assert_eq!(rt; read_words(&["compile", "d", "p"]), Ok(Command::Compile));
+        assert_eq!(rt; read_words(&["capture", "d", "s", "p", "p"]), Err(UsageFault::SameName));
+        assert_eq!(rt; read_words(&["capture", "d", "s", "p", "i"]), Ok(Command::Capture));
+        assert_eq!(rt; read_words(&["make", "d", "01", "1", "s"]), Err(UsageFault::Number));
+        assert_eq!(rt;
+            read_words(&["make", "d", "1", "16", "s"]),
+            Ok(Command::Make { seed: 1, frames: 16 })
+        );
     }
 
     #[test]

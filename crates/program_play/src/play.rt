@@ -125,7 +125,7 @@ fn hand_all<D: Desk, R: Ram>(
             Err(_) => return Err(Answer::ReadFault),
         };
         if count == 0 {
-            break;
+            return Ok(());
         }
         if let Err(fault) = hand_piece(machine, reader, &buffer[..count]) {
             return Err(Answer::Malformed(Input::Stream, fault));
