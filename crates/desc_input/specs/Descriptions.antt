@@ -46,10 +46,12 @@ pub record Describes (bytes : List ℕ) (d : Desc) : Type 0 where
 abbrev pub HoldsValid : List ℕ → Type 0
 HoldsValid bytes = (d : Desc) × Describes bytes d
 
--- why a file isn't, where it was read; want of memory is free
+-- why a file that isn't too long holds none; want of memory is free
 abbrev pub IsRefused : List ℕ → Answer → Type 0
 IsRefused bytes NoMemory = ⊤
-IsRefused bytes answer = description_of bytes ≡ Err answer
+IsRefused bytes (BadDesc fault) = description_of bytes ≡ Err (BadDesc fault)
+IsRefused bytes (BadGeometry fault) = description_of bytes ≡ Err (BadGeometry fault)
+IsRefused bytes _ = ⊥
 
 -- an input isn't that of a valid description
 abbrev pub IsBadDesc : List ℕ → Answer → Option Inputs → Type 0
