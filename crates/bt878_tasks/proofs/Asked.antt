@@ -1,5 +1,5 @@
 -- What words without a fault ask for: a task, whose names are those that the words give.
-use Rattle.std.proofs.Common.{◌≡◌, ◌≢◌, ℕ, false, List, [], ◌∷◌, Result, Ok, Err, refl, ap, ◌∙◌}
+use Rattle.std.proofs.Common.{◌≡◌, ◌≢◌, ℕ, List, [], ◌∷◌, Ok, refl, ap, ◌∙◌}
 use Rattle.bt878_words.specs.declared.Command.{Command}
 use Rattle.bt878_words.specs.declared.Command.TheVariants as command
 use Rattle.bt878_words.specs.Words.{command_of, inputs_of, outputs_of}
@@ -58,9 +58,34 @@ asked_by command.Run words e h =
       outputs = h.creates;
       distinct = one_apart h.image;
     }
-asked_by command.Compile words e h = absurd h
-asked_by command.Capture words e h = absurd h
-asked_by (command.Make seed frames) words e h = absurd h
+asked_by command.Compile words e h =
+    record {
+      task = Compiles h.desc h.program;
+      is = asks_for words (h.word ∷ h.desc ∷ h.program ∷ []) command.Compile (Compiles h.desc h.program) e h.are refl;
+      inputs = h.opens;
+      outputs = h.creates;
+      distinct = one_apart h.program;
+    }
+asked_by command.Capture words e h =
+    record {
+      task = Captures h.desc h.stream h.program h.image;
+      is =
+          asks_for words (h.word ∷ h.desc ∷ h.stream ∷ h.program ∷ h.image ∷ []) command.Capture (Captures h.desc h.stream h.program h.image) e
+          h.are refl;
+      inputs = h.opens;
+      outputs = h.creates;
+      distinct = two_apart h.program h.image h.apart;
+    }
+asked_by (command.Make seed frames) words e h =
+    record {
+      task = Generates h.desc seed frames h.stream;
+      is =
+          asks_for words (h.word ∷ h.desc ∷ h.seed ∷ h.frames ∷ h.stream ∷ []) (command.Make seed frames) (Generates h.desc seed frames h.stream) e
+          h.are refl;
+      inputs = h.opens;
+      outputs = h.creates;
+      distinct = one_apart h.stream;
+    }
 asked_by command.Chain words e h = absurd h
 asked_by command.Damage words e h = absurd h
 asked_by command.Ring words e h = absurd h

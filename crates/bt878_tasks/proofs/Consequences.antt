@@ -1,9 +1,9 @@
 -- What the top call promises, said one by one, follows from its one exact clause.
-use Rattle.std.proofs.Common.{◌≡◌, ℕ, ◌⊎◌, inl, inr, true, false, List, [], ◌∷◌, Option, Some, None, Result, Ok, Err, All, refl, sym, ap, subst, ◌∙◌}
+use Rattle.std.proofs.Common.{◌≡◌, ℕ, ◌⊎◌, inl, inr, true, false, List, [], ◌∷◌, Option, Result, Ok, Err, All, refl, sym, ap, subst, ◌∙◌}
 use Rattle.bt878_words.specs.declared.Command.{Command}
 use Rattle.bt878_words.specs.declared.UsageFault.{UsageFault}
 use Rattle.bt878_words.specs.Words.{command_of, inputs_of, outputs_of}
-use Rattle.capture_desk.specs.Desks.{Inputs, Outputs, Told, is_among, is_missing}
+use Rattle.capture_desk.specs.Desks.{Inputs, is_among}
 use Rattle.capture_desc.specs.declared.desc.Desc.{Desc}
 use Rattle.machine_model.specs.Paths.{RiscProgram, IsSound}
 use Rattle.machine_model.specs.Safety.{IsStep}
@@ -12,21 +12,20 @@ use Rattle.machine_model.specs.Steps as machine
 use Rattle.capture_file.specs.declared.program.ProgramFile.{ProgramFile}
 use Rattle.capture_file.specs.Programs.{program_of, spelled}
 use Rattle.capture_file.specs.Streams.{steps_of, steps_run}
-use Rattle.capture_file.specs.Images.{image_of}
 use Rattle.picture_model.specs.Programs.{compiled}
 use Rattle.field_stream.specs.Made.{made, made_entries, made_fields}
 use Rattle.dma_machine.specs.Facts.{report_of}
 use Rattle.risc_listing.specs.Listings.{listing}
 use Rattle.command_steps.specs.declared.answer.Answer.{Answer}
 use Rattle.command_steps.specs.declared.answer.Answer.TheVariants.{Done, Usage, ReadFault, WriteFault, NoMemory}
-use Rattle.command_steps.specs.Desks.{Seen, Product, OfInput, SameCounts, ReadsRose, WritesRose, IsUnread, StopsAt, apart, delivered}
-use Rattle.command_steps.specs.Texts.{accepted_text, answer_text, made_text, report_text}
+use Rattle.command_steps.specs.Desks.{Seen, Product, OfInput, SameCounts, ReadsRose, WritesRose, StopsAt, apart, delivered}
+use Rattle.command_steps.specs.Texts.{answer_text, made_text, report_text}
 use Rattle.program_play.specs.Plays.{longest_stream}
-use Rattle.program_play.specs.Programs.{GivesSound, HoldsProgram, HoldsSound, IsBadFile, IsBadProgram, IsListed, IsRun, OfRun, Ran, first_of, last_of}
+use Rattle.program_play.specs.Programs.{GivesSound, HoldsProgram, HoldsSound, IsBadFile, IsBadProgram, IsListed, Ran, last_of}
 use Rattle.program_play.proofs.Fitting.{steps_fit}
 use Rattle.program_play.proofs.Loading.{OfInput-map}
 use Rattle.desc_input.specs.Descriptions.{GivesCompiled, HoldsValid, IsBadDesc}
-use Rattle.bt878_tasks.specs.Tasks.{Task, Lists, Verifies, Runs, Compiles, Captures, Generates, Answers, DescMakes, Ends, IsDone, IsPartDone, Makes, RunMakes, Stops, StopsAtRun, compiled_text, creates, image_file, names_of, program_file, task_of, task_with}
+use Rattle.bt878_tasks.specs.Tasks.{Task, Lists, Verifies, Runs, Compiles, Captures, Generates, Answers, DescMakes, Ends, IsDone, IsPartDone, Makes, RunMakes, Stops, StopsAtRun, compiled_text, creates, image_file, program_file, task_of, task_with}
 use Rattle.bt878_tasks.specs.Clauses.{AreTold, CreatesNone, ImageAndReport, IsBadInput, IsCompiled, IsCut, IsGenerated, IsGood, IsOutput, IsRefusal, IsSoundAt, IsUnreadOf, IsUsage, OfDesc, OfRan, OfSteps, OnlyOutputs, OnlySays, SameNames, SameOutput, SaysAccepted, SaysAll, SaysListing, ShowsLast, StandsAt, StaysInside, TellsInput, UnlessCut, WritesProgram}
 use Rattle.bt878_tasks.proofs.Asked.{IsAsked, is_asked, opens}
 use Rattle.bt878_tasks.proofs.Inputs.{OfRun-map, run_file, run_stream}
@@ -63,7 +62,7 @@ pub done_counts : (r : Result Task UsageFault) (answer : Answer) (old new : Seen
 done_counts (Err fault) answer old new h e = let usage = h.0 in absurd (cc)
 done_counts (Ok task) answer old new h e = (done_by task answer old new h e).counts
 
--- what is made where two files are run over, and where a description is
+-- what follows of what `run` and `capture` make, over the stream's steps
 module _ (Q : Ran → Type 0) (f : (files : List (List ℕ × List ℕ)) (product : Product) (stream : List ℕ) (r : Ran) → steps_of longest_stream false stream ≡ Ok r.steps → RunMakes files product r → Q r) where
   ran_by : (r : Result Task UsageFault) (answer : Answer) (old new : Seen) → Answers r answer old new → answer ≡ Done → OfRan r old.told.inputs Q
   ran_by (Ok (Runs program stream image)) answer old new h e =
@@ -93,7 +92,7 @@ pub done_sound : (r : Result Task UsageFault) (answer : Answer) (old new : Seen)
 done_sound (Ok (Verifies program)) answer old new h e = (done_by (Verifies program) answer old new h e).made.0
 done_sound r answer old new h e = done_ran (λ ran. IsSound ran.program) (λ files product ran m. m.sound) r answer old new h e
 
--- its files and its text are there
+-- its files and its text are there, and nothing else is created
 module _ (task : Task) (old new : Seen) (d : IsDone task old new) where
   its_text : SaysAll d.product.text old.told new.told
   its_text = all_said d.product.files d.product.text old.told new.told d.left
@@ -123,7 +122,7 @@ module _ (task : Task) (old new : Seen) (d : IsDone task old new) where
       ))
       made
 
--- at Done, of words
+-- what follows of words at Done, whose outputs have different names
 at_done : (P : Result Task UsageFault → Type 0) (words : List (List ℕ)) (answer : Answer) (old new : Seen) → Answers (task_of words) answer old new → answer ≡ Done →
     ((task : Task) → AreApart (creates task) → IsDone task old new → P (Ok task)) → P (task_of words)
 at_done P words answer old new h e f =

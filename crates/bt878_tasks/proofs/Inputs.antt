@@ -1,5 +1,5 @@
 -- What follows of an input that the desk tells, and of a run over two.
-use Rattle.std.proofs.Common.{◌≡◌, ℕ, ◌⊎◌, inl, inr, true, false, Bool, List, Option, Some, None, refl}
+use Rattle.std.proofs.Common.{◌≡◌, ℕ, inl, inr, true, false, Bool, List, Option, Some, None, refl}
 use Rattle.capture_desk.specs.Desks.{Inputs, is_missing, named}
 use Rattle.machine_model.specs.Paths.{RiscProgram}
 use Rattle.command_steps.specs.declared.answer.Answer.TheVariants.{ReadFault}

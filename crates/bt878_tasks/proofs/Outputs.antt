@@ -1,5 +1,5 @@
 -- Files that are written and a text that is said, whole or in part, and what is left as it was.
-use Rattle.std.proofs.Common.{◌≡◌, ◌≢◌, ℕ, ◌≤◌, ◌⊎◌, inl, inr, true, false, Bool, ◌||◌, List, [], ◌∷◌, ◌++◌, length, take, Option, Some, None, option_map, refl, sym, ap, subst, ◌∙◌}
+use Rattle.std.proofs.Common.{◌≡◌, ◌≢◌, ℕ, inl, inr, true, false, Bool, ◌||◌, List, [], ◌∷◌, ◌++◌, take, Option, Some, None, option_map, refl, sym, ap, subst, ◌∙◌}
 use Rattle.std.specs.Prelude.{⊤}
 use Rattle.std.specs.Str.{bytes_eq}
 use Rattle.std.proofs.lemmas.Slice.Eq.{bytes_eq-Decides}
@@ -7,7 +7,7 @@ use Rattle.capture_desk.specs.Desks.{Outputs, Told, is_among, output_named, crea
 use Rattle.capture_desk.proofs.Outputs.{output_created, output_created_other, output_appended, output_appended_other}
 use Rattle.command_steps.specs.Desks.{Seen, Says, IsPart, after_file, apart, delivered}
 use Rattle.bt878_tasks.specs.Tasks.{names_of}
-use Rattle.bt878_tasks.specs.Clauses.{CreatesNone, IsCutOff, IsOutput, OnlySays, SameNames, SameOutput, SameOutputs, SaysAll, SaysPart}
+use Rattle.bt878_tasks.specs.Clauses.{CreatesNone, IsCutOff, IsOutput, OnlySays, SameNames, SameOutput, SameOutputs, SaysAll}
 
 -- ---- names
 
