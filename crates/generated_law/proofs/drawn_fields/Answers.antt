@@ -1,0 +1,8 @@
+use Rattle.generated_law.proofs.Fields.{brings_picture, draws_picture}
+use Rattle.generated_law.proofs.drawn_fields.Goals as goal
+
+pub returns-clause-pictured : goal.returns-clause-pictured
+returns-clause-pictured c = draws_picture
+
+pub returns-clause-brought : goal.returns-clause-brought
+returns-clause-brought c = brings_picture
