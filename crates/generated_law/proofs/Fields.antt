@@ -28,7 +28,7 @@ use Rattle.generated_law.proofs.Whole.{AreBytes}
 use Rattle.generated_law.proofs.Repeated.{AreDrawn, brings-append, lines_drawn, nothing_drawn, rows_drawn}
 use Rattle.generated_law.proofs.Cutting.{bytes_in, bytes_in-append, bytes_in-lines, bytes_in-vbi, carried-brings, cut-concat, drop_both, length-concat}
 
-repeated-add : (a b : ℕ) (pushes : List Push) → repeated (a + b) pushes ≡ repeated a pushes ++ repeated b pushes
+pub repeated-add : (a b : ℕ) (pushes : List Push) → repeated (a + b) pushes ≡ repeated a pushes ++ repeated b pushes
 repeated-add zero b pushes = let none : 0 + b ≡ b = omega arith in ap (λ (n : ℕ). repeated n pushes) none
 repeated-add (suc a) b pushes =
     let more : suc a + b ≡ suc (a + b) = omega arith in

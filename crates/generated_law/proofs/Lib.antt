@@ -5,3 +5,5 @@ pub mod Rows
 pub mod Repeated
 pub mod Cutting
 pub mod Fields
+pub mod Steps
+pub mod Streams
