@@ -5,5 +5,10 @@ pub mod Rows
 pub mod Repeated
 pub mod Cutting
 pub mod Fields
+pub mod Bytes
 pub mod Steps
 pub mod Streams
+pub mod Few
+pub mod Reading
+pub mod ReadBack
+pub mod Worked

@@ -143,17 +143,25 @@ module _ (d : Desc) (seed frames frame : ℕ) (field : Parity) (has : HasField d
     rest : List Entry
     same : coming (between (place_of d frame field) l (stream_steps d seed frames)) q ≡ drawn_entries d field number q ++ rest
 
+  -- from the place of the field on stand its steps and those behind it
+  from_here : (l : ℕ) → between (place_of d frame field) l (stream_steps d seed frames) ≡ take (l - place_of d frame field) (steps_of ++ steps_behind)
+  from_here l =
+      let place = place_of d frame field in
+      let long = steps_long (first_number seed) (pushes_before d frame field) in
+      let there = from_place steps_before (steps_of ++ steps_behind) place l long in
+      ap (between place l) stream_parts ∙ there
+
   comes_to : (q : Queue) (l : ℕ) → place_behind d frame field ≤ l + 16 → ComesTo q l
   comes_to q l enough =
       let place = place_of d frame field in
       let long = steps_long number (field_pushes d field) in
-      let found = comes q steps_of (l - place) steps_behind (ends_in_turns number (Mark (vertical field)) (vbi_pushes d.vbi_lines d.vbi_bytes ++ picture_pushes d field)) (omega arith) in
-      record {
-        rest = found.rest;
-        same = ap (λ (steps : List Step). coming (between place l steps) q) stream_parts
-            ∙ ap (λ (steps : List Step). coming steps q) (from_place steps_before (steps_of ++ steps_behind) place l (steps_long (first_number seed) (pushes_before d frame field)))
-            ∙ found.same;
-      }
+      let ends = ends_in_turns number (Mark (vertical field)) (vbi_pushes d.vbi_lines d.vbi_bytes ++ picture_pushes d field) in
+      let found = comes q steps_of (l - place) steps_behind ends (omega arith) in
+      record { rest = found.rest; same = whole found.rest found.same }
+    where
+      whole : (rest : List Entry) → coming (take (l - place_of d frame field) (steps_of ++ steps_behind)) q ≡ drawn_entries d field number q ++ rest →
+          coming (between (place_of d frame field) l (stream_steps d seed frames)) q ≡ drawn_entries d field number q ++ rest
+      whole rest same = ap (λ (steps : List Step). coming steps q) (from_here l) ∙ same
 
   module _ (m : State) (j l : ℕ) (late : place_of d frame field ≤ j) (on : j ≤ l) (enough : place_behind d frame field ≤ l + 16)
       (awaits : Awaits d field m (between (place_of d frame field) j (stream_steps d seed frames))) where

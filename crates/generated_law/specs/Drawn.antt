@@ -1,5 +1,5 @@
 -- The steps that drawn pushes stand for, and the picture that the generator draws for a field.
-use Rattle.std.specs.Prelude.{ℕ, zero, suc, ◌+◌, ◌*◌, List, [], ◌∷◌, ◌++◌, take, drop, replicate}
+use Rattle.std.specs.Prelude.{◌≡◌, ℕ, zero, suc, ◌+◌, ◌*◌, List, [], ◌∷◌, ◌++◌, take, drop, replicate}
 use Rattle.byteorder.specs.Endian.{little_number}
 use Rattle.sync_status.specs.Statuses.{valid_bytes}
 use Rattle.fifo_model.specs.declared.Entry.{Entry}
@@ -11,7 +11,7 @@ use Rattle.machine_model.specs.Steps.{Step, Control, Turn}
 use Rattle.capture_desc.specs.declared.desc.Desc.{Desc}
 use Rattle.picture_model.specs.Described.{IsDescription, field_height, plane_row_bytes, vbi_size}
 use Rattle.picture_model.specs.Geometry.{IsFrame}
-use Rattle.field_stream.specs.Generator.{lanes}
+use Rattle.field_stream.specs.Generator.{drawn, lanes}
 use Rattle.field_stream.specs.Pushes.{Push, Mark, Fill, field_pushes}
 use Rattle.field_stream.specs.Made.{after}
 use Rattle.field_law.specs.Fields.{carried}
@@ -68,10 +68,25 @@ drawn_picture d field number =
       three = rows_drawn d field number Three;
     }
 
--- it is a picture of the field, whose entries bring it
+-- the picture is one of the field, whose entries bring it
 abbrev pub DrawsPicture : Type 0
 DrawsPicture = (d : Desc) (field : Parity) (number : ℕ) → IsDescription d → IsFrame d → IsPicture d field (drawn_picture d field number)
 
 abbrev pub BringsPicture : Type 0
 BringsPicture = (d : Desc) (field : Parity) (number : ℕ) → IsDescription d → IsFrame d →
     IsField d field (drawn_picture d field number) (drawn_entries d field number)
+
+-- the data entries of steps, whatever their queue, and how many bytes are drawn for pushes
+abbrev pub data_in : List Step → List Entry
+data_in [] = []
+data_in (machine.Push queue entry ∷ steps) = entry ∷ data_in steps
+data_in (_ ∷ steps) = data_in steps
+
+abbrev pub drawn_count : List Push → ℕ
+drawn_count [] = 0
+drawn_count (Mark code ∷ rest) = drawn_count rest
+drawn_count (Fill queue status ∷ rest) = valid_bytes status + drawn_count rest
+
+-- in the order of their pushes, the valid lanes of all entries have just the bytes that are drawn one after another
+abbrev pub CarriesDrawn : Type 0
+CarriesDrawn = (number : ℕ) (pushes : List Push) → carried (data_in (drawn_steps number pushes)) ≡ drawn number (drawn_count pushes)
