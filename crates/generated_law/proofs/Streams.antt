@@ -1,7 +1,7 @@
 -- The fields of a stream, and their arrival.
 use Rattle.std.proofs.Common.{◌≡◌, ℕ, suc, ◌+◌, ◌-◌, ◌*◌, ◌<◌, ◌≤◌, true, List, [], ◌∷◌, ◌++◌, length, take, drop, replicate, refl, sym, ap, ◌∙◌, subst, arith, length-append}
 use Rattle.std.specs.List.{flat_map}
-use Rattle.std.proofs.Math.Seq.{take-append-add, drop-append_seam}
+use Rattle.std.proofs.Math.Seq.{take-append-add, take-append_seam, drop-append_seam}
 use Rattle.std.proofs.lemmas.List.{append_assoc, append-nil}
 use Rattle.std.proofs.lemmas.List.Concat.{flat_map-append}
 use Rattle.fifo_model.specs.declared.Entry.{Entry}
@@ -25,7 +25,7 @@ use Rattle.picture_law.specs.Runs.{between, state_of}
 use Rattle.picture_law.proofs.Between.{between_both}
 use Rattle.picture_law.proofs.Places.{run_shows_picture}
 use Rattle.generated_law.specs.Drawn.{drawn_entries, drawn_step, drawn_steps, number_behind}
-use Rattle.generated_law.specs.Streams.{Awaits, FieldsArrive, FieldsAreSignalled, HasField, PicturesAreShown, fields_before, place_behind, place_of, pushes_before, stream_picture, stream_steps}
+use Rattle.generated_law.specs.Streams.{Awaits, FieldsArrive, FieldsAreSignalled, FieldsStand, HasField, PicturesAreShown, fields_before, place_behind, place_of, pushes_before, stream_picture, stream_steps}
 use Rattle.generated_law.proofs.Statuses.{coming-append, drawn_steps-append}
 use Rattle.generated_law.proofs.Fields.{brings_picture, draws_picture, repeated-add}
 use Rattle.generated_law.proofs.Steps.{steps_made, stream_data}
@@ -151,6 +151,14 @@ module _ (d : Desc) (seed frames frame : ℕ) (field : Parity) (has : HasField d
       let there = from_place steps_before (steps_of ++ steps_behind) place l long in
       ap (between place l) stream_parts ∙ there
 
+  stands_there : between (place_of d frame field) (place_behind d frame field) (stream_steps d seed frames) ≡ steps_of
+  stands_there =
+      let long = steps_long number (field_pushes d field) in
+      let many : place_behind d frame field - place_of d frame field ≡ length steps_of = omega arith in
+      from_here (place_behind d frame field)
+      ∙ ap (λ (n : ℕ). take n (steps_of ++ steps_behind)) many
+      ∙ take-append_seam steps_of steps_behind
+
   comes_to : (q : Queue) (l : ℕ) → place_behind d frame field ≤ l + 16 → ComesTo q l
   comes_to q l enough =
       let place = place_of d frame field in
@@ -194,6 +202,9 @@ module _ (d : Desc) (seed frames frame : ℕ) (field : Parity) (has : HasField d
           unmarked = awaits.unmarked;
           brought = brings_picture d field number has.description (IsValid-IsFrame d has.valid);
         }
+
+pub fields_stand : FieldsStand
+fields_stand = stands_there
 
 pub fields_arrive : FieldsArrive
 fields_arrive d seed frames frame field m j l has late on enough awaits kept = arrival d seed frames frame field has m j l late on enough awaits kept

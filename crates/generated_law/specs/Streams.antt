@@ -65,6 +65,12 @@ pub record HasField (d : Desc) (frames frame : ℕ) (field : Parity) : Type 0 wh
   pub described : describes d.fields field ≡ true
   pub within : frame < frames
 
+-- the steps from the one place to the other are those of its pushes
+abbrev pub FieldsStand : Type 0
+FieldsStand = (d : Desc) (seed frames frame : ℕ) (field : Parity) → HasField d frames frame field →
+    between (place_of d frame field) (place_behind d frame field) (stream_steps d seed frames)
+    ≡ drawn_steps (number_behind (first_number seed) (pushes_before d frame field)) (field_pushes d field)
+
 -- it arrives over the steps from j to l: at j the machine awaits it, its last push is before l, and no push is lost
 abbrev pub FieldsArrive : Type 0
 FieldsArrive = (d : Desc) (seed frames frame : ℕ) (field : Parity) (m : State) (j l : ℕ) → HasField d frames frame field →

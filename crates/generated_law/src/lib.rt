@@ -6,7 +6,7 @@ ghost use Rattle.pixel_layout.specs.declared.Parity.TheVariants.{Top};
 ghost use Rattle.field_stream.specs.Worked.{smallest};
 ghost use Rattle.generated_law.specs.Drawn.{BringsPicture, CarriesDrawn, DrawsPicture};
 ghost use Rattle.generated_law.specs.ReadBack.{AreReadBack, AreShort};
-ghost use Rattle.generated_law.specs.Streams.{FieldsArrive, FieldsAreSignalled, IsTaken, PicturesAreShown};
+ghost use Rattle.generated_law.specs.Streams.{FieldsArrive, FieldsAreSignalled, FieldsStand, IsTaken, PicturesAreShown};
 
 /// From any number of the generator on, what is pushed for a field of a description brings the picture that is drawn:
 /// each line comes whole over its queue, with one start and one end, and has as many bytes as the description asks for.
@@ -17,9 +17,10 @@ pub fn drawn_fields()
     ensures drawn { CarriesDrawn }
 {}
 
-/// Each field of a stream arrives, with its picture, at a machine that waits for it while its pushes come and of which no
-/// push is lost. In a run of the compiled program that signals it, its picture is shown.
+/// Each field of a stream stands at its place among the steps. It arrives, with its picture, at a machine that waits for it
+/// while its pushes come, where no push is lost. In a run of the compiled program that signals it, its picture is shown.
 pub fn generated_fields_arrive()
+    ensures stand { FieldsStand }
     ensures arrive { FieldsArrive }
     ensures signalled { FieldsAreSignalled }
     ensures shown { PicturesAreShown }
