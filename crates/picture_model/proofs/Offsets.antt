@@ -64,7 +64,7 @@ are_apart f from (suc count) others none =
 
 -- the highest end
 
-end_in_mapped : (f : ℕ → Extent) (from count p : ℕ) (others : List Extent) → from ≤ p → p < from + count → (f p).to ≤ highest_end (map f (range_with_len from count) ++ others)
+pub end_in_mapped : (f : ℕ → Extent) (from count p : ℕ) (others : List Extent) → from ≤ p → p < from + count → (f p).to ≤ highest_end (map f (range_with_len from count) ++ others)
 end_in_mapped f from zero p others low high = absurd (omega arith)
 end_in_mapped f from (suc count) p others low high =
     ⊎_elim
@@ -72,11 +72,11 @@ end_in_mapped f from (suc count) p others low high =
     (λ before. let same : from ≡ p = omega arith in let e : (f from).to ≡ (f p).to = ap (λ (n : ℕ). (f n).to) same in omega arith)
     (cases_lt from p)
 
-end_of_others : (xs ys : List Extent) → highest_end ys ≤ highest_end (xs ++ ys)
+pub end_of_others : (xs ys : List Extent) → highest_end ys ≤ highest_end (xs ++ ys)
 end_of_others [] ys = omega arith
 end_of_others (x ∷ xs) ys = let more = end_of_others xs ys in omega arith
 
-area_end : (f : Parity → Extent) (which : Fields) (field : Parity) → describes which field ≡ true → (f field).to ≤ highest_end (map f (fields_of which))
+pub area_end : (f : Parity → Extent) (which : Fields) (field : Parity) → describes which field ≡ true → (f field).to ≤ highest_end (map f (fields_of which))
 area_end f fields.Top Top is = omega arith
 area_end f fields.Bottom Bottom is = omega arith
 area_end f fields.Both Top is = omega arith

@@ -110,10 +110,19 @@ even_height : (two : Bool) (height : ℕ) → (two && not (is_multiple 2 height)
 even_height false height none is = cc
 even_height true height none is = multiple_is 2 height (not-false _ none)
 
+-- the pages or chunks are aligned and apart
+clear_memory : (d : Desc) → AreClear frame_faults d → (first_unaligned d.chunks d.pages ≡ None) × (first_shared [] (memory_of d) ≡ None)
+clear_memory d clear = (
+    mapped_none PageUnaligned (first_unaligned d.chunks d.pages) clear.1.1.1.1.1.1.1.1.1.0,
+    mapped_none PageTwice (first_shared [] (memory_of d)) clear.1.1.1.1.1.1.1.1.1.1.0,
+)
+
+pub IsFrame-memory : (d : Desc) → IsFrame d → (first_unaligned d.chunks d.pages ≡ None) × (first_shared [] (memory_of d) ≡ None)
+IsFrame-memory d frame = clear_memory d (after_none None frame_faults d frame).1
+
 clear-IsRight : (d : Desc) → IsDescription d → AreClear frame_faults d → IsRight d
 clear-IsRight d is clear =
-    let unaligned = mapped_none PageUnaligned (first_unaligned d.chunks d.pages) clear.1.1.1.1.1.1.1.1.1.0 in
-    let shared = mapped_none PageTwice (first_shared [] (memory_of d)) clear.1.1.1.1.1.1.1.1.1.1.0 in
+    let memory = clear_memory d clear in
     record {
       width = between_parts 1 1024 d.width (when_not _ _ clear.0);
       height = between_parts 1 1024 d.height (when_not _ _ clear.1.0);
@@ -125,8 +134,8 @@ clear-IsRight d is clear =
       parts_apart = when_not _ _ clear.1.1.1.1.1.1.1.0;
       vbi_lines = (vbi_range d.vbi_lines d.vbi_bytes (when_not _ _ clear.1.1.1.1.1.1.1.1.0)).0;
       vbi_bytes = (vbi_range d.vbi_lines d.vbi_bytes (when_not _ _ clear.1.1.1.1.1.1.1.1.0)).1;
-      aligned = aligned_memory d.chunks d.pages is.pages unaligned shared;
-      chunks_apart = shared;
+      aligned = aligned_memory d.chunks d.pages is.pages memory.0 memory.1;
+      chunks_apart = memory.1;
       enough = enough d.chunks d.pages (highest_end (taken d)) clear.1.1.1.1.1.1.1.1.1.1.1.0;
     }
 

@@ -2,10 +2,11 @@
 use Rattle.std.proofs.Common.{◌≡◌, ℕ, ◌^◌, ◌≤◌, ◌&&◌, ◌||◌, List, [], ◌∷◌, ◌++◌, take, drop, length, Option, Some, None, Result, Ok, Err, IfOk, refl, ap, ◌∙◌, arith}
 use Rattle.std.specs.Prelude.{not, nat_lt, IfSome}
 use Rattle.std.proofs.lemmas.Bool.{cond-false, le-ltb, or_from}
+use Rattle.page_table.specs.declared.PageFault.{PageFault}
 use Rattle.page_table.specs.declared.PageFault.TheVariants.{TooMany, Unaligned, Twice}
 use Rattle.page_table.specs.Grants.{Chunk, total}
 use Rattle.page_table.specs.Scattered.{IsScatterList, ScatterList, scatter_list}
-use Rattle.page_table.specs.Taken.{first_shared, listed, pair_chunk, unless_shared, unless_unaligned}
+use Rattle.page_table.specs.Taken.{first_shared, in_order, listed, pair_chunk, unless_shared, unless_unaligned}
 use Rattle.page_table.proofs.Placing.{total-cons}
 use Rattle.capture_desc.specs.declared.desc.Desc.{Desc}
 use Rattle.capture_desc.specs.WellFormed.{IsWellFormed, bytes_of_chunks}
@@ -107,6 +108,17 @@ few_in (Some pairs) pages few chunks bytes = few_chunks pairs pages chunks bytes
 -- the pages or chunks of a description are not too many
 pub few_of : (d : Desc) → IsWellFormed d → taken_memory d.chunks d.pages ≡ unless_unaligned (first_unaligned d.chunks d.pages) (memory_of d)
 few_of d formed = few_in d.chunks d.pages formed.pages formed.chunks formed.bytes
+
+grants_by : (unaligned shared : Option ℕ) (chunks : List Chunk) → unaligned ≡ None → first_shared [] chunks ≡ shared → shared ≡ None → unless_unaligned unaligned chunks ≡ Ok (in_order chunks)
+grants_by (Some place) shared chunks one same two = cc
+grants_by None (Some place) chunks one same two = cc
+grants_by None None chunks one same two = ap (λ (o : Option ℕ). unless_shared o chunks) same
+
+-- aligned and apart they make grants, so the call answers no fault of theirs
+pub no_fault_taken : (d : Desc) (pages : List ℕ) (fault : PageFault) → IsWellFormed d → first_unaligned d.chunks d.pages ≡ None → first_shared [] (memory_of d) ≡ None → pages ≡ d.pages → taken_memory d.chunks pages ≡ Err fault → ⊥
+no_fault_taken d pages fault formed aligned apart same is =
+    let taken = few_of d formed ∙ grants_by (first_unaligned d.chunks d.pages) (first_shared [] (memory_of d)) (memory_of d) aligned refl apart in
+    let changed = ap (taken_memory d.chunks) same in cc
 
 -- what each answer means
 module _ (chunks : List Chunk) where

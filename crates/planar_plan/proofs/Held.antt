@@ -1,9 +1,6 @@
 -- The lines of a frame can be cut, and their cuts are their plans.
-use Rattle.std.proofs.Common.{◌≡◌, ℕ, zero, suc, ◌+◌, ◌*◌, ◌^◌, ◌<◌, ◌≤◌, Bool, true, List, [], ◌∷◌, ◌++◌, map, Option, Some, None, refl, sym, ap, ◌∙◌, subst, arith, ⊎_elim}
-use Rattle.std.specs.List.{range_with_len}
-use Rattle.std.proofs.lemmas.Bool.{cases_lt}
+use Rattle.std.proofs.Common.{◌≡◌, ℕ, ◌+◌, ◌*◌, ◌^◌, ◌<◌, ◌≤◌, Bool, true, List, [], ◌∷◌, map, Option, Some, None, refl, sym, ap, ◌∙◌, subst, arith}
 use Rattle.pixel_layout.specs.declared.Parity.{Parity}
-use Rattle.pixel_layout.specs.declared.Parity.TheVariants.{Top, Bottom}
 use Rattle.pixel_layout.specs.Layouts.{planes_of}
 use Rattle.page_table.specs.Grants.{Chunk}
 use Rattle.page_table.specs.Scattered.{IsScatterList, ScatterList, scatter_list}
@@ -11,40 +8,20 @@ use Rattle.page_table.proofs.Scattered.{lt-room_at, total-le}
 use Rattle.clip_spans.specs.Runs.{AreRunsFrom}
 use Rattle.clip_spans.specs.declared.Span.{Span}
 use Rattle.capture_desc.specs.declared.desc.Desc.{Desc}
-use Rattle.capture_desc.specs.declared.desc.Fields.{Fields}
-use Rattle.capture_desc.specs.declared.desc.Fields.TheVariants as fields
 use Rattle.picture_model.specs.declared.Piece.{Piece}
-use Rattle.picture_model.specs.Described.{Extent, describes, extent, fields_of, highest_end, layout_of, memory_of, taken, vbi_area}
+use Rattle.picture_model.specs.Described.{describes, extent, extents, fields_of, highest_end, layout_of, memory_of, taken, vbi_area}
 use Rattle.picture_model.specs.Places.{row_offset, vbi_line_offset}
 use Rattle.picture_model.specs.Plans.{Strip, cuts_of, grain_bytes, grains_of, pieces_of, plan, row_strip, row_track, skipped_strip, vbi_strip}
 use Rattle.picture_model.proofs.Right.{IsRight}
-use Rattle.picture_model.proofs.Offsets.{IsRowAt, row_offset-IsRowAt, row_within, vbi_line_within}
+use Rattle.picture_model.proofs.Offsets.{IsRowAt, area_end, end_in_mapped, end_of_others, row_offset-IsRowAt, row_within, vbi_line_within}
 use Rattle.picture_model.proofs.Grains.{GrainsFit, grain_small, held_plane, row_grains, row_track-IsTrack}
 use Rattle.planar_plan.specs.Lines.{AreHeld, AreWithin, CanBeCut, IsHeld, bare}
 use Rattle.planar_plan.proofs.Cuts.{bare-cuts_of}
 
--- the highest end
-
-end_of_plane : (f : ℕ → Extent) (from count p : ℕ) (others : List Extent) → from ≤ p → p < from + count → (f p).to ≤ highest_end (map f (range_with_len from count) ++ others)
-end_of_plane f from zero p others low high = absurd (omega arith)
-end_of_plane f from (suc count) p others low high =
-    ⊎_elim
-    (λ after. let more = end_of_plane f (from + 1) count p others (omega arith) (omega arith) in omega arith)
-    (λ before. let same : from ≡ p = omega arith in let e : (f from).to ≡ (f p).to = ap (λ (n : ℕ). (f n).to) same in omega arith)
-    (cases_lt from p)
-
-end_of_area : (es : List Extent) (f : Parity → Extent) (which : Fields) (field : Parity) → describes which field ≡ true → (f field).to ≤ highest_end (es ++ map f (fields_of which))
-end_of_area (e ∷ es) f which field is = let more = end_of_area es f which field is in omega arith
-end_of_area [] f fields.Top Top is = omega arith
-end_of_area [] f fields.Bottom Bottom is = omega arith
-end_of_area [] f fields.Both Top is = omega arith
-end_of_area [] f fields.Both Bottom is = omega arith
-end_of_area [] f fields.Top Bottom is = cc
-end_of_area [] f fields.Bottom Top is = cc
-
 pub vbi_line_ends : (d : Desc) (field : Parity) (line : ℕ) → describes d.fields field ≡ true → line < d.vbi_lines → vbi_line_offset d field line + d.vbi_bytes ≤ highest_end (taken d)
 vbi_line_ends d field line is below =
-    let area = end_of_area (map (extent d) (range_with_len 1 (planes_of (layout_of d)))) (vbi_area d) d.fields field is in
+    let area = area_end (vbi_area d) d.fields field is in
+    let all = end_of_others (extents d) (map (vbi_area d) (fields_of d.fields)) in
     let within = vbi_line_within d.vbi_lines d.vbi_bytes line below in omega arith
 
 -- the bytes of a scatter list are few
@@ -58,7 +35,7 @@ module _ (d : Desc) (right : IsRight d) (row : ℕ) (below : row < d.height) (pl
       let top = has.high in
       let bytes = row_grains d plane has in
       let within = row_within d plane row from right below at in
-      let end = end_of_plane (extent d) 1 (planes_of (layout_of d)) plane (map (vbi_area d) (fields_of d.fields)) low (omega arith) in
+      let end = end_in_mapped (extent d) 1 (planes_of (layout_of d)) plane (map (vbi_area d) (fields_of d.fields)) low (omega arith) in
       (fit.0, omega arith, fit.2)
 
   start_held : (start : Option ℕ) → row_offset d plane row ≡ start → GrainsFit (memory_of d) (grains_of (layout_of d) d.width) (grain_bytes (layout_of d) plane) start → AreHeld (scatter_list (memory_of d) (highest_end (taken d))) (grains_of (layout_of d) d.width) (grain_bytes (layout_of d) plane) start

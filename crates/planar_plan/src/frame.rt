@@ -3,7 +3,8 @@
 ghost use Rattle.std.specs.Prelude.{◌≡◌, ◌<◌, take, true, IfOk, None};
 ghost use Rattle.std.specs.List.{All};
 ghost use Rattle.capture_desc.specs.WellFormed.{IsWellFormed};
-ghost use Rattle.picture_model.specs.Described.{IsDescription, describes, field_height, highest_end, taken};
+ghost use Rattle.page_table.specs.Taken.{in_order};
+ghost use Rattle.picture_model.specs.Described.{IsDescription, describes, field_height, highest_end, memory_of, taken};
 ghost use Rattle.picture_model.specs.Geometry.{first_after, frame_fault, frame_faults};
 ghost use Rattle.picture_model.specs.Plans.{row_plan, skipped_plan, vbi_plan};
 ghost use Rattle.planar_plan.specs.Frames.{HasScatter, IsFramed, Judges};
@@ -12,10 +13,10 @@ ghost use Rattle.planar_plan.specs.Lines.{CountsFit};
 use crate::cut::{Pieces, cut_row, cut_whole};
 use crate::judge::{BuildError, highest_end, overlap, size_faults, vbi_range};
 use crate::lines::{row_line, skipped_line, vbi_line};
-use crate::memory::{page_faults, scatter};
+use crate::memory::{grants, page_faults, scatter};
 use crate::places::{field_height, taken};
 use capture_desc::Desc;
-use page_table::Scatter;
+use page_table::{PageSet, Scatter};
 use pixel_layout::{Format, Parity};
 use std::alloc::{AllocError, Global};
 use std::marker::Model;
@@ -100,6 +101,15 @@ impl Frame {
         ensures framed { IsFramed self.now }
     {
         field_height(&self.desc, field)
+    }
+
+    /// The pages or chunks of the description in rising order: the memory that a program of the frame may
+    /// write.
+    pub fn grants(&self, alloc: Global) -> Result<PageSet, AllocError>
+        ensures grants { IfOk result (λ grants. grants ≡ in_order (memory_of self.now)) }
+        ensures framed { IsFramed self.now }
+    {
+        grants(alloc, &self.desc)
     }
 
     /// The pieces of a picture row, in order. Rows are counted from 0, those of both fields together.

@@ -3,7 +3,7 @@
 ghost use Rattle.std.specs.Prelude.{◌≡◌, ℕ, ◌^◌, ◌<◌, [], map, take, drop, IfOk, None, Some};
 ghost use Rattle.std.specs.List.{All};
 ghost use Rattle.page_table.specs.Scattered.{AreChunks, ArePages, IsScatterList, scatter_list};
-ghost use Rattle.page_table.specs.Taken.{Answers, first_shared, listed, page_at};
+ghost use Rattle.page_table.specs.Taken.{Answers, first_shared, in_order, listed, page_at};
 ghost use Rattle.capture_desc.specs.WellFormed.{IsWellFormed};
 ghost use Rattle.picture_model.specs.Described.{memory_of};
 ghost use Rattle.picture_model.specs.Geometry.{first_after, first_missing, first_unaligned, frame_faults};
@@ -13,10 +13,14 @@ use crate::judge::BuildError;
 use capture_desc::{ChunkList, Desc};
 use page_table::{PageFault, PageSet, Scatter, ScatterFault};
 use picture_model::BuildFault;
-use std::alloc::Global;
+use std::alloc::{AllocError, Global};
 
 // The pages or chunks as grants, or their fault.
-fn grants(alloc: Global, chunks: &Option<ChunkList>, pages: &[u32]) -> Result<PageSet, PageFault>
+fn taken_memory(
+    alloc: Global,
+    chunks: &Option<ChunkList>,
+    pages: &[u32],
+) -> Result<PageSet, PageFault>
     ensures answer { Answers (taken_memory chunks.now pages.now) result }
     ensures pages { All (λ page. page < 2 ^ 32) pages.now }
 {
@@ -34,7 +38,7 @@ pub(crate) fn page_faults(alloc: Global, desc: &Desc) -> Result<(), BuildError>
     ensures apart { IfOk result (λ _. first_shared [] (memory_of desc.now) ≡ None) }
     ensures pages { All (λ page. page < 2 ^ 32) desc.now.pages }
 {
-    match grants(alloc, &desc.chunks, desc.pages.as_slice()) {
+    match taken_memory(alloc, &desc.chunks, desc.pages.as_slice()) {
         Ok(_) => Ok(()),
         Err(PageFault::Unaligned(place)) => {
             Err(BuildError::Bad(BuildFault::PageUnaligned(place)))
@@ -42,6 +46,22 @@ pub(crate) fn page_faults(alloc: Global, desc: &Desc) -> Result<(), BuildError>
         Err(PageFault::Twice(place)) => Err(BuildError::Bad(BuildFault::PageTwice(place))),
         Err(PageFault::TooMany) => unreachable!(),
         Err(PageFault::Memory) => Err(BuildError::Memory),
+    }
+}
+
+// The pages or chunks of a description as grants.
+pub(crate) fn grants(alloc: Global, desc: &Desc) -> Result<PageSet, AllocError>
+    requires formed { IsWellFormed desc.now }
+    requires aligned { first_unaligned desc.now.chunks desc.now.pages ≡ None }
+    requires apart { first_shared [] (memory_of desc.now) ≡ None }
+    ensures { IfOk result (λ grants. grants ≡ in_order (memory_of desc.now)) }
+{
+    match taken_memory(alloc, &desc.chunks, desc.pages.as_slice()) {
+        Ok(grants) => Ok(grants),
+        Err(PageFault::Memory) => Err(AllocError),
+        Err(PageFault::TooMany) => unreachable!(),
+        Err(PageFault::Unaligned(_)) => unreachable!(),
+        Err(PageFault::Twice(_)) => unreachable!(),
     }
 }
 

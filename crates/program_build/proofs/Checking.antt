@@ -1,5 +1,6 @@
 -- What holds of a checked description and its program.
-use Rattle.std.proofs.Common.{◌≡◌, ℕ, List, Option, Some, None, sym, ap, ◌∙◌}
+use Rattle.std.proofs.Common.{◌≡◌, ℕ, Bool, ◌||◌, List, [], ◌∷◌, map, refl, Option, None, sym, ap, ◌∙◌}
+use Rattle.std.specs.List.{list_any}
 use Rattle.page_table.specs.Grants.{Chunk}
 use Rattle.machine_model.specs.Paths.{IsProgram, IsSound, RiscProgram}
 use Rattle.capture_desc.specs.declared.desc.Desc.{Desc}
@@ -31,3 +32,8 @@ same_program base words grants p one two three =
 pub then_program : (d e : Desc) (found : Option BuildFault) → frame_fault d ≡ None → e ≡ d → first_after None program_faults e ≡ found → first_fault d ≡ found
 then_program d e found none same is =
     none_front frame_faults program_faults d none ∙ ap (first_after None program_faults) (sym same) ∙ is
+
+-- a test of what a list is mapped to
+pub any_map : {A B : Type 0} (test : B → Bool) (f : A → B) (xs : List A) → list_any test (map f xs) ≡ list_any (λ x. test (f x)) xs
+any_map test f [] = refl
+any_map test f (x ∷ xs) = ap (λ (b : Bool). test (f x) || b) (any_map test f xs)

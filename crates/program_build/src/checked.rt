@@ -3,16 +3,13 @@
 ghost use Rattle.std.specs.Prelude.{◌≡◌, length, IfOk};
 ghost use Rattle.capture_desc.specs.WellFormed.{IsWellFormed};
 ghost use Rattle.machine_model.specs.Paths.{IsSound};
-ghost use Rattle.page_table.specs.Taken.{Answers, in_order};
-ghost use Rattle.picture_model.specs.Described.{memory_of};
 ghost use Rattle.picture_model.specs.Geometry.{first_fault};
 ghost use Rattle.picture_model.specs.Programs.{compiled};
-ghost use Rattle.planar_plan.specs.Frames.{Judges, taken_memory};
+ghost use Rattle.planar_plan.specs.Frames.{Judges};
 ghost use Rattle.program_build.specs.Checks.{IsChecked};
 
 use crate::judge::judged_words;
-use capture_desc::{ChunkList, Desc};
-use page_table::{PageFault, PageSet};
+use capture_desc::Desc;
 use planar_plan::{BuildError, Frame};
 use risc_verify::Program;
 use std::alloc::{AllocError, Global};
@@ -76,30 +73,6 @@ pub fn check(alloc: Global, desc: Desc) -> Result<Checked, BuildError>
     Ok(Checked { frame, words })
 }
 
-// The pages or chunks as grants, or their fault.
-fn page_set(alloc: Global, chunks: &Option<ChunkList>, pages: &[u32]) -> Result<PageSet, PageFault>
-    ensures { Answers (taken_memory chunks.now pages.now) result }
-{
-    match chunks {
-        None => PageSet::from_list(alloc, pages),
-        Some(chunks) => PageSet::from_chunks(alloc, chunks.as_slice()),
-    }
-}
-
-// The pages or chunks of a frame, which its program may write.
-fn grants(alloc: Global, frame: &Frame) -> Result<PageSet, AllocError>
-    ensures { IfOk result (λ grants. grants ≡ in_order (memory_of frame.now)) }
-{
-    let desc = frame.desc();
-    match page_set(alloc, &desc.chunks, desc.pages.as_slice()) {
-        Ok(grants) => Ok(grants),
-        Err(PageFault::Memory) => Err(AllocError),
-        Err(PageFault::TooMany) => unreachable!(),
-        Err(PageFault::Unaligned(_)) => unreachable!(),
-        Err(PageFault::Twice(_)) => unreachable!(),
-    }
-}
-
 /// The program of a checked description, which is sound. It has a section for each described field, the
 /// top one first: SYNC on the field's vertical code with RESYNC, the VBI part, the picture part, and a JUMP
 /// that interrupts and leads to the next section, or from the last to the base. It may write the pages or
@@ -108,7 +81,7 @@ pub fn build(alloc: Global, checked: &Checked) -> Result<Program, AllocError>
     ensures program { IfOk result (λ program. program ≡ compiled checked.now) }
     ensures sound { IfOk result IsSound }
 {
-    let grants = grants(alloc, &checked.frame)?;
+    let grants = checked.frame.grants(alloc)?;
     let words = Vec::from_slice(alloc, &checked.words)?;
     Ok(Program::new(checked.frame.desc().base, words, grants))
 }

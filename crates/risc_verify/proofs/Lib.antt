@@ -1,3 +1,4 @@
+pub mod Chunks
 pub mod Pigeonhole
 pub mod Rounds
 pub mod Walking

@@ -5,6 +5,7 @@ ghost use Rattle.risc_verify.specs.Programs.{first_place};
 ghost use Rattle.std.specs.Prelude.{◌≡◌, ◌+◌, ◌*◌, ◌^◌, ◌<◌, ◌≤◌, MatchResult, None, Some, slice_index, unwrap_or, if◌then◌else◌};
 
 use super::Program;
+use super::memo::ChunkMemo;
 use machine_model::Cause;
 use page_table::PageSet;
 use risc_word::{Instr, WordFault};
@@ -66,7 +67,7 @@ fn unless(mark: bool, target: Option<u64>) -> Option<u64>
 
 // Why a range can't be written.
 #[inline]
-fn written_cause(grants: &PageSet, address: u64, count: u16) -> Option<Cause>
+fn written_cause(grants: &PageSet, memo: &mut ChunkMemo, address: u64, count: u16) -> Option<Cause>
     requires { address ≤ 2 ^ 32 }
     ensures { result ≡ written_cause grants.now address count }
 {
@@ -76,38 +77,48 @@ fn written_cause(grants: &PageSet, address: u64, count: u16) -> Option<Cause>
     if count == 0 {
         return None;
     }
-    match grants.covers(address as u32, u32::from(count)) {
+    match memo.covers(grants, address as u32, u32::from(count)) {
         Ok(()) => None,
         Err(at) => Some(Cause::Ungranted(at)),
     }
 }
 
 // Why the first of three ranges that can't be written can't.
-fn three_cause(grants: &PageSet, addrs: &[u32; 3], counts: &[u16; 3]) -> Option<Cause>
+fn three_cause(
+    grants: &PageSet,
+    memo: &mut ChunkMemo,
+    addrs: &[u32; 3],
+    counts: &[u16; 3],
+) -> Option<Cause>
     ensures { result ≡ first_cause (written_cause grants.now (slice_index addrs.now 0) (slice_index counts.now 0)) (first_cause (written_cause grants.now (slice_index addrs.now 1) (slice_index counts.now 1)) (written_cause grants.now (slice_index addrs.now 2) (slice_index counts.now 2))) }
 {
-    if let Some(cause) = written_cause(grants, u64::from(addrs[0]), counts[0]) {
+    if let Some(cause) = written_cause(grants, memo, u64::from(addrs[0]), counts[0]) {
         return Some(cause);
     }
-    if let Some(cause) = written_cause(grants, u64::from(addrs[1]), counts[1]) {
+    if let Some(cause) = written_cause(grants, memo, u64::from(addrs[1]), counts[1]) {
         return Some(cause);
     }
-    written_cause(grants, u64::from(addrs[2]), counts[2])
+    written_cause(grants, memo, u64::from(addrs[2]), counts[2])
 }
 
 // Why an instruction isn't fine.
 #[inline]
-fn instr_cause(program: &Program, instr: &Instr, target: Option<u64>) -> Option<Cause>
+fn instr_cause(
+    program: &Program,
+    memo: &mut ChunkMemo,
+    instr: &Instr,
+    target: Option<u64>,
+) -> Option<Cause>
     requires { unwrap_or target 0 ≤ 2 ^ 32 }
     ensures { result ≡ instr_cause program.now instr.now target }
 {
     match instr {
         Instr::Write { count, addr, .. } => {
-            written_cause(program.grants(), u64::from(*addr), *count)
+            written_cause(program.grants(), memo, u64::from(*addr), *count)
         }
         Instr::WriteC { ends, count, .. } => {
             match unless(ends.sol, target) {
-                Some(at) => written_cause(program.grants(), at, *count),
+                Some(at) => written_cause(program.grants(), memo, at, *count),
                 None => Some(Cause::NoTarget),
             }
         }
@@ -117,9 +128,9 @@ fn instr_cause(program: &Program, instr: &Instr, target: Option<u64>) -> Option<
                 None => Some(Cause::JumpOut(*to)),
             }
         }
-        Instr::Write123 { counts, addrs, .. } => three_cause(program.grants(), addrs, counts),
+        Instr::Write123 { counts, addrs, .. } => three_cause(program.grants(), memo, addrs, counts),
         Instr::Write1S23 { counts, addr, .. } => {
-            written_cause(program.grants(), u64::from(*addr), counts[0])
+            written_cause(program.grants(), memo, u64::from(*addr), counts[0])
         }
         Instr::Skip { .. } | Instr::Sync { .. } | Instr::Skip123 { .. } => None,
     }
@@ -181,14 +192,18 @@ fn fault_cause(fault: WordFault) -> Cause
 
 // The place after this one, or why this one isn't fine.
 #[inline]
-pub(crate) fn step(program: &Program, place: &PathPlace) -> Result<PathPlace, Cause>
+pub(crate) fn step(
+    program: &Program,
+    memo: &mut ChunkMemo,
+    place: &PathPlace,
+) -> Result<PathPlace, Cause>
     ensures { MatchResult result (λ next. (cause_at program.now place.now ≡ None) × (next_place program.now place.now ≡ next)) (λ cause. cause_at program.now place.now ≡ Some cause) }
 {
     let (instr, count) = match program.fetch(place.pc) {
         Ok(read) => read,
         Err(fault) => return Err(fault_cause(fault)),
     };
-    match instr_cause(program, &instr, place.target) {
+    match instr_cause(program, memo, &instr, place.target) {
         Some(cause) => Err(cause),
         None => Ok(place_after(&instr, count, place)),
     }

@@ -3,6 +3,7 @@
 #![tactic(auto)]
 
 mod judge;
+mod memo;
 mod program;
 mod steps;
 mod walk;

@@ -8,6 +8,7 @@ ghost use Rattle.risc_verify.specs.declared.walk.Why.TheVariants.{Memory};
 ghost use Rattle.std.specs.Prelude.{◌≡◌, ℕ, ◌+◌, ◌≤◌, ◌⊎◌, IfErr, IfOk, IsTrue, length, false, replicate};
 
 use super::judge::{PathPlace, step};
+use super::memo::ChunkMemo;
 use super::{Accepted, Program, Steps};
 use machine_model::Cause;
 use std::alloc::{AllocError, Global};
@@ -93,13 +94,14 @@ fn walk<L: Ledger>(alloc: Global, program: &Program, steps: &mut Steps<L>) -> Re
 {
     let words = program.words().len();
     let mut marks = Marks::new(alloc, words)?;
+    let mut memo = ChunkMemo::new(alloc)?;
     let mut place = PathPlace::first(program);
     for nth in 0..2 * words as u64 + 1 {
         if marks.meet(program, &place) {
             return Ok(());
         }
         steps.tick();
-        match step(program, &place) {
+        match step(program, &mut memo, &place) {
             Ok(next) => place = next,
             Err(cause) => {
                 return Err(Why::Bad {

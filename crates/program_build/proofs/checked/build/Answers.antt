@@ -1,4 +1,4 @@
-use Rattle.std.proofs.Common.{◌≡◌, ◌%◌, ◌∙◌, false, List, ℕ, length, sym, ap, subst, arith}
+use Rattle.std.proofs.Common.{◌≡◌, ◌%◌, ◌∙◌, false, ℕ, length, sym, ap, subst, arith}
 use Rattle.std.specs.List.{All}
 use Rattle.machine_model.specs.Paths.{IsSound, RiscProgram, shares_byte}
 use Rattle.capture_desc.specs.declared.desc.Desc.{Desc}
@@ -25,11 +25,11 @@ new-requires-clause-ends c =
 pub new-requires-clause-apart : goal.new-requires-clause-apart
 new-requires-clause-apart c =
     let d = c.checked.inside.frame in
-    let same = same_program c.desc.result.now.base c.in_ok-words.words.items c.in_ok-grants.grants (compiled d) (ap (λ (e : Desc). e.base) c.desc.ensures.value) (c.in_ok-words.ensures.items ∙ c.deref.ensures.value ∙ c.checked.invariant.words) c.in_ok-grants.ensures in
+    let same = same_program c.desc.result.now.base c.in_ok-words.words.items c.in_ok-grants.grants (compiled d) (ap (λ (e : Desc). e.base) c.desc.ensures.value) (c.in_ok-words.ensures.items ∙ c.deref.ensures.value ∙ c.checked.invariant.words) c.in_ok-grants.ensures.grants in
     subst (λ (p : RiscProgram). All (λ chunk. shares_byte p chunk ≡ false) p.grants) (sym same) (checked_program d c.checked.invariant.checked).apart
 
 pub returns-clause-sound : goal.returns-clause-sound
 returns-clause-sound c =
     let d = c.checked.inside.frame in
-    let same = same_program c.desc.result.now.base c.in_ok-words.words.items c.in_ok-grants.grants (compiled d) (ap (λ (e : Desc). e.base) c.desc.ensures.value) (c.in_ok-words.ensures.items ∙ c.deref.ensures.value ∙ c.checked.invariant.words) c.in_ok-grants.ensures in
+    let same = same_program c.desc.result.now.base c.in_ok-words.words.items c.in_ok-grants.grants (compiled d) (ap (λ (e : Desc). e.base) c.desc.ensures.value) (c.in_ok-words.ensures.items ∙ c.deref.ensures.value ∙ c.checked.invariant.words) c.in_ok-grants.ensures.grants in
     subst IsSound (sym (c.new.ensures ∙ same)) (checked_sound d c.checked.invariant.checked)

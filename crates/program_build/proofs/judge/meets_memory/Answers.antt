@@ -3,7 +3,7 @@ use Rattle.std.specs.List.{list_any}
 use Rattle.page_table.specs.Taken.{listed, page_at, pair_chunk}
 use Rattle.picture_model.specs.Described.{memory_from}
 use Rattle.program_build.specs.Checks.{is_met}
-use Rattle.program_build.proofs.Faults.{any_map}
+use Rattle.program_build.proofs.Checking.{any_map}
 use Rattle.program_build.proofs.judge.meets_memory.Goals as goal
 
 pub returns-in-None : goal.returns-in-None

@@ -1,8 +1,7 @@
-use Rattle.std.proofs.Common.{◌≡◌, ◌++◌, ◌+◌, ◌∙◌, [], ℕ, List, length, ap, sym, arith}
+use Rattle.std.proofs.Common.{◌≡◌, ◌++◌, ◌∙◌, ℕ, List, length, ap, arith}
 use Rattle.std.proofs.lemmas.Result.{err_from_is_err_and}
 use Rattle.capture_desc.specs.declared.desc.Desc.{Desc}
 use Rattle.pixel_layout.specs.declared.Parity.TheVariants.{Top}
-use Rattle.picture_model.specs.Programs.{compiled}
 use Rattle.picture_model.proofs.Limit.{compiled_few}
 use Rattle.picture_model.proofs.Right.{IsFrame-IsRight}
 use Rattle.program_build.proofs.Whole.{both_long, both_whole, ends_beyond, open_long, open_words}

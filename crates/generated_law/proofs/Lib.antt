@@ -1,0 +1,14 @@
+pub mod Statuses
+pub mod Whole
+pub mod Planar
+pub mod Rows
+pub mod Repeated
+pub mod Cutting
+pub mod Fields
+pub mod Bytes
+pub mod Steps
+pub mod Streams
+pub mod Few
+pub mod Reading
+pub mod ReadBack
+pub mod Worked
