@@ -1,36 +1,17 @@
-//! The commands.
+//! The commands over program files.
 
 ghost use Rattle.std.specs.Prelude.{◌≡◌, [], ◌∷◌, MatchResult};
-ghost use Rattle.capture_desk.specs.Desks.{IsAllowed, WriteCounts, after_create, after_finish, after_write};
-ghost use Rattle.capture_file.specs.Images.{image_of};
-ghost use Rattle.command_steps.specs.Desks.{IsFilePart, IsPart, delivered, seen_by};
 ghost use Rattle.bt878_tasks.specs.Tasks.{Ends, Lists, Runs, Verifies};
+ghost use Rattle.capture_desk.specs.Desks.{IsAllowed, WriteCounts};
+ghost use Rattle.capture_file.specs.Images.{image_of};
+ghost use Rattle.command_steps.specs.Desks.{IsPart, delivered, seen_by};
 
-use crate::answer::Answer;
-use crate::desks::{refuse, say_all};
-use crate::programs::{accept, list_file, play_and_report};
-use crate::texts::ACCEPTED;
+use crate::runs::run_program;
 use capture_desk::{Desk, Failed};
-use capture_file::write_image;
+use command_steps::{ACCEPTED, Answer, refuse, say_all, write_image_file};
 use page_ram::Ram;
+use program_play::{accept, list_file};
 use std::alloc::Global;
-
-/// Writes the image of a memory.
-fn write_out<R: Ram, D: Desk>(name: &str, ram: &R, desk: &mut D) -> Result<(), Failed>
-    requires { IsAllowed name.now (D.told desk.old).may_create }
-    ensures left { MatchResult result
-        (λ _. D.told desk.new ≡ after_finish (after_write (image_of (R.memory ram.now)) (after_create name.now (D.told desk.old))))
-        (λ _. IsFilePart name.now (image_of (R.memory ram.now)) (D.told desk.old) (D.told desk.new)) }
-    ensures counts { WriteCounts result (D.read_faults desk.old) (D.read_faults desk.new)
-        (D.write_faults desk.old) (D.write_faults desk.new) }
-{
-    desk.create_out(name)?;
-    write_image(ram, desk)?;
-    match desk.finish() {
-        Ok(()) => Ok(()),
-        Err(failed) => Err(failed),
-    }
-}
 
 /// Writes the image of a memory and then says a text.
 fn deliver<R: Ram, D: Desk>(name: &str, ram: &R, text: &str, desk: &mut D) -> Result<(), Failed>
@@ -41,7 +22,7 @@ fn deliver<R: Ram, D: Desk>(name: &str, ram: &R, text: &str, desk: &mut D) -> Re
     ensures counts { WriteCounts result (D.read_faults desk.old) (D.read_faults desk.new)
         (D.write_faults desk.old) (D.write_faults desk.new) }
 {
-    write_out(name, ram, desk)?;
+    write_image_file(name, ram, desk)?;
     match say_all(text.as_bytes(), desk) {
         Ok(()) => Ok(()),
         Err(failed) => Err(failed),
@@ -85,11 +66,11 @@ pub fn run<D: Desk>(alloc: Global, program: &str, stream: &str, image: &str, des
     requires image { IsAllowed image.now (D.told desk.old).may_create }
     ensures { Ends (Runs program.now stream.now image.now) result (seen_by D.told D.read_faults D.write_faults desk.old) (seen_by D.told D.read_faults D.write_faults desk.new) }
 {
-    let ran = match play_and_report(alloc, program, stream, desk) {
-        Ok(ran) => ran,
+    let played = match run_program(alloc, program, stream, desk) {
+        Ok(played) => played,
         Err(answer) => return refuse(alloc, answer, desk),
     };
-    match deliver(image, ran.machine.ram(), &ran.report, desk) {
+    match deliver(image, played.machine.ram(), &played.report, desk) {
         Ok(()) => Answer::Done,
         Err(_) => Answer::WriteFault,
     }

@@ -1,13 +1,10 @@
 //! The top call: what the program does with its words.
 #![tactic(auto)]
 
-mod answer;
 mod call;
 mod commands;
-mod desks;
-mod play;
-mod programs;
-mod texts;
+mod descriptions;
+mod runs;
 
-pub use answer::Answer;
 pub use call::bt878;
+pub use command_steps::Answer;

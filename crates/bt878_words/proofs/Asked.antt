@@ -1,6 +1,6 @@
 -- What words without a fault are, and the names that they give.
-use Rattle.std.proofs.Common.{◌≡◌, ◌≢◌, ℕ, ◌||◌, true, false, Bool, List, [], ◌∷◌, length, Option, Some, None, Result, Ok, Err, refl, sym, ap, subst, ◌∙◌, arith}
-use Rattle.std.proofs.lemmas.Bool.{eqb-true}
+use Rattle.std.proofs.Common.{◌≡◌, ◌≢◌, ℕ, ◌≤◌, ◌||◌, true, false, Bool, List, [], ◌∷◌, length, Option, Some, None, Result, Ok, Err, refl, sym, ap, subst, ◌∙◌, arith}
+use Rattle.std.proofs.lemmas.Bool.{eqb-true, leb-true}
 use Rattle.std.specs.Prelude.{◌==◌, ◌&&◌, nat_le, if◌then◌else◌}
 use Rattle.std.specs.Bool.{Decides}
 use Rattle.std.specs.Str.{bytes_eq}
@@ -280,6 +280,47 @@ asks_by v words c h e = of_verb v e (subst (λ w. is_built w ≡ true) e h.built
     of_verb verb.Damage e built many asks = absurd (cc)
     of_verb verb.Ring e built many asks = absurd (cc)
     of_verb verb.Assemble e built many asks = absurd (cc)
+
+-- a stream is made of 1 to 16 frames
+frames_of : Result Command UsageFault → ℕ
+frames_of (Ok (command.Make seed frames)) = frames
+frames_of _ = 0
+
+both_true : (a b : Bool) → (a && b) ≡ true → (a ≡ true) × (b ≡ true)
+both_true true b e = (refl, e)
+both_true false b e = absurd (cc)
+
+few_by : (a b : Option ℕ) (seed frames : ℕ) → made_with a b ≡ Ok (command.Make seed frames) → (1 ≤ frames) × (frames ≤ 16)
+unfolding frames_of
+few_by None b seed frames e = absurd (cc)
+few_by (Some s) None seed frames e = absurd (cc)
+few_by (Some s) (Some f) seed frames e = by_test (nat_le 1 f && nat_le f 16) refl e
+  where
+    same_frames : fine (command.Make s f) ≡ fine (command.Make seed frames) → (1 ≤ f) × (f ≤ 16) → (1 ≤ frames) × (frames ≤ 16)
+    same_frames e h = subst (λ n. (1 ≤ n) × (n ≤ 16)) (ap frames_of e) h
+
+    by_test : (t : Bool) → (nat_le 1 f && nat_le f 16) ≡ t → (if t then Ok (command.Make s f) else Err Number) ≡ Ok (command.Make seed frames) → (1 ≤ frames) × (frames ≤ 16)
+    by_test true is e =
+        let both = both_true (nat_le 1 f) (nat_le f 16) is in
+        same_frames e (leb-true 1 f both.0, leb-true f 16 both.1)
+    by_test false is e = absurd (cc)
+
+few_of : (v : Verb) (others : List (List ℕ)) (seed frames : ℕ) → length others ≡ operands v → command_with v others ≡ Ok (command.Make seed frames) → (1 ≤ frames) × (frames ≤ 16)
+few_of verb.List others seed frames many e = absurd (cc)
+few_of verb.Verify others seed frames many e = absurd (cc)
+few_of verb.Run others seed frames many e = absurd (cc)
+few_of verb.Compile others seed frames many e = absurd (cc)
+few_of verb.Capture others seed frames many e = absurd (cc)
+few_of verb.Make others seed frames many e =
+    let o = four_of others many in
+    few_by (number_of o.1) (number_of o.2) seed frames (subst (λ l. make_of l ≡ Ok (command.Make seed frames)) o.4 e)
+few_of verb.Chain others seed frames many e = absurd (cc)
+few_of verb.Damage others seed frames many e = absurd (cc)
+few_of verb.Ring others seed frames many e = absurd (cc)
+few_of verb.Assemble others seed frames many e = absurd (cc)
+
+pub few_frames : (words : List (List ℕ)) (seed frames : ℕ) → command_of words ≡ Ok (command.Make seed frames) → (1 ≤ frames) × (frames ≤ 16)
+few_frames words seed frames e = let h = found words (command.Make seed frames) e in few_of h.verb h.others seed frames h.many h.asks
 
 -- words without a fault are those of a command that this version has
 pub asked : (words : List (List ℕ)) (c : Command) → command_of words ≡ Ok c → Asks words c

@@ -1,0 +1,263 @@
+//! The commands over description files.
+
+ghost use Rattle.std.specs.Prelude.{◌≡◌, ◌≤◌, [], ◌∷◌, length, string_bytes, IfErr, IfOk, MatchResult};
+ghost use Rattle.bt878_tasks.specs.Tasks.{Captures, Compiles, Ends, Generates};
+ghost use Rattle.capture_desk.specs.Desks.{IsAllowed, WriteCounts};
+ghost use Rattle.capture_file.specs.Images.{image_of};
+ghost use Rattle.capture_file.specs.Programs.{spelled};
+ghost use Rattle.command_steps.specs.Desks.{CountsBy, IsFilePart, IsPart, OfInput, StopsAt, after_file, apart, delivered, seen_by};
+ghost use Rattle.command_steps.specs.Texts.{built_text, made_text};
+ghost use Rattle.desc_input.specs.Descriptions.{Describes, GivesCompiled, IsBadDesc};
+ghost use Rattle.field_stream.specs.Made.{made, made_entries, made_fields};
+
+use crate::runs::run_description;
+use capture_desk::{Desk, Failed};
+use command_steps::{
+    Answer, built_text, made_text, refuse, say_all, write_image_file, write_program_file,
+};
+use desc_input::check_file;
+use field_stream::{Made, make as put_stream};
+use page_ram::Ram;
+use planar_plan::Frame;
+use program_build::{Checked, build};
+use program_play::Played;
+use risc_verify::Program;
+use std::alloc::Global;
+
+/// The program of a description, its fill, and what is said of it.
+#[derive(Drop)]
+struct Built {
+    program: Program,
+    fill: u8,
+    text: String,
+}
+
+/// Reads a description file and builds its program.
+fn build_file<D: Desk>(alloc: Global, desc: &str, desk: &mut D) -> Result<Built, Answer>
+    requires { IsAllowed desc.now (D.told desk.old).may_open }
+    ensures built { IfOk result (λ built. OfInput desc.now (D.told desk.old).inputs (λ bytes. GivesCompiled bytes built.program built.fill)) }
+    ensures text { IfOk result (λ built. string_bytes built.text ≡ built_text (length built.program.words) (length built.program.grants)) }
+    ensures stops { IfErr result (λ answer. StopsAt IsBadDesc desc.now answer (seen_by D.told D.read_faults D.write_faults desk.old) (seen_by D.told D.read_faults D.write_faults desk.new)) }
+    ensures told { apart (D.told desk.new) ≡ apart (D.told desk.old) }
+    ensures counts { CountsBy result (seen_by D.told D.read_faults D.write_faults desk.old) (seen_by D.told D.read_faults D.write_faults desk.new) }
+{
+    let checked = check_file(alloc, desc, desk)?;
+    let program = match build(alloc, &checked) {
+        Ok(program) => program,
+        Err(_) => return Err(Answer::NoMemory),
+    };
+    match built_text(alloc, checked.words(), program.grants().len()) {
+        Ok(text) => Ok(Built {
+            program,
+            fill: checked.fill(),
+            text,
+        }),
+        Err(_) => Err(Answer::NoMemory),
+    }
+}
+
+/// Writes the file of a program and then says a text.
+fn deliver_program<D: Desk>(
+    name: &str,
+    program: &Program,
+    fill: u8,
+    text: &str,
+    desk: &mut D,
+) -> Result<(), Failed>
+    requires { IsAllowed name.now (D.told desk.old).may_create }
+    ensures left { MatchResult result
+        (λ _. D.told desk.new ≡ delivered ((name.now, spelled program.now fill) ∷ []) text.now (D.told desk.old))
+        (λ _. IsPart ((name.now, spelled program.now fill) ∷ []) text.now (D.told desk.old) (D.told desk.new)) }
+    ensures counts { WriteCounts result (D.read_faults desk.old) (D.read_faults desk.new)
+        (D.write_faults desk.old) (D.write_faults desk.new) }
+{
+    write_program_file(name, program, fill, desk)?;
+    match say_all(text.as_bytes(), desk) {
+        Ok(()) => Ok(()),
+        Err(failed) => Err(failed),
+    }
+}
+
+/// `compile DESC PROG`: writes the program of the description and says how many words and chunks it has.
+pub fn compile<D: Desk>(alloc: Global, desc: &str, program: &str, desk: &mut D) -> Answer
+    requires desc { IsAllowed desc.now (D.told desk.old).may_open }
+    requires program { IsAllowed program.now (D.told desk.old).may_create }
+    ensures { Ends (Compiles desc.now program.now) result (seen_by D.told D.read_faults D.write_faults desk.old) (seen_by D.told D.read_faults D.write_faults desk.new) }
+{
+    let built = match build_file(alloc, desc, desk) {
+        Ok(built) => built,
+        Err(answer) => return refuse(alloc, answer, desk),
+    };
+    match deliver_program(program, &built.program, built.fill, &built.text, desk) {
+        Ok(()) => Answer::Done,
+        Err(_) => Answer::WriteFault,
+    }
+}
+
+/// Writes the file of a program and the image of a memory, and then says a text.
+fn deliver_both<R: Ram, D: Desk>(
+    program: &str,
+    file: (&Program, u8),
+    image: &str,
+    ram: &R,
+    text: &str,
+    desk: &mut D,
+) -> Result<(), Failed>
+    requires program { IsAllowed program.now (D.told desk.old).may_create }
+    requires image { IsAllowed image.now (D.told desk.old).may_create }
+    ensures left { MatchResult result
+        (λ _. D.told desk.new ≡ delivered ((program.now, spelled file.0.now file.1) ∷ (image.now, image_of (R.memory ram.now)) ∷ []) text.now (D.told desk.old))
+        (λ _. IsPart ((program.now, spelled file.0.now file.1) ∷ (image.now, image_of (R.memory ram.now)) ∷ []) text.now (D.told desk.old) (D.told desk.new)) }
+    ensures counts { WriteCounts result (D.read_faults desk.old) (D.read_faults desk.new)
+        (D.write_faults desk.old) (D.write_faults desk.new) }
+{
+    let (words, fill) = file;
+    write_program_file(program, words, fill, desk)?;
+    write_image_file(image, ram, desk)?;
+    match say_all(text.as_bytes(), desk) {
+        Ok(()) => Ok(()),
+        Err(failed) => Err(failed),
+    }
+}
+
+/// `capture DESC STREAM PROG IMAGE`: runs the program of the description over the stream, writes the program
+/// and the image of its memory, and says its report.
+pub fn capture<D: Desk>(
+    alloc: Global,
+    desc: &str,
+    stream: &str,
+    program: &str,
+    image: &str,
+    desk: &mut D,
+) -> Answer
+    requires desc { IsAllowed desc.now (D.told desk.old).may_open }
+    requires stream { IsAllowed stream.now (D.told desk.old).may_open }
+    requires program { IsAllowed program.now (D.told desk.old).may_create }
+    requires image { IsAllowed image.now (D.told desk.old).may_create }
+    ensures { Ends (Captures desc.now stream.now program.now image.now) result (seen_by D.told D.read_faults D.write_faults desk.old) (seen_by D.told D.read_faults D.write_faults desk.new) }
+{
+    let played = match run_description(alloc, desc, stream, desk) {
+        Ok(played) => played,
+        Err(answer) => return refuse(alloc, answer, desk),
+    };
+    let Played {
+        machine,
+        fill,
+        report,
+    } = played;
+    match deliver_both(
+        program,
+        (machine.program(), fill),
+        image,
+        machine.ram(),
+        &report,
+        desk,
+    ) {
+        Ok(()) => Answer::Done,
+        Err(_) => Answer::WriteFault,
+    }
+}
+
+/// A description, and what is said of a stream that is made for it.
+#[derive(Drop)]
+struct Counted {
+    checked: Checked,
+    text: String,
+}
+
+/// Reads a description file and counts what a stream of so many frames has.
+fn count_file<D: Desk>(
+    alloc: Global,
+    desc: &str,
+    frames: u8,
+    desk: &mut D,
+) -> Result<Counted, Answer>
+    requires allowed { IsAllowed desc.now (D.told desk.old).may_open }
+    requires frames { (1 ≤ frames) × (frames ≤ 16) }
+    ensures described { IfOk result (λ counted. OfInput desc.now (D.told desk.old).inputs (λ bytes. Describes bytes counted.checked)) }
+    ensures text { IfOk result (λ counted. string_bytes counted.text ≡ made_text (made_fields counted.checked frames) (made_entries counted.checked frames)) }
+    ensures stops { IfErr result (λ answer. StopsAt IsBadDesc desc.now answer (seen_by D.told D.read_faults D.write_faults desk.old) (seen_by D.told D.read_faults D.write_faults desk.new)) }
+    ensures told { apart (D.told desk.new) ≡ apart (D.told desk.old) }
+    ensures counts { CountsBy result (seen_by D.told D.read_faults D.write_faults desk.old) (seen_by D.told D.read_faults D.write_faults desk.new) }
+{
+    let checked = check_file(alloc, desc, desk)?;
+    let counts = Made::of(checked.frame(), frames);
+    match made_text(alloc, counts.fields, counts.entries) {
+        Ok(text) => Ok(Counted { checked, text }),
+        Err(_) => Err(Answer::NoMemory),
+    }
+}
+
+/// Writes a generated stream.
+fn write_stream<D: Desk>(
+    name: &str,
+    frame: &Frame,
+    seed: u64,
+    frames: u8,
+    desk: &mut D,
+) -> Result<(), Failed>
+    requires allowed { IsAllowed name.now (D.told desk.old).may_create }
+    requires frames { (1 ≤ frames) × (frames ≤ 16) }
+    ensures left { MatchResult result
+        (λ _. D.told desk.new ≡ after_file (name.now, made frame.now seed frames) (D.told desk.old))
+        (λ _. IsFilePart name.now (made frame.now seed frames) (D.told desk.old) (D.told desk.new)) }
+    ensures counts { WriteCounts result (D.read_faults desk.old) (D.read_faults desk.new)
+        (D.write_faults desk.old) (D.write_faults desk.new) }
+{
+    desk.create_out(name)?;
+    put_stream(frame, seed, frames, desk)?;
+    match desk.finish() {
+        Ok(()) => Ok(()),
+        Err(failed) => Err(failed),
+    }
+}
+
+/// Writes a generated stream and then says a text.
+fn deliver_stream<D: Desk>(
+    name: &str,
+    frame: &Frame,
+    with: (u64, u8),
+    text: &str,
+    desk: &mut D,
+) -> Result<(), Failed>
+    requires allowed { IsAllowed name.now (D.told desk.old).may_create }
+    requires frames { (1 ≤ with.1) × (with.1 ≤ 16) }
+    ensures left { MatchResult result
+        (λ _. D.told desk.new ≡ delivered ((name.now, made frame.now with.0 with.1) ∷ []) text.now (D.told desk.old))
+        (λ _. IsPart ((name.now, made frame.now with.0 with.1) ∷ []) text.now (D.told desk.old) (D.told desk.new)) }
+    ensures counts { WriteCounts result (D.read_faults desk.old) (D.read_faults desk.new)
+        (D.write_faults desk.old) (D.write_faults desk.new) }
+{
+    let (seed, frames) = with;
+    write_stream(name, frame, seed, frames, desk)?;
+    match say_all(text.as_bytes(), desk) {
+        Ok(()) => Ok(()),
+        Err(failed) => Err(failed),
+    }
+}
+
+/// `make DESC SEED FRAMES STREAM`: writes a generated stream of so many frames of the description, and says
+/// how many fields and data entries it has.
+pub fn make<D: Desk>(
+    alloc: Global,
+    desc: &str,
+    seed: u64,
+    frames: u8,
+    stream: &str,
+    desk: &mut D,
+) -> Answer
+    requires desc { IsAllowed desc.now (D.told desk.old).may_open }
+    requires stream { IsAllowed stream.now (D.told desk.old).may_create }
+    requires frames { (1 ≤ frames) × (frames ≤ 16) }
+    ensures { Ends (Generates desc.now seed frames stream.now) result (seen_by D.told D.read_faults D.write_faults desk.old) (seen_by D.told D.read_faults D.write_faults desk.new) }
+{
+    let counted = match count_file(alloc, desc, frames, desk) {
+        Ok(counted) => counted,
+        Err(answer) => return refuse(alloc, answer, desk),
+    };
+    let frame = counted.checked.frame();
+    match deliver_stream(stream, frame, (seed, frames), &counted.text, desk) {
+        Ok(()) => Answer::Done,
+        Err(_) => Answer::WriteFault,
+    }
+}

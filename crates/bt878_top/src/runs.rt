@@ -1,0 +1,103 @@
+//! The runs of a program file's program and of a description's program over a stream file.
+
+ghost use Rattle.std.specs.Prelude.{◌≡◌, ◌<◌, string_bytes, IfErr, IfOk};
+ghost use Rattle.bt878_tasks.specs.Tasks.{StopsAtRun};
+ghost use Rattle.capture_desk.specs.Desks.{IsAllowed};
+ghost use Rattle.command_steps.specs.Desks.{CountsBy, apart, seen_by};
+ghost use Rattle.command_steps.specs.Texts.{report_text};
+ghost use Rattle.desc_input.specs.Descriptions.{GivesCompiled, HoldsValid, IsBadDesc};
+ghost use Rattle.dma_machine.specs.Facts.{report_of};
+ghost use Rattle.picture_model.specs.Programs.{compiled};
+ghost use Rattle.program_build.specs.Checks.{IsChecked};
+ghost use Rattle.program_play.specs.Programs.{GivesSound, HoldsSound, IsBadProgram, OfRun, last_of};
+
+use capture_desk::Desk;
+use command_steps::Answer;
+use desc_input::check_file;
+use program_build::{Checked, build};
+use program_play::{Loaded, Played, accept, play_file};
+use risc_verify::{Accepted, Steps, Why, verify};
+use std::alloc::{AllocError, Global};
+use std::marker::Brand;
+use std::sync::ledger::{Blank, Ledger};
+
+/// Runs the program of a program file over a stream file.
+pub fn run_program<D: Desk>(
+    alloc: Global,
+    program: &str,
+    stream: &str,
+    desk: &mut D,
+) -> Result<Played, Answer>
+    requires program { IsAllowed program.now (D.told desk.old).may_open }
+    requires stream { IsAllowed stream.now (D.told desk.old).may_open }
+    ensures ran { IfOk result (λ played. OfRun GivesSound program.now stream.now (D.told desk.old).inputs (λ r. (played.machine ≡ last_of r) × (played.fill ≡ r.fill))) }
+    ensures report { IfOk result (λ played. string_bytes played.report ≡ report_text (report_of played.machine)) }
+    ensures stops { IfErr result (λ answer. StopsAtRun IsBadProgram HoldsSound program.now stream.now answer (seen_by D.told D.read_faults D.write_faults desk.old) (seen_by D.told D.read_faults D.write_faults desk.new)) }
+    ensures told { apart (D.told desk.new) ≡ apart (D.told desk.old) }
+    ensures counts { CountsBy result (seen_by D.told D.read_faults D.write_faults desk.old) (seen_by D.told D.read_faults D.write_faults desk.new) }
+{
+    let Loaded { accepted, fill } = accept(alloc, program, desk)?;
+    match play_file(alloc, accepted, fill, stream, desk) {
+        Ok(played) => Ok(played),
+        Err(answer) => Err(answer),
+    }
+}
+
+/// The program of a checked description, verified as any other is: it is sound. The verifier's steps are
+/// counted in a ledger of their own.
+fn verified<L: Ledger>(
+    alloc: Global,
+    checked: &Checked,
+    blank: Blank,
+) -> Result<Accepted, AllocError>
+    requires name { blank.name ≡ L.name }
+    requires parts { blank.parts ≡ L.parts }
+    requires some { 0 < blank.parts }
+    ensures { IfOk result (λ accepted. accepted ≡ compiled checked.now) }
+{
+    let program = build(alloc, checked)?;
+    let mut steps = Steps::<L>::new(blank);
+    match verify(alloc, program, &mut steps) {
+        Ok(accepted) => Ok(accepted),
+        Err(rejected) => match rejected.why {
+            Why::Bad { .. } => unreachable!(),
+            Why::Memory => Err(AllocError),
+        },
+    }
+}
+
+/// The program that a checked description asks for, as the machine takes it.
+fn accepted_program(alloc: Global, checked: &Checked) -> Result<Accepted, AllocError>
+    ensures { IfOk result (λ accepted. accepted ≡ compiled checked.now) }
+{
+    match verified::<Brand>(alloc, checked, Blank::new(1)) {
+        Ok(accepted) => Ok(accepted),
+        Err(error) => Err(error),
+    }
+}
+
+/// Runs the program of a description file over a stream file.
+pub fn run_description<D: Desk>(
+    alloc: Global,
+    desc: &str,
+    stream: &str,
+    desk: &mut D,
+) -> Result<Played, Answer>
+    requires desc { IsAllowed desc.now (D.told desk.old).may_open }
+    requires stream { IsAllowed stream.now (D.told desk.old).may_open }
+    ensures ran { IfOk result (λ played. OfRun GivesCompiled desc.now stream.now (D.told desk.old).inputs (λ r. (played.machine ≡ last_of r) × (played.fill ≡ r.fill))) }
+    ensures report { IfOk result (λ played. string_bytes played.report ≡ report_text (report_of played.machine)) }
+    ensures stops { IfErr result (λ answer. StopsAtRun IsBadDesc HoldsValid desc.now stream.now answer (seen_by D.told D.read_faults D.write_faults desk.old) (seen_by D.told D.read_faults D.write_faults desk.new)) }
+    ensures told { apart (D.told desk.new) ≡ apart (D.told desk.old) }
+    ensures counts { CountsBy result (seen_by D.told D.read_faults D.write_faults desk.old) (seen_by D.told D.read_faults D.write_faults desk.new) }
+{
+    let checked = check_file(alloc, desc, desk)?;
+    let accepted = match accepted_program(alloc, &checked) {
+        Ok(accepted) => accepted,
+        Err(_) => return Err(Answer::NoMemory),
+    };
+    match play_file(alloc, accepted, checked.fill(), stream, desk) {
+        Ok(played) => Ok(played),
+        Err(answer) => Err(answer),
+    }
+}
