@@ -1,5 +1,5 @@
 -- A line as the code keeps it.
-use Rattle.std.specs.Prelude.{◌≤◌, List}
+use Rattle.std.specs.Prelude.{◌≡◌, ◌≤◌, ◌*◌, List, ⊤}
 use Rattle.field_stream.specs.declared.lines.Line.{Line}
 use Rattle.field_stream.specs.declared.lines.Line.TheVariants.{Packed, Planar}
 use Rattle.field_stream.specs.Pushes.{Push, packed_line, planar_line}
@@ -12,3 +12,8 @@ line_pushes (Planar luma chroma across) = planar_line luma chroma across
 abbrev pub IsShort : Line → Type 0
 IsShort (Packed bytes) = (5 ≤ bytes) × (bytes ≤ 4096)
 IsShort (Planar luma chroma across) = (5 ≤ luma) × (luma ≤ 1024) × (5 ≤ chroma) × (1 ≤ across)
+
+-- its chroma is as long as its luma, so that each entry of chroma follows an entry of luma
+abbrev pub IsEven : Line → Type 0
+IsEven (Packed bytes) = ⊤
+IsEven (Planar luma chroma across) = luma ≡ chroma * across

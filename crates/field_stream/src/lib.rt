@@ -1,6 +1,7 @@
 //! The generator of streams: the pushes of whole frames of a description, with drawn bytes.
 #![tactic(auto)]
 
+mod counts;
 mod draft;
 mod generator;
 mod laws;
@@ -9,6 +10,7 @@ mod stream;
 #[cfg(test)]
 mod tests;
 
+pub use counts::Made;
 pub use laws::the_smallest_stream;
 pub use lines::line_entries;
-pub use stream::{Made, make};
+pub use stream::make;

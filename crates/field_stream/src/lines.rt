@@ -2,8 +2,8 @@
 
 ghost use Rattle.std.specs.Prelude.{◌≡◌, ◌<◌, ◌≤◌};
 ghost use Rattle.sync_status.specs.Statuses.{valid_bytes};
-ghost use Rattle.field_stream.specs.Pushes.{end_status, line_entries, packed_line, picture_line, status_at};
-ghost use Rattle.field_stream.specs.Lines.{IsShort, line_pushes};
+ghost use Rattle.field_stream.specs.Pushes.{end_status, entries_in, line_entries, packed_line, picture_line, status_at};
+ghost use Rattle.field_stream.specs.Lines.{IsEven, IsShort, line_pushes};
 
 use planar_plan::Frame;
 use sync_status::Status;
@@ -58,11 +58,27 @@ pub(crate) enum Line {
     Planar { luma: u32, chroma: u32, across: u32 },
 }
 
+impl Line {
+    // How many entries it has: in a planar format those of luma, and those of chroma on each of two queues.
+    pub(crate) fn entries(self) -> u32
+        requires short { IsShort self }
+        requires even { IsEven self }
+        ensures value { result ≡ entries_in (line_pushes self) }
+        ensures few { result ≤ 3072 }
+    {
+        match self {
+            Line::Packed { bytes } => line_entries(bytes),
+            Line::Planar { luma, chroma, .. } => line_entries(luma) + 2 * line_entries(chroma),
+        }
+    }
+}
+
 // A VBI line of a frame that has some.
 pub(crate) fn vbi_line(frame: &Frame) -> Line
     requires { 0 < frame.now.vbi_lines }
     ensures pushes { line_pushes result ≡ packed_line frame.now.vbi_bytes }
     ensures short { IsShort result }
+    ensures even { IsEven result }
 {
     Line::Packed {
         bytes: frame.desc().vbi_bytes,
@@ -73,6 +89,7 @@ pub(crate) fn vbi_line(frame: &Frame) -> Line
 pub(crate) fn picture_line(frame: &Frame) -> Line
     ensures pushes { line_pushes result ≡ picture_line frame.now }
     ensures short { IsShort result }
+    ensures even { IsEven result }
 {
     let format = frame.format();
     let width = frame.desc().width;

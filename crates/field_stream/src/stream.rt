@@ -10,6 +10,7 @@ ghost use Rattle.field_stream.specs.Lines.{IsShort, line_pushes};
 ghost use Rattle.field_stream.specs.Made.{made, made_entries, made_fields};
 ghost use Rattle.field_stream.specs.Drafts.{Moves, pushed, pushed_all};
 
+use crate::counts::{Made, fields};
 use crate::draft::{Draft, LINE, ROOM};
 use crate::lines::{Line, picture_line, vbi_line};
 use capture_desc::Fields;
@@ -17,15 +18,6 @@ use capture_desk::{Desk, Failed, put};
 use pixel_layout::Parity;
 use planar_plan::Frame;
 use risc_word::Code;
-
-/// How much a stream has that was made.
-#[derive(Clone, Copy, Debug, PartialEq, Eq)]
-pub struct Made {
-    /// The fields of its frames.
-    pub fields: u32,
-    /// The data entries that it pushes.
-    pub entries: u64,
-}
 
 // Puts what a draft holds where a line might not fit behind it.
 fn make_room<D: Desk>(draft: &mut Draft, desk: &mut D) -> Result<(), Failed>
@@ -193,18 +185,6 @@ fn put_end<D: Desk>(draft: &mut Draft, desk: &mut D) -> Result<(), Failed>
     make_room(draft, desk)?;
     draft.append(&[0]);
     put(desk, draft.as_slice())
-}
-
-// How many fields a frame has.
-fn fields(frame: &Frame) -> u32
-    ensures value { result ≡ length (fields_of frame.now.fields) }
-    ensures few { result ≤ 2 }
-    ensures framed { IsFramed frame.now }
-{
-    match frame.desc().fields {
-        Fields::Top | Fields::Bottom => 1,
-        Fields::Both => 2,
-    }
 }
 
 /// Puts a stream of so many frames of a description, whose bytes are drawn from the seed, and answers how

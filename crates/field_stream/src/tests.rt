@@ -92,6 +92,27 @@ fn two_fields_of_planar_lines(rt: HostRuntime) -> Result<(), Fail> {
 }
 
 #[test]
+fn counts_need_no_stream(rt: HostRuntime) {
+    let smallest = b"format = \"y8\"\nwidth = 8\nheight = 1\npages = [0x20000]\nfields = \"top\"\n";
+    let planar = b"format = \"yuv420p\"\nwidth = 16\nheight = 6\npages = [0x20000]\n";
+    let with_vbi =
+        b"format = \"y8\"\nwidth = 8\nheight = 2\nvbi_lines = 3\nvbi_bytes = 13\npages = [0x20000]\n";
+    let counts = |fields, entries| Some(Made { fields, entries });
+    assert_eq!(rt;
+        frame(rt.alloc(), smallest).map(|frame| Made::of(&frame, 1)),
+        counts(1, 2)
+    );
+    assert_eq!(rt;
+        frame(rt.alloc(), planar).map(|frame| Made::of(&frame, 1)),
+        counts(2, 48)
+    );
+    assert_eq!(rt;
+        frame(rt.alloc(), with_vbi).map(|frame| Made::of(&frame, 16)),
+        counts(32, 448)
+    );
+}
+
+#[test]
 fn a_desk_that_is_full(rt: HostRuntime) -> Result<(), Fail> {
     let text = b"format = \"y8\"\nwidth = 8\nheight = 1\npages = [0x20000]\nfields = \"top\"\n";
     let frame = match frame(rt.alloc(), text) {
