@@ -1,111 +1,143 @@
 -- The words as they are passed, and the names in them.
-use Rattle.std.proofs.Common.{◌≡◌, ℕ, true, false, Bool, ◌||◌, List, [], ◌∷◌, map, Option, Some, None, Ok, refl, sym, ap, subst, ◌∙◌, slice_index_or}
-use Rattle.std.specs.Bool.{Decides}
-use Rattle.std.specs.Str.{bytes_eq}
-use Rattle.std.proofs.lemmas.Slice.Eq.{bytes_eq-Decides}
+use Rattle.std.proofs.Common.{◌≡◌, ℕ, true, List, [], ◌∷◌, map, Option, Some, None, Ok, sym, ap, subst, ◌∙◌, slice_index_or}
 use Rattle.std.proofs.Math.ListN.{get_or-map}
 use Rattle.bt878_words.specs.declared.Command.TheVariants as command
 use Rattle.bt878_words.specs.Words.{command_of, inputs_of, outputs_of}
-use Rattle.bt878_words.proofs.Asked.{AsksProgram, AsksRun, asked}
+use Rattle.bt878_words.proofs.Asked.{AsksProgram, AsksRun, AsksCompile, AsksCapture, AsksMake, asked}
 use Rattle.capture_desk.specs.Desks.{IsAllowed, is_among}
-use Rattle.bt878_tasks.specs.Tasks.{AreNames, Lists, Verifies, Runs, task_of, task_with}
+use Rattle.bt878_tasks.specs.Tasks.{AreNames, Lists, Verifies, Runs, Compiles, Captures, Generates, task_of, task_with}
+use Rattle.bt878_tasks.proofs.Outputs.{first_among, later_among}
 
--- ---- the names may be used
-
-true_of : (b : Bool) (P : Type 0) → Decides b P → P → b ≡ true
-true_of true P d h = refl
-true_of false P d h = d.1 h
-
-or_true : (a b : Bool) → b ≡ true → (a || b) ≡ true
-or_true true b h = refl
-or_true false b h = h
-
-same_name : (name : List ℕ) → bytes_eq name name ≡ true
-same_name name = true_of (bytes_eq name name) (name ≡ name) (bytes_eq-Decides name name) refl
-
-pub allowed : (names : List (List ℕ)) (told : Option (List (List ℕ))) (name : List ℕ) → AreNames names told → is_among name names ≡ true → IsAllowed name told
+-- a name may be used where it is one of those that are told
+allowed : (names : List (List ℕ)) (told : Option (List (List ℕ))) (name : List ℕ) → AreNames names told → is_among name names ≡ true → IsAllowed name told
 allowed names None name are among = tt
 allowed names (Some known) name are among = are name ∙ among
 
-pub first_among : (name other : List ℕ) (names : List (List ℕ)) → name ≡ other → is_among name (other ∷ names) ≡ true
-first_among name other names e = subst (λ n. is_among name (n ∷ names) ≡ true) e (ap (λ t. t || is_among name names) (same_name name))
+first : (name other : List ℕ) (names : List (List ℕ)) → name ≡ other → is_among name (other ∷ names) ≡ true
+first name other names e = subst (λ n. is_among name (n ∷ names) ≡ true) e (first_among name names)
 
-pub later_among : (name other : List ℕ) (names : List (List ℕ)) → is_among name names ≡ true → is_among name (other ∷ names) ≡ true
-later_among name other names h = or_true (bytes_eq other name) (is_among name names) h
+second : (name before other : List ℕ) (names : List (List ℕ)) → name ≡ other → is_among name (before ∷ other ∷ names) ≡ true
+second name before other names e = later_among name before (other ∷ names) (first name other names e)
 
--- what the words ask for
-pub lists_task : (words : List (List ℕ)) (h : AsksProgram words) → command_of words ≡ Ok command.List → task_of words ≡ Ok (Lists h.program)
-lists_task words h e = ap (λ c. task_with c words) e ∙ ap (task_with (Ok command.List)) h.are
-
-pub verifies_task : (words : List (List ℕ)) (h : AsksProgram words) → command_of words ≡ Ok command.Verify → task_of words ≡ Ok (Verifies h.program)
-verifies_task words h e = ap (λ c. task_with c words) e ∙ ap (task_with (Ok command.Verify)) h.are
-
-pub runs_task : (words : List (List ℕ)) (h : AsksRun words) → command_of words ≡ Ok command.Run → task_of words ≡ Ok (Runs h.program h.stream h.image)
-runs_task words h e = ap (λ c. task_with c words) e ∙ ap (task_with (Ok command.Run)) h.are
-
--- the words as they are passed
 module _ {X : Type 0} (f : X → List ℕ) (xs : List X) (d : X) where
+  abbrev words : List (List ℕ)
+  words = map f xs
+
   abbrev word_at : ℕ → List ℕ
   word_at k = f (slice_index_or xs k d)
 
-  at : (k : ℕ) (words : List (List ℕ)) → map f xs ≡ words → word_at k ≡ slice_index_or words k (f d)
-  at k words e = sym (get_or-map f xs k d) ∙ ap (λ l. slice_index_or l k (f d)) e
+  at : (k : ℕ) (others : List (List ℕ)) → words ≡ others → word_at k ≡ slice_index_or others k (f d)
+  at k others e = sym (get_or-map f xs k d) ∙ ap (λ l. slice_index_or l k (f d)) e
 
-  list_is : command_of (map f xs) ≡ Ok command.List → AsksProgram (map f xs)
-  list_is e = asked (map f xs) command.List e
+  -- an input, and an output, is among the names that the words give
+  opens : (k : ℕ) (names : List (List ℕ)) (told : Option (List (List ℕ))) → inputs_of words ≡ names → is_among (word_at k) names ≡ true → AreNames (inputs_of words) told → IsAllowed (word_at k) told
+  opens k names told e among are = allowed (inputs_of words) told (word_at k) are (subst (λ n. is_among (word_at k) n ≡ true) (sym e) among)
 
-  verify_is : command_of (map f xs) ≡ Ok command.Verify → AsksProgram (map f xs)
-  verify_is e = asked (map f xs) command.Verify e
+  creates : (k : ℕ) (names : List (List ℕ)) (told : Option (List (List ℕ))) → outputs_of words ≡ names → is_among (word_at k) names ≡ true → AreNames (outputs_of words) told → IsAllowed (word_at k) told
+  creates k names told e among are = allowed (outputs_of words) told (word_at k) are (subst (λ n. is_among (word_at k) n ≡ true) (sym e) among)
 
-  run_is : command_of (map f xs) ≡ Ok command.Run → AsksRun (map f xs)
-  run_is e = asked (map f xs) command.Run e
+  program_allowed : (told : Option (List (List ℕ))) (h : AsksProgram words) → AreNames (inputs_of words) told → IsAllowed (word_at 1) told
+  program_allowed told h are = opens 1 (h.program ∷ []) told h.opens (first (word_at 1) h.program [] (at 1 _ h.are)) are
 
-  program_allowed : (told : Option (List (List ℕ))) (h : AsksProgram (map f xs)) → AreNames (inputs_of (map f xs)) told → IsAllowed (word_at 1) told
-  program_allowed told h are =
-      allowed (inputs_of (map f xs)) told (word_at 1) are
-      (subst (λ names. is_among (word_at 1) names ≡ true) (sym h.opens) (first_among (word_at 1) h.program [] (at 1 (h.word ∷ h.program ∷ []) h.are)))
+  pub list_allowed : (told : Option (List (List ℕ))) → command_of words ≡ Ok command.List → AreNames (inputs_of words) told → IsAllowed (word_at 1) told
+  list_allowed told e are = program_allowed told (asked words command.List e) are
 
-  pub list_allowed : (told : Option (List (List ℕ))) → command_of (map f xs) ≡ Ok command.List → AreNames (inputs_of (map f xs)) told → IsAllowed (word_at 1) told
-  list_allowed told e are = program_allowed told (list_is e) are
+  pub verify_allowed : (told : Option (List (List ℕ))) → command_of words ≡ Ok command.Verify → AreNames (inputs_of words) told → IsAllowed (word_at 1) told
+  verify_allowed told e are = program_allowed told (asked words command.Verify e) are
 
-  pub verify_allowed : (told : Option (List (List ℕ))) → command_of (map f xs) ≡ Ok command.Verify → AreNames (inputs_of (map f xs)) told → IsAllowed (word_at 1) told
-  verify_allowed told e are = program_allowed told (verify_is e) are
-
-  pub run_program_allowed : (told : Option (List (List ℕ))) → command_of (map f xs) ≡ Ok command.Run → AreNames (inputs_of (map f xs)) told → IsAllowed (word_at 1) told
+  pub run_program_allowed : (told : Option (List (List ℕ))) → command_of words ≡ Ok command.Run → AreNames (inputs_of words) told → IsAllowed (word_at 1) told
   run_program_allowed told e are =
-      let h = run_is e in
-      allowed (inputs_of (map f xs)) told (word_at 1) are
-      (subst (λ names. is_among (word_at 1) names ≡ true) (sym h.opens) (first_among (word_at 1) h.program (h.stream ∷ []) (at 1 _ h.are)))
+      let h : AsksRun words = asked words command.Run e in
+      opens 1 (h.program ∷ h.stream ∷ []) told h.opens (first (word_at 1) h.program (h.stream ∷ []) (at 1 _ h.are)) are
 
-  pub run_stream_allowed : (told : Option (List (List ℕ))) → command_of (map f xs) ≡ Ok command.Run → AreNames (inputs_of (map f xs)) told → IsAllowed (word_at 2) told
+  pub run_stream_allowed : (told : Option (List (List ℕ))) → command_of words ≡ Ok command.Run → AreNames (inputs_of words) told → IsAllowed (word_at 2) told
   run_stream_allowed told e are =
-      let h = run_is e in
-      allowed (inputs_of (map f xs)) told (word_at 2) are
-      (subst (λ names. is_among (word_at 2) names ≡ true) (sym h.opens)
-      (later_among (word_at 2) h.program (h.stream ∷ []) (first_among (word_at 2) h.stream [] (at 2 _ h.are))))
+      let h : AsksRun words = asked words command.Run e in
+      opens 2 (h.program ∷ h.stream ∷ []) told h.opens (second (word_at 2) h.program h.stream [] (at 2 _ h.are)) are
 
-  pub run_image_allowed : (told : Option (List (List ℕ))) → command_of (map f xs) ≡ Ok command.Run → AreNames (outputs_of (map f xs)) told → IsAllowed (word_at 3) told
+  pub run_image_allowed : (told : Option (List (List ℕ))) → command_of words ≡ Ok command.Run → AreNames (outputs_of words) told → IsAllowed (word_at 3) told
   run_image_allowed told e are =
-      let h = run_is e in
-      allowed (outputs_of (map f xs)) told (word_at 3) are
-      (subst (λ names. is_among (word_at 3) names ≡ true) (sym h.creates) (first_among (word_at 3) h.image [] (at 3 _ h.are)))
+      let h : AsksRun words = asked words command.Run e in
+      creates 3 (h.image ∷ []) told h.creates (first (word_at 3) h.image [] (at 3 _ h.are)) are
 
-  pub list_task : command_of (map f xs) ≡ Ok command.List → task_of (map f xs) ≡ Ok (Lists (word_at 1))
+  pub compile_desc_allowed : (told : Option (List (List ℕ))) → command_of words ≡ Ok command.Compile → AreNames (inputs_of words) told → IsAllowed (word_at 1) told
+  compile_desc_allowed told e are =
+      let h : AsksCompile words = asked words command.Compile e in
+      opens 1 (h.desc ∷ []) told h.opens (first (word_at 1) h.desc [] (at 1 _ h.are)) are
+
+  pub compile_program_allowed : (told : Option (List (List ℕ))) → command_of words ≡ Ok command.Compile → AreNames (outputs_of words) told → IsAllowed (word_at 2) told
+  compile_program_allowed told e are =
+      let h : AsksCompile words = asked words command.Compile e in
+      creates 2 (h.program ∷ []) told h.creates (first (word_at 2) h.program [] (at 2 _ h.are)) are
+
+  pub capture_desc_allowed : (told : Option (List (List ℕ))) → command_of words ≡ Ok command.Capture → AreNames (inputs_of words) told → IsAllowed (word_at 1) told
+  capture_desc_allowed told e are =
+      let h : AsksCapture words = asked words command.Capture e in
+      opens 1 (h.desc ∷ h.stream ∷ []) told h.opens (first (word_at 1) h.desc (h.stream ∷ []) (at 1 _ h.are)) are
+
+  pub capture_stream_allowed : (told : Option (List (List ℕ))) → command_of words ≡ Ok command.Capture → AreNames (inputs_of words) told → IsAllowed (word_at 2) told
+  capture_stream_allowed told e are =
+      let h : AsksCapture words = asked words command.Capture e in
+      opens 2 (h.desc ∷ h.stream ∷ []) told h.opens (second (word_at 2) h.desc h.stream [] (at 2 _ h.are)) are
+
+  pub capture_program_allowed : (told : Option (List (List ℕ))) → command_of words ≡ Ok command.Capture → AreNames (outputs_of words) told → IsAllowed (word_at 3) told
+  capture_program_allowed told e are =
+      let h : AsksCapture words = asked words command.Capture e in
+      creates 3 (h.program ∷ h.image ∷ []) told h.creates (first (word_at 3) h.program (h.image ∷ []) (at 3 _ h.are)) are
+
+  pub capture_image_allowed : (told : Option (List (List ℕ))) → command_of words ≡ Ok command.Capture → AreNames (outputs_of words) told → IsAllowed (word_at 4) told
+  capture_image_allowed told e are =
+      let h : AsksCapture words = asked words command.Capture e in
+      creates 4 (h.program ∷ h.image ∷ []) told h.creates (second (word_at 4) h.program h.image [] (at 4 _ h.are)) are
+
+  pub make_desc_allowed : (seed frames : ℕ) (told : Option (List (List ℕ))) → command_of words ≡ Ok (command.Make seed frames) → AreNames (inputs_of words) told → IsAllowed (word_at 1) told
+  make_desc_allowed seed frames told e are =
+      let h : AsksMake words = asked words (command.Make seed frames) e in
+      opens 1 (h.desc ∷ []) told h.opens (first (word_at 1) h.desc [] (at 1 _ h.are)) are
+
+  pub make_stream_allowed : (seed frames : ℕ) (told : Option (List (List ℕ))) → command_of words ≡ Ok (command.Make seed frames) → AreNames (outputs_of words) told → IsAllowed (word_at 4) told
+  make_stream_allowed seed frames told e are =
+      let h : AsksMake words = asked words (command.Make seed frames) e in
+      creates 4 (h.stream ∷ []) told h.creates (first (word_at 4) h.stream [] (at 4 _ h.are)) are
+
+  -- what the words ask for
+  pub list_task : command_of words ≡ Ok command.List → task_of words ≡ Ok (Lists (word_at 1))
   list_task e =
-      let h = list_is e in
-      lists_task (map f xs) h e
-      ∙ ap (λ program. Ok (Lists program)) (sym (at 1 _ h.are))
+      let h : AsksProgram words = asked words command.List e in
+      ap (λ c. task_with c words) e ∙ ap (task_with (Ok command.List)) h.are ∙ ap (λ program. Ok (Lists program)) (sym (at 1 _ h.are))
 
-  pub verify_task : command_of (map f xs) ≡ Ok command.Verify → task_of (map f xs) ≡ Ok (Verifies (word_at 1))
+  pub verify_task : command_of words ≡ Ok command.Verify → task_of words ≡ Ok (Verifies (word_at 1))
   verify_task e =
-      let h = verify_is e in
-      verifies_task (map f xs) h e
-      ∙ ap (λ program. Ok (Verifies program)) (sym (at 1 _ h.are))
+      let h : AsksProgram words = asked words command.Verify e in
+      ap (λ c. task_with c words) e ∙ ap (task_with (Ok command.Verify)) h.are ∙ ap (λ program. Ok (Verifies program)) (sym (at 1 _ h.are))
 
-  pub run_task : command_of (map f xs) ≡ Ok command.Run → task_of (map f xs) ≡ Ok (Runs (word_at 1) (word_at 2) (word_at 3))
+  pub run_task : command_of words ≡ Ok command.Run → task_of words ≡ Ok (Runs (word_at 1) (word_at 2) (word_at 3))
   run_task e =
-      let h = run_is e in
-      runs_task (map f xs) h e
+      let h : AsksRun words = asked words command.Run e in
+      ap (λ c. task_with c words) e ∙ ap (task_with (Ok command.Run)) h.are
       ∙ ap (λ program. Ok (Runs program h.stream h.image)) (sym (at 1 _ h.are))
       ∙ ap (λ stream. Ok (Runs (word_at 1) stream h.image)) (sym (at 2 _ h.are))
       ∙ ap (λ image. Ok (Runs (word_at 1) (word_at 2) image)) (sym (at 3 _ h.are))
+
+  pub compile_task : command_of words ≡ Ok command.Compile → task_of words ≡ Ok (Compiles (word_at 1) (word_at 2))
+  compile_task e =
+      let h : AsksCompile words = asked words command.Compile e in
+      ap (λ c. task_with c words) e ∙ ap (task_with (Ok command.Compile)) h.are
+      ∙ ap (λ desc. Ok (Compiles desc h.program)) (sym (at 1 _ h.are))
+      ∙ ap (λ program. Ok (Compiles (word_at 1) program)) (sym (at 2 _ h.are))
+
+  pub capture_task : command_of words ≡ Ok command.Capture → task_of words ≡ Ok (Captures (word_at 1) (word_at 2) (word_at 3) (word_at 4))
+  capture_task e =
+      let h : AsksCapture words = asked words command.Capture e in
+      ap (λ c. task_with c words) e ∙ ap (task_with (Ok command.Capture)) h.are
+      ∙ ap (λ desc. Ok (Captures desc h.stream h.program h.image)) (sym (at 1 _ h.are))
+      ∙ ap (λ stream. Ok (Captures (word_at 1) stream h.program h.image)) (sym (at 2 _ h.are))
+      ∙ ap (λ program. Ok (Captures (word_at 1) (word_at 2) program h.image)) (sym (at 3 _ h.are))
+      ∙ ap (λ image. Ok (Captures (word_at 1) (word_at 2) (word_at 3) image)) (sym (at 4 _ h.are))
+
+  pub make_task : (seed frames : ℕ) → command_of words ≡ Ok (command.Make seed frames) → task_of words ≡ Ok (Generates (word_at 1) seed frames (word_at 4))
+  make_task seed frames e =
+      let h : AsksMake words = asked words (command.Make seed frames) e in
+      ap (λ c. task_with c words) e ∙ ap (task_with (Ok (command.Make seed frames))) h.are
+      ∙ ap (λ desc. Ok (Generates desc seed frames h.stream)) (sym (at 1 _ h.are))
+      ∙ ap (λ stream. Ok (Generates (word_at 1) seed frames stream)) (sym (at 4 _ h.are))

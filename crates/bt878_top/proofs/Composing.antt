@@ -1,104 +1,51 @@
 -- How the parts of a command make the whole.
 use Rattle.std.proofs.Common.{◌≡◌, ℕ, ◌<◌, ◌≤◌, ◌⊎◌, inl, inr, List, [], ◌∷◌, length, take, Option, refl, sym, ap, subst, ◌∙◌, arith}
-use Rattle.std.proofs.lemmas.List.{take_all}
-use Rattle.capture_desk.specs.Desks.{HasRisen, Inputs, Told, after_create, after_finish, after_say, after_write}
-use Rattle.capture_file.specs.declared.Input.TheVariants.{Program, Stream}
+use Rattle.capture_desk.specs.Desks.{HasRisen, Inputs, after_say}
 use Rattle.capture_file.specs.Images.{image_of}
+use Rattle.capture_file.specs.Programs.{spelled}
 use Rattle.capture_file.specs.Streams.{steps_run}
-use Rattle.machine_model.specs.States.{State, first_state}
-use Rattle.machine_model.specs.Steps.{run}
-use Rattle.machine_model.proofs.Runs.{IsInside-first_state}
+use Rattle.capture_desc.specs.declared.desc.Desc.{Desc}
+use Rattle.machine_model.specs.Paths.{RiscProgram, IsSound}
+use Rattle.machine_model.specs.States.{State}
+use Rattle.machine_model.proofs.Runs.{IsInside-first_state, program-run}
 use Rattle.dma_machine.specs.Facts.{report_of}
+use Rattle.picture_model.specs.Programs.{compiled}
+use Rattle.field_stream.specs.Made.{made, made_entries, made_fields}
+use Rattle.program_build.proofs.Checking.{checked_sound}
 use Rattle.bt878_words.specs.declared.UsageFault.{UsageFault}
 use Rattle.command_steps.specs.declared.answer.Answer.{Answer}
-use Rattle.command_steps.specs.declared.answer.Answer.TheVariants.{Done, Usage, ReadFault, WriteFault, Malformed, Rejected, NoMemory}
-use Rattle.command_steps.specs.Desks.{Seen, OfInput, NeedsMemory, Refused, Says, SameCounts, WritesRose, IsFilePart, IsPart, apart, delivered}
-use Rattle.command_steps.specs.Texts.{answer_text, report_text}
-use Rattle.program_play.specs.Programs.{HasRun, StopsAtFile, StopsAtProgram, StopsAtStream}
-use Rattle.bt878_tasks.specs.Tasks.{Task, Lists, Verifies, Runs, Ends, IsDone, IsPartDone, Makes, RunMakes, Stops}
-use Rattle.program_play.proofs.Loading.{OfInput-map}
+use Rattle.command_steps.specs.declared.answer.Answer.TheVariants.{Done, Usage, ReadFault, WriteFault, Malformed, BadDesc, BadGeometry, Rejected, NoMemory}
+use Rattle.command_steps.specs.Desks.{Seen, Product, OfInput, NeedsMemory, Refused, Says, SameCounts, StopsAt, WritesRose, IsPart, apart, delivered}
+use Rattle.command_steps.specs.Texts.{answer_text, built_text, made_text, report_text}
+use Rattle.command_steps.proofs.Parts.{apart_part, apart_delivered}
+use Rattle.program_play.specs.Programs.{Accepts, GivesSound, HoldsSound, IsBadFile, IsBadProgram, IsBadStream, IsRun, OfRun, Ran, first_of, last_of}
 use Rattle.program_play.proofs.Fitting.{steps_fit}
-
--- ---- one file and a text
-
-pub created_part : (name bytes : List ℕ) (t new : Told) → new ≡ t → IsFilePart name bytes t new
-created_part name bytes t new e = inl e
-
-pub written_part : (name bytes : List ℕ) (t mid new : Told) → mid ≡ after_create name t →
-    (n : ℕ) × (n < length bytes) × (new ≡ after_write (take n bytes) mid) → IsFilePart name bytes t new
-written_part name bytes t mid new e (n, few, f) = inr (n, omega arith, f ∙ ap (after_write (take n bytes)) e)
-
-pub finished_part : (name bytes : List ℕ) (t mid new : Told) → mid ≡ after_write bytes (after_create name t) → new ≡ mid → IsFilePart name bytes t new
-finished_part name bytes t mid new e f =
-    inr (length bytes, omega arith, f ∙ e ∙ ap (λ x. after_write x (after_create name t)) (sym (take_all (length bytes) bytes (omega arith))))
-
-pub file_part : (name bytes text : List ℕ) (t new : Told) → IsFilePart name bytes t new → IsPart ((name, bytes) ∷ []) text t new
-file_part name bytes text t new (inl e) = inl e
-file_part name bytes text t new (inr h) = inr (inl h)
-
-pub text_part : (name bytes text : List ℕ) (t mid new : Told) → mid ≡ after_finish (after_write bytes (after_create name t)) →
-    (n : ℕ) × (n < length text) × (new ≡ after_say (take n text) mid) → IsPart ((name, bytes) ∷ []) text t new
-text_part name bytes text t mid new e (n, few, f) = inr (inr (n, omega arith, f ∙ ap (after_say (take n text)) e))
-
--- ---- the open input has no part in what is written and said
-
-pub apart_part : (files : List (List ℕ × List ℕ)) (text : List ℕ) (t new : Told) → IsPart files text t new → IsPart files text (apart t) (apart new)
-apart_part [] text t new (n, few, e) = (n, few, ap apart e)
-apart_part (file ∷ files) text t new (inl e) = inl (ap apart e)
-apart_part (file ∷ files) text t new (inr (inl (n, few, e))) = inr (inl (n, few, ap apart e))
-apart_part (file ∷ files) text t new (inr (inr h)) =
-    inr (inr (apart_part files text (after_finish (after_write file.1 (after_create file.0 t))) new h))
-
--- ---- what a run makes
-
-pub run_makes : (a b image : List ℕ) (m : State) → HasRun a b m →
-    RunMakes a b image (record { files = (image, image_of m.memory) ∷ []; text = report_text (report_of m) })
-run_makes a b image m h =
-    let first = first_state h.is_made.program h.is_made.fill in
-    let last : m ≡ run first (steps_run h.played.0) = h.played.2 ∙ ap (λ s. run s (steps_run h.played.0)) h.is_made.first in
-    record {
-      program = h.is_made.program;
-      fill = h.is_made.fill;
-      steps = h.played.0;
-      accepts = h.is_made.accepts;
-      reads = h.played.1;
-      images = ap (λ (s : State). (image, image_of s.memory) ∷ []) last;
-      reports = ap (λ s. report_text (report_of s)) last;
-      inside = λ number. IsInside-first_state h.is_made.program h.is_made.fill (steps_run h.played.0) number h.is_made.accepts.sound (steps_fit b h.played.0 h.played.1);
-    }
-
-pub run_product : (program stream image : List ℕ) (inputs : Option Inputs) (m : State) →
-    OfInput program inputs (λ a. OfInput stream inputs (λ b. HasRun a b m)) →
-    Makes (Runs program stream image) inputs (record { files = (image, image_of m.memory) ∷ []; text = report_text (report_of m) })
-run_product program stream image inputs m h = (
-  (image_of m.memory, refl),
-  OfInput-map program inputs (λ a. OfInput stream inputs (λ b. HasRun a b m)) (λ a. OfInput stream inputs (λ b. RunMakes a b image _))
-      (λ a k. OfInput-map stream inputs (λ b. HasRun a b m) (λ b. RunMakes a b image _) (λ b. run_makes a b image m) k) h,
-)
+use Rattle.program_play.proofs.Loading.{OfInput-map}
+use Rattle.desc_input.specs.Descriptions.{Describes, GivesCompiled, HoldsValid, IsBadDesc}
+use Rattle.bt878_tasks.specs.Tasks.{Task, Lists, Verifies, Runs, Compiles, Captures, Generates, DescMakes, Ends, IsDone, IsPartDone, Makes, RunMakes, Stops, StopsAtRun, compiled_text, creates, image_file, names_of, program_file}
+use Rattle.bt878_tasks.proofs.Inputs.{OfRun-map}
 
 -- ---- refusals
 
-stops_at_file_later : (name : List ℕ) (answer : Answer) (old mid new : Seen) → mid.reads ≤ new.reads → StopsAtFile name answer old mid → StopsAtFile name answer old new
-stops_at_file_later name ReadFault old mid new more (inl rose) = inl (omega arith)
-stops_at_file_later name ReadFault old mid new more (inr missing) = inr missing
-stops_at_file_later name (Malformed Program fault) old mid new more h = h
-stops_at_file_later name answer old mid new more h = h
+-- the desk may meet more faults of reading later
+stops_at_later : (IsBad : List ℕ → Answer → Option Inputs → Type 0) (name : List ℕ) (answer : Answer) (old mid new : Seen) → mid.reads ≤ new.reads →
+    StopsAt IsBad name answer old mid → StopsAt IsBad name answer old new
+stops_at_later IsBad name ReadFault old mid new more (inl rose) = inl (omega arith)
+stops_at_later IsBad name ReadFault old mid new more (inr missing) = inr missing
+stops_at_later IsBad name answer old mid new more h = h
 
-stops_at_program_later : (name : List ℕ) (answer : Answer) (old mid new : Seen) → mid.reads ≤ new.reads → StopsAtProgram name answer old mid → StopsAtProgram name answer old new
-stops_at_program_later name (Rejected at nth cause) old mid new more h = h
-stops_at_program_later name answer old mid new more h = stops_at_file_later name answer old mid new more h
-
-stops_at_stream_later : (name : List ℕ) (answer : Answer) (old mid new : Seen) → mid.reads ≤ new.reads → StopsAtStream name answer old mid → StopsAtStream name answer old new
-stops_at_stream_later name ReadFault old mid new more (inl rose) = inl (omega arith)
-stops_at_stream_later name ReadFault old mid new more (inr missing) = inr missing
-stops_at_stream_later name (Malformed Stream fault) old mid new more h = h
-stops_at_stream_later name answer old mid new more h = h
+stops_run_later : (IsBad : List ℕ → Answer → Option Inputs → Type 0) (IsGood : List ℕ → Type 0) (file stream : List ℕ) (answer : Answer) (old mid new : Seen) → mid.reads ≤ new.reads →
+    StopsAtRun IsBad IsGood file stream answer old mid → StopsAtRun IsBad IsGood file stream answer old new
+stops_run_later IsBad IsGood file stream answer old mid new more (inl h) = inl (stops_at_later IsBad file answer old mid new more h)
+stops_run_later IsBad IsGood file stream answer old mid new more (inr h) = inr (h.0, stops_at_later IsBadStream stream answer old mid new more h.1)
 
 stops_later : (task : Task) (answer : Answer) (old mid new : Seen) → mid.reads ≤ new.reads → Stops task answer old mid → Stops task answer old new
-stops_later (Lists program) answer old mid new more h = stops_at_file_later program answer old mid new more h
-stops_later (Verifies program) answer old mid new more h = stops_at_program_later program answer old mid new more h
-stops_later (Runs program stream image) answer old mid new more (inl h) = inl (stops_at_program_later program answer old mid new more h)
-stops_later (Runs program stream image) answer old mid new more (inr h) = inr (h.0, stops_at_stream_later stream answer old mid new more h.1)
+stops_later (Lists program) answer old mid new more h = stops_at_later IsBadFile program answer old mid new more h
+stops_later (Verifies program) answer old mid new more h = stops_at_later IsBadProgram program answer old mid new more h
+stops_later (Runs program stream image) answer old mid new more h = stops_run_later IsBadProgram HoldsSound program stream answer old mid new more h
+stops_later (Compiles desc program) answer old mid new more h = stops_at_later IsBadDesc desc answer old mid new more h
+stops_later (Captures desc stream program image) answer old mid new more h = stops_run_later IsBadDesc HoldsValid desc stream answer old mid new more h
+stops_later (Generates desc seed frames stream) answer old mid new more h = stops_at_later IsBadDesc desc answer old mid new more h
 
 said_from : (text : List ℕ) (old mid new : Seen) → old.writes ≤ mid.writes → apart mid.told ≡ apart old.told → Says text mid new → Says text old new
 said_from text old mid new more same (n, few, e, whole) = (n, few, e ∙ ap (after_say (take n text)) same, from whole)
@@ -107,35 +54,53 @@ said_from text old mid new more same (n, few, e, whole) = (n, few, e ∙ ap (aft
     from (inl all) = inl all
     from (inr rose) = inr (omega arith)
 
+-- no input tells of an answer that is none of a refused input
 never_done : (task : Task) (old new : Seen) → Stops task Done old new → ⊥
 never_done (Lists program) old new h = h
 never_done (Verifies program) old new h = h
 never_done (Runs program stream image) old new (inl h) = h
 never_done (Runs program stream image) old new (inr h) = h.1
+never_done (Compiles desc program) old new h = h
+never_done (Captures desc stream program image) old new (inl h) = h
+never_done (Captures desc stream program image) old new (inr h) = h.1
+never_done (Generates desc seed frames stream) old new h = h
 
 never_write_fault : (task : Task) (old new : Seen) → Stops task WriteFault old new → ⊥
 never_write_fault (Lists program) old new h = h
 never_write_fault (Verifies program) old new h = h
 never_write_fault (Runs program stream image) old new (inl h) = h
 never_write_fault (Runs program stream image) old new (inr h) = h.1
+never_write_fault (Compiles desc program) old new h = h
+never_write_fault (Captures desc stream program image) old new (inl h) = h
+never_write_fault (Captures desc stream program image) old new (inr h) = h.1
+never_write_fault (Generates desc seed frames stream) old new h = h
 
 never_usage : (task : Task) (fault : UsageFault) (old new : Seen) → Stops task (Usage fault) old new → ⊥
 never_usage (Lists program) fault old new h = h
 never_usage (Verifies program) fault old new h = h
 never_usage (Runs program stream image) fault old new (inl h) = h
 never_usage (Runs program stream image) fault old new (inr h) = h.1
+never_usage (Compiles desc program) fault old new h = h
+never_usage (Captures desc stream program image) fault old new (inl h) = h
+never_usage (Captures desc stream program image) fault old new (inr h) = h.1
+never_usage (Generates desc seed frames stream) fault old new h = h
 
 no_memory : (task : Task) (old new : Seen) → Stops task NoMemory old new
 no_memory (Lists program) old new = tt
 no_memory (Verifies program) old new = tt
 no_memory (Runs program stream image) old new = inl tt
+no_memory (Compiles desc program) old new = tt
+no_memory (Captures desc stream program image) old new = inl tt
+no_memory (Generates desc seed frames stream) old new = tt
 
 ends_by : (task : Task) (answer : Answer) (old new : Seen) → Stops task answer old new → Says (answer_text answer) old new → Ends task answer old new
 ends_by task Done old new why said = absurd (never_done task old new why)
 ends_by task (Usage fault) old new why said = absurd (never_usage task fault old new why)
-ends_by task ReadFault old new why said = record { why = why; said = said }
 ends_by task WriteFault old new why said = absurd (never_write_fault task old new why)
+ends_by task ReadFault old new why said = record { why = why; said = said }
 ends_by task (Malformed file fault) old new why said = record { why = why; said = said }
+ends_by task (BadDesc fault) old new why said = record { why = why; said = said }
+ends_by task (BadGeometry fault) old new why said = record { why = why; said = said }
 ends_by task (Rejected at nth cause) old new why said = record { why = why; said = said }
 ends_by task NoMemory old new why said = record { why = why; said = said }
 
@@ -150,54 +115,97 @@ ends_refused task wanted answer old mid new writes reads same why refused =
 
 -- ---- what is done
 
--- a command that only says a text
-pub text_done : (task : Task) (text : List ℕ) (old mid new : Seen) → Makes task old.told.inputs (record { files = []; text = text }) → SameCounts old mid →
-    apart mid.told ≡ apart old.told → new.told ≡ after_say text mid.told → SameCounts mid new → IsDone task old new
-text_done task text old mid new makes counts same said more =
-    record {
-      product = record { files = []; text = text };
-      made = makes;
-      left = ap apart said ∙ ap (after_say text) same;
-      counts = (more.0 ∙ counts.0, more.1 ∙ counts.1);
-    }
+module _ (task : Task) (files : List (List ℕ × List ℕ)) (text : List ℕ) (old mid new : Seen) (counts : SameCounts old mid) (same : apart mid.told ≡ apart old.told) where
+  abbrev product_of : Product
+  product_of = record { files = files; text = text }
 
-pub text_part_done : (task : Task) (text : List ℕ) (old mid new : Seen) → Makes task old.told.inputs (record { files = []; text = text }) → SameCounts old mid →
-    apart mid.told ≡ apart old.told → (n : ℕ) × (n < length text) × (new.told ≡ after_say (take n text) mid.told) → WritesRose mid new → IsPartDone task old new
-text_part_done task text old mid new makes counts same (n, few, said) rose =
-    record {
-      product = record { files = []; text = text };
-      made = makes;
-      left = (n, le_of_lt n (length text) few, ap apart said ∙ ap (after_say (take n text)) same);
-      rose = subst (λ w. HasRisen w new.writes) counts.1 rose;
-    }
-  where
-    le_of_lt : (a b : ℕ) → a < b → a ≤ b
-    le_of_lt a b h = omega arith
+  pub task_done : Makes task old.told.inputs product_of → names_of files ≡ creates task → new.told ≡ delivered files text mid.told → SameCounts mid new → IsDone task old new
+  task_done made names left more =
+      record {
+        product = product_of;
+        made = made;
+        names = names;
+        left = ap apart left ∙ apart_delivered files text mid.told ∙ ap (delivered files text) same;
+        counts = (more.0 ∙ counts.0, more.1 ∙ counts.1);
+      }
 
-pub run_done : (program stream image text : List ℕ) (m : State) (old mid new : Seen) →
-    OfInput program old.told.inputs (λ a. OfInput stream old.told.inputs (λ b. HasRun a b m)) → text ≡ report_text (report_of m) →
-    SameCounts old mid → apart mid.told ≡ apart old.told → new.told ≡ delivered ((image, image_of m.memory) ∷ []) text mid.told → SameCounts mid new →
-    IsDone (Runs program stream image) old new
-run_done program stream image text m old mid new ran report counts same left more =
-    let files : List (List ℕ × List ℕ) = (image, image_of m.memory) ∷ [] in
-    record {
-      product = record { files = files; text = report_text (report_of m) };
-      made = run_product program stream image old.told.inputs m ran;
-      left = ap apart left ∙ ap (delivered files text) same ∙ ap (λ t. delivered files t (apart old.told)) report;
-      counts = (more.0 ∙ counts.0, more.1 ∙ counts.1);
-    }
+  pub task_part : Makes task old.told.inputs product_of → names_of files ≡ creates task → IsPart files text mid.told new.told → WritesRose mid new → IsPartDone task old new
+  task_part made names left rose =
+      record {
+        product = product_of;
+        made = made;
+        names = names;
+        left = subst (λ t. IsPart files text t (apart new.told)) same (apart_part files text mid.told new.told left);
+        rose = subst (λ w. HasRisen w new.writes) counts.1 rose;
+      }
 
-pub run_part : (program stream image text : List ℕ) (m : State) (old mid new : Seen) →
-    OfInput program old.told.inputs (λ a. OfInput stream old.told.inputs (λ b. HasRun a b m)) → text ≡ report_text (report_of m) →
-    SameCounts old mid → apart mid.told ≡ apart old.told → IsPart ((image, image_of m.memory) ∷ []) text mid.told new.told → WritesRose mid new →
-    IsPartDone (Runs program stream image) old new
-run_part program stream image text m old mid new ran report counts same left rose =
-    let files : List (List ℕ × List ℕ) = (image, image_of m.memory) ∷ [] in
+-- ---- what a run makes
+
+module _ (r : Ran) (m : State) (fill : ℕ) (sound : IsSound r.program) (last : m ≡ last_of r) where
+  run_makes : (Gives : List ℕ → RiscProgram → ℕ → Type 0) (a b : List ℕ) → IsRun Gives a b r → (files given : List (List ℕ × List ℕ)) → given ≡ files →
+      RunMakes files (record { files = given; text = report_text (report_of m) }) r
+  run_makes Gives a b is files given e =
+      record {
+        sound = sound;
+        writes = e;
+        reports = ap (λ s. report_text (report_of s)) last;
+        inside = λ place. IsInside-first_state r.program r.fill (steps_run r.steps) place sound (steps_fit b r.steps is.reads);
+      }
+
+  same_image : (image : List ℕ) → (image, image_of m.memory) ∷ [] ≡ image_file image r ∷ []
+  same_image image = ap (λ (s : State). (image, image_of s.memory) ∷ []) last
+
+  same_both : fill ≡ r.fill → (program image : List ℕ) →
+      (program, spelled m.program fill) ∷ (image, image_of m.memory) ∷ [] ≡ program_file program r.program r.fill ∷ image_file image r ∷ []
+  same_both filled program image =
+      ap (λ (s : State). (program, spelled s.program fill) ∷ (image, image_of s.memory) ∷ []) last
+      ∙ ap (λ p. (program, spelled p fill) ∷ image_file image r ∷ []) (program-run (first_of r) (steps_run r.steps))
+      ∙ ap (λ f. (program, spelled r.program f) ∷ image_file image r ∷ []) filled
+
+module _ (file stream program image : List ℕ) (inputs : Option Inputs) (m : State) (fill : ℕ) where
+  abbrev Shows : Ran → Type 0
+  Shows r = (m ≡ last_of r) × (fill ≡ r.fill)
+
+  pub run_product : OfRun GivesSound file stream inputs Shows →
+      Makes (Runs file stream image) inputs (record { files = (image, image_of m.memory) ∷ []; text = report_text (report_of m) })
+  run_product h =
+      OfRun-map GivesSound file stream inputs Shows (λ r. RunMakes (image_file image r ∷ []) (record { files = (image, image_of m.memory) ∷ []; text = report_text (report_of m) }) r)
+      (λ a b r is k.
+      let sound = is.gives.sound in
+      run_makes r m fill sound k.0 GivesSound a b is (image_file image r ∷ []) ((image, image_of m.memory) ∷ []) (same_image r m fill sound k.0 image)) h
+
+  compiled_is_sound : (bytes : List ℕ) (p : RiscProgram) (f : ℕ) → GivesCompiled bytes p f → IsSound p
+  compiled_is_sound bytes p f g = subst IsSound (sym g.compiles) (checked_sound g.description g.describes.checked)
+
+  pub capture_product : OfRun GivesCompiled file stream inputs Shows →
+      Makes (Captures file stream program image) inputs (record { files = (program, spelled m.program fill) ∷ (image, image_of m.memory) ∷ []; text = report_text (report_of m) })
+  capture_product h =
+      OfRun-map GivesCompiled file stream inputs Shows
+      (λ r. RunMakes (program_file program r.program r.fill ∷ image_file image r ∷ []) (record { files = (program, spelled m.program fill) ∷ (image, image_of m.memory) ∷ []; text = report_text (report_of m) }) r)
+      (λ a b r is k.
+      let sound = compiled_is_sound a r.program r.fill is.gives in
+      run_makes r m fill sound k.0 GivesCompiled a b is (program_file program r.program r.fill ∷ image_file image r ∷ []) ((program, spelled m.program fill) ∷ (image, image_of m.memory) ∷ [])
+      (same_both r m fill sound k.0 k.1 program image)) h
+
+-- ---- what a description makes
+
+pub compile_product : (desc program : List ℕ) (inputs : Option Inputs) (p : RiscProgram) (fill : ℕ) → OfInput desc inputs (λ bytes. GivesCompiled bytes p fill) →
+    Makes (Compiles desc program) inputs (record { files = (program, spelled p fill) ∷ []; text = built_text (length p.words) (length p.grants) })
+compile_product desc program inputs p fill h =
+    OfInput-map desc inputs (λ bytes. GivesCompiled bytes p fill)
+    (DescMakes (λ d. program_file program (compiled d) d.fill) compiled_text (record { files = (program, spelled p fill) ∷ []; text = built_text (length p.words) (length p.grants) }))
+    (λ bytes g.
     record {
-      product = record { files = files; text = report_text (report_of m) };
-      made = run_product program stream image old.told.inputs m ran;
-      left =
-          subst (λ t. IsPart files t (apart old.told) (apart new.told)) report
-          (subst (λ t. IsPart files text t (apart new.told)) same (apart_part files text mid.told new.told left));
-      rose = subst (λ w. HasRisen w new.writes) counts.1 rose;
-    }
+      description = g.description;
+      describes = g.describes;
+      writes =
+          ap (λ x. (program, spelled x fill) ∷ []) g.compiles ∙ ap (λ x. (program, spelled (compiled g.description) x) ∷ []) g.fills;
+      says = ap (λ (x : RiscProgram). built_text (length x.words) (length x.grants)) g.compiles;
+    }) h
+
+pub make_product : (desc stream : List ℕ) (seed frames : ℕ) (inputs : Option Inputs) (d : Desc) → OfInput desc inputs (λ bytes. Describes bytes d) →
+    Makes (Generates desc seed frames stream) inputs (record { files = (stream, made d seed frames) ∷ []; text = made_text (made_fields d frames) (made_entries d frames) })
+make_product desc stream seed frames inputs d h =
+    OfInput-map desc inputs (λ bytes. Describes bytes d)
+    (DescMakes (λ x. (stream, made x seed frames)) (λ x. made_text (made_fields x frames) (made_entries x frames)) (record { files = (stream, made d seed frames) ∷ []; text = made_text (made_fields d frames) (made_entries d frames) }))
+    (λ bytes g. record { description = d; describes = g; writes = refl; says = refl }) h

@@ -2,20 +2,18 @@
 
 ghost use Rattle.std.specs.Prelude.{◌≡◌, ℕ, ◌⊎◌, map};
 ghost use Rattle.bt878_words.specs.Words.{command_of, inputs_of, outputs_of};
-ghost use Rattle.capture_file.specs.declared.FileFault.{FileFault};
-ghost use Rattle.capture_file.specs.declared.Input.{Input};
-ghost use Rattle.machine_model.specs.declared.Cause.{Cause};
-ghost use Rattle.bt878_tasks.specs.Clauses.{AreTold, HasBad, HasFault, ImageAndReport, IsGood, IsRefusal, IsSoundAt, IsUnreadOf, IsUsage, OfCapture, OnlyOutputs, OnlySays, SameNames, SaysAccepted, SaysListing, StandsAt, StaysInside, UnlessCut};
-ghost use Rattle.command_steps.specs.Desks.{ReadsRose, SameCounts, WritesRose, seen_by};
+ghost use Rattle.bt878_tasks.specs.Clauses.{AreTold, ImageAndReport, IsBadInput, IsCompiled, IsGenerated, IsGood, IsRefusal, IsSoundAt, IsUnreadOf, IsUsage, OfRan, OfSteps, OnlyOutputs, OnlySays, SameNames, SaysAccepted, SaysListing, StandsAt, StaysInside, TellsInput, UnlessCut, WritesProgram};
 ghost use Rattle.bt878_tasks.specs.Pictures.{ShowsNoFault, ShowsPictures, SignalsInTime};
 ghost use Rattle.bt878_tasks.specs.Tasks.{Answers, AreNames, task_of};
+ghost use Rattle.command_steps.specs.declared.answer.Answer.{Answer as Answered};
+ghost use Rattle.command_steps.specs.Desks.{ReadsRose, SameCounts, WritesRose, seen_by};
 ghost use Rattle.command_steps.specs.Texts.{answer_text};
 
-use crate::answer::Answer;
 use crate::commands::{list, run, verify};
-use crate::desks::refuse;
+use crate::descriptions::{capture, compile, make};
 use bt878_words::{Command, read_words};
 use capture_desk::Desk;
+use command_steps::{Answer, refuse};
 use std::alloc::Global;
 
 /// Does what the words ask for.
@@ -32,7 +30,13 @@ fn answer_words<D: Desk>(alloc: Global, words: &[&str], desk: &mut D) -> Answer
         Command::List => list(alloc, words[1], desk),
         Command::Verify => verify(alloc, words[1], desk),
         Command::Run => run(alloc, words[1], words[2], words[3], desk),
-        _ => unreachable!(),
+        Command::Compile => compile(alloc, words[1], words[2], desk),
+        Command::Capture => capture(alloc, words[1], words[2], words[3], words[4], desk),
+        Command::Make { seed, frames } => make(alloc, words[1], seed, frames, words[4], desk),
+        Command::Chain => unreachable!(),
+        Command::Damage => unreachable!(),
+        Command::Ring => unreachable!(),
+        Command::Assemble => unreachable!(),
     }
 }
 
@@ -54,61 +58,65 @@ pub fn bt878<D: Desk>(alloc: Global, words: &[&str], desk: &mut D) -> Answer
     // comes there.
     ensures usage { IsUsage (command_of (map (λ w. w.now) words.now)) result }
 
-    // At Done of `run` and `verify` the program of the whole program file is sound.
+    // At Done of `verify`, `run` and `capture` the program that was accepted, and that ran, is sound.
     ensures sound { (result ≡ Answer.Done) →
         IsSoundAt (task_of (map (λ w. w.now) words.now)) (D.told desk.old).inputs }
 
-    // At Done of `run` the image is that of the memory after exactly the steps of the whole stream,
-    // from the first state, in which every granted byte is the fill, and the text is the report of
-    // that same state.
+    // At Done of `run` and `capture` the image is that of the memory after exactly the steps of the whole
+    // stream, from the first state, in which every granted byte is the fill, and the text is the report of
+    // that same state. Program and fill are those of the whole program file, or of the description.
     ensures image_and_report { (result ≡ Answer.Done) →
         ImageAndReport (task_of (map (λ w. w.now) words.now)) (D.told desk.old) (D.told desk.new) }
 
-    // At Done of `run`: at every place of those steps, what the turn there writes is granted, what it
-    // fetches is a word of the program, and OCERR is 0.
+    // At Done of `capture` the program file is the one spelling of the program that ran, which is that of
+    // the description, and of its fill.
+    ensures program { (result ≡ Answer.Done) →
+        WritesProgram (task_of (map (λ w. w.now) words.now)) (D.told desk.old) (D.told desk.new) }
+
+    // At Done of `run` and `capture`: at every place of those steps, what the turn there writes is granted,
+    // what it fetches is a word of the program, and OCERR is 0.
     ensures inside { (result ≡ Answer.Done) →
-        StaysInside (task_of (map (λ w. w.now) words.now)) (D.told desk.old).inputs }
+        OfRan (task_of (map (λ w. w.now) words.now)) (D.told desk.old).inputs StaysInside }
 
-    // At Done of `run`, for every valid description whose program is the one that ran, every field of it,
-    // every picture and all places of those steps: after the first signal of a field that arrived in
-    // order and lost nothing, memory holds each byte of the picture that is not clipped at its place and
-    // is as it was everywhere else; no turn up to the signal sets FDSR, and the RISC status tells the
-    // field; and once all entries were pushed the signal comes within a bound of turns.
+    // At Done of `run` and `capture`, for every valid description whose program is the one that ran (for
+    // `capture` the description that was read), every field of it, every picture and all places of those
+    // steps: after the first signal of a field that arrived in order and lost nothing, memory holds each
+    // byte of the picture that is not clipped at its place and is as it was everywhere else; no turn up to
+    // the signal sets FDSR, and the RISC status tells the field; and once all entries were pushed the
+    // signal comes within a bound of turns.
     ensures pictures { (result ≡ Answer.Done) →
-        OfCapture (task_of (map (λ w. w.now) words.now)) (D.told desk.old).inputs ShowsPictures }
+        OfRan (task_of (map (λ w. w.now) words.now)) (D.told desk.old).inputs (OfSteps ShowsPictures) }
     ensures no_fault_shown { (result ≡ Answer.Done) →
-        OfCapture (task_of (map (λ w. w.now) words.now)) (D.told desk.old).inputs ShowsNoFault }
+        OfRan (task_of (map (λ w. w.now) words.now)) (D.told desk.old).inputs (OfSteps ShowsNoFault) }
     ensures in_time { (result ≡ Answer.Done) →
-        OfCapture (task_of (map (λ w. w.now) words.now)) (D.told desk.old).inputs SignalsInTime }
+        OfRan (task_of (map (λ w. w.now) words.now)) (D.told desk.old).inputs (OfSteps SignalsInTime) }
 
-    // At Done of `verify` and of `list`: what was said, and that nothing was created. At Done both
-    // counts of faults are as they were.
+    // At Done of the other commands: what was written and said. At Done both counts of faults are as they
+    // were.
     ensures accepted { (result ≡ Answer.Done) →
         SaysAccepted (task_of (map (λ w. w.now) words.now)) (D.told desk.old) (D.told desk.new) }
     ensures listed { (result ≡ Answer.Done) →
         SaysListing (task_of (map (λ w. w.now) words.now)) (D.told desk.old) (D.told desk.new) }
+    ensures compiled { (result ≡ Answer.Done) →
+        IsCompiled (task_of (map (λ w. w.now) words.now)) (D.told desk.old) (D.told desk.new) }
+    ensures generated { (result ≡ Answer.Done) →
+        IsGenerated (task_of (map (λ w. w.now) words.now)) (D.told desk.old) (D.told desk.new) }
     ensures done { (result ≡ Answer.Done) →
         SameCounts
         (seen_by D.told D.read_faults D.write_faults desk.old)
         (seen_by D.told D.read_faults D.write_faults desk.new) }
 
-    // When each refusal comes, and, but for want of memory and faults of reading, that it must come.
+    // When each refusal comes, and, but for want of memory and faults of reading, that it must come:
+    // `Malformed`, `Rejected`, `BadDesc` and `BadGeometry` exactly where the first bad input is so.
     ensures read_fault { (result ≡ Answer.ReadFault) →
         IsUnreadOf (inputs_of (map (λ w. w.now) words.now))
         (seen_by D.told D.read_faults D.write_faults desk.old)
         (seen_by D.told D.read_faults D.write_faults desk.new) }
-    ensures malformed { (file : Input) (fault : FileFault) → (result ≡ Answer.Malformed file fault) →
-        HasFault (task_of (map (λ w. w.now) words.now)) file fault (D.told desk.old).inputs }
-    ensures malformed_must { AreTold (D.told desk.old).inputs → (file : Input) (fault : FileFault) →
-        HasFault (task_of (map (λ w. w.now) words.now)) file fault (D.told desk.old).inputs →
-        UnlessCut (Answer.Malformed file fault) result
-        (seen_by D.told D.read_faults D.write_faults desk.old)
-        (seen_by D.told D.read_faults D.write_faults desk.new) }
-    ensures rejected { (at nth : ℕ) (cause : Cause) → (result ≡ Answer.Rejected at nth cause) →
-        HasBad (task_of (map (λ w. w.now) words.now)) at nth cause (D.told desk.old).inputs }
-    ensures rejected_must { AreTold (D.told desk.old).inputs → (at nth : ℕ) (cause : Cause) →
-        HasBad (task_of (map (λ w. w.now) words.now)) at nth cause (D.told desk.old).inputs →
-        UnlessCut (Answer.Rejected at nth cause) result
+    ensures bad_input { TellsInput result →
+        IsBadInput (task_of (map (λ w. w.now) words.now)) result (D.told desk.old).inputs }
+    ensures bad_input_must { AreTold (D.told desk.old).inputs → (wanted : Answered) →
+        IsBadInput (task_of (map (λ w. w.now) words.now)) wanted (D.told desk.old).inputs →
+        UnlessCut wanted result
         (seen_by D.told D.read_faults D.write_faults desk.old)
         (seen_by D.told D.read_faults D.write_faults desk.new) }
 

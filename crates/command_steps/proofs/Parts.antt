@@ -1,8 +1,8 @@
 -- What stands where an output, or what follows it, is written in part.
-use Rattle.std.proofs.Common.{◌≡◌, ℕ, ◌<◌, ◌≤◌, inl, inr, List, [], ◌∷◌, length, take, sym, ap, ◌∙◌, arith, subst}
+use Rattle.std.proofs.Common.{◌≡◌, ℕ, ◌<◌, ◌≤◌, inl, inr, List, [], ◌∷◌, length, take, refl, sym, ap, ◌∙◌, arith, subst}
 use Rattle.std.proofs.lemmas.List.{take_all}
 use Rattle.capture_desk.specs.Desks.{Told, after_create, after_say, after_write}
-use Rattle.command_steps.specs.Desks.{IsFilePart, IsPart, after_file, apart}
+use Rattle.command_steps.specs.Desks.{IsFilePart, IsPart, after_file, apart, delivered}
 
 -- ---- one file
 
@@ -36,3 +36,7 @@ apart_part [] text t new (n, few, e) = (n, few, ap apart e)
 apart_part (file ∷ files) text t new (inl e) = inl (ap apart e)
 apart_part (file ∷ files) text t new (inr (inl (n, few, e))) = inr (inl (n, few, ap apart e))
 apart_part (file ∷ files) text t new (inr (inr h)) = inr (inr (apart_part files text (after_file file t) new h))
+
+pub apart_delivered : (files : List (List ℕ × List ℕ)) (text : List ℕ) (t : Told) → apart (delivered files text t) ≡ delivered files text (apart t)
+apart_delivered [] text t = refl
+apart_delivered (file ∷ files) text t = apart_delivered files text (after_file file t)

@@ -1,7 +1,8 @@
 use Rattle.std.proofs.Common.{◌∙◌, ap, sym, subst, Bor, List, ℕ, Ok}
+use Rattle.bt878_words.proofs.Asked.{few_frames}
 use Rattle.command_steps.specs.Desks.{seen_by}
 use Rattle.bt878_tasks.specs.Tasks.{Answers}
-use Rattle.bt878_top.proofs.Asking.{list_allowed, list_task, run_image_allowed, run_program_allowed, run_stream_allowed, run_task, verify_allowed, verify_task}
+use Rattle.bt878_top.proofs.Asking.{capture_desc_allowed, capture_image_allowed, capture_program_allowed, capture_stream_allowed, capture_task, compile_desc_allowed, compile_program_allowed, compile_task, list_allowed, list_task, make_desc_allowed, make_stream_allowed, make_task, run_image_allowed, run_program_allowed, run_stream_allowed, run_task, verify_allowed, verify_task}
 use Rattle.bt878_top.proofs.call.answer_words.Goals as goal
 
 abbrev text : Bor (List ℕ) → List ℕ
@@ -27,6 +28,42 @@ pub run-requires-clause-image : goal.run-requires-clause-image
 run-requires-clause-image g c =
     run_image_allowed text c.args.words.now _ _ (sym c.read_words.ensures ∙ c.in-Ok.is ∙ ap Ok c.in-Run.is) c.requires.creates
 
+pub compile-requires-clause-desc : goal.compile-requires-clause-desc
+compile-requires-clause-desc g c =
+    compile_desc_allowed text c.args.words.now _ _ (sym c.read_words.ensures ∙ c.in-Ok.is ∙ ap Ok c.in-Compile.is) c.requires.opens
+
+pub compile-requires-clause-program : goal.compile-requires-clause-program
+compile-requires-clause-program g c =
+    compile_program_allowed text c.args.words.now _ _ (sym c.read_words.ensures ∙ c.in-Ok.is ∙ ap Ok c.in-Compile.is) c.requires.creates
+
+pub capture-requires-clause-desc : goal.capture-requires-clause-desc
+capture-requires-clause-desc g c =
+    capture_desc_allowed text c.args.words.now _ _ (sym c.read_words.ensures ∙ c.in-Ok.is ∙ ap Ok c.in-Capture.is) c.requires.opens
+
+pub capture-requires-clause-stream : goal.capture-requires-clause-stream
+capture-requires-clause-stream g c =
+    capture_stream_allowed text c.args.words.now _ _ (sym c.read_words.ensures ∙ c.in-Ok.is ∙ ap Ok c.in-Capture.is) c.requires.opens
+
+pub capture-requires-clause-program : goal.capture-requires-clause-program
+capture-requires-clause-program g c =
+    capture_program_allowed text c.args.words.now _ _ (sym c.read_words.ensures ∙ c.in-Ok.is ∙ ap Ok c.in-Capture.is) c.requires.creates
+
+pub capture-requires-clause-image : goal.capture-requires-clause-image
+capture-requires-clause-image g c =
+    capture_image_allowed text c.args.words.now _ _ (sym c.read_words.ensures ∙ c.in-Ok.is ∙ ap Ok c.in-Capture.is) c.requires.creates
+
+pub make-requires-clause-desc : goal.make-requires-clause-desc
+make-requires-clause-desc g c =
+    make_desc_allowed text c.args.words.now _ c.in-Make.seed c.in-Make.frames _ (sym c.read_words.ensures ∙ c.in-Ok.is ∙ ap Ok c.in-Make.is) c.requires.opens
+
+pub make-requires-clause-stream : goal.make-requires-clause-stream
+make-requires-clause-stream g c =
+    make_stream_allowed text c.args.words.now _ c.in-Make.seed c.in-Make.frames _ (sym c.read_words.ensures ∙ c.in-Ok.is ∙ ap Ok c.in-Make.is) c.requires.creates
+
+pub make-requires-clause-frames : goal.make-requires-clause-frames
+make-requires-clause-frames g c =
+    few_frames _ c.in-Make.seed c.in-Make.frames (sym c.read_words.ensures ∙ c.in-Ok.is ∙ ap Ok c.in-Make.is)
+
 pub returns-in-List : goal.returns-in-List
 returns-in-List g c =
     let see = seen_by g.D.Desk.told g.D.Desk.read_faults g.D.Desk.write_faults in
@@ -44,3 +81,21 @@ returns-in-Run g c =
     let see = seen_by g.D.Desk.told g.D.Desk.read_faults g.D.Desk.write_faults in
     subst (λ task. Answers task c.run.result (see c.args.desk.now) (see c.run.new.desk))
     (sym (run_task text c.args.words.now _ (sym c.read_words.ensures ∙ c.in-Ok.is ∙ ap Ok c.in-Run.is))) c.run.ensures
+
+pub returns-in-Compile : goal.returns-in-Compile
+returns-in-Compile g c =
+    let see = seen_by g.D.Desk.told g.D.Desk.read_faults g.D.Desk.write_faults in
+    subst (λ task. Answers task c.compile.result (see c.args.desk.now) (see c.compile.new.desk))
+    (sym (compile_task text c.args.words.now _ (sym c.read_words.ensures ∙ c.in-Ok.is ∙ ap Ok c.in-Compile.is))) c.compile.ensures
+
+pub returns-in-Capture : goal.returns-in-Capture
+returns-in-Capture g c =
+    let see = seen_by g.D.Desk.told g.D.Desk.read_faults g.D.Desk.write_faults in
+    subst (λ task. Answers task c.capture.result (see c.args.desk.now) (see c.capture.new.desk))
+    (sym (capture_task text c.args.words.now _ (sym c.read_words.ensures ∙ c.in-Ok.is ∙ ap Ok c.in-Capture.is))) c.capture.ensures
+
+pub returns-in-Make : goal.returns-in-Make
+returns-in-Make g c =
+    let see = seen_by g.D.Desk.told g.D.Desk.read_faults g.D.Desk.write_faults in
+    subst (λ task. Answers task c.make.result (see c.args.desk.now) (see c.make.new.desk))
+    (sym (make_task text c.args.words.now _ c.in-Make.seed c.in-Make.frames (sym c.read_words.ensures ∙ c.in-Ok.is ∙ ap Ok c.in-Make.is))) c.make.ensures

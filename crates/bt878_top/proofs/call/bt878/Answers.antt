@@ -4,7 +4,7 @@ use Rattle.command_steps.specs.Desks.{seen_by}
 use Rattle.bt878_tasks.specs.Tasks.{task_of}
 use Rattle.bt878_tasks.specs.Pictures.{ShowsPictures, ShowsNoFault, SignalsInTime}
 use Rattle.bt878_tasks.proofs.Pictures.{pictures_shown, no_fault_shown, signals_come}
-use Rattle.bt878_tasks.proofs.Consequences.{completes, done_accepted, done_captured, done_counts, done_image_and_report, done_inside, done_listed, done_sound, malformed_comes, malformed_must, names_kept, others_untouched, read_fault_comes, refused_only_says, rejected_comes, rejected_must, usage_comes, write_fault_comes, write_fault_stands}
+use Rattle.bt878_tasks.proofs.Consequences.{bad_input_comes, bad_input_must, completes, done_accepted, done_captured, done_compiled, done_counts, done_generated, done_image_and_report, done_inside, done_listed, done_program, done_sound, names_kept, others_untouched, read_fault_comes, refused_only_says, usage_comes, write_fault_comes, write_fault_stands}
 use Rattle.bt878_top.proofs.call.bt878.Goals as goal
 
 abbrev text : Bor (List ℕ) → List ℕ
@@ -18,7 +18,12 @@ returns-clause-sound g c =
 pub returns-clause-image_and_report : goal.returns-clause-image_and_report
 returns-clause-image_and_report g c =
     let see = seen_by g.D.Desk.told g.D.Desk.read_faults g.D.Desk.write_faults in
-    done_image_and_report (task_of (map text c.args.words.now)) c.answer_words.result (see c.args.desk.now) (see c.answer_words.new.desk) c.answer_words.ensures
+    done_image_and_report (map text c.args.words.now) c.answer_words.result (see c.args.desk.now) (see c.answer_words.new.desk) c.answer_words.ensures
+
+pub returns-clause-program : goal.returns-clause-program
+returns-clause-program g c =
+    let see = seen_by g.D.Desk.told g.D.Desk.read_faults g.D.Desk.write_faults in
+    done_program (map text c.args.words.now) c.answer_words.result (see c.args.desk.now) (see c.answer_words.new.desk) c.answer_words.ensures
 
 pub returns-clause-inside : goal.returns-clause-inside
 returns-clause-inside g c =
@@ -50,6 +55,16 @@ returns-clause-listed g c =
     let see = seen_by g.D.Desk.told g.D.Desk.read_faults g.D.Desk.write_faults in
     done_listed (task_of (map text c.args.words.now)) c.answer_words.result (see c.args.desk.now) (see c.answer_words.new.desk) c.answer_words.ensures
 
+pub returns-clause-compiled : goal.returns-clause-compiled
+returns-clause-compiled g c =
+    let see = seen_by g.D.Desk.told g.D.Desk.read_faults g.D.Desk.write_faults in
+    done_compiled (map text c.args.words.now) c.answer_words.result (see c.args.desk.now) (see c.answer_words.new.desk) c.answer_words.ensures
+
+pub returns-clause-generated : goal.returns-clause-generated
+returns-clause-generated g c =
+    let see = seen_by g.D.Desk.told g.D.Desk.read_faults g.D.Desk.write_faults in
+    done_generated (map text c.args.words.now) c.answer_words.result (see c.args.desk.now) (see c.answer_words.new.desk) c.answer_words.ensures
+
 pub returns-clause-done : goal.returns-clause-done
 returns-clause-done g c =
     let see = seen_by g.D.Desk.told g.D.Desk.read_faults g.D.Desk.write_faults in
@@ -60,25 +75,15 @@ returns-clause-read_fault g c =
     let see = seen_by g.D.Desk.told g.D.Desk.read_faults g.D.Desk.write_faults in
     read_fault_comes (map text c.args.words.now) c.answer_words.result (see c.args.desk.now) (see c.answer_words.new.desk) c.answer_words.ensures
 
-pub returns-clause-malformed : goal.returns-clause-malformed
-returns-clause-malformed g c =
+pub returns-clause-bad_input : goal.returns-clause-bad_input
+returns-clause-bad_input g c =
     let see = seen_by g.D.Desk.told g.D.Desk.read_faults g.D.Desk.write_faults in
-    malformed_comes (task_of (map text c.args.words.now)) c.answer_words.result (see c.args.desk.now) (see c.answer_words.new.desk) c.answer_words.ensures
+    bad_input_comes (task_of (map text c.args.words.now)) c.answer_words.result (see c.args.desk.now) (see c.answer_words.new.desk) c.answer_words.ensures
 
-pub returns-clause-malformed_must : goal.returns-clause-malformed_must
-returns-clause-malformed_must g c =
+pub returns-clause-bad_input_must : goal.returns-clause-bad_input_must
+returns-clause-bad_input_must g c =
     let see = seen_by g.D.Desk.told g.D.Desk.read_faults g.D.Desk.write_faults in
-    malformed_must (task_of (map text c.args.words.now)) c.answer_words.result (see c.args.desk.now) (see c.answer_words.new.desk) c.answer_words.ensures
-
-pub returns-clause-rejected : goal.returns-clause-rejected
-returns-clause-rejected g c =
-    let see = seen_by g.D.Desk.told g.D.Desk.read_faults g.D.Desk.write_faults in
-    rejected_comes (task_of (map text c.args.words.now)) c.answer_words.result (see c.args.desk.now) (see c.answer_words.new.desk) c.answer_words.ensures
-
-pub returns-clause-rejected_must : goal.returns-clause-rejected_must
-returns-clause-rejected_must g c =
-    let see = seen_by g.D.Desk.told g.D.Desk.read_faults g.D.Desk.write_faults in
-    rejected_must (task_of (map text c.args.words.now)) c.answer_words.result (see c.args.desk.now) (see c.answer_words.new.desk) c.answer_words.ensures
+    bad_input_must (task_of (map text c.args.words.now)) c.answer_words.result (see c.args.desk.now) (see c.answer_words.new.desk) c.answer_words.ensures
 
 pub returns-clause-complete : goal.returns-clause-complete
 returns-clause-complete g c =
@@ -98,7 +103,7 @@ returns-clause-write_fault g c =
 pub returns-clause-stands : goal.returns-clause-stands
 returns-clause-stands g c =
     let see = seen_by g.D.Desk.told g.D.Desk.read_faults g.D.Desk.write_faults in
-    write_fault_stands (task_of (map text c.args.words.now)) c.answer_words.result (see c.args.desk.now) (see c.answer_words.new.desk) c.answer_words.ensures
+    write_fault_stands (map text c.args.words.now) c.answer_words.result (see c.args.desk.now) (see c.answer_words.new.desk) c.answer_words.ensures
 
 pub returns-clause-untouched : goal.returns-clause-untouched
 returns-clause-untouched g c =
