@@ -1,2 +1,3 @@
 pub mod Asking
 pub mod Composing
+pub mod Running

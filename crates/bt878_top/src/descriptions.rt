@@ -17,7 +17,6 @@ use command_steps::{
 };
 use desc_input::check_file;
 use field_stream::{Made, make as put_stream};
-use page_ram::Ram;
 use planar_plan::Frame;
 use program_build::{Checked, build};
 use program_play::Played;
@@ -94,27 +93,26 @@ pub fn compile<D: Desk>(alloc: Global, desc: &str, program: &str, desk: &mut D) 
     }
 }
 
-/// Writes the file of a program and the image of a memory, and then says a text.
-fn deliver_both<R: Ram, D: Desk>(
+/// Writes the file of a program that ran and the image of its memory, and then says its report.
+fn deliver_run<D: Desk>(
     program: &str,
-    file: (&Program, u8),
     image: &str,
-    ram: &R,
-    text: &str,
+    played: &Played,
     desk: &mut D,
 ) -> Result<(), Failed>
     requires program { IsAllowed program.now (D.told desk.old).may_create }
     requires image { IsAllowed image.now (D.told desk.old).may_create }
     ensures left { MatchResult result
-        (λ _. D.told desk.new ≡ delivered ((program.now, spelled file.0.now file.1) ∷ (image.now, image_of (R.memory ram.now)) ∷ []) text.now (D.told desk.old))
-        (λ _. IsPart ((program.now, spelled file.0.now file.1) ∷ (image.now, image_of (R.memory ram.now)) ∷ []) text.now (D.told desk.old) (D.told desk.new)) }
+        (λ _. D.told desk.new ≡ delivered ((program.now, spelled played.now.machine.program played.now.fill) ∷ (image.now, image_of played.now.machine.memory) ∷ []) (string_bytes played.now.report) (D.told desk.old))
+        (λ _. IsPart ((program.now, spelled played.now.machine.program played.now.fill) ∷ (image.now, image_of played.now.machine.memory) ∷ []) (string_bytes played.now.report) (D.told desk.old) (D.told desk.new)) }
     ensures counts { WriteCounts result (D.read_faults desk.old) (D.read_faults desk.new)
         (D.write_faults desk.old) (D.write_faults desk.new) }
 {
-    let (words, fill) = file;
-    write_program_file(program, words, fill, desk)?;
-    write_image_file(image, ram, desk)?;
-    match say_all(text.as_bytes(), desk) {
+    write_program_file(program, played.machine.program(), played.fill, desk)?;
+    if let Err(failed) = write_image_file(image, played.machine.ram(), desk) {
+        return Err(failed);
+    }
+    match say_all(played.report.as_bytes(), desk) {
         Ok(()) => Ok(()),
         Err(failed) => Err(failed),
     }
@@ -140,19 +138,7 @@ pub fn capture<D: Desk>(
         Ok(played) => played,
         Err(answer) => return refuse(alloc, answer, desk),
     };
-    let Played {
-        machine,
-        fill,
-        report,
-    } = played;
-    match deliver_both(
-        program,
-        (machine.program(), fill),
-        image,
-        machine.ram(),
-        &report,
-        desk,
-    ) {
+    match deliver_run(program, image, &played, desk) {
         Ok(()) => Answer::Done,
         Err(_) => Answer::WriteFault,
     }
@@ -212,25 +198,26 @@ fn write_stream<D: Desk>(
     }
 }
 
-/// Writes a generated stream and then says a text.
+/// Writes a generated stream and then says what it has.
 fn deliver_stream<D: Desk>(
     name: &str,
-    frame: &Frame,
-    with: (u64, u8),
-    text: &str,
+    counted: &Counted,
+    seed: u64,
+    frames: u8,
     desk: &mut D,
 ) -> Result<(), Failed>
     requires allowed { IsAllowed name.now (D.told desk.old).may_create }
-    requires frames { (1 ≤ with.1) × (with.1 ≤ 16) }
+    requires frames { (1 ≤ frames) × (frames ≤ 16) }
     ensures left { MatchResult result
-        (λ _. D.told desk.new ≡ delivered ((name.now, made frame.now with.0 with.1) ∷ []) text.now (D.told desk.old))
-        (λ _. IsPart ((name.now, made frame.now with.0 with.1) ∷ []) text.now (D.told desk.old) (D.told desk.new)) }
+        (λ _. D.told desk.new ≡ delivered ((name.now, made counted.now.checked seed frames) ∷ []) (string_bytes counted.now.text) (D.told desk.old))
+        (λ _. IsPart ((name.now, made counted.now.checked seed frames) ∷ []) (string_bytes counted.now.text) (D.told desk.old) (D.told desk.new)) }
     ensures counts { WriteCounts result (D.read_faults desk.old) (D.read_faults desk.new)
         (D.write_faults desk.old) (D.write_faults desk.new) }
 {
-    let (seed, frames) = with;
-    write_stream(name, frame, seed, frames, desk)?;
-    match say_all(text.as_bytes(), desk) {
+    if let Err(failed) = write_stream(name, counted.checked.frame(), seed, frames, desk) {
+        return Err(failed);
+    }
+    match say_all(counted.text.as_bytes(), desk) {
         Ok(()) => Ok(()),
         Err(failed) => Err(failed),
     }
@@ -255,8 +242,7 @@ pub fn make<D: Desk>(
         Ok(counted) => counted,
         Err(answer) => return refuse(alloc, answer, desk),
     };
-    let frame = counted.checked.frame();
-    match deliver_stream(stream, frame, (seed, frames), &counted.text, desk) {
+    match deliver_stream(stream, &counted, seed, frames, desk) {
         Ok(()) => Answer::Done,
         Err(_) => Answer::WriteFault,
     }

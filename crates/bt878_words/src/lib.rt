@@ -252,12 +252,24 @@ mod tests {
         assert_eq!(rt; read_words(&["verify", "a"]), Ok(Command::Verify));
         assert_eq!(rt; read_words(&["list", "a"]), Ok(Command::List));
         assert_eq!(rt; read_words(&["compile", "d", "p"]), Ok(Command::Compile));
-        assert_eq!(rt; read_words(&["capture", "d", "s", "p", "p"]), Err(UsageFault::SameName));
-        assert_eq!(rt; read_words(&["capture", "d", "s", "p", "i"]), Ok(Command::Capture));
-        assert_eq!(rt; read_words(&["make", "d", "01", "1", "s"]), Err(UsageFault::Number));
+        assert_eq!(rt;
+            read_words(&["capture", "d", "s", "p", "p"]),
+            Err(UsageFault::SameName)
+        );
+        assert_eq!(rt;
+            read_words(&["capture", "d", "s", "p", "i"]),
+            Ok(Command::Capture)
+        );
+        assert_eq!(rt;
+            read_words(&["make", "d", "01", "1", "s"]),
+            Err(UsageFault::Number)
+        );
         assert_eq!(rt;
             read_words(&["make", "d", "1", "16", "s"]),
-            Ok(Command::Make { seed: 1, frames: 16 })
+            Ok(Command::Make {
+                seed: 1,
+                frames: 16
+            })
         );
     }
 

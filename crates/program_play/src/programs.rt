@@ -25,7 +25,6 @@ pub struct Loaded {
     pub fill: u8,
 }
 
-
 /// Reads the bytes of a program file.
 fn parse(alloc: Global, bytes: &[u8]) -> Result<ProgramFile, Answer>
     ensures reads { IfOk result (λ file. program_of bytes.now ≡ Ok file) }
@@ -104,4 +103,3 @@ pub fn accept<D: Desk>(alloc: Global, name: &str, desk: &mut D) -> Result<Loaded
         Err(answer) => Err(answer),
     }
 }
-

@@ -1,4 +1,4 @@
-use Rattle.std.proofs.Common.{◌∙◌, ap, sym, subst, Bor, List, ℕ, Ok}
+use Rattle.std.proofs.Common.{◌∙◌, ap, map, sym, subst, Bor, List, ℕ, Ok}
 use Rattle.bt878_words.proofs.Asked.{few_frames}
 use Rattle.command_steps.specs.Desks.{seen_by}
 use Rattle.bt878_tasks.specs.Tasks.{Answers}
@@ -62,7 +62,7 @@ make-requires-clause-stream g c =
 
 pub make-requires-clause-frames : goal.make-requires-clause-frames
 make-requires-clause-frames g c =
-    few_frames _ c.in-Make.seed c.in-Make.frames (sym c.read_words.ensures ∙ c.in-Ok.is ∙ ap Ok c.in-Make.is)
+    few_frames (map text c.args.words.now) c.in-Make.seed c.in-Make.frames (sym c.read_words.ensures ∙ c.in-Ok.is ∙ ap Ok c.in-Make.is)
 
 pub returns-in-List : goal.returns-in-List
 returns-in-List g c =

@@ -1,0 +1,32 @@
+use Rattle.std.proofs.Common.{◌≡◌, ◌∙◌, ap, sym, subst, List, ℕ}
+use Rattle.machine_model.specs.Paths.{RiscProgram}
+use Rattle.capture_desc.specs.declared.desc.Desc.{Desc}
+use Rattle.picture_model.specs.Programs.{compiled}
+use Rattle.command_steps.specs.Desks.{OfInput, seen_by}
+use Rattle.program_play.proofs.Loading.{OfInput-map}
+use Rattle.desc_input.specs.Descriptions.{Describes, GivesCompiled, HoldsValid, IsBadDesc}
+use Rattle.bt878_top.proofs.Running.{ran_over, stops_at_stream}
+use Rattle.bt878_top.proofs.runs.run_description.Goals as goal
+
+gives : (d : Desc) (p : RiscProgram) (f : ℕ) → p ≡ compiled d → f ≡ d.fill → (bytes : List ℕ) → Describes bytes d → GivesCompiled bytes p f
+gives d p f is fills bytes h = record { description = d; describes = h; compiles = is; fills = fills }
+
+pub returns-in-Ok-play_file-clause-ran : goal.returns-in-Ok-play_file-clause-ran
+returns-in-Ok-play_file-clause-ran g c =
+    let e = c.in_ok-checked.ensures in
+    let d = c.in_ok-checked.checked in
+    ran_over GivesCompiled c.args.desc.now c.args.stream.now (g.D.Desk.told c.args.desk.now) (g.D.Desk.told c.check_file.new.desk)
+    c.in-Ok.accepted c.fill.result c.in-Ok-play_file.played.machine c.in-Ok-play_file.played.fill e.told c.in-Ok-play_file.ensures.fill
+    (OfInput-map c.args.desc.now (g.D.Desk.told c.args.desk.now).inputs (λ bytes. Describes bytes d) (λ bytes. GivesCompiled bytes c.in-Ok.accepted c.fill.result)
+    (gives d c.in-Ok.accepted c.fill.result c.in-Ok.ensures c.fill.ensures.value) e.describes)
+    c.in-Ok-play_file.ensures.played
+
+pub returns-clause-stops : goal.returns-clause-stops
+returns-clause-stops g c =
+    let see = seen_by g.D.Desk.told g.D.Desk.read_faults g.D.Desk.write_faults in
+    let e = c.in_ok-checked.ensures in
+    let d = c.in_ok-checked.checked in
+    stops_at_stream IsBadDesc HoldsValid c.args.desc.now c.args.stream.now c.in-Err-play_file.answer (see c.args.desk.now) (see c.check_file.new.desk) (see c.play_file.new.desk)
+    e.told e.counts
+    (OfInput-map c.args.desc.now (g.D.Desk.told c.args.desk.now).inputs (λ bytes. Describes bytes d) HoldsValid (λ bytes h. (d, h)) e.describes)
+    c.in-Err-play_file.ensures.stops
