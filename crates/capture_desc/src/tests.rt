@@ -1,12 +1,13 @@
-use crate::{ChunkList, DescError, DescFault, Fields, Key, KeyText, Numbers, read_desc};
+use crate::{ChunkList, DescError, DescFault, Fields, KeyText, Numbers, read_desc};
 use clip_spans::Span;
 use pixel_layout::Format;
+use std::alloc::Global;
 use std::test::Fail;
 
 const PLAIN: &str = "format = \"y8\"\nwidth = 8\nheight = 1\nfields = \"top\"\npages = [0x20000]\n";
 
 const FULL: &str =
-    "fill = -0\nbase = 0x1_0000\nchunks = [[131072, 8], [196608, 0x10,],]\nformat = \"yuv422p\"\nwidth = +12\nheight = 4\nstride = [12, 6, 7]\noffset = [0, 48, 4294967295]\nskip_lines = 255\nvbi_lines = 2\nvbi_bytes = 0b101\nvbi_offset = 0o17\nclip = [[0, 1, 4, 4294967295], [20, 0, 0, 1]]\n";
+    "fill = -0\nbase = 0x1_0000\nchunks = [[131072, 8], [196_608, 0x10,],]\nformat = \"yuv422p\"\nwidth = +12\nheight = 4\nstride = [12, 6, 7]\noffset = [0, 48, 4294967295]\nskip_lines = 255\nvbi_lines = 2\nvbi_bytes = 0b101\nvbi_offset = 0o17\nclip = [[0, 1, 4, 4294967295], [20, 0, 0, 1]]\n";
 
 #[test]
 fn absent_keys_have_their_defaults(rt: HostRuntime) -> Result<(), Fail> {
@@ -65,57 +66,289 @@ fn all_forms_of_numbers_are_read(rt: HostRuntime) -> Result<(), Fail> {
     Ok(())
 }
 
-// The kind of a refusal, and its key.
-fn refusal(error: &DescError) -> (&'static str, Option<Key>) {
+// The kind of a refusal, and the key that it names.
+fn refusal(error: &DescError) -> (&'static str, &[u8]) {
     match error {
-        DescError::Memory => ("memory", None),
-        DescError::Bad(DescFault::NotToml) => ("not toml", None),
-        DescError::Bad(DescFault::Unknown(_)) => ("unknown", None),
-        DescError::Bad(DescFault::Missing(key)) => ("missing", Some(*key)),
-        DescError::Bad(DescFault::WrongKind(key)) => ("wrong kind", Some(*key)),
-        DescError::Bad(DescFault::OutOfRange(key)) => ("out of range", Some(*key)),
+        DescError::Memory => ("memory", b""),
+        DescError::Bad(DescFault::NotToml) => ("not toml", b""),
+        DescError::Bad(DescFault::Unknown(key)) => ("unknown", key.as_slice()),
+        DescError::Bad(DescFault::Missing(key)) => ("missing", key.name().as_bytes()),
+        DescError::Bad(DescFault::WrongKind(key)) => ("wrong kind", key.name().as_bytes()),
+        DescError::Bad(DescFault::OutOfRange(key)) => ("out of range", key.name().as_bytes()),
     }
 }
 
+// Whether a text is refused so, for this key.
+fn is_refused(alloc: Global, text: &[u8], kind: &str, key: &str) -> bool {
+    match read_desc(alloc, text) {
+        Ok(_) => false,
+        Err(error) => refusal(&error) == (kind, key.as_bytes()),
+    }
+}
+
+// No document, or a key that no description has: that comes first, and of several the least in byte order.
 #[test]
-fn the_first_fault_is_told(rt: HostRuntime) -> Result<(), Fail> {
-    let rows: [(&[u8], &str, Option<Key>); 10] = [
-        (b"a = ", "not toml", None),
-        (b"# \xff", "not toml", None),
-        (b"width = 9223372036854775808", "not toml", None),
-        (b"width = true\ncolour = 1", "unknown", None),
-        (b"", "missing", Some(Key::Format)),
+fn documents_and_their_keys_are_judged_first(rt: HostRuntime) -> Result<(), Fail> {
+    let rows: [(&[u8], &str, &str); 11] = [
+        (b"a = ", "not toml", ""),
+        (b"# \xff", "not toml", ""),
+        (b"colour = 1\nwidth = 8\nwidth = 8", "not toml", ""),
+        (b"width = 08", "not toml", ""),
+        (b"width = 9223372036854775808", "not toml", ""),
+        (b"colour = 1", "unknown", "colour"),
+        (b"width = true\ncolour = 1", "unknown", "colour"),
+        (b"colour = 1\nbrightness = 1", "unknown", "brightness"),
+        (b"colour = 1\nColour = 1", "unknown", "Colour"),
+        (b"lines = 1\nline = 1", "unknown", "line"),
+        (b"\"\" = 1\na = 1", "unknown", ""),
+    ];
+    for (text, kind, key) in rows {
+        assert!(rt; is_refused(rt.alloc(), text, kind, key), "{kind} {key}");
+    }
+    Ok(())
+}
+
+// The required keys one after the other, each with its faults; whatever is said of later keys is not told.
+#[test]
+fn required_keys_are_judged_in_order(rt: HostRuntime) -> Result<(), Fail> {
+    let rows: [(&str, &str, &str); 19] = [
+        ("", "missing", "format"),
+        ("format = 8", "wrong kind", "format"),
+        ("format = \"y9\"\nwidth = true", "out of range", "format"),
+        ("format = \"y8\"\nheight = true", "missing", "width"),
+        ("format = \"y8\"\nwidth = \"8\"", "wrong kind", "width"),
         (
-            b"format = \"y8\"\nheight = 1.5",
-            "missing",
-            Some(Key::Width),
-        ),
-        (
-            b"format = \"y8\"\nwidth = \"8\"\nheight = -1",
+            "format = \"y8\"\nwidth = 8.0\nheight = -1",
             "wrong kind",
-            Some(Key::Width),
+            "width",
         ),
         (
-            b"format = \"y8\"\nwidth = 4294967296",
+            "format = \"y8\"\nwidth = -1\nheight = true",
             "out of range",
-            Some(Key::Width),
+            "width",
         ),
         (
-            b"format = \"y8\"\nwidth = 8\nheight = 1\npages = []\nchunks = []",
+            "format = \"y8\"\nwidth = 4294967296",
             "out of range",
-            Some(Key::Chunks),
+            "width",
         ),
         (
-            b"format = \"y8\"\nwidth = 8\nheight = 1\npages = [1]\nfill = 256",
+            "format = \"y8\"\nwidth = 4294967295\nfields = 1",
+            "missing",
+            "height",
+        ),
+        (
+            "format = \"y8\"\nwidth = 8\nheight = [1]\nfields = 1",
+            "wrong kind",
+            "height",
+        ),
+        (
+            "format = \"y8\"\nwidth = 8\nheight = -1\nfields = 1",
             "out of range",
-            Some(Key::Fill),
+            "height",
+        ),
+        (
+            "format = \"y8\"\nwidth = 8\nheight = 4294967296",
+            "out of range",
+            "height",
+        ),
+        (
+            "format = \"y8\"\nwidth = 8\nheight = 1\nfields = 1\nstride = 1",
+            "wrong kind",
+            "fields",
+        ),
+        (
+            "format = \"y8\"\nwidth = 8\nheight = 1\nfields = \"Top\"\nstride = 1",
+            "out of range",
+            "fields",
+        ),
+        (
+            "format = \"y8\"\nwidth = 8\nheight = 1\nfill = true",
+            "missing",
+            "pages",
+        ),
+        (
+            "format = \"y8\"\nwidth = 8\nheight = 1\npages = 0x20000\nchunks = 1",
+            "wrong kind",
+            "pages",
+        ),
+        (
+            "format = \"y8\"\nwidth = 8\nheight = 1\npages = [[0x20000]]",
+            "wrong kind",
+            "pages",
+        ),
+        (
+            "format = \"y8\"\nwidth = 8\nheight = 1\npages = [-1]\nchunks = 1",
+            "out of range",
+            "pages",
+        ),
+        (
+            "format = \"y8\"\nwidth = 8\nheight = 1\npages = [4294967296]",
+            "out of range",
+            "pages",
         ),
     ];
     for (text, kind, key) in rows {
-        let Err(error) = read_desc(rt.alloc(), text) else {
-            return Err(Fail::new(kind));
-        };
-        assert_eq!(rt; refusal(&error), (kind, key));
+        assert!(rt;
+            is_refused(rt.alloc(), text.as_bytes(), kind, key),
+            "{text}"
+        );
+    }
+    Ok(())
+}
+
+// The keys that may be absent, beside those that are required and a page: a wrong type, also of a member,
+// before a number out of range or too few or too many members, and both before the faults of later keys.
+#[test]
+fn other_keys_are_judged_in_order(rt: HostRuntime) -> Result<(), Fail> {
+    let rows: [(&str, &str, &str); 37] = [
+        ("stride = 8\noffset = 1", "wrong kind", "stride"),
+        ("stride = [8, \"8\"]", "wrong kind", "stride"),
+        ("stride = [8, 8]\noffset = 1", "out of range", "stride"),
+        ("stride = []", "out of range", "stride"),
+        ("stride = [-1]", "out of range", "stride"),
+        ("stride = [4294967296]", "out of range", "stride"),
+        ("offset = \"0\"\nskip_lines = true", "wrong kind", "offset"),
+        ("offset = [0.0]", "wrong kind", "offset"),
+        (
+            "offset = [0, 0]\nskip_lines = true",
+            "out of range",
+            "offset",
+        ),
+        ("offset = [-1]", "out of range", "offset"),
+        (
+            "skip_lines = true\nvbi_lines = true",
+            "wrong kind",
+            "skip_lines",
+        ),
+        (
+            "skip_lines = 256\nvbi_lines = true",
+            "out of range",
+            "skip_lines",
+        ),
+        ("skip_lines = -1", "out of range", "skip_lines"),
+        (
+            "vbi_lines = true\nvbi_bytes = true",
+            "wrong kind",
+            "vbi_lines",
+        ),
+        (
+            "vbi_lines = -1\nvbi_bytes = true",
+            "out of range",
+            "vbi_lines",
+        ),
+        ("vbi_lines = 4294967296", "out of range", "vbi_lines"),
+        (
+            "vbi_bytes = true\nvbi_offset = true",
+            "wrong kind",
+            "vbi_bytes",
+        ),
+        (
+            "vbi_bytes = -1\nvbi_offset = true",
+            "out of range",
+            "vbi_bytes",
+        ),
+        ("vbi_bytes = 4294967296", "out of range", "vbi_bytes"),
+        ("vbi_offset = true\nclip = true", "wrong kind", "vbi_offset"),
+        ("vbi_offset = -1\nclip = true", "out of range", "vbi_offset"),
+        ("vbi_offset = 4294967296", "out of range", "vbi_offset"),
+        ("clip = 1\nbase = true", "wrong kind", "clip"),
+        ("clip = [1]", "wrong kind", "clip"),
+        ("clip = [[0, 0, 8, \"1\"]]", "wrong kind", "clip"),
+        ("clip = [[0, 0, 8], [true]]", "wrong kind", "clip"),
+        ("clip = [[0, 0, 8]]\nbase = true", "out of range", "clip"),
+        ("clip = [[0, 0, 8, 1, 0]]", "out of range", "clip"),
+        ("clip = [[0, 0, 8, -1]]", "out of range", "clip"),
+        ("base = true\nchunks = true", "wrong kind", "base"),
+        ("base = -1\nchunks = true", "out of range", "base"),
+        ("base = 4294967296", "out of range", "base"),
+        ("chunks = true\nfill = true", "wrong kind", "chunks"),
+        ("chunks = []\nfill = true", "out of range", "chunks"),
+        ("fill = true", "wrong kind", "fill"),
+        ("fill = 256", "out of range", "fill"),
+        ("fill = -1", "out of range", "fill"),
+    ];
+    for (lines, kind, key) in rows {
+        let text = format!(in rt.alloc(); "{PLAIN}{lines}")?;
+        assert!(rt;
+            is_refused(rt.alloc(), text.as_bytes(), kind, key),
+            "{lines}"
+        );
+    }
+    Ok(())
+}
+
+// A picture of three planes without pages.
+const PLANAR: &str = "format = \"yuv422p\"\nwidth = 8\nheight = 1\n";
+
+// Chunks: pairs of numbers, in place of pages, with at most 16 MiB together; lists have a number for each plane.
+#[test]
+fn chunks_and_planes_are_judged(rt: HostRuntime) -> Result<(), Fail> {
+    let rows: [(&str, &str, &str); 14] = [
+        ("chunks = 8\nfill = true", "wrong kind", "chunks"),
+        ("chunks = [0x20000, 8]", "wrong kind", "chunks"),
+        ("chunks = [[\"0x20000\", 8]]", "wrong kind", "chunks"),
+        ("chunks = [[0], [0.5, 8]]", "wrong kind", "chunks"),
+        (
+            "chunks = [[0x20000]]\nfill = true",
+            "out of range",
+            "chunks",
+        ),
+        ("chunks = [[0x20000, 8, 8]]", "out of range", "chunks"),
+        ("chunks = [[0x20000, -1]]", "out of range", "chunks"),
+        ("chunks = [[4294967296, 8]]", "out of range", "chunks"),
+        ("chunks = [[0, 16777217]]", "out of range", "chunks"),
+        (
+            "chunks = [[0, 16777216], [0x2000000, 1]]",
+            "out of range",
+            "chunks",
+        ),
+        ("chunks = []\npages = []", "out of range", "chunks"),
+        ("chunks = [true]\npages = []", "wrong kind", "chunks"),
+        ("chunks = []\nstride = [8]", "out of range", "stride"),
+        (
+            "chunks = []\noffset = [0, 8, 12, 16]",
+            "out of range",
+            "offset",
+        ),
+    ];
+    for (lines, kind, key) in rows {
+        let text = format!(in rt.alloc(); "{PLANAR}{lines}")?;
+        assert!(rt;
+            is_refused(rt.alloc(), text.as_bytes(), kind, key),
+            "{lines}"
+        );
+    }
+    Ok(())
+}
+
+// A text with a list of so many members.
+fn with_list(alloc: Global, lines: &str, member: &str, count: usize) -> Result<String, Fail> {
+    let mut text = format!(in alloc; "{lines} = [")?;
+    for _ in 0..count {
+        text.push_str(member)?;
+    }
+    text.push_str("]")?;
+    Ok(text)
+}
+
+// 64 clip rectangles, 4,096 pages and 4,096 chunks are the most.
+#[test]
+fn lists_have_a_longest(rt: HostRuntime) -> Result<(), Fail> {
+    let rows: [(&str, &str, usize, &str); 3] = [
+        ("chunks = []\nclip", "[0, 0, 8, 1],", 64, "clip"),
+        ("pages", "0x20000,", 4096, "pages"),
+        ("chunks", "[0x20000, 4096],", 4096, "chunks"),
+    ];
+    for (lines, member, most, key) in rows {
+        let text = format!(in rt.alloc(); "{PLANAR}{lines}")?;
+        let longest = with_list(rt.alloc(), text.as_str(), member, most)?;
+        assert!(rt; read_desc(rt.alloc(), longest.as_bytes()).is_ok(), "{key}");
+        let longer = with_list(rt.alloc(), text.as_str(), member, most + 1)?;
+        assert!(rt;
+            is_refused(rt.alloc(), longer.as_bytes(), "out of range", key),
+            "{key}"
+        );
     }
     Ok(())
 }

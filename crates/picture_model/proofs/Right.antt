@@ -113,8 +113,8 @@ even_height true height none is = multiple_is 2 height (not-false _ none)
 -- the pages or chunks are aligned and apart
 clear_memory : (d : Desc) → AreClear frame_faults d → (first_unaligned d.chunks d.pages ≡ None) × (first_shared [] (memory_of d) ≡ None)
 clear_memory d clear = (
-    mapped_none PageUnaligned (first_unaligned d.chunks d.pages) clear.1.1.1.1.1.1.1.1.1.0,
-    mapped_none PageTwice (first_shared [] (memory_of d)) clear.1.1.1.1.1.1.1.1.1.1.0,
+  mapped_none PageUnaligned (first_unaligned d.chunks d.pages) clear.1.1.1.1.1.1.1.1.1.0,
+  mapped_none PageTwice (first_shared [] (memory_of d)) clear.1.1.1.1.1.1.1.1.1.1.0,
 )
 
 pub IsFrame-memory : (d : Desc) → IsFrame d → (first_unaligned d.chunks d.pages ≡ None) × (first_shared [] (memory_of d) ≡ None)
