@@ -59,7 +59,7 @@ each_of : (chunks : List Chunk) → All (λ c. is_aligned c ≡ true) chunks →
 each_of [] all = tt
 each_of (c ∷ rest) all = (all 0 c (omega arith), each_of rest (λ k d below. all (suc k) d (omega arith)))
 
-total_chunks : (pairs : List (ℕ × ℕ)) → total (listed pairs) ≡ bytes_of_chunks pairs
+pub total_chunks : (pairs : List (ℕ × ℕ)) → total (listed pairs) ≡ bytes_of_chunks pairs
 total_chunks [] = refl
 total_chunks (pair ∷ rest) =
     let more = total_chunks rest in let first = total-cons (pair_chunk pair) (listed rest) in omega arith

@@ -36,7 +36,7 @@ clear_front : (checks more : List Check) (d : Desc) → AreClear (checks ++ more
 clear_front [] more d clear = (tt, clear)
 clear_front (check ∷ rest) more d clear = let parts = clear_front rest more d clear.1 in ((clear.0, parts.0), parts.1)
 
-when_not : (holds : Bool) (fault : BuildFault) → when holds fault ≡ None → holds ≡ false
+pub when_not : (holds : Bool) (fault : BuildFault) → when holds fault ≡ None → holds ≡ false
 when_not false fault none = refl
 when_not true fault none = cc
 
@@ -44,7 +44,7 @@ mapped_none : (make : ℕ → BuildFault) (place : Option ℕ) → option_map ma
 mapped_none make None none = refl
 mapped_none make (Some place) none = cc
 
-between_parts : (low high n : ℕ) → not (is_between low high n) ≡ false → (low ≤ n) × (n ≤ high)
+pub between_parts : (low high n : ℕ) → not (is_between low high n) ≡ false → (low ≤ n) × (n ≤ high)
 between_parts low high n test =
     let both_parts = and_parts (nat_le low n) (nat_le n high) (not-false _ test) in
     (leb-true low n both_parts.0, leb-true n high both_parts.1)
@@ -90,7 +90,7 @@ pub record IsRight (d : Desc) : Type 0 where
 in_planes : (d : Desc) (test : ℕ → Bool) → list_any test (planes d) ≡ false → (plane : ℕ) → 1 ≤ plane → plane ≤ planes_of (layout_of d) → test plane ≡ false
 in_planes d test none plane low high = none_in_range test 1 (planes_of (layout_of d)) plane none low (omega arith)
 
-vbi_range : (lines bytes : ℕ) → (nat_lt 32 lines || (nat_lt 0 lines && not (is_between 5 4092 bytes))) ≡ false → (lines ≤ 32) × (0 < lines → (5 ≤ bytes) × (bytes ≤ 4092))
+pub vbi_range : (lines bytes : ℕ) → (nat_lt 32 lines || (nat_lt 0 lines && not (is_between 5 4092 bytes))) ≡ false → (lines ≤ 32) × (0 < lines → (5 ≤ bytes) × (bytes ≤ 4092))
 vbi_range lines bytes none =
     let parts = or_parts (nat_lt 32 lines) (nat_lt 0 lines && not (is_between 5 4092 bytes)) none in (
       ltb-false 32 lines parts.0,

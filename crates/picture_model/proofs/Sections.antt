@@ -73,7 +73,7 @@ module _ (d : Desc) (right : IsRight d) where
 
 -- the closing
 
-signal_spelled : (field : Parity) (target : ℕ) → IsInstr (closing field target)
+pub signal_spelled : (field : Parity) (target : ℕ) → IsInstr (closing field target)
 signal_spelled Top target = (refl, tt)
 signal_spelled Bottom target = (refl, tt)
 

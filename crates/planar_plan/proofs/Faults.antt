@@ -6,14 +6,14 @@ use Rattle.page_table.specs.declared.PageFault.{PageFault}
 use Rattle.page_table.specs.declared.PageFault.TheVariants.{TooMany, Unaligned, Twice}
 use Rattle.page_table.specs.Grants.{Chunk, total}
 use Rattle.page_table.specs.Scattered.{IsScatterList, ScatterList, scatter_list}
-use Rattle.page_table.specs.Taken.{first_shared, in_order, listed, pair_chunk, unless_shared, unless_unaligned}
-use Rattle.page_table.proofs.Placing.{total-cons}
+use Rattle.page_table.specs.Taken.{first_shared, in_order, listed, unless_shared, unless_unaligned}
 use Rattle.capture_desc.specs.declared.desc.Desc.{Desc}
 use Rattle.capture_desc.specs.WellFormed.{IsWellFormed, bytes_of_chunks}
 use Rattle.picture_model.specs.declared.BuildFault.{BuildFault}
 use Rattle.picture_model.specs.declared.BuildFault.TheVariants.{Overlap, VbiRange}
 use Rattle.picture_model.specs.Described.{highest_end, memory_from, memory_of, taken}
 use Rattle.picture_model.specs.Geometry.{Check, first_after, first_missing, first_unaligned, frame_fault, frame_faults, is_between, some_overlap, when}
+use Rattle.picture_model.proofs.Made.{total_chunks}
 use Rattle.planar_plan.specs.declared.judge.BuildError.{BuildError}
 use Rattle.planar_plan.specs.declared.judge.BuildError.TheVariants.{Bad, Memory}
 use Rattle.planar_plan.specs.Frames.{HasScatter, IsFramed, Judges, taken_memory}
@@ -88,16 +88,12 @@ module _ (d : Desc) where
 
 -- pages and chunks
 
-bytes-total : (pairs : List (ℕ × ℕ)) → total (listed pairs) ≡ bytes_of_chunks pairs
-bytes-total [] = refl
-bytes-total (pair ∷ rest) = let whole = total-cons (pair_chunk pair) (listed rest) in let more = bytes-total rest in omega arith
-
 few_pages : (pages : List ℕ) → length pages ≤ 4096 → taken_memory None pages ≡ unless_unaligned (first_unaligned None pages) (memory_from None pages)
 few_pages pages few = cond-false (nat_lt 4096 (length pages)) _ _ (le-ltb 4096 (length pages) few)
 
 few_chunks : (pairs : List (ℕ × ℕ)) (pages : List ℕ) → length pairs ≤ 4096 → bytes_of_chunks pairs ≤ 16777216 → taken_memory (Some pairs) pages ≡ unless_unaligned (first_unaligned (Some pairs) pages) (memory_from (Some pairs) pages)
 few_chunks pairs pages few small =
-    let bytes = bytes-total pairs in
+    let bytes = total_chunks pairs in
     cond-false (nat_lt 4096 (length pairs) || nat_lt (2 ^ 24) (total (listed pairs))) _ _
     (or_from _ _ (le-ltb 4096 (length pairs) few) (le-ltb (2 ^ 24) (total (listed pairs)) (omega arith)))
 
