@@ -5,8 +5,8 @@ use Rattle.std.specs.Fmt.{digit_glyph}
 use Rattle.std.proofs.lemmas.List.{append_cancel_left, append_cancel_right}
 use Rattle.std.proofs.lemmas.Bool.Decides.{nat_tests}
 use Rattle.risc_word.specs.declared.Instr.{Instr}
-use Rattle.risc_listing.specs.Lines.{address_text, instr_text}
-use Rattle.risc_listing.specs.Listings.{line_of, line_end}
+use Rattle.risc_listing.specs.Lines.{address_text, instr_text, line_end}
+use Rattle.risc_listing.specs.Listings.{line_of}
 use Rattle.risc_listing.proofs.Hexadecimal.{address_digits}
 
 -- a line of words begins with their address and a space

@@ -1,9 +1,14 @@
 -- Eight hexadecimal digits.
-use Rattle.std.proofs.Common.{◌≡◌, ℕ, zero, suc, ◌+◌, ◌-◌, ◌/◌, ◌%◌, ◌^◌, ◌<◌, ◌≤◌, Bool, true, false, List, [], ◌∷◌, ◌++◌, length, replicate, refl, sym, ap, ◌∙◌, arith}
-use Rattle.std.specs.Prelude.{◌==◌, if◌then◌else◌}
+use Rattle.std.proofs.Common.{◌≡◌, ℕ, zero, suc, ◌+◌, ◌-◌, ◌/◌, ◌%◌, ◌^◌, ◌<◌, ◌≤◌, Bool, true, false, List, [], ◌∷◌, ◌++◌, length, map, replicate, refl, sym, ap, ◌∙◌, arith, subst}
+use Rattle.std.specs.Prelude.{◌==◌, if◌then◌else◌, codes, slice_index_or}
 use Rattle.std.specs.Fmt.{digit_glyph, digits, digits_onto, padded_integral, format_spec, char_count}
 use Rattle.std.proofs.lemmas.List.{append-nil}
-use Rattle.std.proofs.lemmas.Bool.{eqb-true, eq-eqb}
+use Rattle.std.proofs.lemmas.Bool.{eqb-true, eq-eqb, agree_below_at}
+use Rattle.std.proofs.lemmas.Fmt.{hex_one_digit}
+use Rattle.std.proofs.lemmas.Str.{IsUtf8-from_ascii}
+use Rattle.std.proofs.lemmas.Str.Ascii.{IsAscii-nil, IsAscii-cons}
+use Rattle.std.proofs.lemmas.Bool.Decides.{nat_tests}
+use Rattle.std.specs.Str.{IsAscii, IsUtf8}
 use Rattle.risc_listing.specs.Lines.{address_text}
 
 abbrev glyph : ℕ → ℕ
@@ -74,3 +79,28 @@ address_digits n small =
     padded_filled (digits 16 false n)
     ∙ filled_digits 7 63 n [] (omega arith) short refl
     ∙ rw (two, three, four, five, six, seven)
+
+-- a number of one digit
+pub one_digit : (n : ℕ) → n < 16 → digits 16 false n ≡ digit_glyph false n ∷ []
+one_digit n small = hex_one_digit false n small
+
+-- the table of digits
+pub digit_in_table : (digit : ℕ) → digit < 16 → slice_index_or (codes "0123456789abcdef") digit 0 ≡ digit_glyph false digit
+digit_in_table digit small =
+    eqb-true _ _ (agree_below_at (λ k. slice_index_or (codes "0123456789abcdef") k 0 == digit_glyph false k) (λ _. true) 16 digit refl small)
+
+-- digits are text
+glyph-ascii : (n : ℕ) → digit_glyph false (n % 16) < 128
+glyph-ascii n = digit-ascii (n % 16) (omega arith)
+  where
+    digit-ascii : (digit : ℕ) → digit < 16 → digit_glyph false digit < 128
+    digit-ascii digit small = grind (arith, nat_tests)
+
+glyphs-ascii : (ns : List ℕ) → IsAscii (map glyph ns)
+glyphs-ascii [] = IsAscii-nil
+glyphs-ascii (n ∷ ns) = IsAscii-cons (glyph n) (map glyph ns) (glyph-ascii n) (glyphs-ascii ns)
+
+pub address_text-IsUtf8 : (n : ℕ) → n < 2 ^ 32 → IsUtf8 (address_text n)
+address_text-IsUtf8 n small =
+    let places : List ℕ = n / 2 ^ 28 ∷ n / 2 ^ 24 ∷ n / 2 ^ 20 ∷ n / 2 ^ 16 ∷ n / 2 ^ 12 ∷ n / 2 ^ 8 ∷ n / 2 ^ 4 ∷ n ∷ [] in
+    subst IsUtf8 (sym (address_digits n small)) (IsUtf8-from_ascii (map glyph places) (glyphs-ascii places))

@@ -1,5 +1,5 @@
 -- The text of an instruction. Each field stands after one space.
-use Rattle.std.specs.Prelude.{ℕ, ◌-◌, ◌^◌, Bool, true, false, List, [], ◌++◌, codes, if◌then◌else◌, ◌==◌, slice_index}
+use Rattle.std.specs.Prelude.{ℕ, ◌-◌, ◌^◌, Bool, true, false, List, [], ◌∷◌, ◌++◌, codes, if◌then◌else◌, ◌==◌, slice_index}
 use Rattle.std.specs.Fmt.{decimal, digits, padded_integral, format_spec}
 use Rattle.risc_word.specs.declared.Code.{Code}
 use Rattle.risc_word.specs.declared.Code.TheVariants.{Vre, Vro, Fm1, Fm3}
@@ -67,3 +67,10 @@ instr_text (Write123 ctl ends off counts addrs) =
 instr_text (Skip123 ctl ends counts) = codes "skip123" ++ (data_text ctl ends 0 ++ counts_text counts)
 instr_text (Write1S23 ctl ends off counts addr) =
     codes "write1s23" ++ (data_text ctl ends off ++ (counts_text counts ++ at_text addr))
+
+abbrev pub line_end : List ℕ
+line_end = 10 ∷ []
+
+-- the line of an instruction that stands at an address
+abbrev pub instr_line : ℕ → Instr → List ℕ
+instr_line at instr = address_text at ++ (codes " " ++ (instr_text instr ++ line_end))

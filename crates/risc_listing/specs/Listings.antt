@@ -6,10 +6,7 @@ use Rattle.risc_word.specs.declared.Instr.{Instr}
 use Rattle.risc_word.specs.Words.{Reading, encoded, instr_at}
 use Rattle.page_table.specs.Grants.{Chunk, is_page}
 use Rattle.machine_model.specs.Paths.{RiscProgram}
-use Rattle.risc_listing.specs.Lines.{hex, address_text, instr_text}
-
-abbrev pub line_end : List ℕ
-line_end = 10 ∷ []
+use Rattle.risc_listing.specs.Lines.{hex, address_text, instr_line, line_end}
 
 -- the instruction that words begin with and its length, where they are exactly its one spelling
 abbrev pub if_spelled : List ℕ → Reading → Option (Instr × ℕ)
@@ -22,7 +19,7 @@ spelled words = if_spelled words (instr_at words 0)
 
 -- the line of an instruction, or of one word
 abbrev pub line_of : ℕ → ℕ → Option (Instr × ℕ) → List ℕ
-line_of at word (Some read) = address_text at ++ (codes " " ++ (instr_text read.0 ++ line_end))
+line_of at word (Some read) = instr_line at read.0
 line_of at word None = address_text at ++ (codes " word " ++ (address_text word ++ line_end))
 
 -- so many words a line stands for

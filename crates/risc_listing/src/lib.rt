@@ -8,7 +8,7 @@ ghost use Rattle.std.specs.Prelude.{◌≡◌, ◌+◌, ◌*◌, ◌^◌, ◌<�
 
 mod lines;
 
-use lines::{AddressText, InstrText};
+use lines::{AddressText, InstrLine};
 use page_table::PageSet;
 use risc_verify::Program;
 use risc_word::{Instr, decode, encode};
@@ -43,14 +43,13 @@ fn put_line(text: &mut String, at: u32, words: &[u32]) -> Result<usize, AllocErr
     ensures number { IfOk result (λ number. number ≡ words_of (spelled words.now)) }
     ensures within { IfOk result (λ number. (1 ≤ number) × (number ≤ length words.now)) }
 {
-    let at = AddressText(at);
     match spelled(words) {
         Some((instr, number)) => {
-            let instr = InstrText(instr);
-            writeln!(text, "{at} {instr}")?;
+            text.write(InstrLine { at, instr })?;
             Ok(number)
         }
         None => {
+            let at = AddressText(at);
             let word = AddressText(words[0]);
             writeln!(text, "{at} word {word}")?;
             Ok(1)

@@ -1,28 +1,29 @@
 //! The text of an instruction.
 
-ghost use Rattle.risc_listing.specs.Lines.{address_text, addresses_text, code_name, control_text, counts_text, data_text, flag_text, instr_text, nibble_text};
-ghost use Rattle.std.specs.Fmt.{digit_glyph};
-ghost use Rattle.std.specs.Prelude.{◌≡◌, ◌%◌, false, Some};
+ghost use Rattle.risc_listing.specs.Lines.{address_text, addresses_text, at_text, code_name, control_text, count_text, counts_text, data_text, flag_text, instr_line, instr_text, nibble_text};
+ghost use Rattle.std.specs.Fmt.{digit_glyph, digits};
+ghost use Rattle.std.specs.Str.{IsUtf8};
+ghost use Rattle.std.specs.Prelude.{◌≡◌, ◌%◌, ◌<◌, false, [], ◌∷◌, Some};
 
 use risc_word::{Code, Ctl, Ends, Instr};
+use std::fmt::Display;
 use std::{fmt, str};
+
+const DIGITS: [u8; 16] = *b"0123456789abcdef";
 
 // The last hexadecimal digit of a number.
 #[inline]
+#[tactic(auto, using(crate::proofs::Hexadecimal::digit_in_table))]
 fn last_digit(n: u32) -> u8
     ensures { result ≡ digit_glyph false (n % 16) }
 {
-    let digit = (n % 16) as u8;
-    if digit < 10 {
-        b'0' + digit
-    } else {
-        b'a' + (digit - 10)
-    }
+    DIGITS[(n % 16) as usize]
 }
 
 #[inline]
 fn address_digits(n: u32) -> [u8; 8]
-    ensures { result ≡ address_text n }
+    ensures digits { result ≡ address_text n }
+    ensures text { IsUtf8 result }
 {
     [
         last_digit(n >> 28),
@@ -40,21 +41,35 @@ fn address_digits(n: u32) -> [u8; 8]
 #[derive(Drop)]
 pub struct AddressText(pub u32);
 
-impl fmt::Display for AddressText {
+impl Display for AddressText {
     ghost output = { λ text. Some (address_text text.0) };
 
     fn fmt<W: fmt::Write>(&self, f: &mut fmt::Formatter<W>) -> fmt::Result {
         let digits = address_digits(self.0);
-        f.write_str(str::from_utf8(&digits).map_err(|_| fmt::Error)?)
+        // digits are ASCII, as their contract says
+        f.write_str(unsafe { str::from_utf8_unchecked(&digits) })
     }
 }
 
 // A word that stands only where its bit is set.
-#[inline]
-fn flag_text(name: &'static str, is_set: bool) -> &'static str
-    ensures { result.now ≡ flag_text name.now is_set }
-{
-    if is_set { name } else { "" }
+#[derive(Drop)]
+struct FlagText {
+    name: &'static str,
+    is_set: bool,
+}
+
+impl Display for FlagText {
+    ghost output = { λ text. Some (flag_text text.name.now text.is_set) };
+
+    #[inline(always)]
+    fn fmt<W: fmt::Write>(&self, f: &mut fmt::Formatter<W>) -> fmt::Result {
+        let name = self.name;
+        if self.is_set {
+            f.write_str(name)
+        } else {
+            Ok(())
+        }
+    }
 }
 
 #[inline]
@@ -69,6 +84,41 @@ fn code_name(code: Code) -> &'static str
     }
 }
 
+// The character of a hexadecimal digit.
+fn glyph(n: u8) -> &'static str
+    requires { n < 16 }
+    ensures { result.now ≡ digit_glyph false n ∷ [] }
+{
+    match n {
+        0 => "0",
+        1 => "1",
+        2 => "2",
+        3 => "3",
+        4 => "4",
+        5 => "5",
+        6 => "6",
+        7 => "7",
+        8 => "8",
+        9 => "9",
+        10 => "a",
+        11 => "b",
+        12 => "c",
+        13 => "d",
+        14 => "e",
+        _ => "f",
+    }
+}
+
+// A number below 16, as `{:x}` writes it.
+#[inline]
+#[tactic(auto, using(crate::proofs::Hexadecimal::one_digit))]
+fn digit(n: u8) -> &'static str
+    requires { n < 16 }
+    ensures { result.now ≡ digits 16 false n }
+{
+    glyph(n)
+}
+
 // A field of four bits that stands only where it isn't 0.
 #[derive(Drop)]
 struct NibbleText {
@@ -76,14 +126,18 @@ struct NibbleText {
     value: u8,
 }
 
-impl fmt::Display for NibbleText {
+impl Display for NibbleText {
     ghost output = { λ text. Some (nibble_text text.name.now text.value) };
 
+    #[inline(always)]
     fn fmt<W: fmt::Write>(&self, f: &mut fmt::Formatter<W>) -> fmt::Result {
         let name = self.name;
         let value = self.value;
         if value == 0 {
             Ok(())
+        } else if value < 16 {
+            f.write_str(name)?;
+            f.write_str(digit(value))
         } else {
             write!(f, "{name}{value:x}")
         }
@@ -93,11 +147,15 @@ impl fmt::Display for NibbleText {
 #[derive(Drop)]
 struct ControlText(Ctl);
 
-impl fmt::Display for ControlText {
+impl Display for ControlText {
     ghost output = { λ text. Some (control_text text.0) };
 
+    #[inline]
     fn fmt<W: fmt::Write>(&self, f: &mut fmt::Formatter<W>) -> fmt::Result {
-        let irq = flag_text(" irq", self.0.irq);
+        let irq = FlagText {
+            name: " irq",
+            is_set: self.0.irq,
+        };
         let set = NibbleText {
             name: " set=",
             value: self.0.set,
@@ -106,7 +164,9 @@ impl fmt::Display for ControlText {
             name: " reset=",
             value: self.0.reset,
         };
-        write!(f, "{irq}{set}{reset}")
+        irq.fmt(f)?;
+        set.fmt(f)?;
+        reset.fmt(f)
     }
 }
 
@@ -117,45 +177,86 @@ struct DataText {
     off: u8,
 }
 
-impl fmt::Display for DataText {
+impl Display for DataText {
     ghost output = { λ text. Some (data_text text.ctl text.ends text.off) };
 
+    #[inline]
     fn fmt<W: fmt::Write>(&self, f: &mut fmt::Formatter<W>) -> fmt::Result {
-        let sol = flag_text(" sol", self.ends.sol);
-        let eol = flag_text(" eol", self.ends.eol);
+        let sol = FlagText {
+            name: " sol",
+            is_set: self.ends.sol,
+        };
+        let eol = FlagText {
+            name: " eol",
+            is_set: self.ends.eol,
+        };
         let control = ControlText(self.ctl);
         let off = NibbleText {
             name: " off=",
             value: self.off,
         };
-        write!(f, "{sol}{eol}{control}{off}")
+        sol.fmt(f)?;
+        eol.fmt(f)?;
+        control.fmt(f)?;
+        off.fmt(f)
+    }
+}
+
+// A count after a space.
+#[derive(Drop)]
+struct CountText(u16);
+
+impl Display for CountText {
+    ghost output = { λ text. Some (count_text text.0) };
+
+    #[inline]
+    fn fmt<W: fmt::Write>(&self, f: &mut fmt::Formatter<W>) -> fmt::Result {
+        f.write_str(" ")?;
+        self.0.fmt(f)
     }
 }
 
 #[derive(Drop)]
 struct CountsText([u16; 3]);
 
-impl fmt::Display for CountsText {
+impl Display for CountsText {
     ghost output = { λ text. Some (counts_text text.0) };
 
+    #[inline]
     fn fmt<W: fmt::Write>(&self, f: &mut fmt::Formatter<W>) -> fmt::Result {
         let [first, second, third] = self.0;
-        write!(f, " {first} {second} {third}")
+        CountText(first).fmt(f)?;
+        CountText(second).fmt(f)?;
+        CountText(third).fmt(f)
+    }
+}
+
+// An address after a space.
+#[derive(Drop)]
+struct AtText(u32);
+
+impl Display for AtText {
+    ghost output = { λ text. Some (at_text text.0) };
+
+    #[inline]
+    fn fmt<W: fmt::Write>(&self, f: &mut fmt::Formatter<W>) -> fmt::Result {
+        f.write_str(" ")?;
+        AddressText(self.0).fmt(f)
     }
 }
 
 #[derive(Drop)]
 struct AddressesText([u32; 3]);
 
-impl fmt::Display for AddressesText {
+impl Display for AddressesText {
     ghost output = { λ text. Some (addresses_text text.0) };
 
+    #[inline]
     fn fmt<W: fmt::Write>(&self, f: &mut fmt::Formatter<W>) -> fmt::Result {
         let [first, second, third] = self.0;
-        let first = AddressText(first);
-        let second = AddressText(second);
-        let third = AddressText(third);
-        write!(f, " {first} {second} {third}")
+        AtText(first).fmt(f)?;
+        AtText(second).fmt(f)?;
+        AtText(third).fmt(f)
     }
 }
 
@@ -163,7 +264,7 @@ impl fmt::Display for AddressesText {
 #[derive(Drop)]
 pub struct InstrText(pub Instr);
 
-impl fmt::Display for InstrText {
+impl Display for InstrText {
     ghost output = { λ text. Some (instr_text text.0) };
 
     fn fmt<W: fmt::Write>(&self, f: &mut fmt::Formatter<W>) -> fmt::Result {
@@ -175,13 +276,15 @@ impl fmt::Display for InstrText {
                 count,
                 addr,
             } => {
-                let data = DataText { ctl, ends, off };
-                let addr = AddressText(addr);
-                write!(f, "write{data} {count} {addr}")
+                f.write_str("write")?;
+                DataText { ctl, ends, off }.fmt(f)?;
+                CountText(count).fmt(f)?;
+                AtText(addr).fmt(f)
             }
             Instr::Skip { ctl, ends, count } => {
-                let data = DataText { ctl, ends, off: 0 };
-                write!(f, "skip{data} {count}")
+                f.write_str("skip")?;
+                DataText { ctl, ends, off: 0 }.fmt(f)?;
+                CountText(count).fmt(f)
             }
             Instr::WriteC {
                 ctl,
@@ -189,19 +292,24 @@ impl fmt::Display for InstrText {
                 off,
                 count,
             } => {
-                let data = DataText { ctl, ends, off };
-                write!(f, "writec{data} {count}")
+                f.write_str("writec")?;
+                DataText { ctl, ends, off }.fmt(f)?;
+                CountText(count).fmt(f)
             }
             Instr::Jump { ctl, target } => {
-                let control = ControlText(ctl);
-                let target = AddressText(target);
-                write!(f, "jump{control} {target}")
+                f.write_str("jump")?;
+                ControlText(ctl).fmt(f)?;
+                AtText(target).fmt(f)
             }
             Instr::Sync { ctl, resync, code } => {
-                let name = code_name(code);
-                let resync = flag_text(" resync", resync);
-                let control = ControlText(ctl);
-                write!(f, "sync {name}{resync}{control}")
+                let resync = FlagText {
+                    name: " resync",
+                    is_set: resync,
+                };
+                f.write_str("sync ")?;
+                f.write_str(code_name(code))?;
+                resync.fmt(f)?;
+                ControlText(ctl).fmt(f)
             }
             Instr::Write123 {
                 ctl,
@@ -210,15 +318,15 @@ impl fmt::Display for InstrText {
                 counts,
                 addrs,
             } => {
-                let data = DataText { ctl, ends, off };
-                let counts = CountsText(counts);
-                let addrs = AddressesText(addrs);
-                write!(f, "write123{data}{counts}{addrs}")
+                f.write_str("write123")?;
+                DataText { ctl, ends, off }.fmt(f)?;
+                CountsText(counts).fmt(f)?;
+                AddressesText(addrs).fmt(f)
             }
             Instr::Skip123 { ctl, ends, counts } => {
-                let data = DataText { ctl, ends, off: 0 };
-                let counts = CountsText(counts);
-                write!(f, "skip123{data}{counts}")
+                f.write_str("skip123")?;
+                DataText { ctl, ends, off: 0 }.fmt(f)?;
+                CountsText(counts).fmt(f)
             }
             Instr::Write1S23 {
                 ctl,
@@ -227,11 +335,29 @@ impl fmt::Display for InstrText {
                 counts,
                 addr,
             } => {
-                let data = DataText { ctl, ends, off };
-                let counts = CountsText(counts);
-                let addr = AddressText(addr);
-                write!(f, "write1s23{data}{counts} {addr}")
+                f.write_str("write1s23")?;
+                DataText { ctl, ends, off }.fmt(f)?;
+                CountsText(counts).fmt(f)?;
+                AtText(addr).fmt(f)
             }
         }
+    }
+}
+
+/// The line of an instruction that stands at an address.
+#[derive(Drop)]
+pub struct InstrLine {
+    pub at: u32,
+    pub instr: Instr,
+}
+
+impl Display for InstrLine {
+    ghost output = { λ line. Some (instr_line line.at line.instr) };
+
+    fn fmt<W: fmt::Write>(&self, f: &mut fmt::Formatter<W>) -> fmt::Result {
+        AddressText(self.at).fmt(f)?;
+        f.write_str(" ")?;
+        InstrText(self.instr).fmt(f)?;
+        f.write_str("\n")
     }
 }

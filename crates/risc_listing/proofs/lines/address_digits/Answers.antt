@@ -1,6 +1,10 @@
-use Rattle.std.proofs.Common.{arith}
-use Rattle.risc_listing.proofs.Hexadecimal.{address_digits}
+use Rattle.std.proofs.Common.{arith, sym, subst}
+use Rattle.std.specs.Str.{IsUtf8}
+use Rattle.risc_listing.proofs.Hexadecimal.{address_digits, address_text-IsUtf8}
 use Rattle.risc_listing.proofs.lines.address_digits.Goals as goal
 
-pub returns : goal.returns
-returns c = cc (address_digits c.args.n (omega arith))
+pub returns-clause-digits : goal.returns-clause-digits
+returns-clause-digits c = cc (address_digits c.args.n (omega arith))
+
+pub returns-clause-text : goal.returns-clause-text
+returns-clause-text c = subst IsUtf8 (sym (returns-clause-digits c)) (address_text-IsUtf8 c.args.n (omega arith))
