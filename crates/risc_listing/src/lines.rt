@@ -46,8 +46,7 @@ impl Display for AddressText {
 
     fn fmt<W: fmt::Write>(&self, f: &mut fmt::Formatter<W>) -> fmt::Result {
         let digits = address_digits(self.0);
-        // digits are ASCII, as their contract says
-        f.write_str(unsafe { str::from_utf8_unchecked(&digits) })
+        f.write_str(str::from_utf8(&digits).map_err(|_| fmt::Error)?)
     }
 }
 
