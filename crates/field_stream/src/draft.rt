@@ -8,7 +8,7 @@ ghost use Rattle.field_stream.specs.Made.{tag_of};
 ghost use Rattle.field_stream.specs.Lines.{IsShort, line_pushes};
 ghost use Rattle.field_stream.specs.Drafts.{Drafted, pushed, pushed_all};
 
-use crate::generator::{draw, first_number};
+use crate::generator::Generator;
 use crate::lines::{Line, line_entries, status};
 use fifo_model::Queue;
 use risc_word::Code;
@@ -21,12 +21,12 @@ pub(crate) const ROOM: usize = 32_768;
 // How many bytes the records of a line have at most.
 pub(crate) const LINE: usize = 11_264;
 
-// The bytes that are not put yet, the number of the generator and the entries that were made so far.
+// The bytes that are not put yet, the generator and the entries that were made so far.
 #[derive(Drop)]
 pub(crate) struct Draft {
     room: [u8; ROOM],
     len: usize,
-    number: u32,
+    generator: Generator,
     entries: u64,
 }
 
@@ -36,9 +36,9 @@ impl Model for Draft {
 
     ghost Value = { Drafted };
 
-    ghost view = { λ d. record { bytes = take d.len d.room; number = d.number; entries = d.entries } };
+    ghost view = { λ d. record { bytes = take d.len d.room; number = d.generator; entries = d.entries } };
 
-    ghost invariant = { λ d. (d.len ≤ 32768) × (d.number < 65537) };
+    ghost invariant = { λ d. d.len ≤ 32768 };
 }
 
 // The tag of a push to a queue.
@@ -61,7 +61,7 @@ impl Draft {
         Draft {
             room: [0; ROOM],
             len: 0,
-            number: first_number(seed),
+            generator: Generator::new(seed),
             entries: 0,
         }
     }
@@ -111,9 +111,8 @@ impl Draft {
         ensures value { self.new ≡ pushed (Fill queue status) self.old }
         ensures length { length self.new.bytes ≡ length self.old.bytes + 11 }
     {
-        let ([a, b, c, d], number) = draw(self.number, valid(status));
+        let [a, b, c, d] = self.generator.draw(valid(status));
         self.append(&[tag(queue), status.nibble(), a, b, c, d, 5, 16, 0, 0, 0]);
-        self.number = number;
         self.entries = self.entries.saturating_add(1);
     }
 
