@@ -21,13 +21,12 @@ pub(crate) const ROOM: usize = 32_768;
 // How many bytes the records of a line have at most.
 pub(crate) const LINE: usize = 11_264;
 
-// The bytes that are not put yet, the generator and the entries that were made so far.
+// The bytes that are not put yet, and the generator.
 #[derive(Drop)]
 pub(crate) struct Draft {
     room: [u8; ROOM],
     len: usize,
     generator: Generator,
-    entries: u64,
 }
 
 impl Model for Draft {
@@ -36,7 +35,7 @@ impl Model for Draft {
 
     ghost Value = { Drafted };
 
-    ghost view = { λ d. record { bytes = take d.len d.room; number = d.generator; entries = d.entries } };
+    ghost view = { λ d. record { bytes = take d.len d.room; number = d.generator } };
 
     ghost invariant = { λ d. d.len ≤ 32768 };
 }
@@ -56,20 +55,13 @@ fn tag(queue: Queue) -> u8
 impl Draft {
     // Nothing yet, with the first number of a seed.
     pub(crate) fn new(seed: u64) -> Draft
-        ensures { result ≡ record { bytes = []; number = first_number seed; entries = 0 } }
+        ensures { result ≡ record { bytes = []; number = first_number seed } }
     {
         Draft {
             room: [0; ROOM],
             len: 0,
             generator: Generator::new(seed),
-            entries: 0,
         }
-    }
-
-    pub(crate) fn entries(&self) -> u64
-        ensures { result ≡ self.now.entries }
-    {
-        self.entries
     }
 
     pub(crate) fn as_slice(&self) -> &[u8]
@@ -113,7 +105,6 @@ impl Draft {
     {
         let [a, b, c, d] = self.generator.draw(valid(status));
         self.append(&[tag(queue), status.nibble(), a, b, c, d, 5, 16, 0, 0, 0]);
-        self.entries = self.entries.saturating_add(1);
     }
 
     // A line of a packed format.
