@@ -1,24 +1,15 @@
 -- How many entries a stream has.
-use Rattle.std.proofs.Common.{◌≡◌, ℕ, zero, suc, ◌+◌, ◌-◌, ◌*◌, ◌/◌, ◌%◌, ◌^◌, ◌≤◌, ◌<◌, min, Bool, true, false, List, [], ◌∷◌, ◌++◌, map, refl, ap, ◌∙◌, arith, if◌then◌else◌, ◌&&◌, ⊎_elim, eq-eqb}
-use Rattle.std.specs.Prelude.{◌==◌, nat_lt}
+use Rattle.std.proofs.Common.{◌≡◌, ℕ, zero, suc, ◌+◌, ◌-◌, ◌*◌, ◌/◌, ◌%◌, ◌≤◌, ◌<◌, List, [], ◌∷◌, ◌++◌, map, refl, ap, ◌∙◌, arith, ⊎_elim, eq-eqb}
+use Rattle.std.specs.Prelude.{◌==◌}
 use Rattle.std.specs.List.{flat_map, range_with_len}
 use Rattle.std.proofs.lemmas.Bool.{and_from, and_left, and_right, cases_eq, cases_lt, cond-false, cond-true, le-ltb, lt-ltb, ne_eqb}
 use Rattle.std.proofs.lemmas.Nat.{div-add-mod', mul-le}
-use Rattle.std.proofs.Math.Nat.{div-le_self, lt_of_mul-lt-mul_right, mul-mod_left}
+use Rattle.std.proofs.Math.Nat.{lt_of_mul-lt-mul_right, mul-mod_left}
 use Rattle.fifo_model.specs.declared.Queue.TheVariants.{One}
-use Rattle.pixel_layout.specs.declared.Format.{Format}
-use Rattle.pixel_layout.specs.declared.Format.TheVariants.{Rgb32, Rgb24, Rgb16, Rgb15, Yuy2, Y8, Rgb8, BtYuv, Yuv422p, Yuv411p, Yuv420p, Yuv410p}
 use Rattle.pixel_layout.specs.declared.Parity.{Parity}
-use Rattle.pixel_layout.specs.declared.Parity.TheVariants.{Top, Bottom}
-use Rattle.pixel_layout.specs.Layouts.{layout}
 use Rattle.capture_desc.specs.declared.desc.Desc.{Desc}
-use Rattle.capture_desc.specs.declared.desc.Fields.{Fields}
-use Rattle.capture_desc.specs.declared.desc.Fields.TheVariants as fields
-use Rattle.picture_model.specs.Described.{both, describes, field_height, fields_of, layout_of, plane_row_bytes}
-use Rattle.planar_plan.specs.Frames.{IsFramed}
-use Rattle.field_stream.specs.Pushes.{Push, Mark, Fill, chroma_after, entries_in, field_pushes, frame_pushes, line_entries, packed_line, picture_line, picture_pushes, planar_at, planar_line, repeated, status_at, stream_pushes, vbi_pushes}
-use Rattle.field_stream.specs.Drafts.{Drafted, pushed, pushed_all}
-use Rattle.field_stream.proofs.Framed.{picture_range, vbi_range}
+use Rattle.picture_model.specs.Described.{field_height}
+use Rattle.field_stream.specs.Pushes.{Push, Fill, chroma_after, entries_in, field_pushes, line_entries, packed_line, picture_line, picture_pushes, planar_at, planar_line, repeated, vbi_pushes}
 
 -- lists of pushes, one after the other
 pub count_both : (a b : List Push) → entries_in (a ++ b) ≡ entries_in a + entries_in b
@@ -92,4 +83,3 @@ count_vbi (suc more) bytes some = omega (arith, count_repeated (suc more) (packe
 pub count_field : (d : Desc) (field : Parity) → entries_in (field_pushes d field) ≡ entries_in (vbi_pushes d.vbi_lines d.vbi_bytes) + (d.skip_lines + field_height d field) * entries_in (picture_line d)
 count_field d field =
     omega (arith, count_both (vbi_pushes d.vbi_lines d.vbi_bytes) (picture_pushes d field), count_repeated (d.skip_lines + field_height d field) (picture_line d))
-

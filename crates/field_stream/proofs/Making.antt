@@ -1,5 +1,5 @@
 -- A whole stream.
-use Rattle.std.proofs.Common.{◌≡◌, ℕ, ◌≤◌, List, [], ◌∷◌, ◌++◌, sym, ap, ◌∙◌, arith}
+use Rattle.std.proofs.Common.{◌≡◌, ℕ, List, [], ◌∷◌, ◌++◌, sym, ap, ◌∙◌}
 use Rattle.std.specs.Prelude.{codes}
 use Rattle.std.specs.List.{flat_map}
 use Rattle.std.proofs.lemmas.List.{append-nil}
@@ -8,7 +8,6 @@ use Rattle.capture_desc.specs.declared.desc.Desc.{Desc}
 use Rattle.capture_desc.specs.declared.desc.Fields.{Fields}
 use Rattle.capture_desc.specs.declared.desc.Fields.TheVariants as fields
 use Rattle.picture_model.specs.Described.{fields_of}
-use Rattle.planar_plan.specs.Frames.{IsFramed}
 use Rattle.field_stream.specs.Generator.{first_number}
 use Rattle.field_stream.specs.Pushes.{Push, field_pushes, frame_pushes, stream_pushes}
 use Rattle.field_stream.specs.Made.{made}

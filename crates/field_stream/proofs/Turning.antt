@@ -1,5 +1,5 @@
 -- The generator comes round: after 65,536 bytes it stands at its first number again.
-use Rattle.std.proofs.Common.{◌≡◌, ℕ, zero, suc, ◌+◌, ◌*◌, ◌%◌, ◌^◌, ◌<◌, List, refl, sym, ap, ◌∙◌, arith, zero-add, suc-add, ⊎_elim, ◌≤◌}
+use Rattle.std.proofs.Common.{◌≡◌, ℕ, zero, suc, ◌+◌, ◌*◌, ◌%◌, ◌^◌, ◌<◌, List, sym, ap, ◌∙◌, arith, zero-add, suc-add, ⊎_elim, ◌≤◌}
 use Rattle.std.specs.Prelude.{length, slice_index}
 use Rattle.std.proofs.lemmas.Bool.{cases_lt}
 use Rattle.std.proofs.lemmas.Nat.{mul-mod_first, mul-mod_second}
@@ -53,12 +53,12 @@ number_after-turn number at step small inside few =
     ⊎_elim
     (λ below. ap (number_after number) (let same : (at + step) % 65536 ≡ at + step = omega (arith, below) in same) ∙ number_after-add number at step)
     (λ above.
-        let rest = (at + step) % 65536 in
-        let whole : 2 ^ 16 + rest ≡ at + step = omega (arith, above, inside, few) in
-        sym (ap (λ (n : ℕ). number_after n rest) (come_round number small))
-        ∙ sym (number_after-add number (2 ^ 16) rest)
-        ∙ ap (number_after number) whole
-        ∙ number_after-add number at step)
+    let rest = (at + step) % 65536 in
+    let whole : 2 ^ 16 + rest ≡ at + step = omega (arith, above, inside, few) in
+    sym (ap (λ (n : ℕ). number_after n rest) (come_round number small))
+    ∙ sym (number_after-add number (2 ^ 16) rest)
+    ∙ ap (number_after number) whole
+    ∙ number_after-add number at step)
     (cases_lt (at + step) 65536)
 
 -- a byte some places on

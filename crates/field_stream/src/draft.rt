@@ -107,15 +107,17 @@ impl Draft {
         self.append(&[tag(queue), status.nibble(), a, b, c, d, 5, 16, 0, 0, 0]);
     }
 
-    // A line of a packed format.
+    // A line of a packed format. Its last entry stands apart, so that those in the loop are known to be full.
     fn packed_line(&mut self, bytes: u32)
         requires bytes { 5 ≤ bytes }
         requires room { length self.old.bytes + 11 * line_entries bytes ≤ 32768 }
         ensures { self.new ≡ pushed_all (packed_line bytes) self.old }
     {
-        for index in 0..line_entries(bytes) {
+        let last = line_entries(bytes) - 1;
+        for index in 0..last {
             self.entry(Queue::One, status(bytes, index));
         }
+        self.entry(Queue::One, status(bytes, last));
     }
 
     // The two entries of chroma that follow an entry of luma, if there are any.
