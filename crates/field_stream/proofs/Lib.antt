@@ -3,3 +3,4 @@ pub mod Drafting
 pub mod Moving
 pub mod Counting
 pub mod Making
+pub mod Turning

@@ -1,5 +1,5 @@
 -- A whole stream.
-use Rattle.std.proofs.Common.{◌≡◌, ℕ, ◌≤◌, List, [], ◌∷◌, ◌++◌, sym, ap, ◌∙◌, arith}
+use Rattle.std.proofs.Common.{◌≡◌, ℕ, List, [], ◌∷◌, ◌++◌, sym, ap, ◌∙◌}
 use Rattle.std.specs.Prelude.{codes}
 use Rattle.std.specs.List.{flat_map}
 use Rattle.std.proofs.lemmas.List.{append-nil}
@@ -8,12 +8,10 @@ use Rattle.capture_desc.specs.declared.desc.Desc.{Desc}
 use Rattle.capture_desc.specs.declared.desc.Fields.{Fields}
 use Rattle.capture_desc.specs.declared.desc.Fields.TheVariants as fields
 use Rattle.picture_model.specs.Described.{fields_of}
-use Rattle.planar_plan.specs.Frames.{IsFramed}
 use Rattle.field_stream.specs.Generator.{first_number}
 use Rattle.field_stream.specs.Pushes.{Push, field_pushes, frame_pushes, stream_pushes}
-use Rattle.field_stream.specs.Made.{made, made_entries}
+use Rattle.field_stream.specs.Made.{made}
 use Rattle.field_stream.specs.Drafts.{Drafted, pushed_all}
-use Rattle.field_stream.proofs.Counting.{few_stream, pushed_all-entries}
 use Rattle.field_stream.proofs.Moving.{pushed_all-bytes}
 
 pub frame_both : (d : Desc) → d.fields ≡ fields.Both → field_pushes d Top ++ field_pushes d Bottom ≡ frame_pushes d
@@ -23,9 +21,9 @@ frame_both d is =
 
 -- the first word, and the number of the generator before anything is drawn
 abbrev pub begun : ℕ → Drafted
-begun seed = record { bytes = codes "BFS1"; number = first_number seed; entries = 0 }
+begun seed = record { bytes = codes "BFS1"; number = first_number seed }
 
-pub begun_as : (seed : ℕ) (first draft : Drafted) → first ≡ record { bytes = []; number = first_number seed; entries = 0 } →
+pub begun_as : (seed : ℕ) (first draft : Drafted) → first ≡ record { bytes = []; number = first_number seed } →
     draft ≡ record first { bytes = first.bytes ++ codes "BFS1" } → draft ≡ begun seed
 begun_as seed first draft e f = f ∙ ap (λ (d : Drafted). record d { bytes = d.bytes ++ codes "BFS1" }) e
 
@@ -33,10 +31,3 @@ pub made_whole : (d : Desc) (seed frames : ℕ) (draft : Drafted) → draft ≡ 
 made_whole d seed frames draft e =
     ap (λ (first : Drafted). (pushed_all (stream_pushes d frames) first).bytes ++ 0 ∷ []) e
     ∙ ap (λ (bs : List ℕ). bs ++ 0 ∷ []) (pushed_all-bytes (stream_pushes d frames) (begun seed))
-
-pub made_count : (d : Desc) (seed frames : ℕ) (draft : Drafted) → IsFramed d → frames ≤ 16 → draft ≡ begun seed → (pushed_all (stream_pushes d frames) draft).entries ≡ made_entries d frames
-made_count d seed frames draft is few e =
-    ap (λ (first : Drafted). (pushed_all (stream_pushes d frames) first).entries) e
-    ∙ (let all = pushed_all-entries (stream_pushes d frames) (begun seed) (omega arith) in
-    let bound = few_stream d frames is few in
-    omega (arith, all, bound))

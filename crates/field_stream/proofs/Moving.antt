@@ -7,7 +7,7 @@ use Rattle.capture_desk.proofs.Laws.{after_write-nil, after_write-after_write}
 use Rattle.risc_word.specs.declared.Code.TheVariants.{Fm1}
 use Rattle.field_stream.specs.Pushes.{Push, Mark, packed_line, repeated, vbi_pushes}
 use Rattle.field_stream.specs.Made.{after, records, records_of}
-use Rattle.field_stream.specs.Drafts.{Drafted, IsBroken, IsMoved, Moves, counted, pushed, pushed_all}
+use Rattle.field_stream.specs.Drafts.{Drafted, IsBroken, IsMoved, Moves, pushed, pushed_all}
 use Rattle.field_stream.proofs.Drafting.{pushed_all-append}
 
 -- the bytes of a draft with more pushes
@@ -18,11 +18,11 @@ pushed_all-bytes (push ∷ rest) d =
 
 -- nothing was put
 pub moved_none : (d : Drafted) (old : Told) → IsMoved d d old old
-moved_none d old = record { front = []; bytes = refl; put = sym (after_write-nil old); number = refl; entries = refl }
+moved_none d old = record { front = []; bytes = refl; put = sym (after_write-nil old); number = refl }
 
 -- all was put
 pub moved_all : (d : Drafted) (old told : Told) → told ≡ after_write d.bytes old → IsMoved d (record d { bytes = [] }) old told
-moved_all d old told e = record { front = d.bytes; bytes = sym (append-nil d.bytes); put = e; number = refl; entries = refl }
+moved_all d old told e = record { front = d.bytes; bytes = sym (append-nil d.bytes); put = e; number = refl }
 
 pushed_on : (push : Push) (whole held : Drafted) (old told : Told) → IsMoved whole held old told → IsMoved (pushed push whole) (pushed push held) old told
 pushed_on push whole held old told m =
@@ -34,7 +34,6 @@ pushed_on push whole held old told m =
           ∙ ap (λ (n : ℕ). m.front ++ (held.bytes ++ records_of n push)) (sym m.number);
       put = m.put;
       number = ap (λ (n : ℕ). after n push) m.number;
-      entries = ap (counted push) m.entries;
     }
 
 pub moved_on : (pushes : List Push) (whole held : Drafted) (old told : Told) → IsMoved whole held old told → IsMoved (pushed_all pushes whole) (pushed_all pushes held) old told
@@ -49,7 +48,6 @@ moved_twice whole mid held old t told m n =
       bytes = m.bytes ∙ ap (λ (bs : List ℕ). m.front ++ bs) n.bytes ∙ sym (append_assoc m.front n.front held.bytes);
       put = n.put ∙ ap (after_write n.front) m.put ∙ after_write-after_write m.front n.front old;
       number = n.number ∙ m.number;
-      entries = n.entries ∙ m.entries;
     }
 
 pub broken_after : (whole mid : Drafted) (old t told : Told) → IsMoved whole mid old t → IsBroken mid t told → IsBroken whole old told

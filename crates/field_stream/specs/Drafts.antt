@@ -1,20 +1,13 @@
 -- The bytes of a stream that are made but not put yet.
 use Rattle.std.specs.Prelude.{◌≡◌, ℕ, ◌<◌, List, [], ◌∷◌, ◌++◌, length, take, Result, Ok, Err}
-use Rattle.fifo_model.specs.Queues.{more}
 use Rattle.capture_desk.specs.Desks.{Told, after_write}
-use Rattle.field_stream.specs.Pushes.{Push, Mark, Fill}
+use Rattle.field_stream.specs.Pushes.{Push}
 use Rattle.field_stream.specs.Made.{after, records_of}
 
--- with the number of the generator, and how many entries were made so far
+-- with the number of the generator
 pub record Drafted : Type 0 where
   pub bytes : List ℕ
   pub number : ℕ
-  pub entries : ℕ
-
--- the count of entries after a push: at the greatest number of 64 bits it stands still
-abbrev pub counted : Push → ℕ → ℕ
-counted (Mark code) count = count
-counted (Fill queue status) count = more count 1
 
 -- with one more push, and with some
 abbrev pub pushed : Push → Drafted → Drafted
@@ -22,7 +15,6 @@ pushed push d =
     record {
       bytes = d.bytes ++ records_of d.number push;
       number = after d.number push;
-      entries = counted push d.entries;
     }
 
 abbrev pub pushed_all : List Push → Drafted → Drafted
@@ -35,7 +27,6 @@ pub record IsMoved (whole held : Drafted) (old told : Told) : Type 0 where
   pub bytes : whole.bytes ≡ front ++ held.bytes
   pub put : told ≡ after_write front old
   pub number : held.number ≡ whole.number
-  pub entries : held.entries ≡ whole.entries
 
 -- a front of them was put, and then came a fault
 pub record IsBroken (whole : Drafted) (old told : Told) : Type 0 where

@@ -1,5 +1,5 @@
 -- The generator: a number, of which each byte that is drawn makes the next.
-use Rattle.std.specs.Prelude.{ℕ, zero, suc, ◌+◌, ◌*◌, ◌%◌, ◌-◌, List, [], ◌∷◌, ◌++◌, replicate}
+use Rattle.std.specs.Prelude.{◌≡◌, ℕ, zero, suc, ◌+◌, ◌*◌, ◌%◌, ◌-◌, ◌<◌, List, [], ◌∷◌, ◌++◌, length, replicate, slice_index}
 
 abbrev pub first_number : ℕ → ℕ
 first_number seed = seed % 65537
@@ -20,6 +20,6 @@ number_after number (suc count) = number_after (next number) count
 abbrev pub lanes : ℕ → ℕ → List ℕ
 lanes number valid = drawn number valid ++ replicate (4 - valid) 255
 
--- the numbers after one, two, three and four bytes
-abbrev pub next_four : ℕ → List ℕ
-next_four number = number_after number 1 ∷ number_after number 2 ∷ number_after number 3 ∷ number_after number 4 ∷ []
+-- some bytes that are drawn from a number on
+abbrev pub IsDrawn : ℕ → List ℕ → Type 0
+IsDrawn first bytes = (k : ℕ) → k < length bytes → slice_index bytes k ≡ number_after first (k + 1) % 256

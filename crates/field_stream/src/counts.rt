@@ -21,7 +21,7 @@ pub struct Made {
 }
 
 // How many fields a frame has.
-pub(crate) fn fields(frame: &Frame) -> u32
+fn fields(frame: &Frame) -> u32
     ensures value { result ≡ length (fields_of frame.now.fields) }
     ensures few { result ≤ 2 }
     ensures framed { IsFramed frame.now }
@@ -35,7 +35,7 @@ pub(crate) fn fields(frame: &Frame) -> u32
 // How many data entries the VBI lines of a field have.
 fn vbi_entries(frame: &Frame) -> u32
     ensures value { result ≡ entries_in (vbi_pushes frame.now.vbi_lines frame.now.vbi_bytes) }
-    ensures few { result ≤ 32736 }
+    ensures few { result ≤ 98304 }
 {
     let lines = frame.desc().vbi_lines;
     if lines == 0 {
@@ -48,7 +48,7 @@ fn vbi_entries(frame: &Frame) -> u32
 // How many data entries a field has.
 fn field_entries(frame: &Frame, field: Parity) -> u32
     ensures value { result ≡ entries_in (field_pushes frame.now field) }
-    ensures few { result ≤ 11823837 }
+    ensures few { result ≤ 4027392 }
 {
     let lines = u32::from(frame.desc().skip_lines) + frame.rows_of(field);
     vbi_entries(frame) + lines * picture_line(frame).entries()

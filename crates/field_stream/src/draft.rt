@@ -8,7 +8,7 @@ ghost use Rattle.field_stream.specs.Made.{tag_of};
 ghost use Rattle.field_stream.specs.Lines.{IsShort, line_pushes};
 ghost use Rattle.field_stream.specs.Drafts.{Drafted, pushed, pushed_all};
 
-use crate::generator::{draw, first_number};
+use crate::generator::Generator;
 use crate::lines::{Line, line_entries, status};
 use fifo_model::Queue;
 use risc_word::Code;
@@ -21,13 +21,12 @@ pub(crate) const ROOM: usize = 32_768;
 // How many bytes the records of a line have at most.
 pub(crate) const LINE: usize = 11_264;
 
-// The bytes that are not put yet, the number of the generator and the entries that were made so far.
+// The bytes that are not put yet, and the generator.
 #[derive(Drop)]
 pub(crate) struct Draft {
     room: [u8; ROOM],
     len: usize,
-    number: u32,
-    entries: u64,
+    generator: Generator,
 }
 
 impl Model for Draft {
@@ -36,9 +35,9 @@ impl Model for Draft {
 
     ghost Value = { Drafted };
 
-    ghost view = { λ d. record { bytes = take d.len d.room; number = d.number; entries = d.entries } };
+    ghost view = { λ d. record { bytes = take d.len d.room; number = d.generator } };
 
-    ghost invariant = { λ d. (d.len ≤ 32768) × (d.number < 65537) };
+    ghost invariant = { λ d. d.len ≤ 32768 };
 }
 
 // The tag of a push to a queue.
@@ -56,20 +55,13 @@ fn tag(queue: Queue) -> u8
 impl Draft {
     // Nothing yet, with the first number of a seed.
     pub(crate) fn new(seed: u64) -> Draft
-        ensures { result ≡ record { bytes = []; number = first_number seed; entries = 0 } }
+        ensures { result ≡ record { bytes = []; number = first_number seed } }
     {
         Draft {
             room: [0; ROOM],
             len: 0,
-            number: first_number(seed),
-            entries: 0,
+            generator: Generator::new(seed),
         }
-    }
-
-    pub(crate) fn entries(&self) -> u64
-        ensures { result ≡ self.now.entries }
-    {
-        self.entries
     }
 
     pub(crate) fn as_slice(&self) -> &[u8]
@@ -111,21 +103,21 @@ impl Draft {
         ensures value { self.new ≡ pushed (Fill queue status) self.old }
         ensures length { length self.new.bytes ≡ length self.old.bytes + 11 }
     {
-        let ([a, b, c, d], number) = draw(self.number, valid(status));
+        let [a, b, c, d] = self.generator.draw(valid(status));
         self.append(&[tag(queue), status.nibble(), a, b, c, d, 5, 16, 0, 0, 0]);
-        self.number = number;
-        self.entries = self.entries.saturating_add(1);
     }
 
-    // A line of a packed format.
+    // A line of a packed format. Its last entry stands apart, so that those in the loop are known to be full.
     fn packed_line(&mut self, bytes: u32)
         requires bytes { 5 ≤ bytes }
         requires room { length self.old.bytes + 11 * line_entries bytes ≤ 32768 }
         ensures { self.new ≡ pushed_all (packed_line bytes) self.old }
     {
-        for index in 0..line_entries(bytes) {
+        let last = line_entries(bytes) - 1;
+        for index in 0..last {
             self.entry(Queue::One, status(bytes, index));
         }
+        self.entry(Queue::One, status(bytes, last));
     }
 
     // The two entries of chroma that follow an entry of luma, if there are any.

@@ -1,61 +1,95 @@
 //! The generator of bytes.
 
-ghost use Rattle.std.specs.Prelude.{◌≡◌, ◌*◌, ◌+◌, ◌-◌, ◌%◌, ◌<◌, ◌≤◌, [], ◌∷◌, slice_index, EachIndex};
-ghost use Rattle.field_stream.specs.Generator.{first_number, lanes, next_four, number_after};
+ghost use Rattle.std.specs.Prelude.{◌≡◌, ◌<◌, ◌≤◌};
+ghost use Rattle.field_stream.specs.Generator.{IsDrawn, drawn, first_number, lanes, number_after};
+
+use std::marker::Model;
 
 const MODULUS: u32 = 65_537;
 
 // What the lanes that aren't valid hold.
 const FREE: u8 = 0xff;
 
-// The number that a seed begins with.
-pub(crate) fn first_number(seed: u64) -> u32
-    ensures value { result ≡ first_number seed }
-    ensures small { result < 65537 }
-{
-    (seed % u64::from(MODULUS)) as u32
+// After so many bytes the generator stands at its first number again.
+const TURN: usize = 65_536;
+
+// The bytes of a turn, and of the lanes that begin in it and end in the next.
+const BYTES: usize = 65_540;
+
+// The bytes that are drawn from a first number on, and how many of a turn were drawn. Contracts see the
+// number that the generator stands at.
+#[derive(Drop)]
+pub(crate) struct Generator {
+    bytes: [u8; BYTES],
+    first: u32,
+    at: usize,
 }
 
-// The numbers after one, two, three and four bytes are drawn. With y one above the number, each byte
-// makes y 75 times as much, modulo a prime: so each number comes from the first by a product of its own.
-#[inline]
-fn next_four(number: u32) -> [u32; 4]
-    requires { number < 65537 }
-    ensures numbers { result ≡ next_four number }
-    ensures small { EachIndex result (λ k. slice_index result k < 65537) }
-{
-    [
-        (75 * number + 74) % MODULUS,
-        (5_625 * number + 5_624) % MODULUS,
-        (28_653 * number + 28_652) % MODULUS,
-        (51_791 * number + 51_790) % MODULUS,
-    ]
+impl Model for Generator {
+    ghost use Rattle.std.specs.Prelude.{ℕ, ◌<◌};
+    ghost use Rattle.field_stream.specs.Generator.{IsDrawn, number_after};
+
+    ghost Value = { ℕ };
+
+    ghost view = { λ g. number_after g.first g.at };
+
+    ghost invariant = { λ g. IsDrawn g.first g.bytes × (g.at < 65536) × (g.first < 65537) };
 }
 
-// The byte that is drawn as the number becomes this one.
-fn byte(number: u32) -> u8
-    ensures { result ≡ number % 256 }
+// The bytes that are drawn from a number on.
+fn bytes_from(first: u32) -> [u8; BYTES]
+    requires { first < 65537 }
+    ensures { IsDrawn first result }
 {
-    (number % 256) as u8
+    let mut number = first;
+    let mut bytes = [0; BYTES];
+    for byte in bytes.iter_mut() {
+        number = (75 * number + 74) % MODULUS;
+        *byte = (number % 256) as u8;
+    }
+    bytes
 }
 
-// Draws the valid lanes of an entry, and answers its four lanes and the number after them.
-#[inline]
-pub(crate) fn draw(number: u32, valid: u8) -> ([u8; 4], u32)
-    requires number { number < 65537 }
-    requires valid { (1 ≤ valid) × (valid ≤ 4) }
-    ensures lanes { result.0 ≡ lanes number valid }
-    ensures number { result.1 ≡ number_after number valid }
-    ensures small { result.1 < 65537 }
-{
-    let [first, second, third, fourth] = next_four(number);
-    match valid {
-        1 => ([byte(first), FREE, FREE, FREE], first),
-        2 => ([byte(first), byte(second), FREE, FREE], second),
-        3 => ([byte(first), byte(second), byte(third), FREE], third),
-        _ => (
-            [byte(first), byte(second), byte(third), byte(fourth)],
-            fourth,
-        ),
+impl Generator {
+    // Stands at the first number of a seed.
+    pub(crate) fn new(seed: u64) -> Generator
+        ensures { result ≡ first_number seed }
+    {
+        let first = (seed % u64::from(MODULUS)) as u32;
+        Generator {
+            bytes: bytes_from(first),
+            first,
+            at: 0,
+        }
+    }
+
+    // The next four bytes.
+    #[inline]
+    fn next_four(&self) -> [u8; 4]
+        ensures { result ≡ drawn self.now 4 }
+    {
+        [
+            self.bytes[self.at],
+            self.bytes[self.at + 1],
+            self.bytes[self.at + 2],
+            self.bytes[self.at + 3],
+        ]
+    }
+
+    // Draws the valid lanes of an entry, and answers its four lanes.
+    #[inline]
+    pub(crate) fn draw(&mut self, valid: u8) -> [u8; 4]
+        requires { (1 ≤ valid) × (valid ≤ 4) }
+        ensures lanes { result ≡ lanes self.old valid }
+        ensures number { self.new ≡ number_after self.old valid }
+    {
+        let [a, b, c, d] = self.next_four();
+        self.at = (self.at + usize::from(valid)) % TURN;
+        match valid {
+            1 => [a, FREE, FREE, FREE],
+            2 => [a, b, FREE, FREE],
+            3 => [a, b, c, FREE],
+            _ => [a, b, c, d],
+        }
     }
 }

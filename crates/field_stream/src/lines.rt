@@ -43,7 +43,7 @@ pub(crate) fn status(bytes: u32, index: u32) -> Status
 {
     if index == 0 {
         Status::of(2)
-    } else if index + 1 == line_entries(bytes) {
+    } else if index == line_entries(bytes) - 1 {
         end_status(bytes)
     } else {
         Status::of(0)

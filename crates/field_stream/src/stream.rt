@@ -10,7 +10,7 @@ ghost use Rattle.field_stream.specs.Lines.{IsShort, line_pushes};
 ghost use Rattle.field_stream.specs.Made.{made, made_entries, made_fields};
 ghost use Rattle.field_stream.specs.Drafts.{Moves, pushed, pushed_all};
 
-use crate::counts::{Made, fields};
+use crate::counts::Made;
 use crate::draft::{Draft, LINE, ROOM};
 use crate::lines::{Line, picture_line, vbi_line};
 use capture_desc::Fields;
@@ -178,7 +178,6 @@ fn put_frames<D: Desk>(
 fn put_end<D: Desk>(draft: &mut Draft, desk: &mut D) -> Result<(), Failed>
     requires open { IsTrue (D.told desk.old).output_open }
     ensures puts { Puts (draft.old.bytes ++ 0 ∷ []) result after_write (D.told desk.old) (D.told desk.new) }
-    ensures entries { IfOk result (λ _. draft.new.entries ≡ draft.old.entries) }
     ensures counts { WriteCounts result (D.read_faults desk.old) (D.read_faults desk.new)
         (D.write_faults desk.old) (D.write_faults desk.new) }
 {
@@ -203,8 +202,5 @@ pub fn make<D: Desk>(frame: &Frame, seed: u64, frames: u8, desk: &mut D) -> Resu
     draft.append(b"BFS1");
     put_frames(&mut draft, desk, frame, frames)?;
     put_end(&mut draft, desk)?;
-    Ok(Made {
-        fields: u32::from(frames) * fields(frame),
-        entries: draft.entries(),
-    })
+    Ok(Made::of(frame, frames))
 }

@@ -1,16 +1,18 @@
-use Rattle.std.proofs.Common.{ℕ, ◌*◌, ◌∙◌, ap, sym, arith}
+use Rattle.std.proofs.Common.{◌≡◌, ◌≤◌, ℕ, ◌*◌, ◌∙◌, ap, sym, arith}
 use Rattle.std.proofs.lemmas.Nat.{mul-le}
 use Rattle.capture_desc.specs.declared.desc.Desc.{Desc}
+use Rattle.planar_plan.specs.Frames.{IsFramed}
 use Rattle.field_stream.specs.Pushes.{entries_in}
 use Rattle.field_stream.proofs.Framed.{vbi_range}
-use Rattle.field_stream.proofs.Counting.{count_vbi, few_vbi}
+use Rattle.field_stream.proofs.Counting.{count_vbi}
 use Rattle.field_stream.proofs.counts.vbi_entries.Goals as goal
+
+most : (lines : ℕ) (d : Desc) (each : ℕ) → IsFramed d → lines ≡ d.vbi_lines → each ≤ 3072 → lines * each ≤ 98304
+most lines d each is e few = mul-le lines each 32 3072 (omega (arith, e, (vbi_range d is).0)) few
 
 pub overflow_mul-result : goal.overflow_mul-result
 overflow_mul-result c =
-    let lines = ap (λ (d : Desc). d.vbi_lines) c.desc.ensures.value in
-    let range = vbi_range c.args.frame.now c.desc.ensures.framed in
-    omega (arith, mul-le c.desc.result.now.vbi_lines c.entries.result 32 3072 (omega (arith, lines, range.0)) c.entries.ensures.few)
+    omega (arith, most c.desc.result.now.vbi_lines c.args.frame.now c.entries.result c.desc.ensures.framed (ap (λ (d : Desc). d.vbi_lines) c.desc.ensures.value) c.entries.ensures.few)
 
 pub returns-else-lines-eq0-clause-value : goal.returns-else-lines-eq0-clause-value
 returns-else-lines-eq0-clause-value c =
@@ -22,6 +24,4 @@ returns-else-lines-eq0-clause-value c =
 
 pub returns-else-lines-eq0-clause-few : goal.returns-else-lines-eq0-clause-few
 returns-else-lines-eq0-clause-few c =
-    let d = c.args.frame.now in
-    let range = vbi_range d c.desc.ensures.framed in
-    omega (arith, returns-else-lines-eq0-clause-value c, few_vbi d.vbi_lines d.vbi_bytes range.0 range.1)
+    omega (arith, most c.desc.result.now.vbi_lines c.args.frame.now c.entries.result c.desc.ensures.framed (ap (λ (d : Desc). d.vbi_lines) c.desc.ensures.value) c.entries.ensures.few)

@@ -1,10 +1,10 @@
-use Rattle.std.proofs.Common.{[], ◌∷◌, ◌++◌, ◌∙◌, Result, Ok, Err, refl}
+use Rattle.std.proofs.Common.{[], ◌∷◌, ◌++◌, Result, Ok, Err, refl}
 use Rattle.std.proofs.lemmas.Result.{err_from_is_err_and}
 use Rattle.field_stream.specs.Pushes.{stream_pushes}
 use Rattle.field_stream.specs.Made.{made}
 use Rattle.field_stream.specs.Drafts.{pushed_all}
 use Rattle.field_stream.proofs.Moving.{broken_puts, puts_as, puts_last}
-use Rattle.field_stream.proofs.Making.{begun_as, made_count, made_whole}
+use Rattle.field_stream.proofs.Making.{begun_as, made_whole}
 use Rattle.field_stream.proofs.stream.make.Goals as goal
 
 abbrev done : Result (Unit {0}) (Unit {0})
@@ -34,9 +34,3 @@ returns-clause-puts g c =
     puts_as _ (made c.args.frame.now c.args.seed c.args.frames) _ _ done
     (made_whole c.args.frame.now c.args.seed c.args.frames _ begun)
     (puts_last (pushed_all (stream_pushes c.args.frame.now c.args.frames) c.append.new.self) c.put_frames.new.draft (0 ∷ []) (c.put_frames.new.draft.bytes ++ 0 ∷ []) _ _ _ done c.in_ok-put_frames.ensures.moves refl c.in_ok-put_end.ensures.puts)
-
-pub returns-clause-entries : goal.returns-clause-entries
-returns-clause-entries g c =
-    let begun = begun_as c.args.seed _ _ c.new-draft.ensures c.append.ensures in
-    c.entries.ensures ∙ c.in_ok-put_end.ensures.entries ∙ c.in_ok-put_frames.ensures.moves.entries
-    ∙ made_count c.args.frame.now c.args.seed c.args.frames _ c.fields.ensures.framed c.requires.frames.1 begun

@@ -1,7 +1,8 @@
-use Rattle.std.proofs.Common.{arith, ap, ◌∙◌}
+use Rattle.std.proofs.Common.{◌≡◌, ◌+◌, ◌-◌, ℕ, map, arith, ap, sym, ◌∙◌}
+use Rattle.std.specs.List.{range_with_len}
 use Rattle.fifo_model.specs.declared.Queue.TheVariants.{One}
-use Rattle.field_stream.specs.Pushes.{Fill, status_at}
-use Rattle.field_stream.specs.Drafts.{pushed}
+use Rattle.field_stream.specs.Pushes.{Fill, line_entries, status_at}
+use Rattle.field_stream.specs.Drafts.{pushed, pushed_all}
 use Rattle.field_stream.proofs.Drafting.{map_more}
 use Rattle.field_stream.proofs.draft.Draft.packed_line.Goals as goal
 
@@ -14,3 +15,13 @@ loop-index-preserved c =
           ∙ map_more (λ index. Fill One (status_at c.args.bytes index)) c.loop-index.index c.loop-index.self c.args.self.now c.loop-index.invariant.value;
       length = omega (arith, c.entry.ensures.length, c.loop-index.invariant.length);
     }
+
+pub returns : goal.returns
+returns c =
+    let bytes = c.args.bytes in
+    let last : c.loop-index.index ≡ c.line_entries-last.result - 1 = omega (arith, c.loop-index-test.false, c.loop-index.auto.index-end) in
+    let all : c.loop-index.index + 1 ≡ line_entries bytes = omega (arith, last, c.line_entries-last.ensures, c.requires.bytes) in
+    c.entry-2.ensures.value
+    ∙ ap (λ status. pushed (Fill One status) c.loop-index.self) (c.status-2.ensures.value ∙ ap (status_at bytes) (sym last))
+    ∙ map_more (λ index. Fill One (status_at bytes index)) c.loop-index.index c.loop-index.self c.args.self.now c.loop-index.invariant.value
+    ∙ ap (λ (n : ℕ). pushed_all (map (λ index. Fill One (status_at bytes index)) (range_with_len 0 n)) c.args.self.now) all
