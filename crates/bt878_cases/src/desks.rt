@@ -3,6 +3,7 @@ ghost use Rattle.std.specs.Prelude.{◌≡◌, ◌≤◌, [], ◌∷◌, IfOk, S
 ghost use Rattle.capture_desk.specs.Memory.{all_told};
 
 use crate::cases::Parts;
+use crate::descriptions::{Compiled, Keys, PLAIN};
 use capture_desk::{MemDesk, Octets};
 use std::alloc::{AllocError, Global};
 
@@ -140,5 +141,140 @@ pub fn empty_desk(alloc: Global) -> Result<MemDesk, AllocError>
         Vec::new(alloc),
         65536,
         500,
+    )
+}
+
+fn add_line(text: &mut Vec<u8>, key: &str, value: &str) -> Result<(), AllocError> {
+    for part in [key, " = ", value, "\n"] {
+        text.extend_from_slice(part.as_bytes())?;
+    }
+    Ok(())
+}
+
+/// The plain description with other values, or none, in place of some of its own.
+pub fn described(alloc: Global, changes: Keys) -> Result<Vec<u8>, AllocError> {
+    let mut text = Vec::new(alloc);
+    for (key, value) in PLAIN {
+        if !changes.iter().any(|change| change.0 == *key) {
+            add_line(&mut text, key, value)?;
+        }
+    }
+    for (key, value) in changes {
+        if !value.is_empty() {
+            add_line(&mut text, key, value)?;
+        }
+    }
+    Ok(text)
+}
+
+fn add_number(file: &mut Vec<u8>, number: u32) -> Result<(), AllocError> {
+    file.extend_from_slice(&number.to_le_bytes())
+}
+
+fn add_count(file: &mut Vec<u8>, count: usize) -> Result<(), AllocError> {
+    file.extend_from_slice(&count.to_le_bytes()[..4])
+}
+
+fn add_grants(file: &mut Vec<u8>, case: &Compiled) -> Result<(), AllocError> {
+    add_count(file, case.grants())?;
+    for page in case.pages {
+        add_number(file, *page)?;
+    }
+    for (address, length) in case.chunks {
+        add_number(file, *address)?;
+        add_number(file, *length)?;
+    }
+    Ok(())
+}
+
+/// The program file of a case, with the fill 0.
+pub fn program_file(alloc: Global, case: &Compiled) -> Result<Vec<u8>, AllocError> {
+    let magic = if case.chunks.is_empty() {
+        b"BRP1"
+    } else {
+        b"BRP2"
+    };
+    let mut file = Vec::from_slice(alloc, magic)?;
+    add_number(&mut file, case.base)?;
+    add_count(&mut file, case.words.len())?;
+    for word in case.words {
+        add_number(&mut file, *word)?;
+    }
+    add_grants(&mut file, case)?;
+    file.extend_from_slice(&[0])?;
+    Ok(file)
+}
+
+/// The desk of `compile description out` and `make description SEED FRAMES out`. A call moves at most
+/// `longest` bytes, and the output takes at most `room` bytes.
+pub fn description_desk(
+    alloc: Global,
+    description: &[u8],
+    longest: usize,
+    room: usize,
+) -> Result<MemDesk, AllocError>
+    ensures opens { IfOk result (λ desk. (all_told desk).may_open ≡ Some (codes "description" ∷ [])) }
+    ensures creates { IfOk result (λ desk. (all_told desk).may_create ≡ Some (codes "out" ∷ [])) }
+{
+    let inputs = vec![in alloc;
+        (
+            Octets::from_list(alloc, b"description")?,
+            Octets::from_list(alloc, description)?
+        ),
+    ]?;
+    let opens = vec![in alloc; Octets::from_list(alloc, b"description")?]?;
+    let creates = vec![in alloc; Octets::from_list(alloc, b"out")?]?;
+    MemDesk::new(
+        alloc,
+        inputs,
+        opens,
+        creates,
+        Vec::new(alloc),
+        longest.max(1),
+        room,
+    )
+}
+
+/// The desk of `capture description stream program image`, in the same way. A call whose number is in
+/// `failing` fails.
+pub fn field_desk(
+    alloc: Global,
+    description: &[u8],
+    stream: &[u8],
+    failing: &[u64],
+    longest: usize,
+    room: usize,
+) -> Result<MemDesk, AllocError>
+    ensures opens { IfOk result (λ desk. (all_told desk).may_open ≡ Some (codes "description" ∷ codes "stream" ∷ [])) }
+    ensures creates { IfOk result (λ desk. (all_told desk).may_create ≡ Some (codes "program" ∷ codes "image" ∷ [])) }
+{
+    let inputs = vec![in alloc;
+        (
+            Octets::from_list(alloc, b"description")?,
+            Octets::from_list(alloc, description)?
+        ),
+        (
+            Octets::from_list(alloc, b"stream")?,
+            Octets::from_list(alloc, stream)?
+        ),
+    ]?;
+    let opens = vec![in alloc;
+        Octets::from_list(alloc, b"description")?,
+        Octets::from_list(alloc, b"stream")?,
+    ]?;
+    let creates = vec![in alloc;
+        Octets::from_list(alloc, b"program")?,
+        Octets::from_list(alloc, b"image")?,
+    ]?;
+    let mut failures = Vec::new(alloc);
+    failures.extend_from_slice(failing)?;
+    MemDesk::new(
+        alloc,
+        inputs,
+        opens,
+        creates,
+        failures,
+        longest.max(1),
+        room,
     )
 }

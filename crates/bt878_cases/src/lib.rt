@@ -4,8 +4,16 @@
 #[cfg(test)]
 mod cases;
 #[cfg(test)]
+mod description_tests;
+#[cfg(test)]
+mod descriptions;
+#[cfg(test)]
 mod desks;
 #[cfg(test)]
+mod left;
+#[cfg(test)]
 mod memory;
+#[cfg(test)]
+mod painting;
 #[cfg(test)]
 mod tests;

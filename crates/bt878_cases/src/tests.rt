@@ -1,28 +1,12 @@
 use crate::cases::{JUDGED, LISTED, ONE_LINE, ONE_LINE_STREAM, PLAYED, Parts};
 use crate::desks::{are_parts, bare_desk, empty_desk, joined, program_desk, run_desk, twice_desk};
+use crate::left::Left;
 use bt878_top::bt878;
-use capture_desk::{MemDesk, OsDesk};
+use capture_desk::OsDesk;
 use std::alloc::{AllocError, Global};
 use std::fs;
 use std::process::Abort;
 use std::test::Fail;
-
-/// What a call answered, and the desk that it left.
-#[derive(Drop)]
-struct Left {
-    status: u8,
-    desk: MemDesk,
-}
-
-impl Left {
-    fn has(&self, status: u8, said: &[u8], image: Parts) -> bool {
-        let image_is = match self.desk.output("image") {
-            Some(bytes) => are_parts(bytes, image),
-            None => image.is_empty(),
-        };
-        self.status == status && self.desk.said() == said && image_is
-    }
-}
 
 fn listed(alloc: Global, program: &[u8]) -> Result<Left, AllocError> {
     let mut desk = program_desk(alloc, program)?;

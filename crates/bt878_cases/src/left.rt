@@ -1,0 +1,46 @@
+// What a call leaves.
+
+use crate::cases::Parts;
+use crate::desks::are_parts;
+use capture_desk::MemDesk;
+
+/// What a call answered, and the desk that it left.
+#[derive(Drop)]
+pub struct Left {
+    pub status: u8,
+    pub desk: MemDesk,
+}
+
+impl Left {
+    /// Whether it answered and said this.
+    pub fn says(&self, status: u8, said: &[u8]) -> bool {
+        self.status == status && self.desk.said() == said
+    }
+
+    /// Whether the output of this name is there and has these bytes.
+    pub fn wrote(&self, name: &str, bytes: &[u8]) -> bool {
+        self.desk.output(name) == Some(bytes)
+    }
+
+    /// Whether the output of this name isn't there.
+    pub fn lacks(&self, name: &str) -> bool {
+        self.desk.output(name).is_none()
+    }
+
+    /// Whether the output of this name isn't there, or is a prefix of these bytes.
+    pub fn began(&self, name: &str, bytes: &[u8]) -> bool {
+        match self.desk.output(name) {
+            Some(written) => bytes.starts_with(written),
+            None => true,
+        }
+    }
+
+    /// Whether it answered and said this, and left an image of these bytes, or none where they are empty.
+    pub fn has(&self, status: u8, said: &[u8], image: Parts) -> bool {
+        let image_is = match self.desk.output("image") {
+            Some(bytes) => are_parts(bytes, image),
+            None => image.is_empty(),
+        };
+        self.says(status, said) && image_is
+    }
+}
