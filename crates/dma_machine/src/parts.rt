@@ -117,55 +117,27 @@ pub fn demands_of(instr: &Instr, target: Option<u64>) -> Demands
 {
     match instr {
         Instr::Write {
-            ctl: _,
-            ends,
-            off: _,
-            count,
-            addr,
+            ends, count, addr, ..
         } => first_demand(ends.sol, *count, Some(u64::from(*addr))),
-        Instr::Skip {
-            ctl: _,
-            ends,
-            count,
-        } => first_demand(ends.sol, *count, None),
-        Instr::WriteC {
-            ctl: _,
-            ends,
-            off: _,
-            count,
-        } => first_demand(ends.sol, *count, target),
+        Instr::Skip { ends, count, .. } => first_demand(ends.sol, *count, None),
+        Instr::WriteC { ends, count, .. } => first_demand(ends.sol, *count, target),
         Instr::Jump { .. } | Instr::Sync { .. } => Demands {
             one: no_demand(),
             two: no_demand(),
             three: no_demand(),
         },
         Instr::Write123 {
-            ctl: _,
             ends,
-            off: _,
             counts,
             addrs,
+            ..
         } => {
-            let [first, second, third] = *addrs;
-            three_demands(
-                ends.sol,
-                counts,
-                Some(u64::from(first)),
-                Some(u64::from(second)),
-                Some(u64::from(third)),
-            )
+            let [first, second, third] = addrs.map(|addr| Some(u64::from(addr)));
+            three_demands(ends.sol, counts, first, second, third)
         }
-        Instr::Skip123 {
-            ctl: _,
-            ends,
-            counts,
-        } => three_demands(ends.sol, counts, None, None, None),
+        Instr::Skip123 { ends, counts, .. } => three_demands(ends.sol, counts, None, None, None),
         Instr::Write1S23 {
-            ctl: _,
-            ends,
-            off: _,
-            counts,
-            addr,
+            ends, counts, addr, ..
         } => three_demands(ends.sol, counts, Some(u64::from(*addr)), None, None),
     }
 }

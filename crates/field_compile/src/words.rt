@@ -17,8 +17,8 @@ const NO_CONTROL: Ctl = Ctl {
     reset: 0,
 };
 
-/// The SYNC that waits for a code and does nothing else. With `resync` the machine asks for no new field
-/// while it waits (Bt878 data sheet, "SYNC").
+/// The SYNC that waits for a code and does nothing else. With `resync` what it passes over sets no FDSR
+/// (Bt878 data sheet, "SYNC").
 pub fn sync(resync: bool, code: Code) -> Instr
     ensures value { result ≡ sync resync code }
     ensures fits { IsTrue (fits result) }

@@ -1,7 +1,7 @@
 //! The interrupt status register.
 #![tactic(auto)]
 
-ghost use Rattle.std.specs.Prelude.{◌≡◌, ℕ, ◌+◌, ◌-◌, ◌*◌, ◌/◌, ◌%◌, ◌^◌, ◌<◌, bit_and, bit_or};
+ghost use Rattle.std.specs.Prelude.{◌≡◌, ℕ, ◌+◌, ◌-◌, ◌*◌, ◌/◌, ◌%◌, ◌^◌, ◌<◌, bit_and, bit_or, [], ◌∷◌};
 ghost use Rattle.irq_status.specs.Register.{IsKnown, acknowledged, applied, fbus, fdsr, ocerr, raised, risc_status, risci};
 
 use bitflags::{Flag, Flags};
@@ -114,6 +114,13 @@ pub const OCERR: IntStat = IntStat {
     bits: StatusBits(1 << 18),
 };
 
+/// RISCI, FBUS, FDSR and OCERR: bits 11, 12, 14 and 18 (Bt878 data sheet, "Interrupt Status").
+pub fn interrupt_bits() -> [IntStat; 4]
+    ensures { result ≡ risci ∷ fbus ∷ fdsr ∷ ocerr ∷ [] }
+{
+    [RISCI, FBUS, FDSR, OCERR]
+}
+
 // The bits that the host can clear.
 const INTERRUPTS: u32 = (1 << 11) | (1 << 12) | (1 << 14) | (1 << 18);
 
@@ -172,16 +179,17 @@ impl IntStat {
 
 #[cfg(test)]
 mod tests {
-    use crate::{FBUS, FDSR, IntStat, OCERR};
+    use crate::{IntStat, interrupt_bits};
     use bitflags::Flags;
     use risc_word::Ctl;
 
     #[test]
     fn a_register_is_raised_applied_and_acknowledged(rt: HostRuntime) {
         let mut status = IntStat::none();
-        status.raise(FBUS);
-        status.raise(FDSR);
-        status.raise(OCERR);
+        let [_, fbus, fdsr, ocerr] = interrupt_bits();
+        status.raise(fbus);
+        status.raise(fdsr);
+        status.raise(ocerr);
         assert_eq!(rt; status.word(), 0x0004_5000);
         status.apply(Ctl {
             irq: true,

@@ -151,47 +151,31 @@ impl Instr {
         match self {
             Instr::Write {
                 ctl,
-                ends: _,
                 off,
                 count,
-                addr: _,
+                ..
             }
             | Instr::WriteC {
                 ctl,
-                ends: _,
                 off,
                 count,
+                ..
             } => { ctl.fits() && *off < 16 && *count < 4096 }
-            Instr::Skip {
-                ctl,
-                ends: _,
-                count,
-            } => ctl.fits() && *count < 4096,
-            Instr::Jump { ctl, target: _ }
-            | Instr::Sync {
-                ctl,
-                resync: _,
-                code: _,
-            } => ctl.fits(),
+            Instr::Skip { ctl, count, .. } => ctl.fits() && *count < 4096,
+            Instr::Jump { ctl, .. } | Instr::Sync { ctl, .. } => ctl.fits(),
             Instr::Write123 {
                 ctl,
-                ends: _,
                 off,
                 counts,
-                addrs: _,
+                ..
             }
             | Instr::Write1S23 {
                 ctl,
-                ends: _,
                 off,
                 counts,
-                addr: _,
+                ..
             } => { ctl.fits() && *off < 16 && counts_fit(counts) }
-            Instr::Skip123 {
-                ctl,
-                ends: _,
-                counts,
-            } => ctl.fits() && counts_fit(counts),
+            Instr::Skip123 { ctl, counts, .. } => ctl.fits() && counts_fit(counts),
         }
     }
 }
