@@ -1,6 +1,7 @@
 -- The offsets at which chunks end, and the chunk in which an offset lies.
-use Rattle.std.proofs.Common.{◌≡◌, ℕ, zero, suc, ◌+◌, ◌-◌, ◌^◌, ◌≤◌, ◌<◌, true, List, [], ◌∷◌, ◌++◌, length, get_or, drop, refl, sym, ap, ◌∙◌, arith, subst, ⊎_elim}
-use Rattle.std.proofs.lemmas.Bool.{cases_Bool, cond-true, cond-false, leb-true, leb-false}
+use Rattle.std.proofs.Common.{◌≡◌, ◌⊎◌, ℕ, zero, suc, ◌+◌, ◌-◌, ◌^◌, ◌≤◌, ◌<◌, true, List, [], ◌∷◌, ◌++◌, length, get_or, drop, refl, sym, ap, ◌∙◌, arith, subst, ⊎_elim}
+use Rattle.std.proofs.lemmas.Bool.{cases_Bool, cond-true, cond-false, leb-true, leb-false, le-leb, lt-leb}
+use Rattle.std.proofs.lemmas.List.Sums.{prefix_len_is}
 use Rattle.std.proofs.lemmas.List.{append_assoc, drop_more}
 use Rattle.std.specs.List.{prefix_len, All}
 use Rattle.std.specs.List.Sorted.{IsNonDecreasingBy}
@@ -46,6 +47,16 @@ one_more_total pairs i within =
 -- how many ends are at an offset or before it
 abbrev pub ended_at : ℕ → List ℕ → ℕ
 ended_at q ends = prefix_len (λ end. nat_le end q) ends
+
+-- a place after the ends before the i-th, and before the i-th
+pub between_ends : (ends : List ℕ) (i q : ℕ) → IsNonDecreasingBy (λ (end : ℕ). end) ends → i < length ends → q < get_or ends i 0 → ((i ≡ 0) ⊎ (get_or ends (i - 1) 0 ≤ q)) → i ≡ ended_at q ends
+between_ends ends i q rise within after before =
+    sym (prefix_len_is (λ end. nat_le end q) ends i 0 (omega arith)
+    (λ k below. ⊎_elim
+    (λ none. absurd (omega (arith, none)))
+    (λ low. let up = rise k (i - 1) 0 (omega arith) (omega arith) in le-leb (get_or ends k 0) q (omega arith))
+    before)
+    (λ _. lt-leb (get_or ends i 0) q after))
 
 -- the chunk in which a place lies, where the first chunk begins at a place
 record IsHeld (begin : ℕ) (pairs : List (ℕ × ℕ)) (q i : ℕ) : Type 0 where

@@ -1,7 +1,8 @@
 //! Scatter lists: chunks in any order, used as one stretch of bytes.
 
-ghost use Rattle.std.specs.Prelude.{◌≡◌, ◌+◌, ◌^◌, ◌<◌, ◌≤◌, [], true, length, map, IfOk, None};
-ghost use Rattle.std.specs.List.{All};
+ghost use Rattle.std.specs.Prelude.{◌≡◌, ◌+◌, ◌^◌, ◌<◌, ◌≤◌, [], true, length, map, nat_le, IfOk, IsTrue, None};
+ghost use Rattle.std.specs.List.{All, prefix_len};
+ghost use Rattle.std.specs.List.Sorted.{IsNonDecreasingBy};
 ghost use Rattle.page_table.specs.Grants.{total};
 ghost use Rattle.page_table.specs.Taken.{first_shared, is_aligned, listed, page_at};
 ghost use Rattle.page_table.specs.Scattered.{AreChunks, ArePages, Holds, IsScatterList, Scatters, address_at, ends_from, room_at, run_at, scatter_list, scattered_chunks, scattered_pages};
@@ -57,14 +58,32 @@ fn ends_of(alloc: Global, chunks: &[(u32, u32)]) -> Result<Vec<u64>, AllocError>
     Ok(ends)
 }
 
-// The chunk in which an offset lies: as many chunks end at the offset or before it.
+// Whether the first `i` chunks end at an offset or before it, and the next one after it.
+#[inline]
+fn lies_in(ends: &[u64], i: usize, off: u64) -> bool
+    requires { IsNonDecreasingBy (λ end. end) ends.now }
+    ensures { IsTrue result → i ≡ prefix_len (λ end. nat_le end off) ends.now }
+{
+    if i >= ends.len() {
+        return false;
+    }
+    off < ends[i] && (i == 0 || ends[i - 1] <= off)
+}
+
+// The chunk in which an offset lies: as many chunks end at the offset or before it. Where all chunks are
+// pages there is nothing to search.
 fn chunk_holding(chunks: &[(u32, u32)], ends: &[u64], off: u64) -> usize
     requires sums { ends.now ≡ ends_from 0 (listed chunks.now) }
     requires aligned { All (λ c. is_aligned c ≡ true) (listed chunks.now) }
     requires within { off < total (listed chunks.now) }
     ensures { Holds chunks.now ends.now off result }
 {
-    ends.partition_point(|end| *end <= off)
+    let page = (off / u64::from(PAGE)) as usize;
+    if lies_in(ends, page, off) {
+        page
+    } else {
+        ends.partition_point(|end| *end <= off)
+    }
 }
 
 // The address of an offset, and the bytes from it to the end of its chunk.
