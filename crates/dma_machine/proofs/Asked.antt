@@ -9,7 +9,6 @@ use Rattle.machine_model.specs.Turns.{demand_on, with_demand, demand_less, Store
 use Rattle.machine_model.proofs.Demanded.{written-IsRange, IsRange-written, demand_less-granted, demand-granted, with_demand-granted}
 use Rattle.machine_model.proofs.Memory.{chunks-stored_all}
 use Rattle.machine_model.proofs.Ranges.{first_granted}
-use Rattle.dma_machine.specs.Needs.{IsAddress}
 
 front_granted : (grants : List Chunk) (address count all : ℕ) → count ≤ all → first_ungranted grants address all ≡ None →
     first_ungranted grants address count ≡ None

@@ -1,10 +1,8 @@
 -- Storing bytes one by one.
-use Rattle.std.proofs.Common.{◌≡◌, ℕ, ◌+◌, ◌<◌, ◌^◌, Bool, true, false, List, ◌∷◌, length, drop, get_or, None, IsTrue, ap, ◌∙◌, arith, add-one, drop-cons, if◌then◌else◌}
-use Rattle.page_table.specs.Grants.{Chunk, granted}
-use Rattle.machine_model.specs.Paths.{written_cause}
-use Rattle.machine_model.specs.Turns.{Store, is_off, stores_from}
-use Rattle.machine_model.proofs.Demanded.{written-IsRange}
-use Rattle.machine_model.proofs.Ranges.{granted_at}
+use Rattle.std.proofs.Common.{◌≡◌, ℕ, ◌+◌, ◌%◌, ◌<◌, ◌^◌, ◌==◌, Bool, true, false, List, [], ◌∷◌, length, drop, refl, get_or, ap, ◌∙◌, arith, add-one, drop-cons, if◌then◌else◌}
+use Rattle.std.proofs.Math.Nat.{zero-div}
+use Rattle.machine_model.specs.Turns.{Store, is_off, stored_all, stores_from}
+use Rattle.page_table.specs.Blocks.{Block, stored, stored_run}
 
 -- the stores of the bytes from a place on: of the byte there, unless its lane is off, and of the others
 abbrev stores_then : Bool → ℕ → ℕ → ℕ → ℕ → List ℕ → List Store
@@ -28,3 +26,21 @@ lane_on off lane address k bytes h e = ap (stores_from off lane address) (next_b
 pub lane_off : (off lane address k : ℕ) (bytes : List ℕ) → k < length bytes → is_off off lane ≡ true →
     stores_from off lane address (drop k bytes) ≡ stores_then true off lane address k bytes
 lane_off off lane address k bytes h e = ap (stores_from off lane address) (next_byte k bytes h) ∙ stores_cons true off lane address _ _ e
+
+no_lane_off : (lane : ℕ) → is_off 0 lane ≡ false
+no_lane_off lane = ap (λ n. n % 2 ^ 1 == 1) (zero-div (2 ^ lane))
+
+-- bytes whose lanes are all on are stored one behind the other
+pub record AreRun (memory : List Block) (lane address : ℕ) (bytes : List ℕ) : Type 0 where
+  pub stores : stored_all memory (stores_from 0 lane address bytes) ≡ stored_run memory address bytes
+  pub many : length (stores_from 0 lane address bytes) ≡ length bytes
+
+pub all_stored : (memory : List Block) (lane address : ℕ) (bytes : List ℕ) → AreRun memory lane address bytes
+all_stored memory lane address [] = record { stores = refl; many = refl }
+all_stored memory lane address (byte ∷ bytes) =
+    let first = stores_cons false 0 lane address byte bytes (no_lane_off lane) in
+    let more = all_stored (stored memory address byte) (lane + 1) (address + 1) bytes in
+    record {
+      stores = ap (stored_all memory) first ∙ more.stores;
+      many = omega (arith, ap length first, more.many);
+    }

@@ -1,5 +1,5 @@
 -- Where a machine stands still: its turns do nothing but count until a push or a write of the host comes.
-use Rattle.std.specs.Prelude.{◌≡◌, Bool, true, false, not, ◌&&◌, Option, Some, None, is_none, if◌then◌else◌}
+use Rattle.std.specs.Prelude.{◌≡◌, Bool, true, false, not, ◌&&◌, is_none, if◌then◌else◌}
 use Rattle.fifo_model.specs.declared.Queue.TheVariants.{One, Two, Three}
 use Rattle.fifo_model.specs.Queues.{Queues}
 use Rattle.machine_model.specs.declared.Demands.{Demands}

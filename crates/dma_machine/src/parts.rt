@@ -117,7 +117,10 @@ pub fn demands_of(instr: &Instr, target: Option<u64>) -> Demands
 {
     match instr {
         Instr::Write {
-            ends, count, addr, ..
+            ends,
+            count,
+            addr,
+            ..
         } => first_demand(ends.sol, *count, Some(u64::from(*addr))),
         Instr::Skip { ends, count, .. } => first_demand(ends.sol, *count, None),
         Instr::WriteC { ends, count, .. } => first_demand(ends.sol, *count, target),
@@ -137,7 +140,10 @@ pub fn demands_of(instr: &Instr, target: Option<u64>) -> Demands
         }
         Instr::Skip123 { ends, counts, .. } => three_demands(ends.sol, counts, None, None, None),
         Instr::Write1S23 {
-            ends, counts, addr, ..
+            ends,
+            counts,
+            addr,
+            ..
         } => three_demands(ends.sol, counts, Some(u64::from(*addr)), None, None),
     }
 }

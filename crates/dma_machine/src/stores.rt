@@ -37,6 +37,20 @@ fn store_from<R: Ram>(ram: &mut R, off: u8, mut lane: u8, mut address: u64, byte
     stored
 }
 
+/// Stores bytes where no lane is off, and answers how many they are.
+#[inline(always)]
+fn store_all<R: Ram>(ram: &mut R, lane: u8, address: u64, bytes: &[u8]) -> u64
+    requires { written_cause (chunks_of (R.memory ram.old)) address (length bytes.now) ≡ None }
+    ensures memory { R.memory ram.new ≡ stored_all (R.memory ram.old) (stores_from 0 lane address bytes.now) }
+    ensures stored { result ≡ length (stores_from 0 lane address bytes.now) }
+{
+    if bytes.is_empty() {
+        return 0;
+    }
+    ram.store_run(address as u32, bytes);
+    bytes.len() as u64
+}
+
 /// Stores bytes from an address on, or none where there is no address.
 #[inline(always)]
 pub fn store_at<R: Ram>(ram: &mut R, address: Option<u64>, off: u8, lane: u8, bytes: &[u8]) -> u64
@@ -46,6 +60,7 @@ pub fn store_at<R: Ram>(ram: &mut R, address: Option<u64>, off: u8, lane: u8, by
     ensures stored { result ≡ length (stores_at address off lane bytes.now) }
 {
     match address {
+        Some(address) if off == 0 => store_all(ram, lane, address, bytes),
         Some(address) => store_from(ram, off, lane, address, bytes),
         None => 0,
     }

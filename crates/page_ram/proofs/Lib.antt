@@ -3,3 +3,4 @@ pub mod Filled
 pub mod Places
 pub mod Row
 pub mod RowLent
+pub mod Runs

@@ -1,5 +1,5 @@
 -- How the chunks of a memory lie in one block of bytes.
-use Rattle.std.specs.Prelude.{◌≡◌, ℕ, ◌+◌, ◌-◌, List, [], ◌∷◌, length, map, take, drop, slice_index_or}
+use Rattle.std.specs.Prelude.{◌≡◌, ℕ, ◌+◌, ◌-◌, ◌<◌, ◌≤◌, List, [], ◌∷◌, length, map, take, drop, slice_index_or, slice_set}
 use Rattle.page_table.specs.Grants.{Chunk, chunk, total}
 use Rattle.page_table.specs.Blocks.{Block, AreBlocks}
 use Rattle.page_ram.specs.declared.raw_ram.Extent.{Extent}
@@ -29,8 +29,23 @@ pub record AreCut (bytes : List ℕ) (extents : List Extent) : Type 0 where
   pub lie : AreLaid 0 extents
   pub long : length bytes ≡ total (extent_chunks extents)
 
+abbrev pub extent_at : List Extent → ℕ → Extent
+extent_at extents place = slice_index_or extents place (record { at = 0; len = 0; from = 0 })
+
 -- the byte at an address stands in the chunk at the place, and at the index of the block
 abbrev pub StandsAt : List Extent → ℕ → ℕ → ℕ → Type 0
 StandsAt extents address place index =
-    let extent = slice_index_or extents place (record { at = 0; len = 0; from = 0 }) in
+    let extent = extent_at extents place in
     HasAddress (extent_chunks extents) place address × (index ≡ extent.from + (address - extent.at))
+
+-- bytes at addresses from one on stand in the chunk at the place, and from the index of the block on
+pub record StandsRun (extents : List Extent) (place address count index : ℕ) : Type 0 where
+  pub there : place < length extents
+  pub begins : (extent_at extents place).at ≤ address
+  pub ends : address + count ≤ (extent_at extents place).at + (extent_at extents place).len
+  pub indexed : index ≡ (extent_at extents place).from + (address - (extent_at extents place).at)
+
+-- a list of bytes with others from an index on
+abbrev pub set_run : List ℕ → ℕ → List ℕ → List ℕ
+set_run old index [] = old
+set_run old index (byte ∷ bytes) = set_run (slice_set old index byte) (index + 1) bytes

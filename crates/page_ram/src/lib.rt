@@ -1,11 +1,12 @@
 //! Granted memory, byte by byte: the trait and two implementations.
 #![tactic(auto)]
 
-ghost use Rattle.std.specs.Prelude.{◌≡◌, List, ◌<◌, IsTrue, length, slice_get, Some};
-ghost use Rattle.page_table.specs.Grants.{granted};
-ghost use Rattle.page_table.specs.Blocks.{Block, AreBlocks, byte_at, chunks_of, stored};
+ghost use Rattle.std.specs.Prelude.{◌≡◌, ◌+◌, ◌^◌, List, ◌<◌, ◌≤◌, IsTrue, length, slice_get, None, Some};
+ghost use Rattle.page_table.specs.Grants.{first_ungranted, granted};
+ghost use Rattle.page_table.specs.Blocks.{Block, AreBlocks, byte_at, chunks_of, stored, stored_run};
 
 mod cells;
+mod each;
 mod map_ram;
 mod raw_block;
 mod raw_ram;
@@ -26,6 +27,12 @@ pub trait Ram {
         requires { IsTrue (granted (chunks_of (memory self.old)) addr) }
         ensures stored { memory self.new ≡ stored (memory self.old) addr byte }
         ensures sound { AreBlocks (memory self.new) };
+
+    /// Writes bytes at the granted addresses from `addr` on, as `store` would write each.
+    fn store_run(&mut self, addr: u32, bytes: &[u8])
+        requires within { addr + length bytes.now ≤ 2 ^ 32 }
+        requires granted { first_ungranted (chunks_of (memory self.old)) addr (length bytes.now) ≡ None }
+        ensures { memory self.new ≡ stored_run (memory self.old) addr bytes.now };
 
     /// Reads the byte at a granted address.
     fn load(&self, addr: u32) -> u8

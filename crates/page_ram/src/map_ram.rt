@@ -4,6 +4,7 @@ ghost use Rattle.page_table.specs.Grants.{chunk, covers};
 ghost use Rattle.page_table.specs.Blocks.{Block, chunk_of, filled, filled_block};
 
 use crate::Ram;
+use crate::each::{ByteStore, store_each};
 use crate::span::{Span, place_of};
 use page_table::PageSet;
 use std::alloc::{AllocError, Global};
@@ -92,14 +93,27 @@ impl MapRam {
     }
 }
 
-impl Ram for MapRam {
-    ghost memory = { λ ram. ram };
+impl ByteStore for MapRam {
+    ghost bytes = { λ ram. ram };
 
-    fn store(&mut self, addr: u32, byte: u8) {
+    #[inline]
+    fn store_byte(&mut self, addr: u32, byte: u8) {
         let place = place_of(&self.stretches, self.near, addr);
         self.near = place;
         let stretch = &mut self.stretches[place];
         stretch.set_byte(addr, byte);
+    }
+}
+
+impl Ram for MapRam {
+    ghost memory = { λ ram. ram };
+
+    fn store(&mut self, addr: u32, byte: u8) {
+        self.store_byte(addr, byte);
+    }
+
+    fn store_run(&mut self, addr: u32, bytes: &[u8]) {
+        store_each(self, addr, bytes);
     }
 
     fn load(&self, addr: u32) -> u8 {

@@ -1,4 +1,5 @@
 //! A block of bytes in raw memory.
+ghost use Rattle.page_ram.specs.Extents.{set_run};
 ghost use Rattle.std.specs.Prelude.{◌≡◌, ◌+◌, ◌^◌, ◌<◌, ◌≤◌, length, take, drop, replicate, slice_index, slice_set, IfOk};
 
 use crate::cells::{Base, Cells, Deed, allocate, deallocate};
@@ -50,6 +51,20 @@ impl RawBlock {
         ensures { self.new ≡ slice_set self.old index byte }
     {
         self.cells.write(self.base, index, byte);
+    }
+
+    /// Writes bytes at the indices from `index` on.
+    #[inline]
+    pub(crate) fn set_run(&mut self, index: usize, bytes: &[u8])
+        requires within { index + length bytes.now ≤ length self.old }
+        requires small { index + length bytes.now < 2 ^ 63 }
+        ensures { self.new ≡ set_run self.old index bytes.now }
+    {
+        let mut at = index;
+        for byte in bytes {
+            self.set(at, *byte);
+            at += 1;
+        }
     }
 
     /// Reads one byte.

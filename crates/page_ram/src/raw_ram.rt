@@ -1,10 +1,11 @@
 //! Memory in one raw block.
-ghost use Rattle.std.specs.Prelude.{◌≡◌, List, IsTrue, IfOk};
+ghost use Rattle.std.specs.Prelude.{◌≡◌, List, IsTrue, IfOk, IfSome};
 ghost use Rattle.page_table.specs.Grants.{Chunk, granted, total, AreGrants};
 ghost use Rattle.page_table.specs.Blocks.{Block, filled};
-ghost use Rattle.page_ram.specs.Extents.{extent_chunk, extent_chunks, AreLaid, StandsAt};
+ghost use Rattle.page_ram.specs.Extents.{extent_chunk, extent_chunks, AreLaid, StandsAt, StandsRun};
 
 use crate::Ram;
+use crate::each::{ByteStore, store_each};
 use crate::raw_block::RawBlock;
 use crate::span::{Span, place_of};
 use page_table::PageSet;
@@ -42,6 +43,24 @@ fn locate(extents: &[Extent], near: usize, addr: u32) -> (usize, usize)
     let place = place_of(extents, near, addr);
     let extent = &extents[place];
     (place, extent.from + (addr - extent.at) as usize)
+}
+
+// The index in the block from which so many bytes at addresses from `addr` on stand, where the chunk at the
+// place has them all.
+#[inline]
+fn run_in(extents: &[Extent], place: usize, addr: u32, count: usize) -> Option<usize>
+    requires grants { AreGrants (extent_chunks extents.now) }
+    requires laid { AreLaid 0 extents.now }
+    ensures { IfSome result (λ index. StandsRun extents.now place addr count index) }
+{
+    let extent = extents.get(place)?;
+    let before = addr.checked_sub(extent.at)?;
+    let room = extent.len.checked_sub(before)?;
+    if count <= room as usize {
+        Some(extent.from + before as usize)
+    } else {
+        None
+    }
 }
 
 // The chunks one behind the other, and how many bytes they take together.
@@ -100,13 +119,30 @@ impl PageRam {
     }
 }
 
+impl ByteStore for PageRam {
+    ghost bytes = { λ ram. ram };
+
+    #[inline]
+    fn store_byte(&mut self, addr: u32, byte: u8) {
+        let (place, index) = locate(&self.extents, self.near, addr);
+        self.near = place;
+        self.block.set(index, byte);
+    }
+}
+
 impl Ram for PageRam {
     ghost memory = { λ ram. ram };
 
     fn store(&mut self, addr: u32, byte: u8) {
-        let (place, index) = locate(&self.extents, self.near, addr);
-        self.near = place;
-        self.block.set(index, byte);
+        self.store_byte(addr, byte);
+    }
+
+    #[inline]
+    fn store_run(&mut self, addr: u32, bytes: &[u8]) {
+        match run_in(&self.extents, self.near, addr, bytes.len()) {
+            Some(index) => self.block.set_run(index, bytes),
+            None => store_each(self, addr, bytes),
+        }
     }
 
     fn load(&self, addr: u32) -> u8 {

@@ -1,7 +1,7 @@
 //! Both memories, under the same stores.
-ghost use Rattle.std.specs.Prelude.{◌≡◌, IsTrue};
+ghost use Rattle.std.specs.Prelude.{◌≡◌, ◌+◌, ◌^◌, ◌≤◌, length, IsTrue, None};
 ghost use Rattle.std.specs.List.{All};
-ghost use Rattle.page_table.specs.Grants.{granted};
+ghost use Rattle.page_table.specs.Grants.{first_ungranted, granted};
 ghost use Rattle.page_table.specs.Blocks.{chunks_of};
 
 use crate::{MapRam, PageRam, Ram};
@@ -16,6 +16,15 @@ fn exchange<R: Ram>(ram: &mut R, addr: u32, byte: u8) -> u8
 {
     ram.store(addr, byte);
     ram.load(addr)
+}
+
+// Writes bytes one behind the other.
+fn write_run<R: Ram>(ram: &mut R, addr: u32, bytes: &[u8])
+    requires within { addr + length bytes.now ≤ 2 ^ 32 }
+    requires granted { first_ungranted (chunks_of (R.memory ram.old)) addr (length bytes.now) ≡ None }
+    ensures { chunks_of (R.memory ram.new) ≡ chunks_of (R.memory ram.old) }
+{
+    ram.store_run(addr, bytes);
 }
 
 // Writes a list of bytes, each read back at once, and tells whether each was read as it was written.
@@ -72,7 +81,13 @@ fn chunks_that_touch(rt: HostRuntime) -> Result<(), Fail> {
     assert!(rt; exchange_all(&mut raw, &stores));
     assert_eq!(rt; raw.page(0).1, [0, 0, 0, 2].as_slice());
     assert_eq!(rt; raw.page(1).1, [1, 0, 0, 0].as_slice());
+    write_run(&mut raw, 0x20003, &[8, 9]);
+    write_run(&mut raw, 0x20005, &[10, 11]);
+    write_run(&mut map, 0x20003, &[8, 9, 10, 11]);
+    assert_eq!(rt; raw.page(0).1, [0, 0, 0, 8].as_slice());
+    assert_eq!(rt; raw.page(1).1, [9, 10, 11, 0].as_slice());
+    assert_eq!(rt; map.page(0).1, [0, 0, 0, 8].as_slice());
     assert_eq!(rt; raw.page(2).1, [3, 0, 0, 4].as_slice());
-    assert_eq!(rt; map.page(1).1, [1, 0, 0, 0].as_slice());
+    assert_eq!(rt; map.page(1).1, [9, 10, 11, 0].as_slice());
     Ok(())
 }

@@ -5,7 +5,7 @@ use Rattle.std.proofs.lemmas.List.{length-replicate, get_or-replicate}
 use Rattle.std.proofs.lemmas.Bool.{cases_Bool, cond-true, cond-false, cond_both, and_parts, leb-true, ltb-true}
 use Rattle.std.proofs.lemmas.List.Elements.{All-set, All-replicate}
 use Rattle.page_table.specs.Grants.{Chunk, chunk, covers, granted, AreGrants}
-use Rattle.page_table.specs.Blocks.{Block, chunk_of, chunks_of, filled_block, filled, byte_at, stored, AreBytes, AreBlocks}
+use Rattle.page_table.specs.Blocks.{Block, chunk_of, chunks_of, filled_block, filled, byte_at, stored, stored_run, AreBytes, AreBlocks}
 
 -- a covered address is within the bytes
 pub covered : (block : Block) (address : ℕ) → covers (chunk_of block) address ≡ true → (block.at ≤ address) × (address < block.at + length block.bytes)
@@ -26,6 +26,11 @@ chunks_of-stored (block ∷ rest) address byte =
     (λ (memory : List Block). chunks_of memory ≡ chunks_of (block ∷ rest))
     (λ _. ap (λ c. c ∷ chunks_of rest) (chunk_of-with_byte block address byte))
     (λ _. ap (λ cs. chunk_of block ∷ cs) (chunks_of-stored rest address byte))
+
+pub chunks_of-stored_run : (memory : List Block) (address : ℕ) (bytes : List ℕ) → chunks_of (stored_run memory address bytes) ≡ chunks_of memory
+chunks_of-stored_run memory address [] = refl
+chunks_of-stored_run memory address (byte ∷ bytes) =
+    chunks_of-stored_run (stored memory address byte) (address + 1) bytes ∙ chunks_of-stored memory address byte
 
 pub length-stored : (memory : List Block) (address byte : ℕ) → length (stored memory address byte) ≡ length memory
 length-stored [] address byte = refl

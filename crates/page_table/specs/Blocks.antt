@@ -1,5 +1,5 @@
 -- Memory: a byte for each granted address.
-use Rattle.std.specs.Prelude.{ℕ, ◌-◌, ◌<◌, List, [], ◌∷◌, length, map, if◌then◌else◌, slice_set, slice_index, replicate}
+use Rattle.std.specs.Prelude.{ℕ, ◌+◌, ◌-◌, ◌<◌, List, [], ◌∷◌, length, map, if◌then◌else◌, slice_set, slice_index, replicate}
 use Rattle.std.specs.List.{All}
 use Rattle.page_table.specs.Grants.{Chunk, chunk, covers, AreGrants}
 
@@ -36,6 +36,11 @@ stored (block ∷ rest) address byte =
     if covers (chunk_of block) address
     then record block { bytes = slice_set block.bytes (address - block.at) byte } ∷ rest
     else block ∷ stored rest address byte
+
+-- memory with other bytes at the granted addresses from one on
+abbrev pub stored_run : List Block → ℕ → List ℕ → List Block
+stored_run memory address [] = memory
+stored_run memory address (byte ∷ bytes) = stored_run (stored memory address byte) (address + 1) bytes
 
 -- every number of the blocks is a byte
 abbrev pub AreBytes : List Block → Type 0

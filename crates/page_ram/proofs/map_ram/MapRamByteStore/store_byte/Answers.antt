@@ -2,7 +2,7 @@ use Rattle.std.proofs.Common.{arith, sym, refl, subst}
 use Rattle.page_table.specs.Blocks.{AreBlocks}
 use Rattle.page_table.proofs.Memory.{AreBlocks-stored}
 use Rattle.page_ram.proofs.Places.{place_of_call, covered_at, stored_at}
-use Rattle.page_ram.proofs.map_ram.MapRamRam.store.Goals as goal
+use Rattle.page_ram.proofs.map_ram.MapRamByteStore.store_byte.Goals as goal
 
 pub index_mut-stretch-requires : goal.index_mut-stretch-requires
 index_mut-stretch-requires c =

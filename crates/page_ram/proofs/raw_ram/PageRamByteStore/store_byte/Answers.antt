@@ -3,7 +3,7 @@ use Rattle.page_table.specs.Grants.{AreGrants, granted}
 use Rattle.page_table.specs.Blocks.{AreBlocks, stored}
 use Rattle.page_ram.specs.Extents.{extent_chunks, laid, AreCut}
 use Rattle.page_ram.proofs.Extents.{cut_grants, cut_granted, byte_found, AreCut-set}
-use Rattle.page_ram.proofs.raw_ram.PageRamRam.store.Goals as goal
+use Rattle.page_ram.proofs.raw_ram.PageRamByteStore.store_byte.Goals as goal
 
 pub locate-place-requires-clause-grants : goal.locate-place-requires-clause-grants
 locate-place-requires-clause-grants c =
