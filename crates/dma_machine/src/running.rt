@@ -92,6 +92,8 @@ impl<R: Ram> Engine<R> {
         let demand = demand_on(&self.demands, q);
         let part = self.queues.part(q);
         match judge(entry.status, demand.needs_sol, part, demand.rest) {
+            // most entries are taken whole
+            Verdict::Take(4) => self.take(q, 4, entry),
             Verdict::Take(n) => self.take(q, n, entry),
             Verdict::Discard => self.discard(q),
             Verdict::Broken => self.give_up(Skipping::ToSync),

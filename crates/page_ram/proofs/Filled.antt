@@ -1,8 +1,9 @@
 -- Rows in which every place holds a value.
 use Rattle.std.proofs.Common.{◌≡◌, ℕ, zero, suc, ◌+◌, ◌<◌, List, [], ◌∷◌, ◌++◌, length, get_or, take, drop, replicate, map, refl, sym, ap, ◌∙◌, arith, Option, Some, None}
-use Rattle.std.proofs.Math.ListN.{set}
+use Rattle.std.proofs.Math.ListN.{length-set, set}
 use Rattle.std.proofs.lemmas.List.{length-map, take-map, drop-map, map-set, get_or-map, replicate-append-replicate, take_more_set, take_all}
 use Rattle.page_ram.specs.Row.{somes, AreFilled}
+use Rattle.page_ram.specs.Extents.{set_run}
 
 module _ {X : Type 0} where
   pub somes-map : (xs : List X) → somes (map Some xs) ≡ xs
@@ -27,6 +28,17 @@ module _ {X : Type 0} where
   pub filled_set : (cs : List (Option X)) (i : ℕ) (x : X) → AreFilled cs → set cs i (Some x) ≡ map Some (set (somes cs) i x)
   filled_set cs i x filled =
       ap (λ (l : List (Option X)). set l i (Some x)) filled ∙ sym (map-set Some (somes cs) i x)
+
+  pub filled_set_run : (cs : List (Option X)) (i : ℕ) (xs : List X) → AreFilled cs → set_run cs i (map Some xs) ≡ map Some (set_run (somes cs) i xs)
+  filled_set_run cs i [] filled = filled
+  filled_set_run cs i (x ∷ xs) filled =
+      let parts = AreFilled-map (set cs i (Some x)) (set (somes cs) i x) (filled_set cs i x filled) in
+      filled_set_run (set cs i (Some x)) (i + 1) xs parts.0
+      ∙ ap (λ (values : List X). map Some (set_run values (i + 1) xs)) parts.1
+
+  pub length-set_run : (old : List X) (i : ℕ) (xs : List X) → length (set_run old i xs) ≡ length old
+  length-set_run old i [] = refl
+  length-set_run old i (x ∷ xs) = length-set_run (set old i x) (i + 1) xs ∙ length-set old i x
 
   pub filled_run : (cs : List (Option X)) (from len : ℕ) → AreFilled cs → take len (drop from cs) ≡ map Some (take len (drop from (somes cs)))
   filled_run cs from len filled =

@@ -45,7 +45,7 @@ pub record StandsRun (extents : List Extent) (place address count index : ℕ) :
   pub ends : address + count ≤ (extent_at extents place).at + (extent_at extents place).len
   pub indexed : index ≡ (extent_at extents place).from + (address - (extent_at extents place).at)
 
--- a list of bytes with others from an index on
-abbrev pub set_run : List ℕ → ℕ → List ℕ → List ℕ
+-- a list with other items from an index on
+abbrev pub set_run : {X : Type 0} → List X → ℕ → List X → List X
 set_run old index [] = old
-set_run old index (byte ∷ bytes) = set_run (slice_set old index byte) (index + 1) bytes
+set_run old index (item ∷ items) = set_run (slice_set old index item) (index + 1) items

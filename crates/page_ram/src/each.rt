@@ -15,6 +15,8 @@ pub(crate) trait ByteStore {
 }
 
 /// Writes bytes at the granted addresses from `addr` on.
+#[cold]
+#[inline(never)]
 pub(crate) fn store_each<S: ByteStore>(ram: &mut S, addr: u32, bytes: &[u8])
     requires within { addr + length bytes.now ≤ 2 ^ 32 }
     requires granted { first_ungranted (chunks_of (S.bytes ram.old)) addr (length bytes.now) ≡ None }

@@ -1,6 +1,6 @@
 //! A block of bytes in raw memory.
 ghost use Rattle.page_ram.specs.Extents.{set_run};
-ghost use Rattle.std.specs.Prelude.{◌≡◌, ◌+◌, ◌^◌, ◌<◌, ◌≤◌, length, take, drop, replicate, slice_index, slice_set, IfOk};
+ghost use Rattle.std.specs.Prelude.{◌≡◌, ◌+◌, ◌^◌, ◌<◌, ◌≤◌, length, map, take, drop, replicate, slice_index, slice_set, IfOk, Some};
 
 use crate::cells::{Base, Cells, Deed, allocate, deallocate};
 use std::alloc::{AllocError, Global};
@@ -24,6 +24,21 @@ impl Model for RawBlock {
     ghost view = { λ b. somes b.cells.slots };
 
     ghost invariant = { λ b. (b.cells.at ≡ b.base.ptr) × (b.deed.at ≡ b.base.ptr) × (b.deed.len ≡ b.len) × (b.deed.alloc ≡ b.alloc) × (length b.cells.slots ≡ b.len) × AreFilled b.cells.slots };
+}
+
+/// Puts bytes into the places from `index` on.
+#[inline]
+fn write_run(cells: &mut Cells<u8>, base: Base<u8>, index: usize, bytes: &[u8])
+    requires at { base.ptr ≡ cells.old.at }
+    requires within { index + length bytes.now ≤ length cells.old.slots }
+    requires small { index + length bytes.now < 2 ^ 63 }
+    ensures { (cells.new.at ≡ cells.old.at) × (cells.new.slots ≡ set_run cells.old.slots index (map Some bytes.now)) }
+{
+    let mut at = index;
+    for byte in bytes {
+        cells.write(base, at, *byte);
+        at += 1;
+    }
 }
 
 impl RawBlock {
@@ -60,11 +75,7 @@ impl RawBlock {
         requires small { index + length bytes.now < 2 ^ 63 }
         ensures { self.new ≡ set_run self.old index bytes.now }
     {
-        let mut at = index;
-        for byte in bytes {
-            self.set(at, *byte);
-            at += 1;
-        }
+        write_run(&mut self.cells, self.base, index, bytes);
     }
 
     /// Reads one byte.

@@ -137,7 +137,7 @@ impl Ram for PageRam {
         self.store_byte(addr, byte);
     }
 
-    #[inline]
+    #[inline(always)]
     fn store_run(&mut self, addr: u32, bytes: &[u8]) {
         match run_in(&self.extents, self.near, addr, bytes.len()) {
             Some(index) => self.block.set_run(index, bytes),

@@ -27,14 +27,17 @@ fn take_group<R: Ram>(machine: &mut Machine<R>, count: u32)
     }
 }
 
-/// Lets the machine take turns, in groups that grow: most turns of a recording find the machine still, and
-/// a group that begins with a still machine costs next to nothing.
+/// Lets the machine take turns: one, then groups that grow. Most turns of a recording find the machine
+/// still, and a group that begins with a still machine costs next to nothing.
 #[inline]
 fn take_turns<R: Ram>(machine: &mut Machine<R>, count: u32)
     ensures { machine.new ≡ run machine.old (replicate count Turn) }
 {
-    let mut left = count;
-    let mut group: u32 = 1;
+    let Some(mut left) = count.checked_sub(1) else {
+        return;
+    };
+    machine.turn();
+    let mut group: u32 = 16;
     while left > 0 {
         let some = left.min(group);
         take_group(machine, some);
