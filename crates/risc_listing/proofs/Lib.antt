@@ -1,3 +1,4 @@
 pub mod Beginnings
 pub mod Hexadecimal
+pub mod OneSpelling
 pub mod Passing

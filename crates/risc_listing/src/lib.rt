@@ -7,18 +7,20 @@ ghost use Rattle.std.specs.List.{flat_map};
 ghost use Rattle.std.specs.Prelude.{◌≡◌, ◌+◌, ◌*◌, ◌^◌, ◌<◌, ◌≤◌, ◌++◌, length, slice_index, string_bytes, IfOk, IfSome};
 
 mod lines;
+mod unnamed;
 
 use lines::{AddressText, InstrLine};
 use page_table::PageSet;
 use risc_verify::Program;
-use risc_word::{Instr, decode, encode};
+use risc_word::{Instr, decode};
 use std::alloc::{AllocError, Global};
 use std::fmt::Write;
+use unnamed::is_plain;
 
 const PAGE: u32 = 4096;
 
 // The instruction that the words begin with and its length, where they are exactly its one spelling.
-#[inline]
+#[inline(always)]
 fn spelled(words: &[u32]) -> Option<(Instr, usize)>
     ensures value { result ≡ spelled words.now }
     ensures within { IfSome result (λ read. (1 ≤ read.1) × (read.1 ≤ length words.now)) }
@@ -26,9 +28,7 @@ fn spelled(words: &[u32]) -> Option<(Instr, usize)>
     let Ok((instr, number)) = decode(words, 0) else {
         return None;
     };
-    let mut spelling = [0; 5];
-    let count = usize::from(encode(&instr, &mut spelling));
-    if words.starts_with(&spelling[..count]) {
+    if is_plain(&instr, words) {
         Some((instr, usize::from(number)))
     } else {
         None
