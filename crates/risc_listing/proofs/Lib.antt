@@ -1,4 +1,5 @@
 pub mod Beginnings
+pub mod Decimal
 pub mod Hexadecimal
 pub mod OneSpelling
 pub mod Passing

@@ -9,7 +9,7 @@ ghost use Rattle.std.specs.Prelude.{◌≡◌, ◌+◌, ◌*◌, ◌^◌, ◌<�
 mod lines;
 mod unnamed;
 
-use lines::{AddressText, InstrLine};
+use lines::{InstrLine, WordLine};
 use page_table::PageSet;
 use risc_verify::Program;
 use risc_word::{Instr, decode};
@@ -49,9 +49,7 @@ fn put_line(text: &mut String, at: u32, words: &[u32]) -> Result<usize, AllocErr
             Ok(number)
         }
         None => {
-            let at = AddressText(at);
-            let word = AddressText(words[0]);
-            writeln!(text, "{at} word {word}")?;
+            text.write(WordLine { at, word: words[0] })?;
             Ok(1)
         }
     }
