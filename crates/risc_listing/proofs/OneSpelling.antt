@@ -109,7 +109,7 @@ module _ (word : ℕ) (small : word < 2 ^ 32) where
   sync_same : (code : Code) → bits 28 4 word ≡ 8 → code_number code ≡ bits 0 4 word → (sync_word (control_bits word) (bits 15 1 word == 1) code == word) ≡ is_plain_sync word
   sync_same code is number =
       let sum = sync_of (head_word 8 (control_bits word)) (bits 0 16 word) (bits 25 3 word) (bits 15 1 word) (bits 4 11 word) (bits 0 4 word) _ (code_number code)
-              (flag_of 15 (bits 15 1 word) (bit_small 15 word)) number lower_half (head_sum 8 is) in
+      (flag_of 15 (bits 15 1 word) (bit_small 15 word)) number lower_half (head_sum 8 is) in
       same_word word _ _ sum ∙ sum_zero (bits 25 3 word) (bits 4 11 word) (2 ^ 25) (2 ^ 4) (omega arith) (omega arith)
 
   counts_sum : word ≡ counts_word (bits 0 12 word) (bits 16 12 word) + (bits 12 4 word * 2 ^ 12 + bits 28 4 word * 2 ^ 28)

@@ -45,7 +45,7 @@ fn put_line(text: &mut String, at: u32, words: &[u32]) -> Result<usize, AllocErr
 {
     match spelled(words) {
         Some((instr, number)) => {
-            text.write(InstrLine { at, instr })?;
+            text.write(InstrLine { at, instr: &instr })?;
             Ok(number)
         }
         None => {

@@ -132,6 +132,7 @@ fn code_name(code: Code) -> &'static str
 }
 
 // The character of a hexadecimal digit.
+#[inline]
 fn glyph(n: u8) -> &'static str
     requires { n < 16 }
     ensures { result.now ≡ digit_glyph false n ∷ [] }
@@ -197,7 +198,7 @@ struct ControlText(Ctl);
 impl Display for ControlText {
     ghost output = { λ text. Some (control_text text.0) };
 
-    #[inline(always)]
+    #[inline]
     fn fmt<W: fmt::Write>(&self, f: &mut fmt::Formatter<W>) -> fmt::Result {
         let irq = FlagText {
             name: " irq",
@@ -227,7 +228,7 @@ struct DataText {
 impl Display for DataText {
     ghost output = { λ text. Some (data_text text.ctl text.ends text.off) };
 
-    #[inline(always)]
+    #[inline(never)]
     fn fmt<W: fmt::Write>(&self, f: &mut fmt::Formatter<W>) -> fmt::Result {
         let sol = FlagText {
             name: " sol",
@@ -310,7 +311,7 @@ struct CountText(u16);
 impl Display for CountText {
     ghost output = { λ text. Some (count_text text.0) };
 
-    #[inline]
+    #[inline(never)]
     fn fmt<W: fmt::Write>(&self, f: &mut fmt::Formatter<W>) -> fmt::Result {
         let n = self.0;
         if n < 10 {
@@ -340,7 +341,7 @@ struct CountsText([u16; 3]);
 impl Display for CountsText {
     ghost output = { λ text. Some (counts_text text.0) };
 
-    #[inline(always)]
+    #[inline]
     fn fmt<W: fmt::Write>(&self, f: &mut fmt::Formatter<W>) -> fmt::Result {
         let [first, second, third] = self.0;
         CountText(first).fmt(f)?;
@@ -356,7 +357,7 @@ struct AtText(u32);
 impl Display for AtText {
     ghost output = { λ text. Some (at_text text.0) };
 
-    #[inline(always)]
+    #[inline(never)]
     fn fmt<W: fmt::Write>(&self, f: &mut fmt::Formatter<W>) -> fmt::Result {
         let text = space_and_address(self.0);
         f.write_str(unsafe { str::from_utf8_unchecked(&text) })
@@ -369,7 +370,7 @@ struct AddressesText([u32; 3]);
 impl Display for AddressesText {
     ghost output = { λ text. Some (addresses_text text.0) };
 
-    #[inline(always)]
+    #[inline]
     fn fmt<W: fmt::Write>(&self, f: &mut fmt::Formatter<W>) -> fmt::Result {
         let [first, second, third] = self.0;
         AtText(first).fmt(f)?;
@@ -380,13 +381,14 @@ impl Display for AddressesText {
 
 /// An instruction in words: its name, its fields, its counts and its addresses.
 #[derive(Drop)]
-pub struct InstrText(pub Instr);
+pub struct InstrText<'a>(pub &'a Instr);
 
-impl Display for InstrText {
-    ghost output = { λ text. Some (instr_text text.0) };
+impl<'a> Display for InstrText<'a> {
+    ghost output = { λ text. Some (instr_text text.0.now) };
 
+    #[inline(always)]
     fn fmt<W: fmt::Write>(&self, f: &mut fmt::Formatter<W>) -> fmt::Result {
-        match self.0 {
+        match *self.0 {
             Instr::Write {
                 ctl,
                 ends,
@@ -464,14 +466,15 @@ impl Display for InstrText {
 
 /// The line of an instruction that stands at an address.
 #[derive(Drop)]
-pub struct InstrLine {
+pub struct InstrLine<'a> {
     pub at: u32,
-    pub instr: Instr,
+    pub instr: &'a Instr,
 }
 
-impl Display for InstrLine {
-    ghost output = { λ line. Some (instr_line line.at line.instr) };
+impl<'a> Display for InstrLine<'a> {
+    ghost output = { λ line. Some (instr_line line.at line.instr.now) };
 
+    #[inline(always)]
     fn fmt<W: fmt::Write>(&self, f: &mut fmt::Formatter<W>) -> fmt::Result {
         HeadText(self.at).fmt(f)?;
         InstrText(self.instr).fmt(f)?;

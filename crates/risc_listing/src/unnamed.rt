@@ -38,7 +38,7 @@ fn is_plain_data(word: u32) -> bool
 fn is_plain_skip(word: u32) -> bool
     ensures { result ≡ is_plain_skip word }
 {
-    Spare::get(word) == 0 && Lanes::get(word) == 0
+    is_plain_data(word) && Lanes::get(word) == 0
 }
 
 #[inline(always)]
