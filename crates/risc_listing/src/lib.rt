@@ -2,17 +2,20 @@
 //! the byte that fills it at first. The form of the lines is this project's own rule.
 #![tactic(auto)]
 
+ghost use Rattle.risc_listing.specs.Lines.{instr_line};
 ghost use Rattle.risc_listing.specs.Listings.{chunk_line, line_of, listing, spelled, word_lines, words_of};
 ghost use Rattle.std.specs.List.{flat_map};
 ghost use Rattle.std.specs.Prelude.{◌≡◌, ◌+◌, ◌*◌, ◌^◌, ◌<◌, ◌≤◌, ◌++◌, length, slice_index, string_bytes, IfOk, IfSome};
 
 mod lines;
+mod room;
 mod unnamed;
 
 use lines::{InstrLine, WordLine};
 use page_table::PageSet;
 use risc_verify::Program;
 use risc_word::{Instr, decode};
+use room::LineRoom;
 use std::alloc::{AllocError, Global};
 use std::fmt::Write;
 use unnamed::is_plain;
@@ -35,6 +38,27 @@ fn spelled(words: &[u32]) -> Option<(Instr, usize)>
     }
 }
 
+// Appends a line that is longer than a `LineRoom`, piece by piece.
+#[cold]
+#[inline(never)]
+fn put_long_instr(text: &mut String, at: u32, instr: &Instr) -> Result<(), AllocError>
+    ensures { IfOk result (λ _. string_bytes text.new ≡ string_bytes text.old ++ instr_line at instr.now) }
+{
+    text.write(InstrLine { at, instr })
+}
+
+// Appends the line of an instruction, in one piece where it has room.
+#[inline(always)]
+fn put_instr(text: &mut String, at: u32, instr: &Instr) -> Result<(), AllocError>
+    ensures { IfOk result (λ _. string_bytes text.new ≡ string_bytes text.old ++ instr_line at instr.now) }
+{
+    let mut line = LineRoom::new();
+    if line.write(InstrLine { at, instr }).is_err() {
+        return put_long_instr(text, at, instr);
+    }
+    text.push_str(line.as_str())
+}
+
 // Appends the line of the instruction or the word that words begin with, and answers how many words
 // the line stands for.
 fn put_line(text: &mut String, at: u32, words: &[u32]) -> Result<usize, AllocError>
@@ -45,7 +69,7 @@ fn put_line(text: &mut String, at: u32, words: &[u32]) -> Result<usize, AllocErr
 {
     match spelled(words) {
         Some((instr, number)) => {
-            text.write(InstrLine { at, instr: &instr })?;
+            put_instr(text, at, &instr)?;
             Ok(number)
         }
         None => {

@@ -132,7 +132,7 @@ fn code_name(code: Code) -> &'static str
 }
 
 // The character of a hexadecimal digit.
-#[inline]
+#[inline(always)]
 fn glyph(n: u8) -> &'static str
     requires { n < 16 }
     ensures { result.now ≡ digit_glyph false n ∷ [] }
@@ -198,7 +198,7 @@ struct ControlText(Ctl);
 impl Display for ControlText {
     ghost output = { λ text. Some (control_text text.0) };
 
-    #[inline]
+    #[inline(always)]
     fn fmt<W: fmt::Write>(&self, f: &mut fmt::Formatter<W>) -> fmt::Result {
         let irq = FlagText {
             name: " irq",
@@ -228,7 +228,7 @@ struct DataText {
 impl Display for DataText {
     ghost output = { λ text. Some (data_text text.ctl text.ends text.off) };
 
-    #[inline(never)]
+    #[inline(always)]
     fn fmt<W: fmt::Write>(&self, f: &mut fmt::Formatter<W>) -> fmt::Result {
         let sol = FlagText {
             name: " sol",
@@ -311,7 +311,7 @@ struct CountText(u16);
 impl Display for CountText {
     ghost output = { λ text. Some (count_text text.0) };
 
-    #[inline(never)]
+    #[inline(always)]
     fn fmt<W: fmt::Write>(&self, f: &mut fmt::Formatter<W>) -> fmt::Result {
         let n = self.0;
         if n < 10 {
@@ -341,7 +341,7 @@ struct CountsText([u16; 3]);
 impl Display for CountsText {
     ghost output = { λ text. Some (counts_text text.0) };
 
-    #[inline]
+    #[inline(always)]
     fn fmt<W: fmt::Write>(&self, f: &mut fmt::Formatter<W>) -> fmt::Result {
         let [first, second, third] = self.0;
         CountText(first).fmt(f)?;
@@ -357,7 +357,7 @@ struct AtText(u32);
 impl Display for AtText {
     ghost output = { λ text. Some (at_text text.0) };
 
-    #[inline(never)]
+    #[inline(always)]
     fn fmt<W: fmt::Write>(&self, f: &mut fmt::Formatter<W>) -> fmt::Result {
         let text = space_and_address(self.0);
         f.write_str(unsafe { str::from_utf8_unchecked(&text) })
@@ -370,7 +370,7 @@ struct AddressesText([u32; 3]);
 impl Display for AddressesText {
     ghost output = { λ text. Some (addresses_text text.0) };
 
-    #[inline]
+    #[inline(always)]
     fn fmt<W: fmt::Write>(&self, f: &mut fmt::Formatter<W>) -> fmt::Result {
         let [first, second, third] = self.0;
         AtText(first).fmt(f)?;
