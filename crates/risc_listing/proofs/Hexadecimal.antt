@@ -1,15 +1,15 @@
 -- Eight hexadecimal digits.
-use Rattle.std.proofs.Common.{◌≡◌, ℕ, zero, suc, ◌+◌, ◌-◌, ◌/◌, ◌%◌, ◌^◌, ◌<◌, ◌≤◌, Bool, true, false, List, [], ◌∷◌, ◌++◌, length, map, replicate, refl, sym, ap, ◌∙◌, arith, subst}
+use Rattle.std.proofs.Common.{◌≡◌, ℕ, zero, suc, ◌+◌, ◌-◌, ◌*◌, ◌/◌, ◌%◌, ◌^◌, ◌<◌, ◌≤◌, Bool, true, false, List, [], ◌∷◌, ◌++◌, length, map, replicate, refl, sym, ap, ◌∙◌, arith, subst}
 use Rattle.std.specs.Prelude.{◌==◌, if◌then◌else◌, codes, slice_index_or}
 use Rattle.std.specs.Fmt.{digit_glyph, digits, digits_onto, padded_integral, format_spec, char_count}
 use Rattle.std.proofs.lemmas.List.{append-nil}
 use Rattle.std.proofs.lemmas.Bool.{eqb-true, eq-eqb, agree_below_at}
 use Rattle.std.proofs.lemmas.Fmt.{hex_one_digit}
 use Rattle.std.proofs.lemmas.Str.{IsUtf8-from_ascii}
-use Rattle.std.proofs.lemmas.Str.Ascii.{IsAscii-nil, IsAscii-cons}
+use Rattle.std.proofs.lemmas.Str.Ascii.{IsAscii-nil, IsAscii-cons, IsAscii-push}
 use Rattle.std.proofs.lemmas.Bool.Decides.{nat_tests}
 use Rattle.std.specs.Str.{IsAscii, IsUtf8}
-use Rattle.risc_listing.specs.Lines.{address_text}
+use Rattle.risc_listing.specs.Lines.{address_text, at_text}
 
 abbrev glyph : ℕ → ℕ
 glyph n = digit_glyph false (n % 16)
@@ -80,14 +80,44 @@ address_digits n small =
     ∙ filled_digits 7 63 n [] (omega arith) short refl
     ∙ rw (two, three, four, five, six, seven)
 
+-- the same where each byte gives two digits
+address_pairs : (n : ℕ) → n < 2 ^ 32 → address_text n
+    ≡ glyph (n / 2 ^ 24 / 16) ∷ glyph (n / 2 ^ 24) ∷ glyph (n / 2 ^ 16 / 16) ∷ glyph (n / 2 ^ 16) ∷ glyph (n / 2 ^ 8 / 16) ∷ glyph (n / 2 ^ 8) ∷ glyph (n / 16) ∷ glyph n ∷ []
+address_pairs n small =
+    let seven : n / 2 ^ 24 / 16 ≡ n / 2 ^ 28 = omega arith in
+    let five : n / 2 ^ 16 / 16 ≡ n / 2 ^ 20 = omega arith in
+    let three : n / 2 ^ 8 / 16 ≡ n / 2 ^ 12 = omega arith in
+    rw (seven, five, three) (address_digits n small)
+
+pub pairs_and_space : (n : ℕ) → n < 2 ^ 32 → address_text n ++ 32 ∷ []
+    ≡ glyph (n / 2 ^ 24 / 16) ∷ glyph (n / 2 ^ 24) ∷ glyph (n / 2 ^ 16 / 16) ∷ glyph (n / 2 ^ 16) ∷ glyph (n / 2 ^ 8 / 16) ∷ glyph (n / 2 ^ 8) ∷ glyph (n / 16) ∷ glyph n ∷ 32 ∷ []
+pairs_and_space n small = ap (λ (list : List ℕ). list ++ 32 ∷ []) (address_pairs n small)
+
+pub space_and_pairs : (n : ℕ) → n < 2 ^ 32 → at_text n
+    ≡ 32 ∷ glyph (n / 2 ^ 24 / 16) ∷ glyph (n / 2 ^ 24) ∷ glyph (n / 2 ^ 16 / 16) ∷ glyph (n / 2 ^ 16) ∷ glyph (n / 2 ^ 8 / 16) ∷ glyph (n / 2 ^ 8) ∷ glyph (n / 16) ∷ glyph n ∷ []
+space_and_pairs n small = ap (λ (list : List ℕ). 32 ∷ list) (address_pairs n small)
+
 -- a number of one digit
 pub one_digit : (n : ℕ) → n < 16 → digits 16 false n ≡ digit_glyph false n ∷ []
 one_digit n small = hex_one_digit false n small
 
--- the table of digits
-pub digit_in_table : (digit : ℕ) → digit < 16 → slice_index_or (codes "0123456789abcdef") digit 0 ≡ digit_glyph false digit
-digit_in_table digit small =
-    eqb-true _ _ (agree_below_at (λ k. slice_index_or (codes "0123456789abcdef") k 0 == digit_glyph false k) (λ _. true) 16 digit refl small)
+-- the table of pairs of digits
+abbrev pairs : List ℕ
+pairs = codes "000102030405060708090a0b0c0d0e0f101112131415161718191a1b1c1d1e1f202122232425262728292a2b2c2d2e2f303132333435363738393a3b3c3d3e3f404142434445464748494a4b4c4d4e4f505152535455565758595a5b5c5d5e5f606162636465666768696a6b6c6d6e6f707172737475767778797a7b7c7d7e7f808182838485868788898a8b8c8d8e8f909192939495969798999a9b9c9d9e9fa0a1a2a3a4a5a6a7a8a9aaabacadaeafb0b1b2b3b4b5b6b7b8b9babbbcbdbebfc0c1c2c3c4c5c6c7c8c9cacbcccdcecfd0d1d2d3d4d5d6d7d8d9dadbdcdddedfe0e1e2e3e4e5e6e7e8e9eaebecedeeeff0f1f2f3f4f5f6f7f8f9fafbfcfdfeff"
+
+pub first_in_table : (n place : ℕ) → place ≡ 2 * (n % 256) → slice_index_or pairs place 0 ≡ digit_glyph false (n / 16 % 16)
+first_in_table n place is =
+    let digit : n % 256 / 16 ≡ n / 16 % 16 = omega arith in
+    let small : n % 256 < 256 = omega arith in
+    let found = eqb-true _ _ (agree_below_at (λ k. slice_index_or pairs (2 * k) 0 == digit_glyph false (k / 16)) (λ _. true) 256 (n % 256) refl small) in
+    ap (λ (at : ℕ). slice_index_or pairs at 0) is ∙ found ∙ ap (digit_glyph false) digit
+
+pub last_in_table : (n place : ℕ) → place ≡ 2 * (n % 256) + 1 → slice_index_or pairs place 0 ≡ digit_glyph false (n % 16)
+last_in_table n place is =
+    let digit : n % 256 % 16 ≡ n % 16 = omega arith in
+    let small : n % 256 < 256 = omega arith in
+    let found = eqb-true _ _ (agree_below_at (λ k. slice_index_or pairs (2 * k + 1) 0 == digit_glyph false (k % 16)) (λ _. true) 256 (n % 256) refl small) in
+    ap (λ (at : ℕ). slice_index_or pairs at 0) is ∙ found ∙ ap (digit_glyph false) digit
 
 -- digits are text
 glyph-ascii : (n : ℕ) → digit_glyph false (n % 16) < 128
@@ -100,7 +130,17 @@ glyphs-ascii : (ns : List ℕ) → IsAscii (map glyph ns)
 glyphs-ascii [] = IsAscii-nil
 glyphs-ascii (n ∷ ns) = IsAscii-cons (glyph n) (map glyph ns) (glyph-ascii n) (glyphs-ascii ns)
 
-pub address_text-IsUtf8 : (n : ℕ) → n < 2 ^ 32 → IsUtf8 (address_text n)
-address_text-IsUtf8 n small =
-    let places : List ℕ = n / 2 ^ 28 ∷ n / 2 ^ 24 ∷ n / 2 ^ 20 ∷ n / 2 ^ 16 ∷ n / 2 ^ 12 ∷ n / 2 ^ 8 ∷ n / 2 ^ 4 ∷ n ∷ [] in
-    subst IsUtf8 (sym (address_digits n small)) (IsUtf8-from_ascii (map glyph places) (glyphs-ascii places))
+places : ℕ → List ℕ
+places n = n / 2 ^ 28 ∷ n / 2 ^ 24 ∷ n / 2 ^ 20 ∷ n / 2 ^ 16 ∷ n / 2 ^ 12 ∷ n / 2 ^ 8 ∷ n / 2 ^ 4 ∷ n ∷ []
+
+address_text-IsAscii : (n : ℕ) → n < 2 ^ 32 → IsAscii (address_text n)
+unfolding places
+address_text-IsAscii n small = subst IsAscii (sym (address_digits n small)) (glyphs-ascii (places n))
+
+pub address_and_space-IsUtf8 : (n : ℕ) → n < 2 ^ 32 → IsUtf8 (address_text n ++ codes " ")
+address_and_space-IsUtf8 n small =
+    IsUtf8-from_ascii (address_text n ++ codes " ") (IsAscii-push (address_text n) 32 (address_text-IsAscii n small) (omega arith))
+
+pub space_and_address-IsUtf8 : (n : ℕ) → n < 2 ^ 32 → IsUtf8 (at_text n)
+space_and_address-IsUtf8 n small =
+    IsUtf8-from_ascii (at_text n) (IsAscii-cons 32 (address_text n) (omega arith) (address_text-IsAscii n small))

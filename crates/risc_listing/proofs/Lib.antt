@@ -1,3 +1,6 @@
 pub mod Beginnings
+pub mod Decimal
 pub mod Hexadecimal
+pub mod OneSpelling
 pub mod Passing
+pub mod Rooms

@@ -74,3 +74,7 @@ line_end = 10 ∷ []
 -- the line of an instruction that stands at an address
 abbrev pub instr_line : ℕ → Instr → List ℕ
 instr_line at instr = address_text at ++ (codes " " ++ (instr_text instr ++ line_end))
+
+-- the line of a word that begins no instruction
+abbrev pub word_line : ℕ → ℕ → List ℕ
+word_line at word = address_text at ++ (codes " word " ++ (address_text word ++ line_end))

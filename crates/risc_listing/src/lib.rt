@@ -2,23 +2,28 @@
 //! the byte that fills it at first. The form of the lines is this project's own rule.
 #![tactic(auto)]
 
+ghost use Rattle.risc_listing.specs.Lines.{instr_line};
 ghost use Rattle.risc_listing.specs.Listings.{chunk_line, line_of, listing, spelled, word_lines, words_of};
 ghost use Rattle.std.specs.List.{flat_map};
 ghost use Rattle.std.specs.Prelude.{◌≡◌, ◌+◌, ◌*◌, ◌^◌, ◌<◌, ◌≤◌, ◌++◌, length, slice_index, string_bytes, IfOk, IfSome};
 
 mod lines;
+mod room;
+mod unnamed;
 
-use lines::{AddressText, InstrLine};
+use lines::{InstrLine, WordLine};
 use page_table::PageSet;
 use risc_verify::Program;
-use risc_word::{Instr, decode, encode};
+use risc_word::{Instr, decode};
+use room::LineRoom;
 use std::alloc::{AllocError, Global};
 use std::fmt::Write;
+use unnamed::is_plain;
 
 const PAGE: u32 = 4096;
 
 // The instruction that the words begin with and its length, where they are exactly its one spelling.
-#[inline]
+#[inline(always)]
 fn spelled(words: &[u32]) -> Option<(Instr, usize)>
     ensures value { result ≡ spelled words.now }
     ensures within { IfSome result (λ read. (1 ≤ read.1) × (read.1 ≤ length words.now)) }
@@ -26,13 +31,32 @@ fn spelled(words: &[u32]) -> Option<(Instr, usize)>
     let Ok((instr, number)) = decode(words, 0) else {
         return None;
     };
-    let mut spelling = [0; 5];
-    let count = usize::from(encode(&instr, &mut spelling));
-    if words.starts_with(&spelling[..count]) {
+    if is_plain(&instr, words) {
         Some((instr, usize::from(number)))
     } else {
         None
     }
+}
+
+// Appends a line that is longer than a `LineRoom`, piece by piece.
+#[cold]
+#[inline(never)]
+fn put_long_instr(text: &mut String, at: u32, instr: &Instr) -> Result<(), AllocError>
+    ensures { IfOk result (λ _. string_bytes text.new ≡ string_bytes text.old ++ instr_line at instr.now) }
+{
+    text.write(InstrLine { at, instr })
+}
+
+// Appends the line of an instruction, in one piece where it has room.
+#[inline(always)]
+fn put_instr(text: &mut String, at: u32, instr: &Instr) -> Result<(), AllocError>
+    ensures { IfOk result (λ _. string_bytes text.new ≡ string_bytes text.old ++ instr_line at instr.now) }
+{
+    let mut line = LineRoom::new();
+    if line.write(InstrLine { at, instr }).is_err() {
+        return put_long_instr(text, at, instr);
+    }
+    text.push_str(line.as_str())
 }
 
 // Appends the line of the instruction or the word that words begin with, and answers how many words
@@ -45,13 +69,11 @@ fn put_line(text: &mut String, at: u32, words: &[u32]) -> Result<usize, AllocErr
 {
     match spelled(words) {
         Some((instr, number)) => {
-            text.write(InstrLine { at, instr })?;
+            put_instr(text, at, &instr)?;
             Ok(number)
         }
         None => {
-            let at = AddressText(at);
-            let word = AddressText(words[0]);
-            writeln!(text, "{at} word {word}")?;
+            text.write(WordLine { at, word: words[0] })?;
             Ok(1)
         }
     }

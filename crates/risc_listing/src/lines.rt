@@ -1,52 +1,100 @@
 //! The text of an instruction.
 
-ghost use Rattle.risc_listing.specs.Lines.{address_text, addresses_text, at_text, code_name, control_text, count_text, counts_text, data_text, flag_text, instr_line, instr_text, nibble_text};
+ghost use Rattle.risc_listing.specs.Lines.{address_text, addresses_text, at_text, code_name, control_text, count_text, counts_text, data_text, flag_text, instr_line, instr_text, nibble_text, word_line};
 ghost use Rattle.std.specs.Fmt.{digit_glyph, digits};
 ghost use Rattle.std.specs.Str.{IsUtf8};
-ghost use Rattle.std.specs.Prelude.{◌≡◌, ◌%◌, ◌<◌, false, [], ◌∷◌, Some};
+ghost use Rattle.std.specs.Prelude.{◌≡◌, ◌+◌, ◌/◌, ◌%◌, ◌<◌, ◌≤◌, false, [], ◌∷◌, ◌++◌, codes, Some};
 
 use risc_word::{Code, Ctl, Ends, Instr};
 use std::fmt::Display;
 use std::{fmt, str};
 
-const DIGITS: [u8; 16] = *b"0123456789abcdef";
+// The numbers below 256 in two hexadecimal digits each.
+const PAIRS: [u8; 512] = *b"\
+    000102030405060708090a0b0c0d0e0f\
+    101112131415161718191a1b1c1d1e1f\
+    202122232425262728292a2b2c2d2e2f\
+    303132333435363738393a3b3c3d3e3f\
+    404142434445464748494a4b4c4d4e4f\
+    505152535455565758595a5b5c5d5e5f\
+    606162636465666768696a6b6c6d6e6f\
+    707172737475767778797a7b7c7d7e7f\
+    808182838485868788898a8b8c8d8e8f\
+    909192939495969798999a9b9c9d9e9f\
+    a0a1a2a3a4a5a6a7a8a9aaabacadaeaf\
+    b0b1b2b3b4b5b6b7b8b9babbbcbdbebf\
+    c0c1c2c3c4c5c6c7c8c9cacbcccdcecf\
+    d0d1d2d3d4d5d6d7d8d9dadbdcdddedf\
+    e0e1e2e3e4e5e6e7e8e9eaebecedeeef\
+    f0f1f2f3f4f5f6f7f8f9fafbfcfdfeff";
 
 // The last hexadecimal digit of a number.
-#[inline]
-#[tactic(auto, using(crate::proofs::Hexadecimal::digit_in_table))]
+#[inline(always)]
+#[tactic(auto, using(crate::proofs::Hexadecimal::last_in_table))]
 fn last_digit(n: u32) -> u8
     ensures { result ≡ digit_glyph false (n % 16) }
 {
-    DIGITS[(n % 16) as usize]
+    PAIRS[2 * (n % 256) as usize + 1]
 }
 
-#[inline]
-fn address_digits(n: u32) -> [u8; 8]
-    ensures digits { result ≡ address_text n }
+// The digit before it.
+#[inline(always)]
+#[tactic(auto, using(crate::proofs::Hexadecimal::first_in_table))]
+fn last_but_one(n: u32) -> u8
+    ensures { result ≡ digit_glyph false (n / 16 % 16) }
+{
+    PAIRS[2 * (n % 256) as usize]
+}
+
+// An address and a space after it.
+#[inline(always)]
+fn address_and_space(n: u32) -> [u8; 9]
+    ensures digits { result ≡ address_text n ++ codes " " }
     ensures text { IsUtf8 result }
 {
     [
-        last_digit(n >> 28),
+        last_but_one(n >> 24),
         last_digit(n >> 24),
-        last_digit(n >> 20),
+        last_but_one(n >> 16),
         last_digit(n >> 16),
-        last_digit(n >> 12),
+        last_but_one(n >> 8),
         last_digit(n >> 8),
-        last_digit(n >> 4),
+        last_but_one(n),
+        last_digit(n),
+        b' ',
+    ]
+}
+
+// A space and an address after it.
+#[inline(always)]
+fn space_and_address(n: u32) -> [u8; 9]
+    ensures digits { result ≡ at_text n }
+    ensures text { IsUtf8 result }
+{
+    [
+        b' ',
+        last_but_one(n >> 24),
+        last_digit(n >> 24),
+        last_but_one(n >> 16),
+        last_digit(n >> 16),
+        last_but_one(n >> 8),
+        last_digit(n >> 8),
+        last_but_one(n),
         last_digit(n),
     ]
 }
 
-/// An address in eight hexadecimal digits, as `{:08x}` writes it, in one piece.
+/// The address at which a line stands, in eight hexadecimal digits, and a space.
 #[derive(Drop)]
-pub struct AddressText(pub u32);
+struct HeadText(u32);
 
-impl Display for AddressText {
-    ghost output = { λ text. Some (address_text text.0) };
+impl Display for HeadText {
+    ghost output = { λ text. Some (address_text text.0 ++ codes " ") };
 
+    #[inline(always)]
     fn fmt<W: fmt::Write>(&self, f: &mut fmt::Formatter<W>) -> fmt::Result {
-        let digits = address_digits(self.0);
-        f.write_str(str::from_utf8(&digits).map_err(|_| fmt::Error)?)
+        let head = address_and_space(self.0);
+        f.write_str(unsafe { str::from_utf8_unchecked(&head) })
     }
 }
 
@@ -71,7 +119,7 @@ impl Display for FlagText {
     }
 }
 
-#[inline]
+#[inline(always)]
 fn code_name(code: Code) -> &'static str
     ensures { result.now ≡ code_name code }
 {
@@ -84,6 +132,7 @@ fn code_name(code: Code) -> &'static str
 }
 
 // The character of a hexadecimal digit.
+#[inline(always)]
 fn glyph(n: u8) -> &'static str
     requires { n < 16 }
     ensures { result.now ≡ digit_glyph false n ∷ [] }
@@ -109,7 +158,7 @@ fn glyph(n: u8) -> &'static str
 }
 
 // A number below 16, as `{:x}` writes it.
-#[inline]
+#[inline(always)]
 #[tactic(auto, using(crate::proofs::Hexadecimal::one_digit))]
 fn digit(n: u8) -> &'static str
     requires { n < 16 }
@@ -149,7 +198,7 @@ struct ControlText(Ctl);
 impl Display for ControlText {
     ghost output = { λ text. Some (control_text text.0) };
 
-    #[inline]
+    #[inline(always)]
     fn fmt<W: fmt::Write>(&self, f: &mut fmt::Formatter<W>) -> fmt::Result {
         let irq = FlagText {
             name: " irq",
@@ -179,7 +228,7 @@ struct DataText {
 impl Display for DataText {
     ghost output = { λ text. Some (data_text text.ctl text.ends text.off) };
 
-    #[inline]
+    #[inline(always)]
     fn fmt<W: fmt::Write>(&self, f: &mut fmt::Formatter<W>) -> fmt::Result {
         let sol = FlagText {
             name: " sol",
@@ -201,6 +250,60 @@ impl Display for DataText {
     }
 }
 
+// The last decimal digit of a number.
+#[inline(always)]
+fn unit(n: u16) -> u8
+    ensures { result ≡ 48 + n % 10 }
+{
+    b'0' + (n % 10) as u8
+}
+
+// A space and a number of one digit, and of two, three and four.
+#[inline(always)]
+fn one_place(n: u16) -> [u8; 2]
+    requires { n < 10 }
+    ensures digits { result ≡ count_text n }
+    ensures text { IsUtf8 result }
+{
+    [b' ', b'0' + n as u8]
+}
+
+#[inline(always)]
+fn two_places(n: u16) -> [u8; 3]
+    requires low { 10 ≤ n }
+    requires high { n < 100 }
+    ensures digits { result ≡ count_text n }
+    ensures text { IsUtf8 result }
+{
+    [b' ', b'0' + (n / 10) as u8, unit(n)]
+}
+
+#[inline(always)]
+fn three_places(n: u16) -> [u8; 4]
+    requires low { 100 ≤ n }
+    requires high { n < 1000 }
+    ensures digits { result ≡ count_text n }
+    ensures text { IsUtf8 result }
+{
+    [b' ', b'0' + (n / 100) as u8, unit(n / 10), unit(n)]
+}
+
+#[inline(always)]
+fn four_places(n: u16) -> [u8; 5]
+    requires low { 1000 ≤ n }
+    requires high { n < 10000 }
+    ensures digits { result ≡ count_text n }
+    ensures text { IsUtf8 result }
+{
+    [
+        b' ',
+        b'0' + (n / 1000) as u8,
+        unit(n / 100),
+        unit(n / 10),
+        unit(n),
+    ]
+}
+
 // A count after a space.
 #[derive(Drop)]
 struct CountText(u16);
@@ -208,10 +311,27 @@ struct CountText(u16);
 impl Display for CountText {
     ghost output = { λ text. Some (count_text text.0) };
 
-    #[inline]
+    #[inline(always)]
     fn fmt<W: fmt::Write>(&self, f: &mut fmt::Formatter<W>) -> fmt::Result {
+        let n = self.0;
+        if n < 10 {
+            let text = one_place(n);
+            return f.write_str(unsafe { str::from_utf8_unchecked(&text) });
+        }
+        if n < 100 {
+            let text = two_places(n);
+            return f.write_str(unsafe { str::from_utf8_unchecked(&text) });
+        }
+        if n < 1000 {
+            let text = three_places(n);
+            return f.write_str(unsafe { str::from_utf8_unchecked(&text) });
+        }
+        if n < 10000 {
+            let text = four_places(n);
+            return f.write_str(unsafe { str::from_utf8_unchecked(&text) });
+        }
         f.write_str(" ")?;
-        self.0.fmt(f)
+        n.fmt(f)
     }
 }
 
@@ -221,7 +341,7 @@ struct CountsText([u16; 3]);
 impl Display for CountsText {
     ghost output = { λ text. Some (counts_text text.0) };
 
-    #[inline]
+    #[inline(always)]
     fn fmt<W: fmt::Write>(&self, f: &mut fmt::Formatter<W>) -> fmt::Result {
         let [first, second, third] = self.0;
         CountText(first).fmt(f)?;
@@ -237,10 +357,10 @@ struct AtText(u32);
 impl Display for AtText {
     ghost output = { λ text. Some (at_text text.0) };
 
-    #[inline]
+    #[inline(always)]
     fn fmt<W: fmt::Write>(&self, f: &mut fmt::Formatter<W>) -> fmt::Result {
-        f.write_str(" ")?;
-        AddressText(self.0).fmt(f)
+        let text = space_and_address(self.0);
+        f.write_str(unsafe { str::from_utf8_unchecked(&text) })
     }
 }
 
@@ -250,7 +370,7 @@ struct AddressesText([u32; 3]);
 impl Display for AddressesText {
     ghost output = { λ text. Some (addresses_text text.0) };
 
-    #[inline]
+    #[inline(always)]
     fn fmt<W: fmt::Write>(&self, f: &mut fmt::Formatter<W>) -> fmt::Result {
         let [first, second, third] = self.0;
         AtText(first).fmt(f)?;
@@ -261,13 +381,14 @@ impl Display for AddressesText {
 
 /// An instruction in words: its name, its fields, its counts and its addresses.
 #[derive(Drop)]
-pub struct InstrText(pub Instr);
+pub struct InstrText<'a>(pub &'a Instr);
 
-impl Display for InstrText {
-    ghost output = { λ text. Some (instr_text text.0) };
+impl<'a> Display for InstrText<'a> {
+    ghost output = { λ text. Some (instr_text text.0.now) };
 
+    #[inline(always)]
     fn fmt<W: fmt::Write>(&self, f: &mut fmt::Formatter<W>) -> fmt::Result {
-        match self.0 {
+        match *self.0 {
             Instr::Write {
                 ctl,
                 ends,
@@ -345,18 +466,36 @@ impl Display for InstrText {
 
 /// The line of an instruction that stands at an address.
 #[derive(Drop)]
-pub struct InstrLine {
+pub struct InstrLine<'a> {
     pub at: u32,
-    pub instr: Instr,
+    pub instr: &'a Instr,
 }
 
-impl Display for InstrLine {
-    ghost output = { λ line. Some (instr_line line.at line.instr) };
+impl<'a> Display for InstrLine<'a> {
+    ghost output = { λ line. Some (instr_line line.at line.instr.now) };
+
+    #[inline(always)]
+    fn fmt<W: fmt::Write>(&self, f: &mut fmt::Formatter<W>) -> fmt::Result {
+        HeadText(self.at).fmt(f)?;
+        InstrText(self.instr).fmt(f)?;
+        f.write_str("\n")
+    }
+}
+
+/// The line of a word that stands at an address, where it begins no instruction.
+#[derive(Drop)]
+pub struct WordLine {
+    pub at: u32,
+    pub word: u32,
+}
+
+impl Display for WordLine {
+    ghost output = { λ line. Some (word_line line.at line.word) };
 
     fn fmt<W: fmt::Write>(&self, f: &mut fmt::Formatter<W>) -> fmt::Result {
-        AddressText(self.at).fmt(f)?;
-        f.write_str(" ")?;
-        InstrText(self.instr).fmt(f)?;
+        HeadText(self.at).fmt(f)?;
+        f.write_str("word")?;
+        AtText(self.word).fmt(f)?;
         f.write_str("\n")
     }
 }
