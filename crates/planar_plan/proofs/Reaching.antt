@@ -47,6 +47,27 @@ enough_left size bytes left rest some enough =
     ap (λ (n : ℕ). min rest (n / size)) e)
     (cases_lt left bytes)
 
+-- bytes that hold all grains that are left, and bytes that do not
+
+pub all_held : (bytes size rest : ℕ) → rest * size ≤ bytes → rest ≡ min rest (most size bytes rest)
+all_held bytes zero rest holds = omega arith
+all_held bytes (suc less) rest holds =
+    let wide : 0 < suc less = omega arith in
+    let more = (le-div_iff_mul-le {k = suc less} {x = rest} {y = bytes} wide).1 holds in omega arith
+
+pub some_held : (bytes size rest : ℕ) → bytes < rest * size → (0 < size) × (bytes / size ≡ min rest (most size bytes rest)) × (bytes / size * size ≤ bytes)
+some_held bytes zero rest short = absurd (omega arith)
+some_held bytes (suc less) rest short =
+    let wide : 0 < suc less = omega arith in
+    let all = div-mul-le_self bytes (suc less) in
+    let fewer : bytes / suc less ≤ rest =
+    ⊎_elim
+    (λ under. omega arith)
+    (λ over. let more = (le-div_iff_mul-le {k = suc less} {x = rest} {y = bytes} wide).0 over in absurd (omega arith))
+    (cases_lt (bytes / suc less) rest)
+    in
+    (wide, omega arith, all)
+
 pub grains_few : (rest bytes size bound : ℕ) → bytes ≤ bound → min rest (bytes / size) * size ≤ bound
 grains_few rest bytes size bound few =
     let less = fewer_grains (min rest (bytes / size)) (bytes / size) size (omega arith) in

@@ -75,21 +75,33 @@ struct Reach {
     grains: u32,
 }
 
+// How many of the grains that are left so many bytes hold; a track without bytes sets no limit.
+#[inline(always)]
+fn held_by(bytes: u32, size: u32, rest: u32) -> u32
+    requires { bytes ≤ 4092 }
+    ensures grains { result ≡ min rest (most size bytes rest) }
+    ensures few { result * size ≤ 4092 }
+{
+    if u64::from(rest) * u64::from(size) <= u64::from(bytes) {
+        rest
+    } else {
+        bytes / size
+    }
+}
+
 // A track that isn't written. `rest` grains are left in the span.
+#[inline(always)]
 fn unwritten(size: u32, rest: u32) -> Reach
     ensures { Reaches rest size (most size 4092 rest) 0 result }
 {
-    let most = match size {
-        0 => rest,
-        _ => MOST_BYTES / size,
-    };
     Reach {
         address: 0,
-        grains: rest.min(most),
+        grains: held_by(MOST_BYTES, size, rest),
     }
 }
 
 // A track that is written from an offset on, at grain `at`.
+#[inline(always)]
 fn written(scatter: &Scatter, size: u32, start: u64, at: u32, rest: u32) -> Reach
     requires len { scatter.now.len ≤ 2 ^ 32 }
     requires some { 1 ≤ rest }
@@ -100,10 +112,11 @@ fn written(scatter: &Scatter, size: u32, start: u64, at: u32, rest: u32) -> Reac
     let (address, bytes) = scatter.run(offset, MOST_BYTES);
     Reach {
         address,
-        grains: rest.min(bytes / size),
+        grains: held_by(bytes, size, rest),
     }
 }
 
+#[inline(always)]
 fn reach_on(scatter: &Scatter, track: PlaneTrack, clipped: bool, at: u32, rest: u32) -> Reach
     requires len { scatter.now.len ≤ 2 ^ 32 }
     requires some { 1 ≤ rest }
@@ -120,6 +133,7 @@ fn reach_on(scatter: &Scatter, track: PlaneTrack, clipped: bool, at: u32, rest: 
 }
 
 // The bytes of some grains, which are no more than a piece may have.
+#[inline(always)]
 #[tactic(auto, using(crate::proofs::Bounds::fewer_grains))]
 fn bytes(grains: u32, size: u32, most: u32) -> u16
     requires fewer { grains ≤ most }
@@ -131,6 +145,7 @@ fn bytes(grains: u32, size: u32, most: u32) -> u16
 }
 
 // The longest piece of a span from grain `at` on, and its grains.
+#[inline(always)]
 fn next_piece(scatter: &Scatter, line: &Line, span: Span, at: u32) -> (Piece, u32)
     requires line { CanBeCut scatter.now (strip_of line.now) }
     requires before { at < span.to }
@@ -236,7 +251,7 @@ pub(crate) fn cut_row(
     ensures pieces { IfOk result (λ pieces. pieces.items ≡ pieces_of scatter.now.chunks (strip_of line.now) (cuts_of scatter.now.chunks (strip_of line.now) (map (in_grains (layout format)) spans.now))) }
     ensures counts { IfOk result (λ pieces. All CountsFit pieces.items) }
 {
-    let mut pieces = Vec::new(alloc);
+    let mut pieces = Vec::with_capacity(alloc, spans.len())?;
     for span in spans {
         cut_span(scatter, line, in_grains(format, span), &mut pieces)?;
     }

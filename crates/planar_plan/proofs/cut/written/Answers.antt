@@ -1,5 +1,5 @@
-use Rattle.std.proofs.Common.{◌≡◌, ◌+◌, ◌*◌, refl, arith}
-use Rattle.planar_plan.proofs.Reaching.{bytes_left, run-Reaches}
+use Rattle.std.proofs.Common.{◌≡◌, ◌+◌, ◌*◌, refl, ap, ◌∙◌, min, arith}
+use Rattle.planar_plan.proofs.Reaching.{bytes_left, most-written, run-Reaches}
 use Rattle.planar_plan.proofs.cut.written.Goals as goal
 
 pub overflow_add-offset : goal.overflow_add-offset
@@ -10,4 +10,5 @@ overflow_add-offset c =
 pub returns : goal.returns
 returns c =
     let offset : c.args.start + c.from.result * c.from-2.result ≡ c.args.start + c.args.at * c.args.size = rw (c.from.ensures, c.from-2.ensures) in
-    run-Reaches c.args.scatter.now c.args.size c.args.start c.args.at c.args.rest (c.args.start + c.from.result * c.from-2.result) c.run-address.result _ offset c.run-address.ensures.value c.requires.some c.requires.held.0 c.requires.held.1 refl c.min.ensures
+    let grains = c.held_by.ensures.grains ∙ ap (min c.args.rest) (most-written c.args.size c.run-address.result.1 c.args.rest c.requires.held.0) in
+    run-Reaches c.args.scatter.now c.args.size c.args.start c.args.at c.args.rest (c.args.start + c.from.result * c.from-2.result) c.run-address.result _ offset c.run-address.ensures.value c.requires.some c.requires.held.0 c.requires.held.1 refl grains
