@@ -31,6 +31,7 @@ pub fn sync(resync: bool, code: Code) -> Instr
 }
 
 // The instruction that moves a piece, in a planar line or in a packed one.
+#[inline(always)]
 fn instr_of(planar: bool, piece: &Piece) -> Instr
     requires { CountsFit piece.now }
     ensures value { result ≡ instr_of planar piece.now }
@@ -73,6 +74,7 @@ fn instr_of(planar: bool, piece: &Piece) -> Instr
 
 /// Appends the words of an instruction. A refusal, which want of memory alone brings, leaves `out` as it
 /// was.
+#[inline(always)]
 pub fn push_instr(instr: &Instr, out: &mut Vec<u32>) -> Result<(), AllocError>
     requires { IsTrue (fits instr.now) }
     ensures words { OnOk result (out.new.items ≡ out.old.items ++ encoded instr.now) }
@@ -80,7 +82,10 @@ pub fn push_instr(instr: &Instr, out: &mut Vec<u32>) -> Result<(), AllocError>
 {
     let mut words = [0; 5];
     let number = encode(instr, &mut words);
-    out.extend_from_slice(&words[..usize::from(number)])
+    let before = out.len();
+    out.extend_from_slice(&words)?;
+    out.truncate(before + usize::from(number));
+    Ok(())
 }
 
 /// Appends the words of the pieces of a line, in a planar line or in a packed one. After a refusal, which
