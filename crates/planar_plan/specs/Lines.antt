@@ -3,8 +3,9 @@ use Rattle.std.specs.Prelude.{◌≡◌, ℕ, ◌+◌, ◌*◌, ◌^◌, ◌<◌
 use Rattle.risc_word.specs.Words.{counts_fit}
 use Rattle.page_table.specs.Scattered.{ScatterList, room_at}
 use Rattle.clip_spans.specs.declared.Span.{Span}
+use Rattle.capture_desc.specs.declared.desc.Desc.{Desc}
 use Rattle.picture_model.specs.declared.Piece.{Piece}
-use Rattle.picture_model.specs.Plans.{Strip, Track, track}
+use Rattle.picture_model.specs.Plans.{Strip, Track, row_strip, track}
 use Rattle.planar_plan.specs.declared.cut.Line.{Line}
 use Rattle.planar_plan.specs.declared.cut.PlaneTrack.{PlaneTrack}
 use Rattle.planar_plan.specs.declared.cut.Reach.{Reach}
@@ -51,6 +52,18 @@ pub record CanBeCut (s : ScatterList) (strip : Strip) : Type 0 where
 abbrev pub AreWithin : ℕ → List Span → Type 0
 AreWithin grains [] = Unit {0}
 AreWithin grains (s ∷ rest) = (s.from ≤ s.to) × (s.to ≤ grains) × AreWithin grains rest
+
+-- the spans of a row, in grains
+pub record SpansOfRow : Type 0 where
+  pub row : ℕ
+  pub spans : List Span
+
+abbrev pub spans_of_row : ℕ → List Span → SpansOfRow
+spans_of_row row spans = record { row = row; spans = spans }
+
+-- they are those of a row of a description
+abbrev pub AreSpansOf : Desc → SpansOfRow → Type 0
+AreSpansOf d kept = kept.spans ≡ (row_strip d kept.row).spans
 
 -- a piece reaches to the end of its span or as far as it may, from its address on
 pub record Reaches (rest size far from : ℕ) (r : Reach) : Type 0 where

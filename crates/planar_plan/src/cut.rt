@@ -50,6 +50,21 @@ impl Pieces {
     }
 }
 
+/// The spans of a picture row, counted in what its plan cuts. Contracts see the row and the spans.
+#[derive(Drop)]
+pub struct RowSpans {
+    pub(crate) row: u32,
+    pub(crate) spans: Vec<Span>,
+}
+
+impl Model for RowSpans {
+    ghost use Rattle.planar_plan.specs.Lines.{SpansOfRow, spans_of_row};
+
+    ghost Value = { SpansOfRow };
+
+    ghost view = { λ s. spans_of_row s.row s.spans.items };
+}
+
 // What a line moves on a plane: the bytes of a grain, and the offset of the line's first byte, where it
 // is written. A grain is what no cut divides: a byte of a packed line, a unit of a planar one.
 #[derive(Clone, Copy)]
@@ -182,6 +197,7 @@ fn next_piece(scatter: &Scatter, line: &Line, span: Span, at: u32) -> (Piece, u3
 }
 
 // Adds the pieces of a span, which is counted in grains.
+#[inline(always)]
 pub(crate) fn cut_span(
     scatter: &Scatter,
     line: &Line,
@@ -237,23 +253,37 @@ fn in_grains(format: Format, span: &Span) -> Span
     }
 }
 
-// The pieces of a row with these spans, which are counted in pixels.
+// Spans that are counted in pixels, now in grains.
+pub(crate) fn spans_in_grains(
+    alloc: Global,
+    format: Format,
+    spans: &[Span],
+) -> Result<Vec<Span>, AllocError>
+    requires { AreWithin 1024 spans.now }
+    ensures { IfOk result (λ grains. grains.items ≡ map (in_grains (layout format)) spans.now) }
+{
+    let mut grains = Vec::with_capacity(alloc, spans.len())?;
+    for span in spans {
+        grains.push(in_grains(format, span))?;
+    }
+    Ok(grains)
+}
+
+// The pieces of a row with these spans, which are counted in grains.
 pub(crate) fn cut_row(
     alloc: Global,
     scatter: &Scatter,
     line: &Line,
-    format: Format,
     spans: &[Span],
 ) -> Result<Vec<Piece>, AllocError>
     requires line { CanBeCut scatter.now (strip_of line.now) }
-    requires pixels { AreWithin 1024 spans.now }
-    requires grains { AreWithin line.now.grains (map (in_grains (layout format)) spans.now) }
-    ensures pieces { IfOk result (λ pieces. pieces.items ≡ pieces_of scatter.now.chunks (strip_of line.now) (cuts_of scatter.now.chunks (strip_of line.now) (map (in_grains (layout format)) spans.now))) }
+    requires grains { AreWithin line.now.grains spans.now }
+    ensures pieces { IfOk result (λ pieces. pieces.items ≡ pieces_of scatter.now.chunks (strip_of line.now) (cuts_of scatter.now.chunks (strip_of line.now) spans.now)) }
     ensures counts { IfOk result (λ pieces. All CountsFit pieces.items) }
 {
     let mut pieces = Vec::with_capacity(alloc, spans.len())?;
     for span in spans {
-        cut_span(scatter, line, in_grains(format, span), &mut pieces)?;
+        cut_span(scatter, line, *span, &mut pieces)?;
     }
     Ok(pieces)
 }
