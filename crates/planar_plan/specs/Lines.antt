@@ -1,7 +1,7 @@
 -- A line as the code keeps it, and that it can be cut.
-use Rattle.std.specs.Prelude.{◌≡◌, ℕ, ◌+◌, ◌*◌, ◌^◌, ◌<◌, ◌≤◌, false, List, [], ◌∷◌, Option, Some, None, IsTrue, min}
+use Rattle.std.specs.Prelude.{◌≡◌, ℕ, ◌+◌, ◌-◌, ◌*◌, ◌^◌, ◌<◌, ◌≤◌, false, List, [], ◌∷◌, Option, Some, None, IsTrue, min}
 use Rattle.risc_word.specs.Words.{counts_fit}
-use Rattle.page_table.specs.Scattered.{ScatterList, room_at}
+use Rattle.page_table.specs.Scattered.{ScatterList, address_at, room_at}
 use Rattle.clip_spans.specs.declared.Span.{Span}
 use Rattle.capture_desc.specs.declared.desc.Desc.{Desc}
 use Rattle.picture_model.specs.declared.Piece.{Piece}
@@ -9,6 +9,8 @@ use Rattle.picture_model.specs.Plans.{Strip, Track, row_strip, track}
 use Rattle.planar_plan.specs.declared.cut.Line.{Line}
 use Rattle.planar_plan.specs.declared.cut.PlaneTrack.{PlaneTrack}
 use Rattle.planar_plan.specs.declared.cut.Reach.{Reach}
+use Rattle.planar_plan.specs.declared.cut.Window.{Window}
+use Rattle.planar_plan.specs.declared.cut.Windows.{Windows}
 
 abbrev pub track_of : PlaneTrack → Track
 track_of t = track t.size t.start
@@ -70,6 +72,18 @@ pub record Reaches (rest size far from : ℕ) (r : Reach) : Type 0 where
   pub address : r.address ≡ from
   pub grains : r.grains ≡ min rest far
   pub few : r.grains * size ≤ 4092
+
+-- a window holds bytes of one chunk
+pub record IsWindow (s : ScatterList) (w : Window) : Type 0 where
+  pub few : w.to ≤ w.from + 4092
+  pub room : w.to ≤ w.from + room_at s.chunks w.from
+  pub address : w.from < w.to → w.address ≡ address_at s.chunks w.from
+  pub fits : w.address + (w.to - w.from) ≤ 2 ^ 32
+
+pub record AreWindows (s : ScatterList) (w : Windows) : Type 0 where
+  pub one : IsWindow s w.one
+  pub two : IsWindow s w.two
+  pub three : IsWindow s w.three
 
 -- the bytes of a piece on each plane are as few as an instruction can count
 abbrev pub CountsFit : Piece → Type 0

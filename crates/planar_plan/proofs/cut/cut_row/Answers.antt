@@ -1,8 +1,11 @@
-use Rattle.std.proofs.Common.{◌≡◌, ◌+◌, false, List, ◌++◌, drop, get_or, subst}
+use Rattle.std.proofs.Common.{◌≡◌, ◌+◌, false, List, ◌++◌, drop, get_or, ap, sym, subst}
+use Rattle.std.specs.List.{All}
+use Rattle.std.proofs.lemmas.List.Elements.{All-nil}
+use Rattle.picture_model.specs.declared.Piece.{Piece}
 use Rattle.std.proofs.lemmas.List.{drop_more}
 use Rattle.clip_spans.specs.declared.Span.{Span}
 use Rattle.picture_model.specs.Plans.{cuts_of, pieces_of}
-use Rattle.planar_plan.specs.Lines.{AreWithin, strip_of}
+use Rattle.planar_plan.specs.Lines.{AreWithin, CountsFit, strip_of}
 use Rattle.planar_plan.proofs.Cuts.{next_span}
 use Rattle.planar_plan.proofs.cut.cut_row.Goals as goal
 
@@ -33,5 +36,17 @@ loop-span-preserved c =
       whole = next_span memory strip (get_or spans k none) (drop (k + 1) spans) c.loop-span.pieces.items c.cut_span.new.pieces.items all
           c.in_ok-cut_span.ensures.pieces
           (subst (λ (left : List Span). c.loop-span.pieces.items ++ pieces_of memory strip (cuts_of memory strip left) ≡ all) next c.loop-span.invariant.whole);
+      windows = c.in_ok-cut_span.ensures.windows;
       counts = c.in_ok-cut_span.ensures.counts c.loop-span.invariant.counts;
+    }
+
+pub loop-span-init : goal.loop-span-init
+loop-span-init c =
+    let memory = c.args.scatter.now.chunks in
+    let strip = strip_of c.args.line.now in
+    record {
+      grains = c.requires.grains;
+      whole = ap (λ (front : List Piece). front ++ pieces_of memory strip (cuts_of memory strip c.args.spans.now)) c.in_ok-pieces.ensures.items;
+      windows = c.no_windows-windows.ensures c.args.scatter.now;
+      counts = subst (All CountsFit) (sym c.in_ok-pieces.ensures.items) (All-nil CountsFit);
     }
