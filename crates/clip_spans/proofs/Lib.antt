@@ -3,3 +3,4 @@ pub mod Covered
 pub mod Merging
 pub mod Sorting
 pub mod Few
+mod Alike

@@ -3,12 +3,12 @@ use Rattle.std.proofs.Common.{◌≡◌, ℕ, zero, suc, ◌+◌, ◌<◌, ◌�
 use Rattle.std.proofs.lemmas.Bool.{cond_both}
 use Rattle.std.proofs.Math.Nat.{eq-or-lt_of_le}
 use Rattle.std.proofs.lemmas.Bool.{cases_order}
-use Rattle.clip_spans.specs.Clipping.{clipped_at}
-use Rattle.clip_spans.specs.Runs.{span, IsRun, AreRunsFrom, AreSpans, Alternate, is_same, joined, runs_from, spans_of}
+use Rattle.clip_spans.specs.Clipping.{clipped_at, is_same}
+use Rattle.clip_spans.specs.Runs.{span, IsRun, AreRunsFrom, AreSpans, Alternate, joined, runs_from, spans_of}
 use Rattle.clip_spans.specs.declared.Rect.{Rect}
 use Rattle.clip_spans.specs.declared.Span.{Span}
 
-same_answer : (b c : Bool) → is_same b c ≡ true → b ≡ c
+pub same_answer : (b c : Bool) → is_same b c ≡ true → b ≡ c
 same_answer true true e = refl
 same_answer true false e = cc
 same_answer false true e = cc

@@ -1,11 +1,19 @@
 -- Which units of a row are clipped: a question about single pixels.
-use Rattle.std.specs.Prelude.{ℕ, zero, suc, ◌+◌, ◌*◌, ◌/◌, Bool, false, ◌&&◌, ◌||◌, List, nat_le, nat_lt}
-use Rattle.std.specs.List.{list_any}
+use Rattle.std.specs.Prelude.{ℕ, zero, suc, ◌+◌, ◌*◌, ◌/◌, Bool, true, false, not, ◌&&◌, ◌||◌, List, nat_le, nat_lt}
+use Rattle.std.specs.List.{list_all, list_any}
 use Rattle.clip_spans.specs.declared.Rect.{Rect}
 
 -- a rectangle has pixels in a row
 abbrev pub meets : Rect → ℕ → Bool
 meets rect row = nat_le rect.y row && nat_lt row (rect.y + rect.h)
+
+abbrev pub is_same : Bool → Bool → Bool
+is_same true b = b
+is_same false b = not b
+
+-- each rectangle meets both of two rows or neither
+abbrev pub all_meet_alike : List Rect → ℕ → ℕ → Bool
+all_meet_alike rects row other = list_all (λ rect. is_same (meets rect row) (meets rect other)) rects
 
 -- a rectangle covers pixel x of a row
 abbrev pub covers : Rect → ℕ → ℕ → Bool

@@ -1,6 +1,6 @@
 -- The spans of a row: the maximal runs of pixels that are clipped, or not, together with their units.
 use Rattle.std.specs.Prelude.{ℕ, zero, suc, ◌+◌, ◌<◌, ◌≤◌, ◌≡◌, Bool, true, false, not, List, [], ◌∷◌, if◌then◌else◌}
-use Rattle.clip_spans.specs.Clipping.{clipped_at}
+use Rattle.clip_spans.specs.Clipping.{clipped_at, is_same}
 use Rattle.clip_spans.specs.declared.Rect.{Rect}
 use Rattle.clip_spans.specs.declared.Span.{Span}
 
@@ -32,10 +32,6 @@ BeginsWithout answer (s ∷ rest) = s.clipped ≡ not answer
 abbrev pub Alternate : List Span → Type 0
 Alternate [] = Unit {0}
 Alternate (s ∷ rest) = BeginsWithout s.clipped rest × Alternate rest
-
-abbrev pub is_same : Bool → Bool → Bool
-is_same true b = b
-is_same false b = not b
 
 -- the runs, where the pixel before them has this answer
 abbrev pub joined : ℕ → Bool → List Span → List Span

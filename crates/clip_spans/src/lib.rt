@@ -1,9 +1,9 @@
 //! Clip rectangles, and the spans of a picture row that they clip.
 #![tactic(auto)]
 
-ghost use Rattle.std.specs.Prelude.{◌≡◌, ◌↔◌, ℕ, ◌+◌, ◌*◌, ◌%◌, ◌<◌, ◌≤◌, ◌++◌, List, length, IfOk, IfSome};
+ghost use Rattle.std.specs.Prelude.{◌≡◌, ◌↔◌, ℕ, ◌+◌, ◌*◌, ◌%◌, ◌<◌, ◌≤◌, ◌++◌, List, length, IfOk, IfSome, IsTrue};
 ghost use Rattle.std.specs.List.{All};
-ghost use Rattle.clip_spans.specs.Clipping.{clipped_at, meets};
+ghost use Rattle.clip_spans.specs.Clipping.{all_meet_alike, clipped_at, is_same, meets};
 ghost use Rattle.clip_spans.specs.Parts.{AreInOrder, IsPart, is_inside, part_of, parts_of, unless_empty};
 ghost use Rattle.clip_spans.specs.Runs.{Alternate, AreRunsFrom, AreSpans, spans_of};
 ghost use Rattle.clip_spans.specs.declared.ClipFault.TheVariants.{Memory};
@@ -103,6 +103,23 @@ fn meets(rect: &Rect, row: u32) -> bool
     ensures { result ≡ meets rect.now row }
 {
     rect.y <= row && u64::from(row) < u64::from(rect.y) + u64::from(rect.h)
+}
+
+// Whether a rectangle meets both of two rows or neither.
+fn meets_alike(rect: &Rect, row: u32, other: u32) -> bool
+    ensures { result ≡ is_same (meets rect.now row) (meets rect.now other) }
+{
+    if meets(rect, row) {
+        meets(rect, other)
+    } else {
+        !meets(rect, other)
+    }
+}
+
+fn all_meet_alike(rects: &[Rect], row: u32, other: u32) -> bool
+    ensures { result ≡ all_meet_alike rects.now row other }
+{
+    rects.iter().all(|rect| meets_alike(rect, row, other))
 }
 
 // What a rectangle clips of a row, in whole units.
@@ -216,6 +233,15 @@ impl Clips {
         let spans = merged(alloc, &parts, width)?;
         Ok(Spans { spans })
     }
+
+    /// Whether the same rectangles meet two rows, which then have the same spans.
+    pub fn alike(&self, row: u32, other: u32) -> bool
+        ensures value { result ≡ all_meet_alike self.now row other }
+        ensures spans { IsTrue result → (width unit : ℕ) → spans_of self.now row width unit ≡ spans_of self.now other width unit }
+        ensures few { length self.now ≤ 64 }
+    {
+        all_meet_alike(&self.rects, row, other)
+    }
 }
 
 /// Each row has exactly one list of spans, its spans alternate, and each rectangle adds at most two of
@@ -285,6 +311,14 @@ mod tests {
         assert!(rt; whole.as_slice() == [span(0, 16, true)].as_slice());
         let units = clips.spans(rt.alloc(), 2, 16, 8)?;
         assert!(rt; units.as_slice() == [span(0, 16, true)].as_slice());
+        Ok(())
+    }
+
+    #[test]
+    fn rows_that_the_same_rectangles_meet(rt: HostRuntime) -> Result<(), Fail> {
+        let clips = Clips::new(rt.alloc(), &RECTS)?;
+        assert!(rt; clips.alike(3, u32::MAX));
+        assert!(rt; !clips.alike(0, 1));
         Ok(())
     }
 

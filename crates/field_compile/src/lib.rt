@@ -65,8 +65,9 @@ fn push_rows(
 {
     let fields = frame.desc().fields;
     let planar = frame.format().is_planar();
+    let mut spans = frame.row_spans(alloc, 0)?;
     for number in 0..frame.rows_of(field) {
-        let pieces = frame.plan_row(alloc, picture_row(fields, field, number))?;
+        let pieces = frame.plan_row_by(alloc, picture_row(fields, field, number), &mut spans)?;
         push_pieces(planar, pieces.as_slice(), out)?;
     }
     Ok(())

@@ -1,6 +1,6 @@
 //! The words of instructions and of the pieces of a line, at the end of those that stand already.
 
-ghost use Rattle.std.specs.Prelude.{◌≡◌, ◌++◌, map, IsTrue, OnOk};
+ghost use Rattle.std.specs.Prelude.{◌≡◌, ◌++◌, true, false, map, IsTrue, OnOk};
 ghost use Rattle.std.specs.List.{All};
 ghost use Rattle.field_compile.specs.Kept.{BeginsWith};
 ghost use Rattle.planar_plan.specs.Lines.{CountsFit};
@@ -30,49 +30,9 @@ pub fn sync(resync: bool, code: Code) -> Instr
     }
 }
 
-// The instruction that moves a piece, in a planar line or in a packed one.
-fn instr_of(planar: bool, piece: &Piece) -> Instr
-    requires { CountsFit piece.now }
-    ensures value { result ≡ instr_of planar piece.now }
-    ensures fits { IsTrue (fits result) }
-{
-    let ctl = NO_CONTROL;
-    let ends = piece.ends;
-    let counts = piece.counts;
-    let addrs = piece.addrs;
-    match (planar, piece.kind) {
-        (true, PieceKind::Write) => Instr::Write123 {
-            ctl,
-            ends,
-            off: 0,
-            counts,
-            addrs,
-        },
-        (true, PieceKind::WriteLuma) => Instr::Write1S23 {
-            ctl,
-            ends,
-            off: 0,
-            counts,
-            addr: addrs[0],
-        },
-        (true, PieceKind::Skip) => Instr::Skip123 { ctl, ends, counts },
-        (false, PieceKind::Skip) => Instr::Skip {
-            ctl,
-            ends,
-            count: counts[0],
-        },
-        (false, _) => Instr::Write {
-            ctl,
-            ends,
-            off: 0,
-            count: counts[0],
-            addr: addrs[0],
-        },
-    }
-}
-
 /// Appends the words of an instruction. A refusal, which want of memory alone brings, leaves `out` as it
 /// was.
+#[inline(always)]
 pub fn push_instr(instr: &Instr, out: &mut Vec<u32>) -> Result<(), AllocError>
     requires { IsTrue (fits instr.now) }
     ensures words { OnOk result (out.new.items ≡ out.old.items ++ encoded instr.now) }
@@ -83,6 +43,83 @@ pub fn push_instr(instr: &Instr, out: &mut Vec<u32>) -> Result<(), AllocError>
     out.extend_from_slice(&words[..usize::from(number)])
 }
 
+// Appends the words of the instruction that moves a piece of a planar line.
+#[inline(always)]
+fn push_planar(piece: &Piece, out: &mut Vec<u32>) -> Result<(), AllocError>
+    requires { CountsFit piece.now }
+    ensures words { OnOk result (out.new.items ≡ out.old.items ++ encoded (instr_of true piece.now)) }
+    ensures kept { BeginsWith out.old.items out.new.items }
+{
+    let ctl = NO_CONTROL;
+    let ends = piece.ends;
+    let off = 0;
+    let counts = piece.counts;
+    let addrs = piece.addrs;
+    match piece.kind {
+        PieceKind::Write => {
+            let instr = Instr::Write123 {
+                ctl,
+                ends,
+                off,
+                counts,
+                addrs,
+            };
+            push_instr(&instr, out)
+        }
+        PieceKind::WriteLuma => {
+            let instr = Instr::Write1S23 {
+                ctl,
+                ends,
+                off,
+                counts,
+                addr: addrs[0],
+            };
+            push_instr(&instr, out)
+        }
+        PieceKind::Skip => push_instr(&Instr::Skip123 { ctl, ends, counts }, out),
+    }
+}
+
+// Appends the words of the instruction that moves a piece of a packed line.
+#[inline(always)]
+fn push_packed(piece: &Piece, out: &mut Vec<u32>) -> Result<(), AllocError>
+    requires { CountsFit piece.now }
+    ensures words { OnOk result (out.new.items ≡ out.old.items ++ encoded (instr_of false piece.now)) }
+    ensures kept { BeginsWith out.old.items out.new.items }
+{
+    let count = piece.counts[0];
+    if piece.kind == PieceKind::Skip {
+        let instr = Instr::Skip {
+            ctl: NO_CONTROL,
+            ends: piece.ends,
+            count,
+        };
+        return push_instr(&instr, out);
+    }
+    let instr = Instr::Write {
+        ctl: NO_CONTROL,
+        ends: piece.ends,
+        off: 0,
+        count,
+        addr: piece.addrs[0],
+    };
+    push_instr(&instr, out)
+}
+
+// Appends the words of a piece, in a planar line or in a packed one.
+#[inline(always)]
+fn push_piece(planar: bool, piece: &Piece, out: &mut Vec<u32>) -> Result<(), AllocError>
+    requires { CountsFit piece.now }
+    ensures words { OnOk result (out.new.items ≡ out.old.items ++ encoded (instr_of planar piece.now)) }
+    ensures kept { BeginsWith out.old.items out.new.items }
+{
+    if planar {
+        push_planar(piece, out)
+    } else {
+        push_packed(piece, out)
+    }
+}
+
 /// Appends the words of the pieces of a line, in a planar line or in a packed one. After a refusal, which
 /// want of memory alone brings, the old words still stand before what was added.
 pub fn push_pieces(planar: bool, pieces: &[Piece], out: &mut Vec<u32>) -> Result<(), AllocError>
@@ -91,7 +128,7 @@ pub fn push_pieces(planar: bool, pieces: &[Piece], out: &mut Vec<u32>) -> Result
     ensures kept { BeginsWith out.old.items out.new.items }
 {
     for piece in pieces {
-        push_instr(&instr_of(planar, piece), out)?;
+        push_piece(planar, piece, out)?;
     }
     Ok(())
 }

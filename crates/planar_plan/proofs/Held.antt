@@ -1,5 +1,5 @@
 -- The lines of a frame can be cut, and their cuts are their plans.
-use Rattle.std.proofs.Common.{◌≡◌, ℕ, ◌+◌, ◌*◌, ◌^◌, ◌<◌, ◌≤◌, Bool, true, List, [], ◌∷◌, map, Option, Some, None, refl, sym, ap, ◌∙◌, subst, arith}
+use Rattle.std.proofs.Common.{◌≡◌, ℕ, ◌+◌, ◌*◌, ◌^◌, ◌<◌, ◌≤◌, Bool, true, List, [], ◌∷◌, length, map, Option, Some, None, refl, sym, ap, ◌∙◌, subst, arith}
 use Rattle.pixel_layout.specs.declared.Parity.{Parity}
 use Rattle.pixel_layout.specs.Layouts.{planes_of}
 use Rattle.page_table.specs.Grants.{Chunk}
@@ -9,12 +9,13 @@ use Rattle.clip_spans.specs.Runs.{AreRunsFrom}
 use Rattle.clip_spans.specs.declared.Span.{Span}
 use Rattle.capture_desc.specs.declared.desc.Desc.{Desc}
 use Rattle.picture_model.specs.declared.Piece.{Piece}
-use Rattle.picture_model.specs.Described.{describes, extent, extents, fields_of, highest_end, layout_of, memory_of, taken, vbi_area}
+use Rattle.picture_model.specs.Described.{IsDescription, describes, extent, extents, fields_of, highest_end, layout_of, memory_of, taken, vbi_area}
 use Rattle.picture_model.specs.Places.{row_offset, vbi_line_offset}
 use Rattle.picture_model.specs.Plans.{Strip, cuts_of, grain_bytes, grains_of, pieces_of, plan, row_strip, row_track, skipped_strip, vbi_strip}
-use Rattle.picture_model.proofs.Right.{IsRight}
+use Rattle.picture_model.proofs.Right.{IsFrame-IsRight, IsRight}
 use Rattle.picture_model.proofs.Offsets.{IsRowAt, area_end, end_in_mapped, end_of_others, row_offset-IsRowAt, row_within, vbi_line_within}
 use Rattle.picture_model.proofs.Grains.{GrainsFit, grain_small, held_plane, row_grains, row_track-IsTrack}
+use Rattle.planar_plan.specs.Frames.{IsFramed}
 use Rattle.planar_plan.specs.Lines.{AreHeld, AreWithin, CanBeCut, IsHeld, bare}
 use Rattle.planar_plan.proofs.Cuts.{bare-cuts_of}
 
@@ -86,6 +87,14 @@ vbi-CanBeCut d s field line is below list scatter =
       two = record { small = omega arith; held = tt };
       three = record { small = omega arith; held = tt };
     }
+
+-- the description of a frame, with so few rectangles
+pub described : (d : Desc) → IsFramed d → length d.clip ≤ 64 → IsDescription d
+described d framed few =
+    record { formed = framed.formed; pages = framed.pages; clips = few; skipped = framed.skipped }
+
+pub is_right : (d : Desc) → IsFramed d → length d.clip ≤ 64 → IsRight d
+is_right d framed few = IsFrame-IsRight d (described d framed few) framed.geometry
 
 -- spans that follow each other up to an end stand within it
 pub runs_within : (test : ℕ → Bool) (end bound x : ℕ) (spans : List Span) → end ≤ bound → AreRunsFrom test end x spans → AreWithin bound spans

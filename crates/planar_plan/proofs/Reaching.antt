@@ -2,13 +2,15 @@
 use Rattle.std.proofs.Common.{◌≡◌, ℕ, zero, suc, ◌+◌, ◌-◌, ◌*◌, ◌/◌, ◌<◌, ◌≤◌, Bool, true, false, Option, Some, None, refl, sym, ap, ◌∙◌, subst, arith, ⊎_elim, min}
 use Rattle.std.proofs.lemmas.Bool.{cases_lt}
 use Rattle.std.proofs.Math.Nat.{le-div_iff_mul-le, div-mul-le_self}
-use Rattle.page_table.specs.Scattered.{ScatterList, address_at, room_at, run_at}
+use Rattle.page_table.specs.Scattered.{IsScatterList, ScatterList, address_at, room_at, run_at}
+use Rattle.page_table.proofs.Scattered.{address_at-add, address_at-fits, room_at-add}
 use Rattle.clip_spans.specs.declared.Span.{Span}
 use Rattle.picture_model.specs.Plans.{Strip, Track, bytes_free, longest, most, most_of}
 use Rattle.picture_model.proofs.Cutting.{EachFits, longest-Fits}
 use Rattle.planar_plan.proofs.Bounds.{fewer_grains}
 use Rattle.planar_plan.specs.declared.cut.Reach.{Reach}
-use Rattle.planar_plan.specs.Lines.{AreHeld, CanBeCut, IsHeld, Reaches}
+use Rattle.planar_plan.specs.declared.cut.Window.{Window}
+use Rattle.planar_plan.specs.Lines.{AreHeld, CanBeCut, IsHeld, IsWindow, Reaches}
 
 -- a front of a line can be cut where the line can
 held_front : (s : ScatterList) (grains n size : ℕ) (start : Option ℕ) → n ≤ grains → AreHeld s grains size start → AreHeld s n size start
@@ -46,6 +48,27 @@ enough_left size bytes left rest some enough =
     let e : min bytes left ≡ bytes = omega arith in
     ap (λ (n : ℕ). min rest (n / size)) e)
     (cases_lt left bytes)
+
+-- bytes that hold all grains that are left, and bytes that do not
+
+pub all_held : (bytes size rest : ℕ) → rest * size ≤ bytes → rest ≡ min rest (most size bytes rest)
+all_held bytes zero rest holds = omega arith
+all_held bytes (suc less) rest holds =
+    let wide : 0 < suc less = omega arith in
+    let more = (le-div_iff_mul-le {k = suc less} {x = rest} {y = bytes} wide).1 holds in omega arith
+
+pub some_held : (bytes size rest : ℕ) → bytes < rest * size → (0 < size) × (bytes / size ≡ min rest (most size bytes rest)) × (bytes / size * size ≤ bytes)
+some_held bytes zero rest short = absurd (omega arith)
+some_held bytes (suc less) rest short =
+    let wide : 0 < suc less = omega arith in
+    let all = div-mul-le_self bytes (suc less) in
+    let fewer : bytes / suc less ≤ rest =
+    ⊎_elim
+    (λ under. omega arith)
+    (λ over. let more = (le-div_iff_mul-le {k = suc less} {x = rest} {y = bytes} wide).0 over in absurd (omega arith))
+    (cases_lt (bytes / suc less) rest)
+    in
+    (wide, omega arith, all)
 
 pub grains_few : (rest bytes size bound : ℕ) → bytes ≤ bound → min rest (bytes / size) * size ≤ bound
 grains_few rest bytes size bound few =
@@ -104,3 +127,40 @@ run-Reaches s size start at rest offset run r here is some wide within address g
     in
     let short = grains_few rest run.1 size 4092 few in
     record { address = address ∙ parts.0 ∙ place; grains = grains ∙ far; few = subst (λ (n : ℕ). n * size ≤ 4092) (sym grains) short }
+
+-- what is left lies in a window
+
+pub window-Reaches : (s : ScatterList) (w : Window) (size start at rest offset : ℕ) (r : Reach) → IsWindow s w → 1 ≤ rest → 1 ≤ size → offset ≡ start + at * size → w.from ≤ offset → offset + rest * size ≤ w.to → r.address ≡ w.address + (offset - w.from) → r.grains ≡ rest → Reaches rest size (most size (min 4092 (room_at s.chunks (start + at * size))) rest) (address_at s.chunks (start + at * size)) r
+window-Reaches s w size start at rest offset r is some wide here from to address grains =
+    let first : 1 * size ≤ rest * size = fewer_grains 1 rest size some in
+    let few = is.few in
+    let inside = is.room in
+    let k = offset - w.from in
+    let place : w.from + k ≡ start + at * size = omega arith in
+    let below : k < room_at s.chunks w.from = omega arith in
+    let room : room_at s.chunks (start + at * size) ≡ room_at s.chunks w.from - k = ap (room_at s.chunks) (sym place) ∙ room_at-add s.chunks w.from k below in
+    let there : address_at s.chunks (start + at * size) ≡ address_at s.chunks w.from + k = ap (address_at s.chunks) (sym place) ∙ address_at-add s.chunks w.from k below in
+    let begin = is.address (omega arith) in
+    let enough : rest * size ≤ min 4092 (room_at s.chunks (start + at * size)) = omega arith in
+    record {
+      address = omega arith;
+      grains = grains ∙ all_held (min 4092 (room_at s.chunks (start + at * size))) size rest enough;
+      few = subst (λ (n : ℕ). n * size ≤ 4092) (sym grains) (omega arith);
+    }
+
+-- a run makes a window
+pub run-IsWindow : (s : ScatterList) (offset : ℕ) (run : ℕ × ℕ) (w : Window) → IsScatterList s → offset < s.len → run ≡ run_at s offset 4092 → w.from ≡ offset → w.to ≡ offset + run.1 → w.address ≡ run.0 → IsWindow s w
+run-IsWindow s offset run w list within is from to address =
+    let parts = run_parts s run offset is in
+    let enough = list.enough in
+    let fits = address_at-fits s.chunks offset list.aligned (omega arith) in
+    let bytes = parts.1 in
+    let begin = parts.0 in
+    let room : room_at s.chunks w.from ≡ room_at s.chunks offset = ap (room_at s.chunks) from in
+    let there : address_at s.chunks w.from ≡ address_at s.chunks offset = ap (address_at s.chunks) from in
+    record {
+      few = omega arith;
+      room = omega arith;
+      address = λ some. address ∙ begin ∙ sym there;
+      fits = omega arith;
+    }

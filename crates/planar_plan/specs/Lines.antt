@@ -1,13 +1,16 @@
 -- A line as the code keeps it, and that it can be cut.
-use Rattle.std.specs.Prelude.{◌≡◌, ℕ, ◌+◌, ◌*◌, ◌^◌, ◌<◌, ◌≤◌, false, List, [], ◌∷◌, Option, Some, None, IsTrue, min}
+use Rattle.std.specs.Prelude.{◌≡◌, ℕ, ◌+◌, ◌-◌, ◌*◌, ◌^◌, ◌<◌, ◌≤◌, false, List, [], ◌∷◌, Option, Some, None, IsTrue, min}
 use Rattle.risc_word.specs.Words.{counts_fit}
-use Rattle.page_table.specs.Scattered.{ScatterList, room_at}
+use Rattle.page_table.specs.Scattered.{ScatterList, address_at, room_at}
 use Rattle.clip_spans.specs.declared.Span.{Span}
+use Rattle.capture_desc.specs.declared.desc.Desc.{Desc}
 use Rattle.picture_model.specs.declared.Piece.{Piece}
-use Rattle.picture_model.specs.Plans.{Strip, Track, track}
+use Rattle.picture_model.specs.Plans.{Strip, Track, row_strip, track}
 use Rattle.planar_plan.specs.declared.cut.Line.{Line}
 use Rattle.planar_plan.specs.declared.cut.PlaneTrack.{PlaneTrack}
 use Rattle.planar_plan.specs.declared.cut.Reach.{Reach}
+use Rattle.planar_plan.specs.declared.cut.Window.{Window}
+use Rattle.planar_plan.specs.declared.cut.Windows.{Windows}
 
 abbrev pub track_of : PlaneTrack → Track
 track_of t = track t.size t.start
@@ -52,11 +55,35 @@ abbrev pub AreWithin : ℕ → List Span → Type 0
 AreWithin grains [] = Unit {0}
 AreWithin grains (s ∷ rest) = (s.from ≤ s.to) × (s.to ≤ grains) × AreWithin grains rest
 
+-- the spans of a row, in grains
+pub record SpansOfRow : Type 0 where
+  pub row : ℕ
+  pub spans : List Span
+
+abbrev pub spans_of_row : ℕ → List Span → SpansOfRow
+spans_of_row row spans = record { row = row; spans = spans }
+
+-- they are those of a row of a description
+abbrev pub AreSpansOf : Desc → SpansOfRow → Type 0
+AreSpansOf d kept = kept.spans ≡ (row_strip d kept.row).spans
+
 -- a piece reaches to the end of its span or as far as it may, from its address on
 pub record Reaches (rest size far from : ℕ) (r : Reach) : Type 0 where
   pub address : r.address ≡ from
   pub grains : r.grains ≡ min rest far
   pub few : r.grains * size ≤ 4092
+
+-- a window holds bytes of one chunk
+pub record IsWindow (s : ScatterList) (w : Window) : Type 0 where
+  pub few : w.to ≤ w.from + 4092
+  pub room : w.to ≤ w.from + room_at s.chunks w.from
+  pub address : w.from < w.to → w.address ≡ address_at s.chunks w.from
+  pub fits : w.address + (w.to - w.from) ≤ 2 ^ 32
+
+pub record AreWindows (s : ScatterList) (w : Windows) : Type 0 where
+  pub one : IsWindow s w.one
+  pub two : IsWindow s w.two
+  pub three : IsWindow s w.three
 
 -- the bytes of a piece on each plane are as few as an instruction can count
 abbrev pub CountsFit : Piece → Type 0

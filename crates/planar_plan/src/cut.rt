@@ -4,9 +4,9 @@ ghost use Rattle.std.specs.Prelude.{◌≡◌, ◌+◌, ◌*◌, ◌^◌, ◌<�
 ghost use Rattle.std.specs.List.{All};
 ghost use Rattle.clip_spans.specs.Runs.{span};
 ghost use Rattle.pixel_layout.specs.Layouts.{layout};
-ghost use Rattle.page_table.specs.Scattered.{address_at, room_at};
+ghost use Rattle.page_table.specs.Scattered.{ScatterList, address_at, room_at};
 ghost use Rattle.picture_model.specs.Plans.{address_of, cut, cuts_of, grains_of, in_grains, longest, most, most_of, piece_of, pieces_of, span_cuts};
-ghost use Rattle.planar_plan.specs.Lines.{AreHeld, AreWithin, CanBeCut, CountsFit, IsHeld, Reaches, strip_of, track_of};
+ghost use Rattle.planar_plan.specs.Lines.{AreHeld, AreWindows, AreWithin, CanBeCut, CountsFit, IsHeld, IsWindow, Reaches, strip_of, track_of};
 
 use clip_spans::Span;
 use page_table::Scatter;
@@ -50,6 +50,21 @@ impl Pieces {
     }
 }
 
+/// The spans of a picture row, counted in what its plan cuts. Contracts see the row and the spans.
+#[derive(Drop)]
+pub struct RowSpans {
+    pub(crate) row: u32,
+    pub(crate) spans: Vec<Span>,
+}
+
+impl Model for RowSpans {
+    ghost use Rattle.planar_plan.specs.Lines.{SpansOfRow, spans_of_row};
+
+    ghost Value = { SpansOfRow };
+
+    ghost view = { λ s. spans_of_row s.row s.spans.items };
+}
+
 // What a line moves on a plane: the bytes of a grain, and the offset of the line's first byte, where it
 // is written. A grain is what no cut divides: a byte of a packed line, a unit of a planar one.
 #[derive(Clone, Copy)]
@@ -75,51 +90,148 @@ struct Reach {
     grains: u32,
 }
 
+// Bytes of one chunk, no more than a piece may have: their offsets from `from` up to `to`, and the address
+// of the first.
+#[derive(Clone, Copy)]
+struct Window {
+    from: u64,
+    to: u64,
+    address: u32,
+}
+
+// The bytes of each track that were looked up last.
+#[derive(Clone, Copy)]
+pub(crate) struct Windows {
+    one: Window,
+    two: Window,
+    three: Window,
+}
+
+// Windows without bytes.
+fn no_windows() -> Windows
+    ensures { (s : ScatterList) → AreWindows s result }
+{
+    let none = Window {
+        from: 0,
+        to: 0,
+        address: 0,
+    };
+    Windows {
+        one: none,
+        two: none,
+        three: none,
+    }
+}
+
+// How many of the grains that are left so many bytes hold; a track without bytes sets no limit.
+#[inline(always)]
+fn held_by(bytes: u32, size: u32, rest: u32) -> u32
+    requires { bytes ≤ 4092 }
+    ensures grains { result ≡ min rest (most size bytes rest) }
+    ensures few { result * size ≤ 4092 }
+{
+    if u64::from(rest) * u64::from(size) <= u64::from(bytes) {
+        rest
+    } else {
+        bytes / size
+    }
+}
+
 // A track that isn't written. `rest` grains are left in the span.
+#[inline(always)]
 fn unwritten(size: u32, rest: u32) -> Reach
     ensures { Reaches rest size (most size 4092 rest) 0 result }
 {
-    let most = match size {
-        0 => rest,
-        _ => MOST_BYTES / size,
-    };
     Reach {
         address: 0,
-        grains: rest.min(most),
+        grains: held_by(MOST_BYTES, size, rest),
+    }
+}
+
+// A track that is written from an offset on, at grain `at`, where the window doesn't hold what is left.
+#[inline(never)]
+fn look_up(
+    scatter: &Scatter,
+    window: &mut Window,
+    size: u32,
+    start: u64,
+    at: u32,
+    rest: u32,
+) -> Reach
+    requires len { scatter.now.len ≤ 2 ^ 32 }
+    requires some { 1 ≤ rest }
+    requires held { AreHeld scatter.now (at + rest) size (Some start) }
+    ensures reach { Reaches rest size (most size (min 4092 (room_at scatter.now.chunks (start + at * size))) rest) (address_at scatter.now.chunks (start + at * size)) result }
+    ensures window { IsWindow scatter.now window.new }
+{
+    let offset = start + u64::from(at) * u64::from(size);
+    let (address, bytes) = scatter.run(offset, MOST_BYTES);
+    *window = Window {
+        from: offset,
+        to: offset + u64::from(bytes),
+        address,
+    };
+    Reach {
+        address,
+        grains: held_by(bytes, size, rest),
     }
 }
 
 // A track that is written from an offset on, at grain `at`.
-fn written(scatter: &Scatter, size: u32, start: u64, at: u32, rest: u32) -> Reach
+#[inline(always)]
+fn written(
+    scatter: &Scatter,
+    window: &mut Window,
+    size: u32,
+    start: u64,
+    at: u32,
+    rest: u32,
+) -> Reach
     requires len { scatter.now.len ≤ 2 ^ 32 }
     requires some { 1 ≤ rest }
     requires held { AreHeld scatter.now (at + rest) size (Some start) }
-    ensures { Reaches rest size (most size (min 4092 (room_at scatter.now.chunks (start + at * size))) rest) (address_at scatter.now.chunks (start + at * size)) result }
+    requires window { IsWindow scatter.now window.old }
+    ensures reach { Reaches rest size (most size (min 4092 (room_at scatter.now.chunks (start + at * size))) rest) (address_at scatter.now.chunks (start + at * size)) result }
+    ensures window { IsWindow scatter.now window.new }
 {
     let offset = start + u64::from(at) * u64::from(size);
-    let (address, bytes) = scatter.run(offset, MOST_BYTES);
+    let end = offset + u64::from(rest) * u64::from(size);
+    if offset < window.from || window.to < end {
+        return look_up(scatter, window, size, start, at, rest);
+    }
     Reach {
-        address,
-        grains: rest.min(bytes / size),
+        address: window.address + (offset - window.from) as u32,
+        grains: rest,
     }
 }
 
-fn reach_on(scatter: &Scatter, track: PlaneTrack, clipped: bool, at: u32, rest: u32) -> Reach
+#[inline(always)]
+fn reach_on(
+    scatter: &Scatter,
+    window: &mut Window,
+    track: PlaneTrack,
+    clipped: bool,
+    at: u32,
+    rest: u32,
+) -> Reach
     requires len { scatter.now.len ≤ 2 ^ 32 }
     requires some { 1 ≤ rest }
     requires held { IsHeld scatter.now (at + rest) (track_of track) }
-    ensures { Reaches rest track.size (most_of scatter.now.chunks clipped at rest (track_of track)) (address_of scatter.now.chunks clipped track.size track.start at) result }
+    requires window { IsWindow scatter.now window.old }
+    ensures window { IsWindow scatter.now window.new }
+    ensures reach { Reaches rest track.size (most_of scatter.now.chunks clipped at rest (track_of track)) (address_of scatter.now.chunks clipped track.size track.start at) result }
 {
     if clipped {
         return unwritten(track.size, rest);
     }
     match track.start {
-        Some(start) => written(scatter, track.size, start, at, rest),
+        Some(start) => written(scatter, window, track.size, start, at, rest),
         None => unwritten(track.size, rest),
     }
 }
 
 // The bytes of some grains, which are no more than a piece may have.
+#[inline(always)]
 #[tactic(auto, using(crate::proofs::Bounds::fewer_grains))]
 fn bytes(grains: u32, size: u32, most: u32) -> u16
     requires fewer { grains ≤ most }
@@ -131,10 +243,19 @@ fn bytes(grains: u32, size: u32, most: u32) -> u16
 }
 
 // The longest piece of a span from grain `at` on, and its grains.
-fn next_piece(scatter: &Scatter, line: &Line, span: Span, at: u32) -> (Piece, u32)
+#[inline(always)]
+fn next_piece(
+    scatter: &Scatter,
+    line: &Line,
+    windows: &mut Windows,
+    span: Span,
+    at: u32,
+) -> (Piece, u32)
     requires line { CanBeCut scatter.now (strip_of line.now) }
     requires before { at < span.to }
     requires within { span.to ≤ line.now.grains }
+    requires windows { AreWindows scatter.now windows.old }
+    ensures windows { AreWindows scatter.now windows.new }
     ensures grains { result.1 ≡ longest scatter.now.chunks (strip_of line.now) span at }
     ensures piece { result.0 ≡ piece_of scatter.now.chunks (strip_of line.now) (cut at result.1 span.clipped) }
     ensures counts { CountsFit result.0 }
@@ -142,9 +263,16 @@ fn next_piece(scatter: &Scatter, line: &Line, span: Span, at: u32) -> (Piece, u3
     ensures inside { at + result.1 ≤ span.to }
 {
     let rest = span.to - at;
-    let one = reach_on(scatter, line.one, span.clipped, at, rest);
-    let two = reach_on(scatter, line.two, span.clipped, at, rest);
-    let three = reach_on(scatter, line.three, span.clipped, at, rest);
+    let one = reach_on(scatter, &mut windows.one, line.one, span.clipped, at, rest);
+    let two = reach_on(scatter, &mut windows.two, line.two, span.clipped, at, rest);
+    let three = reach_on(
+        scatter,
+        &mut windows.three,
+        line.three,
+        span.clipped,
+        at,
+        rest,
+    );
     let grains = one.grains.min(two.grains).min(three.grains);
     let piece = Piece {
         kind: if span.clipped {
@@ -167,21 +295,25 @@ fn next_piece(scatter: &Scatter, line: &Line, span: Span, at: u32) -> (Piece, u3
 }
 
 // Adds the pieces of a span, which is counted in grains.
+#[inline(always)]
 pub(crate) fn cut_span(
     scatter: &Scatter,
     line: &Line,
+    windows: &mut Windows,
     span: Span,
     pieces: &mut Vec<Piece>,
 ) -> Result<(), AllocError>
     requires line { CanBeCut scatter.now (strip_of line.now) }
     requires order { span.from ≤ span.to }
     requires within { span.to ≤ line.now.grains }
+    requires windows { AreWindows scatter.now windows.old }
+    ensures windows { IfOk result (λ _. AreWindows scatter.now windows.new) }
     ensures pieces { IfOk result (λ _. pieces.new.items ≡ pieces.old.items ++ pieces_of scatter.now.chunks (strip_of line.now) (span_cuts scatter.now.chunks (strip_of line.now) span)) }
     ensures counts { All CountsFit pieces.old.items → IfOk result (λ _. All CountsFit pieces.new.items) }
 {
     let mut at = span.from;
     while at < span.to {
-        let (piece, grains) = next_piece(scatter, line, span, at);
+        let (piece, grains) = next_piece(scatter, line, windows, span, at);
         pieces.push(piece)?;
         at += grains;
     }
@@ -222,23 +354,38 @@ fn in_grains(format: Format, span: &Span) -> Span
     }
 }
 
-// The pieces of a row with these spans, which are counted in pixels.
+// Spans that are counted in pixels, now in grains.
+pub(crate) fn spans_in_grains(
+    alloc: Global,
+    format: Format,
+    spans: &[Span],
+) -> Result<Vec<Span>, AllocError>
+    requires { AreWithin 1024 spans.now }
+    ensures { IfOk result (λ grains. grains.items ≡ map (in_grains (layout format)) spans.now) }
+{
+    let mut grains = Vec::with_capacity(alloc, spans.len())?;
+    for span in spans {
+        grains.push(in_grains(format, span))?;
+    }
+    Ok(grains)
+}
+
+// The pieces of a row with these spans, which are counted in grains.
 pub(crate) fn cut_row(
     alloc: Global,
     scatter: &Scatter,
     line: &Line,
-    format: Format,
     spans: &[Span],
 ) -> Result<Vec<Piece>, AllocError>
     requires line { CanBeCut scatter.now (strip_of line.now) }
-    requires pixels { AreWithin 1024 spans.now }
-    requires grains { AreWithin line.now.grains (map (in_grains (layout format)) spans.now) }
-    ensures pieces { IfOk result (λ pieces. pieces.items ≡ pieces_of scatter.now.chunks (strip_of line.now) (cuts_of scatter.now.chunks (strip_of line.now) (map (in_grains (layout format)) spans.now))) }
+    requires grains { AreWithin line.now.grains spans.now }
+    ensures pieces { IfOk result (λ pieces. pieces.items ≡ pieces_of scatter.now.chunks (strip_of line.now) (cuts_of scatter.now.chunks (strip_of line.now) spans.now)) }
     ensures counts { IfOk result (λ pieces. All CountsFit pieces.items) }
 {
-    let mut pieces = Vec::new(alloc);
+    let mut pieces = Vec::with_capacity(alloc, spans.len())?;
+    let mut windows = no_windows();
     for span in spans {
-        cut_span(scatter, line, in_grains(format, span), &mut pieces)?;
+        cut_span(scatter, line, &mut windows, *span, &mut pieces)?;
     }
     Ok(pieces)
 }
@@ -260,6 +407,7 @@ pub(crate) fn cut_whole(
         to: line.grains,
         clipped,
     };
-    cut_span(scatter, line, whole, &mut pieces)?;
+    let mut windows = no_windows();
+    cut_span(scatter, line, &mut windows, whole, &mut pieces)?;
     Ok(pieces)
 }

@@ -6,11 +6,11 @@ ghost use Rattle.capture_desc.specs.WellFormed.{IsWellFormed};
 ghost use Rattle.page_table.specs.Taken.{in_order};
 ghost use Rattle.picture_model.specs.Described.{IsDescription, describes, field_height, highest_end, memory_of, taken};
 ghost use Rattle.picture_model.specs.Geometry.{first_after, frame_fault, frame_faults};
-ghost use Rattle.picture_model.specs.Plans.{row_plan, skipped_plan, vbi_plan};
+ghost use Rattle.picture_model.specs.Plans.{row_plan, row_strip, skipped_plan, vbi_plan};
 ghost use Rattle.planar_plan.specs.Frames.{HasScatter, IsFramed, Judges};
-ghost use Rattle.planar_plan.specs.Lines.{CountsFit};
+ghost use Rattle.planar_plan.specs.Lines.{AreSpansOf, CountsFit};
 
-use crate::cut::{Pieces, cut_row, cut_whole};
+use crate::cut::{Pieces, RowSpans, cut_row, cut_whole, spans_in_grains};
 use crate::judge::{BuildError, highest_end, overlap, size_faults, vbi_range};
 use crate::lines::{row_line, skipped_line, vbi_line};
 use crate::memory::{grants, page_faults, scatter};
@@ -112,7 +112,52 @@ impl Frame {
         grants(alloc, &self.desc)
     }
 
-    /// The pieces of a picture row, in order. Rows are counted from 0, those of both fields together.
+    /// The spans of a picture row, for the plans of this row and of others. Rows are counted from 0, those
+    /// of both fields together.
+    pub fn row_spans(&self, alloc: Global, row: u32) -> Result<RowSpans, AllocError>
+        ensures row { IfOk result (λ spans. spans.row ≡ row) }
+        ensures spans { IfOk result (AreSpansOf self.now) }
+        ensures description { IfOk result (λ _. IsDescription self.now) }
+        ensures framed { IsFramed self.now }
+    {
+        let format = self.desc.format;
+        let spans = self
+            .desc
+            .clip
+            .spans(alloc, row, self.desc.width, format.unit_pixels())?;
+        let spans = spans_in_grains(alloc, format, spans.as_slice())?;
+        Ok(RowSpans { row, spans })
+    }
+
+    // Puts the spans of a row in the place of others, unless they are the same.
+    fn renew(&self, alloc: Global, row: u32, spans: &mut RowSpans) -> Result<(), AllocError>
+        requires { AreSpansOf self.now spans.old }
+        ensures spans { IfOk result (λ _. spans.new.spans ≡ (row_strip self.now row).spans) }
+        ensures kept { AreSpansOf self.now spans.new }
+        ensures description { IfOk result (λ _. IsDescription self.now) }
+        ensures framed { IsFramed self.now }
+    {
+        if self.desc.clip.alike(spans.row, row) {
+            return Ok(());
+        }
+        *spans = self.row_spans(alloc, row)?;
+        Ok(())
+    }
+
+    // The pieces of a row with these spans.
+    fn cut(&self, alloc: Global, row: u32, spans: &RowSpans) -> Result<Pieces, AllocError>
+        requires row { row < self.now.height }
+        requires spans { spans.now.spans ≡ (row_strip self.now row).spans }
+        requires description { IsDescription self.now }
+        ensures plan { IfOk result (λ pieces. pieces ≡ row_plan self.now row) }
+        ensures counts { IfOk result (All CountsFit) }
+    {
+        let line = row_line(&self.desc, row);
+        let pieces = cut_row(alloc, &self.scatter, &line, &spans.spans)?;
+        Ok(Pieces::new(pieces))
+    }
+
+    /// The pieces of a picture row, in order.
     pub fn plan_row(&self, alloc: Global, row: u32) -> Result<Pieces, AllocError>
         requires { row < self.now.height }
         ensures plan { IfOk result (λ pieces. pieces ≡ row_plan self.now row) }
@@ -120,14 +165,28 @@ impl Frame {
         ensures description { IfOk result (λ _. IsDescription self.now) }
         ensures framed { IsFramed self.now }
     {
-        let format = self.desc.format;
-        let line = row_line(&self.desc, row);
-        let spans = self
-            .desc
-            .clip
-            .spans(alloc, row, self.desc.width, format.unit_pixels())?;
-        let pieces = cut_row(alloc, &self.scatter, &line, format, spans.as_slice())?;
-        Ok(Pieces::new(pieces))
+        let spans = self.row_spans(alloc, row)?;
+        self.cut(alloc, row, &spans)
+    }
+
+    /// The pieces of a picture row, in order, where the spans of some row are known. These are taken again
+    /// where the same rectangles meet both rows; else those of this row come in their place.
+    pub fn plan_row_by(
+        &self,
+        alloc: Global,
+        row: u32,
+        spans: &mut RowSpans,
+    ) -> Result<Pieces, AllocError>
+        requires row { row < self.now.height }
+        requires spans { AreSpansOf self.now spans.old }
+        ensures plan { IfOk result (λ pieces. pieces ≡ row_plan self.now row) }
+        ensures counts { IfOk result (All CountsFit) }
+        ensures spans { AreSpansOf self.now spans.new }
+        ensures description { IfOk result (λ _. IsDescription self.now) }
+        ensures framed { IsFramed self.now }
+    {
+        self.renew(alloc, row, spans)?;
+        self.cut(alloc, row, spans)
     }
 
     /// The pieces of a skipped line, in order. They write nothing.

@@ -13,7 +13,7 @@ mod places;
 #[cfg(test)]
 mod tests;
 
-pub use cut::Pieces;
+pub use cut::{Pieces, RowSpans};
 pub use frame::Frame;
 pub use judge::BuildError;
 pub use picture_model::{BuildFault, Piece, PieceKind};

@@ -102,6 +102,21 @@ fn a_piece_ends_with_its_page(rt: HostRuntime) -> Result<(), Fail> {
 }
 
 #[test]
+fn rows_are_planned_one_after_the_other(rt: HostRuntime) -> Result<(), Fail> {
+    let clip = [rect(0, 2, 16, 1)];
+    let desc = described(rt.alloc(), Format::Y8, (16, 3), None, &clip, &[0x20000])?;
+    let frame = framed(rt.alloc(), desc)?;
+    let mut spans = frame.row_spans(rt.alloc(), 0)?;
+    let second = frame.plan_row_by(rt.alloc(), 1, &mut spans)?;
+    let want = [packed(PieceKind::Write, true, true, 16, 0x20010)];
+    assert!(rt; second.as_slice() == want.as_slice());
+    let third = frame.plan_row_by(rt.alloc(), 2, &mut spans)?;
+    let want = [packed(PieceKind::Skip, true, true, 16, 0)];
+    assert!(rt; third.as_slice() == want.as_slice());
+    Ok(())
+}
+
+#[test]
 fn clipped_pixels_are_skipped(rt: HostRuntime) -> Result<(), Fail> {
     let clip = [
         rect(0, 1, 16, 1),

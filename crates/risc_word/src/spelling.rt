@@ -8,6 +8,7 @@ use super::fields::{
 };
 use super::{Code, Ctl, Ends, Instr};
 
+#[inline(always)]
 fn head_word(opcode: u32, ctl: Ctl) -> u32
     requires opcode { opcode < 16 }
     requires ctl { IsTrue (control_fits ctl) }
@@ -19,6 +20,7 @@ fn head_word(opcode: u32, ctl: Ctl) -> u32
     Set::put(word, u32::from(ctl.set))
 }
 
+#[inline(always)]
 fn data_word(opcode: u32, ctl: Ctl, ends: Ends, off: u8, count: u16) -> u32
     requires opcode { opcode < 16 }
     requires ctl { IsTrue (control_fits ctl) }
@@ -42,6 +44,7 @@ fn sync_word(ctl: Ctl, resync: bool, code: Code) -> u32
     SyncCode::put(word, u32::from(code.nibble()))
 }
 
+#[inline(always)]
 fn counts_word(counts: &[u16; 3]) -> u32
     requires { IsTrue (counts_fit counts.now) }
     ensures { result ≡ counts_word (slice_index counts.now 1) (slice_index counts.now 2) }
@@ -50,7 +53,7 @@ fn counts_word(counts: &[u16; 3]) -> u32
     ThirdCount::put(word, u32::from(counts[2]))
 }
 
-#[inline]
+#[inline(always)]
 fn put_words(words: &[u32], out: &mut [u32; 5]) -> u8
     requires { length words.now ≤ 5 }
     ensures words { out.new ≡ words.now ++ drop (length words.now) out.old }
@@ -60,6 +63,7 @@ fn put_words(words: &[u32], out: &mut [u32; 5]) -> u8
     words.len() as u8
 }
 
+#[inline(always)]
 fn put_planar(
     opcode: u32,
     ctl: Ctl,
@@ -85,6 +89,7 @@ fn put_planar(
 
 /// Writes the words of an instruction into the front of `out`, leaves the rest of it, and answers their
 /// number. Each bit that no field names is 0.
+#[inline(always)]
 pub fn encode(instr: &Instr, out: &mut [u32; 5]) -> u8
     requires { IsTrue (fits instr.now) }
     ensures words { out.new ≡ encoded instr.now ++ drop (length (encoded instr.now)) out.old }

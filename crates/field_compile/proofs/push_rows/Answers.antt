@@ -19,6 +19,7 @@ loop-number-init c =
     record {
       left = subst (λ (rs : List ℕ). IsLeft old old (rows_instrs d rs) (rows_instrs d all)) rows (all_left old (rows_instrs d all));
       below = subst (Each (λ row. row < d.height)) rows (rows_below d c.args.field);
+      spans = c.in_ok-spans.ensures.spans;
       description = λ some. absurd (omega arith);
     }
 
@@ -44,5 +45,6 @@ loop-number-preserved c =
           (c.as_slice.ensures ∙ c.in_ok-pieces.ensures.plan ∙ ap (row_plan d) (c.picture_row.ensures ∙ fields))
           c.push_pieces.ensures.kept c.in_ok-push_pieces.ensures.words;
       below = (subst (λ (n : ℕ). Each (λ row. row < d.height) (rows_from d field at n)) more c.loop-number.invariant.below).1;
+      spans = c.plan_row_by.ensures.spans;
       description = λ some. c.in_ok-pieces.ensures.description;
     }

@@ -1,13 +1,10 @@
-use Rattle.std.proofs.Common.{◌≡◌, ◌+◌, ◌*◌, refl, arith}
-use Rattle.planar_plan.proofs.Reaching.{bytes_left, run-Reaches}
+use Rattle.std.proofs.Common.{◌≡◌, ◌+◌, ◌*◌, ap, refl, arith}
+use Rattle.planar_plan.proofs.Reaching.{window-Reaches}
 use Rattle.planar_plan.proofs.cut.written.Goals as goal
 
-pub overflow_add-offset : goal.overflow_add-offset
-overflow_add-offset c =
-    let left = bytes_left c.args.at c.args.rest c.args.size c.args.start c.args.scatter.now.len c.requires.some c.requires.held.0 c.requires.held.1 in
-    rw (c.from.ensures, c.from-2.ensures) (omega arith)
-
-pub returns : goal.returns
-returns c =
-    let offset : c.args.start + c.from.result * c.from-2.result ≡ c.args.start + c.args.at * c.args.size = rw (c.from.ensures, c.from-2.ensures) in
-    run-Reaches c.args.scatter.now c.args.size c.args.start c.args.at c.args.rest (c.args.start + c.from.result * c.from-2.result) c.run-address.result _ offset c.run-address.ensures.value c.requires.some c.requires.held.0 c.requires.held.1 refl c.min.ensures
+pub returns-clause-reach : goal.returns-clause-reach
+returns-clause-reach c =
+    let here : c.from.result * c.from-2.result ≡ c.args.at * c.args.size = rw (c.from.ensures, c.from-2.ensures) in
+    let left : c.from-3.result * c.from-4.result ≡ c.args.rest * c.args.size = rw (c.from-3.ensures, c.from-4.ensures) in
+    let offset = c.args.start + c.from.result * c.from-2.result in
+    window-Reaches c.args.scatter.now c.args.window.now c.args.size c.args.start c.args.at c.args.rest offset _ c.requires.window c.requires.some c.requires.held.0 (ap (λ n. c.args.start + n) here) (omega arith) (omega arith) refl refl

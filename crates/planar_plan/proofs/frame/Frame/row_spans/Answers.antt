@@ -1,0 +1,32 @@
+use Rattle.std.proofs.Common.{◌≡◌, ℕ, length, List, map, sym, ap, ◌∙◌, subst}
+use Rattle.clip_spans.specs.Clipping.{clipped_at}
+use Rattle.clip_spans.specs.Runs.{spans_of}
+use Rattle.clip_spans.specs.declared.Span.{Span}
+use Rattle.capture_desc.specs.declared.desc.Desc.{Desc}
+use Rattle.picture_model.specs.Described.{IsDescription, layout_of}
+use Rattle.picture_model.specs.Plans.{in_grains, row_strip}
+use Rattle.planar_plan.specs.Lines.{AreWithin, AreSpansOf, SpansOfRow, spans_of_row}
+use Rattle.planar_plan.proofs.Held.{described, is_right, runs_within}
+use Rattle.planar_plan.proofs.frame.Frame.row_spans.Goals as goal
+
+pub spans_in_grains-requires : goal.spans_in_grains-requires
+spans_in_grains-requires c =
+    let d = c.self.inside.desc in
+    let right = is_right d c.self.invariant.framed c.in_ok-spans.ensures.few in
+    subst (AreWithin 1024) (sym c.as_slice.ensures)
+    (runs_within (clipped_at d.clip c.args.row c.unit_pixels.result) d.width 1024 0 c.in_ok-spans.spans right.width.1 c.in_ok-spans.ensures.spans)
+
+-- the spans of the row, in grains
+spans_are : (d : Desc) (row unit : ℕ) (slice spans grains : List Span) → slice ≡ spans → spans ≡ spans_of d.clip row d.width unit → unit ≡ (layout_of d).pixels → grains ≡ map (in_grains (layout_of d)) slice → grains ≡ (row_strip d row).spans
+spans_are d row unit slice spans grains same are whole counted =
+    counted ∙ ap (map (in_grains (layout_of d))) (same ∙ are ∙ ap (spans_of d.clip row d.width) whole)
+
+pub returns-clause-spans : goal.returns-clause-spans
+returns-clause-spans c =
+    let d = c.self.inside.desc in
+    subst (λ (e : Desc). c.in_ok-spans-2.spans.items ≡ (row_strip e c.args.row).spans) c.self.view_is
+    (spans_are d c.args.row c.unit_pixels.result c.as_slice.result.now c.in_ok-spans.spans c.in_ok-spans-2.spans.items c.as_slice.ensures c.in_ok-spans.ensures.value c.unit_pixels.ensures.value c.in_ok-spans-2.ensures)
+
+pub returns-clause-description : goal.returns-clause-description
+returns-clause-description c =
+    subst IsDescription c.self.view_is (described c.self.inside.desc c.self.invariant.framed c.in_ok-spans.ensures.few)
