@@ -23,7 +23,7 @@ use Rattle.command_steps.specs.Texts.{answer_text, made_text, report_text}
 use Rattle.program_play.specs.Plays.{longest_stream}
 use Rattle.program_play.specs.Programs.{GivesSound, HoldsProgram, HoldsSound, IsBadFile, IsBadProgram, IsListed, Ran, last_of}
 use Rattle.program_play.proofs.Fitting.{steps_fit}
-use Rattle.program_play.proofs.Loading.{OfInput-map}
+use Rattle.command_steps.proofs.Inputs.{OfInput-map}
 use Rattle.desc_input.specs.Descriptions.{GivesCompiled, HoldsValid, IsBadDesc}
 use Rattle.bt878_tasks.specs.Tasks.{Task, Lists, Verifies, Runs, Compiles, Captures, Generates, Answers, DescMakes, Ends, IsDone, IsPartDone, Makes, RunMakes, Stops, StopsAtRun, compiled_text, creates, image_file, program_file, task_of, task_with}
 use Rattle.bt878_tasks.specs.Clauses.{AreTold, CreatesNone, ImageAndReport, IsBadInput, IsCompiled, IsCut, IsGenerated, IsGood, IsOutput, IsRefusal, IsSoundAt, IsUnreadOf, IsUsage, OfDesc, OfRan, OfSteps, OnlyOutputs, OnlySays, SameNames, SameOutput, SaysAccepted, SaysAll, SaysListing, ShowsLast, StandsAt, StaysInside, TellsInput, UnlessCut, WritesProgram}

@@ -5,7 +5,7 @@ use Rattle.machine_model.specs.Paths.{RiscProgram}
 use Rattle.command_steps.specs.declared.answer.Answer.TheVariants.{ReadFault}
 use Rattle.command_steps.specs.Desks.{Seen, OfFile, OfInput, IsUnread}
 use Rattle.program_play.specs.Programs.{HoldsSteps, IsRun, OfRun, Ran}
-use Rattle.program_play.proofs.Loading.{OfInput-map}
+use Rattle.command_steps.proofs.Inputs.{OfInput-map}
 use Rattle.bt878_tasks.specs.Clauses.{AreTold, IsCut}
 
 -- two facts of one input

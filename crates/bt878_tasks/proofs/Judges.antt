@@ -15,7 +15,7 @@ use Rattle.command_steps.specs.declared.answer.Answer.TheVariants.{ReadFault, Ma
 use Rattle.command_steps.specs.Desks.{Seen, OfInput, StopsAt}
 use Rattle.program_play.specs.Plays.{longest_stream}
 use Rattle.program_play.specs.Programs.{HoldsProgram, HoldsSound, HoldsSteps, IsBadFile, IsBadProgram, IsBadStream, Rejects}
-use Rattle.program_play.proofs.Loading.{OfInput-map}
+use Rattle.command_steps.proofs.Inputs.{OfInput-map}
 use Rattle.desc_input.specs.Descriptions.{HoldsValid, IsBadDesc, description_of}
 use Rattle.bt878_tasks.specs.Tasks.{StopsAtRun}
 use Rattle.bt878_tasks.specs.Clauses.{AreTold, IsBadRun, IsCut, TellsInput, UnlessCut}

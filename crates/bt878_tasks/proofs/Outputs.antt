@@ -5,22 +5,16 @@ use Rattle.std.specs.Str.{bytes_eq}
 use Rattle.std.proofs.lemmas.Slice.Eq.{bytes_eq-Decides}
 use Rattle.capture_desk.specs.Desks.{Outputs, Told, is_among, output_named, created, written, after_say}
 use Rattle.capture_desk.proofs.Outputs.{output_created, output_created_other, output_appended, output_appended_other}
+use Rattle.bt878_words.proofs.Asked.{or_false, same_name}
 use Rattle.command_steps.specs.Desks.{Seen, Says, IsPart, after_file, apart, delivered}
 use Rattle.bt878_tasks.specs.Tasks.{names_of}
 use Rattle.bt878_tasks.specs.Clauses.{CreatesNone, IsCutOff, IsOutput, OnlySays, SameNames, SameOutput, SameOutputs, SaysAll}
 
 -- ---- names
 
-same_name : (name : List ℕ) → bytes_eq name name ≡ true
-same_name name = (bytes_eq-Decides name name).1 refl
-
 or_true : (a b : Bool) → b ≡ true → (a || b) ≡ true
 or_true true b h = refl
 or_true false b h = h
-
-or_false : (a b : Bool) → (a || b) ≡ false → (a ≡ false) × (b ≡ false)
-or_false true b h = absurd (cc)
-or_false false b h = (refl, h)
 
 pub first_among : (name : List ℕ) (names : List (List ℕ)) → is_among name (name ∷ names) ≡ true
 first_among name names = ap (λ t. t || is_among name names) (same_name name)

@@ -1,5 +1,5 @@
 -- How the parts of a command make the whole.
-use Rattle.std.proofs.Common.{◌≡◌, ℕ, ◌<◌, ◌≤◌, ◌⊎◌, inl, inr, List, [], ◌∷◌, length, take, Option, refl, sym, ap, subst, ◌∙◌, arith}
+use Rattle.std.proofs.Common.{◌≡◌, ℕ, ◌≤◌, ◌⊎◌, inl, inr, List, [], ◌∷◌, length, take, Option, refl, sym, ap, subst, ◌∙◌, arith}
 use Rattle.capture_desk.specs.Desks.{HasRisen, Inputs, after_say}
 use Rattle.capture_file.specs.Images.{image_of}
 use Rattle.capture_file.specs.Programs.{spelled}
@@ -18,9 +18,9 @@ use Rattle.command_steps.specs.declared.answer.Answer.TheVariants.{Done, Usage, 
 use Rattle.command_steps.specs.Desks.{Seen, Product, OfInput, NeedsMemory, Refused, Says, SameCounts, StopsAt, WritesRose, IsPart, apart, delivered}
 use Rattle.command_steps.specs.Texts.{answer_text, built_text, made_text, report_text}
 use Rattle.command_steps.proofs.Parts.{apart_part, apart_delivered}
-use Rattle.program_play.specs.Programs.{Accepts, GivesSound, HoldsSound, IsBadFile, IsBadProgram, IsBadStream, IsRun, OfRun, Ran, first_of, last_of}
+use Rattle.program_play.specs.Programs.{GivesSound, HoldsSound, IsBadFile, IsBadProgram, IsBadStream, IsRun, OfRun, Ran, first_of, last_of}
 use Rattle.program_play.proofs.Fitting.{steps_fit}
-use Rattle.program_play.proofs.Loading.{OfInput-map}
+use Rattle.command_steps.proofs.Inputs.{OfInput-map}
 use Rattle.desc_input.specs.Descriptions.{Describes, GivesCompiled, HoldsValid, IsBadDesc}
 use Rattle.bt878_tasks.specs.Tasks.{Task, Lists, Verifies, Runs, Compiles, Captures, Generates, DescMakes, Ends, IsDone, IsPartDone, Makes, RunMakes, Stops, StopsAtRun, compiled_text, creates, image_file, names_of, program_file}
 use Rattle.bt878_tasks.proofs.Inputs.{OfRun-map}

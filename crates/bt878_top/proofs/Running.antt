@@ -1,15 +1,12 @@
 -- A stream that is played after a file gave the program.
-use Rattle.std.proofs.Common.{◌≡◌, ◌≤◌, ℕ, inl, inr, List, Option, Some, None, refl, sym, ap, subst, ◌∙◌}
+use Rattle.std.proofs.Common.{◌≡◌, ℕ, inl, inr, List, Option, Some, None, sym, ap, subst, ◌∙◌}
 use Rattle.capture_desk.specs.Desks.{HasRisen, Inputs, Told, named, is_missing}
 use Rattle.machine_model.specs.Paths.{RiscProgram}
 use Rattle.machine_model.specs.States.{State, first_state}
 use Rattle.command_steps.specs.declared.answer.Answer.{Answer}
-use Rattle.command_steps.specs.declared.answer.Answer.TheVariants.{Malformed, NoMemory, ReadFault}
-use Rattle.capture_file.specs.declared.Input.TheVariants.{Stream}
-use Rattle.capture_file.specs.Streams.{steps_of}
-use Rattle.std.proofs.Common.{false, Err}
+use Rattle.command_steps.specs.declared.answer.Answer.TheVariants.{NoMemory, ReadFault}
 use Rattle.command_steps.specs.Desks.{OfFile, OfInput, SameCounts, Seen, StopsAt, apart}
-use Rattle.program_play.specs.Plays.{HasPlayed, longest_stream}
+use Rattle.program_play.specs.Plays.{HasPlayed}
 use Rattle.program_play.specs.Programs.{IsBadStream, IsRun, OfRun, Ran, last_of}
 use Rattle.program_play.proofs.Loading.{same_inputs}
 use Rattle.bt878_tasks.specs.Tasks.{StopsAtRun}

@@ -1,6 +1,6 @@
 //! The runs of a program file's program and of a description's program over a stream file.
 
-ghost use Rattle.std.specs.Prelude.{◌≡◌, ◌<◌, string_bytes, IfErr, IfOk};
+ghost use Rattle.std.specs.Prelude.{◌≡◌, string_bytes, IfErr, IfOk};
 ghost use Rattle.bt878_tasks.specs.Tasks.{StopsAtRun};
 ghost use Rattle.capture_desk.specs.Desks.{IsAllowed};
 ghost use Rattle.command_steps.specs.Desks.{CountsBy, apart, seen_by};
@@ -15,11 +15,9 @@ use capture_desk::Desk;
 use command_steps::Answer;
 use desc_input::check_file;
 use program_build::{Checked, build};
-use program_play::{Loaded, Played, accept, play_file};
-use risc_verify::{Accepted, Steps, Why, verify};
+use program_play::{Loaded, Played, accept, play_file, verify_program};
+use risc_verify::{Accepted, Why};
 use std::alloc::{AllocError, Global};
-use std::marker::Brand;
-use std::sync::ledger::{Blank, Ledger};
 
 /// Runs the program of a program file over a stream file.
 pub fn run_program<D: Desk>(
@@ -43,36 +41,15 @@ pub fn run_program<D: Desk>(
     }
 }
 
-/// The program of a checked description, verified as any other is: it is sound. The verifier's steps are
-/// counted in a ledger of their own.
-fn verified<L: Ledger>(
-    alloc: Global,
-    checked: &Checked,
-    blank: Blank,
-) -> Result<Accepted, AllocError>
-    requires name { blank.name ≡ L.name }
-    requires parts { blank.parts ≡ L.parts }
-    requires some { 0 < blank.parts }
-    ensures { IfOk result (λ accepted. accepted ≡ compiled checked.now) }
-{
-    let program = build(alloc, checked)?;
-    let mut steps = Steps::<L>::new(blank);
-    match verify(alloc, program, &mut steps) {
-        Ok(accepted) => Ok(accepted),
-        Err(rejected) => match rejected.why {
-            Why::Bad { .. } => unreachable!(),
-            Why::Memory => Err(AllocError),
-        },
-    }
-}
-
-/// The program that a checked description asks for, as the machine takes it.
+/// The program that a checked description asks for, as the machine takes it: verified as any other is, and
+/// sound.
 fn accepted_program(alloc: Global, checked: &Checked) -> Result<Accepted, AllocError>
     ensures { IfOk result (λ accepted. accepted ≡ compiled checked.now) }
 {
-    match verified::<Brand>(alloc, checked, Blank::new(1)) {
+    match verify_program(alloc, build(alloc, checked)?) {
         Ok(accepted) => Ok(accepted),
-        Err(error) => Err(error),
+        Err(Why::Bad { .. }) => unreachable!(),
+        Err(Why::Memory) => Err(AllocError),
     }
 }
 

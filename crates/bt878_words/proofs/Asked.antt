@@ -2,7 +2,6 @@
 use Rattle.std.proofs.Common.{◌≡◌, ◌≢◌, ℕ, ◌≤◌, ◌||◌, true, false, Bool, List, [], ◌∷◌, length, Option, Some, None, Result, Ok, Err, refl, sym, ap, subst, ◌∙◌, arith}
 use Rattle.std.proofs.lemmas.Bool.{eqb-true, leb-true}
 use Rattle.std.specs.Prelude.{◌==◌, ◌&&◌, nat_le, if◌then◌else◌}
-use Rattle.std.specs.Bool.{Decides}
 use Rattle.std.specs.Str.{bytes_eq}
 use Rattle.std.proofs.lemmas.Slice.Eq.{bytes_eq-Decides}
 use Rattle.bt878_words.specs.declared.Command.{Command}
@@ -151,18 +150,14 @@ Asks words command.Capture = AsksCapture words
 Asks words (command.Make seed frames) = AsksMake words
 Asks words _ = ⊥
 
--- two outputs that clash with nothing have different names
-or_false : (a b : Bool) → (a || b) ≡ false → (a ≡ false) × (b ≡ false)
+pub or_false : (a b : Bool) → (a || b) ≡ false → (a ≡ false) × (b ≡ false)
 or_false true b e = absurd (cc)
 or_false false b e = (refl, e)
 
-same_name : (name : List ℕ) → bytes_eq name name ≡ true
-same_name name = of_decides (bytes_eq name name) (bytes_eq-Decides name name)
-  where
-    of_decides : (b : Bool) → Decides b (name ≡ name) → b ≡ true
-    of_decides true d = refl
-    of_decides false d = d.1 refl
+pub same_name : (name : List ℕ) → bytes_eq name name ≡ true
+same_name name = (bytes_eq-Decides name name).1 refl
 
+-- two outputs that clash with nothing have different names
 among_itself : (name : List ℕ) → is_among name (name ∷ []) ≡ true
 among_itself name = ap (λ t. t || false) (same_name name)
 

@@ -1,5 +1,5 @@
 -- What stands where an output, or what follows it, is written in part.
-use Rattle.std.proofs.Common.{◌≡◌, ℕ, ◌<◌, ◌≤◌, inl, inr, List, [], ◌∷◌, length, take, refl, sym, ap, ◌∙◌, arith, subst}
+use Rattle.std.proofs.Common.{◌≡◌, ℕ, ◌<◌, inl, inr, List, [], ◌∷◌, length, take, refl, sym, ap, ◌∙◌, arith, subst}
 use Rattle.std.proofs.lemmas.List.{take_all}
 use Rattle.capture_desk.specs.Desks.{Told, after_create, after_say, after_write}
 use Rattle.command_steps.specs.Desks.{IsFilePart, IsPart, after_file, apart, delivered}

@@ -1,5 +1,5 @@
 -- Laws of programs that are loaded and streams that are played.
-use Rattle.std.proofs.Common.{◌≡◌, ℕ, inl, inr, true, false, Bool, List, Option, Some, None, Err, sym, ap, subst, ◌∙◌}
+use Rattle.std.proofs.Common.{◌≡◌, ℕ, inl, true, false, Bool, List, Option, Some, None, Err, sym, ap, subst}
 use Rattle.capture_desk.specs.Desks.{HasRisen, Inputs, Told, named, is_missing, first_rest, after_open}
 use Rattle.command_steps.specs.declared.answer.Answer.{Answer}
 use Rattle.command_steps.specs.declared.answer.Answer.TheVariants.{ReadFault, Malformed, NoMemory}
@@ -12,15 +12,6 @@ use Rattle.program_play.specs.Programs.{IsBadStream}
 -- the inputs stay through what only reads
 pub same_inputs : (a b : Told) → apart a ≡ apart b → a.inputs ≡ b.inputs
 same_inputs a b e = ap (λ (t : Told). t.inputs) e
-
--- what holds of bytes, holds where they are told
-pub OfInput-map : (name : List ℕ) (inputs : Option Inputs) (P Q : List ℕ → Type 0) → ((bytes : List ℕ) → P bytes → Q bytes) → OfInput name inputs P → OfInput name inputs Q
-OfInput-map name None P Q f h = tt
-OfInput-map name (Some inputs) P Q f h = of_file (named name inputs) h
-  where
-    of_file : (file : Option (List ℕ)) → OfFile file P → OfFile file Q
-    of_file None h = h
-    of_file (Some bytes) h = f bytes h
 
 -- an input that was opened is the rest that is read
 pub opened_input : (name : List ℕ) (old opened : Told) (P : List ℕ → Type 0) → is_missing name old.inputs ≡ false → opened ≡ after_open name old →

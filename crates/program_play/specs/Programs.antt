@@ -41,10 +41,10 @@ Misreads found NoMemory = ⊤
 Misreads found _ = ⊥
 
 -- why a program isn't taken
-abbrev pub Refuses : ProgramFile → Answer → Type 0
-Refuses file (Rejected at nth cause) = IsFirstBad file.program at nth cause
-Refuses file NoMemory = ⊤
-Refuses file _ = ⊥
+abbrev pub IsRefused : ProgramFile → Answer → Type 0
+IsRefused file (Rejected at nth cause) = IsFirstBad file.program at nth cause
+IsRefused file NoMemory = ⊤
+IsRefused file _ = ⊥
 
 -- an input isn't one of a program
 abbrev pub IsBadFile : List ℕ → Answer → Option Inputs → Type 0

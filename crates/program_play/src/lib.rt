@@ -7,4 +7,4 @@ mod play;
 mod programs;
 
 pub use files::{Played, play_file};
-pub use programs::{Loaded, accept, list_file};
+pub use programs::{Loaded, accept, list_file, verify_program};

@@ -4,13 +4,15 @@ ghost use Rattle.std.specs.Prelude.{◌≡◌, ◌<◌, IfErr, IfOk, Ok};
 ghost use Rattle.capture_desk.specs.Desks.{IsAllowed};
 ghost use Rattle.capture_file.specs.Programs.{program_of};
 ghost use Rattle.command_steps.specs.Desks.{CountsBy, OfInput, StopsAt, apart, seen_by};
-ghost use Rattle.program_play.specs.Programs.{Accepts, IsBadFile, IsBadProgram, IsListed, Misreads, Refuses};
+ghost use Rattle.machine_model.specs.Paths.{IsSound};
+ghost use Rattle.program_play.specs.Programs.{Accepts, IsBadFile, IsBadProgram, IsListed, IsRefused, Misreads};
+ghost use Rattle.risc_verify.specs.Verdicts.{Refuses};
 
 use capture_desk::Desk;
 use capture_file::{Input, ProgramError, ProgramFile, read_program};
 use command_steps::{Answer, read_whole};
 use risc_listing::list;
-use risc_verify::{Accepted, Steps, Why, verify};
+use risc_verify::{Accepted, Program, Steps, Why, verify};
 use std::alloc::{AllocError, Global};
 use std::marker::Brand;
 use std::sync::ledger::{Blank, Ledger};
@@ -67,22 +69,46 @@ pub fn list_file<D: Desk>(alloc: Global, name: &str, desk: &mut D) -> Result<Vec
     }
 }
 
-/// Judges a program. The verifier's steps are counted in a ledger of their own.
-fn judge<L: Ledger>(alloc: Global, file: ProgramFile, blank: Blank) -> Result<Loaded, Answer>
+/// Verifies a program. The verifier's steps are counted in the ledger of `blank`.
+fn verify_over<L: Ledger>(alloc: Global, program: Program, blank: Blank) -> Result<Accepted, Why>
     requires name { blank.name ≡ L.name }
     requires parts { blank.parts ≡ L.parts }
     requires some { 0 < blank.parts }
-    ensures accepts { IfOk result (λ loaded. Accepts (Ok file) loaded.accepted loaded.fill) }
-    ensures refuses { IfErr result (λ answer. Refuses file answer) }
+    ensures accepted { IfOk result (λ accepted. accepted ≡ program) }
+    ensures refused { IfErr result (λ why. Refuses program why) }
+    ensures sound { IfOk result IsSound }
 {
-    let ProgramFile { program, fill } = file;
     let mut steps = Steps::<L>::new(blank);
     match verify(alloc, program, &mut steps) {
+        Ok(accepted) => Ok(accepted),
+        Err(rejected) => Err(rejected.why),
+    }
+}
+
+/// Verifies a program. The verifier's steps are counted in a ledger of their own. Errors: `Bad` with the
+/// first place of the program's path that isn't fine, only where the program isn't sound; `Memory` for want
+/// of memory (what a fault is, and their order, is this project's own rule).
+pub fn verify_program(alloc: Global, program: Program) -> Result<Accepted, Why>
+    ensures accepted { IfOk result (λ accepted. accepted ≡ program) }
+    ensures refused { IfErr result (λ why. Refuses program why) }
+    ensures sound { IfOk result IsSound }
+{
+    match verify_over::<Brand>(alloc, program, Blank::new(1)) {
+        Ok(accepted) => Ok(accepted),
+        Err(why) => Err(why),
+    }
+}
+
+/// Judges the program of a program file.
+fn judge(alloc: Global, file: ProgramFile) -> Result<Loaded, Answer>
+    ensures accepts { IfOk result (λ loaded. Accepts (Ok file) loaded.accepted loaded.fill) }
+    ensures refuses { IfErr result (λ answer. IsRefused file answer) }
+{
+    let ProgramFile { program, fill } = file;
+    match verify_program(alloc, program) {
         Ok(accepted) => Ok(Loaded { accepted, fill }),
-        Err(rejected) => match rejected.why {
-            Why::Bad { at, nth, cause } => Err(Answer::Rejected { at, nth, cause }),
-            Why::Memory => Err(Answer::NoMemory),
-        },
+        Err(Why::Bad { at, nth, cause }) => Err(Answer::Rejected { at, nth, cause }),
+        Err(Why::Memory) => Err(Answer::NoMemory),
     }
 }
 
@@ -98,7 +124,7 @@ pub fn accept<D: Desk>(alloc: Global, name: &str, desk: &mut D) -> Result<Loaded
         Ok(file) => file,
         Err(answer) => return Err(answer),
     };
-    match judge::<Brand>(alloc, file, Blank::new(1)) {
+    match judge(alloc, file) {
         Ok(loaded) => Ok(loaded),
         Err(answer) => Err(answer),
     }

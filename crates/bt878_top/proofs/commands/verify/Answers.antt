@@ -6,7 +6,7 @@ use Rattle.command_steps.specs.Desks.{OfInput, seen_by}
 use Rattle.command_steps.specs.Texts.{accepted_text}
 use Rattle.command_steps.proofs.Parts.{text_part}
 use Rattle.program_play.specs.Programs.{Accepts, HoldsSound}
-use Rattle.program_play.proofs.Loading.{OfInput-map}
+use Rattle.command_steps.proofs.Inputs.{OfInput-map}
 use Rattle.std.proofs.Common.{Option}
 use Rattle.bt878_tasks.specs.Tasks.{Verifies}
 use Rattle.bt878_top.proofs.Composing.{task_done, task_part}

@@ -1,5 +1,4 @@
-use Rattle.std.proofs.Common.{List, ℕ}
-use Rattle.program_play.proofs.Loading.{OfInput-map}
+use Rattle.command_steps.proofs.Inputs.{OfInput-map}
 use Rattle.desc_input.specs.Descriptions.{Describes, GivesCompiled}
 use Rattle.bt878_top.proofs.descriptions.build_file.Goals as goal
 

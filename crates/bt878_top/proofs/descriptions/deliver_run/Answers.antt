@@ -1,6 +1,5 @@
-use Rattle.std.proofs.Common.{◌≡◌, [], ◌∷◌, ◌∙◌, List, ℕ, ap, subst, string_bytes}
+use Rattle.std.proofs.Common.{◌≡◌, [], ◌∷◌, subst, string_bytes}
 use Rattle.machine_model.specs.Paths.{RiscProgram}
-use Rattle.capture_desk.specs.Desks.{Told}
 use Rattle.capture_file.specs.Images.{image_of}
 use Rattle.capture_file.specs.Programs.{spelled}
 use Rattle.command_steps.specs.Desks.{IsFilePart, after_file}

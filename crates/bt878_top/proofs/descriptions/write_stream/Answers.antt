@@ -1,8 +1,8 @@
 use Rattle.field_stream.specs.Made.{made}
 use Rattle.command_steps.proofs.Parts.{finished_part}
 use Rattle.bt878_top.proofs.descriptions.write_stream.Goals as goal
-use Rattle.std.proofs.Common.{◌≡◌, ◌∙◌, ap}
-use Rattle.capture_desk.specs.Desks.{after_create, after_write}
+use Rattle.std.proofs.Common.{◌∙◌, ap}
+use Rattle.capture_desk.specs.Desks.{after_write}
 
 pub returns-in-Err-clause-left : goal.returns-in-Err-clause-left
 returns-in-Err-clause-left g c =

@@ -1,9 +1,9 @@
-use Rattle.std.proofs.Common.{◌≡◌, ◌∙◌, ap, sym, subst, List, ℕ}
+use Rattle.std.proofs.Common.{◌≡◌, List, ℕ}
 use Rattle.machine_model.specs.Paths.{RiscProgram}
 use Rattle.capture_desc.specs.declared.desc.Desc.{Desc}
 use Rattle.picture_model.specs.Programs.{compiled}
-use Rattle.command_steps.specs.Desks.{OfInput, seen_by}
-use Rattle.program_play.proofs.Loading.{OfInput-map}
+use Rattle.command_steps.specs.Desks.{seen_by}
+use Rattle.command_steps.proofs.Inputs.{OfInput-map}
 use Rattle.desc_input.specs.Descriptions.{Describes, GivesCompiled, HoldsValid, IsBadDesc}
 use Rattle.bt878_top.proofs.Running.{ran_over, stops_at_stream}
 use Rattle.bt878_top.proofs.runs.run_description.Goals as goal

@@ -1,14 +1,13 @@
 -- What is read to one byte beyond the longest description tells what the whole file is.
-use Rattle.std.proofs.Common.{◌≡◌, ◌≤◌, ◌<◌, ◌+◌, ◌∙◌, ℕ, List, length, take, true, Ok, Err, ap, sym, subst, arith, cond, length-take}
-use Rattle.std.proofs.lemmas.Bool.{lt-ltb, ltb-false}
+use Rattle.std.proofs.Common.{◌≡◌, ◌≤◌, ◌<◌, ◌+◌, ◌∙◌, ℕ, List, length, take, Err, ap, subst, arith, cond, length-take}
+use Rattle.std.proofs.lemmas.Bool.{lt-ltb}
 use Rattle.std.proofs.lemmas.List.{take_all}
-use Rattle.capture_desc.specs.declared.desc.Desc.{Desc}
 use Rattle.capture_desc.specs.Description.{described}
 use Rattle.capture_file.specs.declared.Input.TheVariants.{Desc as DescFile}
 use Rattle.command_steps.specs.declared.answer.Answer.{Answer}
 use Rattle.command_steps.specs.declared.answer.Answer.TheVariants.{BadDesc, BadGeometry, Malformed, NoMemory}
 use Rattle.command_steps.specs.Desks.{OfInput, Seen, StopsAt, seen_by}
-use Rattle.program_play.proofs.Loading.{OfInput-map}
+use Rattle.command_steps.proofs.Inputs.{OfInput-map}
 use Rattle.desc_input.specs.Descriptions.{Describes, IsBadDesc, IsRefused, description_of, judged_reading, longest_description, too_long}
 use Rattle.desc_input.proofs.input.check_file.Goals as goal
 

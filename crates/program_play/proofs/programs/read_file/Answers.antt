@@ -6,7 +6,7 @@ use Rattle.command_steps.specs.declared.answer.Answer.{Answer}
 use Rattle.command_steps.specs.declared.answer.Answer.TheVariants.{Malformed, NoMemory, ReadFault}
 use Rattle.command_steps.specs.Desks.{OfInput, Seen, StopsAt, seen_by}
 use Rattle.program_play.specs.Programs.{IsBadFile, Misreads, longest_program}
-use Rattle.program_play.proofs.Loading.{OfInput-map}
+use Rattle.command_steps.proofs.Inputs.{OfInput-map}
 use Rattle.program_play.proofs.Whole.{read_is_whole}
 use Rattle.program_play.proofs.programs.read_file.Goals as goal
 
