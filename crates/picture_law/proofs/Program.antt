@@ -23,7 +23,7 @@ use Rattle.picture_model.proofs.Circle.{a_word, split_length, words_split}
 use Rattle.picture_model.proofs.Each.{Each, each_append}
 use Rattle.picture_model.proofs.Fine.{IsGoodInstr}
 use Rattle.picture_model.proofs.Right.{IsRight}
-use Rattle.picture_model.proofs.Sections.{good_body, section_stands}
+use Rattle.picture_model.proofs.Sections.{good_body, section_stands, signal_spelled}
 use Rattle.field_law.specs.Sections.{IsPlain, HoldsFrom, Holds, closing_at, words_in}
 use Rattle.picture_law.specs.Arrivals.{after_opening}
 use Rattle.picture_law.specs.Sections.{section_of}
@@ -98,10 +98,6 @@ module _ (program : RiscProgram) (ctl : Ctl) (target : ℕ) (spelled : IsInstr (
 
 -- ---- the closing
 
-closing_spelled : (field : Parity) (target : ℕ) → IsInstr (closing field target)
-closing_spelled Top target = (refl, tt)
-closing_spelled Bottom target = (refl, tt)
-
 -- it leads to the beginning of a section
 next_field : (which : Fields) (d : Desc) (from : ℕ) (field : Parity) → describes which field ≡ true →
     (next : Parity) × (describes which next ≡ true) × (next_by which d from from field ≡ begin_by which d from next)
@@ -142,7 +138,7 @@ section_holds d field right is =
     let end = encoded (closing field target) in
     let good = good_body d right (compiled d) refl field is in
     let at = stands.at in
-    holds_from (compiled d) (signal field) target (closing_spelled field target) (next_is_word d field is) stands.after (body d field) (stands.before ++ start) (after_opening d field)
+    holds_from (compiled d) (signal field) target (signal_spelled field target) (next_is_word d field is) stands.after (body d field) (stands.before ++ start) (after_opening d field)
     (stands.split
     ∙ ap (λ (words : List ℕ). stands.before ++ ((start ++ words) ++ stands.after)) (words_split (body d field) (closing field target) [])
     ∙ regrouped stands.before start (words_of (body d field)) end stands.after)

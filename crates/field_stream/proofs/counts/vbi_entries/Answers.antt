@@ -3,12 +3,12 @@ use Rattle.std.proofs.lemmas.Nat.{mul-le}
 use Rattle.capture_desc.specs.declared.desc.Desc.{Desc}
 use Rattle.planar_plan.specs.Frames.{IsFramed}
 use Rattle.field_stream.specs.Pushes.{entries_in}
-use Rattle.field_stream.proofs.Framed.{vbi_range}
+use Rattle.field_stream.proofs.Framed.{vbi_lines_range}
 use Rattle.field_stream.proofs.Counting.{count_vbi}
 use Rattle.field_stream.proofs.counts.vbi_entries.Goals as goal
 
 most : (lines : ℕ) (d : Desc) (each : ℕ) → IsFramed d → lines ≡ d.vbi_lines → each ≤ 3072 → lines * each ≤ 98304
-most lines d each is e few = mul-le lines each 32 3072 (omega (arith, e, (vbi_range d is).0)) few
+most lines d each is e few = mul-le lines each 32 3072 (omega (arith, e, (vbi_lines_range d is).0)) few
 
 pub overflow_mul-result : goal.overflow_mul-result
 overflow_mul-result c =
