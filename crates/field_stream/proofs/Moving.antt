@@ -93,7 +93,7 @@ still_open whole held old told m h = subst (λ (t : Told). IsTrue t.output_open)
 
 -- ---- the same pushes again and again
 
-repeated_split : (i k : ℕ) (pushes : List Push) → repeated (i + k) pushes ≡ repeated i pushes ++ repeated k pushes
+pub repeated_split : (i k : ℕ) (pushes : List Push) → repeated (i + k) pushes ≡ repeated i pushes ++ repeated k pushes
 repeated_split zero k pushes = ap (λ (n : ℕ). repeated n pushes) (zero-add k)
 repeated_split (suc i) k pushes =
     ap (λ (n : ℕ). repeated n pushes) (suc-add i k)

@@ -1,7 +1,7 @@
 -- What is pushed for a field brings the picture that is drawn.
 use Rattle.std.proofs.Common.{◌≡◌, ℕ, zero, suc, ◌+◌, ◌*◌, ◌<◌, ◌≤◌, false, List, [], ◌∷◌, ◌++◌, length, drop, Some, refl, sym, ap, ◌∙◌, subst, arith}
 use Rattle.std.specs.List.{concat}
-use Rattle.std.proofs.lemmas.List.{append_assoc, append-nil, nil_from_length}
+use Rattle.std.proofs.lemmas.List.{append-nil, nil_from_length}
 use Rattle.std.proofs.lemmas.List.Elements.{All-nil}
 use Rattle.risc_word.specs.declared.Code.{Code}
 use Rattle.risc_word.specs.declared.Code.TheVariants.{Vre, Vro, Fm1, Fm3}
@@ -21,20 +21,13 @@ use Rattle.field_law.specs.Fields.{Token, Mark, Brings}
 use Rattle.picture_law.specs.Pictures.{AreLines, AreRows, HoldBytes, IsField, IsPicture, Picture, field_tokens, lines_of, lines_on, picture_tokens, plane_of, rows_on, vbi_on, vbi_tokens}
 use Rattle.picture_law.specs.Arrivals.{coming}
 use Rattle.field_stream.specs.Pushes.{Push, packed_line, picture_line, picture_pushes, repeated, vbi_pushes}
+use Rattle.field_stream.proofs.Moving.{repeated_split}
 use Rattle.generated_law.specs.Drawn.{BringsPicture, DrawsPicture, bytes_before, cut, drawn_bytes, drawn_entries, drawn_picture, drawn_steps, number_behind, vbi_bytes_on}
 use Rattle.generated_law.specs.Drawn as drawn
 use Rattle.generated_law.proofs.Statuses.{coming-drawn, packed_nothing, packed_statuses}
 use Rattle.generated_law.proofs.Whole.{AreBytes}
 use Rattle.generated_law.proofs.Repeated.{AreDrawn, brings-append, lines_drawn, nothing_drawn, rows_drawn}
 use Rattle.generated_law.proofs.Cutting.{bytes_in, bytes_in-append, bytes_in-lines, bytes_in-vbi, carried-brings, cut-concat, drop_both, length-concat}
-
-pub repeated-add : (a b : ℕ) (pushes : List Push) → repeated (a + b) pushes ≡ repeated a pushes ++ repeated b pushes
-repeated-add zero b pushes = let none : 0 + b ≡ b = omega arith in ap (λ (n : ℕ). repeated n pushes) none
-repeated-add (suc a) b pushes =
-    let more : suc a + b ≡ suc (a + b) = omega arith in
-    ap (λ (n : ℕ). repeated n pushes) more
-    ∙ ap (λ (rest : List Push). pushes ++ rest) (repeated-add a b pushes)
-    ∙ sym (append_assoc pushes (repeated a pushes) (repeated b pushes))
 
 code_seen : (code : Code) → code_of_kind (kind_of (code_number code)) ≡ Some code
 code_seen Vre = refl
@@ -114,7 +107,7 @@ module _ (d : Desc) (field : Parity) (number : ℕ) (right : IsRight d) where
   lines_bring : (q : Queue) → Brings (lines_of (skipped_lines q) ++ lines_of (rows_on picture q)) (coming (drawn_steps behind_vbi (repeated (d.skip_lines + field_height d field) (picture_line d))) q)
   lines_bring q =
       let line = picture_line d in
-      let both = ap (λ (pushes : List Push). coming (drawn_steps behind_vbi pushes) q) (repeated-add d.skip_lines (field_height d field) line)
+      let both = ap (λ (pushes : List Push). coming (drawn_steps behind_vbi pushes) q) (repeated_split d.skip_lines (field_height d field) line)
       ∙ coming-drawn behind_vbi (repeated d.skip_lines line) (repeated (field_height d field) line) q in
       subst (Brings (lines_of (skipped_lines q) ++ lines_of (rows_on picture q))) (sym both)
       (brings-append (lines_of (skipped_lines q)) (lines_of (rows_on picture q)) (coming (drawn_steps behind_vbi (repeated d.skip_lines line)) q)

@@ -27,7 +27,8 @@ use Rattle.picture_law.proofs.Places.{run_shows_picture}
 use Rattle.generated_law.specs.Drawn.{drawn_entries, drawn_step, drawn_steps, number_behind}
 use Rattle.generated_law.specs.Streams.{Awaits, FieldsArrive, FieldsAreSignalled, FieldsStand, HasField, PicturesAreShown, fields_before, place_behind, place_of, pushes_before, stream_picture, stream_steps}
 use Rattle.generated_law.proofs.Statuses.{coming-append, drawn_steps-append}
-use Rattle.generated_law.proofs.Fields.{brings_picture, draws_picture, repeated-add}
+use Rattle.field_stream.proofs.Moving.{repeated_split}
+use Rattle.generated_law.proofs.Fields.{brings_picture, draws_picture}
 use Rattle.generated_law.proofs.Steps.{steps_made, stream_data}
 
 -- ---- where a field stands in a stream
@@ -61,7 +62,7 @@ stands d frames frame field described within =
     record {
       rest = later ++ more;
       same = ap (λ (n : ℕ). repeated n all) parts
-          ∙ repeated-add frame (suc (frames - (frame + 1))) all
+          ∙ repeated_split frame (suc (frames - (frame + 1))) all
           ∙ ap (λ (pushes : List Push). repeated frame all ++ (pushes ++ more)) split
           ∙ ap (λ (pushes : List Push). repeated frame all ++ pushes) (append_assoc first (each field ++ later) more ∙ ap (λ (pushes : List Push). first ++ pushes) (append_assoc (each field) later more))
           ∙ sym (append_assoc (repeated frame all) first (each field ++ (later ++ more)));

@@ -84,7 +84,7 @@ fn space_and_address(n: u32) -> [u8; 9]
     ]
 }
 
-/// The address at which a line stands, in eight hexadecimal digits, and a space.
+// The address at which a line stands, in eight hexadecimal digits, and a space.
 #[derive(Drop)]
 struct HeadText(u32);
 
