@@ -4,7 +4,7 @@ use Rattle.std.specs.Prelude.{◌==◌, if◌then◌else◌, codes, slice_index_
 use Rattle.std.specs.Fmt.{digit_glyph, digits, digits_onto, padded_integral, format_spec, char_count}
 use Rattle.std.proofs.lemmas.List.{append-nil}
 use Rattle.std.proofs.lemmas.Bool.{eqb-true, eq-eqb, agree_below_at}
-use Rattle.std.proofs.lemmas.Fmt.{hex_one_digit}
+use Rattle.std.proofs.lemmas.Fmt.{hex_one_digit, hex_two_digits}
 use Rattle.std.proofs.lemmas.Str.{IsUtf8-from_ascii}
 use Rattle.std.proofs.lemmas.Str.Ascii.{IsAscii-nil, IsAscii-cons, IsAscii-push}
 use Rattle.std.proofs.lemmas.Bool.Decides.{nat_tests}
@@ -97,9 +97,13 @@ pub space_and_pairs : (n : ℕ) → n < 2 ^ 32 → at_text n
     ≡ 32 ∷ glyph (n / 2 ^ 24 / 16) ∷ glyph (n / 2 ^ 24) ∷ glyph (n / 2 ^ 16 / 16) ∷ glyph (n / 2 ^ 16) ∷ glyph (n / 2 ^ 8 / 16) ∷ glyph (n / 2 ^ 8) ∷ glyph (n / 16) ∷ glyph n ∷ []
 space_and_pairs n small = ap (λ (list : List ℕ). 32 ∷ list) (address_pairs n small)
 
--- a number of one digit
-pub one_digit : (n : ℕ) → n < 16 → digits 16 false n ≡ digit_glyph false n ∷ []
-one_digit n small = hex_one_digit false n small
+-- a number of one digit, and of two
+pub one_digit : (n : ℕ) → n < 16 → digits 16 false n ≡ glyph n ∷ []
+one_digit n small = hex_one_digit false n small ∙ ap (λ (m : ℕ). digit_glyph false m ∷ []) (let e : n ≡ n % 16 = omega arith in e)
+
+pub two_digits : (n : ℕ) → 16 ≤ n → n < 256 → digits 16 false n ≡ glyph (n / 16) ∷ glyph n ∷ []
+two_digits n low high =
+    hex_two_digits false n low high ∙ ap (λ (m : ℕ). digit_glyph false m ∷ glyph n ∷ []) (let e : n / 16 ≡ n / 16 % 16 = omega arith in e)
 
 -- the table of pairs of digits
 abbrev pairs : List ℕ
@@ -136,6 +140,14 @@ places n = n / 2 ^ 28 ∷ n / 2 ^ 24 ∷ n / 2 ^ 20 ∷ n / 2 ^ 16 ∷ n / 2 ^ 1
 address_text-IsAscii : (n : ℕ) → n < 2 ^ 32 → IsAscii (address_text n)
 unfolding places
 address_text-IsAscii n small = subst IsAscii (sym (address_digits n small)) (glyphs-ascii (places n))
+
+pub one_digit-IsUtf8 : (n : ℕ) → n < 16 → IsUtf8 (digits 16 false n)
+one_digit-IsUtf8 n small =
+    subst IsUtf8 (sym (one_digit n small)) (IsUtf8-from_ascii (glyph n ∷ []) (glyphs-ascii (n ∷ [])))
+
+pub two_digits-IsUtf8 : (n : ℕ) → 16 ≤ n → n < 256 → IsUtf8 (digits 16 false n)
+two_digits-IsUtf8 n low high =
+    subst IsUtf8 (sym (two_digits n low high)) (IsUtf8-from_ascii (glyph (n / 16) ∷ glyph n ∷ []) (glyphs-ascii (n / 16 ∷ n ∷ [])))
 
 pub address_and_space-IsUtf8 : (n : ℕ) → n < 2 ^ 32 → IsUtf8 (address_text n ++ codes " ")
 address_and_space-IsUtf8 n small =

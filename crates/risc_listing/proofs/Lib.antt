@@ -3,4 +3,3 @@ pub mod Decimal
 pub mod Hexadecimal
 pub mod OneSpelling
 pub mod Passing
-pub mod Rooms

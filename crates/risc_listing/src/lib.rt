@@ -2,25 +2,33 @@
 //! the byte that fills it at first. The form of the lines is this project's own rule.
 #![tactic(auto)]
 
-ghost use Rattle.risc_listing.specs.Lines.{instr_line};
-ghost use Rattle.risc_listing.specs.Listings.{chunk_line, line_of, listing, spelled, word_lines, words_of};
+ghost use Rattle.arrayvec.specs.ArrayString.{array_string_len};
+ghost use Rattle.risc_listing.specs.Listings.{base_line, chunk_line, fill_line, line_of, listing, spelled, word_lines, words_of};
 ghost use Rattle.std.specs.List.{flat_map};
-ghost use Rattle.std.specs.Prelude.{◌≡◌, ◌+◌, ◌*◌, ◌^◌, ◌<◌, ◌≤◌, ◌++◌, length, slice_index, string_bytes, IfOk, IfSome};
+ghost use Rattle.std.specs.Prelude.{◌≡◌, ◌+◌, ◌*◌, ◌<◌, ◌≤◌, ◌++◌, drop, length, slice_index, string_bytes, IfOk, IfSome};
 
+mod digits;
 mod lines;
-mod room;
 mod unnamed;
 
-use lines::{InstrLine, WordLine};
+pub use lines::InstrLine;
+
+use arrayvec::ArrayString;
+use lines::{LONGEST_LINE, push_at, push_instr_line, push_word_line};
 use page_table::PageSet;
 use risc_verify::Program;
 use risc_word::{Instr, decode};
-use room::LineRoom;
 use std::alloc::{AllocError, Global};
 use std::fmt::Write;
 use unnamed::is_plain;
 
 const PAGE: u32 = 4096;
+
+/// How many bytes of lines are made at once, at most.
+pub const ROOM: usize = 65_536;
+
+/// Lines that are made at once.
+pub type Lines = ArrayString<ROOM>;
 
 // The instruction that the words begin with and its length, where they are exactly its one spelling.
 #[inline(always)]
@@ -38,57 +46,55 @@ fn spelled(words: &[u32]) -> Option<(Instr, usize)>
     }
 }
 
-// Appends a line that is longer than a `LineRoom`, piece by piece.
-#[cold]
-#[inline(never)]
-fn put_long_instr(text: &mut String, at: u32, instr: &Instr) -> Result<(), AllocError>
-    ensures { IfOk result (λ _. string_bytes text.new ≡ string_bytes text.old ++ instr_line at instr.now) }
-{
-    text.write(InstrLine { at, instr })
-}
-
-// Appends the line of an instruction, in one piece where it has room.
-#[inline(always)]
-fn put_instr(text: &mut String, at: u32, instr: &Instr) -> Result<(), AllocError>
-    ensures { IfOk result (λ _. string_bytes text.new ≡ string_bytes text.old ++ instr_line at instr.now) }
-{
-    let mut line = LineRoom::new();
-    if line.write(InstrLine { at, instr }).is_err() {
-        return put_long_instr(text, at, instr);
-    }
-    text.push_str(line.as_str())
-}
-
 // Appends the line of the instruction or the word that words begin with, and answers how many words
 // the line stands for.
-fn put_line(text: &mut String, at: u32, words: &[u32]) -> Result<usize, AllocError>
-    requires { 1 ≤ length words.now }
-    ensures text { IfOk result (λ _. string_bytes text.new ≡ string_bytes text.old ++ line_of at (slice_index words.now 0) (spelled words.now)) }
-    ensures number { IfOk result (λ number. number ≡ words_of (spelled words.now)) }
-    ensures within { IfOk result (λ number. (1 ≤ number) × (number ≤ length words.now)) }
+#[inline(always)]
+fn push_line<const CAP: usize>(text: &mut ArrayString<CAP>, at: u32, words: &[u32]) -> usize
+    requires some { 1 ≤ length words.now }
+    requires room { array_string_len text.old + 98 ≤ CAP }
+    ensures text { text.new.bytes ≡ text.old.bytes ++ line_of at (slice_index words.now 0) (spelled words.now) }
+    ensures number { result ≡ words_of (spelled words.now) }
+    ensures within { (1 ≤ result) × (result ≤ length words.now) }
+    ensures long { array_string_len text.new ≤ array_string_len text.old + 98 }
 {
     match spelled(words) {
         Some((instr, number)) => {
-            put_instr(text, at, &instr)?;
-            Ok(number)
+            push_instr_line(text, at, &instr);
+            number
         }
         None => {
-            text.write(WordLine { at, word: words[0] })?;
-            Ok(1)
+            push_word_line(text, at, words[0]);
+            1
         }
     }
 }
 
-// Appends the lines of words that stand from `base` on.
-fn put_words(text: &mut String, base: u32, words: &[u32]) -> Result<(), AllocError>
-    requires { base + 4 * length words.now ≤ 2 ^ 32 }
-    ensures { IfOk result (λ _. string_bytes text.new ≡ string_bytes text.old ++ word_lines base 0 words.now) }
+/// Appends the lines of a program's words from one on, counted from 0, as many as surely have room, and
+/// answers the number of the first word that has no line yet. Where another line has room and there is
+/// another word, it appends a line at least. It takes no memory.
+pub fn push_words(text: &mut Lines, program: &Program, from: usize) -> usize
+    requires { from ≤ length program.now.words }
+    ensures lines { text.new.bytes ++ word_lines (program.now.base + 4 * result) 0 (drop result program.now.words) ≡ text.old.bytes ++ word_lines (program.now.base + 4 * from) 0 (drop from program.now.words) }
+    ensures within { (from ≤ result) × (result ≤ length program.now.words) }
+    ensures more { array_string_len text.old + 98 ≤ 65536 → from < length program.now.words → from < result }
 {
-    let mut i = 0;
-    while i < words.len() {
-        i += put_line(text, base + 4 * i as u32, &words[i..])?;
+    let base = program.base();
+    let words = program.words();
+    let mut next = from;
+    while next < words.len() && text.len() <= ROOM - LONGEST_LINE {
+        next += push_line(text, base + 4 * next as u32, &words[next..]);
     }
-    Ok(())
+    next
+}
+
+/// Appends the first line of a listing, which tells the base.
+pub fn push_base(text: &mut Lines, base: u32)
+    requires { array_string_len text.old + 98 ≤ 65536 }
+    ensures { text.new.bytes ≡ text.old.bytes ++ base_line base }
+{
+    text.push_str("base");
+    push_at(text, base);
+    text.push_str("\n");
 }
 
 fn put_chunk(text: &mut String, at: u32, len: u32) -> Result<(), AllocError>
@@ -110,6 +116,31 @@ fn put_chunks(text: &mut String, chunks: &PageSet) -> Result<(), AllocError>
     Ok(())
 }
 
+/// The last lines of a listing: the granted chunks in rising order, and the byte that fills memory at
+/// first. The error is want of memory.
+pub fn memory_lines(alloc: Global, chunks: &PageSet, fill: u8) -> Result<Vec<u8>, AllocError>
+    ensures { IfOk result (λ text. text.items ≡ flat_map chunk_line chunks.now ++ fill_line fill) }
+{
+    let mut text = String::new(alloc);
+    put_chunks(&mut text, chunks)?;
+    writeln!(text, "fill {fill:02x}")?;
+    Ok(text.into_bytes())
+}
+
+// Appends the lines of a program's words.
+fn put_words(text: &mut Vec<u8>, program: &Program) -> Result<(), AllocError>
+    ensures { IfOk result (λ _. text.new.items ≡ text.old.items ++ word_lines program.now.base 0 program.now.words) }
+{
+    let mut lines = Lines::new();
+    let mut next = 0;
+    while next < program.words().len() {
+        lines.clear();
+        next = push_words(&mut lines, program, next);
+        text.extend_from_slice(lines.as_str().as_bytes())?;
+    }
+    Ok(())
+}
+
 /// The listing of a program whose memory is filled with `fill` at first, as the bytes of its lines: the
 /// base, the instructions, the granted chunks in rising order, the fill. A word with a bit that no field
 /// of its instruction names has a line `word`, and so has a word where no instruction stands. The error
@@ -117,13 +148,12 @@ fn put_chunks(text: &mut String, chunks: &PageSet) -> Result<(), AllocError>
 pub fn list(alloc: Global, program: &Program, fill: u8) -> Result<Vec<u8>, AllocError>
     ensures { IfOk result (λ text. text.items ≡ listing program.now fill) }
 {
-    let mut text = String::new(alloc);
-    let base = program.base();
-    writeln!(text, "base {base:08x}")?;
-    put_words(&mut text, base, program.words())?;
-    put_chunks(&mut text, program.grants())?;
-    writeln!(text, "fill {fill:02x}")?;
-    Ok(text.into_bytes())
+    let mut lines = Lines::new();
+    push_base(&mut lines, program.base());
+    let mut text = Vec::from_slice(alloc, lines.as_str().as_bytes())?;
+    put_words(&mut text, program)?;
+    text.extend_from_slice(&memory_lines(alloc, program.grants(), fill)?)?;
+    Ok(text)
 }
 
 #[cfg(test)]

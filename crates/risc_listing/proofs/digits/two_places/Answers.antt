@@ -1,11 +1,10 @@
 use Rattle.std.proofs.Common.{arith, sym, subst}
 use Rattle.std.specs.Str.{IsUtf8}
-use Rattle.std.proofs.lemmas.Fmt.{decimal_digit}
-use Rattle.risc_listing.proofs.Decimal.{count_text-IsUtf8}
-use Rattle.risc_listing.proofs.lines.one_place.Goals as goal
+use Rattle.risc_listing.proofs.Decimal.{two_digits, count_text-IsUtf8}
+use Rattle.risc_listing.proofs.digits.two_places.Goals as goal
 
 pub returns-clause-digits : goal.returns-clause-digits
-returns-clause-digits c = cc (decimal_digit c.args.n (omega arith))
+returns-clause-digits c = cc (two_digits c.args.n (omega arith) (omega arith))
 
 pub returns-clause-text : goal.returns-clause-text
 returns-clause-text c = subst IsUtf8 (sym (returns-clause-digits c)) (count_text-IsUtf8 c.args.n (omega arith))

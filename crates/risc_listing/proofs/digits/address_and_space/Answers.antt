@@ -1,7 +1,7 @@
 use Rattle.std.proofs.Common.{arith, sym, subst}
 use Rattle.std.specs.Str.{IsUtf8}
 use Rattle.risc_listing.proofs.Hexadecimal.{pairs_and_space, address_and_space-IsUtf8}
-use Rattle.risc_listing.proofs.lines.address_and_space.Goals as goal
+use Rattle.risc_listing.proofs.digits.address_and_space.Goals as goal
 
 pub returns-clause-digits : goal.returns-clause-digits
 returns-clause-digits c = cc (pairs_and_space c.args.n (omega arith))

@@ -1,7 +1,7 @@
 use Rattle.std.proofs.Common.{arith, sym, subst}
 use Rattle.std.specs.Str.{IsUtf8}
 use Rattle.risc_listing.proofs.Hexadecimal.{space_and_pairs, space_and_address-IsUtf8}
-use Rattle.risc_listing.proofs.lines.space_and_address.Goals as goal
+use Rattle.risc_listing.proofs.digits.space_and_address.Goals as goal
 
 pub returns-clause-digits : goal.returns-clause-digits
 returns-clause-digits c = cc (space_and_pairs c.args.n (omega arith))

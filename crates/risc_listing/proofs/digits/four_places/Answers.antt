@@ -1,7 +1,7 @@
 use Rattle.std.proofs.Common.{arith, sym, subst}
 use Rattle.std.specs.Str.{IsUtf8}
 use Rattle.risc_listing.proofs.Decimal.{four_digits, count_text-IsUtf8}
-use Rattle.risc_listing.proofs.lines.four_places.Goals as goal
+use Rattle.risc_listing.proofs.digits.four_places.Goals as goal
 
 pub returns-clause-digits : goal.returns-clause-digits
 returns-clause-digits c = cc (four_digits c.args.n (omega arith) (omega arith))
