@@ -10,7 +10,7 @@ use crate::runs::run_program;
 use capture_desk::{Desk, Failed};
 use command_steps::{ACCEPTED, Answer, refuse, say_all, write_image_file};
 use page_ram::Ram;
-use program_play::{accept, list_file};
+use program_play::{accept, list_file, say_listing};
 use std::alloc::Global;
 
 /// Writes the image of a memory and then says a text.
@@ -34,11 +34,11 @@ pub fn list<D: Desk>(alloc: Global, program: &str, desk: &mut D) -> Answer
     requires { IsAllowed program.now (D.told desk.old).may_open }
     ensures { Ends (Lists program.now) result (seen_by D.told D.read_faults D.write_faults desk.old) (seen_by D.told D.read_faults D.write_faults desk.new) }
 {
-    let text = match list_file(alloc, program, desk) {
-        Ok(text) => text,
+    let listed = match list_file(alloc, program, desk) {
+        Ok(listed) => listed,
         Err(answer) => return refuse(alloc, answer, desk),
     };
-    match say_all(&text, desk) {
+    match say_listing(&listed, desk) {
         Ok(()) => Answer::Done,
         Err(_) => Answer::WriteFault,
     }

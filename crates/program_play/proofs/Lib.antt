@@ -3,3 +3,4 @@ pub mod Loading
 pub mod Fitting
 pub mod Lengths
 pub mod Whole
+pub mod Saying

@@ -1,5 +1,5 @@
 -- A program file that is read and judged, and the run of its program over a stream file.
-use Rattle.std.specs.Prelude.{◌≡◌, ℕ, ⊤, List, Option, Result, Ok, Err, false}
+use Rattle.std.specs.Prelude.{◌≡◌, ℕ, ⊤, List, ◌++◌, Option, Result, Ok, Err, false}
 use Rattle.capture_desk.specs.Desks.{Inputs}
 use Rattle.machine_model.specs.declared.Cause.{Cause}
 use Rattle.machine_model.specs.Paths.{RiscProgram, IsSound, IsFirstBad}
@@ -11,7 +11,7 @@ use Rattle.capture_file.specs.declared.program.ProgramFile.{ProgramFile}
 use Rattle.capture_file.specs.declared.Step.{Step}
 use Rattle.capture_file.specs.Programs.{program_of}
 use Rattle.capture_file.specs.Streams.{steps_of, steps_run}
-use Rattle.risc_listing.specs.Listings.{listing}
+use Rattle.risc_listing.specs.Listings.{base_line, listing, word_lines}
 use Rattle.command_steps.specs.declared.answer.Answer.{Answer}
 use Rattle.command_steps.specs.declared.answer.Answer.TheVariants.{Malformed, Rejected, NoMemory}
 use Rattle.command_steps.specs.Desks.{OfInput}
@@ -66,6 +66,10 @@ HoldsSound bytes = (program : RiscProgram) × (fill : ℕ) × Accepts (program_o
 -- a text is the listing of a file's program
 abbrev pub IsListed : List ℕ → List ℕ → Type 0
 IsListed bytes text = (file : ProgramFile) × (program_of bytes ≡ Ok file) × (text ≡ listing file.program file.fill)
+
+-- the listing of a program, by its last lines
+abbrev pub listing_with : RiscProgram → List ℕ → List ℕ
+listing_with program memory = base_line program.base ++ (word_lines program.base 0 program.words ++ memory)
 
 -- ---- stream files
 

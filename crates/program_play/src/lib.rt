@@ -3,8 +3,10 @@
 #![tactic(auto)]
 
 mod files;
+mod listings;
 mod play;
 mod programs;
 
 pub use files::{Played, play_file};
-pub use programs::{Loaded, accept, list_file, verify_program};
+pub use listings::{Listed, list_file, say_listing};
+pub use programs::{Loaded, accept, verify_program};

@@ -5,13 +5,12 @@ ghost use Rattle.capture_desk.specs.Desks.{IsAllowed};
 ghost use Rattle.capture_file.specs.Programs.{program_of};
 ghost use Rattle.command_steps.specs.Desks.{CountsBy, OfInput, StopsAt, apart, seen_by};
 ghost use Rattle.machine_model.specs.Paths.{IsSound};
-ghost use Rattle.program_play.specs.Programs.{Accepts, IsBadFile, IsBadProgram, IsListed, IsRefused, Misreads};
+ghost use Rattle.program_play.specs.Programs.{Accepts, IsBadFile, IsBadProgram, IsRefused, Misreads};
 ghost use Rattle.risc_verify.specs.Verdicts.{Refuses};
 
 use capture_desk::Desk;
 use capture_file::{Input, ProgramError, ProgramFile, read_program};
 use command_steps::{Answer, read_whole};
-use risc_listing::list;
 use risc_verify::{Accepted, Program, Steps, Why, verify};
 use std::alloc::{AllocError, Global};
 use std::marker::Brand;
@@ -39,8 +38,8 @@ fn parse(alloc: Global, bytes: &[u8]) -> Result<ProgramFile, Answer>
     }
 }
 
-/// Reads a program file.
-fn read_file<D: Desk>(alloc: Global, name: &str, desk: &mut D) -> Result<ProgramFile, Answer>
+/// Reads a program file, whose program need not be sound.
+pub fn read_file<D: Desk>(alloc: Global, name: &str, desk: &mut D) -> Result<ProgramFile, Answer>
     requires { IsAllowed name.now (D.told desk.old).may_open }
     ensures reads { IfOk result (λ file. OfInput name.now (D.told desk.old).inputs (λ bytes. program_of bytes ≡ Ok file)) }
     ensures stops { IfErr result (λ answer. StopsAt IsBadFile name.now answer (seen_by D.told D.read_faults D.write_faults desk.old) (seen_by D.told D.read_faults D.write_faults desk.new)) }
@@ -51,21 +50,6 @@ fn read_file<D: Desk>(alloc: Global, name: &str, desk: &mut D) -> Result<Program
     match parse(alloc, &bytes) {
         Ok(file) => Ok(file),
         Err(answer) => Err(answer),
-    }
-}
-
-/// Reads a program file, whose program need not be sound, and makes its listing.
-pub fn list_file<D: Desk>(alloc: Global, name: &str, desk: &mut D) -> Result<Vec<u8>, Answer>
-    requires { IsAllowed name.now (D.told desk.old).may_open }
-    ensures lists { IfOk result (λ text. OfInput name.now (D.told desk.old).inputs (λ bytes. IsListed bytes text.items)) }
-    ensures stops { IfErr result (λ answer. StopsAt IsBadFile name.now answer (seen_by D.told D.read_faults D.write_faults desk.old) (seen_by D.told D.read_faults D.write_faults desk.new)) }
-    ensures told { apart (D.told desk.new) ≡ apart (D.told desk.old) }
-    ensures counts { CountsBy result (seen_by D.told D.read_faults D.write_faults desk.old) (seen_by D.told D.read_faults D.write_faults desk.new) }
-{
-    let ProgramFile { program, fill } = read_file(alloc, name, desk)?;
-    match list(alloc, &program, fill) {
-        Ok(text) => Ok(text),
-        Err(_) => Err(Answer::NoMemory),
     }
 }
 

@@ -11,9 +11,8 @@ mod digits;
 mod lines;
 mod unnamed;
 
-pub use lines::InstrLine;
-
 use arrayvec::ArrayString;
+pub use lines::InstrLine;
 use lines::{LONGEST_LINE, push_at, push_instr_line, push_word_line};
 use page_table::PageSet;
 use risc_verify::Program;

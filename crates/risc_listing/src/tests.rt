@@ -1,14 +1,16 @@
 ghost use Rattle.std.specs.Prelude.{◌≡◌, ◌<◌};
 
-use super::list;
+use super::{InstrLine, list};
 use page_table::PageSet;
 use risc_verify::Program;
+use risc_word::{Ctl, Instr};
 use std::alloc::Global;
+use std::fmt::Write;
 use std::test::Fail;
 
 // The listing of words from 0x1000 on that may write one chunk.
 fn listed(alloc: Global, words: &[u32], chunk: (u32, u32), fill: u8) -> Result<Vec<u8>, Fail> {
-    if words.len() > 64 || chunk.0 < 0x20000 {
+    if words.len() > 8192 || chunk.0 < 0x20000 {
         return Ok(Vec::new(alloc));
     }
     let grants = PageSet::from_chunks(alloc, &[chunk])?;
@@ -112,6 +114,40 @@ fn every_field_is_told(rt: HostRuntime) -> Result<(), Fail> {
     assert_eq!(rt;
         listed(rt.alloc(), &words, (0x20004, 4092), 0x55)?.as_slice(),
         lines.as_slice()
+    );
+    Ok(())
+}
+
+#[test]
+fn fields_out_of_range_are_told_whole(rt: HostRuntime) -> Result<(), Fail> {
+    let instr = Instr::Jump {
+        ctl: Ctl {
+            irq: false,
+            set: 16,
+            reset: 255,
+        },
+        target: 0xffff_fffc,
+    };
+    let line = InstrLine {
+        at: 0x1000,
+        instr: &instr,
+    };
+    let mut text = String::new(rt.alloc());
+    write!(text, "{line}")?;
+    assert_eq!(rt; text.as_str(), "00001000 jump set=10 reset=ff fffffffc\n");
+    Ok(())
+}
+
+// More lines than are made at once.
+#[test]
+fn long_programs_are_listed_whole(rt: HostRuntime) -> Result<(), Fail> {
+    let words = [0x2000_0004; 6000];
+    let text = listed(rt.alloc(), &words, PAGE, 0)?;
+    assert_eq!(rt; text.len(), 14 + 16 * 6000 + 14 + 8);
+    let last = text.get(text.len() - 38..).unwrap_or(&[]);
+    assert_eq!(rt;
+        last,
+        b"00006dbc skip 4\npage 00020000\nfill 00\n".as_slice()
     );
     Ok(())
 }
