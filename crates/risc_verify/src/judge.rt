@@ -1,7 +1,7 @@
 //! Places of a path: why one isn't fine, and the one after it.
 
 ghost use Rattle.machine_model.specs.Paths.{cause_at, fault_cause, first_cause, instr_cause, next_place, place_after, target_after, target_before, written_cause};
-ghost use Rattle.risc_verify.specs.Programs.{first_place};
+ghost use Rattle.risc_verify.specs.Programs.{first_place, word_of};
 ghost use Rattle.std.specs.Prelude.{◌≡◌, ◌+◌, ◌*◌, ◌^◌, ◌<◌, ◌≤◌, MatchResult, None, Some, slice_index, unwrap_or, if◌then◌else◌};
 
 use super::Program;
@@ -101,82 +101,74 @@ fn three_cause(
     written_cause(grants, memo, u64::from(addrs[2]), counts[2])
 }
 
-// Why an instruction isn't fine.
+// A target, unless there is a cause.
 #[inline]
-fn instr_cause(
+fn unless_cause(cause: Option<Cause>, target: Option<u64>) -> Result<Option<u64>, Cause>
+    ensures { MatchResult result (λ after. (cause ≡ None) × (target ≡ after)) (λ first. cause ≡ Some first) }
+{
+    match cause {
+        Some(cause) => Err(cause),
+        None => Ok(target),
+    }
+}
+
+// The target after an instruction, or why it isn't fine.
+#[inline]
+fn target_after(
     program: &Program,
     memo: &mut ChunkMemo,
     instr: &Instr,
     target: Option<u64>,
-) -> Option<Cause>
+) -> Result<Option<u64>, Cause>
     requires { unwrap_or target 0 ≤ 2 ^ 32 }
-    ensures { result ≡ instr_cause program.now instr.now target }
+    ensures { MatchResult result
+        (λ after. (instr_cause program.now instr.now target ≡ None) × (target_after instr.now (target_before instr.now target) ≡ after))
+        (λ cause. instr_cause program.now instr.now target ≡ Some cause) }
 {
-    match instr {
-        Instr::Write { count, addr, .. } => {
-            written_cause(program.grants(), memo, u64::from(*addr), *count)
-        }
-        Instr::WriteC { ends, count, .. } => {
-            match unless(ends.sol, target) {
-                Some(at) => written_cause(program.grants(), memo, at, *count),
-                None => Some(Cause::NoTarget),
-            }
-        }
-        Instr::Jump { target: to, .. } => {
-            match program.word_at(u64::from(*to)) {
-                Some(_) => None,
-                None => Some(Cause::JumpOut(*to)),
-            }
-        }
-        Instr::Write123 { counts, addrs, .. } => three_cause(program.grants(), memo, addrs, counts),
-        Instr::Write1S23 { counts, addr, .. } => {
-            written_cause(program.grants(), memo, u64::from(*addr), counts[0])
-        }
-        Instr::Skip { .. } | Instr::Sync { .. } | Instr::Skip123 { .. } => None,
-    }
-}
-
-// The target after an instruction.
-#[inline]
-fn target_after(instr: &Instr, target: Option<u64>) -> Option<u64>
-    requires { unwrap_or target 0 ≤ 2 ^ 32 }
-    ensures { result ≡ target_after instr.now (target_before instr.now target) }
-{
+    let grants = program.grants();
     match instr {
         Instr::Write {
             ends,
             count,
             addr,
             ..
-        } => { unless(ends.eol, Some(u64::from(*addr) + u64::from(*count))) }
-        Instr::Skip { ends, .. } => unless(ends.eol, unless(ends.sol, target)),
-        Instr::WriteC { ends, count, .. } => {
-            let moved = match unless(ends.sol, target) {
-                Some(at) => Some(at + u64::from(*count)),
-                None => None,
-            };
-            unless(ends.eol, moved)
+        } => {
+            let end = u64::from(*addr) + u64::from(*count);
+            let cause = written_cause(grants, memo, u64::from(*addr), *count);
+            unless_cause(cause, unless(ends.eol, Some(end)))
         }
-        _ => None,
+        Instr::Skip { ends, .. } => Ok(unless(ends.eol, unless(ends.sol, target))),
+        Instr::WriteC { ends, count, .. } => {
+            let Some(at) = unless(ends.sol, target) else {
+                return Err(Cause::NoTarget);
+            };
+            let cause = written_cause(grants, memo, at, *count);
+            unless_cause(cause, unless(ends.eol, Some(at + u64::from(*count))))
+        }
+        Instr::Jump { target: to, .. } => match program.word_at(u64::from(*to)) {
+            Some(_) => Ok(None),
+            None => Err(Cause::JumpOut(*to)),
+        },
+        Instr::Write123 { counts, addrs, .. } => {
+            unless_cause(three_cause(grants, memo, addrs, counts), None)
+        }
+        Instr::Write1S23 { counts, addr, .. } => {
+            let cause = written_cause(grants, memo, u64::from(*addr), counts[0]);
+            unless_cause(cause, None)
+        }
+        Instr::Sync { .. } | Instr::Skip123 { .. } => Ok(None),
     }
 }
 
-// The place after an instruction of so many words.
+// Where the next instruction stands after one of so many words.
 #[inline]
-fn place_after(instr: &Instr, count: u8, place: &PathPlace) -> PathPlace
-    requires pc { place.now.pc < 2 ^ 32 }
-    requires target { unwrap_or (target_after instr.now (target_before instr.now place.now.target)) 0 ≤ 2 ^ 32 }
-    ensures { result ≡ place_after instr.now count place.now }
+fn pc_after(instr: &Instr, count: u8, pc: u64) -> u64
+    requires { pc < 2 ^ 32 }
+    ensures { result ≡ (place_after instr.now count (record { pc = pc; target = None })).pc }
 {
     match instr {
-        Instr::Jump { target, .. } => PathPlace {
-            pc: u64::from(*target),
-            target: None,
-        },
-        _ => PathPlace {
-            pc: place.pc + 4 * u64::from(count),
-            target: target_after(instr, place.target),
-        },
+        Instr::Jump { target, .. } => u64::from(*target),
+        _ => pc + 4 * u64::from(count),
     }
 }
 
@@ -190,21 +182,26 @@ fn fault_cause(fault: WordFault) -> Cause
     }
 }
 
-// The place after this one, or why this one isn't fine.
+// The place after this one, whose word is known, or why this one isn't fine.
 #[inline]
 pub(crate) fn step(
     program: &Program,
     memo: &mut ChunkMemo,
     place: &PathPlace,
+    word: Option<usize>,
 ) -> Result<PathPlace, Cause>
+    requires { word ≡ word_of program.now place.now.pc }
     ensures { MatchResult result (λ next. (cause_at program.now place.now ≡ None) × (next_place program.now place.now ≡ next)) (λ cause. cause_at program.now place.now ≡ Some cause) }
 {
-    let (instr, count) = match program.fetch(place.pc) {
+    let (instr, count) = match program.instr_at(place.pc, word) {
         Ok(read) => read,
         Err(fault) => return Err(fault_cause(fault)),
     };
-    match instr_cause(program, memo, &instr, place.target) {
-        Some(cause) => Err(cause),
-        None => Ok(place_after(&instr, count, place)),
+    match target_after(program, memo, &instr, place.target) {
+        Err(cause) => Err(cause),
+        Ok(target) => Ok(PathPlace {
+            pc: pc_after(&instr, count, place.pc),
+            target,
+        }),
     }
 }

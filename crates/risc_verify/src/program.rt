@@ -87,13 +87,14 @@ impl Program {
         }
     }
 
-    // The instruction at an address, and its length in words.
+    // The instruction at an address, whose word is known, and its length in words.
     #[inline]
-    pub(crate) fn fetch(&self, pc: u64) -> Result<(Instr, u8), WordFault>
+    pub(crate) fn instr_at(&self, pc: u64, word: Option<usize>) -> Result<(Instr, u8), WordFault>
+        requires { word ≡ word_of self.now pc }
         ensures value { result ≡ fetch self.now pc }
         ensures inside { OnOk result (pc < 2 ^ 32) }
     {
-        match self.word_at(pc) {
+        match word {
             Some(number) => decode(&self.words, number),
             None => Err(WordFault::Cut),
         }

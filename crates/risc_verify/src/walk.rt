@@ -1,11 +1,12 @@
 //! The walk along a program's path.
 
-ghost use Rattle.machine_model.specs.Paths.{IsSound};
+ghost use Rattle.machine_model.specs.Paths.{IsSound, RiscProgram};
+ghost use Rattle.risc_verify.specs.Programs.{word_of};
 ghost use Rattle.risc_verify.specs.Marks.{IsKnown, is_marked, plain_place};
 ghost use Rattle.risc_verify.specs.Rounds.{enough_places};
 ghost use Rattle.risc_verify.specs.Verdicts.{HasCounted, Refuses};
 ghost use Rattle.risc_verify.specs.declared.walk.Why.TheVariants.{Memory};
-ghost use Rattle.std.specs.Prelude.{◌≡◌, ℕ, ◌+◌, ◌≤◌, ◌⊎◌, IfErr, IfOk, IsTrue, length, false, replicate};
+ghost use Rattle.std.specs.Prelude.{◌≡◌, ℕ, ◌+◌, ◌<◌, ◌≤◌, ◌⊎◌, IfErr, IfOk, IfSome, IsTrue, length, false, replicate};
 
 use super::judge::{PathPlace, step};
 use super::memo::ChunkMemo;
@@ -63,21 +64,22 @@ impl Marks {
         })
     }
 
-    // Whether the path was at this place before, as far as the marks tell. Marks it.
+    // Whether the path was at this place before, whose word is known, as far as the marks tell. Marks it.
     #[inline]
-    fn meet(&mut self, program: &Program, place: &PathPlace) -> bool
-        requires { length self.old ≡ length program.now.words }
-        ensures known { IsTrue result → IsKnown program.now self.old place.now }
-        ensures marked { (word : ℕ) → IsTrue (is_marked self.new word) → IsTrue (is_marked self.old word) ⊎ (place.now ≡ plain_place program.now word) }
+    fn meet(&mut self, place: &PathPlace, word: Option<usize>) -> bool
+        requires { IfSome word (λ number. number < length self.old) }
+        ensures known { (program : RiscProgram) → word ≡ word_of program place.now.pc → IsTrue result → IsKnown program self.old place.now }
+        ensures marked { (program : RiscProgram) → word ≡ word_of program place.now.pc → (number : ℕ) → IsTrue (is_marked self.new number)
+            → IsTrue (is_marked self.old number) ⊎ (place.now ≡ plain_place program number) }
         ensures len { length self.new ≡ length self.old }
     {
         if place.target().is_some() {
             return false;
         }
-        match program.word_at(place.pc()) {
-            Some(word) => {
-                let known = self.words[word];
-                self.words[word] = true;
+        match word {
+            Some(number) => {
+                let known = self.words[number];
+                self.words[number] = true;
                 known
             }
             None => false,
@@ -97,11 +99,12 @@ fn walk<L: Ledger>(alloc: Global, program: &Program, steps: &mut Steps<L>) -> Re
     let mut memo = ChunkMemo::new(alloc)?;
     let mut place = PathPlace::first(program);
     for nth in 0..2 * words as u64 + 1 {
-        if marks.meet(program, &place) {
+        let word = program.word_at(place.pc());
+        if marks.meet(&place, word) {
             return Ok(());
         }
         steps.tick();
-        match step(program, &mut memo, &place) {
+        match step(program, &mut memo, &place, word) {
             Ok(next) => place = next,
             Err(cause) => {
                 return Err(Why::Bad {

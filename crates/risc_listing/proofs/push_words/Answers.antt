@@ -1,4 +1,4 @@
-use Rattle.std.proofs.Common.{◌≡◌, ◌-◌, ◌+◌, ◌∙◌, length, drop, take, ap, arith, inr}
+use Rattle.std.proofs.Common.{◌≡◌, ◌-◌, ◌∙◌, length, drop, take, ap, arith, inr}
 use Rattle.std.proofs.lemmas.List.{take_rest, length-drop}
 use Rattle.risc_listing.proofs.Passing.{lines_more}
 use Rattle.risc_listing.proofs.push_words.Goals as goal

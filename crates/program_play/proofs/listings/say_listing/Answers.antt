@@ -1,9 +1,8 @@
-use Rattle.std.proofs.Common.{◌≡◌, ◌++◌, List, ℕ, subst, sym}
+use Rattle.std.proofs.Common.{◌≡◌, ◌++◌, List, ℕ, subst}
 use Rattle.std.proofs.lemmas.Result.{err_from_is_err_and}
 use Rattle.capture_desk.specs.Desks.{Puts, after_say}
-use Rattle.program_play.specs.Programs.{listing_with}
 use Rattle.risc_listing.specs.Listings.{base_line, word_lines}
-use Rattle.program_play.proofs.Saying.{BreaksOff, said_on, breaks_off_after, breaks_off_within, last_said}
+use Rattle.program_play.proofs.Saying.{BreaksOff, breaks_off_after, breaks_off_within, last_said}
 use Rattle.program_play.proofs.listings.say_listing.Goals as goal
 
 pub returns-in_err-say_base-clause-says : goal.returns-in_err-say_base-clause-says
