@@ -2,8 +2,8 @@
 
 ghost use Rattle.arrayvec.specs.ArrayString.{array_string_len};
 ghost use Rattle.risc_word.specs.declared.Instr.TheVariants.{Sync};
-ghost use Rattle.risc_listing.specs.Lines.{address_text, addresses_text, at_text, code_name, control_text, count_text, counts_text, data_text, flag_text, instr_line, instr_text, nibble_text, word_line};
-ghost use Rattle.std.specs.Prelude.{◌≡◌, ◌+◌, ◌≤◌, ◌++◌, codes, length, Some};
+ghost use Rattle.risc_listing.specs.Lines.{address_text, addresses_text, at_text, code_name, control_text, count_text, counts_text, data_text, flag_text, instr_line, instr_text, is_write, nibble_text, word_line};
+ghost use Rattle.std.specs.Prelude.{◌≡◌, ◌+◌, ◌≤◌, ◌++◌, codes, length, true, Some};
 
 use crate::digits::{
     address_and_space, five_places, four_places, one_digit, one_place, space_and_address,
@@ -130,6 +130,25 @@ fn push_addresses<const CAP: usize>(text: &mut ArrayString<CAP>, addrs: &[u32; 3
     push_at(text, addrs[2]);
 }
 
+// The name of an instruction with three counts, its fields and its counts.
+#[inline(always)]
+fn push_planar<const CAP: usize>(
+    text: &mut ArrayString<CAP>,
+    name: &str,
+    ctl: Ctl,
+    ends: Ends,
+    off: u8,
+    counts: &[u16; 3],
+)
+    requires { array_string_len text.old + length name.now + 53 ≤ CAP }
+    ensures bytes { text.new.bytes ≡ text.old.bytes ++ (name.now ++ (data_text ctl ends off ++ counts_text counts.now)) }
+    ensures long { array_string_len text.new ≤ array_string_len text.old + length name.now + 53 }
+{
+    text.push_str(name);
+    push_data(text, ctl, ends, off);
+    push_counts(text, counts);
+}
+
 // The address at which a line stands, and a space.
 #[inline(always)]
 fn push_head<const CAP: usize>(text: &mut ArrayString<CAP>, at: u32)
@@ -166,10 +185,11 @@ fn push_sync<const CAP: usize>(text: &mut ArrayString<CAP>, ctl: Ctl, resync: bo
     push_control(text, ctl);
 }
 
-// An instruction in words: its name, its fields, its counts and its addresses.
+// A data instruction with an address: its name, its fields, its counts and its addresses.
 #[inline(always)]
-fn push_instr<const CAP: usize>(text: &mut ArrayString<CAP>, instr: &Instr)
-    requires { array_string_len text.old + 88 ≤ CAP }
+fn push_write<const CAP: usize>(text: &mut ArrayString<CAP>, instr: &Instr)
+    requires writes { is_write instr.now ≡ true }
+    requires room { array_string_len text.old + 88 ≤ CAP }
     ensures bytes { text.new.bytes ≡ text.old.bytes ++ instr_text instr.now }
     ensures long { array_string_len text.new ≤ array_string_len text.old + 88 }
 {
@@ -185,6 +205,41 @@ fn push_instr<const CAP: usize>(text: &mut ArrayString<CAP>, instr: &Instr)
             push_data(text, *ctl, *ends, *off);
             push_count(text, *count);
             push_at(text, *addr);
+        }
+        Instr::Write123 {
+            ctl,
+            ends,
+            off,
+            counts,
+            addrs,
+        } => {
+            push_planar(text, "write123", *ctl, *ends, *off, counts);
+            push_addresses(text, addrs);
+        }
+        Instr::Write1S23 {
+            ctl,
+            ends,
+            off,
+            counts,
+            addr,
+        } => {
+            push_planar(text, "write1s23", *ctl, *ends, *off, counts);
+            push_at(text, *addr);
+        }
+        _ => unreachable!(),
+    }
+}
+
+// An instruction in words: its name, its fields, its counts and its addresses.
+#[inline(always)]
+fn push_instr<const CAP: usize>(text: &mut ArrayString<CAP>, instr: &Instr)
+    requires { array_string_len text.old + 88 ≤ CAP }
+    ensures bytes { text.new.bytes ≡ text.old.bytes ++ instr_text instr.now }
+    ensures long { array_string_len text.new ≤ array_string_len text.old + 88 }
+{
+    match instr {
+        Instr::Write { .. } | Instr::Write123 { .. } | Instr::Write1S23 { .. } => {
+            push_write(text, instr);
         }
         Instr::Skip { ctl, ends, count } => {
             text.push_str("skip");
@@ -207,34 +262,8 @@ fn push_instr<const CAP: usize>(text: &mut ArrayString<CAP>, instr: &Instr)
             push_at(text, *target);
         }
         Instr::Sync { ctl, resync, code } => push_sync(text, *ctl, *resync, *code),
-        Instr::Write123 {
-            ctl,
-            ends,
-            off,
-            counts,
-            addrs,
-        } => {
-            text.push_str("write123");
-            push_data(text, *ctl, *ends, *off);
-            push_counts(text, counts);
-            push_addresses(text, addrs);
-        }
         Instr::Skip123 { ctl, ends, counts } => {
-            text.push_str("skip123");
-            push_data(text, *ctl, *ends, 0);
-            push_counts(text, counts);
-        }
-        Instr::Write1S23 {
-            ctl,
-            ends,
-            off,
-            counts,
-            addr,
-        } => {
-            text.push_str("write1s23");
-            push_data(text, *ctl, *ends, *off);
-            push_counts(text, counts);
-            push_at(text, *addr);
+            push_planar(text, "skip123", *ctl, *ends, 0, counts);
         }
     }
 }
