@@ -18,7 +18,7 @@ use command_steps::{
 use desc_input::check_file;
 use field_stream::{Made, make as put_stream};
 use planar_plan::Frame;
-use program_build::{Checked, build};
+use program_build::Checked;
 use program_play::Played;
 use risc_verify::Program;
 use std::alloc::Global;
@@ -41,14 +41,16 @@ fn build_file<D: Desk>(alloc: Global, desc: &str, desk: &mut D) -> Result<Built,
     ensures counts { CountsBy result (seen_by D.told D.read_faults D.write_faults desk.old) (seen_by D.told D.read_faults D.write_faults desk.new) }
 {
     let checked = check_file(alloc, desc, desk)?;
-    let program = match build(alloc, &checked) {
+    let words = checked.words();
+    let fill = checked.fill();
+    let program = match checked.into_program(alloc) {
         Ok(program) => program,
         Err(_) => return Err(Answer::NoMemory),
     };
-    match built_text(alloc, checked.words(), program.grants().len()) {
+    match built_text(alloc, words, program.grants().len()) {
         Ok(text) => Ok(Built {
             program,
-            fill: checked.fill(),
+            fill,
             text,
         }),
         Err(_) => Err(Answer::NoMemory),

@@ -14,7 +14,7 @@ ghost use Rattle.program_play.specs.Programs.{GivesSound, HoldsSound, IsBadProgr
 use capture_desk::Desk;
 use command_steps::Answer;
 use desc_input::check_file;
-use program_build::{Checked, build};
+use program_build::Checked;
 use program_play::{Loaded, Played, accept, play_file, verify_program};
 use risc_verify::{Accepted, Why};
 use std::alloc::{AllocError, Global};
@@ -43,10 +43,10 @@ pub fn run_program<D: Desk>(
 
 /// The program that a checked description asks for, as the machine takes it: verified as any other is, and
 /// sound.
-fn accepted_program(alloc: Global, checked: &Checked) -> Result<Accepted, AllocError>
-    ensures { IfOk result (λ accepted. accepted ≡ compiled checked.now) }
+fn accepted_program(alloc: Global, checked: Checked) -> Result<Accepted, AllocError>
+    ensures { IfOk result (λ accepted. accepted ≡ compiled checked) }
 {
-    match verify_program(alloc, build(alloc, checked)?) {
+    match verify_program(alloc, checked.into_program(alloc)?) {
         Ok(accepted) => Ok(accepted),
         Err(Why::Bad { .. }) => unreachable!(),
         Err(Why::Memory) => Err(AllocError),
@@ -69,11 +69,12 @@ pub fn run_description<D: Desk>(
     ensures counts { CountsBy result (seen_by D.told D.read_faults D.write_faults desk.old) (seen_by D.told D.read_faults D.write_faults desk.new) }
 {
     let checked = check_file(alloc, desc, desk)?;
-    let accepted = match accepted_program(alloc, &checked) {
+    let fill = checked.fill();
+    let accepted = match accepted_program(alloc, checked) {
         Ok(accepted) => accepted,
         Err(_) => return Err(Answer::NoMemory),
     };
-    match play_file(alloc, accepted, checked.fill(), stream, desk) {
+    match play_file(alloc, accepted, fill, stream, desk) {
         Ok(played) => Ok(played),
         Err(answer) => Err(answer),
     }

@@ -13,12 +13,15 @@ use capture_desk::{Desk, Failed, put};
 use page_table::PageSet;
 use risc_verify::Program;
 
-// What is put at once: so many numbers, and so many bytes.
-const NUMBERS: usize = 1_024;
+// How many bytes are put at once where there are few, and where there are many.
+const FEW: usize = 4_096;
 
-const PAIRS: usize = 512;
+const MANY: usize = 65_536;
 
-const BYTES: usize = 4_096;
+// How many addresses of pages, and how many chunks, are put at once.
+const PAGES: usize = 1_024;
+
+const CHUNKS: usize = 512;
 
 // Puts a number into a buffer, four bytes with the lowest first, behind the bytes that stand there.
 #[inline]
@@ -41,22 +44,37 @@ fn spell(numbers: &[u32], out: &mut [u8])
     }
 }
 
-// Appends numbers to the open output.
+// Appends numbers to the open output, as many at once as a buffer holds.
+fn put_by<D: Desk>(desk: &mut D, numbers: &[u32], piece: &mut [u8]) -> Result<(), Failed>
+    requires open { IsTrue (D.told desk.old).output_open }
+    requires room { 4 ≤ length piece.old }
+    ensures puts { Puts (numbers_spelled numbers.now) result after_write (D.told desk.old) (D.told desk.new) }
+    ensures counts { WriteCounts result (D.read_faults desk.old) (D.read_faults desk.new)
+        (D.write_faults desk.old) (D.write_faults desk.new) }
+{
+    let most = piece.len() / 4;
+    let mut at = 0;
+    while at < numbers.len() {
+        let count = most.min(numbers.len() - at);
+        spell(&numbers[at..at + count], piece);
+        put(desk, &piece[..4 * count])?;
+        at += count;
+    }
+    Ok(())
+}
+
+// Appends numbers to the open output. A buffer for many takes time of its own, even for few.
 pub fn put_numbers<D: Desk>(desk: &mut D, numbers: &[u32]) -> Result<(), Failed>
     requires open { IsTrue (D.told desk.old).output_open }
     ensures puts { Puts (numbers_spelled numbers.now) result after_write (D.told desk.old) (D.told desk.new) }
     ensures counts { WriteCounts result (D.read_faults desk.old) (D.read_faults desk.new)
         (D.write_faults desk.old) (D.write_faults desk.new) }
 {
-    let mut piece = [0; BYTES];
-    let mut at = 0;
-    while at < numbers.len() {
-        let count = NUMBERS.min(numbers.len() - at);
-        spell(&numbers[at..at + count], &mut piece);
-        put(desk, &piece[..4 * count])?;
-        at += count;
+    if numbers.len() <= FEW / 4 {
+        put_by(desk, numbers, &mut [0; FEW])
+    } else {
+        put_by(desk, numbers, &mut [0; MANY])
     }
-    Ok(())
 }
 
 fn name(layout: Layout) -> [u8; 4]
@@ -126,10 +144,10 @@ fn put_pages<D: Desk>(desk: &mut D, grants: &PageSet) -> Result<(), Failed>
     ensures counts { WriteCounts result (D.read_faults desk.old) (D.read_faults desk.new)
         (D.write_faults desk.old) (D.write_faults desk.new) }
 {
-    let mut numbers = [0; NUMBERS];
+    let mut numbers = [0; PAGES];
     let mut at = 0;
     while at < grants.len() {
-        let count = NUMBERS.min(grants.len() - at);
+        let count = PAGES.min(grants.len() - at);
         list_addresses(grants, at, count, &mut numbers);
         put_numbers(desk, &numbers[..count])?;
         at += count;
@@ -144,10 +162,10 @@ fn put_chunks<D: Desk>(desk: &mut D, grants: &PageSet) -> Result<(), Failed>
     ensures counts { WriteCounts result (D.read_faults desk.old) (D.read_faults desk.new)
         (D.write_faults desk.old) (D.write_faults desk.new) }
 {
-    let mut numbers = [0; NUMBERS];
+    let mut numbers = [0; 2 * CHUNKS];
     let mut at = 0;
     while at < grants.len() {
-        let count = PAIRS.min(grants.len() - at);
+        let count = CHUNKS.min(grants.len() - at);
         list_pairs(grants, at, count, &mut numbers);
         put_numbers(desk, &numbers[..2 * count])?;
         at += count;

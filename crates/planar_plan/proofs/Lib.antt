@@ -1,5 +1,6 @@
 pub mod Bounds
 pub mod Faults
 pub mod Reaching
+pub mod Stretching
 pub mod Cuts
 pub mod Held

@@ -104,7 +104,7 @@ pub each_fits : (s : ScatterList) (strip : Strip) (span : Span) → CanBeCut s s
 each_fits s strip span can within =
     λ at from before. longest-Fits s.chunks strip span at 1 (omega arith) (longest_some s strip span at can before within)
 
-run_parts : (s : ScatterList) (run : ℕ × ℕ) (offset : ℕ) → run ≡ run_at s offset 4092 → (run.0 ≡ address_at s.chunks offset) × (run.1 ≡ min (min 4092 (room_at s.chunks offset)) (s.len - offset))
+pub run_parts : (s : ScatterList) (run : ℕ × ℕ) (offset : ℕ) → run ≡ run_at s offset 4092 → (run.0 ≡ address_at s.chunks offset) × (run.1 ≡ min (min 4092 (room_at s.chunks offset)) (s.len - offset))
 run_parts s run offset is =
     let length : run.1 ≡ min 4092 (min (room_at s.chunks offset) (s.len - offset)) = ap (λ (p : ℕ × ℕ). p.1) is in
     (ap (λ (p : ℕ × ℕ). p.0) is, omega arith)

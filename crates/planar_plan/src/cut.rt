@@ -8,6 +8,7 @@ ghost use Rattle.page_table.specs.Scattered.{ScatterList, address_at, room_at};
 ghost use Rattle.picture_model.specs.Plans.{address_of, cut, cuts_of, grains_of, in_grains, longest, most, most_of, piece_of, pieces_of, span_cuts};
 ghost use Rattle.planar_plan.specs.Lines.{AreHeld, AreWindows, AreWithin, CanBeCut, CountsFit, IsHeld, IsWindow, Reaches, strip_of, track_of};
 
+use crate::stretch::{stretches_of, whole_pieces};
 use clip_spans::Span;
 use page_table::Scatter;
 use picture_model::{Piece, PieceKind};
@@ -17,7 +18,7 @@ use std::alloc::{AllocError, Global};
 use std::marker::Model;
 
 // The most bytes of a piece on a plane.
-const MOST_BYTES: u32 = 4092;
+pub(crate) const MOST_BYTES: u32 = 4092;
 
 /// The pieces of a line, in order. Contracts see the list.
 #[derive(Drop)]
@@ -233,7 +234,7 @@ fn reach_on(
 // The bytes of some grains, which are no more than a piece may have.
 #[inline(always)]
 #[tactic(auto, using(crate::proofs::Bounds::fewer_grains))]
-fn bytes(grains: u32, size: u32, most: u32) -> u16
+pub(crate) fn bytes(grains: u32, size: u32, most: u32) -> u16
     requires fewer { grains ≤ most }
     requires few { most * size ≤ 4092 }
     ensures value { result ≡ grains * size }
@@ -370,8 +371,8 @@ pub(crate) fn spans_in_grains(
     Ok(grains)
 }
 
-// The pieces of a row with these spans, which are counted in grains.
-pub(crate) fn cut_row(
+// The pieces of a line with these spans, span by span.
+fn cut_spans(
     alloc: Global,
     scatter: &Scatter,
     line: &Line,
@@ -388,6 +389,24 @@ pub(crate) fn cut_row(
         cut_span(scatter, line, &mut windows, *span, &mut pieces)?;
     }
     Ok(pieces)
+}
+
+// The pieces of a row with these spans, which are counted in grains.
+pub(crate) fn cut_row(
+    alloc: Global,
+    scatter: &Scatter,
+    line: &Line,
+    spans: &[Span],
+) -> Result<Vec<Piece>, AllocError>
+    requires line { CanBeCut scatter.now (strip_of line.now) }
+    requires grains { AreWithin line.now.grains spans.now }
+    ensures pieces { IfOk result (λ pieces. pieces.items ≡ pieces_of scatter.now.chunks (strip_of line.now) (cuts_of scatter.now.chunks (strip_of line.now) spans.now)) }
+    ensures counts { IfOk result (λ pieces. All CountsFit pieces.items) }
+{
+    match stretches_of(scatter, line) {
+        Some(stretches) => whole_pieces(alloc, line, &stretches, spans),
+        None => cut_spans(alloc, scatter, line, spans),
+    }
 }
 
 // The pieces of a line that is one span.

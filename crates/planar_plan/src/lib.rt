@@ -10,6 +10,7 @@ mod judge;
 mod lines;
 mod memory;
 mod places;
+mod stretch;
 #[cfg(test)]
 mod tests;
 

@@ -6,7 +6,7 @@ ghost use Rattle.machine_model.specs.Paths.{IsSound};
 ghost use Rattle.picture_model.specs.Geometry.{first_fault};
 ghost use Rattle.picture_model.specs.Programs.{compiled};
 ghost use Rattle.planar_plan.specs.Frames.{Judges};
-ghost use Rattle.program_build.specs.Checks.{IsChecked};
+ghost use Rattle.program_build.specs.Checks.{HasWords, IsChecked};
 
 use crate::judge::judged_words;
 use capture_desc::Desc;
@@ -58,6 +58,15 @@ impl Checked {
     {
         self.frame.desc().fill
     }
+
+    /// The program that `build` makes, without a copy of the words.
+    pub fn into_program(self, alloc: Global) -> Result<Program, AllocError>
+        ensures program { IfOk result (λ program. program ≡ compiled self) }
+        ensures sound { IfOk result IsSound }
+    {
+        let Checked { frame, words } = self;
+        program_of(alloc, &frame, words)
+    }
 }
 
 /// Judges the geometry of a description and the place of its program: `Bad` holds the first fault of all,
@@ -73,6 +82,16 @@ pub fn check(alloc: Global, desc: Desc) -> Result<Checked, BuildError>
     Ok(Checked { frame, words })
 }
 
+// The program of a frame whose words are known.
+fn program_of(alloc: Global, frame: &Frame, words: Vec<u32>) -> Result<Program, AllocError>
+    requires { HasWords frame.now words.items }
+    ensures program { IfOk result (λ program. program ≡ compiled frame.now) }
+    ensures sound { IfOk result IsSound }
+{
+    let grants = frame.grants(alloc)?;
+    Ok(Program::new(frame.desc().base, words, grants))
+}
+
 /// The program of a checked description, which is sound. It has a section for each described field, the
 /// top one first: SYNC on the field's vertical code with RESYNC, the VBI part, the picture part, and a JUMP
 /// that interrupts and leads to the next section, or from the last to the base. It may write the pages or
@@ -81,7 +100,6 @@ pub fn build(alloc: Global, checked: &Checked) -> Result<Program, AllocError>
     ensures program { IfOk result (λ program. program ≡ compiled checked.now) }
     ensures sound { IfOk result IsSound }
 {
-    let grants = checked.frame.grants(alloc)?;
     let words = Vec::from_slice(alloc, &checked.words)?;
-    Ok(Program::new(checked.frame.desc().base, words, grants))
+    program_of(alloc, &checked.frame, words)
 }

@@ -14,7 +14,9 @@ fn has_words(alloc: Global, text: &str, words: &[u32]) -> Result<bool, Fail> {
     let desc = read_desc(alloc, text.as_bytes())?;
     let checked = check(alloc, desc)?;
     let program = build(alloc, &checked)?;
-    Ok(program.words() == words && checked.words() as usize == words.len())
+    let count = checked.words() as usize;
+    let taken = checked.into_program(alloc)?;
+    Ok(program.words() == words && taken.words() == words && count == words.len())
 }
 
 #[test]

@@ -16,13 +16,13 @@ returns-in-Ok-play_file-clause-ran g c =
     let e = c.in_ok-checked.ensures in
     let d = c.in_ok-checked.checked in
     ran_over GivesCompiled c.args.desc.now c.args.stream.now (g.D.Desk.told c.args.desk.now) (g.D.Desk.told c.check_file.new.desk)
-    c.in-Ok.accepted c.fill.result c.in-Ok-play_file.played.machine c.in-Ok-play_file.played.fill e.told c.in-Ok-play_file.ensures.fill
-    (OfInput-map c.args.desc.now (g.D.Desk.told c.args.desk.now).inputs (λ bytes. Describes bytes d) (λ bytes. GivesCompiled bytes c.in-Ok.accepted c.fill.result)
-    (gives d c.in-Ok.accepted c.fill.result c.in-Ok.ensures c.fill.ensures.value) e.describes)
+    c.in-Ok.accepted c.fill-fill.result c.in-Ok-play_file.played.machine c.in-Ok-play_file.played.fill e.told c.in-Ok-play_file.ensures.fill
+    (OfInput-map c.args.desc.now (g.D.Desk.told c.args.desk.now).inputs (λ bytes. Describes bytes d) (λ bytes. GivesCompiled bytes c.in-Ok.accepted c.fill-fill.result)
+    (gives d c.in-Ok.accepted c.fill-fill.result c.in-Ok.ensures c.fill-fill.ensures.value) e.describes)
     c.in-Ok-play_file.ensures.played
 
-pub returns-clause-stops : goal.returns-clause-stops
-returns-clause-stops g c =
+pub returns-in-Err-play_file-clause-stops : goal.returns-in-Err-play_file-clause-stops
+returns-in-Err-play_file-clause-stops g c =
     let see = seen_by g.D.Desk.told g.D.Desk.read_faults g.D.Desk.write_faults in
     let e = c.in_ok-checked.ensures in
     let d = c.in_ok-checked.checked in

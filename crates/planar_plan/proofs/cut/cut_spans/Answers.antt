@@ -7,7 +7,7 @@ use Rattle.clip_spans.specs.declared.Span.{Span}
 use Rattle.picture_model.specs.Plans.{cuts_of, pieces_of}
 use Rattle.planar_plan.specs.Lines.{AreWithin, CountsFit, strip_of}
 use Rattle.planar_plan.proofs.Cuts.{next_span}
-use Rattle.planar_plan.proofs.cut.cut_row.Goals as goal
+use Rattle.planar_plan.proofs.cut.cut_spans.Goals as goal
 
 pub cut_span-requires-clause-order : goal.cut_span-requires-clause-order
 cut_span-requires-clause-order c =

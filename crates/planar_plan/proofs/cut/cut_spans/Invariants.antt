@@ -2,7 +2,7 @@ use Rattle.std.proofs.Common.{◌≡◌, ◌++◌, drop}
 use Rattle.std.specs.List.{All}
 use Rattle.picture_model.specs.Plans.{cuts_of, pieces_of}
 use Rattle.planar_plan.specs.Lines.{AreWindows, AreWithin, CountsFit, strip_of}
-use Rattle.planar_plan.proofs.cut.cut_row.Given as goal
+use Rattle.planar_plan.proofs.cut.cut_spans.Given as goal
 
 -- the pieces done and those of the spans left are all pieces
 abbrev pub invariant-loop-span : goal.invariant-loop-span

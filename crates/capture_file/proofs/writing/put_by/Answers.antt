@@ -2,10 +2,10 @@ use Rattle.std.proofs.Common.{◌≤◌, length, ◌+◌, ◌∙◌, sym, refl, 
 use Rattle.std.proofs.lemmas.Result.{err_from_is_err_and}
 use Rattle.capture_desk.proofs.Laws.{after_write-nil}
 use Rattle.capture_file.proofs.Puts.{piece_numbers, numbers_more, numbers_break}
-use Rattle.capture_file.proofs.writing.put_numbers.Goals as goal
+use Rattle.capture_file.proofs.writing.put_by.Goals as goal
 
 pub loop-at-init : goal.loop-at-init
-loop-at-init g c = record { within = omega arith; room = refl; done = sym (after_write-nil _); reads = refl; writes = refl }
+loop-at-init g c = record { within = omega arith; room = omega arith; some = omega arith; done = sym (after_write-nil _); reads = refl; writes = refl }
 
 pub loop-at-preserved : goal.loop-at-preserved
 loop-at-preserved g c =
@@ -13,7 +13,8 @@ loop-at-preserved g c =
     let piece = piece_numbers c.args.numbers.now c.loop-at.at c.min-count.result c.spell.new.out within c.spell.ensures in
     record {
       within = within;
-      room = c.spell.auto.out ∙ c.loop-at.invariant.room;
+      room = let same = c.spell.auto.out in let room = c.loop-at.invariant.room in omega arith;
+      some = c.loop-at.invariant.some;
       done = numbers_more c.args.numbers.now c.loop-at.at c.min-count.result c.spell.new.out _ _ _ piece c.loop-at.invariant.done c.in_ok-put.ensures.puts;
       reads = c.in_ok-put.ensures.counts.0 ∙ c.loop-at.invariant.reads;
       writes = c.in_ok-put.ensures.counts.1 ∙ c.loop-at.invariant.writes;
