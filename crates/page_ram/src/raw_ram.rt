@@ -1,5 +1,5 @@
 //! Memory in one raw block.
-ghost use Rattle.std.specs.Prelude.{◌≡◌, List, IsTrue, IfOk, IfSome};
+ghost use Rattle.std.specs.Prelude.{◌≡◌, ℕ, List, None, IsTrue, IfOk, IfSome};
 ghost use Rattle.page_table.specs.Grants.{Chunk, granted, total, AreGrants};
 ghost use Rattle.page_table.specs.Blocks.{Block, filled};
 ghost use Rattle.page_ram.specs.Extents.{extent_chunk, extent_chunks, AreLaid, StandsAt, StandsRun};
@@ -51,7 +51,8 @@ fn locate(extents: &[Extent], near: usize, addr: u32) -> (usize, usize)
 fn run_in(extents: &[Extent], place: usize, addr: u32, count: usize) -> Option<usize>
     requires grants { AreGrants (extent_chunks extents.now) }
     requires laid { AreLaid 0 extents.now }
-    ensures { IfSome result (λ index. StandsRun extents.now place addr count index) }
+    ensures found { IfSome result (λ index. StandsRun extents.now place addr count index) }
+    ensures none { result ≡ None → (index : ℕ) → StandsRun extents.now place addr count index → ⊥ }
 {
     let extent = extents.get(place)?;
     let before = addr.checked_sub(extent.at)?;

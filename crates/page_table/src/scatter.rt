@@ -1,6 +1,6 @@
 //! Scatter lists: chunks in any order, used as one stretch of bytes.
 
-ghost use Rattle.std.specs.Prelude.{◌≡◌, ◌+◌, ◌^◌, ◌<◌, ◌≤◌, [], true, length, map, nat_le, IfOk, IsTrue, None};
+ghost use Rattle.std.specs.Prelude.{◌≡◌, ◌+◌, ◌^◌, ◌<◌, ◌≤◌, [], false, true, length, map, nat_le, IfOk, IsTrue, None};
 ghost use Rattle.std.specs.List.{All, prefix_len};
 ghost use Rattle.std.specs.List.Sorted.{IsNonDecreasingBy};
 ghost use Rattle.page_table.specs.Grants.{total};
@@ -62,7 +62,8 @@ fn ends_of(alloc: Global, chunks: &[(u32, u32)]) -> Result<Vec<u64>, AllocError>
 #[inline]
 fn lies_in(ends: &[u64], i: usize, off: u64) -> bool
     requires { IsNonDecreasingBy (λ end. end) ends.now }
-    ensures { IsTrue result → i ≡ prefix_len (λ end. nat_le end off) ends.now }
+    ensures there { IsTrue result → i ≡ prefix_len (λ end. nat_le end off) ends.now }
+    ensures elsewhere { result ≡ false → i < length ends.now → i ≡ prefix_len (λ end. nat_le end off) ends.now → ⊥ }
 {
     if i >= ends.len() {
         return false;

@@ -13,7 +13,7 @@ lies_in-requires c =
 
 pub returns-then-lies_in : goal.returns-then-lies_in
 returns-then-lies_in c =
-    holds c.args.chunks.now c.args.ends.now c.args.off _ c.requires.sums c.requires.aligned c.requires.within (c.lies_in.ensures c.if-lies_in.true)
+    holds c.args.chunks.now c.args.ends.now c.args.off _ c.requires.sums c.requires.aligned c.requires.within (c.lies_in.ensures.there c.if-lies_in.true)
 
 pub returns-else-lies_in : goal.returns-else-lies_in
 returns-else-lies_in c =
