@@ -11,7 +11,7 @@ use super::{Code, Ctl, Ends, Instr, WordFault};
 
 type Reading = Result<(Instr, u8), WordFault>;
 
-#[inline]
+#[inline(always)]
 fn ctl_of(word: u32) -> Ctl
     ensures { result ≡ control_bits word }
 {
@@ -22,7 +22,7 @@ fn ctl_of(word: u32) -> Ctl
     }
 }
 
-#[inline]
+#[inline(always)]
 fn ends_of(word: u32) -> Ends
     ensures { result ≡ line_ends word }
 {
@@ -32,7 +32,7 @@ fn ends_of(word: u32) -> Ends
     }
 }
 
-#[inline]
+#[inline(always)]
 fn counts_of(word: u32, counts: u32) -> [u16; 3]
     ensures { result ≡ three_counts word counts }
 {
@@ -43,7 +43,7 @@ fn counts_of(word: u32, counts: u32) -> [u16; 3]
     ]
 }
 
-#[inline]
+#[inline(always)]
 fn write_of(word: u32, rest: &[u32]) -> Reading
     ensures { result ≡ write_at word rest.now }
 {
@@ -62,7 +62,7 @@ fn write_of(word: u32, rest: &[u32]) -> Reading
     }
 }
 
-#[inline]
+#[inline(always)]
 fn skip_of(word: u32) -> Reading
     ensures { result ≡ skip_at word }
 {
@@ -76,7 +76,7 @@ fn skip_of(word: u32) -> Reading
     ))
 }
 
-#[inline]
+#[inline(always)]
 fn write_c_of(word: u32) -> Reading
     ensures { result ≡ write_c_at word }
 {
@@ -91,7 +91,7 @@ fn write_c_of(word: u32) -> Reading
     ))
 }
 
-#[inline]
+#[inline(always)]
 fn jump_of(word: u32, rest: &[u32]) -> Reading
     ensures { result ≡ jump_at word rest.now }
 {
@@ -107,7 +107,7 @@ fn jump_of(word: u32, rest: &[u32]) -> Reading
     }
 }
 
-#[inline]
+#[inline(always)]
 fn sync_of(word: u32, rest: &[u32]) -> Reading
     ensures { result ≡ sync_at word rest.now }
 {
@@ -132,7 +132,7 @@ fn sync_of(word: u32, rest: &[u32]) -> Reading
     }
 }
 
-#[inline]
+#[inline(always)]
 fn write_123_of(word: u32, rest: &[u32]) -> Reading
     ensures { result ≡ write_123_at word rest.now }
 {
@@ -151,7 +151,7 @@ fn write_123_of(word: u32, rest: &[u32]) -> Reading
     }
 }
 
-#[inline]
+#[inline(always)]
 fn skip_123_of(word: u32, rest: &[u32]) -> Reading
     ensures { result ≡ skip_123_at word rest.now }
 {
@@ -168,7 +168,7 @@ fn skip_123_of(word: u32, rest: &[u32]) -> Reading
     }
 }
 
-#[inline]
+#[inline(always)]
 fn write_1_s_23_of(word: u32, rest: &[u32]) -> Reading
     ensures { result ≡ write_1_s_23_at word rest.now }
 {
@@ -187,7 +187,7 @@ fn write_1_s_23_of(word: u32, rest: &[u32]) -> Reading
     }
 }
 
-#[inline]
+#[inline(always)]
 fn instr_of(word: u32, rest: &[u32]) -> Reading
     ensures { result ≡ by_opcode (bits 28 4 word) word rest.now }
 {
@@ -213,7 +213,7 @@ fn instr_of(word: u32, rest: &[u32]) -> Reading
     }
 }
 
-#[inline]
+#[inline(always)]
 fn reading_at(words: &[u32], at: usize) -> Reading
     ensures { result ≡ instr_at words.now at }
 {
@@ -230,7 +230,7 @@ fn reading_at(words: &[u32], at: usize) -> Reading
 /// instructions"). Bits that no field names are ignored, and so is the second word of a SYNC. The fault
 /// is the first that holds of these: no word stands there, the opcode is reserved, a further word is
 /// missing, a SYNC names no control code.
-#[inline]
+#[inline(always)]
 pub fn decode(words: &[u32], at: usize) -> Result<(Instr, u8), WordFault>
     ensures value { result ≡ instr_at words.now at }
     ensures instr { IfOk result (λ read. IsInstr read.0) }
