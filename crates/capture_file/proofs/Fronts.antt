@@ -1,16 +1,15 @@
 -- A record that lies whole at the front of a piece.
-use Rattle.std.proofs.Common.{◌≡◌, ℕ, ◌+◌, ◌-◌, ◌≤◌, Bool, List, [], ◌++◌, length, take, drop, Option, Some, None, refl, sym, ap, ◌∙◌, arith}
+use Rattle.std.proofs.Common.{◌≡◌, ℕ, ◌+◌, ◌-◌, ◌≤◌, Bool, List, [], ◌++◌, length, take, drop, Option, Some, None, sym, ap, ◌∙◌, arith}
 use Rattle.std.specs.Prelude.{IfSome}
 use Rattle.std.proofs.lemmas.List.{take_all}
 use Rattle.capture_file.specs.declared.Step.{Step}
 use Rattle.capture_file.specs.declared.Step.TheVariants.{Turns}
-use Rattle.capture_file.specs.declared.reader.Got.{Got}
 use Rattle.capture_file.specs.declared.reader.Got.TheVariants as got
 use Rattle.capture_file.specs.declared.records.Form.{Form}
 use Rattle.capture_file.specs.declared.records.Found.TheVariants.{Whole}
 use Rattle.capture_file.specs.Records.{StepFits}
 use Rattle.capture_file.specs.Streams.{record_at, turns_of}
-use Rattle.capture_file.specs.Readers.{Phase, Records, Reader, IsReader, PlacedAt, Taken, Takes, after_answer, found_taken, record_taken, resumed, taken, taken_in, taking}
+use Rattle.capture_file.specs.Readers.{Phase, Records, Reader, IsReader, Taken, Takes, after_answer, found_taken, record_taken, resumed, taken, taking}
 use Rattle.capture_file.proofs.Resumed.{taken-goes}
 use Rattle.capture_file.proofs.Answered.{taken-moves, taken-placed}
 
@@ -46,8 +45,8 @@ takes-step r after piece step count is exact fits =
       exact = exact;
       whole =
           λ more.
-              taken-goes r piece more is
-              ∙ sym (ap (λ (t : Taken). after_answer t.answer (resumed t.reader (drop t.used piece ++ more))) exact);
+          taken-goes r piece more is
+          ∙ sym (ap (λ (t : Taken). after_answer t.answer (resumed t.reader (drop t.used piece ++ more))) exact);
       within = (rw (← exact) at moves.0).1;
       place = rw (← exact) at moves.1;
       moves = λ before placed. let placed_then = taken-placed r piece before is placed in rw (← exact) at placed_then;

@@ -3,10 +3,7 @@ use Rattle.std.specs.Prelude.{◌≡◌, ℕ, ◌+◌, ◌-◌, ◌<◌, ◌≤�
 use Rattle.capture_file.specs.declared.FileKind.{FileKind}
 use Rattle.capture_file.specs.declared.FileKind.TheVariants as fault
 use Rattle.capture_file.specs.declared.FileFault.{FileFault}
-use Rattle.fifo_model.specs.declared.Entry.{Entry}
-use Rattle.fifo_model.specs.declared.Queue.{Queue}
 use Rattle.capture_file.specs.declared.Step.{Step}
-use Rattle.capture_file.specs.declared.Step.TheVariants.{Push, Turns}
 use Rattle.capture_file.specs.declared.reader.Got.{Got}
 use Rattle.capture_file.specs.declared.reader.Got.TheVariants as got
 use Rattle.capture_file.specs.declared.reader.State.{State}

@@ -246,8 +246,8 @@ impl StepReader {
             && let Found::Whole(step, len) = find_front(form, self.turns, piece)
         {
             self.room -= u64::from(len);
-            if let Step::Turns(count) = step {
-                self.turns += count;
+            if let Step::Turns(more) = step {
+                self.turns += more;
             }
             return Some((step, usize::from(len)));
         }

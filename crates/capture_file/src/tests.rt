@@ -138,7 +138,10 @@ fn whole_records_are_taken_off_a_piece(rt: HostRuntime) {
     assert_eq!(rt; reader.take_push(b"\x02\x02\x10\x11\x12"), None);
     assert_eq!(rt; reader.take_push(b"\x02\x04\x10\x11\x12\x13"), None);
     assert_eq!(rt; reader.take_turns(b"\x02\x02\x10\x11\x12\x13"), None);
-    assert_eq!(rt; reader.take_push(b"\x02\x02\x10\x11\x12\x13"), Some((Queue::Two, entry)));
+    assert_eq!(rt;
+        reader.take_push(b"\x02\x02\x10\x11\x12\x13"),
+        Some((Queue::Two, entry))
+    );
     assert_eq!(rt; reader.take_turns(b"\x05\x07\0\0\0\x05"), Some(7));
     assert_eq!(rt; reader.take_turns(b"\x05\xfa\xff\xff\x3f"), None);
     assert_eq!(rt; reader.take_push(b"\x05\x01\0\0\0\x05"), None);

@@ -80,21 +80,19 @@ module _ (m now later : State) (reader after last : Reader) (piece : List ℕ) (
   before more = let some = part.2 more in rw none at some
 
   front_after : (o : Option ℕ) → HandedFront o now after piece later last → HandedFront o m reader piece later last
-  front_after None front =
-      (
-        omega (arith, none, part.1, front.0),
-        λ more. GoesOn-then m (resumed reader (piece ++ more)) now (resumed after (piece ++ more)) later (resumed last more) (before more) (front.1 more),
-      )
-  front_after (Some used) front =
-      (
-        front.0,
-        (
-          front.1.0,
-          omega (arith, none, part.1, front.1.1),
-          λ more.
-              GoesOn-then m (resumed reader (piece ++ more)) now (resumed after (piece ++ more)) later (resumed last (drop used piece ++ more)) (before more) (front.1.2 more),
-        ),
-      )
+  front_after None front = (
+    omega (arith, none, part.1, front.0),
+    λ more. GoesOn-then m (resumed reader (piece ++ more)) now (resumed after (piece ++ more)) later (resumed last more) (before more) (front.1 more),
+  )
+  front_after (Some used) front = (
+    front.0,
+    (
+      front.1.0,
+      omega (arith, none, part.1, front.1.1),
+      λ more.
+          GoesOn-then m (resumed reader (piece ++ more)) now (resumed after (piece ++ more)) later (resumed last (drop used piece ++ more)) (before more) (front.1.2 more),
+    ),
+  )
 
   pub handed_after : (r : Result (Option ℕ) FileFault) → IfOk r (λ o. HandedFront o now after piece later last) → IfOk r (λ o. HandedFront o m reader piece later last)
   handed_after (Ok o) front = front_after o front

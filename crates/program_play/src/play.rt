@@ -77,8 +77,8 @@ fn hand_plain<R: Ram>(
     ensures none { IfNone result ((machine.new ≡ machine.old) × (reader.new ≡ reader.old)) }
     ensures other { IfNone result (IsOther (front_record reader.old piece.now)) }
 {
-    if let Some((queue, entry)) = reader.take_push(piece) {
-        let _ = machine.push(queue, entry);
+    if let Some((q, e)) = reader.take_push(piece) {
+        let _ = machine.push(q, e);
         return Some(6);
     }
     if let Some(count) = reader.take_turns(piece) {
@@ -91,11 +91,7 @@ fn hand_plain<R: Ram>(
 /// Hands the data pushes and the turns at the front of a piece to the machine, up to where another
 /// record stands or the piece ends, and answers how many bytes their records have.
 #[inline(never)]
-fn hand_run<R: Ram>(
-    machine: &mut Machine<R>,
-    reader: &mut StepReader,
-    piece: &[u8],
-) -> usize
+fn hand_run<R: Ram>(machine: &mut Machine<R>, reader: &mut StepReader, piece: &[u8]) -> usize
     ensures handed { HandedPart result machine.old reader.old piece.now machine.new reader.new }
     ensures other { IsOther (front_record reader.new (drop result piece.now)) }
 {

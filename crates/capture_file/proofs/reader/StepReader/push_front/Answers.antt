@@ -1,4 +1,4 @@
-use Rattle.std.proofs.Common.{List, ℕ, [], ◌≡◌, ◌≤◌, ◌∙◌, ap, arith}
+use Rattle.std.proofs.Common.{[], ◌≡◌, ◌∙◌, ap, arith}
 use Rattle.capture_file.specs.declared.Step.TheVariants.{Push}
 use Rattle.capture_file.specs.Readers.{HoldsAt, phase_of, taken}
 use Rattle.capture_file.proofs.Fronts.{front-taken}

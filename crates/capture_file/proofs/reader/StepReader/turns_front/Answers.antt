@@ -1,4 +1,4 @@
-use Rattle.std.proofs.Common.{List, ℕ, [], ◌≡◌, ◌≤◌, ◌+◌, ◌∙◌, refl, ap}
+use Rattle.std.proofs.Common.{[], ◌≡◌, ◌+◌, ◌∙◌, refl, ap}
 use Rattle.capture_file.specs.declared.Step.TheVariants.{Turns}
 use Rattle.capture_file.specs.Readers.{HoldsAt, phase_of, taken}
 use Rattle.capture_file.proofs.Fronts.{front-taken}
