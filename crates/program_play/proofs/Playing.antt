@@ -17,22 +17,6 @@ use Rattle.capture_file.specs.Streams.{Reading, reading, with_step, Ending, Unfi
 use Rattle.capture_file.specs.Readers.{Reader, fresh, resumed, closed_by}
 use Rattle.program_play.specs.Plays.{GoesOn, Handed, HandedAll, HandedFront, HandedPart, HasPlayed, IsAtFault, longest_stream}
 
-turn_more : (k : ℕ) (m : State) → run m (replicate (suc k) Turn) ≡ turn (run m (replicate k Turn))
-turn_more zero m = refl
-turn_more (suc k) m = turn_more k (turn m)
-
-pub one_turn_more : (m : State) (k : ℕ) → run m (replicate (k + 1) Turn) ≡ turn (run m (replicate k Turn))
-one_turn_more m k = ap (λ n. run m (replicate n Turn)) (add-one k) ∙ turn_more k m
-
--- turns taken in two parts
-pub turns_after : (m now : State) (some whole : ℕ) → some ≤ whole → now ≡ run m (replicate some Turn) →
-    run now (replicate (whole - some) Turn) ≡ run m (replicate whole Turn)
-turns_after m now some whole few is =
-    ap (λ n. run n (replicate (whole - some) Turn)) is
-    ∙ sym (run-append m (replicate some Turn) (replicate (whole - some) Turn))
-    ∙ ap (run m) (replicate-append-replicate some (whole - some) Turn)
-    ∙ ap (λ n. run m (replicate n Turn)) (add-sub_of_le few)
-
 pub GoesOn-itself : (m : State) (whole : Reading) → GoesOn m whole m whole
 GoesOn-itself m whole = record { ran = refl; ending = refl }
 

@@ -1,10 +1,10 @@
 //! A stream, handed to the machine as it is read.
 
-ghost use Rattle.std.specs.Prelude.{◌≡◌, ◌+◌, ◌≤◌, drop, false, length, replicate, IfErr, IfNone, IfOk, IfSome, IsTrue, OnOk, Some};
+ghost use Rattle.std.specs.Prelude.{◌≡◌, ◌+◌, ◌≤◌, drop, false, length, IfErr, IfNone, IfOk, IfSome, IsTrue, OnOk, Some};
 ghost use Rattle.capture_file.specs.Readers.{fresh, front_record};
 ghost use Rattle.capture_file.specs.Records.{StepFits};
 ghost use Rattle.capture_file.specs.Streams.{atomic};
-ghost use Rattle.machine_model.specs.Steps.{Turn, run};
+ghost use Rattle.machine_model.specs.Steps.{run};
 ghost use Rattle.command_steps.specs.Desks.{CountsBy, OfRest, apart, seen_by};
 ghost use Rattle.program_play.specs.Plays.{Handed, HandedAll, HandedFront, HandedPart, HasPlayed, IsOther, IsAtFault, StopsPlaying, longest_stream};
 
@@ -16,35 +16,6 @@ use page_ram::Ram;
 
 /// The most bytes of a stream.
 const LONGEST_STREAM: u64 = 4_294_967_295;
-
-/// Lets the machine take a group of turns.
-#[inline]
-fn take_group<R: Ram>(machine: &mut Machine<R>, count: u32)
-    ensures { machine.new ≡ run machine.old (replicate count Turn) }
-{
-    for _turn in 0..count {
-        machine.turn();
-    }
-}
-
-/// Lets the machine take turns: one, then groups that grow. Most turns of a recording find the machine
-/// still, and a group that begins with a still machine costs next to nothing.
-#[inline]
-fn take_turns<R: Ram>(machine: &mut Machine<R>, count: u32)
-    ensures { machine.new ≡ run machine.old (replicate count Turn) }
-{
-    let Some(mut left) = count.checked_sub(1) else {
-        return;
-    };
-    machine.turn();
-    let mut group: u32 = 16;
-    while left > 0 {
-        let some = left.min(group);
-        take_group(machine, some);
-        left -= some;
-        group = group.saturating_mul(16);
-    }
-}
 
 /// Hands a record to the machine.
 #[inline]
@@ -59,7 +30,7 @@ fn hand<R: Ram>(machine: &mut Machine<R>, step: Step)
         Step::Control(code) => {
             let _ = machine.push_control(code);
         }
-        Step::Turns(count) => take_turns(machine, count),
+        Step::Turns(count) => machine.turns(count),
         Step::Host(write) => machine.host(write),
         Step::Patch(..) => {}
     }
@@ -82,7 +53,7 @@ fn hand_plain<R: Ram>(
         return Some(6);
     }
     if let Some(count) = reader.take_turns(piece) {
-        take_turns(machine, count);
+        machine.turns(count);
         return Some(5);
     }
     None

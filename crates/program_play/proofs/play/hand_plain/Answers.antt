@@ -6,4 +6,4 @@ pub returns-in-Some-take_turns-clause-handed : goal.returns-in-Some-take_turns-c
 returns-in-Some-take_turns-clause-handed g c =
     let same = c.in_default.ensures.none in
     let taken = rw same at c.in-Some-take_turns.ensures.some in
-    (omega arith, (taken.within, taken.place, λ more. GoesOn-after _ _ _ _ _ (taken.whole more) c.take_turns-in-Some-take_turns.ensures))
+    (omega arith, (taken.within, taken.place, λ more. GoesOn-after _ _ _ _ _ (taken.whole more) c.turns.ensures.state))
