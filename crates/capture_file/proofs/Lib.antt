@@ -3,6 +3,7 @@ pub mod Readings
 pub mod Resumed
 pub mod Across
 pub mod Answered
+pub mod Fronts
 pub mod Programs
 pub mod Chunks
 pub mod Puts

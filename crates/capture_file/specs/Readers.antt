@@ -1,5 +1,5 @@
 -- What a reader of a stream is at, and what it does with the bytes that come next.
-use Rattle.std.specs.Prelude.{◌≡◌, ℕ, ◌+◌, ◌-◌, ◌<◌, ◌≤◌, Bool, true, false, List, [], ◌∷◌, ◌++◌, length, take, drop, Option, Some, None, Result, Ok, Err, nat_lt}
+use Rattle.std.specs.Prelude.{◌≡◌, ℕ, ◌+◌, ◌-◌, ◌<◌, ◌≤◌, Bool, true, false, List, [], ◌∷◌, ◌++◌, length, take, drop, Option, Some, None, Result, Ok, Err, nat_le, nat_lt}
 use Rattle.capture_file.specs.declared.FileKind.{FileKind}
 use Rattle.capture_file.specs.declared.FileKind.TheVariants as fault
 use Rattle.capture_file.specs.declared.FileFault.{FileFault}
@@ -29,9 +29,10 @@ phase_of (state.Within form) = Records form
 phase_of state.Closed = Closed
 phase_of (state.Failed fault) = Failed fault
 
--- nothing is held between two records
+-- nothing is held between two records, and some of a record that is under way
 abbrev pub HoldsAt : State → List ℕ → Type 0
 HoldsAt (state.Between form) held = held ≡ []
+HoldsAt (state.Within form) held = 0 < length held
 HoldsAt _ held = Unit {0}
 
 -- a reader after some bytes of a stream. `place` is the number of bytes that it used, `turns` the sum
@@ -152,6 +153,21 @@ after_answer got.End rest = rest
 after_answer got.More rest = rest
 after_answer (got.Bad fault) rest = reading [] (Bad fault)
 
+-- the record at the front of a piece that ends below the limit, where no record is under way
+abbrev pub front_if : Bool → List ℕ → Form → Reader → List ℕ → Found
+front_if true [] form r piece = record_at form r.turns piece
+front_if true (_ ∷ _) form r piece = Cut
+front_if false held form r piece = Cut
+
+abbrev pub front_in : Phase → Reader → List ℕ → Found
+front_in (Records form) r piece = front_if (nat_le (length piece) (room r)) r.held form r piece
+front_in Opening r piece = Cut
+front_in Closed r piece = Cut
+front_in (Failed fault) r piece = Cut
+
+abbrev pub front_record : Reader → List ℕ → Found
+front_record r piece = front_in r.phase r piece
+
 -- how many bytes of a piece an answer uses: all of it where more are wanted, and at least one for a
 -- step or the end
 abbrev pub Uses : Got → ℕ → ℕ → Type 0
@@ -185,6 +201,15 @@ Stays _ phase = Unit {0}
 abbrev pub AnswerFits : Got → Type 0
 AnswerFits (got.Step s) = StepFits s
 AnswerFits _ = Unit {0}
+
+-- a step was taken off the front of a piece with so many bytes
+pub record Takes (step : Step) (count : ℕ) (r : Reader) (piece : List ℕ) (after : Reader) : Type 0 where
+  pub exact : taking count (got.Step step) after ≡ taken r piece
+  pub whole : (more : List ℕ) → resumed r (piece ++ more) ≡ with_step step (resumed after (drop count piece ++ more))
+  pub within : count ≤ length piece
+  pub place : after.place ≡ r.place + count
+  pub moves : (before : ℕ) → PlacedAt r.phase r.place before → PlacedAt after.phase after.place (before + count)
+  pub fits : StepFits step
 
 -- how the bytes end that a reader used
 abbrev pub ending_in : Phase → Ending

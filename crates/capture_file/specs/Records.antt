@@ -1,13 +1,24 @@
 -- What holds of the records that are found.
 use Rattle.std.specs.Prelude.{◌≡◌, ℕ, ◌+◌, ◌<◌, ◌≤◌, ◌⊎◌, false, Option, Some, None}
 use Rattle.sync_status.specs.Statuses.{kind_of, is_control}
+use Rattle.fifo_model.specs.declared.Entry.{Entry}
+use Rattle.fifo_model.specs.declared.Queue.{Queue}
 use Rattle.irq_status.specs.declared.HostWrite.{HostWrite}
 use Rattle.irq_status.specs.declared.HostWrite.TheVariants.{Trigger}
 use Rattle.capture_file.specs.declared.Step.{Step}
-use Rattle.capture_file.specs.declared.Step.TheVariants.{Push, Host, Patch}
+use Rattle.capture_file.specs.declared.Step.TheVariants.{Push, Turns, Host, Patch}
 use Rattle.capture_file.specs.declared.records.Found.{Found}
 use Rattle.capture_file.specs.declared.records.Found.TheVariants.{Cut, Wrong, Last, Whole}
 use Rattle.capture_file.specs.Streams.{turns_of, most_turns}
+
+-- the data push, or the count of turns, that a record stands for
+abbrev pub push_in : Found → Option (Queue × Entry)
+push_in (Whole (Push queue entry) len) = Some (queue, entry)
+push_in _ = None
+
+abbrev pub turns_in : Found → Option ℕ
+turns_in (Whole (Turns count) len) = Some count
+turns_in _ = None
 
 -- a number has four bytes
 abbrev pub HasFour : Option ℕ → ℕ → Type 0

@@ -1,14 +1,15 @@
 //! A reader of streams that come in pieces.
 
-ghost use Rattle.capture_file.specs.Readers.{AnswerFits, Closed, Failed, Opening, Records, Counts, IsReader, PlacedAt, Stays, Uses, after_answer, behind_word, closed_by, closed_taken, ending_in, fresh, record_taken, resumed, room, taken, taking, word_taken};
-ghost use Rattle.capture_file.specs.Records.{FoundFits, HasFour, Passes, Spans, StepFits, Sums};
+ghost use Rattle.capture_file.specs.Readers.{AnswerFits, Closed, Failed, Opening, Records, Counts, IsReader, PlacedAt, Stays, Uses, after_answer, behind_word, closed_by, closed_taken, ending_in, fresh, record_taken, resumed, room, taken, taking, word_taken, Takes, front_record};
+ghost use Rattle.capture_file.specs.Records.{FoundFits, HasFour, Passes, Spans, StepFits, Sums, push_in, turns_in};
 ghost use Rattle.capture_file.specs.declared.FileFault.{FileFault};
 ghost use Rattle.capture_file.specs.declared.records.Found.TheVariants.{Cut};
 ghost use Rattle.capture_file.specs.Streams.{fault_at, most_turns, number_at, reading, record_at, stream_of, turns_of};
 ghost use Rattle.std.specs.Prelude.{◌≡◌, ◌≤◌, ◌<◌, ◌+◌, ◌-◌, ◌^◌, ◌++◌, List, ℕ, [], None, IfSome, IfNone, take, drop, length, true, false};
 
-use super::records::{Form, Found, find, find_quick, form_named, number};
+use super::records::{Form, Found, find, find_push, find_quick, find_turns, form_named, number};
 use super::{FileFault, FileKind, Step};
+use fifo_model::{Entry, Queue};
 use irq_status::HostWrite;
 use std::marker::Model;
 
@@ -245,10 +246,52 @@ impl StepReader {
             && let Found::Whole(step, len) = find_front(form, self.turns, piece)
         {
             self.room -= u64::from(len);
-            if let Step::Turns(count) = step {
-                self.turns += count;
+            if let Step::Turns(more) = step {
+                self.turns += more;
             }
             return Some((step, usize::from(len)));
+        }
+        None
+    }
+
+    /// The data push that lies whole at the front of a piece.
+    #[inline(always)]
+    #[tactic(auto, unfolding(crate::specs::Readers::taken))]
+    fn push_front(&mut self, piece: &[u8]) -> Option<(Queue, Entry)>
+        ensures found { result ≡ push_in (front_record self.old piece.now) }
+        ensures some { IfSome result (λ push. taking 6 (Got.Step (Step.Push push.0 push.1)) self.new ≡ taken self.old piece.now) }
+        ensures fits { IfSome result (λ push. StepFits (Step.Push push.0 push.1)) }
+        ensures none { IfNone result (self.new ≡ self.old) }
+        ensures valid { IsReader self.old }
+    {
+        let _limit = &self.limit;
+        if let State::Between(_) = self.state
+            && piece.len() as u64 <= self.room
+            && let Some(push) = find_push(piece)
+        {
+            self.room -= 6;
+            return Some(push);
+        }
+        None
+    }
+
+    /// The count of turns that lies whole at the front of a piece.
+    #[inline(always)]
+    #[tactic(auto, unfolding(crate::specs::Readers::taken))]
+    fn turns_front(&mut self, piece: &[u8]) -> Option<u32>
+        ensures found { result ≡ turns_in (front_record self.old piece.now) }
+        ensures some { IfSome result (λ count. taking 5 (Got.Step (Step.Turns count)) self.new ≡ taken self.old piece.now) }
+        ensures none { IfNone result (self.new ≡ self.old) }
+        ensures valid { IsReader self.old }
+    {
+        let _limit = &self.limit;
+        if let State::Between(_) = self.state
+            && piece.len() as u64 <= self.room
+            && let Some(count) = find_turns(self.turns, piece)
+        {
+            self.room -= 5;
+            self.turns += count;
+            return Some(count);
         }
         None
     }
@@ -272,7 +315,9 @@ impl StepReader {
                     return (room as usize + 1, Got::Bad(fault));
                 }
                 self.room -= piece.len() as u64;
-                self.state = State::Within(form);
+                if !piece.is_empty() {
+                    self.state = State::Within(form);
+                }
                 (piece.len(), Got::More)
             }
             Found::Wrong(from, to, kind) => {
@@ -426,6 +471,29 @@ impl StepReader {
         ensures fits { AnswerFits result.1 }
     {
         self.advance(piece)
+    }
+
+    /// Takes a data push whose record, of 6 bytes, lies whole at the front of the piece. There is none
+    /// where another record stands there, where a record is under way, or where the piece passes the
+    /// limit: then the reader stays as it was, and `take` goes on.
+    #[inline(always)]
+    pub fn take_push(&mut self, piece: &[u8]) -> Option<(Queue, Entry)>
+        ensures found { result ≡ push_in (front_record self.old piece.now) }
+        ensures some { IfSome result (λ push. Takes (Step.Push push.0 push.1) 6 self.old piece.now self.new) }
+        ensures none { IfNone result (self.new ≡ self.old) }
+    {
+        self.push_front(piece)
+    }
+
+    /// Takes a count of turns whose record, of 5 bytes, lies whole at the front of the piece. There is
+    /// none where `take_push` has none, and where the turns so far would be too many.
+    #[inline(always)]
+    pub fn take_turns(&mut self, piece: &[u8]) -> Option<u32>
+        ensures found { result ≡ turns_in (front_record self.old piece.now) }
+        ensures some { IfSome result (λ count. Takes (Step.Turns count) 5 self.old piece.now self.new) }
+        ensures none { IfNone result (self.new ≡ self.old) }
+    {
+        self.turns_front(piece)
     }
 
     fn closing(&self) -> Result<(), FileFault>

@@ -1,9 +1,10 @@
 //! The records of a stream.
 
-ghost use Rattle.capture_file.specs.Streams.{ack_with, buffer_if, control_at, data_with, enable_at, fields_at, form_of, is_buffer, is_data, kind_of_tag, number_at, patch_at, push_at, record_at, slot_if, trigger_at, turns_with};
+ghost use Rattle.capture_file.specs.Records.{StepFits, push_in, turns_in};
+ghost use Rattle.capture_file.specs.Streams.{ack_with, buffer_if, control_at, data_with, enable_at, fields_at, form_of, is_buffer, is_data, kind_of_tag, most_turns, number_at, patch_at, push_at, record_at, slot_if, trigger_at, turns_with};
 ghost use Rattle.capture_file.specs.declared.records.Form.{Form};
 ghost use Rattle.capture_file.specs.declared.records.Found.TheVariants.{Whole};
-ghost use Rattle.std.specs.Prelude.{◌≡◌, ℕ, IfSome};
+ghost use Rattle.std.specs.Prelude.{◌≡◌, ◌≤◌, ◌+◌, ℕ, IfNone, IfSome, None, length};
 
 use super::{FileKind, Step};
 use byteorder::{ByteOrder, LittleEndian};
@@ -255,10 +256,13 @@ pub fn find(form: Form, turns: u32, bytes: &[u8]) -> Found
     }
 }
 
-/// The step of a data push that lies whole at the front of some bytes. Most records are data pushes.
+/// The data push that lies whole at the front of some bytes.
 #[inline(always)]
-fn find_push(bytes: &[u8]) -> Option<Step>
-    ensures { IfSome result (λ step. (form : Form) (turns : ℕ) → record_at form turns bytes.now ≡ Whole step 6) }
+pub fn find_push(bytes: &[u8]) -> Option<(Queue, Entry)>
+    ensures some { IfSome result (λ push. (form : Form) (turns : ℕ) → record_at form turns bytes.now ≡ Whole (Step.Push push.0 push.1) 6) }
+    ensures within { IfSome result (λ _. 6 ≤ length bytes.now) }
+    ensures fits { IfSome result (λ push. StepFits (Step.Push push.0 push.1)) }
+    ensures none { IfNone result ((form : Form) (turns : ℕ) → push_in (record_at form turns bytes.now) ≡ None) }
 {
     match bytes {
         [tag, status, _, _, _, _, ..] => {
@@ -275,20 +279,41 @@ fn find_push(bytes: &[u8]) -> Option<Step>
                 status: Status::of(*status),
                 dword: LittleEndian::read_u32(&bytes[2..]),
             };
-            Some(Step::Push(queue, entry))
+            Some((queue, entry))
+        }
+        _ => None,
+    }
+}
+
+/// The count of turns that lies whole at the front of some bytes, after records of so many turns.
+#[inline(always)]
+pub fn find_turns(before: u32, bytes: &[u8]) -> Option<u32>
+    ensures some { IfSome result (λ count. (form : Form) → record_at form before bytes.now ≡ Whole (Step.Turns count) 5) }
+    ensures within { IfSome result (λ _. 5 ≤ length bytes.now) }
+    ensures sum { IfSome result (λ count. before + count ≤ most_turns) }
+    ensures none { IfNone result ((form : Form) → turns_in (record_at form before bytes.now) ≡ None) }
+{
+    match bytes {
+        [5, _, _, _, _, ..] => {
+            let count = LittleEndian::read_u32(&bytes[1..]);
+            if u64::from(before) + u64::from(count) <= u64::from(MOST_TURNS) {
+                Some(count)
+            } else {
+                None
+            }
         }
         _ => None,
     }
 }
 
 /// The record at the front of some bytes, after records of so many turns: `find`, quick where it is a
-/// data push.
+/// data push, as most records are.
 #[inline(always)]
 pub fn find_quick(form: Form, turns: u32, bytes: &[u8]) -> Found
     ensures { result ≡ record_at form turns bytes.now }
 {
     match find_push(bytes) {
-        Some(step) => Found::Whole(step, 6),
+        Some((queue, entry)) => Found::Whole(Step::Push(queue, entry), 6),
         None => find(form, turns, bytes),
     }
 }

@@ -126,6 +126,29 @@ fn a_stream_is_read_to_its_limit(rt: HostRuntime) {
     );
 }
 
+#[test]
+fn whole_records_are_taken_off_a_piece(rt: HostRuntime) {
+    let mut reader = StepReader::new(100);
+    assert_eq!(rt; reader.take_turns(b"BFS1\x05"), None);
+    assert_eq!(rt; reader.take(b"BFS1"), (4, Got::More));
+    let entry = Entry {
+        status: Status::of(2),
+        dword: 0x1312_1110,
+    };
+    assert_eq!(rt; reader.take_push(b"\x02\x02\x10\x11\x12"), None);
+    assert_eq!(rt; reader.take_push(b"\x02\x04\x10\x11\x12\x13"), None);
+    assert_eq!(rt; reader.take_turns(b"\x02\x02\x10\x11\x12\x13"), None);
+    assert_eq!(rt;
+        reader.take_push(b"\x02\x02\x10\x11\x12\x13"),
+        Some((Queue::Two, entry))
+    );
+    assert_eq!(rt; reader.take_turns(b"\x05\x07\0\0\0\x05"), Some(7));
+    assert_eq!(rt; reader.take_turns(b"\x05\xfa\xff\xff\x3f"), None);
+    assert_eq!(rt; reader.take_push(b"\x05\x01\0\0\0\x05"), None);
+    assert_eq!(rt; reader.take(b"\x05\x01"), (2, Got::More));
+    assert_eq!(rt; reader.take_turns(b"\x05\x07\0\0\0"), None);
+}
+
 // The steps of a stream that comes byte by byte.
 fn read_by_bytes(
     alloc: Global,

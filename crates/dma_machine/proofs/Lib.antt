@@ -3,3 +3,4 @@ pub mod Asked
 pub mod Bursts
 pub mod Machines
 pub mod Stills
+pub mod Turns

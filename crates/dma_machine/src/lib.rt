@@ -7,10 +7,11 @@ ghost use Rattle.fifo_model.specs.Queues.{empty_queues};
 ghost use Rattle.irq_status.specs.Register.{has_ocerr};
 ghost use Rattle.machine_model.specs.Safety.{StaysInside};
 ghost use Rattle.machine_model.specs.States.{started};
-ghost use Rattle.machine_model.specs.Steps.{control_pushed_as, host, push, push_control, pushed_as};
+ghost use Rattle.dma_machine.specs.Stills.{StillIf};
+ghost use Rattle.machine_model.specs.Steps.{Turn, control_pushed_as, host, push, push_control, pushed_as, run};
 ghost use Rattle.machine_model.specs.Turns.{turn};
 ghost use Rattle.page_table.specs.Blocks.{chunks_of};
-ghost use Rattle.std.specs.Prelude.{◌≡◌, false};
+ghost use Rattle.std.specs.Prelude.{◌≡◌, false, replicate};
 ghost use Rattle.sync_status.specs.Statuses.{is_control, kind_of};
 
 mod engine;
@@ -106,6 +107,31 @@ impl<R: Ram> Machine<R> {
         ensures no_error { has_ocerr self.new.interrupts ≡ false }
     {
         self.engine.turn();
+    }
+
+    /// Whether the machine stands still: its turns do nothing but count. Where it isn't told to, it may.
+    #[inline]
+    fn is_still(&self) -> bool
+        ensures { StillIf result self.now }
+    {
+        self.engine.still
+    }
+
+    /// So many turns of the controller, one after the other.
+    #[inline]
+    pub fn turns(&mut self, count: u32)
+        ensures state { self.new ≡ run self.old (replicate count Turn) }
+        ensures facts { IsMachine self.new }
+    {
+        let _engine = &self.engine;
+        let mut left = count;
+        while left > 0 && !self.is_still() {
+            self.turn();
+            left -= 1;
+        }
+        for _turn in 0..left {
+            self.turn();
+        }
     }
 
     /// A register write of the host.

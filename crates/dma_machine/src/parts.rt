@@ -3,12 +3,13 @@
 ghost use Rattle.dma_machine.specs.Needs.{IsAddress};
 ghost use Rattle.machine_model.specs.Paths.{demand, demands_of, first_demand, instr_ctl, instr_ends, instr_off, no_demand, target_after, target_before, target_moved, three_demands};
 ghost use Rattle.machine_model.specs.Turns.{demand_less, demand_on, is_cut_short, is_done, rest_of_line, skipping_after, with_demand};
-ghost use Rattle.std.specs.Prelude.{◌≡◌, ◌+◌, ◌≤◌};
+ghost use Rattle.std.specs.Prelude.{◌≡◌, ◌+◌, ◌<◌, ◌≤◌, ◌⊎◌};
+ghost use Rattle.sync_status.specs.Statuses.{TakesWithin, kind_of, valid_bytes, verdict_on};
 
 use fifo_model::{Entry, Queue};
 use machine_model::{Demand, Demands, Skipping};
 use risc_word::{Ctl, Ends, Instr};
-use sync_status::{StatusKind, kind};
+use sync_status::{Status, StatusKind, Verdict, judge, kind};
 
 /// The control bits.
 #[inline]
@@ -232,31 +233,31 @@ pub fn demand_on(demands: &Demands, q: Queue) -> Demand
     }
 }
 
-#[inline]
-pub fn put_demand(demands: &mut Demands, q: Queue, demand: Demand)
-    ensures { demands.new ≡ with_demand q demand demands.old }
+/// Takes so many bytes off what is asked of a queue.
+#[inline(always)]
+fn lessen_one(demand: &mut Demand, count: u8)
+    requires asked { count ≤ demand.old.rest }
+    requires address { IsAddress demand.old.address }
+    ensures { demand.new ≡ demand_less count demand.old }
 {
-    match q {
-        Queue::One => demands.one = demand,
-        Queue::Two => demands.two = demand,
-        Queue::Three => demands.three = demand,
+    demand.rest -= u16::from(count);
+    if let Some(at) = demand.address {
+        demand.address = Some(at + u64::from(count));
     }
+    demand.needs_sol = false;
 }
 
-/// What is asked of a queue after some bytes of it were taken.
-#[inline]
-pub fn less(demand: Demand, count: u8) -> Demand
-    requires asked { count ≤ demand.rest }
-    requires address { IsAddress demand.address }
-    ensures { result ≡ demand_less count demand }
+/// What is still asked after some bytes of a queue were taken.
+#[inline(always)]
+pub fn lessen(demands: &mut Demands, q: Queue, count: u8)
+    requires asked { count ≤ (demand_on q demands.old).rest }
+    requires address { IsAddress (demand_on q demands.old).address }
+    ensures { demands.new ≡ with_demand q (demand_less count (demand_on q demands.old)) demands.old }
 {
-    Demand {
-        rest: demand.rest - u16::from(count),
-        address: match demand.address {
-            Some(at) => Some(at + u64::from(count)),
-            None => None,
-        },
-        needs_sol: false,
+    match q {
+        Queue::One => lessen_one(&mut demands.one, count),
+        Queue::Two => lessen_one(&mut demands.two, count),
+        Queue::Three => lessen_one(&mut demands.three, count),
     }
 }
 
@@ -278,4 +279,32 @@ pub fn is_cut_short(entry: Entry, taken: u8, count: u8, rest: u16) -> bool
         StatusKind::End(valid) => taken + count == valid && rest != u16::from(count),
         _ => false,
     }
+}
+
+#[inline(never)]
+fn judge_other(front: Status, need_sol: bool, part: u8, rest: u16) -> Verdict
+    requires asked { 1 ≤ rest }
+    requires within { (part ≡ 0) ⊎ (part < valid_bytes front) }
+    ensures verdict { result ≡ verdict_on (kind_of front) need_sol part rest }
+    ensures takes { TakesWithin (valid_bytes front) part rest result }
+{
+    judge(front, need_sol, part, rest)
+}
+
+/// What a line under way does with a front: `judge`, quick where it is taken whole, as most are.
+#[inline(always)]
+pub fn judge_front(front: Status, need_sol: bool, part: u8, rest: u16) -> Verdict
+    requires asked { 1 ≤ rest }
+    requires within { (part ≡ 0) ⊎ (part < valid_bytes front) }
+    ensures verdict { result ≡ verdict_on (kind_of front) need_sol part rest }
+    ensures takes { TakesWithin (valid_bytes front) part rest result }
+{
+    if part == 0 && rest >= 4 {
+        match kind(front) {
+            StatusKind::Start if need_sol => return Verdict::Take(4),
+            StatusKind::Pixels | StatusKind::End(4) if !need_sol => return Verdict::Take(4),
+            _ => {}
+        }
+    }
+    judge_other(front, need_sol, part, rest)
 }

@@ -1,13 +1,13 @@
 //! Turns of a machine that runs a data instruction.
 
 use crate::engine::{Engine, Phase};
-use crate::parts::{demand_on, is_cut_short, is_done, less, off_of, put_demand, rest_of_line};
+use crate::parts::{demand_on, is_cut_short, is_done, judge_front, lessen, off_of, rest_of_line};
 use crate::stores::store_at;
 use fifo_model::{Entry, Queue};
 use irq_status::FDSR;
 use machine_model::Skipping;
 use page_ram::Ram;
-use sync_status::{Verdict, judge};
+use sync_status::Verdict;
 
 impl<R: Ram> Engine<R> {
     ghost use Rattle.dma_machine.specs.Needs.{Applied, IsAddress};
@@ -17,7 +17,7 @@ impl<R: Ram> Engine<R> {
     ghost use Rattle.machine_model.specs.Turns.{apply, burst, burst_of, demand_on, is_cut_short, is_done, is_served, judged, lowest_served, ran, served, taking, took, verdict_at, with_fdsr, with_queue};
     ghost use Rattle.page_table.specs.Blocks.{chunks_of};
     ghost use Rattle.std.specs.Prelude.{◌≡◌, ◌+◌, ◌≤◌, IsSome, None, Some};
-    ghost use Rattle.sync_status.specs.Statuses.{valid_bytes};
+    ghost use Rattle.sync_status.specs.Statuses.{TakesWithin, valid_bytes};
 
     /// Takes bytes of a queue's front and stores those whose lane is on; whether the line ends before the
     /// instruction has what it asks for.
@@ -46,7 +46,7 @@ impl<R: Ram> Engine<R> {
             &bytes[..usize::from(n)],
         );
         self.moved = self.moved.saturating_add(stored);
-        put_demand(&mut self.demands, q, less(demand, n));
+        lessen(&mut self.demands, q, n);
         is_cut_short(entry, part, n, demand.rest)
     }
 
@@ -79,9 +79,31 @@ impl<R: Ram> Engine<R> {
         self.interrupts.raise(FDSR);
     }
 
+    /// What a verdict on the front of a queue makes of the instruction.
+    #[inline(never)]
+    fn follow(&mut self, verdict: Verdict, q: Queue, entry: Entry)
+        requires running { self.old.phase ≡ Phase.Running }
+        requires front { front (lane_of q self.old.queues) ≡ Some entry }
+        requires verdict { verdict ≡ verdict_at q self.old.demands entry (state_of R.memory self.old) }
+        requires takes { TakesWithin (valid_bytes entry.status) (lane_of q self.old.queues).taken (demand_on q self.old.demands).rest verdict }
+        requires within { demands_cause (chunks_of (R.memory self.old.ram)) self.old.demands ≡ None }
+        ensures state { state_of R.memory self.new ≡ judged verdict q self.old.instr self.old.demands entry (state_of R.memory self.old) }
+        ensures within { demands_cause (chunks_of (R.memory self.new.ram)) self.new.demands ≡ None }
+    {
+        match verdict {
+            Verdict::Take(n) => self.take(q, n, entry),
+            Verdict::Discard => self.discard(q),
+            Verdict::Broken => self.give_up(Skipping::ToSync),
+            Verdict::Missing => {
+                let skipping = rest_of_line(&self.instr);
+                self.give_up(skipping);
+            }
+        }
+    }
+
     /// What the front of a queue makes of the instruction.
     #[inline(always)]
-    fn judge_front(&mut self, q: Queue, entry: Entry)
+    fn meet_front(&mut self, q: Queue, entry: Entry)
         requires running { self.old.phase ≡ Phase.Running }
         requires front { front (lane_of q self.old.queues) ≡ Some entry }
         requires asked { 1 ≤ (demand_on q self.old.demands).rest }
@@ -91,16 +113,9 @@ impl<R: Ram> Engine<R> {
     {
         let demand = demand_on(&self.demands, q);
         let part = self.queues.part(q);
-        match judge(entry.status, demand.needs_sol, part, demand.rest) {
-            // most entries are taken whole
+        match judge_front(entry.status, demand.needs_sol, part, demand.rest) {
             Verdict::Take(4) => self.take(q, 4, entry),
-            Verdict::Take(n) => self.take(q, n, entry),
-            Verdict::Discard => self.discard(q),
-            Verdict::Broken => self.give_up(Skipping::ToSync),
-            Verdict::Missing => {
-                let skipping = rest_of_line(&self.instr);
-                self.give_up(skipping);
-            }
+            verdict => self.follow(verdict, q, entry),
         }
     }
 
@@ -117,7 +132,7 @@ impl<R: Ram> Engine<R> {
                 if demand_on(&self.demands, q).rest == 0 {
                     false
                 } else {
-                    self.judge_front(q, entry);
+                    self.meet_front(q, entry);
                     true
                 }
             }

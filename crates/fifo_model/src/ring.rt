@@ -69,7 +69,9 @@ impl Ring {
         let waking = is_waking(entry.status);
         match self.entries.try_push_back(entry) {
             Ok(()) => {
-                self.wakers += u16::from(waking);
+                if waking {
+                    self.wakers += 1;
+                }
                 Pushed::Held
             }
             Err(_) => {
@@ -133,6 +135,23 @@ impl Ring {
         self.taken = 0;
     }
 
+    /// Takes the four bytes of a front of which none was taken.
+    #[inline(always)]
+    fn take_whole(&mut self, out: &mut [u8; 4])
+        requires { self.old.taken + 4 ≤ front_valid self.old }
+        ensures bytes { out.new ≡ front_bytes 4 self.old ++ drop 4 out.old }
+        ensures queue { self.new ≡ taken_from 4 self.old }
+    {
+        if let Some(entry) = self.front() {
+            let _lanes = valid(entry.status);
+            *out = entry.dword.to_le_bytes();
+            self.entries.pop_front();
+            if is_waking(entry.status) {
+                self.wakers -= 1;
+            }
+        }
+    }
+
     /// Takes some more bytes of the front into the front of `out`, and answers how many were taken before.
     #[inline]
     pub fn take(&mut self, count: u8, out: &mut [u8; 4]) -> u8
@@ -142,6 +161,10 @@ impl Ring {
         ensures bytes { out.new ≡ front_bytes count self.old ++ drop count out.old }
         ensures queue { self.new ≡ taken_from count self.old }
     {
+        if count == 4 {
+            self.take_whole(out);
+            return 0;
+        }
         let part = self.taken;
         if let Some(entry) = self.front() {
             put_lanes(entry.dword, part, count, out);
@@ -170,18 +193,6 @@ fn put_lanes(dword: u32, part: u8, count: u8, out: &mut [u8; 4])
     ensures { out.new ≡ take count (drop part (lane_bytes dword)) ++ drop count out.old }
 {
     let bytes = dword.to_le_bytes();
-    if count == 4 {
-        *out = bytes;
-    } else {
-        put_some(bytes, part, count, out);
-    }
-}
-
-/// The same for a part of the DWORD.
-fn put_some(bytes: [u8; 4], part: u8, count: u8, out: &mut [u8; 4])
-    requires { part + count ≤ length bytes }
-    ensures { out.new ≡ take count (drop part bytes) ++ drop count out.old }
-{
     let (from, to) = (usize::from(part), usize::from(part + count));
     out[..usize::from(count)].copy_from_slice(&bytes[from..to]);
 }

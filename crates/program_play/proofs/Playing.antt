@@ -1,5 +1,6 @@
 -- Laws of runs and of streams that come in pieces.
 use Rattle.std.proofs.Common.{◌≡◌, ℕ, zero, suc, ◌+◌, ◌-◌, ◌<◌, ◌≤◌, ◌⊎◌, inl, inr, false, List, [], ◌∷◌, ◌++◌, length, take, drop, replicate, option_map, Option, Some, None, Ok, Err, Result, refl, sym, ap, subst, ◌∙◌, arith, length-drop, length-take, zero-add, append_assoc, add-one}
+use Rattle.std.specs.Prelude.{IfErr, IfOk}
 use Rattle.std.proofs.lemmas.Bool.{lt-ltb}
 use Rattle.std.proofs.Math.Nat.{add-sub_of_le}
 use Rattle.std.proofs.Math.Seq.{take-add}
@@ -14,23 +15,7 @@ use Rattle.machine_model.proofs.Runs.{run-append}
 use Rattle.capture_file.specs.declared.Step.{Step}
 use Rattle.capture_file.specs.Streams.{Reading, reading, with_step, Ending, Unfinished, Ended, Bad, atomic, steps_run, stream_of, whole_file, within_if, too_long, judged}
 use Rattle.capture_file.specs.Readers.{Reader, fresh, resumed, closed_by}
-use Rattle.program_play.specs.Plays.{GoesOn, Handed, HandedAll, HasPlayed, IsAtFault, longest_stream}
-
-turn_more : (k : ℕ) (m : State) → run m (replicate (suc k) Turn) ≡ turn (run m (replicate k Turn))
-turn_more zero m = refl
-turn_more (suc k) m = turn_more k (turn m)
-
-pub one_turn_more : (m : State) (k : ℕ) → run m (replicate (k + 1) Turn) ≡ turn (run m (replicate k Turn))
-one_turn_more m k = ap (λ n. run m (replicate n Turn)) (add-one k) ∙ turn_more k m
-
--- turns taken in two parts
-pub turns_after : (m now : State) (some whole : ℕ) → some ≤ whole → now ≡ run m (replicate some Turn) →
-    run now (replicate (whole - some) Turn) ≡ run m (replicate whole Turn)
-turns_after m now some whole few is =
-    ap (λ n. run n (replicate (whole - some) Turn)) is
-    ∙ sym (run-append m (replicate some Turn) (replicate (whole - some) Turn))
-    ∙ ap (run m) (replicate-append-replicate some (whole - some) Turn)
-    ∙ ap (λ n. run m (replicate n Turn)) (add-sub_of_le few)
+use Rattle.program_play.specs.Plays.{GoesOn, Handed, HandedAll, HandedFront, HandedPart, HasPlayed, IsAtFault, longest_stream}
 
 pub GoesOn-itself : (m : State) (whole : Reading) → GoesOn m whole m whole
 GoesOn-itself m whole = record { ran = refl; ending = refl }
@@ -72,6 +57,34 @@ pub GoesOn-from : (at used : ℕ) (m : State) (reader after last : Reader) (piec
 GoesOn-from at used m reader after last piece now later one two more =
     subst (λ bytes. GoesOn m (resumed reader (piece ++ more)) later (resumed last (bytes ++ more))) (drop-drop used at piece)
     (GoesOn-then m (resumed reader (piece ++ more)) now (resumed after (drop at piece ++ more)) later (resumed last (drop used (drop at piece) ++ more)) (one more) (two more))
+
+-- where nothing was handed yet
+module _ (m now later : State) (reader after last : Reader) (piece : List ℕ) (run : ℕ) (none : run ≡ 0) (part : HandedPart run m reader piece now after) where
+  before : (more : List ℕ) → GoesOn m (resumed reader (piece ++ more)) now (resumed after (piece ++ more))
+  before more = let some = part.2 more in rw none at some
+
+  front_after : (o : Option ℕ) → HandedFront o now after piece later last → HandedFront o m reader piece later last
+  front_after None front = (
+    omega (arith, none, part.1, front.0),
+    λ more. GoesOn-then m (resumed reader (piece ++ more)) now (resumed after (piece ++ more)) later (resumed last more) (before more) (front.1 more),
+  )
+  front_after (Some used) front = (
+    front.0,
+    (
+      front.1.0,
+      omega (arith, none, part.1, front.1.1),
+      λ more.
+          GoesOn-then m (resumed reader (piece ++ more)) now (resumed after (piece ++ more)) later (resumed last (drop used piece ++ more)) (before more) (front.1.2 more),
+    ),
+  )
+
+  pub handed_after : (r : Result (Option ℕ) FileFault) → IfOk r (λ o. HandedFront o now after piece later last) → IfOk r (λ o. HandedFront o m reader piece later last)
+  handed_after (Ok o) front = front_after o front
+  handed_after (Err fault) front = tt
+
+  pub fault_after : (r : Result (Option ℕ) FileFault) → IfErr r (λ fault. IsAtFault after piece fault) → IfErr r (λ fault. IsAtFault reader piece fault)
+  fault_after (Ok o) at = tt
+  fault_after (Err fault) at = λ more. sym (before more).ending ∙ at more
 
 -- what is read next is handed on
 module _ (m now : State) (after : Reader) where

@@ -6,6 +6,8 @@ use Rattle.capture_file.specs.declared.Step.{Step}
 use Rattle.capture_file.specs.declared.FileFault.{FileFault}
 use Rattle.capture_file.specs.declared.Input.TheVariants.{Stream}
 use Rattle.capture_file.specs.Streams.{Reading, Bad, steps_of, steps_run}
+use Rattle.capture_file.specs.declared.records.Found.{Found}
+use Rattle.capture_file.specs.Records.{push_in, turns_in}
 use Rattle.capture_file.specs.Readers.{Reader, fresh, resumed}
 use Rattle.command_steps.specs.declared.answer.Answer.{Answer}
 use Rattle.command_steps.specs.declared.answer.Answer.TheVariants.{ReadFault, Malformed}
@@ -25,14 +27,22 @@ abbrev pub Handed : State → Reader → List ℕ → State → Reader → Type 
 Handed m reader piece now after =
     (more : List ℕ) → GoesOn m (resumed reader (piece ++ more)) now (resumed after more)
 
--- the record at the front of a piece was handed to a machine, with so many bytes; where there is no whole record, the
+-- so many bytes at the front of a piece were handed to a machine
+abbrev pub HandedPart : ℕ → State → Reader → List ℕ → State → Reader → Type 0
+HandedPart used m reader piece now after =
+    (used ≤ length piece) × (after.place ≡ reader.place + used)
+    × ((more : List ℕ) → GoesOn m (resumed reader (piece ++ more)) now (resumed after (drop used piece ++ more)))
+
+-- the records at the front of a piece were handed to a machine, with so many bytes; where there is no whole record, the
 -- piece was
 abbrev pub HandedFront : Option ℕ → State → Reader → List ℕ → State → Reader → Type 0
-HandedFront (Some used) m reader piece now after =
-    (0 < used) × (used ≤ length piece) × (after.place ≡ reader.place + used)
-    × ((more : List ℕ) → GoesOn m (resumed reader (piece ++ more)) now (resumed after (drop used piece ++ more)))
+HandedFront (Some used) m reader piece now after = (0 < used) × HandedPart used m reader piece now after
 HandedFront None m reader piece now after =
     (after.place ≡ reader.place + length piece) × Handed m reader piece now after
+
+-- neither a data push nor turns
+abbrev pub IsOther : Found → Type 0
+IsOther found = (push_in found ≡ None) × (turns_in found ≡ None)
 
 -- the piece holds the stream's first fault
 abbrev pub IsAtFault : Reader → List ℕ → FileFault → Type 0

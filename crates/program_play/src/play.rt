@@ -1,12 +1,12 @@
 //! A stream, handed to the machine as it is read.
 
-ghost use Rattle.std.specs.Prelude.{◌≡◌, ◌+◌, ◌≤◌, false, length, replicate, IfErr, IfOk, IsTrue, OnOk};
-ghost use Rattle.capture_file.specs.Readers.{fresh};
+ghost use Rattle.std.specs.Prelude.{◌≡◌, ◌+◌, ◌≤◌, drop, false, length, IfErr, IfNone, IfOk, IfSome, IsTrue, OnOk, Some};
+ghost use Rattle.capture_file.specs.Readers.{fresh, front_record};
 ghost use Rattle.capture_file.specs.Records.{StepFits};
 ghost use Rattle.capture_file.specs.Streams.{atomic};
-ghost use Rattle.machine_model.specs.Steps.{Turn, run};
+ghost use Rattle.machine_model.specs.Steps.{run};
 ghost use Rattle.command_steps.specs.Desks.{CountsBy, OfRest, apart, seen_by};
-ghost use Rattle.program_play.specs.Plays.{Handed, HandedAll, HandedFront, HasPlayed, IsAtFault, StopsPlaying, longest_stream};
+ghost use Rattle.program_play.specs.Plays.{Handed, HandedAll, HandedFront, HandedPart, HasPlayed, IsOther, IsAtFault, StopsPlaying, longest_stream};
 
 use capture_desk::Desk;
 use capture_file::{FileFault, Got, Input, Step, StepReader};
@@ -16,35 +16,6 @@ use page_ram::Ram;
 
 /// The most bytes of a stream.
 const LONGEST_STREAM: u64 = 4_294_967_295;
-
-/// Lets the machine take a group of turns.
-#[inline]
-fn take_group<R: Ram>(machine: &mut Machine<R>, count: u32)
-    ensures { machine.new ≡ run machine.old (replicate count Turn) }
-{
-    for _turn in 0..count {
-        machine.turn();
-    }
-}
-
-/// Lets the machine take turns: one, then groups that grow. Most turns of a recording find the machine
-/// still, and a group that begins with a still machine costs next to nothing.
-#[inline]
-fn take_turns<R: Ram>(machine: &mut Machine<R>, count: u32)
-    ensures { machine.new ≡ run machine.old (replicate count Turn) }
-{
-    let Some(mut left) = count.checked_sub(1) else {
-        return;
-    };
-    machine.turn();
-    let mut group: u32 = 16;
-    while left > 0 {
-        let some = left.min(group);
-        take_group(machine, some);
-        left -= some;
-        group = group.saturating_mul(16);
-    }
-}
 
 /// Hands a record to the machine.
 #[inline]
@@ -59,16 +30,53 @@ fn hand<R: Ram>(machine: &mut Machine<R>, step: Step)
         Step::Control(code) => {
             let _ = machine.push_control(code);
         }
-        Step::Turns(count) => take_turns(machine, count),
+        Step::Turns(count) => machine.turns(count),
         Step::Host(write) => machine.host(write),
         Step::Patch(..) => {}
     }
 }
 
+/// Hands the data push or the turns that lie whole at the front of a piece to the machine, and answers
+/// how many bytes their record has.
+#[inline(always)]
+fn hand_plain<R: Ram>(
+    machine: &mut Machine<R>,
+    reader: &mut StepReader,
+    piece: &[u8],
+) -> Option<usize>
+    ensures handed { IfSome result (λ used. HandedFront (Some used) machine.old reader.old piece.now machine.new reader.new) }
+    ensures none { IfNone result ((machine.new ≡ machine.old) × (reader.new ≡ reader.old)) }
+    ensures other { IfNone result (IsOther (front_record reader.old piece.now)) }
+{
+    if let Some((q, e)) = reader.take_push(piece) {
+        let _ = machine.push(q, e);
+        return Some(6);
+    }
+    if let Some(count) = reader.take_turns(piece) {
+        machine.turns(count);
+        return Some(5);
+    }
+    None
+}
+
+/// Hands the data pushes and the turns at the front of a piece to the machine, up to where another
+/// record stands or the piece ends, and answers how many bytes their records have.
+#[inline(never)]
+fn hand_run<R: Ram>(machine: &mut Machine<R>, reader: &mut StepReader, piece: &[u8]) -> usize
+    ensures handed { HandedPart result machine.old reader.old piece.now machine.new reader.new }
+    ensures other { IsOther (front_record reader.new (drop result piece.now)) }
+{
+    let mut at = 0;
+    while let Some(used) = hand_plain(machine, reader, &piece[at..]) {
+        at += used;
+    }
+    at
+}
+
 /// Hands the record at the front of a piece to the machine, and answers how many bytes of the piece it
 /// took; none where the piece ends before a record does.
-#[inline]
-fn hand_front<R: Ram>(
+#[inline(never)]
+fn hand_record<R: Ram>(
     machine: &mut Machine<R>,
     reader: &mut StepReader,
     piece: &[u8],
@@ -85,6 +93,24 @@ fn hand_front<R: Ram>(
         Got::End => Ok(Some(used)),
         Got::More => Ok(None),
         Got::Bad(fault) => Err(fault),
+    }
+}
+
+/// Hands the records at the front of a piece to the machine, and answers how many bytes of the piece
+/// they took; none where the piece ends before a record does.
+fn hand_front<R: Ram>(
+    machine: &mut Machine<R>,
+    reader: &mut StepReader,
+    piece: &[u8],
+) -> Result<Option<usize>, FileFault>
+    ensures handed { IfOk result (λ used. HandedFront used machine.old reader.old piece.now machine.new reader.new) }
+    ensures fault { IfErr result (λ fault. IsAtFault reader.old piece.now fault) }
+{
+    let run = hand_run(machine, reader, piece);
+    if run > 0 {
+        Ok(Some(run))
+    } else {
+        hand_record(machine, reader, piece)
     }
 }
 

@@ -1,19 +1,15 @@
-use Rattle.std.proofs.Common.{◌+◌, ◌++◌, ◌∙◌, ap, length, drop, subst}
-use Rattle.capture_file.specs.Readers.{Uses, Counts, after_answer, resumed}
-use Rattle.program_play.proofs.Playing.{GoesOn-after}
+use Rattle.std.proofs.Common.{◌≡◌, arith}
+use Rattle.program_play.proofs.Playing.{fault_after, handed_after}
 use Rattle.program_play.proofs.play.hand_front.Goals as goal
 
-pub returns-in-Step-clause-handed : goal.returns-in-Step-clause-handed
-returns-in-Step-clause-handed g c =
-    let e = c.take-used.ensures in
-    let used = subst (λ a. Uses a c.take-used.result.0 (length c.args.piece.now)) c.in-Step.is e.used in
-    let place = subst (λ a. Counts a (c.args.reader.now.place + c.take-used.result.0) c.take-used.new.self.place) c.in-Step.is e.place in (
-      used.0,
-      used.1,
-      place,
-      λ more.
-          GoesOn-after _ _ _ _ _
-          (e.whole more
-          ∙ ap (λ a. after_answer a (resumed c.take-used.new.self (drop c.take-used.result.0 c.args.piece.now ++ more))) c.in-Step.is)
-          c.hand.ensures,
-    )
+pub returns-else-run-gt0-clause-handed : goal.returns-else-run-gt0-clause-handed
+returns-else-run-gt0-clause-handed g c =
+    let none : c.hand_run-run.result ≡ 0 = omega (arith, c.if-run-gt0.false) in
+    handed_after c.args.machine.now c.hand_run-run.new.machine c.hand_record.new.machine c.args.reader.now c.hand_run-run.new.reader c.hand_record.new.reader c.args.piece.now c.hand_run-run.result none
+    c.hand_run-run.ensures.handed c.hand_record.result c.hand_record.ensures.handed
+
+pub returns-else-run-gt0-clause-fault : goal.returns-else-run-gt0-clause-fault
+returns-else-run-gt0-clause-fault g c =
+    let none : c.hand_run-run.result ≡ 0 = omega (arith, c.if-run-gt0.false) in
+    fault_after c.args.machine.now c.hand_run-run.new.machine c.hand_record.new.machine c.args.reader.now c.hand_run-run.new.reader c.hand_record.new.reader c.args.piece.now c.hand_run-run.result none
+    c.hand_run-run.ensures.handed c.hand_record.result c.hand_record.ensures.fault

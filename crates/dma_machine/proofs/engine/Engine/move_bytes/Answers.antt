@@ -14,8 +14,6 @@ store_at-stored-requires-clause-granted g c =
 
 pub returns-clause-within : goal.returns-clause-within
 returns-clause-within g c =
-    let less = c.less.ensures ∙ ap (demand_less c.args.n) c.demand_on-demand.ensures in
-    let left = c.put_demand.ensures ∙ ap (λ d. with_demand c.args.q d c.args.self.now.demands) less in
-    ap (demands_cause (chunks_of (g.R.Ram.memory c.store_at-stored.new.ram))) left
+    ap (demands_cause (chunks_of (g.R.Ram.memory c.store_at-stored.new.ram))) c.lessen.ensures
     ∙ rest-granted _ _ (stores_at c.demand_on-demand.result.address c.off_of-off.result c.take-part.result (take c.from.result c.take-part.new.out))
     c.args.q c.args.self.now.demands c.args.n c.store_at-stored.ensures.memory c.requires.asked c.requires.within

@@ -1,0 +1,15 @@
+use Rattle.std.proofs.Common.{◌≡◌, ◌+◌, ◌-◌, ◌≤◌, ◌++◌, List, ℕ, length, drop}
+use Rattle.capture_file.specs.Readers.{resumed}
+use Rattle.program_play.specs.Plays.{GoesOn}
+use Rattle.program_play.proofs.play.hand_run.Given as goal
+
+abbrev pub invariant-loop-used : goal.invariant-loop-used
+invariant-loop-used g l =
+    record {
+      within : l.at ≤ length l.piece;
+      handed : (more : List ℕ) → GoesOn l.fn.machine (resumed l.fn.reader (l.piece ++ more)) l.machine (resumed l.reader (drop l.at l.piece ++ more));
+      place : l.reader.place ≡ l.fn.reader.place + l.at;
+    }
+
+abbrev pub decreases-loop-used : goal.decreases-loop-used
+decreases-loop-used g l = length l.piece - l.at
