@@ -2,8 +2,8 @@
 use Rattle.std.proofs.Common.{◌≡◌, suc, ◌+◌, true, false, not, All, List, [], ◌∷◌, ◌++◌, length, drop, Option, Some, None, refl, sym, ap, ◌∙◌, arith}
 use Rattle.std.proofs.lemmas.List.Elements.{All-head, All-tail}
 use Rattle.risc_word.specs.declared.Code.{Code}
-use Rattle.risc_word.specs.declared.Code.TheVariants.{Vre, Vro, Fm1, Fm3}
 use Rattle.risc_word.specs.Words.{code_number, code_numbered}
+use Rattle.risc_word.proofs.ReadBack.{code_numbered-number}
 use Rattle.sync_status.specs.declared.StatusKind.{StatusKind}
 use Rattle.sync_status.specs.declared.StatusKind.TheVariants.{Control, Start, Pixels, End, Reserved}
 use Rattle.sync_status.specs.Statuses.{kind_of, is_control}
@@ -60,15 +60,9 @@ held_code (entry ∷ behind) h some = control_code (kind_of entry.status) h
 
 -- ---- codes
 
-number_read : (code : Code) → code_numbered (code_number code) ≡ Some code
-number_read Vre = refl
-number_read Vro = refl
-number_read Fm1 = refl
-number_read Fm3 = refl
-
 pub same_code : (one two : Code) → code_number one ≡ code_number two → one ≡ two
 same_code one two h =
-    let same : Some one ≡ Some two = sym (number_read one) ∙ ap code_numbered h ∙ number_read two in
+    let same : Some one ≡ Some two = sym (code_numbered-number one) ∙ ap code_numbered h ∙ code_numbered-number two in
     cc
 
 -- the codes in front of two queues are the same

@@ -135,11 +135,11 @@ some_at : (to : Option ℕ) (x address : ℕ) → option_map (λ at. at + x) to 
 some_at None x address h = cc
 some_at (Some at) x address h = (at, refl, cc)
 
-stored_first : (address : ℕ) (xs ys : List Store) → is_stored address xs ≡ true → is_stored address (xs ++ ys) ≡ true
+pub stored_first : (address : ℕ) (xs ys : List Store) → is_stored address xs ≡ true → is_stored address (xs ++ ys) ≡ true
 stored_first address xs ys h =
     list_any-append (λ store. store.address == address) xs ys ∙ or_left (is_stored address xs) (is_stored address ys) h
 
-stored_second : (address : ℕ) (xs ys : List Store) → is_stored address ys ≡ true → is_stored address (xs ++ ys) ≡ true
+pub stored_second : (address : ℕ) (xs ys : List Store) → is_stored address ys ≡ true → is_stored address (xs ++ ys) ≡ true
 stored_second address xs ys h =
     list_any-append (λ store. store.address == address) xs ys ∙ or_right (is_stored address xs) (is_stored address ys) h
 

@@ -58,10 +58,8 @@ pub served_none : (ds : Demands) (m : State) (q : Queue) → lowest_served ds m 
 served_none ds m q h = lowest_none (λ q. is_served q ds m) (is_served One ds m) (is_served Two ds m) (is_served Three ds m) refl refl refl q h
 
 done_three : (a b c : Bool) → (a && b && c) ≡ true → (a ≡ true) × (b ≡ true) × (c ≡ true)
-done_three true true true h = (refl, refl, refl)
-done_three true true false h = cc
-done_three true false c h = cc
-done_three false b c h = cc
+done_three a b c h =
+    let both = and_parts (a && b) c h in let parts = and_parts a b both.0 in (parts.0, parts.1, both.1)
 
 undone_three : (a b c : Bool) → (a && b && c) ≡ false → (q : Queue) × (elim q as (λ _. Bool) [ One ↦ a | Two ↦ b | Three ↦ c ] ≡ false)
 undone_three false b c h = (One, refl)

@@ -8,7 +8,7 @@ use Rattle.fifo_model.specs.declared.Queue.{Queue}
 use Rattle.fifo_model.specs.declared.Queue.TheVariants.{One, Two, Three}
 use Rattle.machine_model.specs.States.{first_state}
 use Rattle.machine_model.specs.Turns.{Store}
-use Rattle.machine_model.specs.Steps.{Step, Push, Turn, run_in}
+use Rattle.machine_model.specs.Steps.{Step, Turn, run_in}
 use Rattle.machine_model.specs.Safety.{IsStep, IsOrderly}
 use Rattle.machine_model.proofs.Orderly.{IsOrderly-first_state}
 use Rattle.machine_model.proofs.Runs.{IsOrderly-run}
@@ -20,7 +20,7 @@ use Rattle.field_law.specs.Sections.{Holds, Uses, Paints, section_stores}
 use Rattle.field_law.specs.Arrivals.{Met, coming, Arrives, is_signal, has_signal}
 use Rattle.field_law.specs.Laws.{Receives}
 use Rattle.field_law.proofs.Painting.{byte_at-unstored}
-use Rattle.field_law.specs.Worked.{program, section, field, entry, machine, line, moves, met_by, early, final}
+use Rattle.field_law.specs.Worked.{program, section, field, entry, begun, machine, line, moves, met_by, early, final}
 
 holds : Holds section program
 holds = (refl, tt, refl, (refl, refl, refl, (refl, refl)))
@@ -37,15 +37,15 @@ steps_hold : (steps : List Step) → All IsHeld (map met_by steps)
 steps_hold [] = All-nil IsHeld
 steps_hold (step ∷ steps) = All-cons IsHeld (met_by step) (map met_by steps) holds (steps_hold steps)
 
-abbrev IsOther : Entry → Type 0
+abbrev pub IsOther : Entry → Type 0
 IsOther entry = code_of_kind (kind_of entry.status) ≡ Some Vre → ⊥
 
-abbrev before : Queue → List Entry
+abbrev pub before : Queue → List Entry
 before One = entry 0 0xffffffff ∷ []
 before Two = []
 before Three = []
 
-abbrev entries : Queue → List Entry
+abbrev pub entries : Queue → List Entry
 entries One = control_entry Vre ∷ control_entry Fm1 ∷ entry 2 0x13121110 ∷ entry 1 0x17161514 ∷ []
 entries Two = control_entry Vre ∷ control_entry Fm1 ∷ []
 entries Three = control_entry Vre ∷ control_entry Fm1 ∷ []
@@ -55,7 +55,7 @@ order One = refl
 order Two = refl
 order Three = refl
 
-unmarked : (q : Queue) → All IsOther (before q)
+pub unmarked : (q : Queue) → All IsOther (before q)
 unmarked One = All-from_recursion IsOther (before One) (λ same. cc, tt)
 unmarked Two = All-nil IsOther
 unmarked Three = All-nil IsOther
@@ -63,7 +63,7 @@ unmarked Three = All-nil IsOther
 whole_line : IsLine line (entry 2 0x13121110 ∷ entry 1 0x17161514 ∷ [])
 whole_line = record { shape = refl; valid = refl }
 
-brings : (q : Queue) → Brings (Mark Vre ∷ field q) (entries q)
+pub brings : (q : Queue) → Brings (Mark Vre ∷ field q) (entries q)
 brings One = (
   control_entry Vre,
   control_entry Fm1 ∷ entry 2 0x13121110 ∷ entry 1 0x17161514 ∷ [],
@@ -96,10 +96,11 @@ arrives =
       brings = brings;
     }
 
+pub begun_made : All IsStep begun
+begun_made = All-from_recursion IsStep begun (refl, (tt, tt))
+
 orderly : IsOrderly machine
-orderly =
-    IsOrderly-run (first_state program 0) (Push One (entry 0 0xffffffff) ∷ Turn ∷ []) (All-from_recursion IsStep (Push One (entry 0 0xffffffff) ∷ Turn ∷ []) (refl, (tt, tt)))
-    (IsOrderly-first_state program 0)
+orderly = IsOrderly-run (first_state program 0) begun begun_made (IsOrderly-first_state program 0)
 
 pub receives : Receives section field machine (early ++ (program, Turn) ∷ [])
 receives = record { orderly = orderly; held = steps_hold (moves ++ Turn ∷ []); uses = uses; arrives = arrives }

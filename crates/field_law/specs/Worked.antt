@@ -50,9 +50,12 @@ field Three = Mark Fm1 ∷ []
 abbrev pub entry : ℕ → ℕ → Entry
 entry status dword = record { status = status; dword = dword }
 
--- the machine waits in the opening, and its first queue holds pixels of an earlier field
+-- after these steps a machine waits in the opening, and its first queue holds pixels of an earlier field
+abbrev pub begun : List Step
+begun = Push One (entry 0 0xffffffff) ∷ Turn ∷ []
+
 abbrev pub machine : State
-machine = run (first_state program 0) (Push One (entry 0 0xffffffff) ∷ Turn ∷ [])
+machine = run (first_state program 0) begun
 
 -- the field is pushed between turns; the turn after these is the signal
 abbrev pub moves : List Step

@@ -70,7 +70,7 @@ lines_head count long line lines are =
 take_first : (long : ℕ) (line rest : List ℕ) → length line ≡ long → take long (line ++ rest) ≡ line
 take_first long line rest is = ap (λ (n : ℕ). take n (line ++ rest)) (sym is) ∙ take-append_seam line rest
 
-drop_first : (long : ℕ) (line rest : List ℕ) → length line ≡ long → drop long (line ++ rest) ≡ rest
+pub drop_first : (long : ℕ) (line rest : List ℕ) → length line ≡ long → drop long (line ++ rest) ≡ rest
 drop_first long line rest is = ap (λ (n : ℕ). drop n (line ++ rest)) (sym is) ∙ drop-append_seam line rest
 
 pub cut-concat : (count long : ℕ) (lines : List (List ℕ)) (more : List ℕ) → AreLines count long lines → cut count long (concat lines ++ more) ≡ lines

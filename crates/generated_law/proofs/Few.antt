@@ -1,8 +1,9 @@
 -- How many pushes a stream has: at most 2^26.
-use Rattle.std.proofs.Common.{◌≡◌, ℕ, zero, suc, ◌+◌, ◌*◌, ◌/◌, ◌%◌, ◌<◌, ◌≤◌, Bool, true, false, ◌&&◌, List, [], ◌++◌, length, refl, ◌∙◌, arith, if◌then◌else◌, length-append}
+use Rattle.std.proofs.Common.{◌≡◌, ℕ, zero, suc, ◌+◌, ◌*◌, ◌/◌, ◌%◌, ◌<◌, ◌≤◌, Bool, true, false, ◌&&◌, List, [], ◌++◌, length, arith, if◌then◌else◌, length-append}
 use Rattle.std.specs.Prelude.{◌==◌, nat_lt}
 use Rattle.std.specs.List.{flat_map, range_with_len}
-use Rattle.std.proofs.lemmas.List.{length-map}
+use Rattle.std.proofs.lemmas.Bool.{cond_both}
+use Rattle.std.proofs.lemmas.List.FromFn.{length-map-range_with_len}
 use Rattle.std.proofs.lemmas.Nat.{mul-le}
 use Rattle.fifo_model.specs.declared.Queue.TheVariants.{One}
 use Rattle.pixel_layout.specs.declared.Format.{Format}
@@ -28,19 +29,12 @@ few_repeated : (count most : ℕ) (pushes : List Push) (each : ℕ) → count �
 few_repeated count most pushes each few some =
     let less = mul-le count (length pushes) most each few some in omega (arith, repeated_length count pushes)
 
-range_length : (from count : ℕ) → length (range_with_len from count) ≡ count
-range_length from zero = refl
-range_length from (suc count) = let more = range_length (from + 1) count in omega arith
-
 packed_length : (bytes : ℕ) → length (packed_line bytes) ≡ line_entries bytes
-packed_length bytes = length-map (range_with_len 0 (line_entries bytes)) (λ index. Fill One (status_at bytes index)) ∙ range_length 0 (line_entries bytes)
-
-few_if : (test : Bool) (a b : List Push) (most : ℕ) → length a ≤ most → length b ≤ most → length (if test then a else b) ≤ most
-few_if true a b most first second = first
-few_if false a b most first second = second
+packed_length bytes = length-map-range_with_len (λ index. Fill One (status_at bytes index)) 0 (line_entries bytes)
 
 few_chroma : (chroma across index : ℕ) → length (chroma_after chroma across index) ≤ 2
-few_chroma chroma across index = few_if (index % across == 0 && nat_lt (index / across) (line_entries chroma)) _ _ 2 (omega arith) (omega arith)
+few_chroma chroma across index =
+    cond_both (index % across == 0 && nat_lt (index / across) (line_entries chroma)) _ [] (λ pushes. length pushes ≤ 2) (λ due. omega arith) (λ none. omega arith)
 
 few_planar : (luma chroma across from count : ℕ) → length (flat_map (planar_at luma chroma across) (range_with_len from count)) ≤ 3 * count
 few_planar luma chroma across from zero = omega arith

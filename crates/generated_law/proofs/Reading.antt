@@ -1,8 +1,8 @@
 -- The bytes of a generated stream, read back.
-use Rattle.std.proofs.Common.{◌≡◌, ℕ, zero, suc, ◌+◌, ◌-◌, ◌*◌, ◌<◌, ◌≤◌, Bool, true, false, not, ◌&&◌, List, [], ◌∷◌, ◌++◌, length, take, drop, replicate, Some, Ok, refl, sym, ap, ◌∙◌, arith, length-append}
-use Rattle.std.specs.Prelude.{codes, nat_le, nat_lt}
+use Rattle.std.proofs.Common.{◌≡◌, ℕ, zero, suc, ◌+◌, ◌-◌, ◌*◌, ◌≤◌, Bool, true, false, not, ◌&&◌, List, [], ◌∷◌, ◌++◌, length, take, replicate, Some, Ok, refl, sym, ap, ◌∙◌, arith, length-append}
+use Rattle.std.specs.Prelude.{codes, nat_le}
+use Rattle.std.proofs.lemmas.Bool.{le-ltb, lt-ltb}
 use Rattle.std.proofs.lemmas.Bool.Decides.{nat_tests}
-use Rattle.std.proofs.Math.Seq.{drop-append_seam}
 use Rattle.std.proofs.lemmas.List.{append_assoc, take_all}
 use Rattle.byteorder.specs.Endian.{little_number}
 use Rattle.risc_word.specs.declared.Code.{Code}
@@ -26,6 +26,7 @@ use Rattle.field_stream.specs.Made.{after, push_record, records, records_of, tag
 use Rattle.field_stream.specs.Pushes as pushes
 use Rattle.field_stream.specs.Pushes.{Mark, Fill, stream_pushes}
 use Rattle.generated_law.specs.Drawn.{drawn_step, drawn_steps}
+use Rattle.generated_law.proofs.Cutting.{drop_first}
 use Rattle.generated_law.proofs.Steps.{AreData, IsData}
 
 -- the step of a record, and the steps of the records of some pushes
@@ -59,10 +60,7 @@ front_read turns place tag len step first rest is long =
     ∙ ap (λ (found : Found). cons_of found Bfs1 turns place (first ++ rest)) is
     ∙ ap (λ (n : ℕ). with_step step (file.records Bfs1 (turns + file.turns_of step) (place + 1) n (first ++ rest))) less
     ∙ ap (with_step step) (records-skip Bfs1 (turns + file.turns_of step) (place + 1) len (first ++ rest))
-    ∙ ap (λ (bytes : List ℕ). with_step step (file.records Bfs1 (turns + file.turns_of step) (place + 1 + len) 0 bytes)) (behind len first rest long)
-  where
-    behind : (len : ℕ) (first rest : List ℕ) → length first ≡ len → drop len (first ++ rest) ≡ rest
-    behind len first rest long = ap (λ (n : ℕ). drop n (first ++ rest)) (sym long) ∙ drop-append_seam first rest
+    ∙ ap (λ (bytes : List ℕ). with_step step (file.records Bfs1 (turns + file.turns_of step) (place + 1 + len) 0 bytes)) (drop_first len first rest long)
 
 turns_fit : (turns : ℕ) → turns + 16 ≤ most_turns → nat_le (turns + 16) most_turns ≡ true
 turns_fit turns few = grind (arith, nat_tests)
@@ -100,11 +98,7 @@ lanes_read bytes rest four =
 
 is_data_status : (status : ℕ) → IsData status → is_data status ≡ true
 is_data_status status is =
-    let small : nat_lt status 16 ≡ true = ltb-from is.0 in
-    ap (λ (test : Bool). test && not (is_control (kind_of status))) small ∙ ap not is.1
-  where
-    ltb-from : {status : ℕ} → status < 16 → nat_lt status 16 ≡ true
-    ltb-from less = grind (arith, nat_tests)
+    ap (λ (test : Bool). test && not (is_control (kind_of status))) (lt-ltb status 16 is.0) ∙ ap not is.1
 
 entry_read : (turns : ℕ) (queue : Queue) (status number : ℕ) (rest : List ℕ) → IsData status →
     push_if (is_data status) queue status (lanes number (valid_bytes status) ++ rest) ≡ Whole (file_step number (Fill queue status)) 6
@@ -176,12 +170,9 @@ stream_read : (limit number : ℕ) (all : List pushes.Push) → AreData all → 
 unfolding stream_of
 stream_read limit number all are few short =
     let bytes = codes "BFS1" ++ records number all ++ 0 ∷ [] in
-    ap (λ (within : Bool). within_if within limit (judged false (take limit bytes))) (not_longer limit (length bytes) short)
+    ap (λ (within : Bool). within_if within limit (judged false (take limit bytes))) (le-ltb limit (length bytes) short)
     ∙ ap (judged false) (take_all limit bytes short)
     ∙ read_all 0 4 number all are (omega arith)
-  where
-    not_longer : (limit count : ℕ) → count ≤ limit → nat_lt limit count ≡ false
-    not_longer limit count less = grind (arith, nat_tests)
 
 pub read_back : (limit number : ℕ) (all : List pushes.Push) → AreData all → 16 * length all ≤ most_turns →
     length (codes "BFS1" ++ records number all ++ 0 ∷ []) ≤ limit →

@@ -1,17 +1,18 @@
 -- What a line of a description's picture pushes to each queue.
 use Rattle.std.proofs.Common.{◌≡◌, ℕ, ◌*◌, ◌/◌, ◌<◌, ◌≤◌, Bool, true, false, List, [], refl, sym, ap, ◌∙◌, arith, if◌then◌else◌}
 use Rattle.std.specs.Prelude.{nat_le}
-use Rattle.std.proofs.lemmas.Bool.{cond-true, cond-false, cases_Bool, leb-true}
+use Rattle.std.proofs.lemmas.Bool.{cond-true, cond-false, cases_Bool}
 use Rattle.std.proofs.Common.{⊎_elim}
 use Rattle.fifo_model.specs.declared.Queue.{Queue}
 use Rattle.fifo_model.specs.declared.Queue.TheVariants.{One, Two, Three}
 use Rattle.pixel_layout.specs.declared.Format.{Format}
 use Rattle.pixel_layout.specs.declared.Format.TheVariants.{Rgb32, Rgb24, Rgb16, Rgb15, Yuy2, Y8, Rgb8, BtYuv, Yuv422p, Yuv411p, Yuv420p, Yuv410p}
-use Rattle.pixel_layout.specs.Layouts.{layout, planes_of}
+use Rattle.pixel_layout.specs.Layouts.{layout}
 use Rattle.capture_desc.specs.declared.desc.Desc.{Desc}
 use Rattle.picture_model.specs.Described.{layout_of, plane_row_bytes}
 use Rattle.picture_model.proofs.Right.{IsRight}
 use Rattle.picture_law.specs.Pictures.{has_plane, plane_of}
+use Rattle.picture_law.proofs.Goes.{queue_plane}
 use Rattle.field_stream.specs.Pushes.{Push, packed_line, picture_line, planar_line}
 use Rattle.generated_law.proofs.Statuses.{line_statuses, packed_nothing, packed_statuses, statuses}
 use Rattle.generated_law.proofs.Planar.{chroma_statuses, luma_statuses}
@@ -99,10 +100,5 @@ row_nothing d q none =
     (cases_Bool (layout_of d).planar)
 
 -- a row has five bytes at least
-least_one : (q : Queue) → 1 ≤ plane_of q
-least_one One = omega arith
-least_one Two = omega arith
-least_one Three = omega arith
-
 pub row_wide : (d : Desc) (q : Queue) → IsRight d → has_plane d q ≡ true → 5 ≤ plane_row_bytes d (plane_of q)
-row_wide d q right has = right.wide (plane_of q) (least_one q) (leb-true (plane_of q) (planes_of (layout_of d)) has)
+row_wide d q right has = let plane = queue_plane d q has in right.wide (plane_of q) plane.low plane.high

@@ -2,6 +2,7 @@
 use Rattle.std.proofs.Common.{◌≡◌, ℕ, zero, suc, ◌+◌, ◌-◌, ◌/◌, ◌%◌, ◌<◌, Bool, true, false, ◌&&◌, List, [], ◌∷◌, ◌++◌, map, All, refl, arith, if◌then◌else◌, slice_index, replicate}
 use Rattle.std.specs.Prelude.{◌==◌, nat_lt}
 use Rattle.std.specs.List.{flat_map, range_with_len}
+use Rattle.std.proofs.lemmas.Bool.{cond_both}
 use Rattle.std.proofs.lemmas.List.Elements.{All-nil, All-cons, All-append, All-from_recursion}
 use Rattle.sync_status.specs.Statuses.{is_control, kind_of}
 use Rattle.fifo_model.specs.declared.Queue.TheVariants.{One}
@@ -56,14 +57,10 @@ packed_from bytes from (suc count) = (status_data bytes from, packed_from bytes 
 packed_data : (bytes : ℕ) → AreData (packed_line bytes)
 packed_data bytes = packed_from bytes 0 (line_entries bytes)
 
-data_if : (test : Bool) (a b : List Push) → AreData a → AreData b → AreData (if test then a else b)
-data_if true a b first second = first
-data_if false a b first second = second
-
 chroma_data : (chroma across index : ℕ) → AreData (chroma_after chroma across index)
 chroma_data chroma across index =
     let is = status_data chroma (index / across) in
-    data_if (index % across == 0 && nat_lt (index / across) (line_entries chroma)) _ [] (is, (is, tt)) tt
+    cond_both (index % across == 0 && nat_lt (index / across) (line_entries chroma)) _ [] AreData (λ due. (is, (is, tt))) (λ none. tt)
 
 planar_from : (luma chroma across from count : ℕ) → AreData (flat_map (planar_at luma chroma across) (range_with_len from count))
 planar_from luma chroma across from zero = tt
@@ -76,8 +73,8 @@ planar_from luma chroma across from (suc count) = (
 line_data : (d : Desc) → AreData (picture_line d)
 line_data d =
     let luma = plane_row_bytes d 1 in
-    data_if (layout_of d).planar (planar_line luma (plane_row_bytes d 2) (layout_of d).across) (packed_line luma)
-    (planar_from luma (plane_row_bytes d 2) (layout_of d).across 0 (line_entries luma)) (packed_data luma)
+    cond_both (layout_of d).planar (planar_line luma (plane_row_bytes d 2) (layout_of d).across) (packed_line luma) AreData
+    (λ planar. planar_from luma (plane_row_bytes d 2) (layout_of d).across 0 (line_entries luma)) (λ packed. packed_data luma)
 
 -- ---- fields
 

@@ -1,28 +1,19 @@
 -- The generated stream of the smallest description: its field arrives, and is signalled.
-use Rattle.std.proofs.Common.{◌≡◌, ◌^◌, ◌<◌, List, [], ◌∷◌, ◌++◌, refl, arith}
-use Rattle.std.proofs.lemmas.List.Elements.{All-nil, All-from_recursion}
+use Rattle.std.proofs.Common.{◌≡◌, List, [], ◌++◌, refl, arith}
+use Rattle.std.proofs.lemmas.List.Elements.{All-nil}
 use Rattle.fifo_model.specs.declared.Queue.{Queue}
 use Rattle.fifo_model.specs.declared.Queue.TheVariants.{One, Two, Three}
 use Rattle.fifo_model.specs.Queues.{lane_of}
 use Rattle.pixel_layout.specs.declared.Parity.TheVariants.{Top}
 use Rattle.machine_model.specs.States.{first_state}
 use Rattle.machine_model.specs.Steps.{Step}
-use Rattle.picture_model.specs.Described.{IsDescription}
 use Rattle.picture_model.specs.Programs.{compiled}
 use Rattle.field_stream.specs.Worked.{smallest}
 use Rattle.picture_law.specs.Arrivals.{AreKept, IsVertical, coming}
 use Rattle.picture_law.specs.Runs.{IsFirstSignal, between, state_of}
 use Rattle.picture_law.proofs.Between.{silent_at}
+use Rattle.picture_law.proofs.Worked.{described}
 use Rattle.generated_law.specs.Streams.{Awaits, HasField, IsTaken, stream_steps}
-
-described : IsDescription smallest
-described =
-    record {
-      formed = record { stride = tt; offset = tt; pages = omega arith; no_pages = tt; chunks = tt; bytes = tt };
-      pages = All-from_recursion (λ page. page < 2 ^ 32) (131072 ∷ []) (omega arith, tt);
-      clips = omega arith;
-      skipped = omega arith;
-    }
 
 abbrev steps : List Step
 steps = stream_steps smallest 1 1

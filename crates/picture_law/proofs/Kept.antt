@@ -1,10 +1,8 @@
 -- The bytes of a field that are kept: each is stored, nothing else is, and each address has one of them at most.
 use Rattle.std.proofs.Common.{◌≡◌, ℕ, ◌<◌, Bool, true, false, List, [], ◌++◌, All, length, Option, Some, None, if◌then◌else◌, slice_index_or, refl, sym, ◌∙◌, subst, arith, ⊎_elim}
-use Rattle.std.proofs.lemmas.Bool.{cases_Bool, cond-false, or_left, or_right}
+use Rattle.std.proofs.lemmas.Bool.{cases_Bool, cond-false}
 use Rattle.std.proofs.lemmas.List.{nil_from_length}
-use Rattle.std.proofs.lemmas.List.Folds.{list_any-append}
 use Rattle.std.proofs.lemmas.List.Elements.{All-nil, All-append}
-use Rattle.std.specs.Prelude.{◌==◌}
 use Rattle.fifo_model.specs.declared.Queue.{Queue}
 use Rattle.fifo_model.specs.declared.Queue.TheVariants.{One, Two, Three}
 use Rattle.pixel_layout.specs.declared.Parity.{Parity}
@@ -20,6 +18,7 @@ use Rattle.picture_model.proofs.Places.{place_granted, places_differ}
 use Rattle.picture_model.proofs.Right.{IsRight}
 use Rattle.field_law.specs.Sections.{is_stored}
 use Rattle.field_law.specs.CutLines.{EachByte, lines_stores}
+use Rattle.field_law.proofs.CutLines.{stored_first, stored_second}
 use Rattle.picture_law.specs.Pictures.{Picture, AreRows, FieldByte, of_row, of_vbi, IsKeptAt, IsPicture, IsUnclipped, byte_in, has_plane, plane_of, rows_on, shown_as}
 use Rattle.picture_law.proofs.Goes.{queue_plane, queue_row_goes, skipped_goes, vbi_goes}
 use Rattle.picture_law.proofs.Lines.{all_stores, cut_line, cut_lines, stored_there}
@@ -34,14 +33,6 @@ pub record IsOfPicture (d : Desc) (field : Parity) (picture : Picture) (store : 
 unless_clipped : (clipped : Bool) (to : Option ℕ) (address : ℕ) → (if clipped then None else to) ≡ Some address → (clipped ≡ false) × (to ≡ Some address)
 unless_clipped true to address h = cc
 unless_clipped false to address h = (refl, h)
-
-pub stored_first : (address : ℕ) (xs ys : List Store) → is_stored address xs ≡ true → is_stored address (xs ++ ys) ≡ true
-stored_first address xs ys h =
-    list_any-append (λ store. store.address == address) xs ys ∙ or_left (is_stored address xs) (is_stored address ys) h
-
-pub stored_later : (address : ℕ) (xs ys : List Store) → is_stored address ys ≡ true → is_stored address (xs ++ ys) ≡ true
-stored_later address xs ys h =
-    list_any-append (λ store. store.address == address) xs ys ∙ or_right (is_stored address xs) (is_stored address ys) h
 
 module _ (d : Desc) (right : IsRight d) (field : Parity) (described : describes d.fields field ≡ true) (picture : Picture) (is : IsPicture d field picture)
     (skipped : Queue → List (List ℕ)) (skips : (q : Queue) → AreRows d q d.skip_lines (skipped q)) where
@@ -127,8 +118,8 @@ module _ (d : Desc) (right : IsRight d) (field : Parity) (described : describes 
       ∙ cond-false (byte_clipped d (plane_of q) row x) None (place d (plane_of q) row x) kept.0.3 ∙ kept.1 in
       let skips_of = skipped_stores d right field described picture is skipped skips q in
       let rows = row_stores d right field described picture is skipped skips q in
-      stored_later address (vbi_stores d right field described picture is skipped skips q) (skips_of ++ rows)
-      (stored_later address skips_of rows
+      stored_second address (vbi_stores d right field described picture is skipped skips q) (skips_of ++ rows)
+      (stored_second address skips_of rows
       (stored_there d q (field_row_strip d field) (rows_on picture q) k x address (rows_all d right field described picture is skipped skips q has) within (omega arith) goes))
   kept_stored (of_vbi k x) address kept =
       let number = kept.0.0 in

@@ -16,11 +16,12 @@ use Rattle.capture_desc.specs.declared.desc.Desc.{Desc}
 use Rattle.picture_model.specs.Described.{describes, memory_of}
 use Rattle.picture_model.proofs.Right.{IsRight}
 use Rattle.field_law.specs.Sections.{Paints, is_stored, section_stores}
+use Rattle.field_law.proofs.CutLines.{stored_first, stored_second}
 use Rattle.field_law.proofs.Painting.{byte_at-unstored}
 use Rattle.picture_law.specs.Pictures.{Picture, After, AreRows, FieldByte, IsKeptAt, IsPicture, field_tokens, shown_as}
 use Rattle.picture_law.specs.Sections.{section_of}
 use Rattle.picture_law.proofs.Body.{field_stores, section_makes}
-use Rattle.picture_law.proofs.Kept.{IsOfPicture, all_of, kept_granted, kept_once, kept_stored, queue_of, stored_first, stored_later}
+use Rattle.picture_law.proofs.Kept.{IsOfPicture, all_of, kept_granted, kept_once, kept_stored, queue_of}
 
 -- ---- stores one after another
 
@@ -76,8 +77,8 @@ module _ (d : Desc) (right : IsRight d) (field : Parity) (described : describes 
 
   among : (q : Queue) (address : ℕ) → is_stored address (stores q) ≡ true → is_stored address every ≡ true
   among One address h = stored_first address (stores One) (stores Two ++ stores Three) h
-  among Two address h = stored_later address (stores One) (stores Two ++ stores Three) (stored_first address (stores Two) (stores Three) h)
-  among Three address h = stored_later address (stores One) (stores Two ++ stores Three) (stored_later address (stores Two) (stores Three) h)
+  among Two address h = stored_second address (stores One) (stores Two ++ stores Three) (stored_first address (stores Two) (stores Three) h)
+  among Three address h = stored_second address (stores One) (stores Two ++ stores Three) (stored_second address (stores Two) (stores Three) h)
 
   last : (address : ℕ) → is_stored address every ≡ true → IsLastAt IsStore (stored_all memory every) address
   last address some =

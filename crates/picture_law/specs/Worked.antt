@@ -1,13 +1,12 @@
 -- A picture of one line, worked: it arrives behind an entry of an earlier one.
 use Rattle.std.specs.Prelude.{List, [], ◌∷◌, ◌++◌, None}
-use Rattle.fifo_model.specs.declared.Queue.TheVariants.{One}
 use Rattle.pixel_layout.specs.declared.Format.TheVariants.{Y8}
 use Rattle.machine_model.specs.States.{State, first_state}
-use Rattle.machine_model.specs.Steps.{Step, Push, Turn, run}
+use Rattle.machine_model.specs.Steps.{Step, Turn, run}
 use Rattle.capture_desc.specs.declared.desc.Desc.{Desc}
 use Rattle.capture_desc.specs.declared.desc.Fields.TheVariants as fields
 use Rattle.picture_model.specs.Programs.{compiled}
-use Rattle.field_law.specs.Worked.{entry, line, moves}
+use Rattle.field_law.specs.Worked.{begun, line, moves}
 use Rattle.picture_law.specs.Pictures.{Picture}
 
 -- eight pixels of y8, in the top field, on one page
@@ -36,8 +35,8 @@ picture = record { vbi = []; one = line ∷ []; two = []; three = [] }
 
 -- the machine waits in the opening, and its first queue holds pixels of an earlier field
 abbrev pub machine : State
-machine = run (first_state (compiled description) 0) (Push One (entry 0 0xffffffff) ∷ Turn ∷ [])
+machine = run (first_state (compiled description) 0) begun
 
 -- a whole run: to that state, and on to the signal
 abbrev pub steps : List Step
-steps = Push One (entry 0 0xffffffff) ∷ Turn ∷ (moves ++ Turn ∷ [])
+steps = begun ++ (moves ++ Turn ∷ [])
