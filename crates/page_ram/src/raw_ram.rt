@@ -1,5 +1,5 @@
 //! Memory in one raw block.
-ghost use Rattle.std.specs.Prelude.{◌≡◌, ℕ, List, None, IsTrue, IfOk, IfSome};
+ghost use Rattle.std.specs.Prelude.{◌≡◌, ◌<◌, ℕ, List, None, IsTrue, IfOk, IfSome};
 ghost use Rattle.page_table.specs.Grants.{Chunk, granted, total, AreGrants};
 ghost use Rattle.page_table.specs.Blocks.{Block, filled};
 ghost use Rattle.page_ram.specs.Extents.{extent_chunk, extent_chunks, AreLaid, StandsAt, StandsRun};
@@ -11,6 +11,8 @@ use crate::span::{Span, place_of};
 use page_table::PageSet;
 use std::alloc::{AllocError, Global};
 use std::marker::Model;
+
+const GUESSES: usize = 256;
 
 // One chunk: the address of its first byte, its length in bytes, and where its bytes begin in the block.
 #[derive(Drop)]
@@ -30,6 +32,14 @@ impl Span for Extent {
     fn end(&self) -> u64 {
         u64::from(self.at) + u64::from(self.len)
     }
+}
+
+// Which guess an address has.
+#[inline(always)]
+fn guess_of(addr: u32) -> usize
+    ensures { result < 256 }
+{
+    (addr / 4096) as usize % GUESSES
 }
 
 // Where the byte at an address stands: the place of its chunk, looked for first at the place `near`, and its
@@ -88,8 +98,8 @@ fn lay_out(alloc: Global, grants: &PageSet) -> Result<(Vec<Extent>, usize), Allo
 #[derive(Drop)]
 pub struct PageRam {
     extents: Vec<Extent>,
-    // the place of the chunk that was written last
-    near: usize,
+    // by the number of a page modulo `GUESSES`, the place of the chunk that was written last at such a page
+    near: [u16; GUESSES],
     block: RawBlock,
 }
 
@@ -114,7 +124,7 @@ impl PageRam {
         let block = RawBlock::filled(alloc, size, fill)?;
         Ok(PageRam {
             extents,
-            near: 0,
+            near: [0; GUESSES],
             block,
         })
     }
@@ -125,8 +135,9 @@ impl ByteStore for PageRam {
 
     #[inline]
     fn store_byte(&mut self, addr: u32, byte: u8) {
-        let (place, index) = locate(&self.extents, self.near, addr);
-        self.near = place;
+        let guess = guess_of(addr);
+        let (place, index) = locate(&self.extents, usize::from(self.near[guess]), addr);
+        self.near[guess] = place as u16;
         self.block.set(index, byte);
     }
 }
@@ -140,14 +151,16 @@ impl Ram for PageRam {
 
     #[inline(always)]
     fn store_run(&mut self, addr: u32, bytes: &[u8]) {
-        match run_in(&self.extents, self.near, addr, bytes.len()) {
+        let near = usize::from(self.near[guess_of(addr)]);
+        match run_in(&self.extents, near, addr, bytes.len()) {
             Some(index) => self.block.set_run(index, bytes),
             None => store_each(self, addr, bytes),
         }
     }
 
     fn load(&self, addr: u32) -> u8 {
-        let (_, index) = locate(&self.extents, self.near, addr);
+        let near = usize::from(self.near[guess_of(addr)]);
+        let (_, index) = locate(&self.extents, near, addr);
         self.block.byte(index)
     }
 
