@@ -1,6 +1,6 @@
 //! The words of instructions and of the pieces of a line, at the end of those that stand already.
 
-ghost use Rattle.std.specs.Prelude.{◌≡◌, ◌++◌, true, false, map, IsTrue, OnOk};
+ghost use Rattle.std.specs.Prelude.{◌≡◌, ◌+◌, ◌++◌, ◌≤◌, drop, length, take, true, false, map, IsTrue, OnOk};
 ghost use Rattle.std.specs.List.{All};
 ghost use Rattle.field_compile.specs.Kept.{BeginsWith};
 ghost use Rattle.planar_plan.specs.Lines.{CountsFit};
@@ -10,6 +10,9 @@ ghost use Rattle.risc_word.specs.Words.{encoded, fits};
 use planar_plan::{Piece, PieceKind};
 use risc_word::{Code, Ctl, Instr, encode};
 use std::alloc::AllocError;
+
+// The pieces whose words are appended at once.
+const GROUP: usize = 64;
 
 const NO_CONTROL: Ctl = Ctl {
     irq: false,
@@ -43,12 +46,12 @@ pub fn push_instr(instr: &Instr, out: &mut Vec<u32>) -> Result<(), AllocError>
     out.extend_from_slice(&words[..usize::from(number)])
 }
 
-// Appends the words of the instruction that moves a piece of a planar line.
+// Writes the words of the instruction that moves a piece of a planar line, and answers their number.
 #[inline(always)]
-fn push_planar(piece: &Piece, out: &mut Vec<u32>) -> Result<(), AllocError>
+fn encode_planar(piece: &Piece, words: &mut [u32; 5]) -> u8
     requires { CountsFit piece.now }
-    ensures words { OnOk result (out.new.items ≡ out.old.items ++ encoded (instr_of true piece.now)) }
-    ensures kept { BeginsWith out.old.items out.new.items }
+    ensures words { words.new ≡ encoded (instr_of true piece.now) ++ drop (length (encoded (instr_of true piece.now))) words.old }
+    ensures number { result ≡ length (encoded (instr_of true piece.now)) }
 {
     let ctl = NO_CONTROL;
     let ends = piece.ends;
@@ -64,7 +67,7 @@ fn push_planar(piece: &Piece, out: &mut Vec<u32>) -> Result<(), AllocError>
                 counts,
                 addrs,
             };
-            push_instr(&instr, out)
+            encode(&instr, words)
         }
         PieceKind::WriteLuma => {
             let instr = Instr::Write1S23 {
@@ -74,18 +77,18 @@ fn push_planar(piece: &Piece, out: &mut Vec<u32>) -> Result<(), AllocError>
                 counts,
                 addr: addrs[0],
             };
-            push_instr(&instr, out)
+            encode(&instr, words)
         }
-        PieceKind::Skip => push_instr(&Instr::Skip123 { ctl, ends, counts }, out),
+        PieceKind::Skip => encode(&Instr::Skip123 { ctl, ends, counts }, words),
     }
 }
 
-// Appends the words of the instruction that moves a piece of a packed line.
+// Writes the words of the instruction that moves a piece of a packed line, and answers their number.
 #[inline(always)]
-fn push_packed(piece: &Piece, out: &mut Vec<u32>) -> Result<(), AllocError>
+fn encode_packed(piece: &Piece, words: &mut [u32; 5]) -> u8
     requires { CountsFit piece.now }
-    ensures words { OnOk result (out.new.items ≡ out.old.items ++ encoded (instr_of false piece.now)) }
-    ensures kept { BeginsWith out.old.items out.new.items }
+    ensures words { words.new ≡ encoded (instr_of false piece.now) ++ drop (length (encoded (instr_of false piece.now))) words.old }
+    ensures number { result ≡ length (encoded (instr_of false piece.now)) }
 {
     let count = piece.counts[0];
     if piece.kind == PieceKind::Skip {
@@ -94,7 +97,7 @@ fn push_packed(piece: &Piece, out: &mut Vec<u32>) -> Result<(), AllocError>
             ends: piece.ends,
             count,
         };
-        return push_instr(&instr, out);
+        return encode(&instr, words);
     }
     let instr = Instr::Write {
         ctl: NO_CONTROL,
@@ -103,21 +106,50 @@ fn push_packed(piece: &Piece, out: &mut Vec<u32>) -> Result<(), AllocError>
         count,
         addr: piece.addrs[0],
     };
-    push_instr(&instr, out)
+    encode(&instr, words)
 }
 
-// Appends the words of a piece, in a planar line or in a packed one.
+// Writes the words of a piece, in a planar line or in a packed one, and answers their number.
 #[inline(always)]
-fn push_piece(planar: bool, piece: &Piece, out: &mut Vec<u32>) -> Result<(), AllocError>
+fn encode_piece(planar: bool, piece: &Piece, words: &mut [u32; 5]) -> u8
     requires { CountsFit piece.now }
-    ensures words { OnOk result (out.new.items ≡ out.old.items ++ encoded (instr_of planar piece.now)) }
-    ensures kept { BeginsWith out.old.items out.new.items }
+    ensures words { words.new ≡ encoded (instr_of planar piece.now) ++ drop (length (encoded (instr_of planar piece.now))) words.old }
+    ensures number { result ≡ length (encoded (instr_of planar piece.now)) }
 {
     if planar {
-        push_planar(piece, out)
+        encode_planar(piece, words)
     } else {
-        push_packed(piece, out)
+        encode_packed(piece, words)
     }
+}
+
+// Writes the words of a piece into a buffer, behind those that stand there, and answers where they end. The
+// places behind them may change too.
+#[inline(always)]
+fn add_piece(planar: bool, piece: &Piece, words: &mut [u32; 5 * GROUP], at: usize) -> usize
+    requires fits { CountsFit piece.now }
+    requires room { at + 5 ≤ 320 }
+    ensures words { take result words.new ≡ take at words.old ++ encoded (instr_of planar piece.now) }
+    ensures few { result ≤ at + 5 }
+{
+    let mut spelled = [0; 5];
+    let number = encode_piece(planar, piece, &mut spelled);
+    words[at..at + 5].copy_from_slice(&spelled);
+    at + usize::from(number)
+}
+
+// Writes the words of pieces into the front of a buffer, and answers their number.
+fn spell_pieces(planar: bool, pieces: &[Piece], words: &mut [u32; 5 * GROUP]) -> usize
+    requires few { length pieces.now ≤ 64 }
+    requires fit { All CountsFit pieces.now }
+    ensures words { take result words.new ≡ words_of (map (instr_of planar) pieces.now) }
+    ensures few { result ≤ 320 }
+{
+    let mut at = 0;
+    for piece in pieces {
+        at = add_piece(planar, piece, words, at);
+    }
+    at
 }
 
 /// Appends the words of the pieces of a line, in a planar line or in a packed one. After a refusal, which
@@ -127,8 +159,13 @@ pub fn push_pieces(planar: bool, pieces: &[Piece], out: &mut Vec<u32>) -> Result
     ensures words { OnOk result (out.new.items ≡ out.old.items ++ words_of (map (instr_of planar) pieces.now)) }
     ensures kept { BeginsWith out.old.items out.new.items }
 {
-    for piece in pieces {
-        push_piece(planar, piece, out)?;
+    let mut words = [0; 5 * GROUP];
+    let mut at = 0;
+    while at < pieces.len() {
+        let end = pieces.len().min(at + GROUP);
+        let count = spell_pieces(planar, &pieces[at..end], &mut words);
+        out.extend_from_slice(&words[..count])?;
+        at = end;
     }
     Ok(())
 }

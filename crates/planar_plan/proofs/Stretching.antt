@@ -1,7 +1,7 @@
 -- A line that stands in stretches: each of its spans is one piece.
 use Rattle.std.proofs.Common.{[], ◌∷◌, ◌++◌, ◌≡◌, ℕ, zero, suc, ◌+◌, ◌-◌, ◌*◌, ◌^◌, ◌<◌, ◌≤◌, Bool, true, false, List, Option, Some, None, refl, sym, ap, ◌∙◌, subst, arith, min}
 use Rattle.page_table.specs.Grants.{Chunk}
-use Rattle.page_table.specs.Scattered.{IsScatterList, ScatterList, address_at, room_at, run_at}
+use Rattle.page_table.specs.Scattered.{IsScatterList, ScatterList, room_at, run_at}
 use Rattle.page_table.proofs.Scattered.{address_at-add, address_at-fits, room_at-add}
 use Rattle.clip_spans.specs.declared.Span.{Span}
 use Rattle.std.proofs.lemmas.List.{append-nil}
@@ -15,7 +15,7 @@ use Rattle.std.proofs.lemmas.List.Elements.{All-append, All-cons, All-nil}
 use Rattle.planar_plan.specs.Lines.{AreHeld, CountsFit, IsHeld}
 use Rattle.planar_plan.specs.declared.stretch.Stretch.{Stretch}
 use Rattle.planar_plan.specs.declared.stretch.Stretches.{Stretches}
-use Rattle.planar_plan.specs.Stretches.{AreStretches, IsFit, IsStretch, StandsAt, place_on}
+use Rattle.planar_plan.specs.Stretches.{AreStretches, IsStretch, StandsAt, place_on}
 
 -- the bytes left at a grain hold the grains that are left
 

@@ -1,4 +1,4 @@
-use Rattle.std.proofs.Common.{◌≡◌, ◌*◌, ◌<◌, ◌≤◌, arith}
+use Rattle.std.proofs.Common.{◌≡◌, ◌*◌, arith}
 use Rattle.planar_plan.proofs.Reaching.{all_held, some_held}
 use Rattle.planar_plan.proofs.cut.held_by.Goals as goal
 

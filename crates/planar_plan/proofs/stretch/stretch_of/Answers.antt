@@ -1,4 +1,4 @@
-use Rattle.std.proofs.Common.{◌≡◌, ◌*◌, ◌≤◌, arith}
+use Rattle.std.proofs.Common.{◌≡◌, ◌*◌, arith}
 use Rattle.planar_plan.specs.Lines.{track_of}
 use Rattle.planar_plan.proofs.Stretching.{run_stretch}
 use Rattle.planar_plan.proofs.stretch.stretch_of.Goals as goal

@@ -1,4 +1,4 @@
-use Rattle.std.proofs.Common.{◌≡◌, ◌<◌, ◌≤◌, ◌∙◌, arith}
+use Rattle.std.proofs.Common.{◌≡◌, ◌<◌, ◌∙◌, arith}
 use Rattle.planar_plan.specs.Lines.{strip_of}
 use Rattle.planar_plan.proofs.Stretching.{place_below, place_of}
 use Rattle.picture_model.specs.Plans.{kind_of}

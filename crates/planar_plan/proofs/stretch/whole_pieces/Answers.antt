@@ -1,4 +1,4 @@
-use Rattle.std.proofs.Common.{◌≡◌, ◌+◌, false, List, ◌++◌, ◌∷◌, [], drop, get_or, ap, sym, subst, ◌∙◌}
+use Rattle.std.proofs.Common.{◌≡◌, ◌+◌, false, List, ◌++◌, ◌∷◌, drop, get_or, ap, sym, subst, ◌∙◌}
 use Rattle.std.specs.List.{All}
 use Rattle.std.proofs.lemmas.List.Elements.{All-nil}
 use Rattle.std.proofs.lemmas.List.{drop_more}
@@ -39,16 +39,16 @@ loop-span-preserved c =
     in
     elim c.if-span.branch [
       | then-span+in_ok-push t ↦
-        let added = ap (λ v. v.items) t.pieces-is ∙ t.in_ok-push.ensures.items in
-        record {
-          grains = grains.2;
-          whole = λ memory are. next_whole memory strip s rest out new (pieces_of memory strip (cuts_of memory strip spans)) (left memory are) w t.whole_piece.result are t.if-span.true grains.1 (t.whole_piece.ensures.piece memory are) added;
-          counts = counts_added out new t.whole_piece.result t.whole_piece.ensures.counts added c.loop-span.invariant.counts;
-        }
+          let added = ap (λ v. v.items) t.pieces-is ∙ t.in_ok-push.ensures.items in
+          record {
+            grains = grains.2;
+            whole = λ memory are. next_whole memory strip s rest out new (pieces_of memory strip (cuts_of memory strip spans)) (left memory are) w t.whole_piece.result are t.if-span.true grains.1 (t.whole_piece.ensures.piece memory are) added;
+            counts = counts_added out new t.whole_piece.result t.whole_piece.ensures.counts added c.loop-span.invariant.counts;
+          }
       | else-span t ↦
-        record {
-          grains = grains.2;
-          whole = λ memory are. next_empty memory strip s rest out new (pieces_of memory strip (cuts_of memory strip spans)) (left memory are) t.if-span.false (ap (λ v. v.items) t.pieces-is);
-          counts = subst (All CountsFit) (sym (ap (λ v. v.items) t.pieces-is)) c.loop-span.invariant.counts;
-        }
+          record {
+            grains = grains.2;
+            whole = λ memory are. next_empty memory strip s rest out new (pieces_of memory strip (cuts_of memory strip spans)) (left memory are) t.if-span.false (ap (λ v. v.items) t.pieces-is);
+            counts = subst (All CountsFit) (sym (ap (λ v. v.items) t.pieces-is)) c.loop-span.invariant.counts;
+          }
     ]

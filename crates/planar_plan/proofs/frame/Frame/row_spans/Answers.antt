@@ -1,11 +1,11 @@
-use Rattle.std.proofs.Common.{◌≡◌, ℕ, length, List, map, sym, ap, ◌∙◌, subst}
+use Rattle.std.proofs.Common.{◌≡◌, ℕ, List, map, sym, ap, ◌∙◌, subst}
 use Rattle.clip_spans.specs.Clipping.{clipped_at}
 use Rattle.clip_spans.specs.Runs.{spans_of}
 use Rattle.clip_spans.specs.declared.Span.{Span}
 use Rattle.capture_desc.specs.declared.desc.Desc.{Desc}
 use Rattle.picture_model.specs.Described.{IsDescription, layout_of}
 use Rattle.picture_model.specs.Plans.{in_grains, row_strip}
-use Rattle.planar_plan.specs.Lines.{AreWithin, AreSpansOf, SpansOfRow, spans_of_row}
+use Rattle.planar_plan.specs.Lines.{AreWithin}
 use Rattle.planar_plan.proofs.Held.{described, is_right, runs_within}
 use Rattle.planar_plan.proofs.frame.Frame.row_spans.Goals as goal
 
