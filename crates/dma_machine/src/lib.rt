@@ -117,10 +117,10 @@ impl<R: Ram> Machine<R> {
         self.engine.still
     }
 
-    /// So many turns of the controller, one after the other.
+    /// Takes turns until the machine stands still or so many were taken, and answers how many are left.
     #[inline]
-    pub fn turns(&mut self, count: u32)
-        ensures state { self.new ≡ run self.old (replicate count Turn) }
+    fn turns_until_still(&mut self, count: u32) -> u32
+        ensures state { run self.new (replicate result Turn) ≡ run self.old (replicate count Turn) }
         ensures facts { IsMachine self.new }
     {
         let _engine = &self.engine;
@@ -129,6 +129,16 @@ impl<R: Ram> Machine<R> {
             self.turn();
             left -= 1;
         }
+        left
+    }
+
+    /// So many turns of the controller, one after the other.
+    #[inline]
+    pub fn turns(&mut self, count: u32)
+        ensures state { self.new ≡ run self.old (replicate count Turn) }
+        ensures facts { IsMachine self.new }
+    {
+        let left = self.turns_until_still(count);
         for _turn in 0..left {
             self.turn();
         }
