@@ -18,6 +18,7 @@ use Rattle.generated_law.specs.Streams.{Awaits, HasField, IsTaken, stream_steps}
 abbrev steps : List Step
 steps = stream_steps smallest 1 1
 
+-- the smallest description is that of the worked picture
 has : HasField smallest 1 0 Top
 has = record { description = described; valid = refl; described = refl; within = omega arith }
 
