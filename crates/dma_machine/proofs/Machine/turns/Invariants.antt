@@ -1,4 +1,4 @@
-use Rattle.std.proofs.Common.{◌≡◌, ◌-◌, ◌≤◌, replicate}
+use Rattle.std.proofs.Common.{◌≡◌, ◌-◌, replicate}
 use Rattle.machine_model.specs.Steps.{Turn, run}
 use Rattle.dma_machine.specs.Facts.{IsMachine}
 use Rattle.dma_machine.proofs.Machine.turns.Given as goal
