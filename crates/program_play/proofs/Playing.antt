@@ -1,16 +1,14 @@
 -- Laws of runs and of streams that come in pieces.
-use Rattle.std.proofs.Common.{◌≡◌, ℕ, zero, suc, ◌+◌, ◌-◌, ◌<◌, ◌≤◌, ◌⊎◌, inl, inr, false, List, [], ◌∷◌, ◌++◌, length, take, drop, replicate, option_map, Option, Some, None, Ok, Err, Result, refl, sym, ap, subst, ◌∙◌, arith, length-drop, length-take, zero-add, append_assoc, add-one}
+use Rattle.std.proofs.Common.{◌≡◌, ℕ, ◌+◌, ◌-◌, ◌<◌, ◌≤◌, ◌⊎◌, inl, inr, false, List, [], ◌∷◌, ◌++◌, length, take, drop, option_map, Option, Some, None, Ok, Err, Result, refl, sym, ap, subst, ◌∙◌, arith, length-drop, length-take, zero-add, append_assoc}
 use Rattle.std.specs.Prelude.{IfErr, IfOk}
 use Rattle.std.proofs.lemmas.Bool.{lt-ltb}
-use Rattle.std.proofs.Math.Nat.{add-sub_of_le}
 use Rattle.std.proofs.Math.Seq.{take-add}
-use Rattle.std.proofs.lemmas.List.{append-nil, take_all, drop-drop, take-append-drop, take-take, replicate-append-replicate}
+use Rattle.std.proofs.lemmas.List.{append-nil, take_all, drop-drop, take-append-drop, take-take}
 use Rattle.command_steps.specs.Desks.{OfRest, Grows}
 use Rattle.capture_file.specs.Streams.{steps_of}
 use Rattle.capture_file.specs.declared.FileFault.{FileFault}
 use Rattle.machine_model.specs.States.{State}
-use Rattle.machine_model.specs.Steps.{Turn, run}
-use Rattle.machine_model.specs.Turns.{turn}
+use Rattle.machine_model.specs.Steps.{run}
 use Rattle.machine_model.proofs.Runs.{run-append}
 use Rattle.capture_file.specs.declared.Step.{Step}
 use Rattle.capture_file.specs.Streams.{Reading, reading, with_step, Ending, Unfinished, Ended, Bad, atomic, steps_run, stream_of, whole_file, within_if, too_long, judged}

@@ -1,7 +1,7 @@
 use Rattle.std.proofs.Common.{ℕ, ◌≤◌, length, take, ap, ◌∙◌, arith, length-take}
 use Rattle.page_table.specs.Blocks.{chunks_of}
 use Rattle.machine_model.specs.Paths.{range_cause, demands_cause}
-use Rattle.machine_model.specs.Turns.{demand_less, stores_at, with_demand}
+use Rattle.machine_model.specs.Turns.{stores_at}
 use Rattle.dma_machine.proofs.Asked.{part-written, rest-granted}
 use Rattle.dma_machine.proofs.engine.Engine.move_bytes.Goals as goal
 
