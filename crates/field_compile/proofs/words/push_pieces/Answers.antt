@@ -1,8 +1,8 @@
-use Rattle.std.proofs.Common.{◌≡◌, ◌+◌, ◌-◌, ◌++◌, ◌≤◌, List, map, take, drop, ap, sym, subst, ◌∙◌, length, arith}
+use Rattle.std.proofs.Common.{◌≡◌, ◌+◌, ◌-◌, ◌++◌, List, map, take, drop, ap, sym, subst, ◌∙◌, arith}
 use Rattle.std.proofs.lemmas.List.{drop-drop, map-append, take-append-drop}
 use Rattle.risc_word.specs.declared.Instr.{Instr}
 use Rattle.picture_model.specs.declared.Piece.{Piece}
-use Rattle.picture_model.specs.Programs.{instr_of, words_of}
+use Rattle.picture_model.specs.Programs.{instr_of}
 use Rattle.field_compile.proofs.Appending.{IsLeft, fewer_left}
 use Rattle.field_compile.proofs.words.push_pieces.Goals as goal
 
