@@ -12,6 +12,9 @@ use std::alloc::Global;
 /// The most bytes that one read asks for.
 pub const PIECE: usize = 65_536;
 
+// The most bytes that the first read of an input asks for.
+const FIRST_PIECE: usize = 4_096;
+
 /// Opens an input.
 pub fn open<D: Desk>(name: &str, desk: &mut D) -> Result<(), Answer>
     requires { IsAllowed name.now (D.told desk.old).may_open }
@@ -81,7 +84,8 @@ fn read_piece<D: Desk>(
     }
 }
 
-/// Reads the open input until it ends or one byte more than `most` was read.
+/// Reads the open input until it ends or one byte more than `most` was read: first a small piece, then
+/// pieces that grow, so that a small input takes little memory.
 fn read_rest<D: Desk>(alloc: Global, most: usize, desk: &mut D) -> Result<Vec<u8>, Answer>
     requires open { IsTrue (D.told desk.old).input_open }
     requires few { most < 2 ^ 32 }
@@ -93,7 +97,7 @@ fn read_rest<D: Desk>(alloc: Global, most: usize, desk: &mut D) -> Result<Vec<u8
     let mut bytes = Vec::new(alloc);
     let mut at = 0;
     while at <= most {
-        let end = (at + PIECE).min(most + 1);
+        let end = (at + at.clamp(FIRST_PIECE, PIECE)).min(most + 1);
         let count = read_piece(&mut bytes, at, end, desk)?;
         if count == 0 {
             break;
