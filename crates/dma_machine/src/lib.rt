@@ -7,11 +7,11 @@ ghost use Rattle.fifo_model.specs.Queues.{empty_queues};
 ghost use Rattle.irq_status.specs.Register.{has_ocerr};
 ghost use Rattle.machine_model.specs.Safety.{StaysInside};
 ghost use Rattle.machine_model.specs.States.{started};
-ghost use Rattle.dma_machine.specs.Stills.{StillIf};
+ghost use Rattle.dma_machine.specs.Stills.{StillIf, is_still};
 ghost use Rattle.machine_model.specs.Steps.{Turn, control_pushed_as, host, push, push_control, pushed_as, run};
 ghost use Rattle.machine_model.specs.Turns.{turn};
 ghost use Rattle.page_table.specs.Blocks.{chunks_of};
-ghost use Rattle.std.specs.Prelude.{◌≡◌, false, replicate};
+ghost use Rattle.std.specs.Prelude.{◌≡◌, ◌<◌, false, true, replicate};
 ghost use Rattle.sync_status.specs.Statuses.{is_control, kind_of};
 
 mod engine;
@@ -53,7 +53,7 @@ pub struct Machine<R: Ram> {
 
 impl<R: Ram> Model for Machine<R> {
     ghost use Rattle.dma_machine.specs.Facts.{IsMachine};
-    ghost use Rattle.dma_machine.specs.Stills.{StillIf};
+    ghost use Rattle.dma_machine.specs.Stills.{StillIf, is_still};
     ghost use Rattle.dma_machine.specs.Views.{state_of};
     ghost use Rattle.machine_model.specs.States.{State};
 
@@ -117,10 +117,22 @@ impl<R: Ram> Machine<R> {
         self.engine.still
     }
 
+    /// One turn of a machine that stands still.
+    #[inline(always)]
+    fn stand(&mut self)
+        requires { is_still self.old ≡ true }
+        ensures state { self.new ≡ turn self.old }
+        ensures still { is_still self.new ≡ true }
+        ensures facts { IsMachine self.new }
+    {
+        self.engine.stand();
+    }
+
     /// Takes turns until the machine stands still or so many were taken, and answers how many are left.
-    #[inline]
+    #[inline(always)]
     fn turns_until_still(&mut self, count: u32) -> u32
         ensures state { run self.new (replicate result Turn) ≡ run self.old (replicate count Turn) }
+        ensures still { 0 < result → is_still self.new ≡ true }
         ensures facts { IsMachine self.new }
     {
         let _engine = &self.engine;
@@ -140,7 +152,7 @@ impl<R: Ram> Machine<R> {
     {
         let left = self.turns_until_still(count);
         for _turn in 0..left {
-            self.turn();
+            self.stand();
         }
     }
 

@@ -10,7 +10,7 @@ impl<R: Ram> Engine<R> {
     ghost use Rattle.dma_machine.specs.Stills.{StillIf, is_still, runs_still, waits_still};
     ghost use Rattle.dma_machine.specs.Views.{state_of};
     ghost use Rattle.machine_model.specs.Turns.{counted, turn, worked};
-    ghost use Rattle.std.specs.Prelude.{◌≡◌};
+    ghost use Rattle.std.specs.Prelude.{◌≡◌, true};
 
     #[inline]
     fn work(&mut self)
@@ -75,7 +75,7 @@ impl<R: Ram> Engine<R> {
     }
 
     /// One turn, and whether those after it do nothing but count.
-    #[inline(never)]
+    #[inline(always)]
     fn turn_anew(&mut self)
         requires { CanWork (state_of R.memory self.old).job (state_of R.memory self.old) }
         ensures state { state_of R.memory self.new ≡ turn (state_of R.memory self.old) }
@@ -85,8 +85,19 @@ impl<R: Ram> Engine<R> {
         self.still = self.is_still();
     }
 
+    /// One turn of a machine that stands still.
+    #[inline(always)]
+    pub fn stand(&mut self)
+        requires { is_still (state_of R.memory self.old) ≡ true }
+        ensures state { state_of R.memory self.new ≡ turn (state_of R.memory self.old) }
+        ensures still { is_still (state_of R.memory self.new) ≡ true }
+        ensures flag { self.new.still ≡ self.old.still }
+    {
+        self.count_turn();
+    }
+
     /// One turn.
-    #[inline]
+    #[inline(always)]
     pub fn turn(&mut self)
         requires can { CanWork (state_of R.memory self.old).job (state_of R.memory self.old) }
         requires still { StillIf self.old.still (state_of R.memory self.old) }
