@@ -89,6 +89,8 @@ impl<R: Ram> Engine<R> {
     }
 
     /// The instruction is given up.
+    #[cold]
+    #[inline(never)]
     pub fn give_up(&mut self, skipping: Skipping)
         ensures state { state_of R.memory self.new ≡ given_up skipping (state_of R.memory self.old) }
         ensures same { (self.new.ram ≡ self.old.ram) × (self.new.demands ≡ self.old.demands) }
@@ -174,6 +176,8 @@ impl<R: Ram> Engine<R> {
     }
 
     /// The instruction has all that it asked for.
+    #[cold]
+    #[inline(never)]
     pub fn retire(&mut self)
         requires { IsAddress self.old.target }
         ensures { state_of R.memory self.new ≡ retired self.old.instr (state_of R.memory self.old) }

@@ -50,6 +50,7 @@ impl<R: Ram> Engine<R> {
     }
 
     /// A turn of an idle machine.
+    #[cold]
     #[inline(never)]
     pub fn fetch(&mut self)
         requires { CanFetch (fetch self.old.accepted self.old.pc) (state_of R.memory self.old) }
@@ -120,7 +121,8 @@ impl<R: Ram> Engine<R> {
     }
 
     /// A turn of a machine that waits.
-    #[inline]
+    #[cold]
+    #[inline(never)]
     pub fn wait(&mut self)
         ensures { state_of R.memory self.new ≡ waited self.old.wait.ctl self.old.wait.resync self.old.wait.code (state_of R.memory self.old) }
     {

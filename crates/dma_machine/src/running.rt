@@ -80,6 +80,7 @@ impl<R: Ram> Engine<R> {
     }
 
     /// What a verdict on the front of a queue makes of the instruction.
+    #[cold]
     #[inline(never)]
     fn follow(&mut self, verdict: Verdict, q: Queue, entry: Entry)
         requires running { self.old.phase ≡ Phase.Running }

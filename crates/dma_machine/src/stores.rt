@@ -18,6 +18,7 @@ fn is_off(off: u8, lane: u8) -> bool
 
 /// Stores bytes that lie in the lanes from `lane` on, save those whose lane is off, and answers how many
 /// it stored.
+#[cold]
 #[inline(never)]
 fn store_from<R: Ram>(ram: &mut R, off: u8, mut lane: u8, mut address: u64, bytes: &[u8]) -> u64
     requires lanes { lane + length bytes.now ≤ 4 }

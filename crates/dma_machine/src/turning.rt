@@ -43,7 +43,8 @@ impl<R: Ram> Engine<R> {
         }
     }
 
-    #[inline]
+    #[cold]
+    #[inline(never)]
     fn waits_still(&self) -> bool
         ensures { result ≡ waits_still self.now.queues }
     {
