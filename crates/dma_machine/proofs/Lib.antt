@@ -2,5 +2,6 @@ pub mod Storing
 pub mod Asked
 pub mod Bursts
 pub mod Machines
+pub mod Standing
 pub mod Stills
 pub mod Turns

@@ -11,8 +11,11 @@ use Rattle.machine_model.specs.Turns.{common_code, is_done, is_served, lowest_st
 abbrev pub waits_still : Queues → Bool
 waits_still queues = is_none (lowest_stray queues) && is_none (common_code queues)
 
+abbrev pub none_served : Demands → State → Bool
+none_served ds m = not (is_served One ds m) && not (is_served Two ds m) && not (is_served Three ds m)
+
 abbrev pub runs_still : Demands → State → Bool
-runs_still ds m = not (is_done ds) && not (is_served One ds m) && not (is_served Two ds m) && not (is_served Three ds m)
+runs_still ds m = not (is_done ds) && none_served ds m
 
 abbrev pub works_still : Job → State → Bool
 works_still Idle m = false

@@ -11,7 +11,7 @@ ghost use Rattle.dma_machine.specs.Stills.{StillIf, is_still};
 ghost use Rattle.machine_model.specs.Steps.{Turn, control_pushed_as, host, push, push_control, pushed_as, run};
 ghost use Rattle.machine_model.specs.Turns.{turn};
 ghost use Rattle.page_table.specs.Blocks.{chunks_of};
-ghost use Rattle.std.specs.Prelude.{◌≡◌, ◌<◌, false, true, replicate};
+ghost use Rattle.std.specs.Prelude.{◌≡◌, ◌+◌, ◌<◌, ◌^◌, false, true, replicate};
 ghost use Rattle.sync_status.specs.Statuses.{is_control, kind_of};
 
 mod engine;
@@ -53,7 +53,7 @@ pub struct Machine<R: Ram> {
 
 impl<R: Ram> Model for Machine<R> {
     ghost use Rattle.dma_machine.specs.Facts.{IsMachine};
-    ghost use Rattle.dma_machine.specs.Stills.{StillIf, is_still};
+    ghost use Rattle.dma_machine.specs.Stills.{StillIf};
     ghost use Rattle.dma_machine.specs.Views.{state_of};
     ghost use Rattle.machine_model.specs.States.{State};
 
@@ -117,17 +117,6 @@ impl<R: Ram> Machine<R> {
         self.engine.still
     }
 
-    /// One turn of a machine that stands still.
-    #[inline(always)]
-    fn stand(&mut self)
-        requires { is_still self.old ≡ true }
-        ensures state { self.new ≡ turn self.old }
-        ensures still { is_still self.new ≡ true }
-        ensures facts { IsMachine self.new }
-    {
-        self.engine.stand();
-    }
-
     /// Takes turns until the machine stands still or so many were taken, and answers how many are left.
     #[inline(always)]
     fn turns_until_still(&mut self, count: u32) -> u32
@@ -144,6 +133,33 @@ impl<R: Ram> Machine<R> {
         left
     }
 
+    /// So many turns of a machine that stands still, where its count of turns has room for them: the
+    /// compiler makes one addition of these.
+    #[inline(always)]
+    fn stand_counted(&mut self, count: u32)
+        requires still { 0 < count → is_still self.old ≡ true }
+        requires room { self.old.turns + count < 2 ^ 64 }
+        ensures state { self.new ≡ run self.old (replicate count Turn) }
+        ensures facts { IsMachine self.new }
+    {
+        for _turn in 0..count {
+            self.engine.stand_counted();
+        }
+    }
+
+    /// So many turns of a machine that stands still.
+    #[cold]
+    #[inline(never)]
+    fn stand_on(&mut self, count: u32)
+        requires { 0 < count → is_still self.old ≡ true }
+        ensures state { self.new ≡ run self.old (replicate count Turn) }
+        ensures facts { IsMachine self.new }
+    {
+        for _turn in 0..count {
+            self.engine.stand();
+        }
+    }
+
     /// So many turns of the controller, one after the other.
     #[inline]
     pub fn turns(&mut self, count: u32)
@@ -151,8 +167,10 @@ impl<R: Ram> Machine<R> {
         ensures facts { IsMachine self.new }
     {
         let left = self.turns_until_still(count);
-        for _turn in 0..left {
-            self.stand();
+        if self.engine.turns < u64::MAX - u64::from(left) {
+            self.stand_counted(left);
+        } else {
+            self.stand_on(left);
         }
     }
 

@@ -16,7 +16,8 @@ impl<R: Ram> Engine<R> {
     ghost use Rattle.machine_model.specs.Paths.{demands_cause};
     ghost use Rattle.machine_model.specs.Turns.{apply, burst, burst_of, demand_on, is_cut_short, is_done, is_served, judged, lowest_served, ran, served, taking, took, verdict_at, with_fdsr, with_queue};
     ghost use Rattle.page_table.specs.Blocks.{chunks_of};
-    ghost use Rattle.std.specs.Prelude.{◌≡◌, ◌+◌, ◌≤◌, IsSome, None, Some};
+    ghost use Rattle.dma_machine.specs.Stills.{none_served, runs_still};
+    ghost use Rattle.std.specs.Prelude.{◌≡◌, ◌+◌, ◌≤◌, IsSome, None, Some, false, true};
     ghost use Rattle.sync_status.specs.Statuses.{TakesWithin, valid_bytes};
 
     /// Takes bytes of a queue's front and stores those whose lane is on; whether the line ends before the
@@ -173,10 +174,12 @@ impl<R: Ram> Engine<R> {
         demand_on(&self.demands, q).rest != 0 && self.queues.ready(q, self.trigger)
     }
 
-    #[inline]
-    fn burst_lowest(&mut self)
+    /// A burst from the lowest queue that is served, and whether there is one.
+    #[inline(always)]
+    fn burst_lowest(&mut self) -> bool
         requires { demands_cause (chunks_of (R.memory self.old.ram)) self.old.demands ≡ None }
-        ensures { state_of R.memory self.new ≡ burst_of (lowest_served self.old.demands (state_of R.memory self.old)) (state_of R.memory self.old) }
+        ensures state { state_of R.memory self.new ≡ burst_of (lowest_served self.old.demands (state_of R.memory self.old)) (state_of R.memory self.old) }
+        ensures none { result ≡ false → (self.new ≡ self.old) × (none_served self.old.demands (state_of R.memory self.old) ≡ true) }
     {
         if self.is_served(Queue::One) {
             self.burst(Queue::One);
@@ -184,20 +187,25 @@ impl<R: Ram> Engine<R> {
             self.burst(Queue::Two);
         } else if self.is_served(Queue::Three) {
             self.burst(Queue::Three);
+        } else {
+            return false;
         }
+        true
     }
 
-    /// A turn of a machine that runs.
-    #[inline]
-    pub fn run(&mut self)
+    /// A turn of a machine that runs, and whether it did more than count.
+    #[inline(always)]
+    pub fn run(&mut self) -> bool
         requires target { IsAddress self.old.target }
         requires within { demands_cause (chunks_of (R.memory self.old.ram)) self.old.demands ≡ None }
-        ensures { state_of R.memory self.new ≡ ran (is_done self.old.demands) self.old.instr self.old.demands (state_of R.memory self.old) }
+        ensures state { state_of R.memory self.new ≡ ran (is_done self.old.demands) self.old.instr self.old.demands (state_of R.memory self.old) }
+        ensures still { result ≡ false → (self.new ≡ self.old) × (runs_still self.old.demands (state_of R.memory self.old) ≡ true) }
     {
         if is_done(&self.demands) {
             self.retire();
+            true
         } else {
-            self.burst_lowest();
+            self.burst_lowest()
         }
     }
 }

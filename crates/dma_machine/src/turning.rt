@@ -10,17 +10,25 @@ impl<R: Ram> Engine<R> {
     ghost use Rattle.dma_machine.specs.Stills.{StillIf, is_still, runs_still, waits_still};
     ghost use Rattle.dma_machine.specs.Views.{state_of};
     ghost use Rattle.machine_model.specs.Turns.{counted, turn, worked};
-    ghost use Rattle.std.specs.Prelude.{◌≡◌, true};
+    ghost use Rattle.std.specs.Prelude.{◌≡◌, ◌+◌, ◌<◌, ◌^◌, false, true};
 
-    #[inline]
-    fn work(&mut self)
+    /// A turn of an enabled machine, and whether it may have done more than count.
+    #[inline(always)]
+    fn work(&mut self) -> bool
         requires { CanWork (state_of R.memory self.old).job (state_of R.memory self.old) }
-        ensures { state_of R.memory self.new ≡ worked (state_of R.memory self.old).job (state_of R.memory self.old) }
+        ensures state { state_of R.memory self.new ≡ worked (state_of R.memory self.old).job (state_of R.memory self.old) }
+        ensures still { result ≡ false → is_still (state_of R.memory self.new) ≡ true }
     {
         match self.phase {
             Phase::Running => self.run(),
-            Phase::Waiting => self.wait(),
-            Phase::Idle => self.fetch(),
+            Phase::Waiting => {
+                self.wait();
+                true
+            }
+            Phase::Idle => {
+                self.fetch();
+                true
+            }
         }
     }
 
@@ -32,15 +40,15 @@ impl<R: Ram> Engine<R> {
         self.turns = self.turns.saturating_add(1);
     }
 
-    #[inline]
-    fn take_turn(&mut self)
+    /// One turn, and whether it may have done more than count.
+    #[inline(always)]
+    fn take_turn(&mut self) -> bool
         requires { CanWork (state_of R.memory self.old).job (state_of R.memory self.old) }
-        ensures { state_of R.memory self.new ≡ turn (state_of R.memory self.old) }
+        ensures state { state_of R.memory self.new ≡ turn (state_of R.memory self.old) }
+        ensures still { result ≡ false → is_still (state_of R.memory self.new) ≡ true }
     {
         self.turns = self.turns.saturating_add(1);
-        if self.risc_on {
-            self.work();
-        }
+        self.risc_on && self.work()
     }
 
     #[cold]
@@ -82,8 +90,8 @@ impl<R: Ram> Engine<R> {
         ensures state { state_of R.memory self.new ≡ turn (state_of R.memory self.old) }
         ensures still { StillIf self.new.still (state_of R.memory self.new) }
     {
-        self.take_turn();
-        self.still = self.is_still();
+        let worked = self.take_turn();
+        self.still = !worked || self.is_still();
     }
 
     /// One turn of a machine that stands still.
@@ -95,6 +103,19 @@ impl<R: Ram> Engine<R> {
         ensures flag { self.new.still ≡ self.old.still }
     {
         self.count_turn();
+    }
+
+    /// The same, where its count can rise.
+    #[inline(always)]
+    pub fn stand_counted(&mut self)
+        requires still { is_still (state_of R.memory self.old) ≡ true }
+        requires room { self.old.turns + 1 < 2 ^ 64 }
+        ensures state { state_of R.memory self.new ≡ turn (state_of R.memory self.old) }
+        ensures still { is_still (state_of R.memory self.new) ≡ true }
+        ensures flag { self.new.still ≡ self.old.still }
+        ensures count { self.new.turns ≡ self.old.turns + 1 }
+    {
+        self.turns += 1;
     }
 
     /// One turn.
