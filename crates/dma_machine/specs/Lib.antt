@@ -1,4 +1,5 @@
 pub mod Facts
 pub mod Needs
+pub mod Plain
 pub mod Stills
 pub mod Views

@@ -3,13 +3,14 @@
 ghost use Rattle.dma_machine.specs.Needs.{IsAddress};
 ghost use Rattle.machine_model.specs.Paths.{demand, demands_of, first_demand, instr_ctl, instr_ends, instr_off, no_demand, target_after, target_before, target_moved, three_demands};
 ghost use Rattle.machine_model.specs.Turns.{demand_less, demand_on, is_cut_short, is_done, rest_of_line, skipping_after, with_demand};
-ghost use Rattle.std.specs.Prelude.{◌≡◌, ◌+◌, ◌<◌, ◌≤◌, ◌⊎◌};
-ghost use Rattle.sync_status.specs.Statuses.{TakesWithin, kind_of, valid_bytes, verdict_on};
+ghost use Rattle.dma_machine.specs.Plain.{is_plain};
+ghost use Rattle.std.specs.Prelude.{◌≡◌, ◌+◌, ◌≤◌};
+ghost use Rattle.sync_status.specs.Statuses.{kind_of};
 
 use fifo_model::{Entry, Queue};
 use machine_model::{Demand, Demands, Skipping};
 use risc_word::{Ctl, Ends, Instr};
-use sync_status::{Status, StatusKind, Verdict, judge, kind};
+use sync_status::{Status, StatusKind, kind};
 
 /// The control bits.
 #[inline]
@@ -281,30 +282,13 @@ pub fn is_cut_short(entry: Entry, taken: u8, count: u8, rest: u16) -> bool
     }
 }
 
-#[inline(never)]
-fn judge_other(front: Status, need_sol: bool, part: u8, rest: u16) -> Verdict
-    requires asked { 1 ≤ rest }
-    requires within { (part ≡ 0) ⊎ (part < valid_bytes front) }
-    ensures verdict { result ≡ verdict_on (kind_of front) need_sol part rest }
-    ensures takes { TakesWithin (valid_bytes front) part rest result }
-{
-    judge(front, need_sol, part, rest)
-}
-
-/// What a line under way does with a front: `judge`, quick where it is taken whole, as most are.
+/// Whether a front is a DWORD of pixels that a line under way takes whole, as most are.
 #[inline(always)]
-pub fn judge_front(front: Status, need_sol: bool, part: u8, rest: u16) -> Verdict
-    requires asked { 1 ≤ rest }
-    requires within { (part ≡ 0) ⊎ (part < valid_bytes front) }
-    ensures verdict { result ≡ verdict_on (kind_of front) need_sol part rest }
-    ensures takes { TakesWithin (valid_bytes front) part rest result }
+pub fn is_plain(front: Status, need_sol: bool, part: u8, rest: u16) -> bool
+    ensures { result ≡ is_plain (kind_of front) need_sol part rest }
 {
-    if part == 0 && rest >= 4 {
-        match kind(front) {
-            StatusKind::Start if need_sol => return Verdict::Take(4),
-            StatusKind::Pixels | StatusKind::End(4) if !need_sol => return Verdict::Take(4),
-            _ => {}
-        }
+    match kind(front) {
+        StatusKind::Pixels => !need_sol && part == 0 && rest >= 4,
+        _ => false,
     }
-    judge_other(front, need_sol, part, rest)
 }

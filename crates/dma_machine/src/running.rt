@@ -1,13 +1,13 @@
 //! Turns of a machine that runs a data instruction.
 
 use crate::engine::{Engine, Phase};
-use crate::parts::{demand_on, is_cut_short, is_done, judge_front, lessen, off_of, rest_of_line};
+use crate::parts::{demand_on, is_cut_short, is_done, is_plain, lessen, off_of, rest_of_line};
 use crate::stores::store_at;
 use fifo_model::{Entry, Queue};
 use irq_status::FDSR;
 use machine_model::Skipping;
 use page_ram::Ram;
-use sync_status::Verdict;
+use sync_status::{Verdict, judge};
 
 impl<R: Ram> Engine<R> {
     ghost use Rattle.dma_machine.specs.Needs.{Applied, IsAddress};
@@ -18,7 +18,7 @@ impl<R: Ram> Engine<R> {
     ghost use Rattle.page_table.specs.Blocks.{chunks_of};
     ghost use Rattle.dma_machine.specs.Stills.{none_served, runs_still};
     ghost use Rattle.std.specs.Prelude.{◌≡◌, ◌+◌, ◌≤◌, IsSome, None, Some, false, true};
-    ghost use Rattle.sync_status.specs.Statuses.{TakesWithin, valid_bytes};
+    ghost use Rattle.sync_status.specs.Statuses.{valid_bytes};
 
     /// Takes bytes of a queue's front and stores those whose lane is on; whether the line ends before the
     /// instruction has what it asks for.
@@ -80,19 +80,20 @@ impl<R: Ram> Engine<R> {
         self.interrupts.raise(FDSR);
     }
 
-    /// What a verdict on the front of a queue makes of the instruction.
+    /// What the front of a queue makes of the instruction.
     #[cold]
     #[inline(never)]
-    fn follow(&mut self, verdict: Verdict, q: Queue, entry: Entry)
+    fn judge_front(&mut self, q: Queue, entry: Entry)
         requires running { self.old.phase ≡ Phase.Running }
         requires front { front (lane_of q self.old.queues) ≡ Some entry }
-        requires verdict { verdict ≡ verdict_at q self.old.demands entry (state_of R.memory self.old) }
-        requires takes { TakesWithin (valid_bytes entry.status) (lane_of q self.old.queues).taken (demand_on q self.old.demands).rest verdict }
+        requires asked { 1 ≤ (demand_on q self.old.demands).rest }
         requires within { demands_cause (chunks_of (R.memory self.old.ram)) self.old.demands ≡ None }
-        ensures state { state_of R.memory self.new ≡ judged verdict q self.old.instr self.old.demands entry (state_of R.memory self.old) }
+        ensures state { state_of R.memory self.new ≡ judged (verdict_at q self.old.demands entry (state_of R.memory self.old)) q self.old.instr self.old.demands entry (state_of R.memory self.old) }
         ensures within { demands_cause (chunks_of (R.memory self.new.ram)) self.new.demands ≡ None }
     {
-        match verdict {
+        let demand = demand_on(&self.demands, q);
+        let part = self.queues.part(q);
+        match judge(entry.status, demand.needs_sol, part, demand.rest) {
             Verdict::Take(n) => self.take(q, n, entry),
             Verdict::Discard => self.discard(q),
             Verdict::Broken => self.give_up(Skipping::ToSync),
@@ -103,8 +104,9 @@ impl<R: Ram> Engine<R> {
         }
     }
 
-    /// What the front of a queue makes of the instruction.
+    /// The same, quick where the front is taken whole.
     #[inline(always)]
+    #[tactic(auto, using(crate::proofs::Plains::plain_whole))]
     fn meet_front(&mut self, q: Queue, entry: Entry)
         requires running { self.old.phase ≡ Phase.Running }
         requires front { front (lane_of q self.old.queues) ≡ Some entry }
@@ -115,9 +117,10 @@ impl<R: Ram> Engine<R> {
     {
         let demand = demand_on(&self.demands, q);
         let part = self.queues.part(q);
-        match judge_front(entry.status, demand.needs_sol, part, demand.rest) {
-            Verdict::Take(4) => self.take(q, 4, entry),
-            verdict => self.follow(verdict, q, entry),
+        if is_plain(entry.status, demand.needs_sol, part, demand.rest) {
+            self.take(q, 4, entry);
+        } else {
+            self.judge_front(q, entry);
         }
     }
 
@@ -154,15 +157,27 @@ impl<R: Ram> Engine<R> {
         }
     }
 
-    /// As many applications to one queue as there can be, up to the trigger point.
+    /// As many applications to one queue as there can be, up to so many.
+    #[inline(never)]
+    fn burst_on(&mut self, q: Queue, mut left: u16)
+        requires { demands_cause (chunks_of (R.memory self.old.ram)) self.old.demands ≡ None }
+        ensures { state_of R.memory self.new ≡ burst left q (state_of R.memory self.old) }
+    {
+        while left > 0 && self.apply(q) {
+            left -= 1;
+        }
+    }
+
+    /// As many applications to one queue as there can be, up to the trigger point. The first stands apart,
+    /// since it is the only one where the trigger point is 1.
     #[inline(always)]
     fn burst(&mut self, q: Queue)
         requires { demands_cause (chunks_of (R.memory self.old.ram)) self.old.demands ≡ None }
         ensures { state_of R.memory self.new ≡ burst self.old.trigger q (state_of R.memory self.old) }
     {
-        let mut left = self.trigger;
-        while left > 0 && self.apply(q) {
-            left -= 1;
+        let most = self.trigger;
+        if self.apply(q) && most > 1 {
+            self.burst_on(q, most - 1);
         }
     }
 

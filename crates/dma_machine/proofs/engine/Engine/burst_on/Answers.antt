@@ -1,6 +1,6 @@
 use Rattle.std.proofs.Common.{true, false, sym, ◌∙◌}
 use Rattle.dma_machine.proofs.Bursts.{burst-applied}
-use Rattle.dma_machine.proofs.engine.Engine.burst.Goals as goal
+use Rattle.dma_machine.proofs.engine.Engine.burst_on.Goals as goal
 
 pub loop-left-preserved : goal.loop-left-preserved
 loop-left-preserved g c =

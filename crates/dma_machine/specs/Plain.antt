@@ -1,0 +1,9 @@
+-- What most fronts are.
+use Rattle.std.specs.Prelude.{ℕ, ◌&&◌, ◌==◌, Bool, true, false, nat_le}
+use Rattle.sync_status.specs.declared.StatusKind.{StatusKind}
+use Rattle.sync_status.specs.declared.StatusKind.TheVariants.{Pixels}
+
+-- a front of pixels, none of which is taken, where the line is under way and four bytes or more are asked for
+abbrev pub is_plain : StatusKind → Bool → ℕ → ℕ → Bool
+is_plain Pixels false taken rest = (taken == 0) && nat_le 4 rest
+is_plain kind sol taken rest = false
