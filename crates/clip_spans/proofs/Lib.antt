@@ -3,4 +3,4 @@ pub mod Covered
 pub mod Merging
 pub mod Sorting
 pub mod Few
-mod Alike
+pub mod Alike

@@ -1,6 +1,6 @@
 -- Which units of a row are clipped: a question about single pixels.
-use Rattle.std.specs.Prelude.{ℕ, zero, suc, ◌+◌, ◌*◌, ◌/◌, Bool, true, false, not, ◌&&◌, ◌||◌, List, nat_le, nat_lt}
-use Rattle.std.specs.List.{list_all, list_any}
+use Rattle.std.specs.Prelude.{ℕ, zero, suc, ◌+◌, ◌*◌, ◌/◌, ◌^◌, Bool, true, false, not, ◌&&◌, ◌||◌, List, [], ◌∷◌, min, nat_le, nat_lt, if◌then◌else◌}
+use Rattle.std.specs.List.{list_any}
 use Rattle.clip_spans.specs.declared.Rect.{Rect}
 
 -- a rectangle has pixels in a row
@@ -11,9 +11,17 @@ abbrev pub is_same : Bool → Bool → Bool
 is_same true b = b
 is_same false b = not b
 
--- each rectangle meets both of two rows or neither
-abbrev pub all_meet_alike : List Rect → ℕ → ℕ → Bool
-all_meet_alike rects row other = list_all (λ rect. is_same (meets rect row) (meets rect other)) rects
+-- the first row after a row at which a rectangle begins or ends, 2^32 where it does neither
+abbrev pub edge_after : ℕ → Rect → ℕ
+edge_after row rect =
+    if nat_lt row rect.y then rect.y
+    else if nat_lt row (rect.y + rect.h) then rect.y + rect.h
+    else 2 ^ 32
+
+-- the first at which one of them does, and 2^32 at the most
+abbrev pub next_edge : List Rect → ℕ → ℕ
+next_edge [] row = 2 ^ 32
+next_edge (rect ∷ rest) row = min (edge_after row rect) (next_edge rest row)
 
 -- a rectangle covers pixel x of a row
 abbrev pub covers : Rect → ℕ → ℕ → Bool

@@ -1,9 +1,9 @@
 //! Clip rectangles, and the spans of a picture row that they clip.
 #![tactic(auto)]
 
-ghost use Rattle.std.specs.Prelude.{◌≡◌, ◌↔◌, ℕ, ◌+◌, ◌*◌, ◌%◌, ◌<◌, ◌≤◌, ◌++◌, List, length, IfOk, IfSome, IsTrue};
+ghost use Rattle.std.specs.Prelude.{◌≡◌, ◌↔◌, ℕ, ◌+◌, ◌*◌, ◌%◌, ◌<◌, ◌≤◌, ◌++◌, List, length, IfOk, IfSome};
 ghost use Rattle.std.specs.List.{All};
-ghost use Rattle.clip_spans.specs.Clipping.{all_meet_alike, clipped_at, is_same, meets};
+ghost use Rattle.clip_spans.specs.Clipping.{clipped_at, edge_after, meets, next_edge};
 ghost use Rattle.clip_spans.specs.Parts.{AreInOrder, IsPart, is_inside, part_of, parts_of, unless_empty};
 ghost use Rattle.clip_spans.specs.Runs.{Alternate, AreRunsFrom, AreSpans, spans_of};
 ghost use Rattle.clip_spans.specs.declared.ClipFault.TheVariants.{Memory};
@@ -14,6 +14,9 @@ use std::alloc::{AllocError, AllocFailed, Global};
 use std::marker::Model;
 
 const MOST_RECTS: usize = 64;
+
+// The row where no rectangle begins or ends: the first behind all rows.
+const NO_EDGE: u64 = 1 << 32;
 
 /// A clip rectangle: the pixels `x` to `x + w - 1` of the picture rows `y` to `y + h - 1`. It may be
 /// empty or lie outside the picture, and its ends may pass 2^32.
@@ -105,21 +108,30 @@ fn meets(rect: &Rect, row: u32) -> bool
     rect.y <= row && u64::from(row) < u64::from(rect.y) + u64::from(rect.h)
 }
 
-// Whether a rectangle meets both of two rows or neither.
-fn meets_alike(rect: &Rect, row: u32, other: u32) -> bool
-    ensures { result ≡ is_same (meets rect.now row) (meets rect.now other) }
+// The first row after a row at which a rectangle begins or ends.
+fn edge_after(row: u32, rect: &Rect) -> u64
+    ensures { result ≡ edge_after row rect.now }
 {
-    if meets(rect, row) {
-        meets(rect, other)
+    let row = u64::from(row);
+    let begin = u64::from(rect.y);
+    let end = begin + u64::from(rect.h);
+    if row < begin {
+        begin
+    } else if row < end {
+        end
     } else {
-        !meets(rect, other)
+        NO_EDGE
     }
 }
 
-fn all_meet_alike(rects: &[Rect], row: u32, other: u32) -> bool
-    ensures { result ≡ all_meet_alike rects.now row other }
+fn next_edge(rects: &[Rect], row: u32) -> u64
+    ensures { result ≡ next_edge rects.now row }
 {
-    rects.iter().all(|rect| meets_alike(rect, row, other))
+    let mut next = NO_EDGE;
+    for rect in rects {
+        next = next.min(edge_after(row, rect));
+    }
+    next
 }
 
 // What a rectangle clips of a row, in whole units.
@@ -234,13 +246,15 @@ impl Clips {
         Ok(Spans { spans })
     }
 
-    /// Whether the same rectangles meet two rows, which then have the same spans.
-    pub fn alike(&self, row: u32, other: u32) -> bool
-        ensures value { result ≡ all_meet_alike self.now row other }
-        ensures spans { IsTrue result → (width unit : ℕ) → spans_of self.now row width unit ≡ spans_of self.now other width unit }
+    /// The first row after a row at which a rectangle begins or ends, 2^32 where there is none. The rows up
+    /// to it have the spans of this one.
+    pub fn next_edge(&self, row: u32) -> u64
+        ensures value { result ≡ next_edge self.now row }
+        ensures later { row < result }
+        ensures spans { (other width unit : ℕ) → row ≤ other → other < result → spans_of self.now other width unit ≡ spans_of self.now row width unit }
         ensures few { length self.now ≤ 64 }
     {
-        all_meet_alike(&self.rects, row, other)
+        next_edge(&self.rects, row)
     }
 }
 
@@ -315,10 +329,11 @@ mod tests {
     }
 
     #[test]
-    fn rows_that_the_same_rectangles_meet(rt: HostRuntime) -> Result<(), Fail> {
+    fn rows_up_to_the_next_edge(rt: HostRuntime) -> Result<(), Fail> {
         let clips = Clips::new(rt.alloc(), &RECTS)?;
-        assert!(rt; clips.alike(3, u32::MAX));
-        assert!(rt; !clips.alike(0, 1));
+        assert_eq!(rt; clips.next_edge(0), 1);
+        assert_eq!(rt; clips.next_edge(2), 3);
+        assert_eq!(rt; clips.next_edge(3), 4_294_967_296);
         Ok(())
     }
 

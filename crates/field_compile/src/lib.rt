@@ -14,7 +14,7 @@ ghost use Rattle.picture_model.specs.Programs.{data_code, field_words, lines_ins
 
 use capture_desc::Fields;
 use pixel_layout::Parity;
-use planar_plan::Frame;
+use planar_plan::{Frame, Pieces};
 use risc_word::Code;
 use std::alloc::{AllocError, Global};
 pub use words::{push_instr, push_pieces, sync};
@@ -66,8 +66,10 @@ fn push_rows(
     let fields = frame.desc().fields;
     let planar = frame.format().is_planar();
     let mut spans = frame.row_spans(alloc, 0)?;
+    let mut pieces = Pieces::new(alloc);
     for number in 0..frame.rows_of(field) {
-        let pieces = frame.plan_row_by(alloc, picture_row(fields, field, number), &mut spans)?;
+        let row = picture_row(fields, field, number);
+        frame.plan_row_by(alloc, row, &mut spans, &mut pieces)?;
         push_pieces(planar, pieces.as_slice(), out)?;
     }
     Ok(())

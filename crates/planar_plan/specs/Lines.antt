@@ -55,17 +55,18 @@ abbrev pub AreWithin : ℕ → List Span → Type 0
 AreWithin grains [] = Unit {0}
 AreWithin grains (s ∷ rest) = (s.from ≤ s.to) × (s.to ≤ grains) × AreWithin grains rest
 
--- the spans of a row, in grains
-pub record SpansOfRow : Type 0 where
-  pub row : ℕ
+-- the spans of the rows from one on up to another, in grains
+pub record SpansOfRows : Type 0 where
+  pub from : ℕ
+  pub to : ℕ
   pub spans : List Span
 
-abbrev pub spans_of_row : ℕ → List Span → SpansOfRow
-spans_of_row row spans = record { row = row; spans = spans }
+abbrev pub spans_of_rows : ℕ → ℕ → List Span → SpansOfRows
+spans_of_rows from to spans = record { from = from; to = to; spans = spans }
 
--- they are those of a row of a description
-abbrev pub AreSpansOf : Desc → SpansOfRow → Type 0
-AreSpansOf d kept = kept.spans ≡ (row_strip d kept.row).spans
+-- they are those of a description
+abbrev pub AreSpansOf : Desc → SpansOfRows → Type 0
+AreSpansOf d kept = (row : ℕ) → kept.from ≤ row → row < kept.to → kept.spans ≡ (row_strip d row).spans
 
 -- a piece reaches to the end of its span or as far as it may, from its address on
 pub record Reaches (rest size far from : ℕ) (r : Reach) : Type 0 where

@@ -36,11 +36,35 @@ impl Model for Pieces {
 }
 
 impl Pieces {
+    /// No pieces.
+    pub fn new(alloc: Global) -> Pieces
+        ensures { result ≡ [] }
+    {
+        Pieces {
+            pieces: Vec::new(alloc),
+        }
+    }
+
     // Keeps a list.
-    pub(crate) fn new(pieces: Vec<Piece>) -> Pieces
+    pub(crate) fn of(pieces: Vec<Piece>) -> Pieces
         ensures { result ≡ pieces.items }
     {
         Pieces { pieces }
+    }
+
+    // Puts the pieces of a row with these spans in the place of others.
+    pub(crate) fn cut_row(
+        &mut self,
+        scatter: &Scatter,
+        line: &Line,
+        spans: &[Span],
+    ) -> Result<(), AllocError>
+        requires line { CanBeCut scatter.now (strip_of line.now) }
+        requires grains { AreWithin line.now.grains spans.now }
+        ensures pieces { IfOk result (λ _. self.new ≡ pieces_of scatter.now.chunks (strip_of line.now) (cuts_of scatter.now.chunks (strip_of line.now) spans.now)) }
+        ensures counts { IfOk result (λ _. All CountsFit self.new) }
+    {
+        cut_row(scatter, line, spans, &mut self.pieces)
     }
 
     /// The list.
@@ -51,19 +75,21 @@ impl Pieces {
     }
 }
 
-/// The spans of a picture row, counted in what its plan cuts. Contracts see the row and the spans.
+/// The spans of the picture rows from one on up to another, which is none of them, counted in what their
+/// plans cut. Contracts see both rows and the spans.
 #[derive(Drop)]
 pub struct RowSpans {
-    pub(crate) row: u32,
+    pub(crate) from: u32,
+    pub(crate) to: u64,
     pub(crate) spans: Vec<Span>,
 }
 
 impl Model for RowSpans {
-    ghost use Rattle.planar_plan.specs.Lines.{SpansOfRow, spans_of_row};
+    ghost use Rattle.planar_plan.specs.Lines.{SpansOfRows, spans_of_rows};
 
-    ghost Value = { SpansOfRow };
+    ghost Value = { SpansOfRows };
 
-    ghost view = { λ s. spans_of_row s.row s.spans.items };
+    ghost view = { λ s. spans_of_rows s.from s.to s.spans.items };
 }
 
 // What a line moves on a plane: the bytes of a grain, and the offset of the line's first byte, where it
@@ -371,41 +397,41 @@ pub(crate) fn spans_in_grains(
     Ok(grains)
 }
 
-// The pieces of a line with these spans, span by span.
+// Puts the pieces of a line with these spans in the place of others, span by span.
 fn cut_spans(
-    alloc: Global,
     scatter: &Scatter,
     line: &Line,
     spans: &[Span],
-) -> Result<Vec<Piece>, AllocError>
+    pieces: &mut Vec<Piece>,
+) -> Result<(), AllocError>
     requires line { CanBeCut scatter.now (strip_of line.now) }
     requires grains { AreWithin line.now.grains spans.now }
-    ensures pieces { IfOk result (λ pieces. pieces.items ≡ pieces_of scatter.now.chunks (strip_of line.now) (cuts_of scatter.now.chunks (strip_of line.now) spans.now)) }
-    ensures counts { IfOk result (λ pieces. All CountsFit pieces.items) }
+    ensures pieces { IfOk result (λ _. pieces.new.items ≡ pieces_of scatter.now.chunks (strip_of line.now) (cuts_of scatter.now.chunks (strip_of line.now) spans.now)) }
+    ensures counts { IfOk result (λ _. All CountsFit pieces.new.items) }
 {
-    let mut pieces = Vec::with_capacity(alloc, spans.len())?;
+    pieces.clear();
     let mut windows = no_windows();
     for span in spans {
-        cut_span(scatter, line, &mut windows, *span, &mut pieces)?;
+        cut_span(scatter, line, &mut windows, *span, pieces)?;
     }
-    Ok(pieces)
+    Ok(())
 }
 
-// The pieces of a row with these spans, which are counted in grains.
-pub(crate) fn cut_row(
-    alloc: Global,
+// Puts the pieces of a row with these spans, which are counted in grains, in the place of others.
+fn cut_row(
     scatter: &Scatter,
     line: &Line,
     spans: &[Span],
-) -> Result<Vec<Piece>, AllocError>
+    pieces: &mut Vec<Piece>,
+) -> Result<(), AllocError>
     requires line { CanBeCut scatter.now (strip_of line.now) }
     requires grains { AreWithin line.now.grains spans.now }
-    ensures pieces { IfOk result (λ pieces. pieces.items ≡ pieces_of scatter.now.chunks (strip_of line.now) (cuts_of scatter.now.chunks (strip_of line.now) spans.now)) }
-    ensures counts { IfOk result (λ pieces. All CountsFit pieces.items) }
+    ensures pieces { IfOk result (λ _. pieces.new.items ≡ pieces_of scatter.now.chunks (strip_of line.now) (cuts_of scatter.now.chunks (strip_of line.now) spans.now)) }
+    ensures counts { IfOk result (λ _. All CountsFit pieces.new.items) }
 {
     match stretches_of(scatter, line) {
-        Some(stretches) => whole_pieces(alloc, line, &stretches, spans),
-        None => cut_spans(alloc, scatter, line, spans),
+        Some(stretches) => whole_pieces(line, &stretches, spans, pieces),
+        None => cut_spans(scatter, line, spans, pieces),
     }
 }
 

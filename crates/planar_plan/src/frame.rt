@@ -10,7 +10,7 @@ ghost use Rattle.picture_model.specs.Plans.{row_plan, row_strip, skipped_plan, v
 ghost use Rattle.planar_plan.specs.Frames.{HasScatter, IsFramed, Judges};
 ghost use Rattle.planar_plan.specs.Lines.{AreSpansOf, CountsFit};
 
-use crate::cut::{Pieces, RowSpans, cut_row, cut_whole, spans_in_grains};
+use crate::cut::{Pieces, RowSpans, cut_whole, spans_in_grains};
 use crate::judge::{BuildError, highest_end, overlap, size_faults, vbi_range};
 use crate::lines::{row_line, skipped_line, vbi_line};
 use crate::memory::{grants, page_faults, scatter};
@@ -112,21 +112,24 @@ impl Frame {
         grants(alloc, &self.desc)
     }
 
-    /// The spans of a picture row, for the plans of this row and of others. Rows are counted from 0, those
-    /// of both fields together.
+    /// The spans of a picture row, and of those after it that the same rectangles meet. Rows are counted
+    /// from 0, those of both fields together.
     pub fn row_spans(&self, alloc: Global, row: u32) -> Result<RowSpans, AllocError>
-        ensures row { IfOk result (λ spans. spans.row ≡ row) }
+        ensures from { IfOk result (λ spans. spans.from ≡ row) }
+        ensures to { IfOk result (λ spans. row < spans.to) }
         ensures spans { IfOk result (AreSpansOf self.now) }
         ensures description { IfOk result (λ _. IsDescription self.now) }
         ensures framed { IsFramed self.now }
     {
         let format = self.desc.format;
-        let spans = self
-            .desc
-            .clip
-            .spans(alloc, row, self.desc.width, format.unit_pixels())?;
-        let spans = spans_in_grains(alloc, format, spans.as_slice())?;
-        Ok(RowSpans { row, spans })
+        let clip = &self.desc.clip;
+        let spans = clip.spans(alloc, row, self.desc.width, format.unit_pixels())?;
+        let grains = spans_in_grains(alloc, format, spans.as_slice())?;
+        Ok(RowSpans {
+            from: row,
+            to: clip.next_edge(row),
+            spans: grains,
+        })
     }
 
     // Puts the spans of a row in the place of others, unless they are the same.
@@ -134,27 +137,24 @@ impl Frame {
         requires { AreSpansOf self.now spans.old }
         ensures spans { IfOk result (λ _. spans.new.spans ≡ (row_strip self.now row).spans) }
         ensures kept { AreSpansOf self.now spans.new }
-        ensures description { IfOk result (λ _. IsDescription self.now) }
-        ensures framed { IsFramed self.now }
     {
-        if self.desc.clip.alike(spans.row, row) {
+        if spans.from <= row && u64::from(row) < spans.to {
             return Ok(());
         }
         *spans = self.row_spans(alloc, row)?;
         Ok(())
     }
 
-    // The pieces of a row with these spans.
-    fn cut(&self, alloc: Global, row: u32, spans: &RowSpans) -> Result<Pieces, AllocError>
+    // Puts the pieces of a row with these spans in the place of others.
+    fn cut(&self, row: u32, spans: &RowSpans, pieces: &mut Pieces) -> Result<(), AllocError>
         requires row { row < self.now.height }
         requires spans { spans.now.spans ≡ (row_strip self.now row).spans }
         requires description { IsDescription self.now }
-        ensures plan { IfOk result (λ pieces. pieces ≡ row_plan self.now row) }
-        ensures counts { IfOk result (All CountsFit) }
+        ensures plan { IfOk result (λ _. pieces.new ≡ row_plan self.now row) }
+        ensures counts { IfOk result (λ _. All CountsFit pieces.new) }
     {
         let line = row_line(&self.desc, row);
-        let pieces = cut_row(alloc, &self.scatter, &line, &spans.spans)?;
-        Ok(Pieces::new(pieces))
+        pieces.cut_row(&self.scatter, &line, &spans.spans)
     }
 
     /// The pieces of a picture row, in order.
@@ -166,27 +166,29 @@ impl Frame {
         ensures framed { IsFramed self.now }
     {
         let spans = self.row_spans(alloc, row)?;
-        self.cut(alloc, row, &spans)
+        let mut pieces = Pieces::new(alloc);
+        self.cut(row, &spans, &mut pieces)?;
+        Ok(pieces)
     }
 
-    /// The pieces of a picture row, in order, where the spans of some row are known. These are taken again
-    /// where the same rectangles meet both rows; else those of this row come in their place.
+    /// Puts the pieces of a picture row, in order, in the place of others, where the spans of some rows are
+    /// known. Where this row isn't among them, its spans come in their place.
     pub fn plan_row_by(
         &self,
         alloc: Global,
         row: u32,
         spans: &mut RowSpans,
-    ) -> Result<Pieces, AllocError>
+        pieces: &mut Pieces,
+    ) -> Result<(), AllocError>
         requires row { row < self.now.height }
         requires spans { AreSpansOf self.now spans.old }
-        ensures plan { IfOk result (λ pieces. pieces ≡ row_plan self.now row) }
-        ensures counts { IfOk result (All CountsFit) }
+        requires description { IsDescription self.now }
+        ensures plan { IfOk result (λ _. pieces.new ≡ row_plan self.now row) }
+        ensures counts { IfOk result (λ _. All CountsFit pieces.new) }
         ensures spans { AreSpansOf self.now spans.new }
-        ensures description { IfOk result (λ _. IsDescription self.now) }
-        ensures framed { IsFramed self.now }
     {
         self.renew(alloc, row, spans)?;
-        self.cut(alloc, row, spans)
+        self.cut(row, spans, pieces)
     }
 
     /// The pieces of a skipped line, in order. They write nothing.
@@ -197,7 +199,7 @@ impl Frame {
     {
         let line = skipped_line(&self.desc);
         let pieces = cut_whole(alloc, &self.scatter, &line, true)?;
-        Ok(Pieces::new(pieces))
+        Ok(Pieces::of(pieces))
     }
 
     /// The pieces of a field's VBI line, in order. VBI lines are counted from 0 in each field.
@@ -215,6 +217,6 @@ impl Frame {
     {
         let line = vbi_line(&self.desc, field, line);
         let pieces = cut_whole(alloc, &self.scatter, &line, false)?;
-        Ok(Pieces::new(pieces))
+        Ok(Pieces::of(pieces))
     }
 }

@@ -15,7 +15,7 @@ use clip_spans::Span;
 use page_table::Scatter;
 use picture_model::{Piece, PieceKind};
 use risc_word::Ends;
-use std::alloc::{AllocError, Global};
+use std::alloc::AllocError;
 
 // Where the bytes of a track stand, which lie in one chunk and are no more than a piece may have: the
 // address of the first, and the bytes from grain to grain. Both are 0 where the track isn't written.
@@ -120,23 +120,23 @@ fn whole_piece(line: &Line, stretches: &Stretches, span: Span) -> Piece
     }
 }
 
-// The pieces of a line with these spans, each of which is one.
+// Puts the pieces of a line with these spans, each of which is one, in the place of others.
 pub(crate) fn whole_pieces(
-    alloc: Global,
     line: &Line,
     stretches: &Stretches,
     spans: &[Span],
-) -> Result<Vec<Piece>, AllocError>
+    pieces: &mut Vec<Piece>,
+) -> Result<(), AllocError>
     requires grains { AreWithin line.now.grains spans.now }
     requires fit { AreFit (strip_of line.now) stretches.now }
-    ensures pieces { (memory : List Chunk) → AreStretches memory (strip_of line.now) stretches.now → IfOk result (λ pieces. pieces.items ≡ pieces_of memory (strip_of line.now) (cuts_of memory (strip_of line.now) spans.now)) }
-    ensures counts { IfOk result (λ pieces. All CountsFit pieces.items) }
+    ensures pieces { (memory : List Chunk) → AreStretches memory (strip_of line.now) stretches.now → IfOk result (λ _. pieces.new.items ≡ pieces_of memory (strip_of line.now) (cuts_of memory (strip_of line.now) spans.now)) }
+    ensures counts { IfOk result (λ _. All CountsFit pieces.new.items) }
 {
-    let mut pieces = Vec::with_capacity(alloc, spans.len())?;
+    pieces.clear();
     for span in spans {
         if span.from < span.to {
             pieces.push(whole_piece(line, stretches, *span))?;
         }
     }
-    Ok(pieces)
+    Ok(())
 }

@@ -20,7 +20,7 @@ loop-number-init c =
       left = subst (λ (rs : List ℕ). IsLeft old old (rows_instrs d rs) (rows_instrs d all)) rows (all_left old (rows_instrs d all));
       below = subst (Each (λ row. row < d.height)) rows (rows_below d c.args.field);
       spans = c.in_ok-spans.ensures.spans;
-      description = λ some. absurd (omega arith);
+      description = c.in_ok-spans.ensures.description;
     }
 
 pub returns-in_err-push_pieces-clause-kept : goal.returns-in_err-push_pieces-clause-kept
@@ -42,9 +42,9 @@ loop-number-preserved c =
       left = fewer_lines d old out c.push_pieces.new.out.items (row_strip d (picture_row (is_both d.fields) field at)) (map (row_strip d) (rows_from d field (at + 1) (end - (at + 1)))) all c.is_planar-planar.result c.as_slice.result.now
           (subst (λ (n : ℕ). IsLeft old out (rows_instrs d (rows_from d field at n)) all) more c.loop-number.invariant.left)
           (c.is_planar-planar.ensures ∙ ap (λ (f : Format). (layout f).planar) c.format.ensures.value)
-          (c.as_slice.ensures ∙ c.in_ok-pieces.ensures.plan ∙ ap (row_plan d) (c.picture_row.ensures ∙ fields))
+          (c.as_slice.ensures ∙ c.in_ok-plan_row_by.ensures.plan ∙ ap (row_plan d) (c.picture_row-row.ensures ∙ fields))
           c.push_pieces.ensures.kept c.in_ok-push_pieces.ensures.words;
       below = (subst (λ (n : ℕ). Each (λ row. row < d.height) (rows_from d field at n)) more c.loop-number.invariant.below).1;
       spans = c.plan_row_by.ensures.spans;
-      description = λ some. c.in_ok-pieces.ensures.description;
+      description = c.loop-number.invariant.description;
     }

@@ -13,5 +13,5 @@ invariant-loop-number l =
       left : IsLeft l.fn.out.items l.out.items (rows_instrs l.frame (rows_from l.frame l.field l.number (l.number-end - l.number))) (rows_instrs l.frame (rows_of l.frame l.field));
       below : Each (λ row. row < l.frame.height) (rows_from l.frame l.field l.number (l.number-end - l.number));
       spans : AreSpansOf l.frame l.spans;
-      description : 0 < l.number → IsDescription l.frame;
+      description : IsDescription l.frame;
     }

@@ -46,7 +46,7 @@ loop-span-init c =
     let strip = strip_of c.args.line.now in
     record {
       grains = c.requires.grains;
-      whole = ap (λ (front : List Piece). front ++ pieces_of memory strip (cuts_of memory strip c.args.spans.now)) c.in_ok-pieces.ensures.items;
+      whole = ap (λ (front : List Piece). front ++ pieces_of memory strip (cuts_of memory strip c.args.spans.now)) c.clear.ensures.items;
       windows = c.no_windows-windows.ensures c.args.scatter.now;
-      counts = subst (All CountsFit) (sym c.in_ok-pieces.ensures.items) (All-nil CountsFit);
+      counts = subst (All CountsFit) (sym c.clear.ensures.items) (All-nil CountsFit);
     }

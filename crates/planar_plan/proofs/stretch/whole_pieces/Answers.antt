@@ -17,8 +17,8 @@ loop-span-init c =
     let strip = strip_of c.args.line.now in
     record {
       grains = c.requires.grains;
-      whole = λ memory are. ap (λ (front : List Piece). front ++ pieces_of memory strip (cuts_of memory strip c.args.spans.now)) c.in_ok-pieces.ensures.items;
-      counts = subst (All CountsFit) (sym c.in_ok-pieces.ensures.items) (All-nil CountsFit);
+      whole = λ memory are. ap (λ (front : List Piece). front ++ pieces_of memory strip (cuts_of memory strip c.args.spans.now)) c.clear.ensures.items;
+      counts = subst (All CountsFit) (sym c.clear.ensures.items) (All-nil CountsFit);
     }
 
 pub loop-span-preserved : goal.loop-span-preserved

@@ -19,6 +19,6 @@ returns-clause-plan c =
     let spans : (span 0 line.grains true ∷ []) ≡ (skipped_strip d).spans =
     ap (λ (l : Strip). span 0 l.grains true ∷ []) c.skipped_line-line.ensures
     in
-    c.new.ensures
+    c.of.ensures
     ∙ pieces-plan (memory_of d) c.self.inside.scatter.chunks (skipped_strip d) (strip_of line) (span 0 line.grains true ∷ []) c.in_ok-pieces.pieces.items memory c.skipped_line-line.ensures spans c.in_ok-pieces.ensures.pieces
     ∙ ap skipped_plan c.self.view_is

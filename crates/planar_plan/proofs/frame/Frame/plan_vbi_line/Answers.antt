@@ -34,6 +34,6 @@ returns-clause-plan c =
     let spans : (span 0 line.grains false ∷ []) ≡ (vbi_strip d c.args.field c.args.line).spans =
     ap (λ (l : Strip). span 0 l.grains false ∷ []) c.vbi_line-line.ensures
     in
-    c.new.ensures
+    c.of.ensures
     ∙ pieces-plan (memory_of d) c.self.inside.scatter.chunks (vbi_strip d c.args.field c.args.line) (strip_of line) (span 0 line.grains false ∷ []) c.in_ok-pieces.pieces.items memory c.vbi_line-line.ensures spans c.in_ok-pieces.ensures.pieces
     ∙ ap (λ (e : Desc). vbi_plan e c.args.field c.args.line) c.self.view_is
