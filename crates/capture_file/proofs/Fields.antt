@@ -1,5 +1,5 @@
 -- A record's fields: how many bytes they are, and that the bytes after them change nothing.
-use Rattle.std.proofs.Common.{◌≡◌, ℕ, suc, ◌+◌, ◌<◌, ◌≤◌, ◌⊎◌, inl, inr, Bool, true, false, List, [], ◌∷◌, ◌++◌, length, take, Option, Some, None, refl, sym, ap, ◌∙◌, arith, drop, length-take, take-append-drop}
+use Rattle.std.proofs.Common.{◌≡◌, ℕ, suc, ◌+◌, ◌-◌, ◌<◌, ◌≤◌, ◌⊎◌, inl, inr, Bool, true, false, List, [], ◌∷◌, ◌++◌, length, take, Option, Some, None, refl, sym, ap, ◌∙◌, arith, drop, get_or, length-take, take-append-drop}
 use Rattle.std.proofs.lemmas.List.{take_all}
 use Rattle.risc_word.specs.declared.Code.{Code}
 use Rattle.risc_word.specs.Words.{code_numbered}
@@ -9,6 +9,7 @@ use Rattle.capture_file.specs.declared.records.RecordKind.{RecordKind}
 use Rattle.capture_file.specs.declared.records.RecordKind.TheVariants as kind
 use Rattle.capture_file.specs.declared.records.Found.{Found}
 use Rattle.capture_file.specs.declared.records.Found.TheVariants.{Cut, Wrong, Last, Whole}
+use Rattle.capture_file.specs.declared.Step.{Step}
 use Rattle.capture_file.specs.Streams.{number_at, kind_of_tag, is_data, push_if, push_at, data_with, control_with, control_at, turns_if, turns_with, most_turns, ack_with, enable_if, enable_at, trigger_if, trigger_at, is_buffer, buffer_if, slot_if, patch_at, fields_at, record_at}
 use Rattle.capture_file.specs.Records.{HasFour, Spans, Passes, Sums, FoundFits}
 use Rattle.std.specs.Prelude.{nat_lt, nat_le, not, ◌&&◌, ◌||◌, ◌==◌}
@@ -493,3 +494,22 @@ fits_fields kind.Unknown tag turns rest = tt
 pub record_at-fits : (form : Form) (turns : ℕ) (bytes : List ℕ) → FoundFits (record_at form turns bytes)
 record_at-fits form turns [] = tt
 record_at-fits form turns (tag ∷ rest) = fits_fields (kind_of_tag form tag) tag turns rest
+
+-- the record of a push has six bytes
+data-six : (queue : Queue) (status : ℕ) (dword : Option ℕ) (step : Step) (len : ℕ) → data_with queue status dword ≡ Whole step len → len ≡ 6
+data-six queue status None step len e = absurd cc
+data-six queue status (Some number) step len e = cc
+
+push_if-six : (right : Bool) (queue : Queue) (status : ℕ) (rest : List ℕ) (step : Step) (len : ℕ) → push_if right queue status rest ≡ Whole step len → len ≡ 6
+push_if-six true queue status rest step len e = data-six queue status (number_at rest) step len e
+push_if-six false queue status rest step len e = absurd cc
+
+pub push_six : (queue : Queue) (rest : List ℕ) (step : Step) (len : ℕ) → push_at queue rest ≡ Whole step len → len ≡ 6
+push_six queue [] step len e = absurd cc
+push_six queue (status ∷ rest) step len e = push_if-six (is_data status) queue status rest step len e
+
+pub tagged_push : (form : Form) (turns : ℕ) (bytes : List ℕ) (queue : Queue) → 1 ≤ length bytes → kind_of_tag form (get_or bytes 0 0) ≡ kind.Push queue →
+    record_at form turns bytes ≡ push_at queue (take (length bytes - 1) (drop 1 bytes))
+tagged_push form turns [] queue some e = absurd (omega arith)
+tagged_push form turns (tag ∷ rest) queue some e =
+    ap (λ k. fields_at k tag turns rest) e ∙ ap (push_at queue) (sym (take_all (length (tag ∷ rest) - 1) rest (omega arith)))

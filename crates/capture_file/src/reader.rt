@@ -7,7 +7,7 @@ ghost use Rattle.capture_file.specs.declared.records.Found.TheVariants.{Cut};
 ghost use Rattle.capture_file.specs.Streams.{fault_at, most_turns, number_at, reading, record_at, stream_of, turns_of};
 ghost use Rattle.std.specs.Prelude.{◌≡◌, ◌≤◌, ◌<◌, ◌+◌, ◌-◌, ◌^◌, ◌++◌, List, ℕ, [], None, IfSome, IfNone, take, drop, length, true, false};
 
-use super::records::{Form, Found, find, find_push, find_quick, find_turns, form_named, number};
+use super::records::{Form, Found, find, find_push, find_turns, form_named, number};
 use super::{FileFault, FileKind, Step};
 use fifo_model::{Entry, Queue};
 use irq_status::HostWrite;
@@ -123,18 +123,6 @@ fn turns_with(turns: u32, step: &Step) -> u32
     }
 }
 
-/// The record at the front of a piece.
-#[inline(always)]
-fn find_front(form: Form, turns: u32, piece: &[u8]) -> Found
-    requires { turns ≤ most_turns }
-    ensures found { result ≡ record_at form turns piece.now }
-    ensures spans { Spans result (length piece.now) }
-    ensures sums { Sums result turns }
-    ensures fits { FoundFits result }
-{
-    find_quick(form, turns, piece)
-}
-
 /// The record that the bytes of an earlier piece and these begin.
 fn find_across(form: Form, turns: u32, held: &mut Held, more: &[u8]) -> Found
     requires cut { record_at form turns held.old ≡ Cut }
@@ -231,27 +219,6 @@ impl StepReader {
         ensures whole { (bytes : List ℕ) → resumed result bytes ≡ stream_of limit true bytes }
     {
         StepReader::opening(limit, true)
-    }
-
-    /// The step of a record that lies whole at the front of a piece, and its length.
-    #[inline(always)]
-    #[tactic(auto, unfolding(crate::specs::Readers::taken))]
-    fn take_front(&mut self, piece: &[u8]) -> Option<(Step, usize)>
-        ensures some { IfSome result
-            (λ found. (taking found.1 (Got.Step found.0) self.new ≡ taken self.old piece.now) × StepFits found.0) }
-        ensures none { IfNone result (self.new ≡ self.old) }
-    {
-        if let State::Between(form) = self.state
-            && piece.len() as u64 <= self.room
-            && let Found::Whole(step, len) = find_front(form, self.turns, piece)
-        {
-            self.room -= u64::from(len);
-            if let Step::Turns(more) = step {
-                self.turns += more;
-            }
-            return Some((step, usize::from(len)));
-        }
-        None
     }
 
     /// The data push that lies whole at the front of a piece.
@@ -417,10 +384,9 @@ impl StepReader {
         (1, Got::Bad(fault))
     }
 
-    /// Goes on with a piece, whatever stands at its front.
-    #[inline(never)]
+    /// Goes on with a piece.
     #[tactic(auto, unfolding(crate::specs::Readers::taken))]
-    fn take_any(&mut self, piece: &[u8]) -> (usize, Got)
+    fn advance(&mut self, piece: &[u8]) -> (usize, Got)
         ensures exact { taking result.0 result.1 self.new ≡ taken self.old piece.now }
         ensures fits { AnswerFits result.1 }
         ensures valid { IsReader self.old }
@@ -433,30 +399,8 @@ impl StepReader {
         }
     }
 
-    /// Goes on with a piece.
-    #[inline(always)]
-    fn advance(&mut self, piece: &[u8]) -> (usize, Got)
-        ensures exact { taking result.0 result.1 self.new ≡ taken self.old piece.now }
-        ensures fits { AnswerFits result.1 }
-        ensures valid { IsReader self.old }
-    {
-        let _limit = &self.limit;
-        if let Some((step, used)) = self.take_front(piece) {
-            return (used, Got::Step(step));
-        }
-        let (used, got) = self.take_any(piece);
-        match got {
-            Got::Step(step) => (used, Got::Step(step)),
-            Got::End => (used, Got::End),
-            Got::More => (used, Got::More),
-            Got::Bad(fault) => (used, Got::Bad(fault)),
-        }
-    }
-
     /// Uses bytes from the front of the piece until a record ends, the stream is at fault or the piece
-    /// is used up, and answers how many. After a fault it answers the same fault, and uses none. Where
-    /// the record at the front lies whole in the piece, nothing is copied.
-    #[inline(always)]
+    /// is used up, and answers how many. After a fault it answers the same fault, and uses none.
     pub fn take(&mut self, piece: &[u8]) -> (usize, Got)
         ensures exact { taking result.0 result.1 self.new ≡ taken self.old piece.now }
         ensures whole { (more : List ℕ) → resumed self.old (piece.now ++ more)

@@ -264,23 +264,17 @@ pub fn find_push(bytes: &[u8]) -> Option<(Queue, Entry)>
     ensures fits { IfSome result (λ push. StepFits (Step.Push push.0 push.1)) }
     ensures none { IfNone result ((form : Form) (turns : ℕ) → push_in (record_at form turns bytes.now) ≡ None) }
 {
-    match bytes {
-        [tag, status, _, _, _, _, ..] => {
-            let queue = match *tag {
-                1 => Queue::One,
-                2 => Queue::Two,
-                3 => Queue::Three,
-                _ => return None,
-            };
-            if !is_data_status(*status) {
-                return None;
-            }
-            let entry = Entry {
-                status: Status::of(*status),
-                dword: LittleEndian::read_u32(&bytes[2..]),
-            };
-            Some((queue, entry))
-        }
+    let [tag, rest @ ..] = bytes else {
+        return None;
+    };
+    let queue = match *tag {
+        1 => Queue::One,
+        2 => Queue::Two,
+        3 => Queue::Three,
+        _ => return None,
+    };
+    match push(queue, rest) {
+        Found::Whole(Step::Push(queue, entry), _) => Some((queue, entry)),
         _ => None,
     }
 }
@@ -294,26 +288,10 @@ pub fn find_turns(before: u32, bytes: &[u8]) -> Option<u32>
     ensures none { IfNone result ((form : Form) → turns_in (record_at form before bytes.now) ≡ None) }
 {
     match bytes {
-        [5, _, _, _, _, ..] => {
-            let count = LittleEndian::read_u32(&bytes[1..]);
-            if u64::from(before) + u64::from(count) <= u64::from(MOST_TURNS) {
-                Some(count)
-            } else {
-                None
-            }
-        }
+        [5, rest @ ..] => match turns_after(before, rest) {
+            Found::Whole(Step::Turns(count), _) => Some(count),
+            _ => None,
+        },
         _ => None,
-    }
-}
-
-/// The record at the front of some bytes, after records of so many turns: `find`, quick where it is a
-/// data push, as most records are.
-#[inline(always)]
-pub fn find_quick(form: Form, turns: u32, bytes: &[u8]) -> Found
-    ensures { result ≡ record_at form turns bytes.now }
-{
-    match find_push(bytes) {
-        Some((queue, entry)) => Found::Whole(Step::Push(queue, entry), 6),
-        None => find(form, turns, bytes),
     }
 }

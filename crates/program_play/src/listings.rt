@@ -38,6 +38,7 @@ pub fn list_file<D: Desk>(alloc: Global, name: &str, desk: &mut D) -> Result<Lis
 }
 
 /// Says the lines of a program's words, piece by piece.
+#[inline(never)]
 fn say_words<D: Desk>(program: &Program, desk: &mut D) -> Result<(), Failed>
     ensures says { Puts (word_lines program.now.base 0 program.now.words) result after_say (D.told desk.old) (D.told desk.new) }
     ensures counts { WriteCounts result (D.read_faults desk.old) (D.read_faults desk.new)
@@ -54,6 +55,7 @@ fn say_words<D: Desk>(program: &Program, desk: &mut D) -> Result<(), Failed>
 }
 
 /// Says the first line of a listing.
+#[inline(never)]
 fn say_base<D: Desk>(base: u32, desk: &mut D) -> Result<(), Failed>
     ensures says { Puts (base_line base) result after_say (D.told desk.old) (D.told desk.new) }
     ensures counts { WriteCounts result (D.read_faults desk.old) (D.read_faults desk.new)
