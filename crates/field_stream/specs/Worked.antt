@@ -1,29 +1,5 @@
--- The smallest description, and its stream of one frame with the seed 1.
-use Rattle.std.specs.Prelude.{ℕ, List, [], ◌∷◌, None}
-use Rattle.pixel_layout.specs.declared.Format.TheVariants.{Y8}
-use Rattle.capture_desc.specs.declared.desc.Desc.{Desc}
-use Rattle.capture_desc.specs.declared.desc.Fields.TheVariants as fields
-
--- one row of eight pixels
-abbrev pub smallest : Desc
-smallest =
-    record {
-      format = Y8;
-      width = 8;
-      height = 1;
-      fields = fields.Top;
-      stride = None;
-      offset = None;
-      skip_lines = 0;
-      vbi_lines = 0;
-      vbi_bytes = 2044;
-      vbi_offset = None;
-      clip = [];
-      base = 4096;
-      pages = 131072 ∷ [];
-      chunks = None;
-      fill = 0;
-    }
+-- The stream of the smallest description, of one frame with the seed 1.
+use Rattle.std.specs.Prelude.{ℕ, List, [], ◌∷◌}
 
 abbrev pub first_eight : List ℕ
 first_eight = 149 ∷ 241 ∷ 217 ∷ 156 ∷ 211 ∷ 243 ∷ 95 ∷ 1 ∷ []

@@ -3,7 +3,8 @@
 ghost use Rattle.std.specs.Prelude.{◌≡◌};
 ghost use Rattle.field_stream.specs.Generator.{drawn, first_number};
 ghost use Rattle.field_stream.specs.Made.{made, made_entries, made_fields};
-ghost use Rattle.field_stream.specs.Worked.{first_eight, smallest, smallest_stream};
+ghost use Rattle.field_stream.specs.Worked.{first_eight, smallest_stream};
+ghost use Rattle.picture_model.specs.Worked.{smallest};
 
 /// The definitions compute: the first bytes that are drawn with the seed 1, and the whole stream of the
 /// smallest description.

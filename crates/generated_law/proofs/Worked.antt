@@ -8,7 +8,7 @@ use Rattle.pixel_layout.specs.declared.Parity.TheVariants.{Top}
 use Rattle.machine_model.specs.States.{first_state}
 use Rattle.machine_model.specs.Steps.{Step}
 use Rattle.picture_model.specs.Programs.{compiled}
-use Rattle.field_stream.specs.Worked.{smallest}
+use Rattle.picture_model.specs.Worked.{smallest}
 use Rattle.picture_law.specs.Arrivals.{AreKept, IsVertical, coming}
 use Rattle.picture_law.specs.Runs.{IsFirstSignal, between, state_of}
 use Rattle.picture_law.proofs.Between.{silent_at}

@@ -3,7 +3,7 @@
 #![tactic(auto)]
 
 ghost use Rattle.pixel_layout.specs.declared.Parity.TheVariants.{Top};
-ghost use Rattle.field_stream.specs.Worked.{smallest};
+ghost use Rattle.picture_model.specs.Worked.{smallest};
 ghost use Rattle.generated_law.specs.Drawn.{BringsPicture, CarriesDrawn, DrawsPicture};
 ghost use Rattle.generated_law.specs.ReadBack.{AreReadBack, AreShort};
 ghost use Rattle.generated_law.specs.Streams.{FieldsArrive, FieldsAreSignalled, FieldsStand, IsTaken, PicturesAreShown};

@@ -18,12 +18,13 @@ use Rattle.field_law.proofs.Worked.{before, begun_made, entries, unmarked}
 use Rattle.picture_law.specs.Pictures.{AreLines, AreRows, HoldBytes, IsPicture, field_tokens, rows_on}
 use Rattle.picture_law.specs.Arrivals.{Arrives, coming, has_signal, is_signal}
 use Rattle.picture_law.specs.Laws.{Captures, IsCapture}
-use Rattle.picture_law.specs.Worked.{description, machine, picture, steps}
+use Rattle.picture_model.specs.Worked.{smallest}
+use Rattle.picture_law.specs.Worked.{machine, picture, steps}
 use Rattle.picture_law.specs.Runs.{IsSignalled}
 use Rattle.picture_law.proofs.Between.{silent_at}
 use Rattle.picture_law.proofs.Laws.{runs_compiled}
 
-pub described : IsDescription description
+pub described : IsDescription smallest
 described =
     record {
       formed = record { stride = tt; offset = tt; pages = omega arith; no_pages = tt; chunks = tt; bytes = tt };
@@ -47,7 +48,7 @@ HoldsBytes line = All IsByte line
 line_bytes : All IsByte line
 line_bytes = All-from_recursion IsByte line (omega arith, (omega arith, (omega arith, (omega arith, (omega arith, (omega arith, (omega arith, (omega arith, tt))))))))
 
-rows : (q : Queue) → AreRows description q (field_height description Top) (rows_on picture q)
+rows : (q : Queue) → AreRows smallest q (field_height smallest Top) (rows_on picture q)
 rows One = one_line
 rows Two = no_lines 8
 rows Three = no_lines 8
@@ -57,7 +58,7 @@ row_bytes One = All-from_recursion HoldsBytes (line ∷ []) (line_bytes, tt)
 row_bytes Two = All-nil HoldsBytes
 row_bytes Three = All-nil HoldsBytes
 
-pictured : IsPicture description Top picture
+pictured : IsPicture smallest Top picture
 pictured = record { vbi = no_lines 2044; rows = rows; vbi_bytes = All-nil HoldsBytes; row_bytes = row_bytes }
 
 order : (q : Queue) → (lane_of q machine.queues).entries ++ coming (moves ++ Turn ∷ []) q ≡ before q ++ (entries q ++ [])
@@ -65,17 +66,17 @@ order One = refl
 order Two = refl
 order Three = refl
 
-no_skips : (q : Queue) → AreRows description q 0 []
+no_skips : (q : Queue) → AreRows smallest q 0 []
 no_skips One = no_lines 8
 no_skips Two = no_lines 8
 no_skips Three = no_lines 8
 
-brings : (q : Queue) → Brings (Mark Vre ∷ field_tokens description picture (λ q. []) q) (entries q)
+brings : (q : Queue) → Brings (Mark Vre ∷ field_tokens smallest picture (λ q. []) q) (entries q)
 brings One = worked.brings One
 brings Two = worked.brings Two
 brings Three = worked.brings Three
 
-arrives : Arrives description Top picture machine (moves ++ Turn ∷ [])
+arrives : Arrives smallest Top picture machine (moves ++ Turn ∷ [])
 arrives =
     record {
       fifo_on = refl;
@@ -91,26 +92,26 @@ arrives =
       brought = record { skipped = λ q. []; lines = no_skips; brings = brings };
     }
 
-abbrev captured_over : (steps : List Step) → All IsStep steps → IsCapture description Top picture steps
+abbrev captured_over : (steps : List Step) → All IsStep steps → IsCapture smallest Top picture steps
 captured_over made_steps made = record { description = described; valid = refl; described = refl; pictured = pictured; made = made }
 
 more_steps : All IsStep (moves ++ Turn ∷ [])
 more_steps = All-from_recursion IsStep (moves ++ Turn ∷ []) (tt, (tt, (tt, (tt, (refl, (tt, (tt, (tt, (tt, (refl, (tt, (tt, (tt, tt)))))))))))))
 
-pub captures : Captures description Top picture machine (moves ++ Turn ∷ [])
+pub captures : Captures smallest Top picture machine (moves ++ Turn ∷ [])
 captures =
     record {
       capture = captured_over (moves ++ Turn ∷ []) more_steps;
-      machine = runs_compiled description 0 begun begun_made;
+      machine = runs_compiled smallest 0 begun begun_made;
       arrives = arrives;
     }
 
-pub signals : (has_signal description Top machine moves ≡ false) × (is_signal description Top (run machine moves) Turn ≡ true)
+pub signals : (has_signal smallest Top machine moves ≡ false) × (is_signal smallest Top (run machine moves) Turn ≡ true)
 signals = (refl, refl)
 
 -- ---- over the places of a run
 
-pub signalled : IsSignalled description Top picture 0 steps 2 14
+pub signalled : IsSignalled smallest Top picture 0 steps 2 14
 signalled =
     record {
       capture = captured_over steps (All-append IsStep begun (moves ++ Turn ∷ []) begun_made more_steps);
@@ -118,7 +119,7 @@ signalled =
         later = omega arith;
         there = omega arith;
         signal = refl;
-        first = λ i from to. silent_at description Top (first_state (compiled description) 0) steps 12 2 14 i refl (omega arith) refl from to;
+        first = λ i from to. silent_at smallest Top (first_state (compiled smallest) 0) steps 12 2 14 i refl (omega arith) refl from to;
       };
       arrives = arrives;
     }

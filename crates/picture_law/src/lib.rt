@@ -12,7 +12,8 @@ ghost use Rattle.picture_model.specs.Programs.{compiled};
 ghost use Rattle.field_law.specs.Worked.{moves};
 ghost use Rattle.picture_law.specs.Arrivals.{has_signal, is_signal};
 ghost use Rattle.picture_law.specs.Runs.{IsSignalled, RunShowsPicture, RunShowsNoFault, RunTellsField, RunSignalsInTime};
-ghost use Rattle.picture_law.specs.Worked.{description, machine, picture, steps};
+ghost use Rattle.picture_law.specs.Worked.{machine, picture, steps};
+ghost use Rattle.picture_model.specs.Worked.{smallest};
 ghost use Rattle.picture_law.specs.Laws.{Captures, RunsCompiled, HoldsSection, UsesPicture, PaintsPicture, ShowsPicture, ShowsNoFault, SignalsField, SignalsInTime};
 
 /// After the first signal of a field that arrives, each of its bytes that is not clipped stands at its place where it
@@ -59,8 +60,8 @@ pub fn sections_meet_their_law()
 /// The premises of these laws can be met: a picture of one line does, behind an entry of an earlier field, and its field
 /// is signalled.
 pub fn worked_picture_arrives()
-    ensures captured { Captures description Top picture machine (moves ++ Turn ∷ []) }
-    ensures silent { has_signal description Top machine moves ≡ false }
-    ensures signalled { is_signal description Top (run machine moves) Turn ≡ true }
-    ensures in_a_run { IsSignalled description Top picture 0 steps 2 14 }
+    ensures captured { Captures smallest Top picture machine (moves ++ Turn ∷ []) }
+    ensures silent { has_signal smallest Top machine moves ≡ false }
+    ensures signalled { is_signal smallest Top (run machine moves) Turn ≡ true }
+    ensures in_a_run { IsSignalled smallest Top picture 0 steps 2 14 }
 {}

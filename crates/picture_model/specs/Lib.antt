@@ -3,3 +3,4 @@ pub mod Places
 pub mod Plans
 pub mod Programs
 pub mod Geometry
+pub mod Worked
