@@ -28,27 +28,28 @@ pub struct Wait {
     pub code: Code,
 }
 
-/// The machine's parts. `wait` means something while it waits, `instr` and `demands` while it runs.
+/// The machine's parts, those that each turn asks for first. `wait` means something while it waits, `instr`
+/// and `demands` while it runs.
 #[derive(Drop)]
 pub struct Engine<R> {
-    pub accepted: Accepted,
-    pub ram: R,
-    pub queues: Fifo,
-    pub interrupts: IntStat,
+    pub phase: Phase,
     pub fifo_on: bool,
     pub risc_on: bool,
+    /// Set where turns do nothing but count until a push or a write of the host comes.
+    pub still: bool,
     pub trigger: u16,
-    pub pc: u64,
-    pub skipping: Skipping,
-    pub target: Option<u64>,
-    pub phase: Phase,
-    pub wait: Wait,
-    pub instr: Instr,
     pub demands: Demands,
     pub turns: u64,
     pub moved: u64,
-    /// Set where turns do nothing but count until a push or a write of the host comes.
-    pub still: bool,
+    pub queues: Fifo,
+    pub instr: Instr,
+    pub wait: Wait,
+    pub interrupts: IntStat,
+    pub skipping: Skipping,
+    pub target: Option<u64>,
+    pub pc: u64,
+    pub ram: R,
+    pub accepted: Accepted,
     ghost fit: { AreParts trigger wait.ctl (instr_ctl instr) },
 }
 
