@@ -11,9 +11,11 @@ use risc_verify::Accepted;
 use risc_word::{Code, Ctl, Instr};
 
 impl<R: Ram> Engine<R> {
-    ghost use Rattle.dma_machine.specs.Facts.{IsWrite, report_of};
+    ghost use Rattle.dma_machine.specs.Facts.{IsMachine, IsWrite, report_of};
     ghost use Rattle.dma_machine.specs.Views.{state_of};
+    ghost use Rattle.fifo_model.specs.Queues.{empty_queues};
     ghost use Rattle.machine_model.specs.States.{started};
+    ghost use Rattle.page_table.specs.Blocks.{chunks_of};
     ghost use Rattle.machine_model.specs.Steps.{control_pushed_as, host, push, push_control, pushed_as, restarted, with_fifo, with_risc};
     ghost use Rattle.std.specs.Prelude.{◌≡◌, false};
     ghost use Rattle.sync_status.specs.Statuses.{is_control, kind_of};
@@ -129,8 +131,11 @@ impl<R: Ram> Engine<R> {
 
     /// The parts of a machine at the base of its program. What `wait`, `instr` and `demands` are means nothing yet.
     pub fn new(accepted: Accepted, ram: R, queues: Fifo) -> Engine<R>
+        requires granted { chunks_of (R.memory ram) ≡ accepted.grants }
+        requires empty { queues ≡ empty_queues 70 35 35 }
         ensures state { state_of R.memory result ≡ started accepted (R.memory ram) queues }
         ensures still { result.still ≡ false }
+        ensures facts { IsMachine (state_of R.memory result) }
     {
         let ctl = Ctl {
             irq: false,
