@@ -3,3 +3,4 @@ pub mod Names
 mod Slots
 mod Told
 pub mod Outputs
+pub mod Pieces

@@ -1,38 +1,32 @@
 -- Pieces that are put one after the other are one piece.
-use Rattle.std.proofs.Common.{◌≡◌, ℕ, ◌+◌, ◌-◌, ◌*◌, ◌<◌, ◌≤◌, List, [], ◌∷◌, ◌++◌, length, map, take, drop, Result, Ok, Err, refl, sym, ap, subst, ◌∙◌, arith, length-append, length-take, length-drop}
-use Rattle.std.proofs.lemmas.List.{take-append-le, take-append-drop}
-use Rattle.std.proofs.Math.Seq.{take-add, take-append-add}
+use Rattle.std.proofs.Common.{◌≡◌, ℕ, ◌+◌, ◌-◌, ◌*◌, ◌≤◌, List, [], ◌∷◌, ◌++◌, length, map, take, drop, Result, refl, sym, ap, subst, ◌∙◌, arith, length-take, length-drop}
+use Rattle.std.proofs.lemmas.List.{take-append-drop}
+use Rattle.std.proofs.Math.Seq.{take-add}
 use Rattle.std.proofs.lemmas.List.Concat.{flat_map-append}
 use Rattle.std.specs.List.{flat_map}
 use Rattle.byteorder.specs.Endian.{little_bytes}
 use Rattle.page_table.specs.Grants.{Chunk}
 use Rattle.capture_desk.specs.Desks.{Told, after_write, Puts}
 use Rattle.capture_desk.proofs.Laws.{after_write-after_write}
+use Rattle.capture_desk.proofs.Pieces.{BreaksOff, put_after, breaks_off_after, breaks_off_within}
+use Rattle.capture_desk.proofs.Pieces as pieces
 use Rattle.capture_file.specs.declared.program.Layout.{Layout}
 use Rattle.capture_file.specs.declared.program.Layout.TheVariants.{Paged, Chunked}
 use Rattle.capture_file.specs.Programs.{numbers_spelled, page_spelled, chunk_spelled, chunk_numbers, grants_spelled, head_spelled, spelled_as}
 use Rattle.machine_model.specs.Paths.{RiscProgram}
 
--- a piece of which a front was put, and then came a fault
+-- a piece of which a front was written, and then came a fault
 abbrev pub Breaks : List ℕ → Told → Told → Type 0
-Breaks bytes old new = (n : ℕ) × (n < length bytes) × (new ≡ after_write (take n bytes) old)
+Breaks = BreaksOff after_write
 
 pub puts_after : (a b : List ℕ) (old mid new : Told) → mid ≡ after_write a old → new ≡ after_write b mid → new ≡ after_write (a ++ b) old
-puts_after a b old mid new e f = f ∙ ap (after_write b) e ∙ after_write-after_write a b old
+puts_after = put_after after_write after_write-after_write
 
 pub breaks_after : (a b : List ℕ) (old mid new : Told) → mid ≡ after_write a old → Breaks b mid new → Breaks (a ++ b) old new
-breaks_after a b old mid new e h = (
-  length a + h.0,
-  omega (arith, length-append a b, h.1),
-  puts_after a (take h.0 b) old mid new e h.2 ∙ ap (λ (zs : List ℕ). after_write zs old) (sym (take-append-add a b h.0)),
-)
+breaks_after = breaks_off_after after_write after_write-after_write
 
 pub breaks_within : (a c : List ℕ) (old new : Told) → Breaks a old new → Breaks (a ++ c) old new
-breaks_within a c old new h = (
-  h.0,
-  omega (arith, length-append a c, h.1),
-  h.2 ∙ ap (λ (zs : List ℕ). after_write zs old) (sym (take-append-le h.0 a c (omega (arith, h.1)))),
-)
+breaks_within = breaks_off_within after_write
 
 -- ---- numbers
 
@@ -98,8 +92,7 @@ module _ (one : Chunk → List ℕ) (chunks : List Chunk) (at count : ℕ) (old 
 -- ---- one piece after another, with the answer to the last
 
 pub puts_then : {A E : Type 0} (a b : List ℕ) (old mid new : Told) (r : Result A E) → mid ≡ after_write a old → Puts b r after_write mid new → Puts (a ++ b) r after_write old new
-puts_then a b old mid new (Ok x) e h = puts_after a b old mid new e h
-puts_then a b old mid new (Err x) e h = breaks_after a b old mid new e h
+puts_then = pieces.puts_then after_write after_write-after_write
 
 pub grants_break : (layout : Layout) (chunks : List Chunk) (old new : Told) → Breaks (little_bytes 4 (length chunks)) old new → Breaks (grants_spelled layout chunks) old new
 grants_break Paged chunks old new h = breaks_within (little_bytes 4 (length chunks)) (flat_map page_spelled chunks) old new h

@@ -41,8 +41,8 @@ meets_alike rect row other up below =
           elim (cases_lt row (rect.y + rect.h)) [
             | inl within ↦
                 let edge : edge_after row rect ≡ rect.y + rect.h =
-                    cond-false (nat_lt row rect.y) rect.y (later row rect) (le-ltb row rect.y begun)
-                    ∙ cond-true (nat_lt row (rect.y + rect.h)) (rect.y + rect.h) (2 ^ 32) (lt-ltb row (rect.y + rect.h) within)
+                cond-false (nat_lt row rect.y) rect.y (later row rect) (le-ltb row rect.y begun)
+                ∙ cond-true (nat_lt row (rect.y + rect.h)) (rect.y + rect.h) (2 ^ 32) (lt-ltb row (rect.y + rect.h) within)
                 in
                 and_from _ _ (le-leb rect.y row begun) (lt-ltb row (rect.y + rect.h) within)
                 ∙ sym (and_from _ _ (le-leb rect.y other (omega arith)) (lt-ltb other (rect.y + rect.h) (omega (arith, edge, below))))

@@ -1,5 +1,5 @@
 -- The spans of a row: the maximal runs of pixels that are clipped, or not, together with their units.
-use Rattle.std.specs.Prelude.{ℕ, zero, suc, ◌+◌, ◌<◌, ◌≤◌, ◌≡◌, Bool, true, false, not, List, [], ◌∷◌, if◌then◌else◌}
+use Rattle.std.specs.Prelude.{ℕ, zero, suc, ◌+◌, ◌<◌, ◌≤◌, ◌≡◌, Bool, not, List, [], ◌∷◌, if◌then◌else◌}
 use Rattle.clip_spans.specs.Clipping.{clipped_at, is_same}
 use Rattle.clip_spans.specs.declared.Rect.{Rect}
 use Rattle.clip_spans.specs.declared.Span.{Span}

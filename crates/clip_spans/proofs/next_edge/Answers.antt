@@ -1,5 +1,5 @@
-use Rattle.std.proofs.Common.{◌≡◌, ◌+◌, drop, ap, ◌∙◌, arith, rules, add-one, drop-cons, drop_of_length-le}
-use Rattle.clip_spans.specs.Clipping.{edge_after, next_edge}
+use Rattle.std.proofs.Common.{ap, arith, add-one, drop-cons, drop_of_length-le}
+use Rattle.clip_spans.specs.Clipping.{next_edge}
 use Rattle.clip_spans.proofs.Alike.{few_edges}
 use Rattle.clip_spans.proofs.next_edge.Goals as goal
 

@@ -1,4 +1,4 @@
-use Rattle.std.proofs.Common.{◌∙◌, ◌+◌, ◌-◌, ◌<◌, ℕ, List, map, sym, ap, subst, arith}
+use Rattle.std.proofs.Common.{◌∙◌, ◌+◌, ◌-◌, ◌<◌, ℕ, List, map, sym, ap, subst}
 use Rattle.pixel_layout.specs.Layouts.{layout}
 use Rattle.pixel_layout.specs.declared.Format.{Format}
 use Rattle.capture_desc.specs.declared.desc.Desc.{Desc}

@@ -1,5 +1,4 @@
 use Rattle.std.proofs.Common.{ap, sym, ◌∙◌}
-use Rattle.fifo_model.specs.Queues.{lane_of}
 use Rattle.machine_model.specs.declared.Demand.{Demand}
 use Rattle.machine_model.specs.Turns.{demand_on, judged}
 use Rattle.sync_status.specs.Statuses.{kind_of, verdict_on}

@@ -43,6 +43,6 @@ returns-clause-plan c =
     let spans = spans_are d c.args.self.now row c.deref.result.now c.spans.inside.spans.items c.args.spans.now c.self.view_is c.deref.ensures.value (ap (λ (k : SpansOfRows). k.spans) (sym c.spans.view_is)) c.requires.spans in
     IfOk-weaker c.cut_row.result _ _
     (λ _ pieces.
-      pieces-plan (memory_of d) c.self.inside.scatter.chunks (row_strip d row) (strip_of line) c.deref.result.now c.cut_row.new.self memory c.row_line-line.ensures spans pieces
-      ∙ ap (λ (e : Desc). row_plan e row) c.self.view_is)
+    pieces-plan (memory_of d) c.self.inside.scatter.chunks (row_strip d row) (strip_of line) c.deref.result.now c.cut_row.new.self memory c.row_line-line.ensures spans pieces
+    ∙ ap (λ (e : Desc). row_plan e row) c.self.view_is)
     c.cut_row.ensures.pieces
