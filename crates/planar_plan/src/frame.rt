@@ -3,6 +3,7 @@
 ghost use Rattle.std.specs.Prelude.{◌≡◌, ◌<◌, take, true, IfOk, None};
 ghost use Rattle.std.specs.List.{All};
 ghost use Rattle.capture_desc.specs.WellFormed.{IsWellFormed};
+ghost use Rattle.clip_spans.specs.Clipping.{next_edge};
 ghost use Rattle.page_table.specs.Taken.{in_order};
 ghost use Rattle.picture_model.specs.Described.{IsDescription, describes, field_height, highest_end, memory_of, taken};
 ghost use Rattle.picture_model.specs.Geometry.{first_after, frame_fault, frame_faults};
@@ -116,7 +117,8 @@ impl Frame {
     /// from 0, those of both fields together.
     pub fn row_spans(&self, alloc: Global, row: u32) -> Result<RowSpans, AllocError>
         ensures from { IfOk result (λ spans. spans.from ≡ row) }
-        ensures to { IfOk result (λ spans. row < spans.to) }
+        ensures to { IfOk result (λ spans. spans.to ≡ next_edge self.now.clip row) }
+        ensures later { IfOk result (λ spans. row < spans.to) }
         ensures spans { IfOk result (AreSpansOf self.now) }
         ensures description { IfOk result (λ _. IsDescription self.now) }
         ensures framed { IsFramed self.now }
