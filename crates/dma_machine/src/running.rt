@@ -158,13 +158,26 @@ impl<R: Ram> Engine<R> {
     }
 
     /// As many applications to one queue as there can be, up to so many.
-    #[inline(never)]
+    #[inline(always)]
     fn burst_on(&mut self, q: Queue, mut left: u16)
         requires { demands_cause (chunks_of (R.memory self.old.ram)) self.old.demands ≡ None }
         ensures { state_of R.memory self.new ≡ burst left q (state_of R.memory self.old) }
     {
         while left > 0 && self.apply(q) {
             left -= 1;
+        }
+    }
+
+    /// The same, by a loop of its own for each queue.
+    #[inline(never)]
+    fn burst_rest(&mut self, q: Queue, left: u16)
+        requires { demands_cause (chunks_of (R.memory self.old.ram)) self.old.demands ≡ None }
+        ensures { state_of R.memory self.new ≡ burst left q (state_of R.memory self.old) }
+    {
+        match q {
+            Queue::One => self.burst_on(Queue::One, left),
+            Queue::Two => self.burst_on(Queue::Two, left),
+            Queue::Three => self.burst_on(Queue::Three, left),
         }
     }
 
@@ -177,7 +190,7 @@ impl<R: Ram> Engine<R> {
     {
         let most = self.trigger;
         if self.apply(q) && most > 1 {
-            self.burst_on(q, most - 1);
+            self.burst_rest(q, most - 1);
         }
     }
 
