@@ -189,6 +189,7 @@ fn put_end<D: Desk>(draft: &mut Draft, desk: &mut D) -> Result<(), Failed>
 /// Puts a stream of so many frames of a description, whose bytes are drawn from the seed, and answers how
 /// many fields and data entries it has. It takes no memory. Where a write fails, a front of the stream was
 /// appended (the generator and the stream are this project's own).
+#[inline(never)]
 pub fn make<D: Desk>(frame: &Frame, seed: u64, frames: u8, desk: &mut D) -> Result<Made, Failed>
     requires frames { (1 ≤ frames) × (frames ≤ 16) }
     requires open { IsTrue (D.told desk.old).output_open }
