@@ -2,7 +2,7 @@ ghost use Rattle.std.specs.Prelude.{◌≡◌, ◌≤◌, length, IfOk, IfSome};
 ghost use Rattle.pixel_layout.specs.Layouts.{layout, planes_of};
 ghost use Rattle.capture_desc.specs.WellFormed.{IsWellFormed};
 
-use crate::{BuildError, BuildFault, Frame, Piece, PieceKind};
+use crate::{BuildError, BuildFault, Frame, Piece, PieceKind, Pieces};
 use capture_desc::{ChunkList, Desc, Fields, Numbers};
 use clip_spans::{Clips, Rect};
 use pixel_layout::{Format, Parity};
@@ -107,12 +107,13 @@ fn rows_are_planned_one_after_the_other(rt: HostRuntime) -> Result<(), Fail> {
     let desc = described(rt.alloc(), Format::Y8, (16, 3), None, &clip, &[0x20000])?;
     let frame = framed(rt.alloc(), desc)?;
     let mut spans = frame.row_spans(rt.alloc(), 0)?;
-    let second = frame.plan_row_by(rt.alloc(), 1, &mut spans)?;
+    let mut pieces = Pieces::new(rt.alloc());
+    frame.plan_row_by(rt.alloc(), 1, &mut spans, &mut pieces)?;
     let want = [packed(PieceKind::Write, true, true, 16, 0x20010)];
-    assert!(rt; second.as_slice() == want.as_slice());
-    let third = frame.plan_row_by(rt.alloc(), 2, &mut spans)?;
+    assert!(rt; pieces.as_slice() == want.as_slice());
+    frame.plan_row_by(rt.alloc(), 2, &mut spans, &mut pieces)?;
     let want = [packed(PieceKind::Skip, true, true, 16, 0)];
-    assert!(rt; third.as_slice() == want.as_slice());
+    assert!(rt; pieces.as_slice() == want.as_slice());
     Ok(())
 }
 
