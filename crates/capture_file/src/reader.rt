@@ -232,9 +232,9 @@ impl StepReader {
         ensures valid { IsReader self.old }
     {
         let _limit = &self.limit;
-        if let State::Between(_) = self.state
+        if let Some(push) = find_push(piece)
+            && let State::Between(_) = self.state
             && piece.len() as u64 <= self.room
-            && let Some(push) = find_push(piece)
         {
             self.room -= 6;
             return Some(push);

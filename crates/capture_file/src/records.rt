@@ -264,7 +264,7 @@ pub fn find_push(bytes: &[u8]) -> Option<(Queue, Entry)>
     ensures fits { IfSome result (λ push. StepFits (Step.Push push.0 push.1)) }
     ensures none { IfNone result ((form : Form) (turns : ℕ) → push_in (record_at form turns bytes.now) ≡ None) }
 {
-    let [tag, rest @ ..] = bytes else {
+    let [tag, _, _, _, _, _, ..] = bytes else {
         return None;
     };
     let queue = match *tag {
@@ -273,7 +273,7 @@ pub fn find_push(bytes: &[u8]) -> Option<(Queue, Entry)>
         3 => Queue::Three,
         _ => return None,
     };
-    match push(queue, rest) {
+    match push(queue, &bytes[1..]) {
         Found::Whole(Step::Push(queue, entry), _) => Some((queue, entry)),
         _ => None,
     }

@@ -11,7 +11,7 @@ ghost use Rattle.dma_machine.specs.Stills.{StillIf, is_still};
 ghost use Rattle.machine_model.specs.Steps.{Turn, control_pushed_as, host, push, push_control, pushed_as, run};
 ghost use Rattle.machine_model.specs.Turns.{turn};
 ghost use Rattle.page_table.specs.Blocks.{chunks_of};
-ghost use Rattle.std.specs.Prelude.{◌≡◌, ◌+◌, ◌<◌, ◌^◌, false, true, replicate};
+ghost use Rattle.std.specs.Prelude.{◌≡◌, ◌<◌, false, true, replicate};
 ghost use Rattle.sync_status.specs.Statuses.{is_control, kind_of};
 
 mod engine;
@@ -133,23 +133,8 @@ impl<R: Ram> Machine<R> {
         left
     }
 
-    /// So many turns of a machine that stands still, where its count of turns has room for them: the
-    /// compiler makes one addition of these.
+    /// So many turns of a machine that stands still, one after the other.
     #[inline(always)]
-    fn stand_counted(&mut self, count: u32)
-        requires still { 0 < count → is_still self.old ≡ true }
-        requires room { self.old.turns + count < 2 ^ 64 }
-        ensures state { self.new ≡ run self.old (replicate count Turn) }
-        ensures facts { IsMachine self.new }
-    {
-        for _turn in 0..count {
-            self.engine.stand_counted();
-        }
-    }
-
-    /// So many turns of a machine that stands still.
-    #[cold]
-    #[inline(never)]
     fn stand_on(&mut self, count: u32)
         requires { 0 < count → is_still self.old ≡ true }
         ensures state { self.new ≡ run self.old (replicate count Turn) }
@@ -167,11 +152,7 @@ impl<R: Ram> Machine<R> {
         ensures facts { IsMachine self.new }
     {
         let left = self.turns_until_still(count);
-        if self.engine.turns < u64::MAX - u64::from(left) {
-            self.stand_counted(left);
-        } else {
-            self.stand_on(left);
-        }
+        self.stand_on(left);
     }
 
     /// A register write of the host.

@@ -10,7 +10,7 @@ impl<R: Ram> Engine<R> {
     ghost use Rattle.dma_machine.specs.Stills.{StillIf, is_still, runs_still, waits_still};
     ghost use Rattle.dma_machine.specs.Views.{state_of};
     ghost use Rattle.machine_model.specs.Turns.{counted, turn, worked};
-    ghost use Rattle.std.specs.Prelude.{◌≡◌, ◌+◌, ◌<◌, ◌^◌, false, true};
+    ghost use Rattle.std.specs.Prelude.{◌≡◌, false, true};
 
     /// A turn of an enabled machine, and whether it may have done more than count.
     #[inline(always)]
@@ -103,19 +103,6 @@ impl<R: Ram> Engine<R> {
         ensures flag { self.new.still ≡ self.old.still }
     {
         self.count_turn();
-    }
-
-    /// The same, where its count can rise.
-    #[inline(always)]
-    pub fn stand_counted(&mut self)
-        requires still { is_still (state_of R.memory self.old) ≡ true }
-        requires room { self.old.turns + 1 < 2 ^ 64 }
-        ensures state { state_of R.memory self.new ≡ turn (state_of R.memory self.old) }
-        ensures still { is_still (state_of R.memory self.new) ≡ true }
-        ensures flag { self.new.still ≡ self.old.still }
-        ensures count { self.new.turns ≡ self.old.turns + 1 }
-    {
-        self.turns += 1;
     }
 
     /// One turn.

@@ -1,4 +1,4 @@
-use Rattle.std.proofs.Common.{◌≡◌, ◌-◌, length, take, drop, get_or, ap, sym, ◌∙◌}
+use Rattle.std.proofs.Common.{◌≡◌, ◌-◌, length, take, drop, get_or, ap, sym, ◌∙◌, arith}
 use Rattle.capture_file.specs.declared.Step.{Step}
 use Rattle.capture_file.specs.declared.Step.TheVariants.{Push}
 use Rattle.capture_file.specs.declared.records.Found.TheVariants.{Whole}
@@ -21,7 +21,7 @@ returns-in-Whole-Push-default-clause-some c = λ form turns.
     let found = c.in-Whole-Push-default.ensures in
     let step = c.in-Whole-Push-default.field-0-is in
     let len = push_six c.match-tag.queue (take (length bytes - 1) (drop 1 bytes)) _ _ (sym found) in
-    tagged_push form turns bytes c.match-tag.queue c.in-len1-up.len_at_least tagged
+    tagged_push form turns bytes c.match-tag.queue (omega arith) tagged
     ∙ sym found
     ∙ ap (λ (s : Step). Whole s c.in-Whole-Push-default.field-1) step
     ∙ ap (Whole (Push c.in-Whole-Push-default.queue c.in-Whole-Push-default.entry)) len
