@@ -76,6 +76,9 @@ const BRP1: u32 = 0x3150_5242;
 
 const BRP2: u32 = 0x3250_5242;
 
+// The words that are read at once.
+const GROUP: usize = 1_024;
+
 impl<T: Drop> From<AllocFailed<T>> for ProgramError {
     ghost use Rattle.std.specs.Prelude.{◌≡◌};
     ghost use Rattle.capture_file.specs.declared.program.ProgramError.TheVariants.{Memory};
@@ -205,26 +208,40 @@ fn read_chunk_count(size: usize, bytes: &[u8]) -> Result<(u32, &[u8]), ProgramEr
     Ok((count, rest))
 }
 
-// The number in the first four bytes, and the bytes after it.
-fn split_number(bytes: &[u8]) -> (u32, &[u8])
-    requires { 4 ≤ length bytes.now }
-    ensures number { result.0 ≡ little_number 4 bytes.now }
-    ensures rest { result.1.now ≡ drop 4 bytes.now }
+// The number in four bytes from a place on.
+#[inline]
+fn number_from(bytes: &[u8], at: usize) -> u32
+    requires { at + 4 ≤ length bytes.now }
+    ensures { result ≡ little_number 4 (drop at bytes.now) }
 {
-    (LittleEndian::read_u32(bytes), &bytes[4..])
+    LittleEndian::read_u32(&bytes[at..])
 }
 
+// Reads numbers from the front of some bytes.
+fn read_numbers(bytes: &[u8], numbers: &mut [u32])
+    requires { 4 * length numbers.old ≤ length bytes.now }
+    ensures { numbers.new ≡ words_in (length numbers.old) bytes.now }
+{
+    for (i, number) in numbers.iter_mut().enumerate() {
+        *number = number_from(bytes, 4 * i);
+    }
+}
+
+// The words in some bytes, read a group at a time.
 fn words_of(alloc: Global, count: u32, bytes: &[u8]) -> Result<Vec<u32>, ProgramError>
     requires { 4 * count ≤ length bytes.now }
     ensures value { Gives (λ v. v.items) result (Ok (words_in count bytes.now)) }
     ensures len { IfOk result (λ v. length v.items ≡ count) }
 {
-    let mut words = Vec::with_capacity(alloc, count as usize)?;
-    let mut rest = bytes;
-    for _ in 0..count {
-        let (word, next) = split_number(rest);
-        words.push(word)?;
-        rest = next;
+    let count = count as usize;
+    let mut words = Vec::with_capacity(alloc, count)?;
+    let mut group = [0; GROUP];
+    let mut at = 0;
+    while at < count {
+        let few = GROUP.min(count - at);
+        read_numbers(&bytes[4 * at..], &mut group[..few]);
+        words.extend_from_slice(&group[..few])?;
+        at += few;
     }
     Ok(words)
 }

@@ -1,16 +1,16 @@
 -- How far a list of chunks has been put into rising order.
-use Rattle.std.proofs.Common.{◌≡◌, ℕ, ◌+◌, ◌%◌, ◌≤◌, ◌<◌, Bool, true, false, not, List, [], ◌∷◌, ◌++◌, length, length-append, get_or, take, drop, subst, refl, sym, ap, ◌∙◌, arith, ⊎_elim, Some, None}
-use Rattle.std.proofs.lemmas.Bool.{and_parts, cases_Bool, cond-false, cond-true, ltb-true, ltb-false, leb-true, eqb-true, not-false, not-true}
+use Rattle.std.proofs.Common.{◌≡◌, ◌↔◌, ℕ, ◌+◌, ◌%◌, ◌≤◌, ◌<◌, Bool, true, false, not, List, [], ◌∷◌, ◌++◌, length, length-append, get_or, take, drop, subst, refl, sym, ap, ◌∙◌, arith, ⊎_elim, Some, None, Option, Ok, append_assoc}
+use Rattle.std.proofs.lemmas.Bool.{and_left, and_parts, le-ltb, or_from, cases_Bool, cond-false, cond-true, ltb-true, ltb-false, leb-true, eqb-true, not-false, not-true}
 use Rattle.std.proofs.lemmas.List.Sums.{sum_by-append, prefix_len_passes}
 use Rattle.std.proofs.lemmas.List.Folds.{list_any-append}
 use Rattle.std.proofs.Math.ListN.{get_or-map}
-use Rattle.std.proofs.lemmas.List.{drop_more, map_more, length-map}
+use Rattle.std.proofs.lemmas.List.{append-nil, drop_more, map_more, length-map}
 use Rattle.std.specs.Ordering.{nat_cmp}
 use Rattle.std.specs.BTreeMap.{insert_entry}
 use Rattle.std.specs.List.{list_any, position, position_or_len, All}
 use Rattle.std.specs.Prelude.{nat_lt}
 use Rattle.page_table.specs.Grants.{Chunk, IsChunk, AreRising, total}
-use Rattle.page_table.specs.Taken.{shares, placed, all_placed, in_order, first_shared, is_aligned, listed, pair_chunk}
+use Rattle.page_table.specs.Taken.{shares, placed, all_placed, in_order, first_shared, is_aligned, listed, pair_chunk, unless_shared}
 use Rattle.page_table.proofs.Neighbour.{listed-insert_entry}
 use Rattle.page_table.proofs.Placing.{length-placed, total-placed, total-cons, list_any-placed, placed_rising}
 
@@ -82,3 +82,47 @@ one_more_pair entries pairs i aligned within so_far apart =
     let here : IsGathered (listed entries) (listed (take i pairs)) (pair_chunk pair ∷ listed (drop (i + 1) pairs)) (listed pairs) = subst (λ (rest : List Chunk). IsGathered (listed entries) (listed (take i pairs)) rest (listed pairs)) after so_far in
     let done = one_more (listed entries) (listed (take i pairs)) (listed (drop (i + 1) pairs)) (listed pairs) (pair_chunk pair) here good apart in
     rw (placing, before) done
+
+-- chunks that rise as they stand are in order, and share no byte
+
+-- those before them end where they begin, or earlier
+abbrev pub EndBy : ℕ → List Chunk → Type 0
+EndBy from [] = Unit {0}
+EndBy from (d ∷ rest) = (d.at + d.len ≤ from) × EndBy from rest
+
+placed_last : (c : Chunk) (from : ℕ) (front : List Chunk) → EndBy from front → from ≤ c.at → placed c front ≡ front ++ c ∷ []
+placed_last c from [] ends later = refl
+placed_last c from (d ∷ rest) ends later =
+    cond-false (nat_lt c.at d.at) _ _ (le-ltb _ _ (omega (arith, ends.0))) ∙ ap (λ (cs : List Chunk). d ∷ cs) (placed_last c from rest ends.1 later)
+
+none_before : (c : Chunk) (from : ℕ) (front : List Chunk) → EndBy from front → from ≤ c.at → list_any (shares c) front ≡ false
+none_before c from [] ends later = refl
+none_before c from (d ∷ rest) ends later =
+    let apart : d.at + d.len ≤ c.at = omega (arith, ends.0) in
+    or_from (shares c d) (list_any (shares c) rest) (and_left _ _ (le-ltb c.at (d.at + d.len) apart)) (none_before c from rest ends.1 later)
+
+ends_more : (c : Chunk) (from : ℕ) (front : List Chunk) → EndBy from front → from ≤ c.at → EndBy (c.at + c.len) (front ++ c ∷ [])
+ends_more c from [] ends later = (omega arith, tt)
+ends_more c from (d ∷ rest) ends later = (omega (arith, ends.0), ends_more c from rest ends.1 later)
+
+rising_on : (from : ℕ) (front rest : List Chunk) → EndBy from front → AreRising from rest → (all_placed front rest ≡ front ++ rest) × (first_shared front rest ≡ None)
+rising_on from front [] ends rises = (sym (append-nil front), refl)
+rising_on from front (c ∷ rest) ends rises =
+    let last = placed_last c from front ends rises.0 in
+    let more = rising_on (c.at + c.len) (front ++ c ∷ []) rest (ends_more c from front ends rises.0) rises.2 in
+    (ap (λ (cs : List Chunk). all_placed cs rest) last ∙ more.0 ∙ append_assoc front (c ∷ []) rest,
+    cond-false (list_any (shares c) front) _ _ (none_before c from front ends rises.0) ∙ more.1)
+
+pub rising_stays : (chunks : List Chunk) → AreRising 0 chunks → unless_shared (first_shared [] chunks) chunks ≡ Ok chunks
+rising_stays chunks rises =
+    let stays = rising_on 0 [] chunks tt rises in
+    ap (λ (o : Option ℕ). unless_shared o chunks) stays.1 ∙ ap Ok stays.0
+
+pub rising_next : (pairs : List (ℕ × ℕ)) (i end next : ℕ) → All (λ c. is_aligned c ≡ true) (listed pairs) → i < length pairs → end ≤ (get_or pairs i (0, 0)).0 →
+    next ≡ (get_or pairs i (0, 0)).0 + (get_or pairs i (0, 0)).1 → (AreRising 0 (listed pairs) ↔ AreRising end (listed (drop i pairs))) →
+    (AreRising 0 (listed pairs) ↔ AreRising next (listed (drop (i + 1) pairs)))
+rising_next pairs i end next aligned within later is same =
+    let good = pair_chunk_at pairs i aligned within in
+    let here : listed (drop i pairs) ≡ pair_chunk (get_or pairs i (0, 0)) ∷ listed (drop (i + 1) pairs) = ap listed (drop_more pairs i (0, 0) within) in
+    let now : AreRising 0 (listed pairs) ↔ AreRising end (pair_chunk (get_or pairs i (0, 0)) ∷ listed (drop (i + 1) pairs)) = rw here at same in
+    rw is ((λ rises. (now.0 rises).2), (λ rises. now.1 (later, good, rises)))

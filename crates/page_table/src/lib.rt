@@ -1,7 +1,7 @@
 //! Granted memory as chunks: an address and a length each.
 #![tactic(auto)]
 
-ghost use Rattle.std.specs.Prelude.{◌≡◌, ◌+◌, ◌*◌, ◌^◌, ◌<◌, ◌≤◌, true, false, not, [], length, map, nat_le, IfOk, IfSome, MatchResult, Some, None};
+ghost use Rattle.std.specs.Prelude.{◌≡◌, ◌+◌, ◌*◌, ◌^◌, ◌<◌, ◌≤◌, ◌↔◌, true, false, not, [], length, map, nat_le, IfOk, IfSome, IsTrue, MatchResult, Some, None};
 ghost use Rattle.std.specs.List.{list_any, position, prefix_len, All};
 ghost use Rattle.std.specs.Result.{result_err};
 ghost use Rattle.page_table.specs.Grants.{AreGrants, AreRising, IsChunk, chunk, chunk_at, first_ungranted, total};
@@ -101,8 +101,23 @@ fn shares_byte(set: &BTreeMap<u32, u32>, at: u32, len: u32) -> bool
     }
 }
 
+// Whether chunks rise as they stand, and share no byte.
+fn are_rising(chunks: &[(u32, u32)]) -> bool
+    requires { All (λ c. is_aligned c ≡ true) (listed chunks.now) }
+    ensures { IsTrue result ↔ AreRising 0 (listed chunks.now) }
+{
+    let mut end = 0;
+    for &(at, len) in chunks {
+        if u64::from(at) < end {
+            return false;
+        }
+        end = u64::from(at) + u64::from(len);
+    }
+    true
+}
+
 // Puts aligned chunks into rising order, unless one shares a byte with one before it.
-fn gathered(alloc: Global, chunks: &[(u32, u32)]) -> Result<PageSet, PageFault>
+fn sorted(alloc: Global, chunks: &[(u32, u32)]) -> Result<PageSet, PageFault>
     requires few { length (listed chunks.now) ≤ 4096 }
     requires small { total (listed chunks.now) ≤ 2 ^ 24 }
     requires aligned { All (λ c. is_aligned c ≡ true) (listed chunks.now) }
@@ -118,6 +133,21 @@ fn gathered(alloc: Global, chunks: &[(u32, u32)]) -> Result<PageSet, PageFault>
     }
     let chunks = in_a_row(alloc, &set)?;
     Ok(PageSet { chunks })
+}
+
+// The same. Those of a program file rise already.
+fn gathered(alloc: Global, chunks: &[(u32, u32)]) -> Result<PageSet, PageFault>
+    requires few { length (listed chunks.now) ≤ 4096 }
+    requires small { total (listed chunks.now) ≤ 2 ^ 24 }
+    requires aligned { All (λ c. is_aligned c ≡ true) (listed chunks.now) }
+    ensures answer { Answers (unless_shared (first_shared [] (listed chunks.now)) (listed chunks.now)) result }
+    ensures grants { IfOk result AreGrants }
+{
+    if are_rising(chunks) {
+        let chunks = Vec::from_slice(alloc, chunks)?;
+        return Ok(PageSet { chunks });
+    }
+    sorted(alloc, chunks)
 }
 
 // The entries of a map in order.

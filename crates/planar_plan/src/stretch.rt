@@ -1,6 +1,6 @@
 //! Lines each span of which is one piece.
 
-ghost use Rattle.std.specs.Prelude.{◌≡◌, ◌+◌, ◌-◌, ◌*◌, ◌^◌, ◌<◌, ◌≤◌, [], List, None, IfOk, IfSome};
+ghost use Rattle.std.specs.Prelude.{◌≡◌, ◌+◌, ◌-◌, ◌*◌, ◌^◌, ◌<◌, ◌≤◌, ◌∷◌, [], List, None, IfOk, IfSome};
 ghost use Rattle.std.specs.List.{All};
 ghost use Rattle.page_table.specs.Grants.{Chunk};
 ghost use Rattle.page_table.specs.Scattered.{ScatterList};
@@ -73,18 +73,32 @@ pub(crate) fn stretches_of(scatter: &Scatter, line: &Line) -> Option<Stretches>
     })
 }
 
-// The address of a grain, 0 where it is clipped.
+// The address of a grain.
 #[inline(always)]
 #[tactic(auto, using(crate::proofs::Stretching::place_fits))]
-fn place_on(stretch: Stretch, clipped: bool, at: u32) -> u32
+fn address_at(stretch: Stretch, at: u32) -> u32
     requires { stretch.address + (at + 1) * stretch.step ≤ 2 ^ 32 }
-    ensures { result ≡ place_on stretch clipped at }
+    ensures { result ≡ stretch.address + at * stretch.step }
+{
+    stretch.address + at * stretch.step
+}
+
+// The addresses of a grain on the three planes, 0 where it is clipped.
+#[inline(always)]
+fn places_on(stretches: &Stretches, clipped: bool, at: u32) -> [u32; 3]
+    requires one { stretches.now.one.address + (at + 1) * stretches.now.one.step ≤ 2 ^ 32 }
+    requires two { stretches.now.two.address + (at + 1) * stretches.now.two.step ≤ 2 ^ 32 }
+    requires three { stretches.now.three.address + (at + 1) * stretches.now.three.step ≤ 2 ^ 32 }
+    ensures { result ≡ place_on stretches.now.one clipped at ∷ place_on stretches.now.two clipped at ∷ place_on stretches.now.three clipped at ∷ [] }
 {
     if clipped {
-        0
-    } else {
-        stretch.address + at * stretch.step
+        return [0; 3];
     }
+    [
+        address_at(stretches.one, at),
+        address_at(stretches.two, at),
+        address_at(stretches.three, at),
+    ]
 }
 
 // The piece of a span.
@@ -112,15 +126,12 @@ fn whole_piece(line: &Line, stretches: &Stretches, span: Span) -> Piece
             bytes(grains, line.two.size, line.grains),
             bytes(grains, line.three.size, line.grains),
         ],
-        addrs: [
-            place_on(stretches.one, span.clipped, span.from),
-            place_on(stretches.two, span.clipped, span.from),
-            place_on(stretches.three, span.clipped, span.from),
-        ],
+        addrs: places_on(stretches, span.clipped, span.from),
     }
 }
 
 // Puts the pieces of a line with these spans, each of which is one, in the place of others.
+#[inline(never)]
 pub(crate) fn whole_pieces(
     line: &Line,
     stretches: &Stretches,

@@ -1,12 +1,21 @@
-use Rattle.std.proofs.Common.{◌+◌, ap, ◌∙◌, arith, length-drop}
-use Rattle.std.proofs.lemmas.List.{length_push}
-use Rattle.capture_file.proofs.Programs.{words_more}
+use Rattle.std.proofs.Common.{◌≡◌, ◌+◌, ◌-◌, ◌*◌, ◌≤◌, ◌++◌, ◌∙◌, ℕ, List, ap, arith, drop, length, refl}
+use Rattle.capture_file.specs.Programs.{words_in}
+use Rattle.capture_file.proofs.Programs.{group_read, words_group}
 use Rattle.capture_file.proofs.program.words_of.Goals as goal
 
-pub loop-preserved : goal.loop-preserved
-loop-preserved c = record {
-  words = rw (c.in_ok-push.ensures.items, c.split_number-word.ensures.number, c.split_number-word.ensures.rest)
-      (words_more c.loop.words.items c.args.count c.loop.counter c.loop.rest.now _ c.loop-test.true c.loop.invariant.words);
-  len = rw c.in_ok-push.ensures.items (length_push c.loop.words.items c.split_number-word.result.0 ∙ ap (λ n. n + 1) c.loop.invariant.len);
-  enough = rw c.split_number-word.ensures.rest (omega (arith, length-drop 4 c.loop.rest.now));
-}
+pub loop-at-preserved : goal.loop-at-preserved
+loop-at-preserved c =
+    let at = c.loop-at.at in
+    let few = c.min-few.result in
+    let bytes = c.args.bytes.now in
+    let words = c.loop-at.words.items in
+    let room : few ≤ length c.loop-at.group = omega arith in
+    let within : at + few ≤ c.args.count = omega arith in
+    let read = group_read words c.extend_from_slice.new.self.items bytes c.loop-at.group c.read_numbers.new.numbers at few room c.read_numbers.auto.numbers c.read_numbers.ensures c.in_ok-extend_from_slice.ensures.items in
+    record {
+      words = ap (λ (ws : List ℕ). ws ++ words_in (c.args.count - (at + few)) (drop (4 * (at + few)) bytes)) read.0
+          ∙ words_group words bytes c.args.count at few within c.loop-at.invariant.words;
+      len = read.1 ∙ ap (λ (n : ℕ). n + few) c.loop-at.invariant.len;
+      within = within;
+      same = refl;
+    }

@@ -5,16 +5,16 @@ use Rattle.picture_model.specs.Plans.{kind_of}
 use Rattle.planar_plan.proofs.stretch.whole_piece.Goals.{then-span, else-span}
 use Rattle.planar_plan.proofs.stretch.whole_piece.Goals as goal
 
-pub place_on-requires : goal.place_on-requires
-place_on-requires c =
+pub places_on-requires-clause-one : goal.places_on-requires-clause-one
+places_on-requires-clause-one c =
     place_below c.args.stretches.now.one.address c.args.span.from c.args.line.now.grains c.args.stretches.now.one.step (omega (arith, c.requires.some, c.requires.within)) c.requires.fit.0.1
 
-pub place_on-requires-2 : goal.place_on-requires-2
-place_on-requires-2 c =
+pub places_on-requires-clause-two : goal.places_on-requires-clause-two
+places_on-requires-clause-two c =
     place_below c.args.stretches.now.two.address c.args.span.from c.args.line.now.grains c.args.stretches.now.two.step (omega (arith, c.requires.some, c.requires.within)) c.requires.fit.1.1
 
-pub place_on-requires-3 : goal.place_on-requires-3
-place_on-requires-3 c =
+pub places_on-requires-clause-three : goal.places_on-requires-clause-three
+places_on-requires-clause-three c =
     place_below c.args.stretches.now.three.address c.args.span.from c.args.line.now.grains c.args.stretches.now.three.step (omega (arith, c.requires.some, c.requires.within)) c.requires.fit.2.1
 
 pub returns-clause-piece : goal.returns-clause-piece
@@ -25,9 +25,9 @@ returns-clause-piece c = λ memory are.
     let w = c.args.stretches.now in
     let strip = strip_of c.args.line.now in
     let inside : from < grains = omega (arith, c.requires.some, c.requires.within) in
-    let one = c.place_on.ensures ∙ place_of memory clipped grains from strip.one w.one inside are.one in
-    let two = c.place_on-2.ensures ∙ place_of memory clipped grains from strip.two w.two inside are.two in
-    let three = c.place_on-3.ensures ∙ place_of memory clipped grains from strip.three w.three inside are.three in
+    let one = place_of memory clipped grains from strip.one w.one inside are.one in
+    let two = place_of memory clipped grains from strip.two w.two inside are.two in
+    let three = place_of memory clipped grains from strip.three w.three inside are.three in
     let kind : c.if-span.result ≡ kind_of clipped c.args.line.now.kind = elim c.if-span.branch [ then-span t ↦ rw t.if-span.true t.result-is | else-span t ↦ rw t.if-span.false t.result-is ] in
     let first = c.bytes.ensures.value in
     let second = c.bytes-2.ensures.value in

@@ -1,7 +1,7 @@
 use Rattle.std.proofs.Common.{take, drop}
 use Rattle.page_table.specs.Taken.{listed}
 use Rattle.page_table.proofs.Gathering.{IsGathered}
-use Rattle.page_table.proofs.gathered.Given as goal
+use Rattle.page_table.proofs.sorted.Given as goal
 
 abbrev pub invariant-loop-i : goal.invariant-loop-i
 invariant-loop-i l =
