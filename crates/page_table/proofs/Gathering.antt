@@ -109,9 +109,10 @@ rising_on : (from : ℕ) (front rest : List Chunk) → EndBy from front → AreR
 rising_on from front [] ends rises = (sym (append-nil front), refl)
 rising_on from front (c ∷ rest) ends rises =
     let last = placed_last c from front ends rises.0 in
-    let more = rising_on (c.at + c.len) (front ++ c ∷ []) rest (ends_more c from front ends rises.0) rises.2 in
-    (ap (λ (cs : List Chunk). all_placed cs rest) last ∙ more.0 ∙ append_assoc front (c ∷ []) rest,
-    cond-false (list_any (shares c) front) _ _ (none_before c from front ends rises.0) ∙ more.1)
+    let more = rising_on (c.at + c.len) (front ++ c ∷ []) rest (ends_more c from front ends rises.0) rises.2 in (
+      ap (λ (cs : List Chunk). all_placed cs rest) last ∙ more.0 ∙ append_assoc front (c ∷ []) rest,
+      cond-false (list_any (shares c) front) _ _ (none_before c from front ends rises.0) ∙ more.1,
+    )
 
 pub rising_stays : (chunks : List Chunk) → AreRising 0 chunks → unless_shared (first_shared [] chunks) chunks ≡ Ok chunks
 rising_stays chunks rises =

@@ -13,6 +13,7 @@ use capture_file::{FileFault, Got, Input, Step, StepReader};
 use command_steps::{Answer, PIECE, read_into};
 use dma_machine::Machine;
 use page_ram::Ram;
+use std::mem::replace;
 
 /// The most bytes of a stream.
 const LONGEST_STREAM: u64 = 4_294_967_295;
@@ -66,10 +67,13 @@ fn hand_run<R: Ram>(machine: &mut Machine<R>, reader: &mut StepReader, piece: &[
     ensures handed { HandedPart result machine.old reader.old piece.now machine.new reader.new }
     ensures other { IsOther (front_record reader.new (drop result piece.now)) }
 {
+    // in a place of this function's own, where its counts are at hand
+    let mut own = replace(reader, StepReader::new(LONGEST_STREAM));
     let mut at = 0;
-    while let Some(used) = hand_plain(machine, reader, &piece[at..]) {
+    while let Some(used) = hand_plain(machine, &mut own, &piece[at..]) {
         at += used;
     }
+    *reader = own;
     at
 }
 

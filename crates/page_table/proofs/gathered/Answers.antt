@@ -1,5 +1,4 @@
-use Rattle.std.proofs.Common.{◌≡◌, ℕ, List, Ok, ap, refl, sym, ◌∙◌}
-use Rattle.page_table.specs.Grants.{Chunk}
+use Rattle.std.proofs.Common.{ℕ, List, Ok, ap, refl, sym, ◌∙◌}
 use Rattle.page_table.specs.Taken.{listed}
 use Rattle.page_table.proofs.Gathering.{rising_stays}
 use Rattle.page_table.proofs.gathered.Goals as goal

@@ -1,4 +1,4 @@
-use Rattle.std.proofs.Common.{◌≡◌, ◌+◌, ◌-◌, ◌*◌, ◌≤◌, ◌++◌, ◌∙◌, ℕ, List, ap, arith, drop, length, refl}
+use Rattle.std.proofs.Common.{◌+◌, ◌-◌, ◌*◌, ◌≤◌, ◌++◌, ◌∙◌, ℕ, List, ap, arith, drop, length, refl}
 use Rattle.capture_file.specs.Programs.{words_in}
 use Rattle.capture_file.proofs.Programs.{group_read, words_group}
 use Rattle.capture_file.proofs.program.words_of.Goals as goal

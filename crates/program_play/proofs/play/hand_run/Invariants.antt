@@ -7,8 +7,8 @@ abbrev pub invariant-loop-used : goal.invariant-loop-used
 invariant-loop-used g l =
     record {
       within : l.at ≤ length l.piece;
-      handed : (more : List ℕ) → GoesOn l.fn.machine (resumed l.fn.reader (l.piece ++ more)) l.machine (resumed l.reader (drop l.at l.piece ++ more));
-      place : l.reader.place ≡ l.fn.reader.place + l.at;
+      handed : (more : List ℕ) → GoesOn l.fn.machine (resumed l.fn.reader (l.piece ++ more)) l.machine (resumed l.own (drop l.at l.piece ++ more));
+      place : l.own.place ≡ l.fn.reader.place + l.at;
     }
 
 abbrev pub decreases-loop-used : goal.decreases-loop-used
