@@ -280,6 +280,9 @@ mod tests {
         assert_eq!(rt; set.len(), 2);
         assert_eq!(rt; set.get(0), 0x20000);
         assert_eq!(rt; set.size(1), 4096);
+        let set = PageSet::from_list(rt.alloc(), &[0x20000, 0x30000])?;
+        assert_eq!(rt; set.len(), 2);
+        assert_eq!(rt; set.get(1), 0x30000);
         Ok(())
     }
 
