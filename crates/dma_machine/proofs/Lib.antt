@@ -1,6 +1,7 @@
 pub mod Storing
 pub mod Asked
 pub mod Bursts
+pub mod Counting
 pub mod Machines
 pub mod Plains
 pub mod Standing

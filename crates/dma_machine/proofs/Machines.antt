@@ -9,13 +9,16 @@ use Rattle.machine_model.specs.declared.Skipping.{Skipping}
 use Rattle.machine_model.specs.declared.Skipping.TheVariants.{Nothing, ToEol, ToSync}
 use Rattle.machine_model.specs.Paths.{IsProgram, IsSound, fetch, is_data, demands_cause}
 use Rattle.machine_model.specs.States.{State}
-use Rattle.machine_model.specs.Steps.{Step, step}
+use Rattle.machine_model.specs.Steps.{Step, Turn, step}
+use Rattle.machine_model.specs.Turns.{turn}
 use Rattle.machine_model.specs.Safety.{IsStep}
 use Rattle.machine_model.proofs.Fixed.{program-step}
 use Rattle.machine_model.proofs.Safe.{IsSafe-step}
 use Rattle.machine_model.proofs.Rows.{idle-data, running-RunsAt, target-Reaches}
+use Rattle.dma_machine.specs.Counts.{acted, with_turns}
 use Rattle.dma_machine.specs.Facts.{IsMachine}
 use Rattle.dma_machine.specs.Needs.{CanBegin, CanExecute, CanFetch, CanWork}
+use Rattle.dma_machine.proofs.Counting.{acted-turns, turn-acted}
 
 pub IsMachine-step : (s : Step) (m after : State) → after ≡ step s m → IsStep s → IsMachine m → IsMachine after
 IsMachine-step s m after made n h =
@@ -25,6 +28,26 @@ IsMachine-step s m after made n h =
       sound = subst IsSound (sym (program-step s m)) h.sound;
       safe = IsSafe-step s m n h.sound h.safe;
     })
+
+-- whatever the count of turns
+pub IsMachine-turns : (t : ℕ) (m : State) → IsMachine m → IsMachine (with_turns t m)
+IsMachine-turns t m h =
+    record {
+      made = h.made;
+      sound = h.sound;
+      safe =
+          record {
+            on_path = record { number = h.safe.on_path.number; there = h.safe.on_path.there };
+            chunks = h.safe.chunks;
+            no_error = h.safe.no_error;
+            orderly = record { job = h.safe.orderly.job; queues = h.safe.orderly.queues; triggered = h.safe.orderly.triggered };
+          };
+    }
+
+pub IsMachine-acted : (m after : State) → after ≡ acted m → IsMachine m → IsMachine after
+IsMachine-acted m after made h =
+    let same : with_turns m.turns (turn m) ≡ acted m = ap (with_turns m.turns) (turn-acted m) ∙ sym (acted-turns m.turns m) in
+    subst IsMachine (same ∙ sym made) (IsMachine-turns m.turns (turn m) (IsMachine-step Turn m (turn m) refl tt h))
 
 module _ (m : State) (h : IsMachine m) where
   can_begin : (skipping : Skipping) (instr : Instr) (count : ℕ) → m.job ≡ Idle → m.skipping ≡ skipping → fetch m.program m.pc ≡ Ok (instr, count) →

@@ -1,51 +1,65 @@
--- Turns of a machine that stands still, one after the other.
-use Rattle.std.proofs.Common.{◌≡◌, ℕ, ◌+◌, ◌-◌, ◌<◌, ◌≤◌, true, List, replicate, sym, ap, ◌∙◌, arith}
-use Rattle.page_table.specs.Blocks.{Block}
+-- A turn of a machine that stands still only counts.
+use Rattle.std.proofs.Common.{◌≡◌, Bool, ℕ, true, false, not, Some, None, Option, refl, ap, ◌∙◌, if◌then◌else◌}
+use Rattle.std.specs.Prelude.{◌&&◌, is_none}
+use Rattle.std.proofs.lemmas.Bool.{and_parts}
+use Rattle.fifo_model.specs.declared.Queue.{Queue}
+use Rattle.fifo_model.specs.declared.Queue.TheVariants.{One, Two, Three}
+use Rattle.risc_word.specs.declared.Code.{Code}
+use Rattle.machine_model.specs.declared.Job.{Job}
+use Rattle.machine_model.specs.declared.Job.TheVariants.{Idle, Waiting, Running}
 use Rattle.machine_model.specs.States.{State}
-use Rattle.machine_model.specs.Steps.{Turn, run}
-use Rattle.machine_model.specs.Turns.{turn}
-use Rattle.dma_machine.specs.declared.engine.Engine.{Engine}
-use Rattle.dma_machine.specs.Facts.{IsMachine}
-use Rattle.dma_machine.specs.Stills.{StillIf, is_still}
-use Rattle.dma_machine.specs.Views.{state_of}
-use Rattle.dma_machine.proofs.Machines.{IsMachine-step}
-use Rattle.dma_machine.proofs.Stills.{still_if}
-use Rattle.dma_machine.proofs.Turns.{turn_at}
+use Rattle.machine_model.specs.Turns.{burst_of, code_seen, common_code, is_done, lowest_stray, ran, stray_seen, turn_if, worked}
+use Rattle.dma_machine.specs.Counts.{acted, with_turns}
+use Rattle.dma_machine.specs.Stills.{StillIf, is_still, none_served, works_still}
 
--- an engine after so many turns of `count`, from a state on
-pub record Stands {R : Type 0} (memory : R → List Block) (before : State) (count at : ℕ) (engine : Engine R) : Type 0 where
-  pub taken : run (state_of memory engine) (replicate (count - at) Turn) ≡ run before (replicate count Turn)
-  pub still : 0 < count → is_still (state_of memory engine) ≡ true
-  pub flag : StillIf engine.still (state_of memory engine)
-  pub facts : IsMachine (state_of memory engine)
+-- no queue is served where none of the three is
+none_lowest : (one two three : Bool) → (not one && not two && not three) ≡ true →
+    (if one then Some One else (if two then Some Two else (if three then Some Three else None))) ≡ None
+none_lowest true two three e = absurd cc
+none_lowest false true three e = absurd cc
+none_lowest false false true e = absurd cc
+none_lowest false false false e = refl
 
-pub stands_first : {R : Type 0} (memory : R → List Block) (before : State) (count : ℕ) (engine : Engine R) → state_of memory engine ≡ before →
-    (0 < count → is_still before ≡ true) → StillIf engine.still (state_of memory engine) → IsMachine (state_of memory engine) →
-    Stands memory before count 0 engine
-stands_first memory before count engine same still flag facts =
-    let all : count - 0 ≡ count = omega arith in
-    record {
-      taken = ap (λ n. run (state_of memory engine) (replicate n Turn)) all ∙ ap (λ m. run m (replicate count Turn)) same;
-      still = λ some. ap is_still same ∙ still some;
-      flag = flag;
-      facts = facts;
-    }
+-- nothing is seen at the fronts of a machine that waits
+record AreNone (stray : Option Queue) (code : Option Code) : Type 0 where
+  no_stray : stray ≡ None
+  no_common : code ≡ None
 
--- one turn more
-pub stands_on : {R : Type 0} (memory : R → List Block) (before : State) (count at : ℕ) (engine after : Engine R) → at < count →
-    state_of memory after ≡ turn (state_of memory engine) → is_still (state_of memory after) ≡ true → after.still ≡ engine.still →
-    Stands memory before count at engine → Stands memory before count (at + 1) after
-stands_on memory before count at engine after some made still flag h =
-    record {
-      taken = turn_at count at _ _ some made ∙ h.taken;
-      still = λ _. still;
-      flag = still_if _ _ still;
-      facts = IsMachine-step Turn _ _ made tt h.facts;
-    }
+none_seen : (stray : Option Queue) (code : Option Code) → (is_none stray && is_none code) ≡ true → AreNone stray code
+none_seen (Some q) code e = absurd cc
+none_seen None (Some seen) e = absurd cc
+none_seen None None e = record { no_stray = refl; no_common = refl }
 
--- all of them
-pub stood : {R : Type 0} (memory : R → List Block) (before : State) (count at : ℕ) (engine : Engine R) → count ≤ at →
-    Stands memory before count at engine → state_of memory engine ≡ run before (replicate count Turn)
-stood memory before count at engine end h =
-    let none : count - at ≡ 0 = omega (arith, end) in
-    sym (ap (λ n. run (state_of memory engine) (replicate n Turn)) none) ∙ h.taken
+not_done : (done : Bool) → not done ≡ true → done ≡ false
+not_done true e = absurd cc
+not_done false e = refl
+
+worked-still : (job : Job) (m : State) → works_still job m ≡ true → worked job m ≡ m
+worked-still Idle m e = absurd cc
+worked-still (Waiting ctl resync code) m e =
+    let none : AreNone (lowest_stray m.queues) (common_code m.queues) = none_seen _ _ e in
+    ap (λ stray. stray_seen stray ctl resync code m) none.no_stray ∙ ap (λ seen. code_seen seen ctl resync code m) none.no_common
+worked-still (Running instr ds) m e =
+    let parts = and_parts (not (is_done ds)) (none_served ds m) e in
+    ap (λ done. ran done instr ds m) (not_done (is_done ds) parts.0) ∙ ap (λ q. burst_of q m) (none_lowest _ _ _ parts.1)
+
+turn_if-still : (on : Bool) (m : State) → (if on then works_still m.job m else true) ≡ true → turn_if on m ≡ m
+turn_if-still false m e = refl
+turn_if-still true m e = worked-still m.job m e
+
+-- beside being counted it does nothing
+pub still_acted : (m : State) → is_still m ≡ true → acted m ≡ m
+still_acted m e = turn_if-still m.risc_on m e
+
+works_still-turns : (t : ℕ) (job : Job) (m : State) → works_still job (with_turns t m) ≡ works_still job m
+works_still-turns t Idle m = refl
+works_still-turns t (Waiting ctl resync code) m = refl
+works_still-turns t (Running instr ds) m = refl
+
+is_still-turns : (t : ℕ) (m : State) → is_still (with_turns t m) ≡ is_still m
+is_still-turns t m = ap (λ still. if m.risc_on then still else true) (works_still-turns t m.job m)
+
+-- counting leaves a flag that tells of it right
+pub StillIf-turns : (t : ℕ) (flag : Bool) (m : State) → StillIf flag m → StillIf flag (with_turns t m)
+StillIf-turns t true m e = is_still-turns t m ∙ e
+StillIf-turns t false m e = tt

@@ -1,17 +1,34 @@
--- Turns that are left.
-use Rattle.std.proofs.Common.{◌≡◌, ℕ, zero, suc, ◌+◌, ◌-◌, ◌<◌, replicate, refl, ap, ◌∙◌, arith}
+-- The turns of a record: all are counted first, and then each is taken.
+use Rattle.std.proofs.Common.{◌≡◌, ℕ, zero, suc, ◌+◌, ◌-◌, ◌<◌, ◌≤◌, ◌^◌, replicate, refl, sym, ap, ◌∙◌, arith, add-one}
+use Rattle.fifo_model.specs.Queues.{more}
 use Rattle.machine_model.specs.States.{State}
 use Rattle.machine_model.specs.Steps.{Turn, run}
 use Rattle.machine_model.specs.Turns.{turn}
+use Rattle.dma_machine.specs.Counts.{acted, with_turns}
+use Rattle.dma_machine.specs.Facts.{IsMachine}
+use Rattle.dma_machine.proofs.Counting.{acted-turns, turn-acted, run-turns, run-last}
 
-pub one_turn : (left : ℕ) (m after : State) → 0 < left → after ≡ turn m → run after (replicate (left - 1) Turn) ≡ run m (replicate left Turn)
-one_turn zero m after some e = absurd (omega arith)
-one_turn (suc left) m after some e =
-    let same : suc left - 1 ≡ left = omega arith in
-    rw (same, e) refl
+-- of `count` turns from a state on so many were taken, and all are counted
+pub record AreTaken (before : State) (count at : ℕ) (m : State) : Type 0 where
+  pub taken : m ≡ with_turns (more before.turns count) (run before (replicate at Turn))
+  pub facts : IsMachine m
 
--- the same, where some of them were taken
-pub turn_at : (left at : ℕ) (m after : State) → at < left → after ≡ turn m → run after (replicate (left - (at + 1)) Turn) ≡ run m (replicate (left - at) Turn)
-turn_at left at m after some e =
-    let same : left - (at + 1) ≡ left - at - 1 = omega arith in
-    ap (λ n. run after (replicate n Turn)) same ∙ one_turn (left - at) m after (omega arith) e
+-- one more
+pub one_taken : (before : State) (count at : ℕ) (m after : State) → after ≡ acted m → IsMachine after → AreTaken before count at m →
+    AreTaken before count (at + 1) after
+one_taken before count at m after made facts h =
+    let there : State = run before (replicate at Turn) in
+    let all : ℕ = more before.turns count in
+    let here : acted m ≡ with_turns all (acted there) = ap acted h.taken ∙ acted-turns all there in
+    let last : run before (replicate (at + 1) Turn) ≡ turn there = ap (λ n. run before (replicate n Turn)) (add-one at) ∙ run-last at before in
+    record {
+      taken = made ∙ (here ∙ sym (ap (with_turns all) (last ∙ turn-acted there)));
+      facts = facts;
+    }
+
+-- all of them
+pub all_taken : (before : State) (count at : ℕ) (m : State) → before.turns ≤ 2 ^ 64 - 1 → at ≡ count → AreTaken before count at m →
+    m ≡ run before (replicate count Turn)
+all_taken before count at m few end h =
+    h.taken ∙ (ap (λ n. with_turns (more before.turns count) (run before (replicate n Turn))) end ∙
+    ap (λ turns. with_turns turns (run before (replicate count Turn))) (sym (run-turns count before few)))

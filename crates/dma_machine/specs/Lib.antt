@@ -3,3 +3,4 @@ pub mod Needs
 pub mod Plain
 pub mod Stills
 pub mod Views
+pub mod Counts

@@ -1,9 +1,12 @@
 //! The machine's parts, and what each row of a turn does to them.
 
 ghost use Rattle.dma_machine.specs.Needs.{AreParts};
-ghost use Rattle.machine_model.specs.Paths.{instr_ctl};
+ghost use Rattle.machine_model.specs.Paths.{instr_ctl, instr_off};
+ghost use Rattle.std.specs.Prelude.{◌≡◌};
 
-use crate::parts::{ctl_of, demands_of, ends_of, skipping_after, target_after, target_before};
+use crate::parts::{
+    ctl_of, demands_of, ends_of, off_of, skipping_after, target_after, target_before,
+};
 use crate::program::word_at;
 use fifo_model::{Fifo, Queue};
 use irq_status::{FDSR, IntStat, OCERR};
@@ -43,6 +46,8 @@ pub struct Engine<R> {
     pub moved: u64,
     pub queues: Fifo,
     pub instr: Instr,
+    /// The lanes that the instruction has off.
+    pub off: u8,
     pub wait: Wait,
     pub interrupts: IntStat,
     pub skipping: Skipping,
@@ -51,6 +56,7 @@ pub struct Engine<R> {
     pub ram: R,
     pub accepted: Accepted,
     ghost fit: { AreParts trigger wait.ctl (instr_ctl instr) },
+    ghost lanes: { off ≡ instr_off instr },
 }
 
 /// Rows of a turn, each on its own.
@@ -145,6 +151,7 @@ impl<R: Ram> Engine<R> {
         let target = target_before(&instr, self.target);
         self.target = target;
         self.demands = demands_of(&instr, target);
+        self.off = off_of(&instr);
         self.instr = instr;
         self.phase = Phase::Running;
         self.pc += 4 * u64::from(count);

@@ -162,6 +162,7 @@ impl<R: Ram> Engine<R> {
                 code: Code::Vre,
             },
             instr,
+            off: 0,
             demands: demands_of(&instr, None),
             turns: 0,
             moved: 0,

@@ -2,16 +2,16 @@
 //! that the program may write. All rules of how it finds its way after a broken line are this project's own.
 #![tactic(auto)]
 
+ghost use Rattle.dma_machine.specs.Counts.{acted, with_turns};
 ghost use Rattle.dma_machine.specs.Facts.{IsMachine, IsWrite, report_of};
-ghost use Rattle.fifo_model.specs.Queues.{empty_queues};
+ghost use Rattle.fifo_model.specs.Queues.{empty_queues, more};
 ghost use Rattle.irq_status.specs.Register.{has_ocerr};
 ghost use Rattle.machine_model.specs.Safety.{StaysInside};
 ghost use Rattle.machine_model.specs.States.{started};
-ghost use Rattle.dma_machine.specs.Stills.{StillIf, is_still};
 ghost use Rattle.machine_model.specs.Steps.{Turn, control_pushed_as, host, push, push_control, pushed_as, run};
 ghost use Rattle.machine_model.specs.Turns.{turn};
 ghost use Rattle.page_table.specs.Blocks.{chunks_of};
-ghost use Rattle.std.specs.Prelude.{◌≡◌, ◌<◌, false, true, replicate};
+ghost use Rattle.std.specs.Prelude.{◌≡◌, ◌<◌, ◌^◌, false, replicate};
 ghost use Rattle.sync_status.specs.Statuses.{is_control, kind_of};
 
 mod engine;
@@ -98,6 +98,26 @@ impl<R: Ram> Machine<R> {
         self.engine.push_control(c)
     }
 
+    /// Counts turns, which are taken then.
+    #[inline(always)]
+    fn count(&mut self, count: u32)
+        ensures state { self.new ≡ with_turns (more self.old.turns count) self.old }
+        ensures few { self.old.turns < 2 ^ 64 }
+        ensures before { IsMachine self.old }
+        ensures facts { IsMachine self.new }
+    {
+        self.engine.count(count);
+    }
+
+    /// Takes a turn that is counted.
+    #[inline(always)]
+    fn act(&mut self)
+        ensures state { self.new ≡ acted self.old }
+        ensures facts { IsMachine self.new }
+    {
+        self.engine.act();
+    }
+
     /// One turn of the controller.
     #[inline]
     pub fn turn(&mut self)
@@ -106,53 +126,20 @@ impl<R: Ram> Machine<R> {
         ensures inside { StaysInside self.old }
         ensures no_error { has_ocerr self.new.interrupts ≡ false }
     {
-        self.engine.turn();
+        self.count(1);
+        self.act();
     }
 
-    /// Whether the machine stands still: its turns do nothing but count. Where it isn't told to, it may.
-    #[inline]
-    fn is_still(&self) -> bool
-        ensures { StillIf result self.now }
-    {
-        self.engine.still
-    }
-
-    /// Takes turns until the machine stands still or so many were taken, and answers how many are left.
-    #[inline(always)]
-    fn turns_until_still(&mut self, count: u32) -> u32
-        ensures state { run self.new (replicate result Turn) ≡ run self.old (replicate count Turn) }
-        ensures still { 0 < result → is_still self.new ≡ true }
-        ensures facts { IsMachine self.new }
-    {
-        let _engine = &self.engine;
-        let mut left = count;
-        while left > 0 && !self.is_still() {
-            self.turn();
-            left -= 1;
-        }
-        left
-    }
-
-    /// So many turns of a machine that stands still, one after the other.
-    #[inline(always)]
-    fn stand_on(&mut self, count: u32)
-        requires { 0 < count → is_still self.old ≡ true }
-        ensures state { self.new ≡ run self.old (replicate count Turn) }
-        ensures facts { IsMachine self.new }
-    {
-        for _turn in 0..count {
-            self.engine.stand();
-        }
-    }
-
-    /// So many turns of the controller, one after the other.
-    #[inline]
+    /// So many turns of the controller: they are counted, and then taken one after the other.
+    #[inline(never)]
     pub fn turns(&mut self, count: u32)
         ensures state { self.new ≡ run self.old (replicate count Turn) }
         ensures facts { IsMachine self.new }
     {
-        let left = self.turns_until_still(count);
-        self.stand_on(left);
+        self.count(count);
+        for _turn in 0..count {
+            self.act();
+        }
     }
 
     /// A register write of the host.

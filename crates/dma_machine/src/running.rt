@@ -1,7 +1,7 @@
 //! Turns of a machine that runs a data instruction.
 
 use crate::engine::{Engine, Phase};
-use crate::parts::{demand_on, is_cut_short, is_done, is_plain, lessen, off_of, rest_of_line};
+use crate::parts::{demand_on, is_cut_short, is_done, is_plain, lessen, rest_of_line};
 use crate::stores::store_at;
 use fifo_model::{Entry, Queue};
 use irq_status::FDSR;
@@ -38,11 +38,10 @@ impl<R: Ram> Engine<R> {
         let demand = demand_on(&self.demands, q);
         let mut bytes = [0; 4];
         let part = self.queues.take(q, n, &mut bytes);
-        let off = off_of(&self.instr);
         let stored = store_at(
             &mut self.ram,
             demand.address,
-            off,
+            self.off,
             part,
             &bytes[..usize::from(n)],
         );
@@ -202,6 +201,23 @@ impl<R: Ram> Engine<R> {
         demand_on(&self.demands, q).rest != 0 && self.queues.ready(q, self.trigger)
     }
 
+    /// The lowest queue that is served.
+    #[inline(always)]
+    fn lowest_served(&self) -> Option<Queue>
+        ensures queue { result ≡ lowest_served self.now.demands (state_of R.memory self.now) }
+        ensures none { result ≡ None → none_served self.now.demands (state_of R.memory self.now) ≡ true }
+    {
+        if self.is_served(Queue::One) {
+            Some(Queue::One)
+        } else if self.is_served(Queue::Two) {
+            Some(Queue::Two)
+        } else if self.is_served(Queue::Three) {
+            Some(Queue::Three)
+        } else {
+            None
+        }
+    }
+
     /// A burst from the lowest queue that is served, and whether there is one.
     #[inline(always)]
     fn burst_lowest(&mut self) -> bool
@@ -209,16 +225,13 @@ impl<R: Ram> Engine<R> {
         ensures state { state_of R.memory self.new ≡ burst_of (lowest_served self.old.demands (state_of R.memory self.old)) (state_of R.memory self.old) }
         ensures none { result ≡ false → (self.new ≡ self.old) × (none_served self.old.demands (state_of R.memory self.old) ≡ true) }
     {
-        if self.is_served(Queue::One) {
-            self.burst(Queue::One);
-        } else if self.is_served(Queue::Two) {
-            self.burst(Queue::Two);
-        } else if self.is_served(Queue::Three) {
-            self.burst(Queue::Three);
-        } else {
-            return false;
+        match self.lowest_served() {
+            Some(q) => {
+                self.burst(q);
+                true
+            }
+            None => false,
         }
-        true
     }
 
     /// A turn of a machine that runs, and whether it did more than count.

@@ -6,11 +6,13 @@ use fifo_model::Queue;
 use page_ram::Ram;
 
 impl<R: Ram> Engine<R> {
+    ghost use Rattle.dma_machine.specs.Counts.{acted, with_turns};
     ghost use Rattle.dma_machine.specs.Needs.{CanWork};
     ghost use Rattle.dma_machine.specs.Stills.{StillIf, is_still, runs_still, waits_still};
     ghost use Rattle.dma_machine.specs.Views.{state_of};
-    ghost use Rattle.machine_model.specs.Turns.{counted, turn, worked};
-    ghost use Rattle.std.specs.Prelude.{◌≡◌, false, true};
+    ghost use Rattle.fifo_model.specs.Queues.{more};
+    ghost use Rattle.machine_model.specs.Turns.{worked};
+    ghost use Rattle.std.specs.Prelude.{◌≡◌, ◌<◌, ◌^◌, false, true};
 
     /// A turn of an enabled machine, and whether it may have done more than count.
     #[inline(always)]
@@ -30,25 +32,6 @@ impl<R: Ram> Engine<R> {
                 true
             }
         }
-    }
-
-    #[inline]
-    fn count_turn(&mut self)
-        ensures state { state_of R.memory self.new ≡ counted (state_of R.memory self.old) }
-        ensures still { self.new.still ≡ self.old.still }
-    {
-        self.turns = self.turns.saturating_add(1);
-    }
-
-    /// One turn, and whether it may have done more than count.
-    #[inline(always)]
-    fn take_turn(&mut self) -> bool
-        requires { CanWork (state_of R.memory self.old).job (state_of R.memory self.old) }
-        ensures state { state_of R.memory self.new ≡ turn (state_of R.memory self.old) }
-        ensures still { result ≡ false → is_still (state_of R.memory self.new) ≡ true }
-    {
-        self.turns = self.turns.saturating_add(1);
-        self.risc_on && self.work()
     }
 
     #[cold]
@@ -83,40 +66,38 @@ impl<R: Ram> Engine<R> {
         }
     }
 
-    /// One turn, and whether those after it do nothing but count.
+    /// Counts turns, which are taken then.
     #[inline(always)]
-    fn turn_anew(&mut self)
+    pub fn count(&mut self, count: u32)
+        ensures state { state_of R.memory self.new ≡ with_turns (more self.old.turns count) (state_of R.memory self.old) }
+        ensures few { self.old.turns < 2 ^ 64 }
+        ensures still { self.new.still ≡ self.old.still }
+    {
+        self.turns = self.turns.saturating_add(u64::from(count));
+    }
+
+    /// Takes a turn that is counted, and finds out whether those after it do nothing.
+    #[inline(never)]
+    fn act_anew(&mut self)
         requires { CanWork (state_of R.memory self.old).job (state_of R.memory self.old) }
-        ensures state { state_of R.memory self.new ≡ turn (state_of R.memory self.old) }
+        ensures state { state_of R.memory self.new ≡ acted (state_of R.memory self.old) }
         ensures still { StillIf self.new.still (state_of R.memory self.new) }
     {
-        let worked = self.take_turn();
+        let worked = self.risc_on && self.work();
         self.still = !worked || self.is_still();
     }
 
-    /// One turn of a machine that stands still.
+    /// Takes a turn that is counted. It does nothing where the machine stands still.
     #[inline(always)]
-    pub fn stand(&mut self)
-        requires { is_still (state_of R.memory self.old) ≡ true }
-        ensures state { state_of R.memory self.new ≡ turn (state_of R.memory self.old) }
-        ensures still { is_still (state_of R.memory self.new) ≡ true }
-        ensures flag { self.new.still ≡ self.old.still }
-    {
-        self.count_turn();
-    }
-
-    /// One turn.
-    #[inline(always)]
-    pub fn turn(&mut self)
+    #[tactic(auto, using(crate::proofs::Standing::still_acted))]
+    pub fn act(&mut self)
         requires can { CanWork (state_of R.memory self.old).job (state_of R.memory self.old) }
         requires still { StillIf self.old.still (state_of R.memory self.old) }
-        ensures state { state_of R.memory self.new ≡ turn (state_of R.memory self.old) }
+        ensures state { state_of R.memory self.new ≡ acted (state_of R.memory self.old) }
         ensures still { StillIf self.new.still (state_of R.memory self.new) }
     {
-        if self.still {
-            self.count_turn();
-        } else {
-            self.turn_anew();
+        if !self.still {
+            self.act_anew();
         }
     }
 }

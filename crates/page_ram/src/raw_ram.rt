@@ -1,5 +1,5 @@
 //! Memory in one raw block.
-ghost use Rattle.std.specs.Prelude.{◌≡◌, ◌<◌, ℕ, List, None, IsTrue, IfOk, IfSome};
+ghost use Rattle.std.specs.Prelude.{◌≡◌, ◌^◌, ◌<◌, ◌≤◌, ℕ, List, None, IsTrue, IfOk, IfSome};
 ghost use Rattle.page_table.specs.Grants.{Chunk, granted, total, AreGrants};
 ghost use Rattle.page_table.specs.Blocks.{Block, filled};
 ghost use Rattle.page_ram.specs.Extents.{extent_chunk, extent_chunks, AreLaid, StandsAt, StandsRun};
@@ -61,14 +61,17 @@ fn locate(extents: &[Extent], near: usize, addr: u32) -> (usize, usize)
 fn run_in(extents: &[Extent], place: usize, addr: u32, count: usize) -> Option<usize>
     requires grants { AreGrants (extent_chunks extents.now) }
     requires laid { AreLaid 0 extents.now }
+    requires few { count ≤ 2 ^ 32 }
     ensures found { IfSome result (λ index. StandsRun extents.now place addr count index) }
     ensures none { result ≡ None → (index : ℕ) → StandsRun extents.now place addr count index → ⊥ }
 {
     let extent = extents.get(place)?;
-    let before = addr.checked_sub(extent.at)?;
-    let room = extent.len.checked_sub(before)?;
-    if count <= room as usize {
-        Some(extent.from + before as usize)
+    if addr < extent.at {
+        return None;
+    }
+    let before = (addr - extent.at) as usize;
+    if before + count <= extent.len as usize {
+        Some(extent.from + before)
     } else {
         None
     }

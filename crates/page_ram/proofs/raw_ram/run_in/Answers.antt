@@ -13,5 +13,4 @@ overflow_add-result c =
     let begins : c.in_ok-extent.extent.now.from ≡ (get_or c.args.extents.now place none).from = ap (λ (e : Extent). e.from) is in
     let long : c.in_ok-extent.extent.now.len ≡ (get_or c.args.extents.now place none).len = ap (λ (e : Extent). e.len) is in
     let ends = le-end 0 c.args.extents.now place none c.requires.laid there in
-    let before = c.in_ok-room.ensures.0 in
     record { fits = omega arith }

@@ -15,5 +15,5 @@ store_at-stored-requires-clause-granted g c =
 pub returns-clause-within : goal.returns-clause-within
 returns-clause-within g c =
     ap (demands_cause (chunks_of (g.R.Ram.memory c.store_at-stored.new.ram))) c.lessen.ensures
-    ∙ rest-granted _ _ (stores_at c.demand_on-demand.result.address c.off_of-off.result c.take-part.result (take c.from.result c.take-part.new.out))
+    ∙ rest-granted _ _ (stores_at c.demand_on-demand.result.address c.args.self.now.off c.take-part.result (take c.from.result c.take-part.new.out))
     c.args.q c.args.self.now.demands c.args.n c.store_at-stored.ensures.memory c.requires.asked c.requires.within
