@@ -12,9 +12,6 @@ use std::alloc::Global;
 /// The most bytes that one read asks for.
 pub const PIECE: usize = 65_536;
 
-// The most bytes that the first read of an input asks for.
-const FIRST_PIECE: usize = 4_096;
-
 /// Opens an input.
 pub fn open<D: Desk>(name: &str, desk: &mut D) -> Result<(), Answer>
     requires { IsAllowed name.now (D.told desk.old).may_open }
@@ -84,8 +81,8 @@ fn read_piece<D: Desk>(
     }
 }
 
-/// Reads the open input until it ends or one byte more than `most` was read: first a small piece, then
-/// pieces that grow, so that a small input takes little memory.
+/// Reads the open input until it ends or one byte more than `most` was read. Each read asks for a piece, or
+/// for what is left up to that byte (this project's own rule).
 fn read_rest<D: Desk>(alloc: Global, most: usize, desk: &mut D) -> Result<Vec<u8>, Answer>
     requires open { IsTrue (D.told desk.old).input_open }
     requires few { most < 2 ^ 32 }
@@ -97,7 +94,7 @@ fn read_rest<D: Desk>(alloc: Global, most: usize, desk: &mut D) -> Result<Vec<u8
     let mut bytes = Vec::new(alloc);
     let mut at = 0;
     while at <= most {
-        let end = (at + at.clamp(FIRST_PIECE, PIECE)).min(most + 1);
+        let end = (at + PIECE).min(most + 1);
         let count = read_piece(&mut bytes, at, end, desk)?;
         if count == 0 {
             break;

@@ -167,29 +167,18 @@ impl<R: Ram> Engine<R> {
         }
     }
 
-    /// The same, by a loop of its own for each queue.
+    /// As many applications to one queue as there can be, up to the trigger point, by a loop of its own for
+    /// each queue.
     #[inline(never)]
-    fn burst_rest(&mut self, q: Queue, left: u16)
-        requires { demands_cause (chunks_of (R.memory self.old.ram)) self.old.demands ≡ None }
-        ensures { state_of R.memory self.new ≡ burst left q (state_of R.memory self.old) }
-    {
-        match q {
-            Queue::One => self.burst_on(Queue::One, left),
-            Queue::Two => self.burst_on(Queue::Two, left),
-            Queue::Three => self.burst_on(Queue::Three, left),
-        }
-    }
-
-    /// As many applications to one queue as there can be, up to the trigger point. The first stands apart,
-    /// since it is the only one where the trigger point is 1.
-    #[inline(always)]
     fn burst(&mut self, q: Queue)
         requires { demands_cause (chunks_of (R.memory self.old.ram)) self.old.demands ≡ None }
         ensures { state_of R.memory self.new ≡ burst self.old.trigger q (state_of R.memory self.old) }
     {
         let most = self.trigger;
-        if self.apply(q) && most > 1 {
-            self.burst_rest(q, most - 1);
+        match q {
+            Queue::One => self.burst_on(Queue::One, most),
+            Queue::Two => self.burst_on(Queue::Two, most),
+            Queue::Three => self.burst_on(Queue::Three, most),
         }
     }
 
