@@ -169,7 +169,7 @@ impl<R: Ram> Engine<R> {
 
     /// As many applications to one queue as there can be, up to the trigger point, by a loop of its own for
     /// each queue.
-    #[inline(never)]
+    #[inline(always)]
     fn burst(&mut self, q: Queue)
         requires { demands_cause (chunks_of (R.memory self.old.ram)) self.old.demands ≡ None }
         ensures { state_of R.memory self.new ≡ burst self.old.trigger q (state_of R.memory self.old) }
