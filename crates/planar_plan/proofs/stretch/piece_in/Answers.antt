@@ -1,9 +1,8 @@
-use Rattle.std.proofs.Common.{◌≡◌, ◌<◌, ◌∙◌, arith}
-use Rattle.planar_plan.specs.Lines.{strip_of}
-use Rattle.planar_plan.proofs.Stretching.{place_below, place_of}
+use Rattle.std.proofs.Common.{◌≡◌, arith}
+use Rattle.planar_plan.proofs.Stretching.{place_below}
 use Rattle.picture_model.specs.Plans.{kind_of}
-use Rattle.planar_plan.proofs.stretch.whole_piece.Goals.{then-span, else-span}
-use Rattle.planar_plan.proofs.stretch.whole_piece.Goals as goal
+use Rattle.planar_plan.proofs.stretch.piece_in.Goals.{then-span, else-span}
+use Rattle.planar_plan.proofs.stretch.piece_in.Goals as goal
 
 pub places_on-requires-clause-one : goal.places_on-requires-clause-one
 places_on-requires-clause-one c =
@@ -18,17 +17,8 @@ places_on-requires-clause-three c =
     place_below c.args.stretches.now.three.address c.args.span.from c.args.line.now.grains c.args.stretches.now.three.step (omega (arith, c.requires.some, c.requires.within)) c.requires.fit.2.1
 
 pub returns-clause-piece : goal.returns-clause-piece
-returns-clause-piece c = λ memory are.
-    let grains = c.args.line.now.grains in
-    let from = c.args.span.from in
-    let clipped = c.args.span.clipped in
-    let w = c.args.stretches.now in
-    let strip = strip_of c.args.line.now in
-    let inside : from < grains = omega (arith, c.requires.some, c.requires.within) in
-    let one = place_of memory clipped grains from strip.one w.one inside are.one in
-    let two = place_of memory clipped grains from strip.two w.two inside are.two in
-    let three = place_of memory clipped grains from strip.three w.three inside are.three in
-    let kind : c.if-span.result ≡ kind_of clipped c.args.line.now.kind = elim c.if-span.branch [ then-span t ↦ rw t.if-span.true t.result-is | else-span t ↦ rw t.if-span.false t.result-is ] in
+returns-clause-piece c =
+    let kind : c.if-span.result ≡ kind_of c.args.span.clipped c.args.line.now.kind = elim c.if-span.branch [ then-span t ↦ rw t.if-span.true t.result-is | else-span t ↦ rw t.if-span.false t.result-is ] in
     let first = c.bytes.ensures.value in
     let second = c.bytes-2.ensures.value in
     let third = c.bytes-3.ensures.value in
