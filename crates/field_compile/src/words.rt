@@ -1,18 +1,23 @@
 //! The words of instructions and of the pieces of a line, at the end of those that stand already.
 
 ghost use Rattle.std.specs.Prelude.{◌≡◌, ◌+◌, ◌++◌, ◌≤◌, drop, length, take, true, false, map, IsTrue, OnOk};
-ghost use Rattle.std.specs.List.{All};
+ghost use Rattle.std.specs.List.{All, flat_map};
 ghost use Rattle.field_compile.specs.Kept.{BeginsWith};
-ghost use Rattle.planar_plan.specs.Lines.{CountsFit};
+ghost use Rattle.planar_plan.specs.Lines.{AreWithin, CountsFit};
+ghost use Rattle.planar_plan.specs.Stretches.{pieces_in};
 ghost use Rattle.picture_model.specs.Programs.{instr_of, sync, words_of};
 ghost use Rattle.risc_word.specs.Words.{encoded, fits};
 
-use planar_plan::{Piece, PieceKind};
+use clip_spans::Span;
+use planar_plan::{Piece, PieceKind, WholeRow};
 use risc_word::{Code, Ctl, Instr, encode};
 use std::alloc::AllocError;
 
 // The pieces whose words are appended at once.
 const GROUP: usize = 64;
+
+// The most spans of a row: each of at most 64 rectangles adds at most two.
+const MOST_SPANS: usize = 129;
 
 const NO_CONTROL: Ctl = Ctl {
     irq: false,
@@ -126,9 +131,9 @@ fn encode_piece(planar: bool, piece: &Piece, words: &mut [u32; 5]) -> u8
 // Writes the words of a piece into a buffer, behind those that stand there, and answers where they end. The
 // places behind them may change too.
 #[inline(always)]
-fn add_piece(planar: bool, piece: &Piece, words: &mut [u32; 5 * GROUP], at: usize) -> usize
+fn add_piece(planar: bool, piece: &Piece, words: &mut [u32], at: usize) -> usize
     requires fits { CountsFit piece.now }
-    requires room { at + 5 ≤ 320 }
+    requires room { at + 5 ≤ length words.old }
     ensures words { take result words.new ≡ take at words.old ++ encoded (instr_of planar piece.now) }
     ensures few { result ≤ at + 5 }
 {
@@ -168,4 +173,43 @@ pub fn push_pieces(planar: bool, pieces: &[Piece], out: &mut Vec<u32>) -> Result
         at = end;
     }
     Ok(())
+}
+
+// Writes the words of the pieces of a row's spans into the front of a buffer, and answers their number.
+#[inline(never)]
+fn spell_spans(
+    planar: bool,
+    row: &WholeRow,
+    spans: &[Span],
+    words: &mut [u32; 5 * MOST_SPANS],
+) -> usize
+    requires few { length spans.now ≤ 129 }
+    requires within { AreWithin row.now.line.grains spans.now }
+    ensures words { take result words.new ≡ words_of (map (instr_of planar) (flat_map (pieces_in row.now) spans.now)) }
+    ensures few { result ≤ 645 }
+{
+    let mut at = 0;
+    for span in spans {
+        if let Some(piece) = row.piece(*span) {
+            at = add_piece(planar, &piece, words, at);
+        }
+    }
+    at
+}
+
+// Appends the words of the pieces of a row's spans, in a planar row or in a packed one.
+pub(crate) fn push_spans(
+    planar: bool,
+    row: &WholeRow,
+    spans: &[Span],
+    out: &mut Vec<u32>,
+) -> Result<(), AllocError>
+    requires few { length spans.now ≤ 129 }
+    requires within { AreWithin row.now.line.grains spans.now }
+    ensures words { OnOk result (out.new.items ≡ out.old.items ++ words_of (map (instr_of planar) (flat_map (pieces_in row.now) spans.now))) }
+    ensures kept { BeginsWith out.old.items out.new.items }
+{
+    let mut words = [0; 5 * MOST_SPANS];
+    let count = spell_spans(planar, row, spans, &mut words);
+    out.extend_from_slice(&words[..count])
 }
