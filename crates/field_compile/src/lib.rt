@@ -19,7 +19,7 @@ use planar_plan::{Frame, Pieces, RowSpans};
 use risc_word::Code;
 use std::alloc::{AllocError, Global};
 pub use words::{push_instr, push_pieces, sync};
-use words::push_spans;
+use words::{ROW_WORDS, push_spans};
 
 // The code that announces packed or planar data.
 fn data_code(planar: bool) -> Code
@@ -54,13 +54,14 @@ fn picture_row(fields: Fields, field: Parity, number: u32) -> u32
 }
 
 // Appends a picture row, where the spans of some rows are known. Its spans come in their place unless it is
-// among them.
+// among them. The pieces and words are buffers, free to change.
 fn push_row(
     alloc: Global,
     frame: &Frame,
     row: u32,
     spans: &mut RowSpans,
     pieces: &mut Pieces,
+    words: &mut [u32; ROW_WORDS],
     out: &mut Vec<u32>,
 ) -> Result<(), AllocError>
     requires row { row < frame.now.height }
@@ -74,7 +75,7 @@ fn push_row(
     match frame.whole_row(row) {
         Some(whole) => {
             frame.renew_spans(alloc, row, spans)?;
-            push_spans(planar, &whole, spans.as_slice(), out)
+            push_spans(planar, &whole, spans.as_slice(), words, out)
         }
         None => {
             frame.plan_row_by(alloc, row, spans, pieces)?;
@@ -98,9 +99,18 @@ fn push_rows(
     let fields = frame.desc().fields;
     let mut spans = frame.row_spans(alloc, 0)?;
     let mut pieces = Pieces::new(alloc);
+    let mut words = [0; ROW_WORDS];
     for number in 0..frame.rows_of(field) {
         let row = picture_row(fields, field, number);
-        push_row(alloc, frame, row, &mut spans, &mut pieces, out)?;
+        push_row(
+            alloc,
+            frame,
+            row,
+            &mut spans,
+            &mut pieces,
+            &mut words,
+            out,
+        )?;
     }
     Ok(())
 }

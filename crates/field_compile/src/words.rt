@@ -10,14 +10,15 @@ ghost use Rattle.risc_word.specs.Words.{encoded, fits};
 
 use clip_spans::Span;
 use planar_plan::{Piece, PieceKind, WholeRow};
-use risc_word::{Code, Ctl, Instr, encode};
+use risc_word::{Code, Ctl, Ends, Instr, encode};
 use std::alloc::AllocError;
 
 // The pieces whose words are appended at once.
 const GROUP: usize = 64;
 
-// The most spans of a row: each of at most 64 rectangles adds at most two.
-const MOST_SPANS: usize = 129;
+// The most words of a row each span of which is one piece: five for each of at most 129 spans, since each of
+// at most 64 rectangles adds at most two of them.
+pub(crate) const ROW_WORDS: usize = 645;
 
 const NO_CONTROL: Ctl = Ctl {
     irq: false,
@@ -59,7 +60,8 @@ fn encode_planar(piece: &Piece, words: &mut [u32; 5]) -> u8
     ensures number { result ≡ length (encoded (instr_of true piece.now)) }
 {
     let ctl = NO_CONTROL;
-    let ends = piece.ends;
+    let Ends { sol, eol } = piece.ends;
+    let ends = Ends { sol, eol };
     let off = 0;
     let counts = piece.counts;
     let addrs = piece.addrs;
@@ -176,12 +178,12 @@ pub fn push_pieces(planar: bool, pieces: &[Piece], out: &mut Vec<u32>) -> Result
 }
 
 // Writes the words of the pieces of a row's spans into the front of a buffer, and answers their number.
-#[inline(never)]
+#[inline(always)]
 fn spell_spans(
     planar: bool,
     row: &WholeRow,
     spans: &[Span],
-    words: &mut [u32; 5 * MOST_SPANS],
+    words: &mut [u32; ROW_WORDS],
 ) -> usize
     requires few { length spans.now ≤ 129 }
     requires within { AreWithin row.now.line.grains spans.now }
@@ -197,11 +199,28 @@ fn spell_spans(
     at
 }
 
-// Appends the words of the pieces of a row's spans, in a planar row or in a packed one.
+// The same by a loop for each form, which asks for none.
+#[inline(never)]
+fn spell_row(planar: bool, row: &WholeRow, spans: &[Span], words: &mut [u32; ROW_WORDS]) -> usize
+    requires few { length spans.now ≤ 129 }
+    requires within { AreWithin row.now.line.grains spans.now }
+    ensures words { take result words.new ≡ words_of (map (instr_of planar) (flat_map (pieces_in row.now) spans.now)) }
+    ensures few { result ≤ 645 }
+{
+    if planar {
+        spell_spans(true, row, spans, words)
+    } else {
+        spell_spans(false, row, spans, words)
+    }
+}
+
+// Appends the words of the pieces of a row's spans, in a planar row or in a packed one, by a buffer that is
+// free to change.
 pub(crate) fn push_spans(
     planar: bool,
     row: &WholeRow,
     spans: &[Span],
+    words: &mut [u32; ROW_WORDS],
     out: &mut Vec<u32>,
 ) -> Result<(), AllocError>
     requires few { length spans.now ≤ 129 }
@@ -209,7 +228,6 @@ pub(crate) fn push_spans(
     ensures words { OnOk result (out.new.items ≡ out.old.items ++ words_of (map (instr_of planar) (flat_map (pieces_in row.now) spans.now))) }
     ensures kept { BeginsWith out.old.items out.new.items }
 {
-    let mut words = [0; 5 * MOST_SPANS];
-    let count = spell_spans(planar, row, spans, &mut words);
+    let count = spell_row(planar, row, spans, words);
     out.extend_from_slice(&words[..count])
 }

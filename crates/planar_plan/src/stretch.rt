@@ -100,24 +100,6 @@ fn address_at(stretch: Stretch, at: u32) -> u32
     stretch.address + at * stretch.step
 }
 
-// The addresses of a grain on the three planes, 0 where it is clipped.
-#[inline(always)]
-fn places_on(stretches: &Stretches, clipped: bool, at: u32) -> [u32; 3]
-    requires one { stretches.now.one.address + (at + 1) * stretches.now.one.step ≤ 2 ^ 32 }
-    requires two { stretches.now.two.address + (at + 1) * stretches.now.two.step ≤ 2 ^ 32 }
-    requires three { stretches.now.three.address + (at + 1) * stretches.now.three.step ≤ 2 ^ 32 }
-    ensures { result ≡ place_on stretches.now.one clipped at ∷ place_on stretches.now.two clipped at ∷ place_on stretches.now.three clipped at ∷ [] }
-{
-    if clipped {
-        return [0; 3];
-    }
-    [
-        address_at(stretches.one, at),
-        address_at(stretches.two, at),
-        address_at(stretches.three, at),
-    ]
-}
-
 // The piece of a span.
 #[inline(always)]
 fn piece_in(line: &Line, stretches: &Stretches, span: Span) -> Piece
@@ -128,22 +110,30 @@ fn piece_in(line: &Line, stretches: &Stretches, span: Span) -> Piece
     ensures counts { CountsFit result }
 {
     let grains = span.to - span.from;
+    let sol = span.from == 0;
+    let eol = span.to == line.grains;
+    let counts = [
+        bytes(grains, line.one.size, line.grains),
+        bytes(grains, line.two.size, line.grains),
+        bytes(grains, line.three.size, line.grains),
+    ];
+    if span.clipped {
+        return Piece {
+            kind: PieceKind::Skip,
+            ends: Ends { sol, eol },
+            counts,
+            addrs: [0; 3],
+        };
+    }
     Piece {
-        kind: if span.clipped {
-            PieceKind::Skip
-        } else {
-            line.kind
-        },
-        ends: Ends {
-            sol: span.from == 0,
-            eol: span.from + grains == line.grains,
-        },
-        counts: [
-            bytes(grains, line.one.size, line.grains),
-            bytes(grains, line.two.size, line.grains),
-            bytes(grains, line.three.size, line.grains),
+        kind: line.kind,
+        ends: Ends { sol, eol },
+        counts,
+        addrs: [
+            address_at(stretches.one, span.from),
+            address_at(stretches.two, span.from),
+            address_at(stretches.three, span.from),
         ],
-        addrs: places_on(stretches, span.clipped, span.from),
     }
 }
 
