@@ -10,14 +10,16 @@ ghost use Rattle.std.specs.Prelude.{◌≡◌, ◌++◌, ◌^◌, ◌<◌, true,
 ghost use Rattle.field_compile.specs.Kept.{BeginsWith};
 ghost use Rattle.picture_model.specs.Described.{IsDescription, describes, is_both, picture_row, rows_of};
 ghost use Rattle.picture_model.specs.Plans.{row_strip, skipped_strip};
-ghost use Rattle.picture_model.specs.Programs.{data_code, field_words, lines_instrs, words_of};
+ghost use Rattle.picture_model.specs.Programs.{data_code, field_words, line_instrs, lines_instrs, words_of};
+ghost use Rattle.planar_plan.specs.Lines.{AreSpansOf};
 
 use capture_desc::Fields;
 use pixel_layout::Parity;
-use planar_plan::{Frame, Pieces};
+use planar_plan::{Frame, Pieces, RowSpans};
 use risc_word::Code;
 use std::alloc::{AllocError, Global};
 pub use words::{push_instr, push_pieces, sync};
+use words::{ROW_WORDS, push_spans};
 
 // The code that announces packed or planar data.
 fn data_code(planar: bool) -> Code
@@ -51,6 +53,37 @@ fn picture_row(fields: Fields, field: Parity, number: u32) -> u32
     }
 }
 
+// Appends a picture row, where the spans of some rows are known. Its spans come in their place unless it is
+// among them. The pieces and words are buffers, free to change.
+fn push_row(
+    alloc: Global,
+    frame: &Frame,
+    row: u32,
+    spans: &mut RowSpans,
+    pieces: &mut Pieces,
+    words: &mut [u32; ROW_WORDS],
+    out: &mut Vec<u32>,
+) -> Result<(), AllocError>
+    requires row { row < frame.now.height }
+    requires spans { AreSpansOf frame.now spans.old }
+    requires description { IsDescription frame.now }
+    ensures words { OnOk result (out.new.items ≡ out.old.items ++ words_of (line_instrs frame.now (row_strip frame.now row))) }
+    ensures kept { BeginsWith out.old.items out.new.items }
+    ensures spans { AreSpansOf frame.now spans.new }
+{
+    let planar = frame.format().is_planar();
+    match frame.whole_row(row) {
+        Some(whole) => {
+            frame.renew_spans(alloc, row, spans)?;
+            push_spans(planar, &whole, spans.as_slice(), words, out)
+        }
+        None => {
+            frame.plan_row_by(alloc, row, spans, pieces)?;
+            push_pieces(planar, pieces.as_slice(), out)
+        }
+    }
+}
+
 // Appends the rows of a field.
 fn push_rows(
     alloc: Global,
@@ -64,13 +97,20 @@ fn push_rows(
     ensures description { OnOk result (IsDescription frame.now) }
 {
     let fields = frame.desc().fields;
-    let planar = frame.format().is_planar();
     let mut spans = frame.row_spans(alloc, 0)?;
     let mut pieces = Pieces::new(alloc);
+    let mut words = [0; ROW_WORDS];
     for number in 0..frame.rows_of(field) {
         let row = picture_row(fields, field, number);
-        frame.plan_row_by(alloc, row, &mut spans, &mut pieces)?;
-        push_pieces(planar, pieces.as_slice(), out)?;
+        push_row(
+            alloc,
+            frame,
+            row,
+            &mut spans,
+            &mut pieces,
+            &mut words,
+            out,
+        )?;
     }
     Ok(())
 }

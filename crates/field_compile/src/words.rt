@@ -1,18 +1,24 @@
 //! The words of instructions and of the pieces of a line, at the end of those that stand already.
 
 ghost use Rattle.std.specs.Prelude.{◌≡◌, ◌+◌, ◌++◌, ◌≤◌, drop, length, take, true, false, map, IsTrue, OnOk};
-ghost use Rattle.std.specs.List.{All};
+ghost use Rattle.std.specs.List.{All, flat_map};
 ghost use Rattle.field_compile.specs.Kept.{BeginsWith};
-ghost use Rattle.planar_plan.specs.Lines.{CountsFit};
+ghost use Rattle.planar_plan.specs.Lines.{AreWithin, CountsFit};
+ghost use Rattle.planar_plan.specs.Stretches.{pieces_in};
 ghost use Rattle.picture_model.specs.Programs.{instr_of, sync, words_of};
 ghost use Rattle.risc_word.specs.Words.{encoded, fits};
 
-use planar_plan::{Piece, PieceKind};
-use risc_word::{Code, Ctl, Instr, encode};
+use clip_spans::Span;
+use planar_plan::{Piece, PieceKind, WholeRow};
+use risc_word::{Code, Ctl, Ends, Instr, encode};
 use std::alloc::AllocError;
 
 // The pieces whose words are appended at once.
 const GROUP: usize = 64;
+
+// The most words of a row each span of which is one piece: five for each of at most 129 spans, since each of
+// at most 64 rectangles adds at most two of them.
+pub(crate) const ROW_WORDS: usize = 645;
 
 const NO_CONTROL: Ctl = Ctl {
     irq: false,
@@ -54,7 +60,8 @@ fn encode_planar(piece: &Piece, words: &mut [u32; 5]) -> u8
     ensures number { result ≡ length (encoded (instr_of true piece.now)) }
 {
     let ctl = NO_CONTROL;
-    let ends = piece.ends;
+    let Ends { sol, eol } = piece.ends;
+    let ends = Ends { sol, eol };
     let off = 0;
     let counts = piece.counts;
     let addrs = piece.addrs;
@@ -126,9 +133,9 @@ fn encode_piece(planar: bool, piece: &Piece, words: &mut [u32; 5]) -> u8
 // Writes the words of a piece into a buffer, behind those that stand there, and answers where they end. The
 // places behind them may change too.
 #[inline(always)]
-fn add_piece(planar: bool, piece: &Piece, words: &mut [u32; 5 * GROUP], at: usize) -> usize
+fn add_piece(planar: bool, piece: &Piece, words: &mut [u32], at: usize) -> usize
     requires fits { CountsFit piece.now }
-    requires room { at + 5 ≤ 320 }
+    requires room { at + 5 ≤ length words.old }
     ensures words { take result words.new ≡ take at words.old ++ encoded (instr_of planar piece.now) }
     ensures few { result ≤ at + 5 }
 {
@@ -168,4 +175,59 @@ pub fn push_pieces(planar: bool, pieces: &[Piece], out: &mut Vec<u32>) -> Result
         at = end;
     }
     Ok(())
+}
+
+// Writes the words of the pieces of a row's spans into the front of a buffer, and answers their number.
+#[inline(always)]
+fn spell_spans(
+    planar: bool,
+    row: &WholeRow,
+    spans: &[Span],
+    words: &mut [u32; ROW_WORDS],
+) -> usize
+    requires few { length spans.now ≤ 129 }
+    requires within { AreWithin row.now.line.grains spans.now }
+    ensures words { take result words.new ≡ words_of (map (instr_of planar) (flat_map (pieces_in row.now) spans.now)) }
+    ensures few { result ≤ 645 }
+{
+    let mut at = 0;
+    for span in spans {
+        if let Some(piece) = row.piece(*span) {
+            at = add_piece(planar, &piece, words, at);
+        }
+    }
+    at
+}
+
+// The same by a loop for each form, which asks for none.
+#[inline(never)]
+fn spell_row(planar: bool, row: &WholeRow, spans: &[Span], words: &mut [u32; ROW_WORDS]) -> usize
+    requires few { length spans.now ≤ 129 }
+    requires within { AreWithin row.now.line.grains spans.now }
+    ensures words { take result words.new ≡ words_of (map (instr_of planar) (flat_map (pieces_in row.now) spans.now)) }
+    ensures few { result ≤ 645 }
+{
+    if planar {
+        spell_spans(true, row, spans, words)
+    } else {
+        spell_spans(false, row, spans, words)
+    }
+}
+
+// Appends the words of the pieces of a row's spans, in a planar row or in a packed one, by a buffer that is
+// free to change.
+pub(crate) fn push_spans(
+    planar: bool,
+    row: &WholeRow,
+    spans: &[Span],
+    words: &mut [u32; ROW_WORDS],
+    out: &mut Vec<u32>,
+) -> Result<(), AllocError>
+    requires few { length spans.now ≤ 129 }
+    requires within { AreWithin row.now.line.grains spans.now }
+    ensures words { OnOk result (out.new.items ≡ out.old.items ++ words_of (map (instr_of planar) (flat_map (pieces_in row.now) spans.now))) }
+    ensures kept { BeginsWith out.old.items out.new.items }
+{
+    let count = spell_row(planar, row, spans, words);
+    out.extend_from_slice(&words[..count])
 }

@@ -17,11 +17,13 @@ bare-cuts_from memory strip s (suc fuel) zero at = refl
 bare-cuts_from memory strip s (suc fuel) (suc rest) at =
     ap (λ (later : List Cut). cut at (longest memory strip s at) s.clipped ∷ later) (bare-cuts_from memory strip s fuel (suc rest - longest memory strip s at) (at + longest memory strip s at))
 
+pub bare-span_cuts : (memory : List Chunk) (strip : Strip) (s : Span) → span_cuts memory (bare strip) s ≡ span_cuts memory strip s
+bare-span_cuts memory strip s = bare-cuts_from memory strip s (s.to - s.from) (s.to - s.from) s.from
+
 pub bare-cuts_of : (memory : List Chunk) (strip : Strip) (spans : List Span) → cuts_of memory (bare strip) spans ≡ cuts_of memory strip spans
 bare-cuts_of memory strip [] = refl
 bare-cuts_of memory strip (s ∷ rest) =
-    let first : span_cuts memory (bare strip) s ≡ span_cuts memory strip s = bare-cuts_from memory strip s (s.to - s.from) (s.to - s.from) s.from in
-    ap (λ (cuts : List Cut). cuts ++ cuts_of memory (bare strip) rest) first
+    ap (λ (cuts : List Cut). cuts ++ cuts_of memory (bare strip) rest) (bare-span_cuts memory strip s)
     ∙ ap (λ (cuts : List Cut). span_cuts memory strip s ++ cuts) (bare-cuts_of memory strip rest)
 
 pub pieces-append : (memory : List Chunk) (strip : Strip) (cuts more : List Cut) → pieces_of memory strip (cuts ++ more) ≡ pieces_of memory strip cuts ++ pieces_of memory strip more

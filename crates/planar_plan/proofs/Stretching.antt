@@ -1,21 +1,25 @@
 -- A line that stands in stretches: each of its spans is one piece.
-use Rattle.std.proofs.Common.{[], ◌∷◌, ◌++◌, ◌≡◌, ℕ, zero, suc, ◌+◌, ◌-◌, ◌*◌, ◌^◌, ◌<◌, ◌≤◌, Bool, true, false, List, Option, Some, None, refl, sym, ap, ◌∙◌, subst, arith, min}
+use Rattle.std.proofs.Common.{[], ◌∷◌, ◌++◌, ◌≡◌, ℕ, zero, suc, ◌+◌, ◌-◌, ◌*◌, ◌^◌, ◌<◌, ◌≤◌, Bool, true, false, List, Option, Some, None, refl, sym, ap, ◌∙◌, subst, arith, min, length, take, get_or, ⊎_elim}
+use Rattle.std.specs.List.{flat_map}
+use Rattle.std.proofs.lemmas.Bool.{cases_lt, le-ltb, lt-ltb}
+use Rattle.std.proofs.lemmas.Grind.{flat_map-append}
 use Rattle.page_table.specs.Grants.{Chunk}
 use Rattle.page_table.specs.Scattered.{IsScatterList, ScatterList, room_at, run_at}
 use Rattle.page_table.proofs.Scattered.{address_at-add, address_at-fits, room_at-add}
 use Rattle.clip_spans.specs.declared.Span.{Span}
-use Rattle.std.proofs.lemmas.List.{append-nil}
-use Rattle.planar_plan.proofs.Cuts.{next_span}
+use Rattle.std.proofs.lemmas.List.{append-nil, take_more}
+use Rattle.planar_plan.proofs.Cuts.{pieces-append}
 use Rattle.picture_model.specs.declared.Piece.{Piece}
-use Rattle.picture_model.specs.Plans.{Strip, Track, address_of, Cut, bytes_free, cut, cuts_from, cuts_of, longest, most_of, piece_of, pieces_of, span_cuts}
+use Rattle.picture_model.specs.Plans.{FitsTrack, Strip, Track, address_of, Cut, bytes_free, cut, cuts_from, cuts_of, longest, most_of, piece_of, pieces_of, span_cuts, track}
 use Rattle.planar_plan.proofs.Bounds.{fewer_grains}
 use Rattle.planar_plan.proofs.Reaching.{all_held, run_parts}
 use Rattle.std.specs.List.{All}
 use Rattle.std.proofs.lemmas.List.Elements.{All-append, All-cons, All-nil}
-use Rattle.planar_plan.specs.Lines.{AreHeld, CountsFit, IsHeld}
+use Rattle.planar_plan.specs.Lines.{AreHeld, AreWithin, CountsFit, IsHeld, strip_of, track_of}
+use Rattle.planar_plan.specs.declared.cut.Line.{Line}
 use Rattle.planar_plan.specs.declared.stretch.Stretch.{Stretch}
 use Rattle.planar_plan.specs.declared.stretch.Stretches.{Stretches}
-use Rattle.planar_plan.specs.Stretches.{AreStretches, IsStretch, StandsAt, place_on}
+use Rattle.planar_plan.specs.Stretches.{AreStretches, FitsInOne, IsStretch, IsWhole, StandsAt, WholeLine, piece_in, pieces_in, place_on, whole_line}
 
 -- the bytes left at a grain hold the grains that are left
 
@@ -103,18 +107,75 @@ whole_cut : (memory : List Chunk) (strip : Strip) (s : Span) (w : Stretches) →
 whole_cut memory strip s w are some within =
     one_cut (s.to - s.from) (s.to - s.from - 1) memory strip s s.from (omega arith) (longest_whole memory strip s w are some within)
 
+-- the pieces of a span
+
+piece_is : (memory : List Chunk) (line : Line) (w : Stretches) (s : Span) → AreStretches memory (strip_of line) w → s.from < s.to → s.to ≤ line.grains → piece_in line w s ≡ piece_of memory (strip_of line) (cut s.from (s.to - s.from) s.clipped)
+piece_is memory line w s are some within =
+    let one = place_of memory s.clipped line.grains s.from (track_of line.one) w.one (omega arith) are.one in
+    let two = place_of memory s.clipped line.grains s.from (track_of line.two) w.two (omega arith) are.two in
+    let three = place_of memory s.clipped line.grains s.from (track_of line.three) w.three (omega arith) are.three in
+    cc
+
+some_pieces : (line : Line) (w : Stretches) (s : Span) → s.from < s.to → pieces_in (whole_line line w) s ≡ piece_in line w s ∷ []
+some_pieces line w s some = rw (lt-ltb s.from s.to some) refl
+
+no_pieces : (line : Line) (w : Stretches) (s : Span) → s.to ≤ s.from → pieces_in (whole_line line w) s ≡ []
+no_pieces line w s none = rw (le-ltb s.from s.to none) refl
+
+pieces_are : (memory : List Chunk) (line : Line) (w : Stretches) (s : Span) → AreStretches memory (strip_of line) w → s.to ≤ line.grains → pieces_in (whole_line line w) s ≡ pieces_of memory (strip_of line) (span_cuts memory (strip_of line) s)
+pieces_are memory line w s are within =
+    ⊎_elim
+    (λ some.
+    some_pieces line w s some
+    ∙ ap (λ (p : Piece). p ∷ []) (piece_is memory line w s are some within)
+    ∙ ap (pieces_of memory (strip_of line)) (sym (whole_cut memory (strip_of line) s w are some within)))
+    (λ none. no_pieces line w s none ∙ ap (pieces_of memory (strip_of line)) (sym (no_cut memory (strip_of line) s none)))
+    (cases_lt s.from s.to)
+
+pub stretches-IsWhole : (memory : List Chunk) (line : Line) (w : Stretches) → AreStretches memory (strip_of line) w → IsWhole memory (strip_of line) (whole_line line w)
+stretches-IsWhole memory line w are =
+    record { grains = refl; pieces = λ s within. pieces_are memory line w s are within }
+
+-- a line in stretches, and one that one piece could move
+
+fits_track : (memory : List Chunk) (grains size : ℕ) (start : Option ℕ) (w : Stretch) → grains * size ≤ 4092 → StandsAt memory grains size start w → FitsTrack memory false 0 grains (track size start)
+fits_track memory grains size None w few stands = record { few = few; whole = tt }
+fits_track memory grains size (Some start) w few stands =
+    let here : start ≡ start + 0 * size = omega arith in
+    record { few = few; whole = subst (λ (from : ℕ). grains * size ≤ room_at memory from) here stands.1 }
+
+pub stretches-FitsInOne : (memory : List Chunk) (strip : Strip) (w : Stretches) → AreStretches memory strip w → FitsInOne memory strip
+stretches-FitsInOne memory strip w are =
+    record {
+      some = are.one.some;
+      fits = record {
+        within = omega arith;
+        one = fits_track memory strip.grains strip.one.size strip.one.start w.one are.one.fit.0 are.one.stands;
+        two = fits_track memory strip.grains strip.two.size strip.two.start w.two are.two.fit.0 are.two.stands;
+        three = fits_track memory strip.grains strip.three.size strip.three.start w.three are.three.fit.0 are.three.stands;
+      };
+    }
+
+-- the spans of a line
+
+pub AreWithin-at : (grains : ℕ) (spans : List Span) (k : ℕ) (none : Span) → AreWithin grains spans → k < length spans → (get_or spans k none).to ≤ grains
+AreWithin-at grains [] k none within below = absurd (omega arith)
+AreWithin-at grains (s ∷ rest) zero none within below = within.1
+AreWithin-at grains (s ∷ rest) (suc k) none within below = AreWithin-at grains rest k none within.2 (omega arith)
+
+pub whole-pieces : (memory : List Chunk) (strip : Strip) (w : WholeLine) (spans : List Span) → IsWhole memory strip w → AreWithin strip.grains spans → flat_map (pieces_in w) spans ≡ pieces_of memory strip (cuts_of memory strip spans)
+whole-pieces memory strip w [] is within = refl
+whole-pieces memory strip w (s ∷ rest) is within =
+    ap (λ (ps : List Piece). ps ++ flat_map (pieces_in w) rest) (is.pieces s within.1)
+    ∙ ap (λ (ps : List Piece). pieces_of memory strip (span_cuts memory strip s) ++ ps) (whole-pieces memory strip w rest is within.2)
+    ∙ sym (pieces-append memory strip (span_cuts memory strip s) (cuts_of memory strip rest))
+
 -- one span more
-
-module _ (memory : List Chunk) (strip : Strip) (s : Span) (rest : List Span) (out new all : List Piece) (whole : out ++ pieces_of memory strip (cuts_of memory strip (s ∷ rest)) ≡ all) where
-  pub next_whole : (w : Stretches) (piece : Piece) → AreStretches memory strip w → s.from < s.to → s.to ≤ strip.grains → piece ≡ piece_of memory strip (cut s.from (s.to - s.from) s.clipped) → new ≡ out ++ piece ∷ [] → new ++ pieces_of memory strip (cuts_of memory strip rest) ≡ all
-  next_whole w piece are some within is added =
-      let k = cut s.from (s.to - s.from) s.clipped in
-      let cuts : span_cuts memory strip s ≡ k ∷ [] = whole_cut memory strip s w are some within in
-      next_span memory strip s rest out new all (added ∙ ap (λ (p : Piece). out ++ p ∷ []) is ∙ ap (λ (cs : List Cut). out ++ pieces_of memory strip cs) (sym cuts)) whole
-
-  pub next_empty : s.to ≤ s.from → new ≡ out → new ++ pieces_of memory strip (cuts_of memory strip rest) ≡ all
-  next_empty none same =
-      next_span memory strip s rest out new all (same ∙ sym (append-nil out) ∙ ap (λ (cs : List Cut). out ++ pieces_of memory strip cs) (sym (no_cut memory strip s none))) whole
+pub more_spans : (f : Span → List Piece) (spans : List Span) (k : ℕ) (none : Span) (next : List Piece) → k < length spans → next ≡ f (get_or spans k none) → flat_map f (take k spans) ++ next ≡ flat_map f (take (k + 1) spans)
+more_spans f spans k none next below is =
+    ap (λ (ps : List Piece). flat_map f (take k spans) ++ ps) (is ∙ sym (append-nil (f (get_or spans k none))))
+    ∙ sym (flat_map-append f (take k spans) (get_or spans k none ∷ []))
+    ∙ ap (flat_map f) (sym (take_more spans k none below))
 
 pub counts_added : (out new : List Piece) (piece : Piece) → CountsFit piece → new ≡ out ++ piece ∷ [] → All CountsFit out → All CountsFit new
 counts_added out new piece fits added before =

@@ -1,8 +1,13 @@
 -- Lines each span of which is one piece.
-use Rattle.std.specs.Prelude.{◌≡◌, ℕ, ◌+◌, ◌*◌, ◌^◌, ◌≤◌, Bool, true, false, List, Option, Some, None}
+use Rattle.std.specs.Prelude.{◌≡◌, ℕ, ◌+◌, ◌-◌, ◌*◌, ◌^◌, ◌≤◌, Bool, true, false, List, [], ◌∷◌, Option, Some, None, if◌then◌else◌, nat_lt}
 use Rattle.page_table.specs.Grants.{Chunk}
 use Rattle.page_table.specs.Scattered.{address_at, room_at}
-use Rattle.picture_model.specs.Plans.{Strip, Track}
+use Rattle.clip_spans.specs.Runs.{span}
+use Rattle.clip_spans.specs.declared.Span.{Span}
+use Rattle.picture_model.specs.declared.Piece.{Piece}
+use Rattle.picture_model.specs.Plans.{Fits, Strip, Track, cut, ends_of, kind_of, pieces_of, span_cuts}
+use Rattle.planar_plan.specs.Lines.{strip_of}
+use Rattle.planar_plan.specs.declared.cut.Line.{Line}
 use Rattle.planar_plan.specs.declared.stretch.Stretch.{Stretch}
 use Rattle.planar_plan.specs.declared.stretch.Stretches.{Stretches}
 
@@ -34,3 +39,35 @@ pub record AreStretches (memory : List Chunk) (strip : Strip) (w : Stretches) : 
 
 abbrev pub AreFit : Strip → Stretches → Type 0
 AreFit strip w = IsFit strip.grains strip.one.size w.one × IsFit strip.grains strip.two.size w.two × IsFit strip.grains strip.three.size w.three
+
+-- one piece could move a whole line
+pub record FitsInOne (memory : List Chunk) (strip : Strip) : Type 0 where
+  pub some : 1 ≤ strip.grains
+  pub fits : Fits memory strip (span 0 strip.grains false) 0 strip.grains
+
+-- a line each span of which is one piece
+pub record WholeLine : Type 0 where
+  pub line : Line
+  pub stretches : Stretches
+
+abbrev pub whole_line : Line → Stretches → WholeLine
+whole_line line w = record { line = line; stretches = w }
+
+-- the piece of a span that isn't empty
+abbrev pub piece_in : Line → Stretches → Span → Piece
+piece_in line w s =
+    record {
+      kind = kind_of s.clipped line.kind;
+      ends = ends_of (strip_of line) (cut s.from (s.to - s.from) s.clipped);
+      counts = (s.to - s.from) * line.one.size ∷ (s.to - s.from) * line.two.size ∷ (s.to - s.from) * line.three.size ∷ [];
+      addrs = place_on w.one s.clipped s.from ∷ place_on w.two s.clipped s.from ∷ place_on w.three s.clipped s.from ∷ [];
+    }
+
+-- the pieces of a span: one, or none where the span is empty
+abbrev pub pieces_in : WholeLine → Span → List Piece
+pieces_in w s = if nat_lt s.from s.to then piece_in w.line w.stretches s ∷ [] else []
+
+-- the pieces of each span are those of the line's plan
+pub record IsWhole (memory : List Chunk) (strip : Strip) (w : WholeLine) : Type 0 where
+  pub grains : w.line.grains ≡ strip.grains
+  pub pieces : (s : Span) → s.to ≤ strip.grains → pieces_in w s ≡ pieces_of memory strip (span_cuts memory strip s)

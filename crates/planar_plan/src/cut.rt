@@ -8,7 +8,7 @@ ghost use Rattle.page_table.specs.Scattered.{ScatterList, address_at, room_at};
 ghost use Rattle.picture_model.specs.Plans.{address_of, cut, cuts_of, grains_of, in_grains, longest, most, most_of, piece_of, pieces_of, span_cuts};
 ghost use Rattle.planar_plan.specs.Lines.{AreHeld, AreWindows, AreWithin, CanBeCut, CountsFit, IsHeld, IsWindow, Reaches, strip_of, track_of};
 
-use crate::stretch::{stretches_of, whole_pieces};
+use crate::stretch::WholeRow;
 use clip_spans::Span;
 use page_table::Scatter;
 use picture_model::{Piece, PieceKind};
@@ -90,6 +90,15 @@ impl Model for RowSpans {
     ghost Value = { SpansOfRows };
 
     ghost view = { λ s. spans_of_rows s.from s.to s.spans.items };
+}
+
+impl RowSpans {
+    /// The spans, which are counted in grains.
+    pub fn as_slice(&self) -> &[Span]
+        ensures { result.now ≡ self.now.spans }
+    {
+        &self.spans
+    }
 }
 
 // What a line moves on a plane: the bytes of a grain, and the offset of the line's first byte, where it
@@ -429,8 +438,8 @@ fn cut_row(
     ensures pieces { IfOk result (λ _. pieces.new.items ≡ pieces_of scatter.now.chunks (strip_of line.now) (cuts_of scatter.now.chunks (strip_of line.now) spans.now)) }
     ensures counts { IfOk result (λ _. All CountsFit pieces.new.items) }
 {
-    match stretches_of(scatter, line) {
-        Some(stretches) => whole_pieces(line, &stretches, spans, pieces),
+    match WholeRow::of(scatter, line) {
+        Some(row) => row.cut(spans, pieces),
         None => cut_spans(scatter, line, spans, pieces),
     }
 }

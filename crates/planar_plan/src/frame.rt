@@ -1,7 +1,7 @@
 //! A frame and the plans of its lines.
 
-ghost use Rattle.std.specs.Prelude.{◌≡◌, ◌<◌, take, true, IfOk, None};
-ghost use Rattle.std.specs.List.{All};
+ghost use Rattle.std.specs.Prelude.{◌≡◌, ◌<◌, ◌≤◌, length, take, true, IfOk, IfSome, None};
+ghost use Rattle.std.specs.List.{All, flat_map};
 ghost use Rattle.capture_desc.specs.WellFormed.{IsWellFormed};
 ghost use Rattle.clip_spans.specs.Clipping.{next_edge};
 ghost use Rattle.page_table.specs.Taken.{in_order};
@@ -9,13 +9,15 @@ ghost use Rattle.picture_model.specs.Described.{IsDescription, describes, field_
 ghost use Rattle.picture_model.specs.Geometry.{first_after, frame_fault, frame_faults};
 ghost use Rattle.picture_model.specs.Plans.{row_plan, row_strip, skipped_plan, vbi_plan};
 ghost use Rattle.planar_plan.specs.Frames.{HasScatter, IsFramed, Judges};
-ghost use Rattle.planar_plan.specs.Lines.{AreSpansOf, CountsFit};
+ghost use Rattle.planar_plan.specs.Lines.{AreSpansOf, AreWithin, CountsFit};
+ghost use Rattle.planar_plan.specs.Stretches.{FitsInOne, IsWhole, pieces_in};
 
 use crate::cut::{Pieces, RowSpans, cut_whole, spans_in_grains};
 use crate::judge::{BuildError, highest_end, overlap, size_faults, vbi_range};
 use crate::lines::{row_line, skipped_line, vbi_line};
 use crate::memory::{grants, page_faults, scatter};
 use crate::places::{field_height, taken};
+use crate::stretch::WholeRow;
 use capture_desc::Desc;
 use page_table::{PageSet, Scatter};
 use pixel_layout::{Format, Parity};
@@ -134,8 +136,14 @@ impl Frame {
         })
     }
 
-    // Puts the spans of a row in the place of others, unless they are the same.
-    fn renew(&self, alloc: Global, row: u32, spans: &mut RowSpans) -> Result<(), AllocError>
+    /// Puts the spans of a picture row, and of those after it that the same rectangles meet, in the place of
+    /// others, unless the row is among theirs.
+    pub fn renew_spans(
+        &self,
+        alloc: Global,
+        row: u32,
+        spans: &mut RowSpans,
+    ) -> Result<(), AllocError>
         requires { AreSpansOf self.now spans.old }
         ensures spans { IfOk result (λ _. spans.new.spans ≡ (row_strip self.now row).spans) }
         ensures kept { AreSpansOf self.now spans.new }
@@ -145,6 +153,22 @@ impl Frame {
         }
         *spans = self.row_spans(alloc, row)?;
         Ok(())
+    }
+
+    /// A picture row as one each span of which is one piece: none where one piece couldn't move the whole
+    /// row. Rows are counted from 0, those of both fields together.
+    pub fn whole_row(&self, row: u32) -> Option<WholeRow>
+        requires row { row < self.now.height }
+        requires description { IsDescription self.now }
+        ensures whole { IfSome result (IsWhole (memory_of self.now) (row_strip self.now row)) }
+        ensures plan { IfSome result (λ whole. flat_map (pieces_in whole) (row_strip self.now row).spans ≡ row_plan self.now row) }
+        ensures within { IfSome result (λ whole. AreWithin whole.line.grains (row_strip self.now row).spans) }
+        ensures fits { IfSome result (λ _. FitsInOne (memory_of self.now) (row_strip self.now row)) }
+        ensures none { result ≡ None → FitsInOne (memory_of self.now) (row_strip self.now row) → ⊥ }
+        ensures few { length (row_strip self.now row).spans ≤ 129 }
+    {
+        let line = row_line(&self.desc, row);
+        WholeRow::of(&self.scatter, &line)
     }
 
     // Puts the pieces of a row with these spans in the place of others.
@@ -189,7 +213,7 @@ impl Frame {
         ensures counts { IfOk result (λ _. All CountsFit pieces.new) }
         ensures spans { AreSpansOf self.now spans.new }
     {
-        self.renew(alloc, row, spans)?;
+        self.renew_spans(alloc, row, spans)?;
         self.cut(row, spans, pieces)
     }
 

@@ -18,3 +18,4 @@ pub use cut::{Pieces, RowSpans};
 pub use frame::Frame;
 pub use judge::BuildError;
 pub use picture_model::{BuildFault, Piece, PieceKind};
+pub use stretch::WholeRow;

@@ -1,14 +1,12 @@
 //! Lines each span of which is one piece.
 
-ghost use Rattle.std.specs.Prelude.{◌≡◌, ◌+◌, ◌-◌, ◌*◌, ◌^◌, ◌<◌, ◌≤◌, ◌∷◌, [], List, None, IfOk, IfSome};
-ghost use Rattle.std.specs.List.{All};
-ghost use Rattle.page_table.specs.Grants.{Chunk};
+ghost use Rattle.std.specs.Prelude.{◌≡◌, ◌↔◌, ◌+◌, ◌*◌, ◌^◌, ◌<◌, ◌≤◌, ◌∷◌, [], None, false, IfOk, IfSome};
+ghost use Rattle.std.specs.List.{All, flat_map};
+ghost use Rattle.std.specs.Option.{option_to_list};
 ghost use Rattle.page_table.specs.Scattered.{ScatterList};
-ghost use Rattle.picture_model.specs.Plans.{cut, cuts_of, piece_of, pieces_of};
+ghost use Rattle.picture_model.specs.Plans.{FitsTrack};
 ghost use Rattle.planar_plan.specs.Lines.{AreWithin, CanBeCut, CountsFit, IsHeld, strip_of, track_of};
-ghost use Rattle.planar_plan.specs.Stretches.{AreFit, AreStretches, IsStretch, place_on};
-ghost use Rattle.planar_plan.specs.declared.stretch.Stretch.{Stretch};
-ghost use Rattle.planar_plan.specs.declared.stretch.Stretches.{Stretches};
+ghost use Rattle.planar_plan.specs.Stretches.{AreFit, AreStretches, FitsInOne, IsStretch, IsWhole, piece_in, pieces_in, place_on};
 
 use crate::cut::{Line, MOST_BYTES, PlaneTrack, bytes};
 use clip_spans::Span;
@@ -16,6 +14,7 @@ use page_table::Scatter;
 use picture_model::{Piece, PieceKind};
 use risc_word::Ends;
 use std::alloc::AllocError;
+use std::marker::Model;
 
 // Where the bytes of a track stand, which lie in one chunk and are no more than a piece may have: the
 // address of the first, and the bytes from grain to grain. Both are 0 where the track isn't written.
@@ -33,12 +32,30 @@ pub(crate) struct Stretches {
     pub(crate) three: Stretch,
 }
 
+/// A row each span of which is one piece. Contracts see the row and where its bytes stand.
+#[derive(Drop)]
+pub struct WholeRow {
+    line: Line,
+    stretches: Stretches,
+}
+
+impl Model for WholeRow {
+    ghost use Rattle.planar_plan.specs.Lines.{strip_of};
+    ghost use Rattle.planar_plan.specs.Stretches.{AreFit, WholeLine, whole_line};
+
+    ghost Value = { WholeLine };
+
+    ghost view = { λ row. whole_line row.line row.stretches };
+
+    ghost invariant = { λ row. AreFit (strip_of row.line) row.stretches };
+}
+
 // The stretch of a track of so many grains, where it is one.
 fn stretch_of(scatter: &Scatter, grains: u32, track: PlaneTrack) -> Option<Stretch>
     requires len { scatter.now.len ≤ 2 ^ 32 }
     requires held { IsHeld scatter.now grains (track_of track) }
     ensures stretch { IfSome result (IsStretch scatter.now.chunks grains (track_of track)) }
-    ensures none { result ≡ None → (w : Stretch) → IsStretch scatter.now.chunks grains (track_of track) w → ⊥ }
+    ensures none { result ≡ None → 1 ≤ grains → FitsTrack scatter.now.chunks false 0 grains (track_of track) → ⊥ }
 {
     let bytes = u64::from(grains) * u64::from(track.size);
     if grains == 0 || u64::from(MOST_BYTES) < bytes {
@@ -64,7 +81,7 @@ fn stretch_of(scatter: &Scatter, grains: u32, track: PlaneTrack) -> Option<Stret
 pub(crate) fn stretches_of(scatter: &Scatter, line: &Line) -> Option<Stretches>
     requires { CanBeCut scatter.now (strip_of line.now) }
     ensures stretches { IfSome result (AreStretches scatter.now.chunks (strip_of line.now)) }
-    ensures none { result ≡ None → (w : Stretches) → AreStretches scatter.now.chunks (strip_of line.now) w → ⊥ }
+    ensures none { result ≡ None → FitsInOne scatter.now.chunks (strip_of line.now) → ⊥ }
 {
     Some(Stretches {
         one: stretch_of(scatter, line.grains, line.one)?,
@@ -83,71 +100,85 @@ fn address_at(stretch: Stretch, at: u32) -> u32
     stretch.address + at * stretch.step
 }
 
-// The addresses of a grain on the three planes, 0 where it is clipped.
-#[inline(always)]
-fn places_on(stretches: &Stretches, clipped: bool, at: u32) -> [u32; 3]
-    requires one { stretches.now.one.address + (at + 1) * stretches.now.one.step ≤ 2 ^ 32 }
-    requires two { stretches.now.two.address + (at + 1) * stretches.now.two.step ≤ 2 ^ 32 }
-    requires three { stretches.now.three.address + (at + 1) * stretches.now.three.step ≤ 2 ^ 32 }
-    ensures { result ≡ place_on stretches.now.one clipped at ∷ place_on stretches.now.two clipped at ∷ place_on stretches.now.three clipped at ∷ [] }
-{
-    if clipped {
-        return [0; 3];
-    }
-    [
-        address_at(stretches.one, at),
-        address_at(stretches.two, at),
-        address_at(stretches.three, at),
-    ]
-}
-
 // The piece of a span.
 #[inline(always)]
-fn whole_piece(line: &Line, stretches: &Stretches, span: Span) -> Piece
+fn piece_in(line: &Line, stretches: &Stretches, span: Span) -> Piece
     requires some { span.from < span.to }
     requires within { span.to ≤ line.now.grains }
     requires fit { AreFit (strip_of line.now) stretches.now }
-    ensures piece { (memory : List Chunk) → AreStretches memory (strip_of line.now) stretches.now → result ≡ piece_of memory (strip_of line.now) (cut span.from (span.to - span.from) span.clipped) }
+    ensures piece { result ≡ piece_in line.now stretches.now span }
     ensures counts { CountsFit result }
 {
     let grains = span.to - span.from;
+    let sol = span.from == 0;
+    let eol = span.to == line.grains;
+    let counts = [
+        bytes(grains, line.one.size, line.grains),
+        bytes(grains, line.two.size, line.grains),
+        bytes(grains, line.three.size, line.grains),
+    ];
+    if span.clipped {
+        return Piece {
+            kind: PieceKind::Skip,
+            ends: Ends { sol, eol },
+            counts,
+            addrs: [0; 3],
+        };
+    }
     Piece {
-        kind: if span.clipped {
-            PieceKind::Skip
-        } else {
-            line.kind
-        },
-        ends: Ends {
-            sol: span.from == 0,
-            eol: span.from + grains == line.grains,
-        },
-        counts: [
-            bytes(grains, line.one.size, line.grains),
-            bytes(grains, line.two.size, line.grains),
-            bytes(grains, line.three.size, line.grains),
+        kind: line.kind,
+        ends: Ends { sol, eol },
+        counts,
+        addrs: [
+            address_at(stretches.one, span.from),
+            address_at(stretches.two, span.from),
+            address_at(stretches.three, span.from),
         ],
-        addrs: places_on(stretches, span.clipped, span.from),
     }
 }
 
-// Puts the pieces of a line with these spans, each of which is one, in the place of others.
-#[inline(never)]
-pub(crate) fn whole_pieces(
-    line: &Line,
-    stretches: &Stretches,
-    spans: &[Span],
-    pieces: &mut Vec<Piece>,
-) -> Result<(), AllocError>
-    requires grains { AreWithin line.now.grains spans.now }
-    requires fit { AreFit (strip_of line.now) stretches.now }
-    ensures pieces { (memory : List Chunk) → AreStretches memory (strip_of line.now) stretches.now → IfOk result (λ _. pieces.new.items ≡ pieces_of memory (strip_of line.now) (cuts_of memory (strip_of line.now) spans.now)) }
-    ensures counts { IfOk result (λ _. All CountsFit pieces.new.items) }
-{
-    pieces.clear();
-    for span in spans {
+impl WholeRow {
+    // The line as one whose spans are each one piece, where it is one.
+    pub(crate) fn of(scatter: &Scatter, line: &Line) -> Option<WholeRow>
+        requires { CanBeCut scatter.now (strip_of line.now) }
+        ensures whole { IfSome result (IsWhole scatter.now.chunks (strip_of line.now)) }
+        ensures fits { IfSome result (λ _. FitsInOne scatter.now.chunks (strip_of line.now)) }
+        ensures none { result ≡ None → FitsInOne scatter.now.chunks (strip_of line.now) → ⊥ }
+    {
+        let stretches = stretches_of(scatter, line)?;
+        Some(WholeRow {
+            line: *line,
+            stretches,
+        })
+    }
+
+    /// The piece of a span, which is counted in grains: none where the span is empty.
+    #[inline(always)]
+    pub fn piece(&self, span: Span) -> Option<Piece>
+        requires within { span.to ≤ self.now.line.grains }
+        ensures piece { option_to_list result ≡ pieces_in self.now span }
+        ensures none { (result ≡ None) ↔ (span.to ≤ span.from) }
+        ensures counts { IfSome result CountsFit }
+    {
         if span.from < span.to {
-            pieces.push(whole_piece(line, stretches, *span))?;
+            Some(piece_in(&self.line, &self.stretches, span))
+        } else {
+            None
         }
     }
-    Ok(())
+
+    // Puts the pieces of these spans in the place of others.
+    pub(crate) fn cut(&self, spans: &[Span], pieces: &mut Vec<Piece>) -> Result<(), AllocError>
+        requires { AreWithin self.now.line.grains spans.now }
+        ensures pieces { IfOk result (λ _. pieces.new.items ≡ flat_map (pieces_in self.now) spans.now) }
+        ensures counts { IfOk result (λ _. All CountsFit pieces.new.items) }
+    {
+        pieces.clear();
+        for span in spans {
+            if let Some(piece) = self.piece(*span) {
+                pieces.push(piece)?;
+            }
+        }
+        Ok(())
+    }
 }

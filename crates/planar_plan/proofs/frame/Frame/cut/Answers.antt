@@ -4,10 +4,9 @@ use Rattle.page_table.specs.Scattered.{ScatterList}
 use Rattle.clip_spans.specs.declared.Span.{Span}
 use Rattle.capture_desc.specs.declared.desc.Desc.{Desc}
 use Rattle.picture_model.specs.Described.{IsDescription, layout_of, memory_of}
-use Rattle.picture_model.specs.Plans.{Strip, grain_clipped, grains_of, row_plan, row_strip}
-use Rattle.picture_model.proofs.Spans.{row_runs}
+use Rattle.picture_model.specs.Plans.{Strip, grains_of, row_plan, row_strip}
 use Rattle.planar_plan.specs.Lines.{AreWithin, CanBeCut, SpansOfRows, strip_of}
-use Rattle.planar_plan.proofs.Held.{is_right, pieces-plan, row-CanBeCut, runs_within}
+use Rattle.planar_plan.proofs.Held.{is_right, pieces-plan, row-AreWithin, row-CanBeCut}
 use Rattle.planar_plan.proofs.frame.Frame.cut.Goals as goal
 
 pub cut_row-requires-clause-line : goal.cut_row-requires-clause-line
@@ -29,7 +28,7 @@ cut_row-requires-clause-grains c =
     let right = is_right d c.self.invariant.framed (subst IsDescription (sym c.self.view_is) c.requires.description).clips in
     let grains = grains_of (layout_of d) d.width in
     let same : c.row_line-line.result.grains ≡ grains = ap (λ (l : Strip). l.grains) c.row_line-line.ensures in
-    let within = runs_within (grain_clipped d c.args.row) grains c.row_line-line.result.grains 0 (row_strip d c.args.row).spans (omega arith) (row_runs d c.args.row right) in
+    let within = row-AreWithin d c.args.row c.row_line-line.result.grains right (omega arith) in
     subst (AreWithin c.row_line-line.result.grains)
     (sym (spans_are d c.args.self.now c.args.row c.deref.result.now c.spans.inside.spans.items c.args.spans.now c.self.view_is c.deref.ensures.value (ap (λ (k : SpansOfRows). k.spans) (sym c.spans.view_is)) c.requires.spans))
     within
