@@ -2,7 +2,7 @@
 use Rattle.std.proofs.Common.{◌≡◌, ℕ, ◌+◌, ◌*◌, ◌%◌, ◌^◌, ◌<◌, ◌≤◌, Bool, true, false, cond, List, [], ◌∷◌, ◌++◌, length, Option, None, Result, Ok, refl, sym, ap, subst, ◌∙◌, arith, append_assoc, length-append}
 use Rattle.std.specs.Prelude.{◌==◌}
 use Rattle.std.specs.List.{All, flat_map, list_all}
-use Rattle.std.proofs.lemmas.Bool.{le-leb, le-ltb, eqb-true, ne_eqb}
+use Rattle.std.proofs.lemmas.Bool.{and_parts, le-leb, le-ltb, eqb-true, ne_eqb}
 use Rattle.std.proofs.lemmas.List.{drop_at}
 use Rattle.std.proofs.lemmas.List.Elements.{All-head, All-tail}
 use Rattle.byteorder.specs.Endian.{little_number, little_bytes}
@@ -14,7 +14,6 @@ use Rattle.capture_file.specs.declared.FileFault.{FileFault}
 use Rattle.capture_file.specs.declared.program.Layout.{Layout}
 use Rattle.capture_file.specs.declared.program.Layout.TheVariants.{Paged, Chunked}
 use Rattle.capture_file.specs.declared.program.ProgramFile.{ProgramFile}
-use Rattle.capture_file.proofs.Chunks.{both_true}
 use Rattle.capture_file.specs.Programs.{◌>>=◌, Field, number_field, layout_field, base_field, word_count_field, words_in, words_field, chunk_count_field, page_field, long_chunk_field, chunk_field, chunks_field, fill_field, program_in, program_of, without_grants, base_fault, word_count_fault, chunk_count_fault, page_fault, address_fault, length_fault, fill_fault, judged, numbers_spelled, page_spelled, chunk_spelled, name_of, grants_spelled, head_spelled, spelled_as, layout_for, spelled}
 
 -- ---- numbers
@@ -134,7 +133,7 @@ Fits Chunked sum c = sum + c.len ≤ 16777216
 one_again : (layout : Layout) (size : ℕ) (program : RiscProgram) (from sum : ℕ) (c : Chunk) (rest : List ℕ) → IsChunk c → from ≤ c.at → Fits layout sum c → shares_byte program c ≡ false →
     chunk_field layout size program from sum (one layout c ++ rest) ≡ Ok (c, rest)
 one_again Paged size program from sum c rest is le page apart =
-    let both = both_true (c.at % 4096 == 0) (c.len == 4096) page in
+    let both = and_parts (c.at % 4096 == 0) (c.len == 4096) page in
     let paged : c.at % 4096 ≡ 0 = eqb-true (c.at % 4096) 0 both.0 in
     let len : c.len ≡ 4096 = eqb-true c.len 4096 both.1 in
     let some = is.some in
@@ -149,7 +148,7 @@ AllFit Paged sum chunks = list_all is_page chunks ≡ true
 AllFit Chunked sum chunks = sum + total chunks ≤ 16777216
 
 fit_head : (layout : Layout) (sum : ℕ) (c : Chunk) (chunks : List Chunk) → AllFit layout sum (c ∷ chunks) → Fits layout sum c × AllFit layout (sum + c.len) chunks
-fit_head Paged sum c chunks h = both_true (is_page c) (list_all is_page chunks) h
+fit_head Paged sum c chunks h = and_parts (is_page c) (list_all is_page chunks) h
 fit_head Chunked sum c chunks h = (omega (arith, total-cons c chunks), omega (arith, total-cons c chunks))
 
 pub chunks_again : (layout : Layout) (size : ℕ) (program : RiscProgram) (from sum : ℕ) (chunks : List Chunk) (rest : List ℕ) → AreRising from chunks → All (λ c. shares_byte program c ≡ false) chunks → AllFit layout sum chunks →

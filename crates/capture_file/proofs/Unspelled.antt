@@ -3,7 +3,7 @@ use Rattle.std.proofs.Common.{◌≡◌, ℕ, zero, suc, ◌+◌, ◌*◌, ◌%�
 use Rattle.std.specs.Prelude.{nat_lt, nat_le, ◌==◌, codes}
 use Rattle.std.specs.List.{All, flat_map, list_all}
 use Rattle.std.specs.Int.{w32, from_le_bytes}
-use Rattle.std.proofs.lemmas.Bool.{leb-true, eqb-true}
+use Rattle.std.proofs.lemmas.Bool.{and_parts, leb-true, eqb-true}
 use Rattle.std.proofs.lemmas.Nat.{le_bytes_4}
 use Rattle.std.proofs.lemmas.List.Elements.{All-cons}
 use Rattle.byteorder.specs.Endian.{little_number, little_bytes}
@@ -15,7 +15,7 @@ use Rattle.capture_file.specs.declared.program.Layout.{Layout}
 use Rattle.capture_file.specs.declared.program.Layout.TheVariants.{Paged, Chunked}
 use Rattle.capture_file.specs.declared.program.ProgramFile.{ProgramFile}
 use Rattle.capture_file.specs.Programs.{◌>>=◌, number_field, layout_field, layout_or_magic, base_field, word_count_field, words_in, words_field, chunk_count_field, page_field, long_chunk_field, chunk_field, chunks_field, fill_field, program_of, without_grants, base_fault, word_count_fault, chunk_count_fault, page_fault, address_fault, length_fault, fill_fault, judged, nothing_after, numbers_spelled, page_spelled, chunk_spelled, name_of, layout_for, spelled, spelled_as, cut, IsFile}
-use Rattle.capture_file.proofs.Chunks.{bind_ok, judged_ok, ok_is, no_fault, not_false, both_true, IsBytes, IsBytes-drop, chunks_read, totals_small}
+use Rattle.capture_file.proofs.Chunks.{bind_ok, judged_ok, ok_is, no_fault, not_false, IsBytes, IsBytes-drop, chunks_read, totals_small, some_fault}
 use Rattle.capture_file.proofs.Spelled.{one, tail_of, line_of, in_line, with_layout, with_base, with_count, with_words, with_chunk_count, with_chunks, field_by_field}
 
 -- ---- numbers
@@ -96,10 +96,6 @@ judged_number fault size bytes x e =
     let same : a.0 ≡ x = ok_is a.0 x b.2 in
     subst (λ (p : ℕ × List ℕ). (number_field size bytes ≡ Ok p) × (fault p.0 ≡ None)) same (a.1, judged_ok (fault a.0.0) size bytes b.0 b.1)
 
-some_fault : (b : Bool) (kind : FileKind) → cond b None (Some kind) ≡ None → b ≡ true
-some_fault true kind e = refl
-some_fault false kind e = absurd (cc)
-
 base_takes : (size : ℕ) (bytes : List ℕ) (x : ℕ × List ℕ) → IsBytes bytes → base_field size bytes ≡ Ok x → Takes bytes (little_bytes 4 x.0) x.1 × (x.0 < 2 ^ 32) × (x.0 % 4 ≡ 0)
 unfolding base_field
 base_takes size bytes x fits e =
@@ -113,7 +109,7 @@ unfolding word_count_field
 word_count_takes size base bytes x fits e =
     let a = judged_number (word_count_fault base) size bytes x e in
     let n = number_takes size bytes x fits a.0 in
-    let right = both_true (nat_le x.0 1048576) (nat_le (base + 4 * x.0) (2 ^ 32)) (some_fault (nat_le x.0 1048576 && nat_le (base + 4 * x.0) (2 ^ 32)) fault.Count a.1) in
+    let right = and_parts (nat_le x.0 1048576) (nat_le (base + 4 * x.0) (2 ^ 32)) (some_fault (nat_le x.0 1048576 && nat_le (base + 4 * x.0) (2 ^ 32)) fault.Count a.1) in
     (n.0, leb-true x.0 1048576 right.0, leb-true (base + 4 * x.0) (2 ^ 32) right.1)
 
 chunk_count_takes : (size : ℕ) (bytes : List ℕ) (x : ℕ × List ℕ) → IsBytes bytes → chunk_count_field size bytes ≡ Ok x → Takes bytes (little_bytes 4 x.0) x.1 × (x.0 ≤ 4096)
