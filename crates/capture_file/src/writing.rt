@@ -1,4 +1,4 @@
-//! Program files and images written to a desk.
+//! Program files written to a desk.
 
 ghost use Rattle.byteorder.specs.Endian.{little_bytes};
 ghost use Rattle.capture_desk.specs.Desks.{Puts, WriteCounts, after_write};
