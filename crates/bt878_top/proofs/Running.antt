@@ -8,7 +8,7 @@ use Rattle.command_steps.specs.declared.answer.Answer.TheVariants.{NoMemory, Rea
 use Rattle.command_steps.specs.Desks.{OfFile, OfInput, SameCounts, Seen, StopsAt, apart}
 use Rattle.program_play.specs.Plays.{HasPlayed}
 use Rattle.program_play.specs.Programs.{IsBadStream, IsRun, OfRun, Ran, last_of}
-use Rattle.program_play.proofs.Loading.{same_inputs}
+use Rattle.program_play.proofs.Loading.{rose_from, same_inputs}
 use Rattle.bt878_tasks.specs.Tasks.{StopsAtRun}
 
 -- two inputs
@@ -32,9 +32,6 @@ module _ (Gives : List ℕ → RiscProgram → ℕ → Type 0) (file stream : Li
       (λ a b. (r : Ran) × IsRun Gives a b r × ((m ≡ last_of r) × (filled ≡ r.fill)))
       (λ a b g p. (record { program = program; fill = fill; steps = p.0 }, record { gives = g; reads = p.1 }, (p.2, is))) gives
       (subst (λ inputs. OfInput stream inputs (λ b. HasPlayed b (first_state program fill) m)) (same_inputs mid old same) played)
-
-rose_from : (old mid new : ℕ) → mid ≡ old → HasRisen mid new → HasRisen old new
-rose_from old mid new e h = subst (λ n. HasRisen n new) e h
 
 -- a stop at the stream, seen from before the program was read
 stops_before : (answer : Answer) (name : List ℕ) (old mid new : Seen) → apart mid.told ≡ apart old.told → SameCounts old mid →

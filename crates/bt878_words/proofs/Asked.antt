@@ -1,6 +1,6 @@
 -- What words without a fault are, and the names that they give.
 use Rattle.std.proofs.Common.{◌≡◌, ◌≢◌, ℕ, ◌≤◌, ◌||◌, true, false, Bool, List, [], ◌∷◌, length, Option, Some, None, Result, Ok, Err, refl, sym, ap, subst, ◌∙◌, arith}
-use Rattle.std.proofs.lemmas.Bool.{eqb-true, leb-true}
+use Rattle.std.proofs.lemmas.Bool.{and_parts, eqb-true, leb-true}
 use Rattle.std.specs.Prelude.{◌==◌, ◌&&◌, nat_le, if◌then◌else◌}
 use Rattle.std.specs.Str.{bytes_eq}
 use Rattle.std.proofs.lemmas.Slice.Eq.{bytes_eq-Decides}
@@ -281,10 +281,6 @@ frames_of : Result Command UsageFault → ℕ
 frames_of (Ok (command.Make seed frames)) = frames
 frames_of _ = 0
 
-both_true : (a b : Bool) → (a && b) ≡ true → (a ≡ true) × (b ≡ true)
-both_true true b e = (refl, e)
-both_true false b e = absurd (cc)
-
 few_by : (a b : Option ℕ) (seed frames : ℕ) → made_with a b ≡ Ok (command.Make seed frames) → (1 ≤ frames) × (frames ≤ 16)
 unfolding frames_of
 few_by None b seed frames e = absurd (cc)
@@ -296,7 +292,7 @@ few_by (Some s) (Some f) seed frames e = by_test (nat_le 1 f && nat_le f 16) ref
 
     by_test : (t : Bool) → (nat_le 1 f && nat_le f 16) ≡ t → (if t then Ok (command.Make s f) else Err Number) ≡ Ok (command.Make seed frames) → (1 ≤ frames) × (frames ≤ 16)
     by_test true is e =
-        let both = both_true (nat_le 1 f) (nat_le f 16) is in
+        let both = and_parts (nat_le 1 f) (nat_le f 16) is in
         same_frames e (leb-true 1 f both.0, leb-true f 16 both.1)
     by_test false is e = absurd (cc)
 

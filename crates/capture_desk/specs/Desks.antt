@@ -131,9 +131,13 @@ Puts bytes (Err _) after old new = (n : ℕ) × (n < length bytes) × (new ≡ a
 
 -- ---- counts of faults, by old and new reads and old and new writes
 
+-- one more fault; a count stays at its greatest value
+abbrev pub counted : ℕ → ℕ
+counted n = min (n + 1) (2 ^ 64 - 1)
+
 -- a count rose; one that stands at its greatest value counts as risen
 abbrev pub HasRisen : ℕ → ℕ → Type 0
-HasRisen old new = min (old + 1) (2 ^ 64 - 1) ≤ new
+HasRisen old new = counted old ≤ new
 
 abbrev pub NoFault : ℕ → ℕ → ℕ → ℕ → Type 0
 NoFault reads new_reads writes new_writes = (new_reads ≡ reads) × (new_writes ≡ writes)

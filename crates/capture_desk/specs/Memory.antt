@@ -4,7 +4,7 @@ use Rattle.std.specs.List.{list_any}
 use Rattle.capture_desk.specs.declared.desk.Failed.{Failed}
 use Rattle.capture_desk.specs.declared.desk.OpenFault.{OpenFault}
 use Rattle.capture_desk.specs.declared.desk.OpenFault.TheVariants.{Missing, Failed as OpenFailed}
-use Rattle.capture_desk.specs.Desks.{Inputs, Outputs, Told, created, named, output_named, written}
+use Rattle.capture_desk.specs.Desks.{Inputs, Outputs, Told, counted, created, named, output_named, written}
 
 pub record Memory : Type 0 where
   pub inputs : Inputs
@@ -56,9 +56,6 @@ new_memory inputs opens creates failing longest room =
     }
 
 -- ---- the number of a call, and faults
-
-abbrev pub counted : ℕ → ℕ
-counted n = min (n + 1) (2 ^ 64 - 1)
 
 -- the next call has its number from here on
 abbrev pub called : Memory → Memory

@@ -1,5 +1,5 @@
 -- The desk over the system: what of it can be told.
-use Rattle.std.specs.Prelude.{ℕ, ◌+◌, ◌-◌, ◌^◌, min, Bool, None}
+use Rattle.std.specs.Prelude.{ℕ, Bool, None}
 use Rattle.capture_desk.specs.Desks.{Told}
 
 pub record System : Type 0 where
@@ -7,9 +7,6 @@ pub record System : Type 0 where
   pub output_open : Bool
   pub read_faults : ℕ
   pub write_faults : ℕ
-
-abbrev pub counted : ℕ → ℕ
-counted n = min (n + 1) (2 ^ 64 - 1)
 
 -- no content is told
 abbrev pub only_open : System → Told

@@ -32,7 +32,9 @@ pub trait Desk {
 
     ghost write_faults: { Self → ℕ };
 
-    /// Opens an input at its beginning, in place of the one before.
+    /// Opens an input at its beginning, in place of the one before. Where the desk tells its inputs,
+    /// the error is `Missing` exactly where the name is not among them. It is `Failed` only where the
+    /// count of read faults rose.
     fn open_in(&mut self, name: &str) -> Result<(), OpenFault>
         requires allowed { IsAllowed name.now (told self.old).may_open }
         ensures opens { Opens name.now result (told self.old) (told self.new) }

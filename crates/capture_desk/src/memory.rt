@@ -135,8 +135,10 @@ fn copy_front(buf: &mut [u8], bytes: &[u8], n: usize)
 
 impl MemDesk {
     /// A desk with these inputs, each its name and its bytes, and with the names that may be opened and
-    /// created. All its memory is taken here: `room` bytes for each name that may be created and for
-    /// the text.
+    /// created; of equal names the first counts. The calls whose numbers, counted from 1, stand in
+    /// `failing` fail, and a call moves at most `longest` bytes, which is 1 at least. All its memory is
+    /// taken here: `room` bytes for each name that may be created and for the text. The error is want
+    /// of memory.
     pub fn new(
         alloc: Global,
         inputs: Vec<(Octets, Octets)>,

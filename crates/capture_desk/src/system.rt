@@ -1,6 +1,7 @@
 // The desk over the system's files and its standard output.
 ghost use Rattle.std.specs.Prelude.{false, ◌≡◌};
-ghost use Rattle.capture_desk.specs.System.{System, counted, only_open};
+ghost use Rattle.capture_desk.specs.Desks.{counted};
+ghost use Rattle.capture_desk.specs.System.{System, only_open};
 
 use crate::desk::{Desk, Failed, OpenFault};
 use std::fs;

@@ -17,10 +17,6 @@ use Rattle.capture_file.specs.Readers.{Reader, Taken, taking, resumed, taken, ta
 use Rattle.capture_file.proofs.Fields.{number_at-four, record_at-spans, record_at-passes}
 use Rattle.capture_file.proofs.Readings.{records-front, front_of}
 
-abbrev reader : ℕ → Bool → Phase → ℕ → ℕ → List ℕ → Reader
-reader limit chained phase place turns held =
-    record { limit = limit; chained = chained; phase = phase; place = place; turns = turns; held = held }
-
 -- so much of a piece is used, and the place moves by it
 abbrev Moves : Reader → List ℕ → Taken → Type 0
 Moves r piece t = Uses t.answer t.used (length piece) × Counts t.answer (r.place + t.used) t.reader.place

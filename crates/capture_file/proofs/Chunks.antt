@@ -2,7 +2,7 @@
 use Rattle.std.proofs.Common.{◌≡◌, ℕ, zero, suc, ◌+◌, ◌*◌, ◌%◌, ◌^◌, max, ◌<◌, ◌≤◌, Bool, true, false, cond, not, ◌&&◌, List, [], ◌∷◌, ◌++◌, length, get_or, drop, Option, Some, None, Result, Ok, Err, refl, sym, ap, subst, ◌∙◌, arith, append_assoc}
 use Rattle.std.specs.Prelude.{nat_lt, nat_le, ◌==◌}
 use Rattle.std.specs.List.{All, list_any, position, prefix_len}
-use Rattle.std.proofs.lemmas.Bool.{ltb-false, leb-true, eqb-true, le-ltb, lt-ltb, le-leb}
+use Rattle.std.proofs.lemmas.Bool.{and_parts, ltb-false, leb-true, eqb-true, le-ltb, lt-ltb, le-leb}
 use Rattle.std.proofs.lemmas.List.{get_or-drop, append-nil}
 use Rattle.std.proofs.lemmas.List.Elements.{All-cons}
 use Rattle.byteorder.specs.Endian.{little_number}
@@ -33,13 +33,13 @@ pub no_fault : (b : Bool) (kind : FileKind) (next : Option FileKind) → cond b 
 no_fault true kind next e = absurd (cc)
 no_fault false kind next e = (refl, e)
 
+pub some_fault : (b : Bool) (kind : FileKind) → cond b None (Some kind) ≡ None → b ≡ true
+some_fault true kind e = refl
+some_fault false kind e = absurd (cc)
+
 pub not_false : (b : Bool) → not b ≡ false → b ≡ true
 not_false true e = refl
 not_false false e = absurd (cc)
-
-pub both_true : (a b : Bool) → (a && b) ≡ true → (a ≡ true) × (b ≡ true)
-both_true true b e = (refl, e)
-both_true false b e = absurd (cc)
 
 abbrev pub IsBytes : List ℕ → Type 0
 IsBytes bytes = (i : ℕ) → get_or bytes i 0 < 256
@@ -93,9 +93,9 @@ length_right program from sum at len e h =
     let a = no_fault (not (is_length sum at len)) fault.Length (cond (shares_byte program (chunk at len)) (Some fault.Overlap) None) e in
     let b = no_fault (shares_byte program (chunk at len)) fault.Overlap None a.1 in
     let all : is_length sum at len ≡ true = not_false (is_length sum at len) a.0 in
-    let last = both_true (not (len == 0) && len % 4 == 0 && nat_le (at + len) (2 ^ 32)) (nat_le (sum + len) 16777216) all in
-    let third = both_true (not (len == 0) && len % 4 == 0) (nat_le (at + len) (2 ^ 32)) last.0 in
-    let second = both_true (not (len == 0)) (len % 4 == 0) third.0 in
+    let last = and_parts (not (len == 0) && len % 4 == 0 && nat_le (at + len) (2 ^ 32)) (nat_le (sum + len) 16777216) all in
+    let third = and_parts (not (len == 0) && len % 4 == 0) (nat_le (at + len) (2 ^ 32)) last.0 in
+    let second = and_parts (not (len == 0)) (len % 4 == 0) third.0 in
     let some : 0 < len = not_zero len second.0 in
     let even : len % 4 ≡ 0 = eqb-true (len % 4) 0 second.1 in
     let ends : at + len ≤ 2 ^ 32 = leb-true (at + len) (2 ^ 32) third.1 in

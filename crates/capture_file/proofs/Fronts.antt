@@ -10,12 +10,8 @@ use Rattle.capture_file.specs.declared.records.Found.TheVariants.{Whole}
 use Rattle.capture_file.specs.Records.{StepFits}
 use Rattle.capture_file.specs.Streams.{record_at, turns_of}
 use Rattle.capture_file.specs.Readers.{Phase, Records, Reader, IsReader, Taken, Takes, after_answer, found_taken, record_taken, resumed, taken, taking}
-use Rattle.capture_file.proofs.Resumed.{taken-goes}
+use Rattle.capture_file.proofs.Resumed.{reader, taken-goes}
 use Rattle.capture_file.proofs.Answered.{taken-moves, taken-placed}
-
-abbrev reader : ℕ → Bool → Phase → ℕ → ℕ → List ℕ → Reader
-reader limit chained phase place turns held =
-    record { limit = limit; chained = chained; phase = phase; place = place; turns = turns; held = held }
 
 module _ (limit room turns : ℕ) (chained : Bool) (piece : List ℕ) (form : Form) (step : Step) (len : ℕ) where
   between : room ≤ limit → length piece ≤ room → len ≤ length piece → record_at form turns piece ≡ Whole step len →

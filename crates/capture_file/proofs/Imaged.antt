@@ -2,7 +2,7 @@
 use Rattle.std.proofs.Common.{◌≡◌, ℕ, suc, ◌+◌, ◌%◌, ◌^◌, ◌<◌, ◌≤◌, true, List, [], ◌∷◌, ◌++◌, length, drop, refl, sym, ap, ◌∙◌, arith, append_assoc}
 use Rattle.std.specs.Prelude.{◌==◌, slice_index}
 use Rattle.std.specs.List.{flat_map, list_all}
-use Rattle.std.proofs.lemmas.Bool.{eqb-true}
+use Rattle.std.proofs.lemmas.Bool.{and_parts, eqb-true}
 use Rattle.byteorder.specs.Endian.{little_bytes}
 use Rattle.page_table.specs.Grants.{AreRising, is_page, total}
 use Rattle.page_table.specs.Blocks.{Block, chunk_of, chunks_of, AreBlocks}
@@ -11,7 +11,7 @@ use Rattle.capture_file.specs.declared.program.Layout.{Layout}
 use Rattle.capture_file.specs.declared.program.Layout.TheVariants.{Paged, Chunked}
 use Rattle.capture_file.specs.Images.{block_image, image_as, image_of}
 use Rattle.capture_file.specs.Programs.{number_field, layout_for}
-use Rattle.capture_file.proofs.Chunks.{both_true, ok_is}
+use Rattle.capture_file.proofs.Chunks.{ok_is}
 use Rattle.capture_file.proofs.Spelled.{number_again, IsFor, is_for}
 
 number_same : (n m : ℕ) (rest others : List ℕ) → n < 2 ^ 32 → m < 2 ^ 32 → little_bytes 4 n ++ rest ≡ little_bytes 4 m ++ others → (n ≡ m) × (rest ≡ others)
@@ -96,8 +96,8 @@ other_name memory other e = two_digits (ap (λ (zs : List ℕ). slice_index zs 3
 fits_pages : (from : ℕ) (memory : List Block) → AreRising from (chunks_of memory) → list_all is_page (chunks_of memory) ≡ true → AllFit Paged memory
 fits_pages from [] rising all = tt
 fits_pages from (block ∷ rest) rising all =
-    let both = both_true (is_page (chunk_of block)) (list_all is_page (chunks_of rest)) all in
-    let page = both_true (block.at % 4096 == 0) (length block.bytes == 4096) both.0 in
+    let both = and_parts (is_page (chunk_of block)) (list_all is_page (chunks_of rest)) all in
+    let page = and_parts (block.at % 4096 == 0) (length block.bytes == 4096) both.0 in
     let some = rising.1.some in
     let ends = rising.1.ends in
     ((omega arith, eqb-true (length block.bytes) 4096 page.1), fits_pages (block.at + length block.bytes) rest rising.2 both.1)

@@ -1,5 +1,6 @@
 -- Memory chunk by chunk.
 use Rattle.std.proofs.Common.{◌≡◌, ℕ, zero, suc, ◌+◌, ◌^◌, ◌≤◌, Bool, true, false, ◌&&◌, List, [], ◌∷◌, ◌++◌, length, take, drop, Some, Result, refl, sym, ap, subst, ◌∙◌, arith}
+use Rattle.std.proofs.lemmas.Bool.{and_parts}
 use Rattle.std.specs.Prelude.{slice_get}
 use Rattle.std.specs.List.{flat_map, list_all}
 use Rattle.page_table.specs.Grants.{is_page, total}
@@ -12,7 +13,6 @@ use Rattle.capture_file.specs.Images.{image_head, image_as, image_of, block_imag
 use Rattle.capture_file.specs.declared.program.Layout.{Layout}
 use Rattle.capture_file.specs.declared.program.Layout.TheVariants.{Chunked}
 use Rattle.capture_file.specs.Programs.{layout_for}
-use Rattle.capture_file.proofs.Chunks.{both_true}
 use Rattle.capture_file.proofs.Puts.{Breaks, puts_after, breaks_after, breaks_within, puts_then}
 
 -- the block at a place, behind those before it
@@ -29,7 +29,7 @@ more_at memory i b e = ap (λ (n : ℕ). take n memory) (let k : i + 1 ≡ suc i
 all_push : (blocks : List Block) (b : Block) → list_all is_page (chunks_of blocks) ≡ true → is_page (chunk_of b) ≡ true → list_all is_page (chunks_of (blocks ++ b ∷ [])) ≡ true
 all_push [] b h e = rw e refl
 all_push (x ∷ xs) b h e =
-    let both = both_true (is_page (chunk_of x)) (list_all is_page (chunks_of xs)) h in
+    let both = and_parts (is_page (chunk_of x)) (list_all is_page (chunks_of xs)) h in
     rw (both.0, all_push xs b both.1 e) refl
 
 pub pages_more : (memory : List Block) (i : ℕ) (b : Block) → slice_get memory i ≡ Some b → list_all is_page (chunks_of (take i memory)) ≡ true → is_page (chunk_of b) ≡ true → list_all is_page (chunks_of (take (i + 1) memory)) ≡ true

@@ -11,8 +11,7 @@ use Rattle.capture_desk.proofs.Laws.{after_write-after_write}
 use Rattle.capture_desk.proofs.Pieces.{BreaksOff, put_after, breaks_off_after, breaks_off_within}
 use Rattle.capture_desk.proofs.Pieces as pieces
 use Rattle.capture_file.specs.declared.program.Layout.{Layout}
-use Rattle.capture_file.specs.declared.program.Layout.TheVariants.{Paged, Chunked}
-use Rattle.capture_file.specs.Programs.{numbers_spelled, page_spelled, chunk_spelled, chunk_numbers, grants_spelled, head_spelled, spelled_as}
+use Rattle.capture_file.specs.Programs.{numbers_spelled, page_spelled, chunk_spelled, chunk_in, chunk_numbers, grants_spelled, head_spelled, spelled_as}
 use Rattle.machine_model.specs.Paths.{RiscProgram}
 
 -- a piece of which a front was written, and then came a fault
@@ -95,16 +94,11 @@ pub puts_then : {A E : Type 0} (a b : List ℕ) (old mid new : Told) (r : Result
 puts_then = pieces.puts_then after_write after_write-after_write
 
 pub grants_break : (layout : Layout) (chunks : List Chunk) (old new : Told) → Breaks (little_bytes 4 (length chunks)) old new → Breaks (grants_spelled layout chunks) old new
-grants_break Paged chunks old new h = breaks_within (little_bytes 4 (length chunks)) (flat_map page_spelled chunks) old new h
-grants_break Chunked chunks old new h = breaks_within (little_bytes 4 (length chunks)) (flat_map chunk_spelled chunks) old new h
+grants_break layout chunks old new h = breaks_within (little_bytes 4 (length chunks)) (flat_map (chunk_in layout) chunks) old new h
 
-pub pages_then : {A E : Type 0} (layout : Layout) (chunks : List Chunk) (old mid new : Told) (r : Result A E) → layout ≡ Paged →
-    mid ≡ after_write (little_bytes 4 (length chunks)) old → Puts (flat_map page_spelled chunks) r after_write mid new → Puts (grants_spelled layout chunks) r after_write old new
-pages_then layout chunks old mid new r is e h = rw is (puts_then (little_bytes 4 (length chunks)) (flat_map page_spelled chunks) old mid new r e h)
-
-pub chunks_then : {A E : Type 0} (layout : Layout) (chunks : List Chunk) (old mid new : Told) (r : Result A E) → layout ≡ Chunked →
-    mid ≡ after_write (little_bytes 4 (length chunks)) old → Puts (flat_map chunk_spelled chunks) r after_write mid new → Puts (grants_spelled layout chunks) r after_write old new
-chunks_then layout chunks old mid new r is e h = rw is (puts_then (little_bytes 4 (length chunks)) (flat_map chunk_spelled chunks) old mid new r e h)
+pub chunks_then : {A E : Type 0} (layout : Layout) (chunks : List Chunk) (old mid new : Told) (r : Result A E) →
+    mid ≡ after_write (little_bytes 4 (length chunks)) old → Puts (flat_map (chunk_in layout) chunks) r after_write mid new → Puts (grants_spelled layout chunks) r after_write old new
+chunks_then layout chunks old mid new r e h = puts_then (little_bytes 4 (length chunks)) (flat_map (chunk_in layout) chunks) old mid new r e h
 
 -- ---- a program
 

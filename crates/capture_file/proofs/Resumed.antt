@@ -47,7 +47,7 @@ within-over : (limit count : ℕ) (found : Reading) → limit < count → within
 within-over limit count found h = ap (λ (b : Bool). within_if b limit found) (lt-ltb limit count h)
 
 -- a reader by its fields
-abbrev reader : ℕ → Bool → Phase → ℕ → ℕ → List ℕ → Reader
+abbrev pub reader : ℕ → Bool → Phase → ℕ → ℕ → List ℕ → Reader
 reader limit chained phase place turns held =
     record { limit = limit; chained = chained; phase = phase; place = place; turns = turns; held = held }
 

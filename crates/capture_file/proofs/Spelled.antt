@@ -2,7 +2,7 @@
 use Rattle.std.proofs.Common.{◌≡◌, ℕ, ◌+◌, ◌*◌, ◌%◌, ◌^◌, ◌<◌, ◌≤◌, Bool, true, false, cond, List, [], ◌∷◌, ◌++◌, length, Option, None, Result, Ok, refl, sym, ap, subst, ◌∙◌, arith, append_assoc, length-append}
 use Rattle.std.specs.Prelude.{◌==◌}
 use Rattle.std.specs.List.{All, flat_map, list_all}
-use Rattle.std.proofs.lemmas.Bool.{le-leb, le-ltb, eqb-true, ne_eqb}
+use Rattle.std.proofs.lemmas.Bool.{and_parts, le-leb, le-ltb, eqb-true, ne_eqb}
 use Rattle.std.proofs.lemmas.List.{drop_at}
 use Rattle.std.proofs.lemmas.List.Elements.{All-head, All-tail}
 use Rattle.byteorder.specs.Endian.{little_number, little_bytes}
@@ -14,8 +14,7 @@ use Rattle.capture_file.specs.declared.FileFault.{FileFault}
 use Rattle.capture_file.specs.declared.program.Layout.{Layout}
 use Rattle.capture_file.specs.declared.program.Layout.TheVariants.{Paged, Chunked}
 use Rattle.capture_file.specs.declared.program.ProgramFile.{ProgramFile}
-use Rattle.capture_file.proofs.Chunks.{both_true}
-use Rattle.capture_file.specs.Programs.{◌>>=◌, Field, number_field, layout_field, base_field, word_count_field, words_in, words_field, chunk_count_field, page_field, long_chunk_field, chunk_field, chunks_field, fill_field, program_in, program_of, without_grants, base_fault, word_count_fault, chunk_count_fault, page_fault, address_fault, length_fault, fill_fault, judged, numbers_spelled, page_spelled, chunk_spelled, name_of, grants_spelled, head_spelled, spelled_as, layout_for, spelled}
+use Rattle.capture_file.specs.Programs.{◌>>=◌, Field, number_field, layout_field, base_field, word_count_field, words_in, words_field, chunk_count_field, page_field, long_chunk_field, chunk_field, chunks_field, fill_field, program_in, program_of, without_grants, base_fault, word_count_fault, chunk_count_fault, page_fault, address_fault, length_fault, fill_fault, judged, numbers_spelled, chunk_in, name_of, grants_spelled, head_spelled, spelled_as, layout_for, spelled}
 
 -- ---- numbers
 
@@ -122,19 +121,14 @@ long_chunk_again size program from sum at len rest is le small apart =
     ∙ ap (λ (r : Field ℕ). r >>= λ y. judged (length_fault program sum at y.0) size after >>= λ _. Ok (chunk at y.0, y.1)) (number_again size len rest low')
     ∙ judged_then (length_fault program sum at len) size after (chunk at len, rest) (length_right program sum at len is small apart)
 
--- one chunk as each form spells it
-abbrev pub one : Layout → Chunk → List ℕ
-one Paged c = page_spelled c
-one Chunked c = chunk_spelled c
-
 abbrev Fits : Layout → ℕ → Chunk → Type 0
 Fits Paged sum c = is_page c ≡ true
 Fits Chunked sum c = sum + c.len ≤ 16777216
 
 one_again : (layout : Layout) (size : ℕ) (program : RiscProgram) (from sum : ℕ) (c : Chunk) (rest : List ℕ) → IsChunk c → from ≤ c.at → Fits layout sum c → shares_byte program c ≡ false →
-    chunk_field layout size program from sum (one layout c ++ rest) ≡ Ok (c, rest)
+    chunk_field layout size program from sum (chunk_in layout c ++ rest) ≡ Ok (c, rest)
 one_again Paged size program from sum c rest is le page apart =
-    let both = both_true (c.at % 4096 == 0) (c.len == 4096) page in
+    let both = and_parts (c.at % 4096 == 0) (c.len == 4096) page in
     let paged : c.at % 4096 ≡ 0 = eqb-true (c.at % 4096) 0 both.0 in
     let len : c.len ≡ 4096 = eqb-true c.len 4096 both.1 in
     let some = is.some in
@@ -149,21 +143,21 @@ AllFit Paged sum chunks = list_all is_page chunks ≡ true
 AllFit Chunked sum chunks = sum + total chunks ≤ 16777216
 
 fit_head : (layout : Layout) (sum : ℕ) (c : Chunk) (chunks : List Chunk) → AllFit layout sum (c ∷ chunks) → Fits layout sum c × AllFit layout (sum + c.len) chunks
-fit_head Paged sum c chunks h = both_true (is_page c) (list_all is_page chunks) h
+fit_head Paged sum c chunks h = and_parts (is_page c) (list_all is_page chunks) h
 fit_head Chunked sum c chunks h = (omega (arith, total-cons c chunks), omega (arith, total-cons c chunks))
 
 pub chunks_again : (layout : Layout) (size : ℕ) (program : RiscProgram) (from sum : ℕ) (chunks : List Chunk) (rest : List ℕ) → AreRising from chunks → All (λ c. shares_byte program c ≡ false) chunks → AllFit layout sum chunks →
-    chunks_field layout size program (length chunks) from sum (flat_map (one layout) chunks ++ rest) ≡ Ok (chunks, rest)
+    chunks_field layout size program (length chunks) from sum (flat_map (chunk_in layout) chunks ++ rest) ≡ Ok (chunks, rest)
 unfolding chunks_field
 chunks_again layout size program from sum [] rest rising apart fit = refl
 chunks_again layout size program from sum (c ∷ chunks) rest rising apart fit =
-    let split : flat_map (one layout) (c ∷ chunks) ++ rest ≡ one layout c ++ (flat_map (one layout) chunks ++ rest) = append_assoc (one layout c) (flat_map (one layout) chunks) rest in
+    let split : flat_map (chunk_in layout) (c ∷ chunks) ++ rest ≡ chunk_in layout c ++ (flat_map (chunk_in layout) chunks ++ rest) = append_assoc (chunk_in layout c) (flat_map (chunk_in layout) chunks) rest in
     let fits = fit_head layout sum c chunks fit in
     let first = All-head (λ (d : Chunk). shares_byte program d ≡ false) c chunks apart in
     let others = All-tail (λ (d : Chunk). shares_byte program d ≡ false) c chunks apart in
     ap (λ (bytes : List ℕ). chunk_field layout size program from sum bytes >>= λ x. chunks_field layout size program (length chunks) (x.0.at + x.0.len) (sum + x.0.len) x.1 >>= λ y. Ok (x.0 ∷ y.0, y.1)) split
     ∙ ap (λ (r : Field Chunk). r >>= λ x. chunks_field layout size program (length chunks) (x.0.at + x.0.len) (sum + x.0.len) x.1 >>= λ y. Ok (x.0 ∷ y.0, y.1))
-    (one_again layout size program from sum c (flat_map (one layout) chunks ++ rest) rising.1 rising.0 fits.0 first)
+    (one_again layout size program from sum c (flat_map (chunk_in layout) chunks ++ rest) rising.1 rising.0 fits.0 first)
     ∙ ap (λ (r : Field (List Chunk)). r >>= λ y. Ok (c ∷ y.0, y.1))
     (chunks_again layout size program (c.at + c.len) (sum + c.len) chunks rest rising.2 others fits.1)
 
@@ -195,15 +189,14 @@ all_fit Chunked chunks h small = omega arith
 
 -- the spelling from left to right
 abbrev pub tail_of : Layout → RiscProgram → ℕ → List ℕ
-tail_of layout program fill = little_bytes 4 (length program.grants) ++ (flat_map (one layout) program.grants ++ fill ∷ [])
+tail_of layout program fill = little_bytes 4 (length program.grants) ++ (flat_map (chunk_in layout) program.grants ++ fill ∷ [])
 
 abbrev pub line_of : Layout → RiscProgram → ℕ → List ℕ
 line_of layout program fill =
     name_of layout ++ (little_bytes 4 program.base ++ (little_bytes 4 (length program.words) ++ (numbers_spelled program.words ++ tail_of layout program fill)))
 
-grants_line : (layout : Layout) (chunks : List Chunk) (rest : List ℕ) → grants_spelled layout chunks ++ rest ≡ little_bytes 4 (length chunks) ++ (flat_map (one layout) chunks ++ rest)
-grants_line Paged chunks rest = append_assoc (little_bytes 4 (length chunks)) (flat_map page_spelled chunks) rest
-grants_line Chunked chunks rest = append_assoc (little_bytes 4 (length chunks)) (flat_map chunk_spelled chunks) rest
+grants_line : (layout : Layout) (chunks : List Chunk) (rest : List ℕ) → grants_spelled layout chunks ++ rest ≡ little_bytes 4 (length chunks) ++ (flat_map (chunk_in layout) chunks ++ rest)
+grants_line layout chunks rest = append_assoc (little_bytes 4 (length chunks)) (flat_map (chunk_in layout) chunks) rest
 
 pub in_line : (layout : Layout) (program : RiscProgram) (fill : ℕ) → spelled_as layout program fill ≡ line_of layout program fill
 in_line layout program fill =
@@ -244,7 +237,7 @@ line_again layout size program fill made low form =
     let count = length program.words in
     let chunks = program.grants in
     let last : List ℕ = fill ∷ [] in
-    let after_chunk_count : List ℕ = flat_map (one layout) chunks ++ last in
+    let after_chunk_count : List ℕ = flat_map (chunk_in layout) chunks ++ last in
     let after_words : List ℕ = little_bytes 4 (length chunks) ++ after_chunk_count in
     let after_count : List ℕ = numbers_spelled program.words ++ after_words in
     let after_base : List ℕ = little_bytes 4 count ++ after_count in

@@ -3,7 +3,7 @@ use Rattle.std.proofs.Common.{◌≡◌, ℕ, zero, suc, ◌+◌, ◌*◌, ◌%�
 use Rattle.std.specs.Prelude.{nat_lt, nat_le, ◌==◌, codes}
 use Rattle.std.specs.List.{All, flat_map, list_all}
 use Rattle.std.specs.Int.{w32, from_le_bytes}
-use Rattle.std.proofs.lemmas.Bool.{leb-true, eqb-true}
+use Rattle.std.proofs.lemmas.Bool.{and_parts, leb-true, eqb-true}
 use Rattle.std.proofs.lemmas.Nat.{le_bytes_4}
 use Rattle.std.proofs.lemmas.List.Elements.{All-cons}
 use Rattle.byteorder.specs.Endian.{little_number, little_bytes}
@@ -14,9 +14,9 @@ use Rattle.capture_file.specs.declared.FileKind.TheVariants as fault
 use Rattle.capture_file.specs.declared.program.Layout.{Layout}
 use Rattle.capture_file.specs.declared.program.Layout.TheVariants.{Paged, Chunked}
 use Rattle.capture_file.specs.declared.program.ProgramFile.{ProgramFile}
-use Rattle.capture_file.specs.Programs.{◌>>=◌, number_field, layout_field, layout_or_magic, base_field, word_count_field, words_in, words_field, chunk_count_field, page_field, long_chunk_field, chunk_field, chunks_field, fill_field, program_of, without_grants, base_fault, word_count_fault, chunk_count_fault, page_fault, address_fault, length_fault, fill_fault, judged, nothing_after, numbers_spelled, page_spelled, chunk_spelled, name_of, layout_for, spelled, spelled_as, cut, IsFile}
-use Rattle.capture_file.proofs.Chunks.{bind_ok, judged_ok, ok_is, no_fault, not_false, both_true, IsBytes, IsBytes-drop, chunks_read, totals_small}
-use Rattle.capture_file.proofs.Spelled.{one, tail_of, line_of, in_line, with_layout, with_base, with_count, with_words, with_chunk_count, with_chunks, field_by_field}
+use Rattle.capture_file.specs.Programs.{◌>>=◌, number_field, layout_field, layout_or_magic, base_field, word_count_field, words_in, words_field, chunk_count_field, page_field, long_chunk_field, chunk_field, chunks_field, fill_field, program_of, without_grants, base_fault, word_count_fault, chunk_count_fault, page_fault, address_fault, length_fault, fill_fault, judged, nothing_after, numbers_spelled, page_spelled, chunk_spelled, chunk_in, name_of, layout_for, spelled, spelled_as, cut, IsFile}
+use Rattle.capture_file.proofs.Chunks.{bind_ok, judged_ok, ok_is, no_fault, not_false, IsBytes, IsBytes-drop, chunks_read, totals_small, some_fault}
+use Rattle.capture_file.proofs.Spelled.{tail_of, line_of, in_line, with_layout, with_base, with_count, with_words, with_chunk_count, with_chunks, field_by_field}
 
 -- ---- numbers
 
@@ -96,10 +96,6 @@ judged_number fault size bytes x e =
     let same : a.0 ≡ x = ok_is a.0 x b.2 in
     subst (λ (p : ℕ × List ℕ). (number_field size bytes ≡ Ok p) × (fault p.0 ≡ None)) same (a.1, judged_ok (fault a.0.0) size bytes b.0 b.1)
 
-some_fault : (b : Bool) (kind : FileKind) → cond b None (Some kind) ≡ None → b ≡ true
-some_fault true kind e = refl
-some_fault false kind e = absurd (cc)
-
 base_takes : (size : ℕ) (bytes : List ℕ) (x : ℕ × List ℕ) → IsBytes bytes → base_field size bytes ≡ Ok x → Takes bytes (little_bytes 4 x.0) x.1 × (x.0 < 2 ^ 32) × (x.0 % 4 ≡ 0)
 unfolding base_field
 base_takes size bytes x fits e =
@@ -113,7 +109,7 @@ unfolding word_count_field
 word_count_takes size base bytes x fits e =
     let a = judged_number (word_count_fault base) size bytes x e in
     let n = number_takes size bytes x fits a.0 in
-    let right = both_true (nat_le x.0 1048576) (nat_le (base + 4 * x.0) (2 ^ 32)) (some_fault (nat_le x.0 1048576 && nat_le (base + 4 * x.0) (2 ^ 32)) fault.Count a.1) in
+    let right = and_parts (nat_le x.0 1048576) (nat_le (base + 4 * x.0) (2 ^ 32)) (some_fault (nat_le x.0 1048576 && nat_le (base + 4 * x.0) (2 ^ 32)) fault.Count a.1) in
     (n.0, leb-true x.0 1048576 right.0, leb-true (base + 4 * x.0) (2 ^ 32) right.1)
 
 chunk_count_takes : (size : ℕ) (bytes : List ℕ) (x : ℕ × List ℕ) → IsBytes bytes → chunk_count_field size bytes ≡ Ok x → Takes bytes (little_bytes 4 x.0) x.1 × (x.0 ≤ 4096)
@@ -204,7 +200,7 @@ long_chunk_takes size program from sum bytes x fits e =
     })
 
 one_takes : (layout : Layout) (size : ℕ) (program : RiscProgram) (from sum : ℕ) (bytes : List ℕ) (x : Chunk × List ℕ) → IsBytes bytes → chunk_field layout size program from sum bytes ≡ Ok x →
-    Takes bytes (one layout x.0) x.1 × PageIf layout x.0
+    Takes bytes (chunk_in layout x.0) x.1 × PageIf layout x.0
 one_takes Paged size program from sum bytes x fits e = page_takes size program from bytes x fits e
 one_takes Chunked size program from sum bytes x fits e = (long_chunk_takes size program from sum bytes x fits e, tt)
 
@@ -221,11 +217,11 @@ more_pages Paged c chunks h all = rw (h, all) refl
 more_pages Chunked c chunks h all = tt
 
 chunks_takes : (layout : Layout) (size : ℕ) (program : RiscProgram) (count from sum : ℕ) (bytes : List ℕ) (x : List Chunk × List ℕ) → IsBytes bytes → chunks_field layout size program count from sum bytes ≡ Ok x →
-    Takes bytes (flat_map (one layout) x.0) x.1 × PagesIf layout x.0
+    Takes bytes (flat_map (chunk_in layout) x.0) x.1 × PagesIf layout x.0
 unfolding chunks_field
 chunks_takes layout size program zero from sum bytes x fits e =
     let same : ([], bytes) ≡ x = ok_is ([], bytes) x e in
-    subst (λ (y : List Chunk × List ℕ). Takes bytes (flat_map (one layout) y.0) y.1 × PagesIf layout y.0) same
+    subst (λ (y : List Chunk × List ℕ). Takes bytes (flat_map (chunk_in layout) y.0) y.1 × PagesIf layout y.0) same
     (record { parts = refl; fits = fits }, no_pages layout)
 chunks_takes layout size program (suc count) from sum bytes x fits e =
     let a = bind_ok (chunk_field layout size program from sum bytes)
@@ -234,10 +230,10 @@ chunks_takes layout size program (suc count) from sum bytes x fits e =
     let first = one_takes layout size program from sum bytes a.0 fits a.1 in
     let rest = chunks_takes layout size program count (a.0.0.at + a.0.0.len) (sum + a.0.0.len) a.0.1 b.0 first.0.fits b.1 in
     let same : (a.0.0 ∷ b.0.0, b.0.1) ≡ x = ok_is (a.0.0 ∷ b.0.0, b.0.1) x b.2 in
-    subst (λ (y : List Chunk × List ℕ). Takes bytes (flat_map (one layout) y.0) y.1 × PagesIf layout y.0) same (
+    subst (λ (y : List Chunk × List ℕ). Takes bytes (flat_map (chunk_in layout) y.0) y.1 × PagesIf layout y.0) same (
       record {
         parts =
-            first.0.parts ∙ ap (λ (zs : List ℕ). one layout a.0.0 ++ zs) rest.0.parts ∙ sym (append_assoc (one layout a.0.0) (flat_map (one layout) b.0.0) b.0.1);
+            first.0.parts ∙ ap (λ (zs : List ℕ). chunk_in layout a.0.0 ++ zs) rest.0.parts ∙ sym (append_assoc (chunk_in layout a.0.0) (flat_map (chunk_in layout) b.0.0) b.0.1);
         fits = rest.0.fits;
       },
       more_pages layout a.0.0 b.0.0 first.1 rest.1,
@@ -271,7 +267,7 @@ layout_right Chunked chunks pages e = rw (pages_fault (list_all is_page chunks) 
 
 -- what stands behind the number of the chunks
 record ReadRest (layout : Layout) (base : ℕ) (words : List ℕ) (count : ℕ) (bytes : List ℕ) (file : ProgramFile) : Type 0 where
-  parts : bytes ≡ flat_map (one layout) file.program.grants ++ file.fill ∷ []
+  parts : bytes ≡ flat_map (chunk_in layout) file.program.grants ++ file.fill ∷ []
   base_is : file.program.base ≡ base
   words_are : file.program.words ≡ words
   form : layout ≡ layout_for file.program.grants
@@ -286,13 +282,13 @@ rest_read size layout base words x file fits few e =
     let a = bind_ok (chunks_field layout size (without_grants base words) x.0 0 0 x.1) (λ y. with_chunks size layout base words y) file e in
     chunks_then a.0 a.1 a.2
   where
-    last : (y : List Chunk × List ℕ) (fill : ℕ) (same : record { program = record { base = base; words = words; grants = y.0 }; fill = fill } ≡ file) → Takes x.1 (flat_map (one layout) y.0) y.1 → PagesIf layout y.0 →
+    last : (y : List Chunk × List ℕ) (fill : ℕ) (same : record { program = record { base = base; words = words; grants = y.0 }; fill = fill } ≡ file) → Takes x.1 (flat_map (chunk_in layout) y.0) y.1 → PagesIf layout y.0 →
         chunks_field layout size (without_grants base words) x.0 0 0 x.1 ≡ Ok y → (y.1 ≡ fill ∷ []) × (fill < 256) × (fill_fault layout y.0 ≡ None) → ReadRest layout base words x.0 x.1 file
     last y fill same takes pages chunks f =
         let read = chunks_read layout size (without_grants base words) x.0 0 0 x.1 y fits chunks in
         subst (λ (z : ProgramFile). ReadRest layout base words x.0 x.1 z) same
         (record {
-          parts = takes.parts ∙ ap (λ (zs : List ℕ). flat_map (one layout) y.0 ++ zs) f.0;
+          parts = takes.parts ∙ ap (λ (zs : List ℕ). flat_map (chunk_in layout) y.0 ++ zs) f.0;
           base_is = refl;
           words_are = refl;
           form = layout_right layout y.0 pages f.2;
@@ -331,7 +327,7 @@ words_read size layout base x file fits e =
           first.parts
           ∙ ap (λ (zs : List ℕ). numbers_spelled y.0 ++ zs)
           (second.parts ∙ ap (λ (zs : List ℕ). little_bytes 4 z.0 ++ zs) rest.parts
-          ∙ ap (λ (n : ℕ). little_bytes 4 n ++ (flat_map (one layout) file.program.grants ++ file.fill ∷ [])) (sym rest.len))
+          ∙ ap (λ (n : ℕ). little_bytes 4 n ++ (flat_map (chunk_in layout) file.program.grants ++ file.fill ∷ [])) (sym rest.len))
           ∙ ap (λ (ws : List ℕ). numbers_spelled ws ++ tail_of layout file.program file.fill) (sym rest.words_are);
       base_is = rest.base_is;
       form = rest.form;

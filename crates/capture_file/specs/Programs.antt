@@ -199,6 +199,11 @@ page_spelled c = little_bytes 4 c.at
 abbrev pub chunk_spelled : Chunk → List ℕ
 chunk_spelled c = little_bytes 4 c.at ++ little_bytes 4 c.len
 
+-- a chunk as each form spells it
+abbrev pub chunk_in : Layout → Chunk → List ℕ
+chunk_in Paged c = page_spelled c
+chunk_in Chunked c = chunk_spelled c
+
 -- the numbers of a chunk, as they are written
 abbrev pub chunk_numbers : Chunk → List ℕ
 chunk_numbers c = c.at ∷ c.len ∷ []
@@ -208,8 +213,7 @@ name_of Paged = codes "BRP1"
 name_of Chunked = codes "BRP2"
 
 abbrev pub grants_spelled : Layout → List Chunk → List ℕ
-grants_spelled Paged chunks = little_bytes 4 (length chunks) ++ flat_map page_spelled chunks
-grants_spelled Chunked chunks = little_bytes 4 (length chunks) ++ flat_map chunk_spelled chunks
+grants_spelled layout chunks = little_bytes 4 (length chunks) ++ flat_map (chunk_in layout) chunks
 
 abbrev pub head_spelled : Layout → ℕ → ℕ → List ℕ
 head_spelled layout base count = name_of layout ++ little_bytes 4 base ++ little_bytes 4 count

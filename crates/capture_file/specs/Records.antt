@@ -3,8 +3,7 @@ use Rattle.std.specs.Prelude.{◌≡◌, ℕ, ◌+◌, ◌<◌, ◌≤◌, ◌�
 use Rattle.sync_status.specs.Statuses.{kind_of, is_control}
 use Rattle.fifo_model.specs.declared.Entry.{Entry}
 use Rattle.fifo_model.specs.declared.Queue.{Queue}
-use Rattle.irq_status.specs.declared.HostWrite.{HostWrite}
-use Rattle.irq_status.specs.declared.HostWrite.TheVariants.{Trigger}
+use Rattle.irq_status.specs.Writes.{IsWrite}
 use Rattle.capture_file.specs.declared.Step.{Step}
 use Rattle.capture_file.specs.declared.Step.TheVariants.{Push, Turns, Host, Patch}
 use Rattle.capture_file.specs.declared.records.Found.{Found}
@@ -45,13 +44,9 @@ Sums (Whole step len) before = before + turns_of step ≤ most_turns
 Sums _ before = Unit {0}
 
 -- a data entry has no control code, and the numbers are those of their fields
-abbrev pub WriteFits : HostWrite → Type 0
-WriteFits (Trigger number) = number < 4
-WriteFits _ = Unit {0}
-
 abbrev pub StepFits : Step → Type 0
 StepFits (Push queue entry) = is_control (kind_of entry.status) ≡ false
-StepFits (Host write) = WriteFits write
+StepFits (Host write) = IsWrite write
 StepFits (Patch slot buffer) = (slot < 2) × ((buffer < 2) ⊎ (buffer ≡ 255))
 StepFits _ = Unit {0}
 

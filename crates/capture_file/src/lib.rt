@@ -25,9 +25,13 @@ pub use writing::write_program;
 /// Which file is at fault.
 #[derive(Clone, Copy, Debug, PartialEq)]
 pub enum Input {
+    /// The file of a program.
     Program,
+    /// The file of a stream.
     Stream,
+    /// The description of a capture, a TOML text.
     Desc,
+    /// The file of a ring.
     Ring,
 }
 
@@ -39,7 +43,7 @@ pub enum FileKind {
     Magic,
     /// The file ends within a field.
     Short,
-    /// Too many words, pages or chunks, or a program that ends above 2^32.
+    /// More than 1,048,576 words, more than 4,096 pages or chunks, or a program that ends above 2^32.
     Count,
     /// The base is no multiple of 4.
     Base,
@@ -65,7 +69,8 @@ pub enum FileKind {
     TooManyTurns,
     /// A trigger point above 3.
     Trigger(u8),
-    /// The length of a chunk is 0, no multiple of 4, or too great.
+    /// The length of a chunk is 0 or no multiple of 4, or the chunk ends above 2^32, or it and those
+    /// before it have more than 16,777,216 bytes together.
     Length,
     /// All chunks are pages, which is another form of file.
     Pages,
@@ -79,6 +84,7 @@ pub enum FileKind {
 /// `Short` the length of the file.
 #[derive(Clone, Copy, Debug, PartialEq)]
 pub struct FileFault {
+    /// In bytes.
     pub at: u64,
     pub kind: FileKind,
 }

@@ -1,8 +1,8 @@
-//! Program files and images written to a desk.
+//! Program files written to a desk.
 
 ghost use Rattle.byteorder.specs.Endian.{little_bytes};
 ghost use Rattle.capture_desk.specs.Desks.{Puts, WriteCounts, after_write};
-ghost use Rattle.capture_file.specs.Programs.{chunk_numbers, chunk_spelled, grants_spelled, head_spelled, layout_for, name_of, numbers_spelled, page_spelled, spelled, spelled_as};
+ghost use Rattle.capture_file.specs.Programs.{chunk_in, chunk_numbers, grants_spelled, head_spelled, layout_for, name_of, numbers_spelled, spelled, spelled_as};
 ghost use Rattle.page_table.specs.Grants.{chunk_at, is_page};
 ghost use Rattle.std.specs.List.{flat_map, list_all};
 ghost use Rattle.std.specs.Prelude.{◌≡◌, ◌+◌, ◌*◌, ◌≤◌, ◌++◌, List, ℕ, [], drop, length, map, take, IsTrue};
@@ -18,9 +18,7 @@ const FEW: usize = 4_096;
 
 const MANY: usize = 65_536;
 
-// How many addresses of pages, and how many chunks, are put at once.
-const PAGES: usize = 1_024;
-
+// How many chunks are put at once.
 const CHUNKS: usize = 512;
 
 // Puts a number into a buffer, four bytes with the lowest first, behind the bytes that stand there.
@@ -137,28 +135,36 @@ fn list_pairs(grants: &PageSet, from: usize, count: usize, out: &mut [u32])
     }
 }
 
-// Appends the addresses of pages to the open output.
-fn put_pages<D: Desk>(desk: &mut D, grants: &PageSet) -> Result<(), Failed>
-    requires open { IsTrue (D.told desk.old).output_open }
-    ensures puts { Puts (flat_map page_spelled grants.now) result after_write (D.told desk.old) (D.told desk.new) }
-    ensures counts { WriteCounts result (D.read_faults desk.old) (D.read_faults desk.new)
-        (D.write_faults desk.old) (D.write_faults desk.new) }
+// Puts the numbers that a file has of so many chunks, from one on, into a buffer, and answers how many they are.
+fn list_chunks(
+    layout: Layout,
+    grants: &PageSet,
+    from: usize,
+    count: usize,
+    out: &mut [u32],
+) -> usize
+    requires inside { from + count ≤ length grants.now }
+    requires few { length grants.now ≤ 4096 }
+    requires room { 2 * count ≤ length out.old }
+    ensures within { result ≤ length out.new }
+    ensures numbers { numbers_spelled (take result out.new) ≡ flat_map (chunk_in layout) (take count (drop from grants.now)) }
 {
-    let mut numbers = [0; PAGES];
-    let mut at = 0;
-    while at < grants.len() {
-        let count = PAGES.min(grants.len() - at);
-        list_addresses(grants, at, count, &mut numbers);
-        put_numbers(desk, &numbers[..count])?;
-        at += count;
+    match layout {
+        Layout::Paged => {
+            list_addresses(grants, from, count, out);
+            count
+        }
+        Layout::Chunked => {
+            list_pairs(grants, from, count, out);
+            2 * count
+        }
     }
-    Ok(())
 }
 
-// Appends the addresses and lengths of chunks to the open output.
-fn put_chunks<D: Desk>(desk: &mut D, grants: &PageSet) -> Result<(), Failed>
+// Appends the chunks to the open output.
+fn put_chunks<D: Desk>(desk: &mut D, layout: Layout, grants: &PageSet) -> Result<(), Failed>
     requires open { IsTrue (D.told desk.old).output_open }
-    ensures puts { Puts (flat_map chunk_spelled grants.now) result after_write (D.told desk.old) (D.told desk.new) }
+    ensures puts { Puts (flat_map (chunk_in layout) grants.now) result after_write (D.told desk.old) (D.told desk.new) }
     ensures counts { WriteCounts result (D.read_faults desk.old) (D.read_faults desk.new)
         (D.write_faults desk.old) (D.write_faults desk.new) }
 {
@@ -166,8 +172,8 @@ fn put_chunks<D: Desk>(desk: &mut D, grants: &PageSet) -> Result<(), Failed>
     let mut at = 0;
     while at < grants.len() {
         let count = CHUNKS.min(grants.len() - at);
-        list_pairs(grants, at, count, &mut numbers);
-        put_numbers(desk, &numbers[..2 * count])?;
+        let listed = list_chunks(layout, grants, at, count, &mut numbers);
+        put_numbers(desk, &numbers[..listed])?;
         at += count;
     }
     Ok(())
@@ -181,10 +187,7 @@ fn put_grants<D: Desk>(desk: &mut D, layout: Layout, grants: &PageSet) -> Result
         (D.write_faults desk.old) (D.write_faults desk.new) }
 {
     put_numbers(desk, &[grants.len() as u32])?;
-    match layout {
-        Layout::Paged => put_pages(desk, grants),
-        Layout::Chunked => put_chunks(desk, grants),
-    }
+    put_chunks(desk, layout, grants)
 }
 
 // Appends the file of a program, in the form of one of the two layouts.

@@ -22,16 +22,22 @@ const NO_EDGE: u64 = 1 << 32;
 /// empty or lie outside the picture, and its ends may pass 2^32.
 #[derive(Clone, Copy, Debug, PartialEq)]
 pub struct Rect {
+    /// The first pixel of a row, counted from 0 at the left.
     pub x: u32,
+    /// The first row, counted from 0 at the top.
     pub y: u32,
+    /// The width in pixels.
     pub w: u32,
+    /// The height in rows.
     pub h: u32,
 }
 
 /// A stretch of a row: the pixels from `from` up to `to`, which is not part of it.
 #[derive(Clone, Copy, Debug, PartialEq)]
 pub struct Span {
+    /// The first pixel.
     pub from: u32,
+    /// The first pixel behind it.
     pub to: u32,
     /// Whether the pixels are kept out of the picture.
     pub clipped: bool,

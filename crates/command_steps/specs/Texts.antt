@@ -1,7 +1,8 @@
 -- What is said: the text of each answer, and the report. Numbers and places are decimal; bytes have two hexadecimal
 -- digits, nibbles one and addresses eight, or nine for 2^32.
-use Rattle.std.specs.Prelude.{ℕ, ◌-◌, ◌^◌, false, List, [], ◌∷◌, ◌++◌, codes, slice_index}
-use Rattle.std.specs.Fmt.{decimal, digits, padded_integral, format_spec}
+use Rattle.std.specs.Prelude.{ℕ, false, List, [], ◌++◌, codes, slice_index}
+use Rattle.std.specs.Fmt.{decimal, digits}
+use Rattle.risc_listing.specs.Lines.{hex, address_text, line_end}
 use Rattle.bt878_words.specs.declared.UsageFault.{UsageFault}
 use Rattle.bt878_words.specs.declared.UsageFault.TheVariants.{NoCommand, UnknownCommand, WordCount, Number, SameName}
 use Rattle.machine_model.specs.declared.Cause.{Cause}
@@ -20,21 +21,11 @@ use Rattle.picture_model.specs.declared.BuildFault.TheVariants as geometry
 use Rattle.command_steps.specs.declared.answer.Answer.{Answer}
 use Rattle.command_steps.specs.declared.answer.Answer.TheVariants.{Done, Usage, ReadFault, WriteFault, Malformed, BadDesc, BadGeometry, Rejected, NoMemory}
 
--- hexadecimal digits, so many at least
-abbrev pub hex : ℕ → ℕ → List ℕ
-hex width n = padded_integral (format_spec 32 0 4 width (2 ^ 64 - 1)) false [] (digits 16 false n)
-
 abbrev pub byte_text : ℕ → List ℕ
 byte_text n = hex 2 n
 
 abbrev pub nibble_text : ℕ → List ℕ
 nibble_text n = digits 16 false n
-
-abbrev pub address_text : ℕ → List ℕ
-address_text n = hex 8 n
-
-abbrev pub line_end : List ℕ
-line_end = 10 ∷ []
 
 abbrev pub usage_words : UsageFault → List ℕ
 usage_words NoCommand = codes "no command"

@@ -46,7 +46,9 @@ impl From<AllocError> for Answer {
 }
 
 impl Answer {
-    /// The status with which the program ends.
+    /// The status with which the program ends: 0 for `Done`, 1 for `Rejected` and `BadGeometry`, 2 for
+    /// `Usage`, 3 for `Malformed` and `BadDesc`, 4 for `ReadFault`, 5 for `WriteFault` and 6 for
+    /// `NoMemory`.
     pub fn status(&self) -> u8
         ensures { result ≡ status_of self.now }
     {

@@ -2,7 +2,8 @@
 
 ghost use Rattle.std.specs.Prelude.{◌≡◌, IfOk, Some, string_bytes};
 ghost use Rattle.capture_desc.specs.declared.fault.DescFault.TheVariants as DescFault;
-ghost use Rattle.command_steps.specs.Texts.{IsPlain, answer_text, built_text, cause_words, geometry_words, input_words, key_text, kind_words, line_end, lost_words, made_text, need_words, report_text, usage_words};
+ghost use Rattle.risc_listing.specs.Lines.{line_end};
+ghost use Rattle.command_steps.specs.Texts.{IsPlain, answer_text, built_text, cause_words, geometry_words, input_words, key_text, kind_words, lost_words, made_text, need_words, report_text, usage_words};
 
 use crate::answer::Answer;
 use bt878_words::UsageFault;
@@ -235,7 +236,7 @@ impl fmt::Display for LostWords {
     }
 }
 
-/// The report of a machine.
+/// The report of a machine. The error is want of memory.
 pub fn report_text(alloc: Global, report: &Report) -> Result<String, AllocError>
     ensures { IfOk result (λ text. string_bytes text ≡ report_text report.now) }
 {
@@ -246,14 +247,14 @@ pub fn report_text(alloc: Global, report: &Report) -> Result<String, AllocError>
     format!(in alloc; "turns {turns}\nmoved {moved}\noverruns {lost}\nstatus {status:08x}\n")
 }
 
-/// What `compile` says of a program of so many words and chunks.
+/// What `compile` says of a program of so many words and chunks. The error is want of memory.
 pub fn built_text(alloc: Global, words: u32, pages: usize) -> Result<String, AllocError>
     ensures { IfOk result (λ text. string_bytes text ≡ built_text words pages) }
 {
     format!(in alloc; "words {words} pages {pages}\n")
 }
 
-/// What `make` says of a stream of so many fields and data entries.
+/// What `make` says of a stream of so many fields and data entries. The error is want of memory.
 pub fn made_text(alloc: Global, fields: u32, entries: u64) -> Result<String, AllocError>
     ensures { IfOk result (λ text. string_bytes text ≡ made_text fields entries) }
 {

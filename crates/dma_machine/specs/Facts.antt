@@ -1,8 +1,5 @@
 -- What every machine is, and what it reports.
-use Rattle.std.specs.Prelude.{◌<◌}
 use Rattle.fifo_model.specs.Queues.{overruns_of}
-use Rattle.irq_status.specs.declared.HostWrite.{HostWrite}
-use Rattle.irq_status.specs.declared.HostWrite.TheVariants.{Ack, Enable, Trigger}
 use Rattle.machine_model.specs.Paths.{IsProgram, IsSound}
 use Rattle.machine_model.specs.States.{State}
 use Rattle.machine_model.specs.Safety.{IsSafe}
@@ -13,12 +10,6 @@ pub record IsMachine (m : State) : Type 0 where
   pub made : IsProgram m.program
   pub sound : IsSound m.program
   pub safe : IsSafe m
-
--- a write that the host can make: the packed trigger point has two bits
-abbrev pub IsWrite : HostWrite → Type 0
-IsWrite (Ack mask) = Unit {0}
-IsWrite (Enable fifo risc) = Unit {0}
-IsWrite (Trigger number) = number < 4
 
 abbrev pub report_of : State → Report
 report_of m =

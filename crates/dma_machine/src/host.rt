@@ -11,9 +11,10 @@ use risc_verify::Accepted;
 use risc_word::{Code, Ctl, Instr};
 
 impl<R: Ram> Engine<R> {
-    ghost use Rattle.dma_machine.specs.Facts.{IsMachine, IsWrite, report_of};
+    ghost use Rattle.dma_machine.specs.Facts.{IsMachine, report_of};
     ghost use Rattle.dma_machine.specs.Views.{state_of};
     ghost use Rattle.fifo_model.specs.Queues.{empty_queues};
+    ghost use Rattle.irq_status.specs.Writes.{IsWrite};
     ghost use Rattle.machine_model.specs.States.{started};
     ghost use Rattle.page_table.specs.Blocks.{chunks_of};
     ghost use Rattle.machine_model.specs.Steps.{control_pushed_as, host, push, push_control, pushed_as, restarted, with_fifo, with_risc};

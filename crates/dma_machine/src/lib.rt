@@ -3,9 +3,10 @@
 #![tactic(auto)]
 
 ghost use Rattle.dma_machine.specs.Counts.{acted, with_turns};
-ghost use Rattle.dma_machine.specs.Facts.{IsMachine, IsWrite, report_of};
+ghost use Rattle.dma_machine.specs.Facts.{IsMachine, report_of};
 ghost use Rattle.fifo_model.specs.Queues.{empty_queues, more};
 ghost use Rattle.irq_status.specs.Register.{has_ocerr};
+ghost use Rattle.irq_status.specs.Writes.{IsWrite};
 ghost use Rattle.machine_model.specs.Safety.{StaysInside};
 ghost use Rattle.machine_model.specs.States.{started};
 ghost use Rattle.machine_model.specs.Steps.{Turn, control_pushed_as, host, push, push_control, pushed_as, run};

@@ -11,6 +11,7 @@ use Rattle.fifo_model.specs.declared.Entry.{Entry}
 use Rattle.fifo_model.specs.Queues.{Lane, Queues, first, code_of_kind, front_code_of, front_code, codes_of, IsFifo}
 use Rattle.fifo_model.proofs.Codes.{codes-without_code}
 use Rattle.machine_model.specs.Turns.{no_code, is_stray, code_if}
+use Rattle.machine_model.proofs.Fronts.{data_code}
 use Rattle.field_law.specs.Fields.{Token, Mark, Brings}
 
 -- an entry is that control code, or it is not
@@ -32,16 +33,9 @@ coded (entry ∷ behind) lane code e h = record { entry = entry; behind = behind
 pub code-HasFront : (lane : Lane) (code : Code) → front_code lane ≡ Some code → HasFront lane (Some code)
 code-HasFront lane code h = coded lane.entries lane code refl h
 
-no_control : (kind : StatusKind) → not (is_control kind) ≡ true → code_of_kind kind ≡ None
-no_control (Control code) h = cc
-no_control Start h = refl
-no_control Pixels h = refl
-no_control (End count) h = refl
-no_control Reserved h = refl
-
 stray : (entries : List Entry) (lane : Lane) → lane.entries ≡ entries → no_code (first entries) ≡ true → HasFront lane None
 stray [] lane e h = cc
-stray (entry ∷ behind) lane e h = record { entry = entry; behind = behind; same = e; is_code = no_control (kind_of entry.status) h }
+stray (entry ∷ behind) lane e h = record { entry = entry; behind = behind; same = e; is_code = data_code (kind_of entry.status) h }
 
 pub stray-HasFront : (lane : Lane) → is_stray lane ≡ true → HasFront lane None
 stray-HasFront lane h = stray lane.entries lane refl h

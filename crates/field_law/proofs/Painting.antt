@@ -22,6 +22,10 @@ byte_at-unstored memory (store ∷ stores) address none =
     byte_at-unstored (stored memory store.address store.byte) stores address parts.1
     ∙ byte_at-stored_other memory store.address store.byte address (λ same. eqb-false _ _ parts.0 (sym same))
 
+-- a store of the byte that is to be there
+abbrev pub IsAgreed : (ℕ → ℕ) → Store → Type 0
+IsAgreed final store = final store.address ≡ store.byte
+
 -- an address to which something is stored has the byte that is to be there
 pub byte_at-stored_all : (chunks : List Chunk) (final : ℕ → ℕ) (memory : List Block) (stores : List Store) (address : ℕ) → chunks_of memory ≡ chunks →
     All (λ store. granted chunks store.address ≡ true) stores → All (λ store. final store.address ≡ store.byte) stores →
@@ -66,20 +70,17 @@ module _ (chunks : List Chunk) (final : ℕ → ℕ) (memory : List Block) (stor
   abbrev IsWithin : Store → Type 0
   IsWithin store = granted chunks store.address ≡ true
 
-  abbrev IsAgreed : Store → Type 0
-  IsAgreed store = final store.address ≡ store.byte
-
   both_within : All IsWithin (made ++ rest)
   both_within = subst (λ (stores : List Store). All IsWithin stores) split (h.within q)
 
-  both_agree : All IsAgreed (made ++ rest)
-  both_agree = subst (λ (stores : List Store). All IsAgreed stores) split (h.agree q)
+  both_agree : All (IsAgreed final) (made ++ rest)
+  both_agree = subst (λ (stores : List Store). All (IsAgreed final) stores) split (h.agree q)
 
   settled : (address : ℕ) → ((p : Queue) → is_stored address (changed q rest stores p) ≡ false) → byte_at (stored_all memory made) address ≡ final address
   settled address none =
       let none_left : is_stored address rest ≡ false = sym (ap (is_stored address) (changed_here q rest stores)) ∙ none q in
       ⊎_elim
-      (λ some. byte_at-stored_all chunks final memory made address h.same (all_left IsWithin made rest both_within) (all_left IsAgreed made rest both_agree) some)
+      (λ some. byte_at-stored_all chunks final memory made address h.same (all_left IsWithin made rest both_within) (all_left (IsAgreed final) made rest both_agree) some)
       (λ unstored.
       byte_at-unstored memory made address unstored
       ∙ h.settled address (each_unchanged (λ _ stores. is_stored address stores ≡ false) q rest stores none
@@ -92,6 +93,6 @@ module _ (chunks : List Chunk) (final : ℕ → ℕ) (memory : List Block) (stor
       record {
         same = chunks-stored_all memory made ∙ h.same;
         within = each_changed (λ _ stores. All IsWithin stores) q rest stores h.within (all_right IsWithin made rest both_within);
-        agree = each_changed (λ _ stores. All IsAgreed stores) q rest stores h.agree (all_right IsAgreed made rest both_agree);
+        agree = each_changed (λ _ stores. All (IsAgreed final) stores) q rest stores h.agree (all_right (IsAgreed final) made rest both_agree);
         settled = settled;
       }

@@ -17,6 +17,7 @@ use Rattle.machine_model.specs.declared.Job.TheVariants.{Idle, Waiting, Running}
 use Rattle.machine_model.specs.Paths.{instr_ctl}
 use Rattle.machine_model.specs.States.{State}
 use Rattle.machine_model.specs.Turns.{demand_on, judged, verdict_at, served, apply_in, apply, burst, burst_of, is_served, lowest_served, is_done, retired, ran}
+use Rattle.machine_model.proofs.Rows.{three_parts}
 use Rattle.field_law.specs.Sections.{Section, asks}
 use Rattle.field_law.specs.Arrivals.{over_queues}
 use Rattle.field_law.proofs.Lines.{has_waking}
@@ -57,10 +58,6 @@ served_some ds m q h = lowest_some (λ q. is_served q ds m) (is_served One ds m)
 pub served_none : (ds : Demands) (m : State) (q : Queue) → lowest_served ds m ≡ None → is_served q ds m ≡ false
 served_none ds m q h = lowest_none (λ q. is_served q ds m) (is_served One ds m) (is_served Two ds m) (is_served Three ds m) refl refl refl q h
 
-done_three : (a b c : Bool) → (a && b && c) ≡ true → (a ≡ true) × (b ≡ true) × (c ≡ true)
-done_three a b c h =
-    let both = and_parts (a && b) c h in let parts = and_parts a b both.0 in (parts.0, parts.1, both.1)
-
 undone_three : (a b c : Bool) → (a && b && c) ≡ false → (q : Queue) × (elim q as (λ _. Bool) [ One ↦ a | Two ↦ b | Three ↦ c ] ≡ false)
 undone_three false b c h = (One, refl)
 undone_three true false c h = (Two, refl)
@@ -69,9 +66,9 @@ undone_three true true true h = cc
 
 -- nothing is asked any more, or something of some queue
 pub done_rest : (ds : Demands) → is_done ds ≡ true → (q : Queue) → (demand_on q ds).rest ≡ 0
-done_rest ds h One = eqb-true _ _ (done_three (ds.one.rest == 0) (ds.two.rest == 0) (ds.three.rest == 0) h).0
-done_rest ds h Two = eqb-true _ _ (done_three (ds.one.rest == 0) (ds.two.rest == 0) (ds.three.rest == 0) h).1
-done_rest ds h Three = eqb-true _ _ (done_three (ds.one.rest == 0) (ds.two.rest == 0) (ds.three.rest == 0) h).2
+done_rest ds h One = eqb-true _ _ (three_parts (ds.one.rest == 0) (ds.two.rest == 0) (ds.three.rest == 0) h).0
+done_rest ds h Two = eqb-true _ _ (three_parts (ds.one.rest == 0) (ds.two.rest == 0) (ds.three.rest == 0) h).1
+done_rest ds h Three = eqb-true _ _ (three_parts (ds.one.rest == 0) (ds.two.rest == 0) (ds.three.rest == 0) h).2
 
 asked_at : (ds : Demands) (q : Queue) → elim q as (λ _. Bool) [ One ↦ ds.one.rest == 0 | Two ↦ ds.two.rest == 0 | Three ↦ ds.three.rest == 0 ] ≡ false → 0 < (demand_on q ds).rest
 asked_at ds One h = some_rest ds.one.rest h

@@ -19,7 +19,7 @@ use Rattle.field_law.specs.Fields.{Mark, IsLine, Brings}
 use Rattle.field_law.specs.Sections.{Holds, Uses, Paints, section_stores}
 use Rattle.field_law.specs.Arrivals.{Met, coming, Arrives, is_signal, has_signal}
 use Rattle.field_law.specs.Laws.{Receives}
-use Rattle.field_law.proofs.Painting.{byte_at-unstored}
+use Rattle.field_law.proofs.Painting.{IsAgreed, byte_at-unstored}
 use Rattle.field_law.specs.Worked.{program, section, field, entry, begun, machine, line, moves, met_by, early, final}
 
 holds : Holds section program
@@ -113,13 +113,10 @@ within One = All-from_recursion IsWithin (section_stores section field One) (ref
 within Two = All-nil IsWithin
 within Three = All-nil IsWithin
 
-abbrev IsAgreed : Store → Type 0
-IsAgreed store = final store.address ≡ store.byte
-
-agree : (q : Queue) → All IsAgreed (section_stores section field q)
-agree One = All-from_recursion IsAgreed (section_stores section field One) (refl, (refl, (refl, (refl, (refl, (refl, (refl, (refl, tt))))))))
-agree Two = All-nil IsAgreed
-agree Three = All-nil IsAgreed
+agree : (q : Queue) → All (IsAgreed final) (section_stores section field q)
+agree One = All-from_recursion (IsAgreed final) (section_stores section field One) (refl, (refl, (refl, (refl, (refl, (refl, (refl, (refl, tt))))))))
+agree Two = All-nil (IsAgreed final)
+agree Three = All-nil (IsAgreed final)
 
 pub paints : Paints section field machine.memory final
 paints =

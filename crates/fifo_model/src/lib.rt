@@ -26,7 +26,9 @@ pub enum Queue {
 /// An entry of a queue: a DWORD with its status. Lane k of the DWORD is bits 8k + 7 to 8k.
 #[derive(Clone, Copy, Debug, PartialEq, Eq)]
 pub struct Entry {
+    /// It says how many lanes hold bytes, from lane 0 on.
     pub status: Status,
+    /// Lane 0, its lowest bits, is the first byte.
     pub dword: u32,
 }
 

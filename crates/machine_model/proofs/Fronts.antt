@@ -33,7 +33,8 @@ first_of_three false false true Two h = cc
 first_of_three false false true Three h = refl
 first_of_three false false false q h = cc
 
-data_code : (kind : StatusKind) → not (is_control kind) ≡ true → code_of_kind kind ≡ None
+-- an entry of data has no control code
+pub data_code : (kind : StatusKind) → not (is_control kind) ≡ true → code_of_kind kind ≡ None
 data_code (Control code) h = cc
 data_code Start h = refl
 data_code Pixels h = refl

@@ -31,7 +31,7 @@ pub record IsWord (program : RiscProgram) (address : ℕ) : Type 0 where
   pub aligned : (address - program.base) % 4 ≡ 0
   pub inside : word_number program address < length program.words
 
-three_parts : (a b c : Bool) → (a && b && c) ≡ true → (a ≡ true) × (b ≡ true) × (c ≡ true)
+pub three_parts : (a b c : Bool) → (a && b && c) ≡ true → (a ≡ true) × (b ≡ true) × (c ≡ true)
 three_parts true true true h = (refl, refl, refl)
 three_parts true true false h = cc
 three_parts true false c h = cc

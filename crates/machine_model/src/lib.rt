@@ -50,8 +50,11 @@ pub struct Demand {
 /// What a running instruction still asks of the three queues.
 #[derive(Clone, Copy, Debug, PartialEq, Eq)]
 pub struct Demands {
+    /// Of queue 1, which has the packed data or the luma.
     pub one: Demand,
+    /// Of queue 2, which has chroma.
     pub two: Demand,
+    /// Of queue 3, which has chroma.
     pub three: Demand,
 }
 

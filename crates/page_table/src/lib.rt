@@ -135,7 +135,8 @@ fn sorted(alloc: Global, chunks: &[(u32, u32)]) -> Result<PageSet, PageFault>
     Ok(PageSet { chunks })
 }
 
-// The same. Those of a program file rise already.
+// Puts aligned chunks into rising order, unless one shares a byte with one before it. Those of a
+// program file rise already, and are taken as they stand.
 fn gathered(alloc: Global, chunks: &[(u32, u32)]) -> Result<PageSet, PageFault>
     requires few { length (listed chunks.now) ≤ 4096 }
     requires small { total (listed chunks.now) ≤ 2 ^ 24 }

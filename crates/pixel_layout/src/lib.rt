@@ -5,9 +5,9 @@ ghost use Rattle.std.specs.Prelude.{◌≡◌, ◌*◌, ◌%◌, ◌≤◌, []};
 ghost use Rattle.pixel_layout.specs.Layouts.{chroma_row, format_named, layout, planes_of, row_bytes, packed, planar};
 ghost use Rattle.pixel_layout.specs.Lines.{IsSmall, line_of};
 
-/// How the bytes of a picture lie in memory (bttv, its table of formats). In a packed format all
-/// bytes of a row stand on plane 1; in a planar one plane 1 has the luma and planes 2 and 3 the
-/// chroma.
+/// How the bytes of a picture lie in memory: the formats of Linux bttv (`bttv-driver.c`). In a packed
+/// format all bytes of a row stand on plane 1; in a planar one plane 1 has the luma and planes 2 and 3
+/// the chroma.
 #[derive(Clone, Copy, Debug, PartialEq, Eq)]
 pub enum Format {
     /// Four bytes for each pixel.
@@ -24,7 +24,7 @@ pub enum Format {
     Y8,
     /// One byte for each pixel, of dithered colour.
     Rgb8,
-    /// Twelve bytes for eight pixels.
+    /// Twelve bytes for eight pixels (that unit is this project's own rule).
     BtYuv,
     /// Planar, with a byte of chroma for 2 pixels of each row.
     Yuv422p,
@@ -161,7 +161,7 @@ impl Format {
 
     /// The row of planes 2 and 3 that takes the chroma of a picture row, or None where there is no
     /// chroma or that row's is dropped. `both` says that the picture has two fields, whose rows
-    /// alternate; the chroma rows of the two fields alternate too.
+    /// alternate; the chroma rows of the two fields alternate too (this project's own numbering).
     #[tactic(auto, using(crate::proofs::Sizes::place_fits))]
     pub fn chroma_row(self, both: bool, row: u32) -> Option<u32>
         ensures { result ≡ chroma_row (layout self) both row }

@@ -1,7 +1,7 @@
 -- The bytes of each field of a program file that is right.
 use Rattle.std.proofs.Common.{◌≡◌, ℕ, zero, suc, ◌+◌, ◌*◌, ◌≤◌, Bool, true, false, cond, List, [], ◌∷◌, length, drop, Option, Some, None, Ok, Err, refl, ap, subst, ◌∙◌, arith, length-drop}
 use Rattle.std.specs.Prelude.{nat_le, ◌&&◌, ◌^◌}
-use Rattle.std.proofs.lemmas.Bool.{leb-true}
+use Rattle.std.proofs.lemmas.Bool.{and_parts, leb-true}
 use Rattle.page_table.specs.Grants.{Chunk, chunk}
 use Rattle.machine_model.specs.Paths.{RiscProgram}
 use Rattle.capture_file.specs.declared.FileKind.{FileKind}
@@ -10,7 +10,7 @@ use Rattle.capture_file.specs.declared.program.Layout.{Layout}
 use Rattle.capture_file.specs.declared.program.Layout.TheVariants.{Paged, Chunked}
 use Rattle.capture_file.specs.Programs.{◌>>=◌, number_or_cut, number_field, layout_field, layout_or_magic, layout_of, base_field, word_count_field, words_in, words_field, chunk_count_field, page_field, long_chunk_field, chunk_field, chunks_field, base_fault, word_count_fault, chunk_count_fault, page_fault, address_fault, length_fault, judged, cut}
 use Rattle.capture_file.specs.Streams.{number_at}
-use Rattle.capture_file.proofs.Chunks.{bind_ok, judged_ok, ok_is, both_true}
+use Rattle.capture_file.proofs.Chunks.{bind_ok, judged_ok, ok_is, some_fault}
 
 number_rest : (size : ℕ) (n : Option ℕ) (rest : List ℕ) (x : ℕ × List ℕ) → number_or_cut size n rest ≡ Ok x → rest ≡ x.1
 number_rest size None rest x e = absurd (cc)
@@ -47,15 +47,11 @@ pub base_len : (size : ℕ) (bytes : List ℕ) (x : ℕ × List ℕ) → base_fi
 unfolding base_field
 base_len size bytes x e = (judged_len base_fault size bytes x e).0
 
-none_fault : (b : Bool) (kind : FileKind) → cond b None (Some kind) ≡ None → b ≡ true
-none_fault true kind e = refl
-none_fault false kind e = absurd (cc)
-
 pub word_count_len : (size base : ℕ) (bytes : List ℕ) (x : ℕ × List ℕ) → word_count_field size base bytes ≡ Ok x → (length bytes ≡ 4 + length x.1) × (x.0 ≤ 1048576)
 unfolding word_count_field
 word_count_len size base bytes x e =
     let a = judged_len (word_count_fault base) size bytes x e in
-    let right = both_true (nat_le x.0 1048576) (nat_le (base + 4 * x.0) (2 ^ 32)) (none_fault (nat_le x.0 1048576 && nat_le (base + 4 * x.0) (2 ^ 32)) fault.Count a.1) in
+    let right = and_parts (nat_le x.0 1048576) (nat_le (base + 4 * x.0) (2 ^ 32)) (some_fault (nat_le x.0 1048576 && nat_le (base + 4 * x.0) (2 ^ 32)) fault.Count a.1) in
     (a.0, leb-true x.0 1048576 right.0)
 
 words_if : (size count : ℕ) (bytes : List ℕ) (x : List ℕ × List ℕ) (b : Bool) → nat_le (4 * count) (length bytes) ≡ b →
@@ -75,7 +71,7 @@ pub chunk_count_len : (size : ℕ) (bytes : List ℕ) (x : ℕ × List ℕ) → 
 unfolding chunk_count_field
 chunk_count_len size bytes x e =
     let a = judged_len chunk_count_fault size bytes x e in
-    (a.0, leb-true x.0 4096 (none_fault (nat_le x.0 4096) fault.Count a.1))
+    (a.0, leb-true x.0 4096 (some_fault (nat_le x.0 4096) fault.Count a.1))
 
 page_len : (size : ℕ) (program : RiscProgram) (from : ℕ) (bytes : List ℕ) (x : Chunk × List ℕ) → page_field size program from bytes ≡ Ok x → length bytes ≤ 8 + length x.1
 unfolding page_field

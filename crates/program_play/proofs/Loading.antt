@@ -30,7 +30,7 @@ opened_input name old opened P there e h = of_inputs old.inputs there (subst (λ
     of_inputs None there h = tt
     of_inputs (Some inputs) there h = of_named (named name inputs) there h
 
-rose_from : (old mid new : ℕ) → mid ≡ old → HasRisen mid new → HasRisen old new
+pub rose_from : (old mid new : ℕ) → mid ≡ old → HasRisen mid new → HasRisen old new
 rose_from old mid new e h = subst (λ n. HasRisen n new) e h
 
 -- why a stream that was opened stops

@@ -22,7 +22,9 @@ use std::alloc::{AllocError, Global};
 #[derive(Drop)]
 pub struct Played {
     pub machine: Machine<PageRam>,
+    /// The byte that filled the memory at first.
     pub fill: u8,
+    /// What its report says.
     pub report: String,
 }
 

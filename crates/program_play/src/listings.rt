@@ -18,6 +18,7 @@ use std::alloc::Global;
 #[derive(Drop)]
 pub struct Listed {
     pub program: Program,
+    /// The bytes of the last lines.
     pub memory: Vec<u8>,
 }
 

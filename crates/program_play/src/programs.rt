@@ -23,6 +23,7 @@ const LONGEST_PROGRAM: usize = 4_227_089;
 #[derive(Drop)]
 pub struct Loaded {
     pub accepted: Accepted,
+    /// The byte that fills the memory at first.
     pub fill: u8,
 }
 

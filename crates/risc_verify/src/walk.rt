@@ -37,6 +37,7 @@ impl From<AllocError> for Why {
 /// A program that was not accepted, as it was, and why.
 #[derive(Drop)]
 pub struct Rejected {
+    /// The program, unchanged.
     pub program: Program,
     pub why: Why,
 }

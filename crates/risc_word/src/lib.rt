@@ -26,7 +26,7 @@ pub enum Code {
 }
 
 impl Code {
-    /// The code of a number of four bits.
+    /// The code of a number of four bits: 4, 6, 12 or 14. None exactly where it is none of these.
     #[inline]
     pub fn of(nibble: u8) -> Option<Code>
         ensures { result ≡ code_numbered nibble }

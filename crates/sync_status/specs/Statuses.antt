@@ -36,11 +36,6 @@ abbrev pub is_end : StatusKind → Bool
 is_end (End _) = true
 is_end _ = false
 
--- a SOL of which nothing was taken: a line begins here
-abbrev pub is_line_start : StatusKind → ℕ → Bool
-is_line_start Start taken = taken == 0
-is_line_start _ taken = false
-
 -- as many of the entry's bytes as the rest of the instruction asks for
 abbrev pub taken_of : ℕ → ℕ → ℕ → Verdict
 taken_of valid taken rest = Take (min rest (valid - taken))

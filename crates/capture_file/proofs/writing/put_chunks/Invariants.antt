@@ -1,7 +1,7 @@
 use Rattle.std.proofs.Common.{length, ◌-◌, ◌≡◌, ◌≤◌, take}
 use Rattle.std.specs.List.{flat_map}
 use Rattle.capture_desk.specs.Desks.{after_write}
-use Rattle.capture_file.specs.Programs.{chunk_spelled}
+use Rattle.capture_file.specs.Programs.{chunk_in}
 use Rattle.capture_file.proofs.writing.put_chunks.Given as goal
 
 abbrev pub invariant-loop-at : goal.invariant-loop-at
@@ -9,7 +9,7 @@ invariant-loop-at g l =
     record {
       within : l.at ≤ length l.grants;
       room : length l.numbers ≡ 1024;
-      done : g.D.Desk.told l.desk ≡ after_write (flat_map chunk_spelled (take l.at l.grants)) (g.D.Desk.told l.fn.desk);
+      done : g.D.Desk.told l.desk ≡ after_write (flat_map (chunk_in l.layout) (take l.at l.grants)) (g.D.Desk.told l.fn.desk);
       reads : g.D.Desk.read_faults l.desk ≡ g.D.Desk.read_faults l.fn.desk;
       writes : g.D.Desk.write_faults l.desk ≡ g.D.Desk.write_faults l.fn.desk;
     }

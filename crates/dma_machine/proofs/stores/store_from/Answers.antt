@@ -1,7 +1,7 @@
 use Rattle.std.proofs.Common.{◌≡◌, ◌+◌, true, false, List, length, drop, sym, ap, ◌∙◌, arith}
 use Rattle.page_table.specs.Blocks.{chunks_of}
 use Rattle.machine_model.specs.Turns.{Store, is_off, stored_all, stores_from}
-use Rattle.machine_model.proofs.Memory.{chunks-stored}
+use Rattle.page_table.proofs.Memory.{chunks_of-stored}
 use Rattle.dma_machine.proofs.Storing.{lane_on, lane_off}
 use Rattle.dma_machine.proofs.stores.store_from.Goals as goal
 use Rattle.dma_machine.proofs.stores.store_from.Goals.{then-not-is_off, else-not-is_off}
@@ -18,7 +18,7 @@ loop-byte-preserved g c =
             lane_is = omega arith;
             address_is = omega arith;
             few = omega arith;
-            chunks = ap chunks_of made ∙ chunks-stored _ _ _ ∙ c.loop-byte.invariant.chunks;
+            chunks = ap chunks_of made ∙ chunks_of-stored _ _ _ ∙ c.loop-byte.invariant.chunks;
             memory =
                 ap (λ m. stored_all m rest) made ∙ ap (stored_all (g.R.Ram.memory c.loop-byte.ram)) (sym next)
                 ∙ c.loop-byte.invariant.memory;
