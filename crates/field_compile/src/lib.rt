@@ -102,15 +102,7 @@ fn push_rows(
     let mut words = [0; ROW_WORDS];
     for number in 0..frame.rows_of(field) {
         let row = picture_row(fields, field, number);
-        push_row(
-            alloc,
-            frame,
-            row,
-            &mut spans,
-            &mut pieces,
-            &mut words,
-            out,
-        )?;
+        push_row(alloc, frame, row, &mut spans, &mut pieces, &mut words, out)?;
     }
     Ok(())
 }

@@ -60,6 +60,7 @@ fn encode_planar(piece: &Piece, words: &mut [u32; 5]) -> u8
     ensures number { result ≡ length (encoded (instr_of true piece.now)) }
 {
     let ctl = NO_CONTROL;
+    // taken apart, since the compiler moves the two as one number else
     let Ends { sol, eol } = piece.ends;
     let ends = Ends { sol, eol };
     let off = 0;
@@ -179,12 +180,7 @@ pub fn push_pieces(planar: bool, pieces: &[Piece], out: &mut Vec<u32>) -> Result
 
 // Writes the words of the pieces of a row's spans into the front of a buffer, and answers their number.
 #[inline(always)]
-fn spell_spans(
-    planar: bool,
-    row: &WholeRow,
-    spans: &[Span],
-    words: &mut [u32; ROW_WORDS],
-) -> usize
+fn spell_spans(planar: bool, row: &WholeRow, spans: &[Span], words: &mut [u32; ROW_WORDS]) -> usize
     requires few { length spans.now ≤ 129 }
     requires within { AreWithin row.now.line.grains spans.now }
     ensures words { take result words.new ≡ words_of (map (instr_of planar) (flat_map (pieces_in row.now) spans.now)) }
@@ -199,7 +195,7 @@ fn spell_spans(
     at
 }
 
-// The same by a loop for each form, which asks for none.
+// The same, with a loop of its own for each form, so that the form isn't asked for at each span.
 #[inline(never)]
 fn spell_row(planar: bool, row: &WholeRow, spans: &[Span], words: &mut [u32; ROW_WORDS]) -> usize
     requires few { length spans.now ≤ 129 }

@@ -13,4 +13,3 @@ address_at-requires-2 c =
 pub address_at-requires-3 : goal.address_at-requires-3
 address_at-requires-3 c =
     place_below c.args.stretches.now.three.address c.args.span.from c.args.line.now.grains c.args.stretches.now.three.step (omega (arith, c.requires.some, c.requires.within)) c.requires.fit.2.1
-
