@@ -1,6 +1,6 @@
 -- A stream that is played after a file gave the program.
 use Rattle.std.proofs.Common.{◌≡◌, ℕ, inl, inr, List, Option, Some, None, sym, ap, subst, ◌∙◌}
-use Rattle.capture_desk.specs.Desks.{HasRisen, Inputs, Told, named, is_missing}
+use Rattle.capture_desk.specs.Desks.{Inputs, Told, named, is_missing}
 use Rattle.machine_model.specs.Paths.{RiscProgram}
 use Rattle.machine_model.specs.States.{State, first_state}
 use Rattle.command_steps.specs.declared.answer.Answer.{Answer}

@@ -2,7 +2,6 @@
 
 ghost use Rattle.std.specs.Prelude.{◌≡◌, IfOk, Some, string_bytes};
 ghost use Rattle.capture_desc.specs.declared.fault.DescFault.TheVariants as DescFault;
-ghost use Rattle.risc_listing.specs.Lines.{line_end};
 ghost use Rattle.command_steps.specs.Texts.{IsPlain, answer_text, built_text, cause_words, geometry_words, input_words, key_text, kind_words, lost_words, made_text, need_words, report_text, usage_words};
 
 use crate::answer::Answer;

@@ -1,5 +1,5 @@
 -- The stores of a turn keep the chunks of memory.
-use Rattle.std.proofs.Common.{◌≡◌, ℕ, List, [], ◌∷◌, refl, ◌∙◌}
+use Rattle.std.proofs.Common.{◌≡◌, List, [], ◌∷◌, refl, ◌∙◌}
 use Rattle.page_table.specs.Blocks.{Block, chunks_of, stored}
 use Rattle.page_table.proofs.Memory.{chunks_of-stored}
 use Rattle.machine_model.specs.Turns.{Store, stored_all}

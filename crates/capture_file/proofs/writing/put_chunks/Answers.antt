@@ -1,4 +1,4 @@
-use Rattle.std.proofs.Common.{◌≤◌, ◌+◌, length, take, drop, ◌∙◌, sym, refl, arith}
+use Rattle.std.proofs.Common.{◌≤◌, ◌+◌, length, ◌∙◌, sym, refl, arith}
 use Rattle.std.proofs.lemmas.Result.{err_from_is_err_and}
 use Rattle.capture_desk.proofs.Laws.{after_write-nil}
 use Rattle.capture_file.specs.Programs.{chunk_in}
