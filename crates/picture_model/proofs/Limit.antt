@@ -112,9 +112,8 @@ row_small d plane right =
     grains_small (layout_of d).planar (plane == 1) d.width (layout_of d).pixels (layout_of d).bytes sizes.some_pixels right.width.1 sizes.few_bytes
     (λ planar. unit_small (layout_of d).bytes (bytes_units d planar))
 
--- the rows of a field
-
-row_spans_few : (d : Desc) (row : ℕ) → IsDescription d → IsRight d → length (row_strip d row).spans ≤ 129
+-- the rows of a field: each of at most 64 rectangles adds at most two spans
+pub row_spans_few : (d : Desc) (row : ℕ) → IsDescription d → IsRight d → length (row_strip d row).spans ≤ 129
 row_spans_few d row is right =
     let clips = is.clips in
     let few = spans-few d.clip row d.width (layout_of d).pixels (layout_sizes d.format).some_pixels right.units in

@@ -5,20 +5,17 @@ use Rattle.pixel_layout.specs.Layouts.{planes_of}
 use Rattle.page_table.specs.Grants.{Chunk}
 use Rattle.page_table.specs.Scattered.{IsScatterList, ScatterList, scatter_list}
 use Rattle.page_table.proofs.Scattered.{lt-room_at, total-le}
-use Rattle.clip_spans.specs.Runs.{AreRunsFrom, spans_of}
-use Rattle.clip_spans.proofs.Few.{spans-few}
+use Rattle.clip_spans.specs.Runs.{AreRunsFrom}
 use Rattle.clip_spans.specs.declared.Span.{Span}
 use Rattle.capture_desc.specs.declared.desc.Desc.{Desc}
 use Rattle.picture_model.specs.declared.Piece.{Piece}
 use Rattle.picture_model.specs.Described.{IsDescription, describes, extent, extents, fields_of, highest_end, layout_of, memory_of, taken, vbi_area}
 use Rattle.picture_model.specs.Places.{row_offset, vbi_line_offset}
-use Rattle.picture_model.specs.Plans.{Strip, cuts_of, grain_bytes, grain_clipped, grains_of, in_grains, pieces_of, plan, row_strip, row_track, skipped_strip, vbi_strip}
+use Rattle.picture_model.specs.Plans.{Strip, cuts_of, grain_bytes, grain_clipped, grains_of, pieces_of, plan, row_strip, row_track, skipped_strip, vbi_strip}
 use Rattle.picture_model.proofs.Right.{IsFrame-IsRight, IsRight}
 use Rattle.picture_model.proofs.Spans.{row_runs}
 use Rattle.picture_model.proofs.Offsets.{IsRowAt, area_end, end_in_mapped, end_of_others, row_offset-IsRowAt, row_within, vbi_line_within}
 use Rattle.picture_model.proofs.Grains.{GrainsFit, grain_small, held_plane, row_grains, row_track-IsTrack}
-use Rattle.pixel_layout.proofs.Table.{layout_sizes}
-use Rattle.std.proofs.lemmas.List.{length-map}
 use Rattle.planar_plan.specs.Frames.{IsFramed}
 use Rattle.planar_plan.specs.Lines.{AreHeld, AreWithin, CanBeCut, IsHeld, bare}
 use Rattle.planar_plan.specs.Stretches.{IsWhole, WholeLine}
@@ -116,14 +113,6 @@ runs_within test end bound x (s ∷ rest) low runs =
 pub row-AreWithin : (d : Desc) (row bound : ℕ) → IsRight d → grains_of (layout_of d) d.width ≤ bound → AreWithin bound (row_strip d row).spans
 row-AreWithin d row bound right low =
     runs_within (grain_clipped d row) (grains_of (layout_of d) d.width) bound 0 (row_strip d row).spans low (row_runs d row right)
-
--- each of at most 64 rectangles adds at most two spans
-pub spans_few : (d : Desc) (row : ℕ) → IsDescription d → IsRight d → length (row_strip d row).spans ≤ 129
-spans_few d row is right =
-    let clips = is.clips in
-    let few = spans-few d.clip row d.width (layout_of d).pixels (layout_sizes d.format).some_pixels right.units in
-    let same = length-map (spans_of d.clip row d.width (layout_of d).pixels) (in_grains (layout_of d)) in
-    omega arith
 
 -- a line each span of which is one piece, with its spans again
 pub whole-again : (memory chunks : List Chunk) (strip line : Strip) (w : WholeLine) → chunks ≡ memory → line ≡ bare strip → IsWhole chunks line w → IsWhole memory strip w

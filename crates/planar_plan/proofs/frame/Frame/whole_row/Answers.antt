@@ -6,7 +6,8 @@ use Rattle.picture_model.specs.Described.{IsDescription, memory_of}
 use Rattle.picture_model.specs.Plans.{Strip, row_strip}
 use Rattle.planar_plan.specs.Lines.{CanBeCut, strip_of}
 use Rattle.planar_plan.specs.Stretches.{IsWhole}
-use Rattle.planar_plan.proofs.Held.{again_right, is_right, row-AreWithin, row-CanBeCut, spans_few, whole-again}
+use Rattle.picture_model.proofs.Limit.{row_spans_few}
+use Rattle.planar_plan.proofs.Held.{again_right, is_right, row-AreWithin, row-CanBeCut, whole-again}
 use Rattle.planar_plan.proofs.Stretching.{whole-pieces}
 use Rattle.planar_plan.proofs.frame.Frame.whole_row.Goals as goal
 
@@ -42,4 +43,4 @@ returns-clause-plan c =
 pub returns-clause-few : goal.returns-clause-few
 returns-clause-few c =
     let d = c.args.self.now in
-    spans_few d c.args.row c.requires.description (again_right c.self.inside.desc d c.self.view_is c.self.invariant.framed c.requires.description)
+    row_spans_few d c.args.row c.requires.description (again_right c.self.inside.desc d c.self.view_is c.self.invariant.framed c.requires.description)
