@@ -1,7 +1,7 @@
 -- Every run shows the pictures that it captures, by the law of the picture.
 use Rattle.std.proofs.Common.{◌≡◌, ℕ, ◌+◌, ◌*◌, ◌<◌, ◌≤◌, List, length, All, sym, subst}
 use Rattle.fifo_model.specs.declared.Queue.{Queue}
-use Rattle.fifo_model.specs.Queues.{lane_of}
+use Rattle.fifo_model.specs.Queues.{queue_state}
 use Rattle.irq_status.specs.Register.{fdsr, has}
 use Rattle.pixel_layout.specs.declared.Parity.{Parity}
 use Rattle.machine_model.specs.Paths.{RiscProgram}
@@ -56,7 +56,7 @@ module _ (program : RiscProgram) (fill : ℕ) (steps : List Step) (made : All Is
       subst
       (λ (p : RiscProgram).
       j ≤ i → i ≤ l → l ≤ length steps → (arrives : Arrives d field picture (state_at (first_state p fill) steps j) (between j l steps)) →
-      ((q : Queue) → entries_of arrives.before arrives.entries q ≤ length (lane_of q (state_at (first_state p fill) steps j).queues).entries + length (coming (between j i steps) q)) →
+      ((q : Queue) → entries_of arrives.before arrives.entries q ≤ length (queue_state q (state_at (first_state p fill) steps j).queues).entries + length (coming (between j i steps) q)) →
       5 * size d field + over_queues (entries_of arrives.before arrives.entries) ≤ turns_in (between i l steps) →
       (k : ℕ) × IsFirstSignal d field (first_state p fill) steps j k × (k < l))
       (sym c.same) (run_signals_in_time d field picture fill steps j i l (capture d field picture c))

@@ -2,7 +2,7 @@
 -- moment before step k.
 use Rattle.std.specs.Prelude.{◌≡◌, ℕ, ◌+◌, ◌*◌, ◌<◌, ◌≤◌, true, List, length}
 use Rattle.fifo_model.specs.declared.Queue.{Queue}
-use Rattle.fifo_model.specs.Queues.{lane_of}
+use Rattle.fifo_model.specs.Queues.{queue_state}
 use Rattle.irq_status.specs.Register.{fdsr, has}
 use Rattle.pixel_layout.specs.declared.Parity.{Parity}
 use Rattle.machine_model.specs.Paths.{RiscProgram}
@@ -56,6 +56,6 @@ abbrev pub SignalsInTime : State → List Step → Type 0
 SignalsInTime first steps =
     (d : Desc) (field : Parity) (picture : Picture) (j i l : ℕ) → IsCompiled first.program d field picture →
     j ≤ i → i ≤ l → l ≤ length steps → (arrives : Arrives d field picture (state_at first steps j) (between j l steps)) →
-    ((q : Queue) → entries_of arrives.before arrives.entries q ≤ length (lane_of q (state_at first steps j).queues).entries + length (coming (between j i steps) q)) →
+    ((q : Queue) → entries_of arrives.before arrives.entries q ≤ length (queue_state q (state_at first steps j).queues).entries + length (coming (between j i steps) q)) →
     5 * size d field + over_queues (entries_of arrives.before arrives.entries) ≤ turns_in (between i l steps) →
     (k : ℕ) × IsFirstSignal d field first steps j k × (k < l)

@@ -9,7 +9,7 @@ use Rattle.sync_status.specs.declared.Verdict.{Verdict}
 use Rattle.sync_status.specs.declared.Verdict.TheVariants.{Take, Discard, Broken, Missing}
 use Rattle.fifo_model.specs.declared.Entry.{Entry}
 use Rattle.fifo_model.specs.declared.Queue.{Queue}
-use Rattle.fifo_model.specs.Queues.{front, lane_of, more, removed}
+use Rattle.fifo_model.specs.Queues.{front, queue_state, more, removed}
 use Rattle.machine_model.specs.declared.Cause.{Cause}
 use Rattle.machine_model.specs.declared.Demands.{Demands}
 use Rattle.machine_model.specs.declared.Job.{Job}
@@ -63,7 +63,7 @@ module _ (t : ℕ) where
 
   stray-turns : (stray : Option Queue) (ctl : Ctl) (resync : Bool) (code : Code) (m : State) →
       stray_seen stray ctl resync code (with_turns t m) ≡ with_turns t (stray_seen stray ctl resync code m)
-  stray-turns (Some q) ctl resync code m = unless-turns resync (with_queue q (removed (lane_of q m.queues)) m)
+  stray-turns (Some q) ctl resync code m = unless-turns resync (with_queue q (removed (queue_state q m.queues)) m)
   stray-turns None ctl resync code m = code-turns (common_code m.queues) ctl resync code m
 
   ended-turns : (cut : Bool) (instr : Instr) (m : State) → ended cut instr (with_turns t m) ≡ with_turns t (ended cut instr m)
@@ -76,7 +76,7 @@ module _ (t : ℕ) where
   judged-turns Discard q instr ds entry m = refl
   judged-turns Missing q instr ds entry m = refl
   judged-turns (Take count) q instr ds entry m =
-      ended-turns (is_cut_short entry (lane_of q m.queues).taken count (demand_on q ds).rest) instr (took q count instr ds entry m)
+      ended-turns (is_cut_short entry (queue_state q m.queues).taken count (demand_on q ds).rest) instr (took q count instr ds entry m)
 
   asked-turns : (none : Bool) (after made : State) → after ≡ with_turns t made →
       (if none then None else Some after) ≡ option_map (with_turns t) (if none then None else Some made)
@@ -92,7 +92,7 @@ module _ (t : ℕ) where
   apply-turns : (job : Job) (q : Queue) (m : State) → apply_in job q (with_turns t m) ≡ option_map (with_turns t) (apply_in job q m)
   apply-turns Idle q m = refl
   apply-turns (Waiting ctl resync code) q m = refl
-  apply-turns (Running instr ds) q m = served-turns (front (lane_of q m.queues)) q instr ds m
+  apply-turns (Running instr ds) q m = served-turns (front (queue_state q m.queues)) q instr ds m
 
   bursting : (count : ℕ) (q : Queue) (m : State) (next : Option State) → ((after : State) → burst count q (with_turns t after) ≡ with_turns t (burst count q after)) →
       (elim (option_map (with_turns t) next) as (λ _. State) [ None ↦ with_turns t m | Some after ↦ burst count q after ]) ≡

@@ -66,7 +66,7 @@ impl<R: Ram> Engine<R> {
     ghost use Rattle.machine_model.specs.Paths.{instr_ctl, is_word};
     ghost use Rattle.machine_model.specs.Turns.{begun, dropped, given_up, halted, jumped, met, passed, retired, synced, with_fdsr, with_fdsr_unless};
     ghost use Rattle.std.specs.Prelude.{◌≡◌, ◌<◌, ◌^◌, IsSome, None};
-    ghost use Rattle.fifo_model.specs.Queues.{front, front_code, lane_of};
+    ghost use Rattle.fifo_model.specs.Queues.{front, front_code, queue_state};
 
     /// Sets FDSR: data and program lost step.
     #[inline]
@@ -159,8 +159,8 @@ impl<R: Ram> Engine<R> {
 
     /// Removes a front that is no control code while waiting.
     pub fn drop_front(&mut self, q: Queue)
-        requires there { IsSome (front (lane_of q self.old.queues)) }
-        requires no_code { front_code (lane_of q self.old.queues) ≡ None }
+        requires there { IsSome (front (queue_state q self.old.queues)) }
+        requires no_code { front_code (queue_state q self.old.queues) ≡ None }
         ensures { state_of R.memory self.new ≡ dropped q self.old.wait.resync (state_of R.memory self.old) }
     {
         self.queues.discard(q);

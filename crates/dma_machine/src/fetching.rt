@@ -11,7 +11,7 @@ use sync_status::{StatusKind, kind};
 impl<R: Ram> Engine<R> {
     ghost use Rattle.dma_machine.specs.Needs.{CanBegin, CanExecute, CanFetch, CtlFits};
     ghost use Rattle.dma_machine.specs.Views.{state_of};
-    ghost use Rattle.fifo_model.specs.Queues.{front_code, lane_of};
+    ghost use Rattle.fifo_model.specs.Queues.{front_code, queue_state};
     ghost use Rattle.machine_model.specs.Paths.{fetch, instr_ctl};
     ghost use Rattle.machine_model.specs.Turns.{code_seen, common_code, data_fetched, fetched, instr_fetched, is_stray, lowest_stray, waited};
     ghost use Rattle.std.specs.Prelude.{◌≡◌, ◌<◌, ◌^◌, IfSome, IsSome};
@@ -65,7 +65,7 @@ impl<R: Ram> Engine<R> {
     /// Whether a front stands in a queue that is no control code.
     #[inline]
     fn is_stray(&self, q: Queue) -> bool
-        ensures stray { result ≡ is_stray (lane_of q self.now.queues) }
+        ensures stray { result ≡ is_stray (queue_state q self.now.queues) }
     {
         match self.queues.front(q) {
             Some(entry) => !matches!(kind(entry.status), StatusKind::Control(_)),
@@ -91,7 +91,7 @@ impl<R: Ram> Engine<R> {
     /// The control code at the front of a queue.
     #[inline]
     fn front_code(&self, q: Queue) -> Option<Code>
-        ensures { result ≡ front_code (lane_of q self.now.queues) }
+        ensures { result ≡ front_code (queue_state q self.now.queues) }
     {
         match kind(self.queues.front(q)?.status) {
             StatusKind::Control(code) => Some(code),

@@ -12,7 +12,7 @@ use sync_status::{Verdict, judge};
 impl<R: Ram> Engine<R> {
     ghost use Rattle.dma_machine.specs.Needs.{Applied, IsAddress};
     ghost use Rattle.dma_machine.specs.Views.{state_of};
-    ghost use Rattle.fifo_model.specs.Queues.{front, front_code, lane_of, removed};
+    ghost use Rattle.fifo_model.specs.Queues.{front, front_code, queue_state, removed};
     ghost use Rattle.machine_model.specs.Paths.{demands_cause};
     ghost use Rattle.machine_model.specs.Turns.{apply, burst, burst_of, demand_on, is_cut_short, is_done, is_served, judged, lowest_served, ran, served, taking, took, verdict_at, with_fdsr, with_queue};
     ghost use Rattle.page_table.specs.Blocks.{chunks_of};
@@ -25,13 +25,13 @@ impl<R: Ram> Engine<R> {
     #[inline(always)]
     fn move_bytes(&mut self, q: Queue, n: u8, entry: Entry) -> bool
         requires running { self.old.phase ≡ Phase.Running }
-        requires front { front (lane_of q self.old.queues) ≡ Some entry }
+        requires front { front (queue_state q self.old.queues) ≡ Some entry }
         requires some { 1 ≤ n }
-        requires valid { (lane_of q self.old.queues).taken + n ≤ valid_bytes entry.status }
+        requires valid { (queue_state q self.old.queues).taken + n ≤ valid_bytes entry.status }
         requires asked { n ≤ (demand_on q self.old.demands).rest }
         requires within { demands_cause (chunks_of (R.memory self.old.ram)) self.old.demands ≡ None }
         ensures state { state_of R.memory self.new ≡ took q n self.old.instr self.old.demands entry (state_of R.memory self.old) }
-        ensures cut { result ≡ is_cut_short entry (lane_of q self.old.queues).taken n (demand_on q self.old.demands).rest }
+        ensures cut { result ≡ is_cut_short entry (queue_state q self.old.queues).taken n (demand_on q self.old.demands).rest }
         ensures same { self.new.instr ≡ self.old.instr }
         ensures within { demands_cause (chunks_of (R.memory self.new.ram)) self.new.demands ≡ None }
     {
@@ -53,9 +53,9 @@ impl<R: Ram> Engine<R> {
     #[inline(always)]
     fn take(&mut self, q: Queue, n: u8, entry: Entry)
         requires running { self.old.phase ≡ Phase.Running }
-        requires front { front (lane_of q self.old.queues) ≡ Some entry }
+        requires front { front (queue_state q self.old.queues) ≡ Some entry }
         requires some { 1 ≤ n }
-        requires valid { (lane_of q self.old.queues).taken + n ≤ valid_bytes entry.status }
+        requires valid { (queue_state q self.old.queues).taken + n ≤ valid_bytes entry.status }
         requires asked { n ≤ (demand_on q self.old.demands).rest }
         requires within { demands_cause (chunks_of (R.memory self.old.ram)) self.old.demands ≡ None }
         ensures state { state_of R.memory self.new ≡ taking q n self.old.instr self.old.demands entry (state_of R.memory self.old) }
@@ -70,9 +70,9 @@ impl<R: Ram> Engine<R> {
     /// Removes a front that is of no use to the running instruction.
     #[cold]
     fn discard(&mut self, q: Queue)
-        requires there { IsSome (front (lane_of q self.old.queues)) }
-        requires no_code { front_code (lane_of q self.old.queues) ≡ None }
-        ensures state { state_of R.memory self.new ≡ with_fdsr (with_queue q (removed (lane_of q self.old.queues)) (state_of R.memory self.old)) }
+        requires there { IsSome (front (queue_state q self.old.queues)) }
+        requires no_code { front_code (queue_state q self.old.queues) ≡ None }
+        ensures state { state_of R.memory self.new ≡ with_fdsr (with_queue q (removed (queue_state q self.old.queues)) (state_of R.memory self.old)) }
         ensures same { (self.new.ram ≡ self.old.ram) × (self.new.demands ≡ self.old.demands) }
     {
         self.queues.discard(q);
@@ -84,7 +84,7 @@ impl<R: Ram> Engine<R> {
     #[inline(never)]
     fn judge_front(&mut self, q: Queue, entry: Entry)
         requires running { self.old.phase ≡ Phase.Running }
-        requires front { front (lane_of q self.old.queues) ≡ Some entry }
+        requires front { front (queue_state q self.old.queues) ≡ Some entry }
         requires asked { 1 ≤ (demand_on q self.old.demands).rest }
         requires within { demands_cause (chunks_of (R.memory self.old.ram)) self.old.demands ≡ None }
         ensures state { state_of R.memory self.new ≡ judged (verdict_at q self.old.demands entry (state_of R.memory self.old)) q self.old.instr self.old.demands entry (state_of R.memory self.old) }
@@ -108,7 +108,7 @@ impl<R: Ram> Engine<R> {
     #[tactic(auto, using(crate::proofs::Plains::plain_whole))]
     fn meet_front(&mut self, q: Queue, entry: Entry)
         requires running { self.old.phase ≡ Phase.Running }
-        requires front { front (lane_of q self.old.queues) ≡ Some entry }
+        requires front { front (queue_state q self.old.queues) ≡ Some entry }
         requires asked { 1 ≤ (demand_on q self.old.demands).rest }
         requires within { demands_cause (chunks_of (R.memory self.old.ram)) self.old.demands ≡ None }
         ensures state { state_of R.memory self.new ≡ judged (verdict_at q self.old.demands entry (state_of R.memory self.old)) q self.old.instr self.old.demands entry (state_of R.memory self.old) }
@@ -128,7 +128,7 @@ impl<R: Ram> Engine<R> {
     fn serve(&mut self, q: Queue) -> bool
         requires running { self.old.phase ≡ Phase.Running }
         requires within { demands_cause (chunks_of (R.memory self.old.ram)) self.old.demands ≡ None }
-        ensures applied { Applied (served (front (lane_of q self.old.queues)) q self.old.instr self.old.demands (state_of R.memory self.old)) result (state_of R.memory self.new) (state_of R.memory self.old) }
+        ensures applied { Applied (served (front (queue_state q self.old.queues)) q self.old.instr self.old.demands (state_of R.memory self.old)) result (state_of R.memory self.new) (state_of R.memory self.old) }
         ensures within { demands_cause (chunks_of (R.memory self.new.ram)) self.new.demands ≡ None }
     {
         match self.queues.front(q) {

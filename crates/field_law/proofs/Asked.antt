@@ -5,7 +5,7 @@ use Rattle.std.proofs.lemmas.Bool.{or_left}
 use Rattle.risc_word.specs.declared.Code.{Code}
 use Rattle.sync_status.specs.Statuses.{kind_of}
 use Rattle.fifo_model.specs.declared.Entry.{Entry}
-use Rattle.fifo_model.specs.Queues.{Lane, first, front_code_of, front_code, removed, wakes, code_of_kind}
+use Rattle.fifo_model.specs.Queues.{QueueState, first, front_code_of, front_code, removed, wakes, code_of_kind}
 use Rattle.machine_model.specs.declared.Demand.{Demand}
 use Rattle.machine_model.specs.Turns.{Store}
 use Rattle.field_law.specs.Fields.{Token, Mark, Row, Brings}
@@ -127,20 +127,20 @@ outlook_awaits code asks stores left taken ahead h =
     awaits code asks stores left taken ahead h.line h.tokens h.half h.entries h.rest h.order h.under_way h.brings h.uses h.stored h.counted
 
 -- what the queue shows: nothing yet, or the code, and then it goes on without it
-pub record Shows (code : Code) (asks : List Ask) (stores : List Store) (left : ℕ) (lane : Lane) (later : List Entry) : Type 0 where
-  pub is_code : front_code lane ≡ Some code
+pub record Shows (code : Code) (asks : List Ask) (stores : List Store) (left : ℕ) (held : QueueState) (later : List Entry) : Type 0 where
+  pub is_code : front_code held ≡ Some code
   pub entries_left : ℕ
   pub less : suc entries_left ≡ left
-  pub next : Outlook asks stores entries_left 0 ((removed lane).entries ++ later)
+  pub next : Outlook asks stores entries_left 0 ((removed held).entries ++ later)
 
-shows_in : (code : Code) (asks : List Ask) (stores : List Store) (left : ℕ) (lane : Lane) (later held : List Entry) → lane.entries ≡ held →
-    Awaits code asks stores left (held ++ later) → (held ≡ []) ⊎ Shows code asks stores left lane later
-shows_in code asks stores left lane later [] e h = inl refl
-shows_in code asks stores left lane later (entry ∷ es) e h =
+shows_in : (code : Code) (asks : List Ask) (stores : List Store) (left : ℕ) (held : QueueState) (later held : List Entry) → held.entries ≡ held →
+    Awaits code asks stores left (held ++ later) → (held ≡ []) ⊎ Shows code asks stores left held later
+shows_in code asks stores left held later [] e h = inl refl
+shows_in code asks stores left held later (entry ∷ es) e h =
     let order = h.order in
     let same : entry ≡ h.entry = cc in
     let behind : es ++ later ≡ h.entries ++ h.rest = cc in
-    let without : drop 1 lane.entries ≡ es = ap (λ (entries : List Entry). drop 1 entries) e in
+    let without : drop 1 held.entries ≡ es = ap (λ (entries : List Entry). drop 1 entries) e in
     inr (record {
       is_code = ap (λ (entries : List Entry). front_code_of (first entries)) e ∙ ap (λ (entry : Entry). code_of_kind (kind_of entry.status)) same ∙ h.is_code;
       entries_left = length h.entries;
@@ -150,10 +150,10 @@ shows_in code asks stores left lane later (entry ∷ es) e h =
           (subst (λ (stores : List Store). Outlook asks stores (length h.entries) 0 (h.entries ++ h.rest)) h.stored (outlook_at_start asks h.tokens h.entries h.rest h.uses h.brings));
     })
 
-pub outlook_shows : (code : Code) (asks : List Ask) (stores : List Store) (left taken : ℕ) (lane : Lane) (later : List Entry) →
-    Outlook (Await code ∷ asks) stores left taken (lane.entries ++ later) → (lane.entries ≡ []) ⊎ Shows code asks stores left lane later
-outlook_shows code asks stores left taken lane later h =
-    shows_in code asks stores left lane later lane.entries refl (outlook_awaits code asks stores left taken (lane.entries ++ later) h)
+pub outlook_shows : (code : Code) (asks : List Ask) (stores : List Store) (left taken : ℕ) (held : QueueState) (later : List Entry) →
+    Outlook (Await code ∷ asks) stores left taken (held.entries ++ later) → (held.entries ≡ []) ⊎ Shows code asks stores left held later
+outlook_shows code asks stores left taken held later h =
+    shows_in code asks stores left held later held.entries refl (outlook_awaits code asks stores left taken (held.entries ++ later) h)
 
 -- ---- once all of the field is there
 

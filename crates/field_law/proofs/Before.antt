@@ -8,7 +8,7 @@ use Rattle.sync_status.specs.declared.StatusKind.{StatusKind}
 use Rattle.sync_status.specs.declared.StatusKind.TheVariants.{Control, Start, Pixels, End, Reserved}
 use Rattle.sync_status.specs.Statuses.{kind_of, is_control}
 use Rattle.fifo_model.specs.declared.Entry.{Entry}
-use Rattle.fifo_model.specs.Queues.{Lane, Queues, first, code_of_kind, front_code_of, front_code, codes_of, IsFifo}
+use Rattle.fifo_model.specs.Queues.{QueueState, Queues, first, code_of_kind, front_code_of, front_code, codes_of, IsFifo}
 use Rattle.fifo_model.proofs.Codes.{codes-without_code}
 use Rattle.machine_model.specs.Turns.{no_code, is_stray, code_if}
 use Rattle.machine_model.proofs.Fronts.{data_code}
@@ -20,25 +20,25 @@ HasCode code entry = code_of_kind (kind_of entry.status) ≡ Some code
 
 -- ---- the front of a queue
 
-pub record HasFront (lane : Lane) (code : Option Code) : Type 0 where
+pub record HasFront (held : QueueState) (code : Option Code) : Type 0 where
   pub entry : Entry
   pub behind : List Entry
-  pub same : lane.entries ≡ entry ∷ behind
+  pub same : held.entries ≡ entry ∷ behind
   pub is_code : code_of_kind (kind_of entry.status) ≡ code
 
-coded : (entries : List Entry) (lane : Lane) (code : Code) → lane.entries ≡ entries → front_code_of (first entries) ≡ Some code → HasFront lane (Some code)
-coded [] lane code e h = cc
-coded (entry ∷ behind) lane code e h = record { entry = entry; behind = behind; same = e; is_code = h }
+coded : (entries : List Entry) (held : QueueState) (code : Code) → held.entries ≡ entries → front_code_of (first entries) ≡ Some code → HasFront held (Some code)
+coded [] held code e h = cc
+coded (entry ∷ behind) held code e h = record { entry = entry; behind = behind; same = e; is_code = h }
 
-pub code-HasFront : (lane : Lane) (code : Code) → front_code lane ≡ Some code → HasFront lane (Some code)
-code-HasFront lane code h = coded lane.entries lane code refl h
+pub code-HasFront : (held : QueueState) (code : Code) → front_code held ≡ Some code → HasFront held (Some code)
+code-HasFront held code h = coded held.entries held code refl h
 
-stray : (entries : List Entry) (lane : Lane) → lane.entries ≡ entries → no_code (first entries) ≡ true → HasFront lane None
-stray [] lane e h = cc
-stray (entry ∷ behind) lane e h = record { entry = entry; behind = behind; same = e; is_code = data_code (kind_of entry.status) h }
+stray : (entries : List Entry) (held : QueueState) → held.entries ≡ entries → no_code (first entries) ≡ true → HasFront held None
+stray [] held e h = cc
+stray (entry ∷ behind) held e h = record { entry = entry; behind = behind; same = e; is_code = data_code (kind_of entry.status) h }
 
-pub stray-HasFront : (lane : Lane) → is_stray lane ≡ true → HasFront lane None
-stray-HasFront lane h = stray lane.entries lane refl h
+pub stray-HasFront : (held : QueueState) → is_stray held ≡ true → HasFront held None
+stray-HasFront held h = stray held.entries held refl h
 
 control_code : (kind : StatusKind) → not (is_control kind) ≡ false → (code : Code) × (code_of_kind kind ≡ Some code)
 control_code (Control code) h = (code, refl)
@@ -90,29 +90,29 @@ abbrev pub IsUnmarked : Code → List Entry → Type 0
 IsUnmarked code before = All (λ entry. HasCode code entry → ⊥) before
 
 -- the front goes, and it was before the field
-pub record Dropped (code : Code) (lane : Lane) (later before entries rest : List Entry) : Type 0 where
+pub record Dropped (code : Code) (held : QueueState) (later before entries rest : List Entry) : Type 0 where
   pub after : List Entry
   pub less : length before ≡ suc (length after)
-  pub order : drop 1 lane.entries ++ later ≡ after ++ (entries ++ rest)
+  pub order : drop 1 held.entries ++ later ≡ after ++ (entries ++ rest)
   pub unmarked : IsUnmarked code after
 
 -- the front goes, and it was the code that begins the field
-pub record Opened (tokens : List Token) (lane : Lane) (later before entries rest : List Entry) : Type 0 where
+pub record Opened (tokens : List Token) (held : QueueState) (later before entries rest : List Entry) : Type 0 where
   pub field : List Entry
   pub less : length before + length entries ≡ suc (length field)
-  pub order : drop 1 lane.entries ++ later ≡ field ++ rest
+  pub order : drop 1 held.entries ++ later ≡ field ++ rest
   pub brings : Brings tokens field
 
-pub drops : (code : Code) (tokens : List Token) (lane : Lane) (later before entries rest : List Entry) (front : Option Code) (h : HasFront lane front) →
-    (front ≡ Some code → ⊥) → lane.entries ++ later ≡ before ++ (entries ++ rest) → Brings (Mark code ∷ tokens) entries → IsUnmarked code before →
-    Dropped code lane later before entries rest
-drops code tokens lane later [] entries rest front h other order brings unmarked =
+pub drops : (code : Code) (tokens : List Token) (held : QueueState) (later before entries rest : List Entry) (front : Option Code) (h : HasFront held front) →
+    (front ≡ Some code → ⊥) → held.entries ++ later ≡ before ++ (entries ++ rest) → Brings (Mark code ∷ tokens) entries → IsUnmarked code before →
+    Dropped code held later before entries rest
+drops code tokens held later [] entries rest front h other order brings unmarked =
     let split = brings.2 in
     let seen : h.entry ∷ (h.behind ++ later) ≡ brings.0 ∷ (brings.1 ++ rest) =
     sym (ap (λ (held : List Entry). held ++ later) h.same) ∙ order ∙ ap (λ (entries : List Entry). entries ++ rest) split in
     let same : h.entry ≡ brings.0 = cc in
     absurd (other (sym h.is_code ∙ ap (λ (entry : Entry). code_of_kind (kind_of entry.status)) same ∙ brings.3))
-drops code tokens lane later (top ∷ before) entries rest front h other order brings unmarked =
+drops code tokens held later (top ∷ before) entries rest front h other order brings unmarked =
     let seen : h.entry ∷ (h.behind ++ later) ≡ top ∷ (before ++ (entries ++ rest)) = sym (ap (λ (held : List Entry). held ++ later) h.same) ∙ order in
     let behind : h.behind ++ later ≡ before ++ (entries ++ rest) = cc in
     record {
@@ -122,10 +122,10 @@ drops code tokens lane later (top ∷ before) entries rest front h other order b
       unmarked = All-tail (λ entry. HasCode code entry → ⊥) top before unmarked;
     }
 
-pub opens : (code : Code) (tokens : List Token) (lane : Lane) (later before entries rest : List Entry) (h : HasFront lane (Some code)) →
-    lane.entries ++ later ≡ before ++ (entries ++ rest) → Brings (Mark code ∷ tokens) entries → IsUnmarked code before →
-    Opened tokens lane later before entries rest
-opens code tokens lane later [] entries rest h order brings unmarked =
+pub opens : (code : Code) (tokens : List Token) (held : QueueState) (later before entries rest : List Entry) (h : HasFront held (Some code)) →
+    held.entries ++ later ≡ before ++ (entries ++ rest) → Brings (Mark code ∷ tokens) entries → IsUnmarked code before →
+    Opened tokens held later before entries rest
+opens code tokens held later [] entries rest h order brings unmarked =
     let split = brings.2 in
     let long = ap (λ (entries : List Entry). length entries) split in
     let seen : h.entry ∷ (h.behind ++ later) ≡ brings.0 ∷ (brings.1 ++ rest) =
@@ -137,7 +137,7 @@ opens code tokens lane later [] entries rest h order brings unmarked =
       order = ap (λ (held : List Entry). drop 1 held ++ later) h.same ∙ behind;
       brings = brings.4;
     }
-opens code tokens lane later (top ∷ before) entries rest h order brings unmarked =
+opens code tokens held later (top ∷ before) entries rest h order brings unmarked =
     let seen : h.entry ∷ (h.behind ++ later) ≡ top ∷ (before ++ (entries ++ rest)) = sym (ap (λ (held : List Entry). held ++ later) h.same) ∙ order in
     let same : h.entry ≡ top = cc in
     absurd (All-head (λ entry. HasCode code entry → ⊥) top before unmarked (sym (ap (λ (entry : Entry). code_of_kind (kind_of entry.status)) same) ∙ h.is_code))

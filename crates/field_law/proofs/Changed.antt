@@ -2,7 +2,7 @@
 use Rattle.std.proofs.Common.{◌≡◌, ℕ, List, refl}
 use Rattle.fifo_model.specs.declared.Queue.{Queue}
 use Rattle.fifo_model.specs.declared.Queue.TheVariants.{One, Two, Three}
-use Rattle.fifo_model.specs.Queues.{Lane, Queues, lane_of, with_lane}
+use Rattle.fifo_model.specs.Queues.{QueueState, Queues, queue_state, with_queue_state}
 use Rattle.machine_model.specs.declared.Demand.{Demand}
 use Rattle.machine_model.specs.declared.Demands.{Demands}
 use Rattle.machine_model.specs.Turns.{Store, demand_on, with_demand}
@@ -51,29 +51,29 @@ each_unchanged P Three new old all one Two = all Two
 each_unchanged P Three new old all one Three = one
 
 -- a queue changes with what is asked of it, its stores and its entries left
-pub each_served : (P : Queue → Lane → Demand → List Store → ℕ → Type 0) (q : Queue) (lane : Lane) (d : Demand) (stores : List Store) (left : ℕ)
+pub each_served : (P : Queue → QueueState → Demand → List Store → ℕ → Type 0) (q : Queue) (held : QueueState) (d : Demand) (stores : List Store) (left : ℕ)
     (queues : Queues) (ds : Demands) (all_stores : Queue → List Store) (all_left : Queue → ℕ) →
-    ((p : Queue) → P p (lane_of p queues) (demand_on p ds) (all_stores p) (all_left p)) → P q lane d stores left →
-    (p : Queue) → P p (lane_of p (with_lane q lane queues)) (demand_on p (with_demand q d ds)) (changed q stores all_stores p) (changed q left all_left p)
-each_served P One lane d stores left queues ds all_stores all_left all one One = one
-each_served P One lane d stores left queues ds all_stores all_left all one Two = all Two
-each_served P One lane d stores left queues ds all_stores all_left all one Three = all Three
-each_served P Two lane d stores left queues ds all_stores all_left all one One = all One
-each_served P Two lane d stores left queues ds all_stores all_left all one Two = one
-each_served P Two lane d stores left queues ds all_stores all_left all one Three = all Three
-each_served P Three lane d stores left queues ds all_stores all_left all one One = all One
-each_served P Three lane d stores left queues ds all_stores all_left all one Two = all Two
-each_served P Three lane d stores left queues ds all_stores all_left all one Three = one
+    ((p : Queue) → P p (queue_state p queues) (demand_on p ds) (all_stores p) (all_left p)) → P q held d stores left →
+    (p : Queue) → P p (queue_state p (with_queue_state q held queues)) (demand_on p (with_demand q d ds)) (changed q stores all_stores p) (changed q left all_left p)
+each_served P One held d stores left queues ds all_stores all_left all one One = one
+each_served P One held d stores left queues ds all_stores all_left all one Two = all Two
+each_served P One held d stores left queues ds all_stores all_left all one Three = all Three
+each_served P Two held d stores left queues ds all_stores all_left all one One = all One
+each_served P Two held d stores left queues ds all_stores all_left all one Two = one
+each_served P Two held d stores left queues ds all_stores all_left all one Three = all Three
+each_served P Three held d stores left queues ds all_stores all_left all one One = all One
+each_served P Three held d stores left queues ds all_stores all_left all one Two = all Two
+each_served P Three held d stores left queues ds all_stores all_left all one Three = one
 
 -- a queue changes with something else that is said of it
-pub each_lane : {A : Type 0} (P : Queue → Lane → A → Type 0) (q : Queue) (lane : Lane) (new : A) (queues : Queues) (old : Queue → A) →
-    ((p : Queue) → P p (lane_of p queues) (old p)) → P q lane new → (p : Queue) → P p (lane_of p (with_lane q lane queues)) (changed q new old p)
-each_lane P One lane new queues old all one One = one
-each_lane P One lane new queues old all one Two = all Two
-each_lane P One lane new queues old all one Three = all Three
-each_lane P Two lane new queues old all one One = all One
-each_lane P Two lane new queues old all one Two = one
-each_lane P Two lane new queues old all one Three = all Three
-each_lane P Three lane new queues old all one One = all One
-each_lane P Three lane new queues old all one Two = all Two
-each_lane P Three lane new queues old all one Three = one
+pub each_queue : {A : Type 0} (P : Queue → QueueState → A → Type 0) (q : Queue) (held : QueueState) (new : A) (queues : Queues) (old : Queue → A) →
+    ((p : Queue) → P p (queue_state p queues) (old p)) → P q held new → (p : Queue) → P p (queue_state p (with_queue_state q held queues)) (changed q new old p)
+each_queue P One held new queues old all one One = one
+each_queue P One held new queues old all one Two = all Two
+each_queue P One held new queues old all one Three = all Three
+each_queue P Two held new queues old all one One = all One
+each_queue P Two held new queues old all one Two = one
+each_queue P Two held new queues old all one Three = all Three
+each_queue P Three held new queues old all one One = all One
+each_queue P Three held new queues old all one Two = all Two
+each_queue P Three held new queues old all one Three = one

@@ -7,7 +7,7 @@ use Rattle.risc_word.specs.declared.Instr.TheVariants.{Jump}
 use Rattle.risc_word.specs.Words.{Reading, encoded}
 use Rattle.fifo_model.specs.declared.Entry.{Entry}
 use Rattle.fifo_model.specs.declared.Queue.{Queue}
-use Rattle.fifo_model.specs.Queues.{lane_of}
+use Rattle.fifo_model.specs.Queues.{queue_state}
 use Rattle.irq_status.specs.Register.{applied}
 use Rattle.page_table.specs.Grants.{Chunk}
 use Rattle.page_table.specs.Blocks.{byte_at}
@@ -81,7 +81,7 @@ module _ (s : Section) (given : Type 0) (chunks : List Chunk) (final : ℕ → �
             λ known address.
             (h.painted known).settled address
             (λ q.
-            ap (is_stored address) (outlook_at_end (h.stores q) (h.left q) (lane_of q m.queues).taken ((lane_of q m.queues).entries ++ later q) (h.outlook q)));
+            ap (is_stored address) (outlook_at_end (h.stores q) (h.left q) (queue_state q m.queues).taken ((queue_state q m.queues).entries ++ later q) (h.outlook q)));
       }
 
   pub signal-Closes : (bound : ℕ) (m : State) → IsWithin s given chunks final later bound m → Holds s m.program → is_signal s m Turn ≡ true → Closes m

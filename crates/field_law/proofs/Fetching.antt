@@ -8,7 +8,7 @@ use Rattle.risc_word.specs.declared.Instr.TheVariants.{Write, Skip, WriteC, Jump
 use Rattle.risc_word.specs.Words.{Reading, encoded}
 use Rattle.fifo_model.specs.declared.Entry.{Entry}
 use Rattle.fifo_model.specs.declared.Queue.{Queue}
-use Rattle.fifo_model.specs.Queues.{lane_of}
+use Rattle.fifo_model.specs.Queues.{queue_state}
 use Rattle.page_table.specs.Grants.{Chunk}
 use Rattle.machine_model.specs.declared.Cause.{Cause}
 use Rattle.machine_model.specs.declared.Demands.{Demands}
@@ -40,7 +40,7 @@ module _ (s : Section) (given : Type 0) (chunks : List Chunk) (final : ℕ → �
     pub there : m.pc + 4 * words_in body ≡ closing_at s
     pub stores : Queue → List Store
     pub left : Queue → ℕ
-    pub outlook : (q : Queue) → Outlook (asks q body) (stores q) (left q) (lane_of q m.queues).taken ((lane_of q m.queues).entries ++ later q)
+    pub outlook : (q : Queue) → Outlook (asks q body) (stores q) (left q) (queue_state q m.queues).taken ((queue_state q m.queues).entries ++ later q)
     pub painted : given → Settles chunks final m.memory stores
     pub bounded : 5 * suc (length body) + over_queues left ≤ bound
 
@@ -68,7 +68,7 @@ module _ (s : Section) (given : Type 0) (chunks : List Chunk) (final : ℕ → �
                 left = h.left;
                 outlook =
                     λ q.
-                    subst (λ ask. Outlook (ask ∷ asks q rest) (h.stores q) (h.left q) (lane_of q m.queues).taken ((lane_of q m.queues).entries ++ later q)) (sym (same q)) (h.outlook q);
+                    subst (λ ask. Outlook (ask ∷ asks q rest) (h.stores q) (h.left q) (queue_state q m.queues).taken ((queue_state q m.queues).entries ++ later q)) (sym (same q)) (h.outlook q);
                 painted = h.painted;
                 bounded = omega arith;
               };
@@ -104,7 +104,7 @@ module _ (s : Section) (given : Type 0) (chunks : List Chunk) (final : ℕ → �
                 left = h.left;
                 outlook =
                     λ q.
-                    subst (λ (instr : Instr). Outlook (asked q instr ∷ asks q rest) (h.stores q) (h.left q) (lane_of q m.queues).taken ((lane_of q m.queues).entries ++ later q)) e (h.outlook q);
+                    subst (λ (instr : Instr). Outlook (asked q instr ∷ asks q rest) (h.stores q) (h.left q) (queue_state q m.queues).taken ((queue_state q m.queues).entries ++ later q)) e (h.outlook q);
                 painted = h.painted;
                 bounded = omega arith;
               };

@@ -5,7 +5,7 @@ use Rattle.std.proofs.lemmas.List.{take-append-le}
 use Rattle.std.proofs.lemmas.List.Elements.{All-head, All-tail}
 use Rattle.fifo_model.specs.declared.Entry.{Entry}
 use Rattle.fifo_model.specs.declared.Queue.{Queue}
-use Rattle.fifo_model.specs.Queues.{lane_of}
+use Rattle.fifo_model.specs.Queues.{queue_state}
 use Rattle.risc_word.specs.declared.Ctl.{Ctl}
 use Rattle.std.proofs.lemmas.Nat.Bits.{bit_at_and, bit_at_or, same_from_bits}
 use Rattle.irq_status.specs.Register.{risci, risc_status, status_after, applied, fdsr, has}
@@ -56,7 +56,7 @@ module _ (s : Section) (field : Queue → List Token) (m : State) (steps : List 
   abbrev first_bound : ℕ
   first_bound = 5 * suc (length s.body) + 1 + over_queues (entries_of r.arrives.before r.arrives.entries)
 
-  starts : (later rest : Queue → List Entry) → ((q : Queue) → (lane_of q m.queues).entries ++ later q ≡ r.arrives.before q ++ (r.arrives.entries q ++ rest q)) →
+  starts : (later rest : Queue → List Entry) → ((q : Queue) → (queue_state q m.queues).entries ++ later q ≡ r.arrives.before q ++ (r.arrives.entries q ++ rest q)) →
       IsReached s field r.uses given chunks final later first_bound m
   starts later rest order =
       let fits : JobFits m.skipping m.target (Waiting s.opening true s.code) = subst (λ (job : Job). JobFits m.skipping m.target job) r.arrives.waits r.orderly.job in
@@ -167,12 +167,12 @@ beginning a b c d e le =
     sym (take-append-drop (length c) a) ∙ ap (λ (first : List Entry). first ++ drop (length c) a) first
 
 module _ (s : Section) (field : Queue → List Token) (m : State) (early late : List Met) (r : Receives s field m (early ++ late))
-    (come : (q : Queue) → entries_of r.arrives.before r.arrives.entries q ≤ length (lane_of q m.queues).entries + length (coming early q)) where
+    (come : (q : Queue) → entries_of r.arrives.before r.arrives.entries q ≤ length (queue_state q m.queues).entries + length (coming early q)) where
   -- the field is among what is there and comes early
-  there : (q : Queue) → (lane_of q m.queues).entries ++ coming (early ++ []) q
-      ≡ r.arrives.before q ++ (r.arrives.entries q ++ drop (length (r.arrives.before q ++ r.arrives.entries q)) ((lane_of q m.queues).entries ++ coming early q))
+  there : (q : Queue) → (queue_state q m.queues).entries ++ coming (early ++ []) q
+      ≡ r.arrives.before q ++ (r.arrives.entries q ++ drop (length (r.arrives.before q ++ r.arrives.entries q)) ((queue_state q m.queues).entries ++ coming early q))
   there q =
-      let held = (lane_of q m.queues).entries in
+      let held = (queue_state q m.queues).entries in
       let before = r.arrives.before q in
       let entries = r.arrives.entries q in
       let all : (held ++ coming early q) ++ coming late q ≡ (before ++ entries) ++ r.arrives.rest q =
@@ -190,7 +190,7 @@ module _ (s : Section) (field : Queue → List Token) (m : State) (early late : 
       let first : Ran s field r.uses ⊥ [] (λ _. 0) [] late (5 * suc (length s.body) + 1 + over_queues (entries_of r.arrives.before r.arrives.entries)) (run_in m early) =
       runs s field r.uses ⊥ [] (λ _. 0) early late [] (5 * suc (length s.body) + 1 + over_queues (entries_of r.arrives.before r.arrives.entries)) m r.orderly r.held r.arrives.quiet parts.0
       (starts s field m (early ++ late) r ⊥ [] (λ _. 0) (λ none. absurd none) (coming (early ++ []))
-      (λ q. drop (length (r.arrives.before q ++ r.arrives.entries q)) ((lane_of q m.queues).entries ++ coming early q)) there) in
+      (λ q. drop (length (r.arrives.before q ++ r.arrives.entries q)) ((queue_state q m.queues).entries ++ coming early q)) there) in
       let last = counted_runs s field r.uses ⊥ [] (λ _. 0) late first.next (run_in m early) first.orderly (all_first (λ met. Holds s met.0) early late r.held) first.quiet parts.1 first.reached in
       let first_most = first.most in
       let last_most = last.most in

@@ -6,7 +6,7 @@ use Rattle.risc_word.specs.Words.{code_number}
 use Rattle.fifo_model.specs.declared.Entry.{Entry}
 use Rattle.fifo_model.specs.declared.Queue.{Queue}
 use Rattle.fifo_model.specs.declared.Queue.TheVariants.{One, Two, Three}
-use Rattle.fifo_model.specs.Queues.{Lane, Queues, lane_of, removed, front_code, IsFifo}
+use Rattle.fifo_model.specs.Queues.{QueueState, Queues, queue_state, removed, front_code, IsFifo}
 use Rattle.irq_status.specs.Register.{fdsr, has}
 use Rattle.irq_status.proofs.Laws.{fdsr-applied}
 use Rattle.page_table.specs.Grants.{Chunk}
@@ -20,7 +20,7 @@ use Rattle.machine_model.specs.Turns.{is_stray, lowest_stray, code_if, common_co
 use Rattle.field_law.specs.Fields.{Token, Mark, Brings}
 use Rattle.field_law.specs.Sections.{Section, HoldsFrom, Uses, asks, section_stores}
 use Rattle.field_law.specs.Arrivals.{over_queues}
-use Rattle.field_law.proofs.Changed.{changed, each_lane}
+use Rattle.field_law.proofs.Changed.{changed, each_queue}
 use Rattle.field_law.proofs.Painting.{Settles}
 use Rattle.field_law.proofs.Served.{Outlook}
 use Rattle.field_law.proofs.Asked.{outlook_at_start}
@@ -39,7 +39,7 @@ pub record Opening (s : Section) (field : Queue → List Token) (given : Type 0)
   pub before : Queue → List Entry
   pub entries : Queue → List Entry
   pub rest : Queue → List Entry
-  pub order : (q : Queue) → (lane_of q queues).entries ++ later q ≡ before q ++ (entries q ++ rest q)
+  pub order : (q : Queue) → (queue_state q queues).entries ++ later q ≡ before q ++ (entries q ++ rest q)
   pub unmarked : (q : Queue) → IsUnmarked s.code (before q)
   pub brings : (q : Queue) → Brings (Mark s.code ∷ field q) (entries q)
   pub painted : given → Settles chunks final memory (section_stores s field)
@@ -84,12 +84,12 @@ module _ (s : Section) (field : Queue → List Token) (uses : Uses s field) (giv
 
   module _ (bound : ℕ) (m : State) (h : IsOpening bound m) where
     -- an entry before the field is dropped
-    drops_one : (q : Queue) → is_stray (lane_of q m.queues) ≡ true → Reaches bound m.interrupts (dropped q true m)
+    drops_one : (q : Queue) → is_stray (queue_state q m.queues) ≡ true → Reaches bound m.interrupts (dropped q true m)
     drops_one q stray =
-        let lane : Lane = lane_of q m.queues in
-        let front = stray-HasFront lane stray in
-        let d : Dropped s.code lane (later q) (h.before q) (h.entries q) (h.rest q) =
-        drops s.code (field q) lane (later q) (h.before q) (h.entries q) (h.rest q) None front (λ same. cc) (h.order q) (h.brings q) (h.unmarked q) in
+        let held : QueueState = queue_state q m.queues in
+        let front = stray-HasFront held stray in
+        let d : Dropped s.code held (later q) (h.before q) (h.entries q) (h.rest q) =
+        drops s.code (field q) held (later q) (h.before q) (h.entries q) (h.rest q) None front (λ same. cc) (h.order q) (h.brings q) (h.unmarked q) in
         let bounded = h.bounded in
         let less = less_before q d.after h.before h.entries d.less in
         record {
@@ -104,8 +104,8 @@ module _ (s : Section) (field : Queue → List Token) (uses : Uses s field) (giv
                 entries = h.entries;
                 rest = h.rest;
                 order =
-                    each_lane (λ p lane before. lane.entries ++ later p ≡ before ++ (h.entries p ++ h.rest p)) q (removed lane) d.after m.queues h.before h.order d.order;
-                unmarked = each_lane (λ p lane before. IsUnmarked s.code before) q (removed lane) d.after m.queues h.before h.unmarked d.unmarked;
+                    each_queue (λ p held before. held.entries ++ later p ≡ before ++ (h.entries p ++ h.rest p)) q (removed held) d.after m.queues h.before h.order d.order;
+                unmarked = each_queue (λ p held before. IsUnmarked s.code before) q (removed held) d.after m.queues h.before h.unmarked d.unmarked;
                 brings = h.brings;
                 painted = h.painted;
                 bounded = omega arith;
@@ -116,7 +116,7 @@ module _ (s : Section) (field : Queue → List Token) (uses : Uses s field) (giv
         }
 
     -- a code before the field is removed from each queue
-    drops_all : ((q : Queue) → Dropped s.code (lane_of q m.queues) (later q) (h.before q) (h.entries q) (h.rest q)) → Reaches bound m.interrupts (met false s.opening true m)
+    drops_all : ((q : Queue) → Dropped s.code (queue_state q m.queues) (later q) (h.before q) (h.entries q) (h.rest q)) → Reaches bound m.interrupts (met false s.opening true m)
     drops_all d =
         let bounded = h.bounded in
         let one = (d One).less in
@@ -133,7 +133,7 @@ module _ (s : Section) (field : Queue → List Token) (uses : Uses s field) (giv
                 before = λ q. (d q).after;
                 entries = h.entries;
                 rest = h.rest;
-                order = each_removed (λ q lane. lane.entries ++ later q ≡ (d q).after ++ (h.entries q ++ h.rest q)) m.queues (λ q. (d q).order);
+                order = each_removed (λ q held. held.entries ++ later q ≡ (d q).after ++ (h.entries q ++ h.rest q)) m.queues (λ q. (d q).order);
                 unmarked = λ q. (d q).unmarked;
                 brings = h.brings;
                 painted = h.painted;
@@ -145,7 +145,7 @@ module _ (s : Section) (field : Queue → List Token) (uses : Uses s field) (giv
         }
 
     -- the code that begins the field is removed from each queue
-    opens_all : ((q : Queue) → Opened (field q) (lane_of q m.queues) (later q) (h.before q) (h.entries q) (h.rest q)) → Reaches bound m.interrupts (met true s.opening true m)
+    opens_all : ((q : Queue) → Opened (field q) (queue_state q m.queues) (later q) (h.before q) (h.entries q) (h.rest q)) → Reaches bound m.interrupts (met true s.opening true m)
     opens_all o =
         let bounded = h.bounded in
         let one = (o One).less in
@@ -165,7 +165,7 @@ module _ (s : Section) (field : Queue → List Token) (uses : Uses s field) (giv
                 stores = section_stores s field;
                 left = λ q. length (o q).field;
                 outlook =
-                    each_removed (λ q lane. Outlook (asks q s.body) (section_stores s field q) (length (o q).field) lane.taken (lane.entries ++ later q)) m.queues
+                    each_removed (λ q held. Outlook (asks q s.body) (section_stores s field q) (length (o q).field) held.taken (held.entries ++ later q)) m.queues
                     (λ q.
                     subst (λ (ahead : List Entry). Outlook (asks q s.body) (section_stores s field q) (length (o q).field) 0 ahead) (sym (o q).order)
                     (outlook_at_start (asks q s.body) (field q) (o q).field (h.rest q) (uses q) (o q).brings));
@@ -177,7 +177,7 @@ module _ (s : Section) (field : Queue → List Token) (uses : Uses s field) (giv
           quiet = fdsr-applied s.opening m.interrupts;
         }
 
-    common_front : (seen : Code) → Common m.queues seen → (q : Queue) → front_code (lane_of q m.queues) ≡ Some seen
+    common_front : (seen : Code) → Common m.queues seen → (q : Queue) → front_code (queue_state q m.queues) ≡ Some seen
     common_front seen c One = c.one
     common_front seen c Two = c.two
     common_front seen c Three = c.three
@@ -186,20 +186,20 @@ module _ (s : Section) (field : Queue → List Token) (uses : Uses s field) (giv
     meets seen c true e =
         let same : seen ≡ s.code = same_code seen s.code (eqb-true _ _ e) in
         opens_all (λ q.
-        opens s.code (field q) (lane_of q m.queues) (later q) (h.before q) (h.entries q) (h.rest q)
-        (code-HasFront (lane_of q m.queues) s.code (common_front seen c q ∙ ap Some same)) (h.order q) (h.brings q) (h.unmarked q))
+        opens s.code (field q) (queue_state q m.queues) (later q) (h.before q) (h.entries q) (h.rest q)
+        (code-HasFront (queue_state q m.queues) s.code (common_front seen c q ∙ ap Some same)) (h.order q) (h.brings q) (h.unmarked q))
     meets seen c false e =
         let other : seen ≡ s.code → ⊥ = λ same. eqb-false _ _ e (ap code_number same) in
         drops_all (λ q.
-        drops s.code (field q) (lane_of q m.queues) (later q) (h.before q) (h.entries q) (h.rest q) (Some seen)
-        (code-HasFront (lane_of q m.queues) seen (common_front seen c q)) (λ same. other cc) (h.order q) (h.brings q) (h.unmarked q))
+        drops s.code (field q) (queue_state q m.queues) (later q) (h.before q) (h.entries q) (h.rest q) (Some seen)
+        (code-HasFront (queue_state q m.queues) seen (common_front seen c q)) (λ same. other cc) (h.order q) (h.brings q) (h.unmarked q))
 
     -- without a stray front, every queue that is not empty has a code in front
-    held_front : lowest_stray m.queues ≡ None → (q : Queue) → later q ≡ [] → (code : Code) × (front_code (lane_of q m.queues) ≡ Some code)
+    held_front : lowest_stray m.queues ≡ None → (q : Queue) → later q ≡ [] → (code : Code) × (front_code (queue_state q m.queues) ≡ Some code)
     held_front none q empty =
-        held_code (lane_of q m.queues).entries
-        (lowest_none (λ q. is_stray (lane_of q m.queues)) (is_stray m.queues.one) (is_stray m.queues.two) (is_stray m.queues.three) refl refl refl q none)
-        (field_ahead s.code (field q) (lane_of q m.queues).entries (later q) (h.before q) (h.entries q) (h.rest q) empty (h.order q) (h.brings q))
+        held_code (queue_state q m.queues).entries
+        (lowest_none (λ q. is_stray (queue_state q m.queues)) (is_stray m.queues.one) (is_stray m.queues.two) (is_stray m.queues.three) refl refl refl q none)
+        (field_ahead s.code (field q) (queue_state q m.queues).entries (later q) (h.before q) (h.entries q) (h.rest q) empty (h.order q) (h.brings q))
 
     sees : (seen : Option Code) → lowest_stray m.queues ≡ None → IsFifo m.queues → common_code m.queues ≡ seen → Reaches bound m.interrupts (code_seen seen s.opening true s.code m)
     sees None none fifo e =
@@ -218,7 +218,7 @@ module _ (s : Section) (field : Queue → List Token) (uses : Uses s field) (giv
 
     waits_for : (stray : Option Queue) → lowest_stray m.queues ≡ stray → IsFifo m.queues → Reaches bound m.interrupts (stray_seen stray s.opening true s.code m)
     waits_for (Some q) e fifo =
-        drops_one q (lowest_some (λ q. is_stray (lane_of q m.queues)) (is_stray m.queues.one) (is_stray m.queues.two) (is_stray m.queues.three) refl refl refl q e)
+        drops_one q (lowest_some (λ q. is_stray (queue_state q m.queues)) (is_stray m.queues.one) (is_stray m.queues.two) (is_stray m.queues.three) refl refl refl q e)
     waits_for None e fifo = sees (common_code m.queues) e fifo refl
 
     pub opening-Reaches : IsFifo m.queues → Reaches bound m.interrupts (waited s.opening true s.code m)

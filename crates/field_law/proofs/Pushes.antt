@@ -5,7 +5,7 @@ use Rattle.fifo_model.specs.declared.Entry.{Entry}
 use Rattle.fifo_model.specs.declared.Queue.{Queue}
 use Rattle.fifo_model.specs.declared.Queue.TheVariants.{One, Two, Three}
 use Rattle.fifo_model.specs.declared.Pushed.TheVariants.{Held, Overrun}
-use Rattle.fifo_model.specs.Queues.{Queues, lane_of, with_lane, is_full, some_full, entered, overrun, all_entered, control_entry, more}
+use Rattle.fifo_model.specs.Queues.{Queues, queue_state, with_queue_state, is_full, some_full, entered, overrun, all_entered, control_entry, more}
 use Rattle.irq_status.specs.declared.HostWrite.TheVariants.{Ack, Enable, Trigger}
 use Rattle.page_table.specs.Grants.{Chunk}
 use Rattle.page_table.specs.Blocks.{Block}
@@ -24,16 +24,16 @@ use Rattle.field_law.proofs.Opening.{Opening, IsReached}
 -- ---- entries are added at the ends
 
 pub record Adds (queues after : Queues) (new : Queue → List Entry) : Type 0 where
-  pub taken : (q : Queue) → (lane_of q after).taken ≡ (lane_of q queues).taken
-  pub entries : (q : Queue) → (lane_of q after).entries ≡ (lane_of q queues).entries ++ new q
+  pub taken : (q : Queue) → (queue_state q after).taken ≡ (queue_state q queues).taken
+  pub entries : (q : Queue) → (queue_state q after).entries ≡ (queue_state q queues).entries ++ new q
 
 adds_none : (queues : Queues) → Adds queues queues (λ q. [])
-adds_none queues = record { taken = λ q. refl; entries = λ q. sym (append-nil (lane_of q queues).entries) }
+adds_none queues = record { taken = λ q. refl; entries = λ q. sym (append-nil (queue_state q queues).entries) }
 
-adds_to : (to : Queue) (entry : Entry) (queues : Queues) → Adds queues (with_lane to (entered entry (lane_of to queues)) queues) (λ q. pushed_by (Push to entry) q)
+adds_to : (to : Queue) (entry : Entry) (queues : Queues) → Adds queues (with_queue_state to (entered entry (queue_state to queues)) queues) (λ q. pushed_by (Push to entry) q)
 adds_to to entry queues = record { taken = taken to; entries = entries to }
   where
-    taken : (to q : Queue) → (lane_of q (with_lane to (entered entry (lane_of to queues)) queues)).taken ≡ (lane_of q queues).taken
+    taken : (to q : Queue) → (queue_state q (with_queue_state to (entered entry (queue_state to queues)) queues)).taken ≡ (queue_state q queues).taken
     taken One One = refl
     taken One Two = refl
     taken One Three = refl
@@ -44,7 +44,7 @@ adds_to to entry queues = record { taken = taken to; entries = entries to }
     taken Three Two = refl
     taken Three Three = refl
 
-    entries : (to q : Queue) → (lane_of q (with_lane to (entered entry (lane_of to queues)) queues)).entries ≡ (lane_of q queues).entries ++ pushed_by (Push to entry) q
+    entries : (to q : Queue) → (queue_state q (with_queue_state to (entered entry (queue_state to queues)) queues)).entries ≡ (queue_state q queues).entries ++ pushed_by (Push to entry) q
     entries One One = refl
     entries One Two = sym (append-nil queues.two.entries)
     entries One Three = sym (append-nil queues.three.entries)
@@ -58,12 +58,12 @@ adds_to to entry queues = record { taken = taken to; entries = entries to }
 adds_all : (code : Code) (queues : Queues) → Adds queues (all_entered (control_entry code) queues) (λ q. pushed_by (Control code) q)
 adds_all code queues = record { taken = taken; entries = entries }
   where
-    taken : (q : Queue) → (lane_of q (all_entered (control_entry code) queues)).taken ≡ (lane_of q queues).taken
+    taken : (q : Queue) → (queue_state q (all_entered (control_entry code) queues)).taken ≡ (queue_state q queues).taken
     taken One = refl
     taken Two = refl
     taken Three = refl
 
-    entries : (q : Queue) → (lane_of q (all_entered (control_entry code) queues)).entries ≡ (lane_of q queues).entries ++ control_entry code ∷ []
+    entries : (q : Queue) → (queue_state q (all_entered (control_entry code) queues)).entries ≡ (queue_state q queues).entries ++ control_entry code ∷ []
     entries One = refl
     entries Two = refl
     entries Three = refl
@@ -78,15 +78,15 @@ push_full false true q entry m h = (refl, refl)
 push_full false false q entry m h = cc
 
 held_is : (full : Bool) (q : Queue) (entry : Entry) (m : State) → full ≡ false →
-    record (with_fbus_if full m) { queues = if full then with_lane q (overrun (lane_of q m.queues)) m.queues else with_lane q (entered entry (lane_of q m.queues)) m.queues }
-    ≡ record m { queues = with_lane q (entered entry (lane_of q m.queues)) m.queues }
+    record (with_fbus_if full m) { queues = if full then with_queue_state q (overrun (queue_state q m.queues)) m.queues else with_queue_state q (entered entry (queue_state q m.queues)) m.queues }
+    ≡ record m { queues = with_queue_state q (entered entry (queue_state q m.queues)) m.queues }
 held_is true q entry m h = cc
 held_is false q entry m h = refl
 
-pub push-is : (q : Queue) (entry : Entry) (m : State) → pushed_as q m ≡ Held → push q entry m ≡ record m { queues = with_lane q (entered entry (lane_of q m.queues)) m.queues }
+pub push-is : (q : Queue) (entry : Entry) (m : State) → pushed_as q m ≡ Held → push q entry m ≡ record m { queues = with_queue_state q (entered entry (queue_state q m.queues)) m.queues }
 push-is q entry m h =
-    let parts = push_full (is_full (lane_of q m.queues)) m.fifo_on q entry m h in
-    ap (λ (on : Bool). push_if on q entry m) parts.0 ∙ held_is (is_full (lane_of q m.queues)) q entry m parts.1
+    let parts = push_full (is_full (queue_state q m.queues)) m.fifo_on q entry m h in
+    ap (λ (on : Bool). push_if on q entry m) parts.0 ∙ held_is (is_full (queue_state q m.queues)) q entry m parts.1
 
 code_held_is : (full : Bool) (code : Code) (m : State) → full ≡ false →
     record (with_fbus_if full m) { queues = if full then record m.queues { control_overruns = more m.queues.control_overruns 1 } else all_entered (control_entry code) m.queues }
@@ -102,8 +102,8 @@ push_control-is code m h =
 -- ---- what is reached stays so, with other queues
 
 module _ (s : Section) (field : Queue → List Token) (uses : Uses s field) (given : Type 0) (chunks : List Chunk) (final : ℕ → ℕ) where
-  module _ (later later' more : Queue → List Entry) (queues queues' : Queues) (taken : (q : Queue) → (lane_of q queues').taken ≡ (lane_of q queues).taken)
-      (ahead : (q : Queue) → (lane_of q queues').entries ++ later' q ≡ ((lane_of q queues).entries ++ later q) ++ more q)
+  module _ (later later' more : Queue → List Entry) (queues queues' : Queues) (taken : (q : Queue) → (queue_state q queues').taken ≡ (queue_state q queues).taken)
+      (ahead : (q : Queue) → (queue_state q queues').entries ++ later' q ≡ ((queue_state q queues).entries ++ later q) ++ more q)
       (bound : ℕ) (risc_on : Bool) (pc : ℕ) (skipping : Skipping) (job : Job) (memory : List Block) where
     opening_moved : Opening s field given chunks final later bound risc_on pc skipping job queues memory → Opening s field given chunks final later' bound risc_on pc skipping job queues' memory
     opening_moved h =
@@ -138,9 +138,9 @@ module _ (s : Section) (field : Queue → List Token) (uses : Uses s field) (giv
           left = h.left;
           outlook =
               λ q.
-              subst (λ (taken : ℕ). Outlook (job_asks q job (asks q h.body)) (h.stores q) (h.left q) taken ((lane_of q queues').entries ++ later' q)) (sym (taken q))
-              (subst (λ (ahead : List Entry). Outlook (job_asks q job (asks q h.body)) (h.stores q) (h.left q) (lane_of q queues).taken ahead) (sym (ahead q))
-              (outlook_with (job_asks q job (asks q h.body)) (h.stores q) (h.left q) (lane_of q queues).taken ((lane_of q queues).entries ++ later q) (more q) (h.outlook q)));
+              subst (λ (taken : ℕ). Outlook (job_asks q job (asks q h.body)) (h.stores q) (h.left q) taken ((queue_state q queues').entries ++ later' q)) (sym (taken q))
+              (subst (λ (ahead : List Entry). Outlook (job_asks q job (asks q h.body)) (h.stores q) (h.left q) (queue_state q queues).taken ahead) (sym (ahead q))
+              (outlook_with (job_asks q job (asks q h.body)) (h.stores q) (h.left q) (queue_state q queues).taken ((queue_state q queues).entries ++ later q) (more q) (h.outlook q)));
           painted = h.painted;
           bounded = h.bounded;
         }
@@ -152,10 +152,10 @@ module _ (s : Section) (field : Queue → List Token) (uses : Uses s field) (giv
 
   -- a step that is no turn
   pub step-moved : (later later' more : Queue → List Entry) (bound : ℕ) (st : Step) (m : State) → IsQuiet m st → turn_count st ≡ 0 →
-      ((after : Queues) → Adds m.queues after (pushed_by st) → (q : Queue) → (lane_of q after).entries ++ later' q ≡ ((lane_of q m.queues).entries ++ later q) ++ more q) →
+      ((after : Queues) → Adds m.queues after (pushed_by st) → (q : Queue) → (queue_state q after).entries ++ later' q ≡ ((queue_state q m.queues).entries ++ later q) ++ more q) →
       IsReached s field uses given chunks final later bound m → IsReached s field uses given chunks final later' bound (step st m)
   step-moved later later' more bound (Push to entry) m quiet no_turn ahead h =
-      let queues' : Queues = with_lane to (entered entry (lane_of to m.queues)) m.queues in
+      let queues' : Queues = with_queue_state to (entered entry (queue_state to m.queues)) m.queues in
       let adds = adds_to to entry m.queues in
       subst (λ (m' : State). IsReached s field uses given chunks final later' bound m') (sym (push-is to entry m quiet.0))
       (reached_moved later later' more m.queues queues' adds.taken (ahead queues' adds) bound m.risc_on m.pc m.skipping m.job m.memory h)
@@ -175,13 +175,13 @@ module _ (s : Section) (field : Queue → List Token) (uses : Uses s field) (giv
 
 -- what was to come is there
 pub ahead_there : (queues after : Queues) (new later : Queue → List Entry) → Adds queues after new → (q : Queue) →
-    (lane_of q after).entries ++ later q ≡ ((lane_of q queues).entries ++ (new q ++ later q)) ++ []
+    (queue_state q after).entries ++ later q ≡ ((queue_state q queues).entries ++ (new q ++ later q)) ++ []
 ahead_there queues after new later h q =
-    ap (λ (entries : List Entry). entries ++ later q) (h.entries q) ∙ append_assoc (lane_of q queues).entries (new q) (later q)
-    ∙ sym (append-nil ((lane_of q queues).entries ++ (new q ++ later q)))
+    ap (λ (entries : List Entry). entries ++ later q) (h.entries q) ∙ append_assoc (queue_state q queues).entries (new q) (later q)
+    ∙ sym (append-nil ((queue_state q queues).entries ++ (new q ++ later q)))
 
 -- more comes after all that was to come
 pub ahead_more : (queues after : Queues) (new : Queue → List Entry) → Adds queues after new → (q : Queue) →
-    (lane_of q after).entries ++ [] ≡ ((lane_of q queues).entries ++ []) ++ new q
+    (queue_state q after).entries ++ [] ≡ ((queue_state q queues).entries ++ []) ++ new q
 ahead_more queues after new h q =
-    append-nil (lane_of q after).entries ∙ h.entries q ∙ ap (λ (entries : List Entry). entries ++ new q) (sym (append-nil (lane_of q queues).entries))
+    append-nil (queue_state q after).entries ∙ h.entries q ∙ ap (λ (entries : List Entry). entries ++ new q) (sym (append-nil (queue_state q queues).entries))

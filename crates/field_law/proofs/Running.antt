@@ -7,7 +7,7 @@ use Rattle.sync_status.specs.Statuses.{kind_of}
 use Rattle.fifo_model.specs.declared.Entry.{Entry}
 use Rattle.fifo_model.specs.declared.Queue.{Queue}
 use Rattle.fifo_model.specs.declared.Queue.TheVariants.{One, Two, Three}
-use Rattle.fifo_model.specs.Queues.{Lane, first, front, lane_of, is_ready, wakes}
+use Rattle.fifo_model.specs.Queues.{QueueState, first, front, queue_state, is_ready, wakes}
 use Rattle.irq_status.specs.Register.{fdsr, has}
 use Rattle.irq_status.proofs.Laws.{fdsr-applied}
 use Rattle.page_table.specs.Grants.{Chunk}
@@ -99,7 +99,7 @@ module _ (s : Section) (given : Type 0) (chunks : List Chunk) (final : ℕ → �
   -- ---- a burst
 
   asked : (bound : ℕ) (q : Queue) (instr : Instr) (ds : Demands) (entry : Entry) (m after : State) (none : Bool) → WithinJob s given chunks final later bound (Running instr ds) m →
-      front (lane_of q m.queues) ≡ Some entry → ((demand_on q ds).rest == 0) ≡ none →
+      front (queue_state q m.queues) ≡ Some entry → ((demand_on q ds).rest == 0) ≡ none →
       (if none then None else Some (judged (verdict_at q ds entry m) q instr ds entry m)) ≡ Some after → Fewer s given chunks final later bound m.interrupts after
   asked bound q instr ds entry m after true h f n e = cc
   asked bound q instr ds entry m after false h f n e =
@@ -108,7 +108,7 @@ module _ (s : Section) (given : Type 0) (chunks : List Chunk) (final : ℕ → �
       (judged-Within s given chunks final later bound q instr ds entry m h f (some_rest (demand_on q ds).rest n))
 
   served_within : (bound : ℕ) (q : Queue) (instr : Instr) (ds : Demands) (m after : State) (top : Option Entry) → WithinJob s given chunks final later bound (Running instr ds) m →
-      front (lane_of q m.queues) ≡ top → served top q instr ds m ≡ Some after → Fewer s given chunks final later bound m.interrupts after
+      front (queue_state q m.queues) ≡ top → served top q instr ds m ≡ Some after → Fewer s given chunks final later bound m.interrupts after
   served_within bound q instr ds m after None h f e = cc
   served_within bound q instr ds m after (Some entry) h f e = asked bound q instr ds entry m after _ h f refl e
 
@@ -156,12 +156,12 @@ module _ (s : Section) (given : Type 0) (chunks : List Chunk) (final : ℕ → �
       ∙ cond-false ((demand_on q ds).rest == 0) None (Some (judged (verdict_at q ds entry m) q instr ds entry m)) r
 
   burst_first : (count bound : ℕ) (instr : Instr) (ds : Demands) (entry : Entry) (q : Queue) (m : State) → 0 < count → m.job ≡ Running instr ds →
-      IsWithin s given chunks final later bound m → front (lane_of q m.queues) ≡ Some entry → ((demand_on q ds).rest == 0) ≡ false →
+      IsWithin s given chunks final later bound m → front (queue_state q m.queues) ≡ Some entry → ((demand_on q ds).rest == 0) ≡ false →
       Fewer s given chunks final later bound m.interrupts (burst count q m)
   burst_first zero bound instr ds entry q m some j h f r = absurd (omega arith)
   burst_first (suc count) bound instr ds entry q m some j h f r =
       let after : State = judged (verdict_at q ds entry m) q instr ds entry m in
-      let e : apply q m ≡ Some after = ap (λ (job : Job). apply_in job q m) j ∙ first_application instr ds entry q m (front (lane_of q m.queues)) r f in
+      let e : apply q m ≡ Some after = ap (λ (job : Job). apply_in job q m) j ∙ first_application instr ds entry q m (front (queue_state q m.queues)) r f in
       let first = applied_within bound m.job q m after h e in
       let same : burst (suc count) q m ≡ burst count q after =
       ap (λ (next : Option State). elim next as (λ _. State) [ None ↦ m | Some after ↦ burst count q after ]) e in
@@ -177,12 +177,12 @@ module _ (s : Section) (given : Type 0) (chunks : List Chunk) (final : ℕ → �
     -- a queue with all of its line is ready
     ready : (q : Queue) → 0 < (demand_on q ds).rest → later q ≡ [] → is_served q ds m ≡ true
     ready q some none =
-        let lane : Lane = lane_of q m.queues in
-        let wakes = outlook_wakes (demand_on q ds) (asks q runs.body) (runs.stores q) (runs.left q) lane.taken (lane.entries ++ later q) some (runs.outlook q) in
-        let here : has_waking lane.entries ≡ true =
-        sym (ap (λ (entries : List Entry). has_waking (lane.entries ++ entries)) none ∙ ap has_waking (append-nil lane.entries)) ∙ wakes in
-        and_from (not ((demand_on q ds).rest == 0)) (is_ready m.trigger lane) (not_from_false ((demand_on q ds).rest == 0) (ne_eqb (demand_on q ds).rest 0 (λ none. omega arith)))
-        (or_right (nat_le m.trigger (length lane.entries)) (has_waking lane.entries) here)
+        let held : QueueState = queue_state q m.queues in
+        let wakes = outlook_wakes (demand_on q ds) (asks q runs.body) (runs.stores q) (runs.left q) held.taken (held.entries ++ later q) some (runs.outlook q) in
+        let here : has_waking held.entries ≡ true =
+        sym (ap (λ (entries : List Entry). has_waking (held.entries ++ entries)) none ∙ ap has_waking (append-nil held.entries)) ∙ wakes in
+        and_from (not ((demand_on q ds).rest == 0)) (is_ready m.trigger held) (not_from_false ((demand_on q ds).rest == 0) (ne_eqb (demand_on q ds).rest 0 (λ none. omega arith)))
+        (or_right (nat_le m.trigger (length held.entries)) (has_waking held.entries) here)
 
     serves : (found : Option Queue) → lowest_served ds m ≡ found → is_done ds ≡ false → Turned bound m.interrupts (burst_of found m)
     serves None e d =
@@ -194,8 +194,8 @@ module _ (s : Section) (given : Type 0) (chunks : List Chunk) (final : ℕ → �
           quiet = refl;
         }
     serves (Some q) e d =
-        let parts = and_parts (not ((demand_on q ds).rest == 0)) (is_ready m.trigger (lane_of q m.queues)) (served_some ds m q e) in
-        let there = ready_front m.trigger (lane_of q m.queues).entries triggered parts.1 in
+        let parts = and_parts (not ((demand_on q ds).rest == 0)) (is_ready m.trigger (queue_state q m.queues)) (served_some ds m q e) in
+        let there = ready_front m.trigger (queue_state q m.queues).entries triggered parts.1 in
         let f = burst_first m.trigger bound instr ds there.0 q m triggered j h there.1 (not-true ((demand_on q ds).rest == 0) parts.0) in
         let less = f.less in
         record { next = f.next; within = f.within; most = omega arith; less = λ _. less; quiet = ap (has fdsr) f.same }
@@ -217,7 +217,7 @@ module _ (s : Section) (given : Type 0) (chunks : List Chunk) (final : ℕ → �
                 left = runs.left;
                 outlook =
                     λ q.
-                    outlook_done (demand_on q ds) (asks q runs.body) (runs.stores q) (runs.left q) (lane_of q m.queues).taken ((lane_of q m.queues).entries ++ later q) (done_rest ds d q) (runs.outlook q);
+                    outlook_done (demand_on q ds) (asks q runs.body) (runs.stores q) (runs.left q) (queue_state q m.queues).taken ((queue_state q m.queues).entries ++ later q) (done_rest ds d q) (runs.outlook q);
                 painted = runs.painted;
                 bounded = omega arith;
               };

@@ -7,7 +7,7 @@ use Rattle.sync_status.specs.declared.StatusKind.TheVariants.{Start}
 use Rattle.sync_status.specs.declared.Verdict.TheVariants.{Take}
 use Rattle.sync_status.specs.Statuses.{kind_of, valid_bytes, valid_lanes, is_end, verdict_on}
 use Rattle.fifo_model.specs.declared.Entry.{Entry}
-use Rattle.fifo_model.specs.Queues.{Lane, removed, taken_more, taken_from, bytes_taken}
+use Rattle.fifo_model.specs.Queues.{QueueState, removed, taken_more, taken_from, bytes_taken}
 use Rattle.machine_model.specs.declared.Demand.{Demand}
 use Rattle.machine_model.specs.Turns.{Store, stores_from, stores_at, is_off, demand_less, is_cut_short}
 use Rattle.field_law.specs.Fields.{Token, Mark, Row, Brings}
@@ -16,19 +16,19 @@ use Rattle.field_law.proofs.Lines.{Part, UnderWay, Started, line-Started, moving
 
 -- ---- stores
 
--- where no lane is off every byte is stored
-none_off : (lane : ℕ) → is_off 0 lane ≡ false
-none_off lane = let none : 0 / 2 ^ lane ≡ 0 = zero-div (2 ^ lane) in ap (λ (n : ℕ). n % 2 == 1) none
+-- where no held is off every byte is stored
+none_off : (held : ℕ) → is_off 0 held ≡ false
+none_off held = let none : 0 / 2 ^ held ≡ 0 = zero-div (2 ^ held) in ap (λ (n : ℕ). n % 2 == 1) none
 
-pub stores_from-laid : (lane address : ℕ) (bytes : List ℕ) → stores_from 0 lane address bytes ≡ laid_from address bytes
-stores_from-laid lane address [] = refl
-stores_from-laid lane address (byte ∷ bytes) =
-    ap (λ (off : Bool). if off then stores_from 0 (lane + 1) (address + 1) bytes else record { address = address; byte = byte } ∷ stores_from 0 (lane + 1) (address + 1) bytes) (none_off lane)
-    ∙ ap (λ (stores : List Store). record { address = address; byte = byte } ∷ stores) (stores_from-laid (lane + 1) (address + 1) bytes)
+pub stores_from-laid : (held address : ℕ) (bytes : List ℕ) → stores_from 0 held address bytes ≡ laid_from address bytes
+stores_from-laid held address [] = refl
+stores_from-laid held address (byte ∷ bytes) =
+    ap (λ (off : Bool). if off then stores_from 0 (held + 1) (address + 1) bytes else record { address = address; byte = byte } ∷ stores_from 0 (held + 1) (address + 1) bytes) (none_off held)
+    ∙ ap (λ (stores : List Store). record { address = address; byte = byte } ∷ stores) (stores_from-laid (held + 1) (address + 1) bytes)
 
-pub stores_at-laid : (address : Option ℕ) (lane : ℕ) (bytes : List ℕ) → stores_at address 0 lane bytes ≡ laid address bytes
-stores_at-laid None lane bytes = refl
-stores_at-laid (Some address) lane bytes = stores_from-laid lane address bytes
+pub stores_at-laid : (address : Option ℕ) (held : ℕ) (bytes : List ℕ) → stores_at address 0 held bytes ≡ laid address bytes
+stores_at-laid None held bytes = refl
+stores_at-laid (Some address) held bytes = stores_from-laid held address bytes
 
 laid_from-append : (address : ℕ) (xs ys : List ℕ) → laid_from address (xs ++ ys) ≡ laid_from address xs ++ laid_from (address + length xs) ys
 laid_from-append address [] ys = let same : address ≡ address + 0 = omega arith in ap (λ (at : ℕ). laid_from at ys) same
@@ -175,14 +175,14 @@ front true count address asks stores left taken ahead some h =
 
 -- its front and its queue after it: bytes are taken in order, the line doesn't end too early, and either the entry goes
 -- or nothing more is asked
-pub record Takes (d : Demand) (asks : List Ask) (stores : List Store) (left : ℕ) (lane : Lane) (entry : Entry) (later : List Entry) : Type 0 where
+pub record Takes (d : Demand) (asks : List Ask) (stores : List Store) (left : ℕ) (held : QueueState) (entry : Entry) (later : List Entry) : Type 0 where
   pub count : ℕ
-  pub verdict : verdict_on (kind_of entry.status) d.needs_sol lane.taken d.rest ≡ Take count
-  pub whole : is_cut_short entry lane.taken count d.rest ≡ false
+  pub verdict : verdict_on (kind_of entry.status) d.needs_sol held.taken d.rest ≡ Take count
+  pub whole : is_cut_short entry held.taken count d.rest ≡ false
   pub stores_left : List Store
   pub entries_left : ℕ
-  pub made : stores ≡ stores_at d.address 0 lane.taken (bytes_taken entry lane.taken count) ++ stores_left
-  pub next : Outlook (ask_of (demand_less count d) ∷ asks) stores_left entries_left (taken_from count lane).taken ((taken_from count lane).entries ++ later)
+  pub made : stores ≡ stores_at d.address 0 held.taken (bytes_taken entry held.taken count) ++ stores_left
+  pub next : Outlook (ask_of (demand_less count d) ∷ asks) stores_left entries_left (taken_from count held).taken ((taken_from count held).entries ++ later)
   pub less : entries_left + min (d.rest - count) 1 < left + min d.rest 1
 
 never_short : (last ends : Bool) (rest count : ℕ) → ((last ≡ true) → (ends ≡ true) → rest ≡ count) → (last && ends && not (rest == count)) ≡ false
@@ -190,15 +190,15 @@ never_short false ends rest count h = refl
 never_short true false rest count h = refl
 never_short true true rest count h = ap not (eq-eqb rest count (h refl refl))
 
-lane_without : (count : ℕ) (lane : Lane) (entry : Entry) (es : List Entry) → lane.entries ≡ entry ∷ es → lane.taken + count ≡ valid_bytes entry.status →
-    taken_from count lane ≡ removed lane
-lane_without count lane entry es e whole =
-    ap (taken_more count lane) e ∙ cond-true (lane.taken + count == valid_bytes entry.status) (removed lane) (record lane { taken = lane.taken + count }) (eq-eqb _ _ whole)
+queue_without : (count : ℕ) (held : QueueState) (entry : Entry) (es : List Entry) → held.entries ≡ entry ∷ es → held.taken + count ≡ valid_bytes entry.status →
+    taken_from count held ≡ removed held
+queue_without count held entry es e whole =
+    ap (taken_more count held) e ∙ cond-true (held.taken + count == valid_bytes entry.status) (removed held) (record held { taken = held.taken + count }) (eq-eqb _ _ whole)
 
-lane_with : (count : ℕ) (lane : Lane) (entry : Entry) (es : List Entry) → lane.entries ≡ entry ∷ es → (lane.taken + count ≡ valid_bytes entry.status → ⊥) →
-    taken_from count lane ≡ record lane { taken = lane.taken + count }
-lane_with count lane entry es e part =
-    ap (taken_more count lane) e ∙ cond-false (lane.taken + count == valid_bytes entry.status) (removed lane) (record lane { taken = lane.taken + count }) (ne_eqb _ _ part)
+queue_with : (count : ℕ) (held : QueueState) (entry : Entry) (es : List Entry) → held.entries ≡ entry ∷ es → (held.taken + count ≡ valid_bytes entry.status → ⊥) →
+    taken_from count held ≡ record held { taken = held.taken + count }
+queue_with count held entry es e part =
+    ap (taken_more count held) e ∙ cond-false (held.taken + count == valid_bytes entry.status) (removed held) (record held { taken = held.taken + count }) (ne_eqb _ _ part)
 
 -- the outlook after so many bytes
 after_taking : (n count : ℕ) (address : Option ℕ) (asks : List Ask) (line : List ℕ) (tokens : List Token) (left taken : ℕ) (ahead half entries rest : List Entry) →
@@ -237,78 +237,78 @@ stores_after n count taken address asks line tokens entry half le enough part so
     ∙ ap (λ (line' : List ℕ). laid address (take n line) ++ (laid (option_map (λ at. at + n) address) (take (count - n) (drop n line)) ++ planned asks line' tokens)) (sym same)
     ∙ ap (λ (stores : List Store). stores ++ planned (GoOn (count - n) (option_map (λ at. at + n) address) ∷ asks) (drop n line) tokens) made
 
-module _ (d : Demand) (asks : List Ask) (stores : List Store) (left : ℕ) (lane : Lane) (later : List Entry) (es : List Entry) (some : 0 < d.rest)
-    (f : Front d.needs_sol d.rest d.address asks stores left lane.taken (lane.entries ++ later)) (first : lane.entries ≡ f.entry ∷ es)
+module _ (d : Demand) (asks : List Ask) (stores : List Store) (left : ℕ) (held : QueueState) (later : List Entry) (es : List Entry) (some : 0 < d.rest)
+    (f : Front d.needs_sol d.rest d.address asks stores left held.taken (held.entries ++ later)) (first : held.entries ≡ f.entry ∷ es)
     (behind : es ++ later ≡ f.half ++ (f.entries ++ f.rest)) where
   taking : ℕ
-  taking = min d.rest (valid_bytes f.entry.status - lane.taken)
+  taking = min d.rest (valid_bytes f.entry.status - held.taken)
 
-  not_short : is_cut_short f.entry lane.taken taking d.rest ≡ false
+  not_short : is_cut_short f.entry held.taken taking d.rest ≡ false
   unfolding taking
   not_short =
-      never_short (is_end (kind_of f.entry.status)) (lane.taken + taking == valid_bytes f.entry.status) d.rest taking
+      never_short (is_end (kind_of f.entry.status)) (held.taken + taking == valid_bytes f.entry.status) d.rest taking
       (λ last ends.
       let all = eqb-true _ _ ends in
       let enough = f.enough in
       let there = f.part.some in
-      omega (arith, part-last lane.taken f.line f.entry f.half f.part last))
+      omega (arith, part-last held.taken f.line f.entry f.half f.part last))
 
-  whole_taken : lane.taken + taking ≡ valid_bytes f.entry.status → Takes d asks stores left lane f.entry later
+  whole_taken : held.taken + taking ≡ valid_bytes f.entry.status → Takes d asks stores left held f.entry later
   unfolding taking
   whole_taken whole =
       let enough = f.enough in
       let counted = f.counted in
       let there = f.part.some in
-      let after : taken_from taking lane ≡ removed lane = lane_without taking lane f.entry es first whole in
+      let after : taken_from taking held ≡ removed held = queue_without taking held f.entry es first whole in
       let next =
-      after_taking taking d.rest (option_map (λ at. at + taking) d.address) asks f.line f.tokens (length f.half + length f.entries) 0 (drop 1 lane.entries ++ later) f.half f.entries f.rest
-      (omega arith) enough f.uses f.brings (ap (λ (entries : List Entry). drop 1 entries ++ later) first ∙ behind) (part-whole lane.taken taking f.line f.entry f.half f.part whole) refl in
+      after_taking taking d.rest (option_map (λ at. at + taking) d.address) asks f.line f.tokens (length f.half + length f.entries) 0 (drop 1 held.entries ++ later) f.half f.entries f.rest
+      (omega arith) enough f.uses f.brings (ap (λ (entries : List Entry). drop 1 entries ++ later) first ∙ behind) (part-whole held.taken taking f.line f.entry f.half f.part whole) refl in
       record {
         count = taking;
         verdict = f.verdict;
         whole = not_short;
         stores_left = planned (GoOn (d.rest - taking) (option_map (λ at. at + taking) d.address) ∷ asks) (drop taking f.line) f.tokens;
         entries_left = length f.half + length f.entries;
-        made = sym f.stored ∙ stores_after taking d.rest lane.taken d.address asks f.line f.tokens f.entry f.half (omega arith) enough f.part (omega arith);
+        made = sym f.stored ∙ stores_after taking d.rest held.taken d.address asks f.line f.tokens f.entry f.half (omega arith) enough f.part (omega arith);
         next =
-            subst (λ (lane' : Lane). Outlook (ask_of (demand_less taking d) ∷ asks) (planned (GoOn (d.rest - taking) (option_map (λ at. at + taking) d.address) ∷ asks) (drop taking f.line) f.tokens)
-            (length f.half + length f.entries) lane'.taken (lane'.entries ++ later)) (sym after) next;
+            subst (λ (held' : QueueState). Outlook (ask_of (demand_less taking d) ∷ asks) (planned (GoOn (d.rest - taking) (option_map (λ at. at + taking) d.address) ∷ asks) (drop taking f.line) f.tokens)
+            (length f.half + length f.entries) held'.taken (held'.entries ++ later)) (sym after) next;
         less = omega arith;
       }
 
-  part_taken : (lane.taken + taking ≡ valid_bytes f.entry.status → ⊥) → Takes d asks stores left lane f.entry later
+  part_taken : (held.taken + taking ≡ valid_bytes f.entry.status → ⊥) → Takes d asks stores left held f.entry later
   unfolding taking
   part_taken part =
       let enough = f.enough in
       let counted = f.counted in
       let there = f.part.some in
-      let after : taken_from taking lane ≡ record lane { taken = lane.taken + taking } = lane_with taking lane f.entry es first part in
+      let after : taken_from taking held ≡ record held { taken = held.taken + taking } = queue_with taking held f.entry es first part in
       let next =
-      after_taking taking d.rest (option_map (λ at. at + taking) d.address) asks f.line f.tokens left (lane.taken + taking) (lane.entries ++ later) (f.entry ∷ f.half) f.entries f.rest
-      (omega arith) enough f.uses f.brings f.order (part-some lane.taken taking f.line f.entry f.half f.part (omega arith) (omega arith)) (omega arith) in
+      after_taking taking d.rest (option_map (λ at. at + taking) d.address) asks f.line f.tokens left (held.taken + taking) (held.entries ++ later) (f.entry ∷ f.half) f.entries f.rest
+      (omega arith) enough f.uses f.brings f.order (part-some held.taken taking f.line f.entry f.half f.part (omega arith) (omega arith)) (omega arith) in
       record {
         count = taking;
         verdict = f.verdict;
         whole = not_short;
         stores_left = planned (GoOn (d.rest - taking) (option_map (λ at. at + taking) d.address) ∷ asks) (drop taking f.line) f.tokens;
         entries_left = left;
-        made = sym f.stored ∙ stores_after taking d.rest lane.taken d.address asks f.line f.tokens f.entry f.half (omega arith) enough f.part (omega arith);
+        made = sym f.stored ∙ stores_after taking d.rest held.taken d.address asks f.line f.tokens f.entry f.half (omega arith) enough f.part (omega arith);
         next =
-            subst (λ (lane' : Lane). Outlook (ask_of (demand_less taking d) ∷ asks) (planned (GoOn (d.rest - taking) (option_map (λ at. at + taking) d.address) ∷ asks) (drop taking f.line) f.tokens)
-            left lane'.taken (lane'.entries ++ later)) (sym after) next;
+            subst (λ (held' : QueueState). Outlook (ask_of (demand_less taking d) ∷ asks) (planned (GoOn (d.rest - taking) (option_map (λ at. at + taking) d.address) ∷ asks) (drop taking f.line) f.tokens)
+            left held'.taken (held'.entries ++ later)) (sym after) next;
         less = omega arith;
       }
 
-  taken_front : Takes d asks stores left lane f.entry later
-  taken_front = ⊎_elim whole_taken part_taken (cases_eq (lane.taken + taking) (valid_bytes f.entry.status))
+  taken_front : Takes d asks stores left held f.entry later
+  taken_front = ⊎_elim whole_taken part_taken (cases_eq (held.taken + taking) (valid_bytes f.entry.status))
 
-pub application : (d : Demand) (asks : List Ask) (stores : List Store) (left : ℕ) (lane : Lane) (entry : Entry) (later : List Entry) (es : List Entry) →
-    lane.entries ≡ entry ∷ es → 0 < d.rest → Outlook (ask_of d ∷ asks) stores left lane.taken (lane.entries ++ later) → Takes d asks stores left lane entry later
-application d asks stores left lane entry later es e some h =
-    let f : Front d.needs_sol d.rest d.address asks stores left lane.taken (lane.entries ++ later) =
-    front d.needs_sol d.rest d.address asks stores left lane.taken (lane.entries ++ later) some h in
+pub application : (d : Demand) (asks : List Ask) (stores : List Store) (left : ℕ) (held : QueueState) (entry : Entry) (later : List Entry) (es : List Entry) →
+    held.entries ≡ entry ∷ es → 0 < d.rest → Outlook (ask_of d ∷ asks) stores left held.taken (held.entries ++ later) → Takes d asks stores left held entry later
+application d asks stores left held entry later es e some h =
+    let f : Front d.needs_sol d.rest d.address asks stores left held.taken (held.entries ++ later) =
+    front d.needs_sol d.rest d.address asks stores left held.taken (held.entries ++ later) some h in
     let seen : entry ∷ (es ++ later) ≡ f.entry ∷ (f.half ++ (f.entries ++ f.rest)) = sym (ap (λ (entries : List Entry). entries ++ later) e) ∙ f.order in
     let same : f.entry ≡ entry = cc in
     let behind : es ++ later ≡ f.half ++ (f.entries ++ f.rest) = cc in
-    let first : lane.entries ≡ f.entry ∷ es = e ∙ ap (λ (entry : Entry). entry ∷ es) (sym same) in
-    subst (λ (entry : Entry). Takes d asks stores left lane entry later) same (taken_front d asks stores left lane later es some f first behind)
+    let first : held.entries ≡ f.entry ∷ es = e ∙ ap (λ (entry : Entry). entry ∷ es) (sym same) in
+    subst (λ (entry : Entry). Takes d asks stores left held entry later) same (taken_front d asks stores left held later es some f first behind)

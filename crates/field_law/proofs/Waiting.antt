@@ -9,7 +9,7 @@ use Rattle.sync_status.specs.Statuses.{kind_of, is_control}
 use Rattle.fifo_model.specs.declared.Entry.{Entry}
 use Rattle.fifo_model.specs.declared.Queue.{Queue}
 use Rattle.fifo_model.specs.declared.Queue.TheVariants.{One, Two, Three}
-use Rattle.fifo_model.specs.Queues.{Lane, Queues, first, front, lane_of, removed, all_removed, code_of_kind, front_code_of, front_code}
+use Rattle.fifo_model.specs.Queues.{QueueState, Queues, first, front, queue_state, removed, all_removed, code_of_kind, front_code_of, front_code}
 use Rattle.irq_status.proofs.Laws.{fdsr-applied}
 use Rattle.page_table.specs.Grants.{Chunk}
 use Rattle.machine_model.specs.declared.Job.{Job}
@@ -40,7 +40,7 @@ pub empty_no_stray : (entries : List Entry) → entries ≡ [] → no_code (firs
 empty_no_stray [] h = refl
 empty_no_stray (entry ∷ entries) h = cc
 
-pub none_stray : (queues : Queues) → ((q : Queue) → is_stray (lane_of q queues) ≡ false) → lowest_stray queues ≡ None
+pub none_stray : (queues : Queues) → ((q : Queue) → is_stray (queue_state q queues) ≡ false) → lowest_stray queues ≡ None
 none_stray queues none = chain (is_stray queues.one) (is_stray queues.two) (is_stray queues.three) (none One) (none Two) (none Three)
   where
     chain : (a b c : Bool) → a ≡ false → b ≡ false → c ≡ false → (if a then Some One else (if b then Some Two else (if c then Some Three else None))) ≡ None
@@ -71,15 +71,15 @@ all_with (Some one) None three code a b c = cc
 all_with (Some one) (Some two) None code a b c = cc
 all_with (Some one) (Some two) (Some three) code a b c = a
 
-pub front_without : (lane : Lane) → lane.entries ≡ [] → front_code lane ≡ None
-front_without lane e = ap (λ (entries : List Entry). front_code_of (first entries)) e
+pub front_without : (held : QueueState) → held.entries ≡ [] → front_code held ≡ None
+front_without held e = ap (λ (entries : List Entry). front_code_of (first entries)) e
 
-pub without : (queues : Queues) (q : Queue) → (lane_of q queues).entries ≡ [] → common_code queues ≡ None
+pub without : (queues : Queues) (q : Queue) → (queue_state q queues).entries ≡ [] → common_code queues ≡ None
 without queues One e = one_without (front_code queues.one) (front_code queues.two) (front_code queues.three) (front_without queues.one e)
 without queues Two e = two_without (front_code queues.one) (front_code queues.two) (front_code queues.three) (front_without queues.two e)
 without queues Three e = three_without (front_code queues.one) (front_code queues.two) (front_code queues.three) (front_without queues.three e)
 
-pub each_removed : (P : Queue → Lane → Type 0) (queues : Queues) → ((q : Queue) → P q (removed (lane_of q queues))) → (q : Queue) → P q (lane_of q (all_removed queues))
+pub each_removed : (P : Queue → QueueState → Type 0) (queues : Queues) → ((q : Queue) → P q (removed (queue_state q queues))) → (q : Queue) → P q (queue_state q (all_removed queues))
 each_removed P queues all One = all One
 each_removed P queues all Two = all Two
 each_removed P queues all Three = all Three
@@ -97,19 +97,19 @@ module _ (s : Section) (given : Type 0) (chunks : List Chunk) (final : ℕ → �
   waits = subst (λ (job : Job). WithinJob s given chunks final later bound job m) j h
 
   abbrev ShowsAt : Queue → Type 0
-  ShowsAt q = Shows code (asks q waits.body) (waits.stores q) (waits.left q) (lane_of q m.queues) (later q)
+  ShowsAt q = Shows code (asks q waits.body) (waits.stores q) (waits.left q) (queue_state q m.queues) (later q)
 
-  shows : (q : Queue) → ((lane_of q m.queues).entries ≡ []) ⊎ ShowsAt q
-  shows q = outlook_shows code (asks q waits.body) (waits.stores q) (waits.left q) (lane_of q m.queues).taken (lane_of q m.queues) (later q) (waits.outlook q)
+  shows : (q : Queue) → ((queue_state q m.queues).entries ≡ []) ⊎ ShowsAt q
+  shows q = outlook_shows code (asks q waits.body) (waits.stores q) (waits.left q) (queue_state q m.queues).taken (queue_state q m.queues) (later q) (waits.outlook q)
 
-  not_stray : (q : Queue) → is_stray (lane_of q m.queues) ≡ false
-  not_stray q = elim (shows q) [ inl none ↦ empty_no_stray (lane_of q m.queues).entries none | inr some ↦ code_no_stray (front (lane_of q m.queues)) code some.is_code ]
+  not_stray : (q : Queue) → is_stray (queue_state q m.queues) ≡ false
+  not_stray q = elim (shows q) [ inl none ↦ empty_no_stray (queue_state q m.queues).entries none | inr some ↦ code_no_stray (front (queue_state q m.queues)) code some.is_code ]
 
   -- the turn goes by the common code
   goes_by : waited ctl resync code m ≡ code_seen (common_code m.queues) ctl resync code m
   goes_by = ap (λ (stray : Option Queue). stray_seen stray ctl resync code m) (none_stray m.queues not_stray)
 
-  stays : (q : Queue) → (lane_of q m.queues).entries ≡ [] → Turned s given chunks final later bound m.interrupts (waited ctl resync code m)
+  stays : (q : Queue) → (queue_state q m.queues).entries ≡ [] → Turned s given chunks final later bound m.interrupts (waited ctl resync code m)
   stays q none =
       let still : waited ctl resync code m ≡ m = goes_by ∙ ap (λ (seen : Option Code). code_seen seen ctl resync code m) (without m.queues q none) in
       subst (λ (m' : State). Turned s given chunks final later bound m.interrupts m') (sym still)
@@ -118,10 +118,10 @@ module _ (s : Section) (given : Type 0) (chunks : List Chunk) (final : ℕ → �
         within = h;
         most = omega arith;
         less = λ empty.
-            let awaits = outlook_awaits code (asks q waits.body) (waits.stores q) (waits.left q) (lane_of q m.queues).taken ((lane_of q m.queues).entries ++ later q) (waits.outlook q) in
+            let awaits = outlook_awaits code (asks q waits.body) (waits.stores q) (waits.left q) (queue_state q m.queues).taken ((queue_state q m.queues).entries ++ later q) (waits.outlook q) in
             let order = awaits.order in
             let none' = empty q in
-            absurd (nothing_ahead (lane_of q m.queues).entries (later q) (awaits.entries ++ awaits.rest) awaits.entry none none' order);
+            absurd (nothing_ahead (queue_state q m.queues).entries (later q) (awaits.entries ++ awaits.rest) awaits.entry none none' order);
         quiet = refl;
       })
 
@@ -149,7 +149,7 @@ module _ (s : Section) (given : Type 0) (chunks : List Chunk) (final : ℕ → �
               stores = waits.stores;
               left = λ q. (show q).entries_left;
               outlook =
-                  each_removed (λ q lane. Outlook (asks q waits.body) (waits.stores q) (show q).entries_left lane.taken (lane.entries ++ later q)) m.queues (λ q. (show q).next);
+                  each_removed (λ q held. Outlook (asks q waits.body) (waits.stores q) (show q).entries_left held.taken (held.entries ++ later q)) m.queues (λ q. (show q).next);
               painted = waits.painted;
               bounded = omega arith;
             };

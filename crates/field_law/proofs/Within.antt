@@ -5,7 +5,7 @@ use Rattle.sync_status.specs.declared.Verdict.{Verdict}
 use Rattle.fifo_model.specs.declared.Entry.{Entry}
 use Rattle.fifo_model.specs.declared.Queue.{Queue}
 use Rattle.fifo_model.specs.declared.Queue.TheVariants.{One, Two, Three}
-use Rattle.fifo_model.specs.Queues.{Queues, first, front, lane_of, taken_from, bytes_taken}
+use Rattle.fifo_model.specs.Queues.{Queues, first, front, queue_state, taken_from, bytes_taken}
 use Rattle.page_table.specs.Grants.{Chunk}
 use Rattle.page_table.specs.Blocks.{Block}
 use Rattle.machine_model.specs.declared.Demand.{Demand}
@@ -55,7 +55,7 @@ pub record Within (s : Section) (given : Type 0) (chunks : List Chunk) (final : 
   pub plain : IsPlainJob job
   pub stores : Queue → List Store
   pub left : Queue → ℕ
-  pub outlook : (q : Queue) → Outlook (job_asks q job (asks q body)) (stores q) (left q) (lane_of q queues).taken ((lane_of q queues).entries ++ later q)
+  pub outlook : (q : Queue) → Outlook (job_asks q job (asks q body)) (stores q) (left q) (queue_state q queues).taken ((queue_state q queues).entries ++ later q)
   pub painted : given → Settles chunks final memory stores
   pub bounded : 5 * suc (length body) + job_turns job + over_queues left ≤ bound
 
@@ -85,10 +85,10 @@ module _ (s : Section) (given : Type 0) (chunks : List Chunk) (final : ℕ → �
     pub same : m.interrupts ≡ interrupts
 
   module _ (bound : ℕ) (q : Queue) (instr : Instr) (ds : Demands) (entry : Entry) (m : State) (h : WithinJob bound (Running instr ds) m)
-      (t : Takes (demand_on q ds) (asks q h.body) (h.stores q) (h.left q) (lane_of q m.queues) entry (later q)) where
-    split : h.stores q ≡ stores_of instr (demand_on q ds) entry (lane_of q m.queues).taken t.count ++ t.stores_left
+      (t : Takes (demand_on q ds) (asks q h.body) (h.stores q) (h.left q) (queue_state q m.queues) entry (later q)) where
+    split : h.stores q ≡ stores_of instr (demand_on q ds) entry (queue_state q m.queues).taken t.count ++ t.stores_left
     split =
-        t.made ∙ ap (λ (off : ℕ). stores_at (demand_on q ds).address off (lane_of q m.queues).taken (bytes_taken entry (lane_of q m.queues).taken t.count) ++ t.stores_left) (sym h.plain)
+        t.made ∙ ap (λ (off : ℕ). stores_at (demand_on q ds).address off (queue_state q m.queues).taken (bytes_taken entry (queue_state q m.queues).taken t.count) ++ t.stores_left) (sym h.plain)
 
     took_within : Fewer bound m.interrupts (took q t.count instr ds entry m)
     took_within =
@@ -108,10 +108,10 @@ module _ (s : Section) (given : Type 0) (chunks : List Chunk) (final : ℕ → �
                 stores = changed q t.stores_left h.stores;
                 left = all_left;
                 outlook =
-                    each_served (λ p lane d stores left. Outlook (ask_of d ∷ asks p h.body) stores left lane.taken (lane.entries ++ later p)) q
-                    (taken_from t.count (lane_of q m.queues)) (demand_less t.count (demand_on q ds)) t.stores_left t.entries_left m.queues ds h.stores h.left h.outlook t.next;
+                    each_served (λ p held d stores left. Outlook (ask_of d ∷ asks p h.body) stores left held.taken (held.entries ++ later p)) q
+                    (taken_from t.count (queue_state q m.queues)) (demand_less t.count (demand_on q ds)) t.stores_left t.entries_left m.queues ds h.stores h.left h.outlook t.next;
                 painted =
-                    λ known. settles_made chunks final m.memory h.stores q (stores_of instr (demand_on q ds) entry (lane_of q m.queues).taken t.count) t.stores_left split (h.painted known);
+                    λ known. settles_made chunks final m.memory h.stores q (stores_of instr (demand_on q ds) entry (queue_state q m.queues).taken t.count) t.stores_left split (h.painted known);
                 bounded = omega arith;
               };
           less = omega (arith, less_over q (demand_less t.count (demand_on q ds)) t.entries_left ds h.left t.less);
@@ -125,8 +125,8 @@ module _ (s : Section) (given : Type 0) (chunks : List Chunk) (final : ℕ → �
 
   -- an application stays within
   pub judged-Within : (bound : ℕ) (q : Queue) (instr : Instr) (ds : Demands) (entry : Entry) (m : State) → WithinJob bound (Running instr ds) m →
-      front (lane_of q m.queues) ≡ Some entry → 0 < (demand_on q ds).rest → Fewer bound m.interrupts (judged (verdict_at q ds entry m) q instr ds entry m)
+      front (queue_state q m.queues) ≡ Some entry → 0 < (demand_on q ds).rest → Fewer bound m.interrupts (judged (verdict_at q ds entry m) q instr ds entry m)
   judged-Within bound q instr ds entry m h there some =
-      let es = front_entries (lane_of q m.queues).entries entry there in
-      let t = application (demand_on q ds) (asks q h.body) (h.stores q) (h.left q) (lane_of q m.queues) entry (later q) es.0 es.1 some (h.outlook q) in
+      let es = front_entries (queue_state q m.queues).entries entry there in
+      let t = application (demand_on q ds) (asks q h.body) (h.stores q) (h.left q) (queue_state q m.queues) entry (later q) es.0 es.1 some (h.outlook q) in
       subst (λ (m' : State). Fewer bound m.interrupts m') (sym (judged_is bound q instr ds entry m h t)) (took_within bound q instr ds entry m h t)

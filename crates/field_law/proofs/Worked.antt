@@ -2,7 +2,7 @@
 use Rattle.std.proofs.Common.{◌≡◌, true, false, List, [], ◌∷◌, ◌++◌, Some, All, map, refl, sym, arith}
 use Rattle.std.proofs.lemmas.List.Elements.{All-nil, All-cons, All-from_recursion}
 use Rattle.risc_word.specs.declared.Code.TheVariants.{Vre, Fm1}
-use Rattle.fifo_model.specs.Queues.{lane_of, code_of_kind, control_entry}
+use Rattle.fifo_model.specs.Queues.{queue_state, code_of_kind, control_entry}
 use Rattle.fifo_model.specs.declared.Entry.{Entry}
 use Rattle.fifo_model.specs.declared.Queue.{Queue}
 use Rattle.fifo_model.specs.declared.Queue.TheVariants.{One, Two, Three}
@@ -50,7 +50,7 @@ entries One = control_entry Vre ∷ control_entry Fm1 ∷ entry 2 0x13121110 ∷
 entries Two = control_entry Vre ∷ control_entry Fm1 ∷ []
 entries Three = control_entry Vre ∷ control_entry Fm1 ∷ []
 
-order : (q : Queue) → (lane_of q machine.queues).entries ++ coming (early ++ (program, Turn) ∷ []) q ≡ before q ++ (entries q ++ [])
+order : (q : Queue) → (queue_state q machine.queues).entries ++ coming (early ++ (program, Turn) ∷ []) q ≡ before q ++ (entries q ++ [])
 order One = refl
 order Two = refl
 order Three = refl

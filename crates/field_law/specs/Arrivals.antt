@@ -5,7 +5,7 @@ use Rattle.fifo_model.specs.declared.Entry.{Entry}
 use Rattle.fifo_model.specs.declared.Queue.{Queue}
 use Rattle.fifo_model.specs.declared.Queue.TheVariants.{One, Two, Three}
 use Rattle.fifo_model.specs.declared.Pushed.TheVariants.{Held}
-use Rattle.fifo_model.specs.Queues.{lane_of, control_entry, code_of_kind}
+use Rattle.fifo_model.specs.Queues.{queue_state, control_entry, code_of_kind}
 use Rattle.irq_status.specs.declared.HostWrite.TheVariants.{Ack, Enable, Trigger}
 use Rattle.machine_model.specs.declared.Job.{Job}
 use Rattle.machine_model.specs.declared.Job.TheVariants.{Idle, Waiting}
@@ -63,7 +63,7 @@ pub record Arrives (s : Section) (field : Queue → List Token) (m : State) (ste
   pub before : Queue → List Entry
   pub entries : Queue → List Entry
   pub rest : Queue → List Entry
-  pub order : (q : Queue) → (lane_of q m.queues).entries ++ coming steps q ≡ before q ++ (entries q ++ rest q)
+  pub order : (q : Queue) → (queue_state q m.queues).entries ++ coming steps q ≡ before q ++ (entries q ++ rest q)
   pub unmarked : (q : Queue) → All (λ entry. (code_of_kind (kind_of entry.status) ≡ Some s.code) → ⊥) (before q)
   pub brings : (q : Queue) → Brings (Mark s.code ∷ field q) (entries q)
 

@@ -2,7 +2,7 @@
 use Rattle.std.specs.Prelude.{◌≡◌, ℕ, ◌+◌, ◌*◌, ◌≤◌, true, false, All, List, [], ◌∷◌, ◌++◌, length}
 use Rattle.risc_word.specs.declared.Ctl.{Ctl}
 use Rattle.fifo_model.specs.declared.Queue.{Queue}
-use Rattle.fifo_model.specs.Queues.{lane_of}
+use Rattle.fifo_model.specs.Queues.{queue_state}
 use Rattle.irq_status.specs.Register.{fdsr, risci, has, risc_status, applied}
 use Rattle.page_table.specs.Blocks.{byte_at}
 use Rattle.machine_model.specs.Paths.{RiscProgram}
@@ -48,6 +48,6 @@ SignalsClosing = (s : Section) (field : Queue → List Token) (m : State) (early
 -- once all entries were pushed, a signal comes within so many turns
 abbrev pub IsBounded : Type 0
 IsBounded = (s : Section) (field : Queue → List Token) (m : State) (early late : List Met) (receives : Receives s field m (early ++ late)) →
-    ((q : Queue) → entries_of receives.arrives.before receives.arrives.entries q ≤ length (lane_of q m.queues).entries + length (coming early q)) →
+    ((q : Queue) → entries_of receives.arrives.before receives.arrives.entries q ≤ length (queue_state q m.queues).entries + length (coming early q)) →
     5 * (length s.body + 2) + over_queues (entries_of receives.arrives.before receives.arrives.entries) ≤ turns_in late →
     has_signal s m (early ++ late) ≡ true

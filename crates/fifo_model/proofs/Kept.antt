@@ -6,12 +6,12 @@ use Rattle.sync_status.specs.Statuses.{kind_of, is_control, valid_bytes}
 use Rattle.fifo_model.specs.declared.Entry.{Entry}
 use Rattle.fifo_model.specs.declared.Queue.{Queue}
 use Rattle.fifo_model.specs.declared.Queue.TheVariants.{One, Two, Three}
-use Rattle.fifo_model.specs.Queues.{Lane, Queues, lane_of, with_lane, empty_lane, empty_queues, is_full, entered, overrun, pushed, control_entry, control_pushed, all_entered, first, front, valid_of, front_valid, removed, taken_more, taken_from, more, front_code_of, front_code, codes_of, all_removed, emptied, cleared, IsLane, IsFifo}
+use Rattle.fifo_model.specs.Queues.{QueueState, Queues, queue_state, with_queue_state, empty_queue, empty_queues, is_full, entered, overrun, pushed, control_entry, control_pushed, all_entered, first, front, valid_of, front_valid, removed, taken_more, taken_from, more, front_code_of, front_code, codes_of, all_removed, emptied, cleared, IsLane, IsFifo}
 use Rattle.fifo_model.proofs.Codes.{codes-append, codes-entered, codes-without_data, codes-without_code, front-valid}
 
 -- One queue.
 
-pub IsLane-empty : (capacity : ℕ) → 1 ≤ capacity → capacity ≤ 4096 → IsLane (empty_lane capacity)
+pub IsLane-empty : (capacity : ℕ) → 1 ≤ capacity → capacity ≤ 4096 → IsLane (empty_queue capacity)
 IsLane-empty capacity some most =
     record { some_room = some; most_room = most; within = omega arith; part = inl refl }
 
@@ -22,40 +22,40 @@ part-entered taken (front ∷ rest) entry part = part
 room : (n capacity : ℕ) → n ≤ capacity → (n == capacity) ≡ false → n + 1 ≤ capacity
 room n capacity within free = grind (arith, nat_tests)
 
-pub IsLane-entered : (entry : Entry) (lane : Lane) → is_full lane ≡ false → IsLane lane → IsLane (entered entry lane)
-IsLane-entered entry lane free held =
-    let longer : length lane.entries + 1 ≤ lane.capacity = room _ _ held.within free in
+pub IsLane-entered : (entry : Entry) (held : QueueState) → is_full held ≡ false → IsLane held → IsLane (entered entry held)
+IsLane-entered entry held free held =
+    let longer : length held.entries + 1 ≤ held.capacity = room _ _ held.within free in
     record {
       some_room = held.some_room;
       most_room = held.most_room;
-      within = omega (arith, length-append lane.entries (entry ∷ []));
-      part = part-entered lane.taken lane.entries entry held.part;
+      within = omega (arith, length-append held.entries (entry ∷ []));
+      part = part-entered held.taken held.entries entry held.part;
     }
 
-pub IsLane-overrun : (lane : Lane) → IsLane lane → IsLane (overrun lane)
-IsLane-overrun lane held =
+pub IsLane-overrun : (held : QueueState) → IsLane held → IsLane (overrun held)
+IsLane-overrun held held =
     record { some_room = held.some_room; most_room = held.most_room; within = held.within; part = held.part }
 
-pub IsLane-removed : (lane : Lane) → IsLane lane → IsLane (removed lane)
-IsLane-removed lane held =
+pub IsLane-removed : (held : QueueState) → IsLane held → IsLane (removed held)
+IsLane-removed held held =
     record {
       some_room = held.some_room;
       most_room = held.most_room;
-      within = omega (arith, held.within, length-drop 1 lane.entries);
+      within = omega (arith, held.within, length-drop 1 held.entries);
       part = inl refl;
     }
 
-pub IsLane-emptied : (lane : Lane) → IsLane lane → IsLane (emptied lane)
-IsLane-emptied lane held =
+pub IsLane-emptied : (held : QueueState) → IsLane held → IsLane (emptied held)
+IsLane-emptied held held =
     record { some_room = held.some_room; most_room = held.most_room; within = omega arith; part = inl refl }
 
 part_after : (taken count valid : ℕ) → taken + count ≤ valid → (taken + count == valid) ≡ false → taken + count < valid
 part_after taken count valid most other = grind (arith, nat_tests)
 
-taken-cases : (count : ℕ) (lane : Lane) (entry : Entry) (rest : List Entry) (whole : Bool) → (lane.taken + count == valid_bytes entry.status) ≡ whole → lane.entries ≡ entry ∷ rest → lane.taken + count ≤ valid_bytes entry.status → IsLane lane → IsLane (if whole then removed lane else record lane { taken = lane.taken + count })
-taken-cases count lane entry rest true whole same most held = IsLane-removed lane held
-taken-cases count lane entry rest false other same most held =
-    let less : lane.taken + count < valid_bytes entry.status = part_after lane.taken count (valid_bytes entry.status) most other in
+taken-cases : (count : ℕ) (held : QueueState) (entry : Entry) (rest : List Entry) (whole : Bool) → (held.taken + count == valid_bytes entry.status) ≡ whole → held.entries ≡ entry ∷ rest → held.taken + count ≤ valid_bytes entry.status → IsLane held → IsLane (if whole then removed held else record held { taken = held.taken + count })
+taken-cases count held entry rest true whole same most held = IsLane-removed held held
+taken-cases count held entry rest false other same most held =
+    let less : held.taken + count < valid_bytes entry.status = part_after held.taken count (valid_bytes entry.status) most other in
     record {
       some_room = held.some_room;
       most_room = held.most_room;
@@ -63,39 +63,39 @@ taken-cases count lane entry rest false other same most held =
       part = inr (rw same less);
     }
 
-taken-list : (count : ℕ) (lane : Lane) (entries : List Entry) → lane.entries ≡ entries → lane.taken + count ≤ valid_of (first entries) → IsLane lane → IsLane (taken_more count lane entries)
-taken-list count lane [] same most held = held
-taken-list count lane (entry ∷ rest) same most held =
-    taken-cases count lane entry rest (lane.taken + count == valid_bytes entry.status) refl same most held
+taken-list : (count : ℕ) (held : QueueState) (entries : List Entry) → held.entries ≡ entries → held.taken + count ≤ valid_of (first entries) → IsLane held → IsLane (taken_more count held entries)
+taken-list count held [] same most held = held
+taken-list count held (entry ∷ rest) same most held =
+    taken-cases count held entry rest (held.taken + count == valid_bytes entry.status) refl same most held
 
-pub IsLane-taken_from : (count : ℕ) (lane : Lane) → lane.taken + count ≤ front_valid lane → IsLane lane → IsLane (taken_from count lane)
-IsLane-taken_from count lane most held = taken-list count lane lane.entries refl most held
+pub IsLane-taken_from : (count : ℕ) (held : QueueState) → held.taken + count ≤ front_valid held → IsLane held → IsLane (taken_from count held)
+IsLane-taken_from count held most held = taken-list count held held.entries refl most held
 
 -- The codes of a queue after bytes of its front were taken.
-codes-taken_cases : (lane : Lane) (taken : ℕ) (whole : Bool) → codes_of (drop 1 lane.entries) ≡ codes_of lane.entries → codes_of (if whole then removed lane else record lane { taken = taken }).entries ≡ codes_of lane.entries
-codes-taken_cases lane taken true same = same
-codes-taken_cases lane taken false same = refl
+codes-taken_cases : (held : QueueState) (taken : ℕ) (whole : Bool) → codes_of (drop 1 held.entries) ≡ codes_of held.entries → codes_of (if whole then removed held else record held { taken = taken }).entries ≡ codes_of held.entries
+codes-taken_cases held taken true same = same
+codes-taken_cases held taken false same = refl
 
-codes-taken_more : (count : ℕ) (lane : Lane) (entries : List Entry) → codes_of (drop 1 lane.entries) ≡ codes_of lane.entries → codes_of (taken_more count lane entries).entries ≡ codes_of lane.entries
-codes-taken_more count lane [] same = refl
-codes-taken_more count lane (entry ∷ rest) same =
-    codes-taken_cases lane (lane.taken + count) (lane.taken + count == valid_bytes entry.status) same
+codes-taken_more : (count : ℕ) (held : QueueState) (entries : List Entry) → codes_of (drop 1 held.entries) ≡ codes_of held.entries → codes_of (taken_more count held entries).entries ≡ codes_of held.entries
+codes-taken_more count held [] same = refl
+codes-taken_more count held (entry ∷ rest) same =
+    codes-taken_cases held (held.taken + count) (held.taken + count == valid_bytes entry.status) same
 
-pub codes-taken_from : (count : ℕ) (lane : Lane) → 1 ≤ count → lane.taken + count ≤ front_valid lane → codes_of (taken_from count lane).entries ≡ codes_of lane.entries
-codes-taken_from count lane some most =
-    codes-taken_more count lane lane.entries
-    (codes-without_data lane.entries (front-valid (front lane) (omega arith)))
+pub codes-taken_from : (count : ℕ) (held : QueueState) → 1 ≤ count → held.taken + count ≤ front_valid held → codes_of (taken_from count held).entries ≡ codes_of held.entries
+codes-taken_from count held some most =
+    codes-taken_more count held held.entries
+    (codes-without_data held.entries (front-valid (front held) (omega arith)))
 
 -- The three queues.
 
-pub IsLane-lane_of : (queue : Queue) (queues : Queues) → IsFifo queues → IsLane (lane_of queue queues)
-IsLane-lane_of One queues held = held.one
-IsLane-lane_of Two queues held = held.two
-IsLane-lane_of Three queues held = held.three
+pub IsLane-queue_state : (queue : Queue) (queues : Queues) → IsFifo queues → IsLane (queue_state queue queues)
+IsLane-queue_state One queues held = held.one
+IsLane-queue_state Two queues held = held.two
+IsLane-queue_state Three queues held = held.three
 
 -- one queue changes, and its control codes stay
-pub IsFifo-with_lane : (queue : Queue) (lane : Lane) (queues : Queues) → IsLane lane → codes_of lane.entries ≡ codes_of (lane_of queue queues).entries → IsFifo queues → IsFifo (with_lane queue lane queues)
-IsFifo-with_lane One lane queues new same held =
+pub IsFifo-with_queue_state : (queue : Queue) (held : QueueState) (queues : Queues) → IsLane held → codes_of held.entries ≡ codes_of (queue_state queue queues).entries → IsFifo queues → IsFifo (with_queue_state queue held queues)
+IsFifo-with_queue_state One held queues new same held =
     record {
       one = new;
       two = held.two;
@@ -103,7 +103,7 @@ IsFifo-with_lane One lane queues new same held =
       second = held.second ∙ sym same;
       third = held.third ∙ sym same;
     }
-IsFifo-with_lane Two lane queues new same held =
+IsFifo-with_queue_state Two held queues new same held =
     record {
       one = held.one;
       two = new;
@@ -111,7 +111,7 @@ IsFifo-with_lane Two lane queues new same held =
       second = same ∙ held.second;
       third = held.third;
     }
-IsFifo-with_lane Three lane queues new same held =
+IsFifo-with_queue_state Three held queues new same held =
     record {
       one = held.one;
       two = held.two;
@@ -130,19 +130,19 @@ IsFifo-empty one two three some-one most-one some-two most-two some-three most-t
       third = refl;
     }
 
-pushed-cases : (queue : Queue) (entry : Entry) (queues : Queues) (full : Bool) → is_full (lane_of queue queues) ≡ full → is_control (kind_of entry.status) ≡ false → IsFifo queues → IsFifo (if full then with_lane queue (overrun (lane_of queue queues)) queues else with_lane queue (entered entry (lane_of queue queues)) queues)
+pushed-cases : (queue : Queue) (entry : Entry) (queues : Queues) (full : Bool) → is_full (queue_state queue queues) ≡ full → is_control (kind_of entry.status) ≡ false → IsFifo queues → IsFifo (if full then with_queue_state queue (overrun (queue_state queue queues)) queues else with_queue_state queue (entered entry (queue_state queue queues)) queues)
 pushed-cases queue entry queues true full none held =
-    let lane = lane_of queue queues in
-    IsFifo-with_lane queue (overrun lane) queues (IsLane-overrun lane (IsLane-lane_of queue queues held)) refl held
+    let held = queue_state queue queues in
+    IsFifo-with_queue_state queue (overrun held) queues (IsLane-overrun held (IsLane-queue_state queue queues held)) refl held
 pushed-cases queue entry queues false free none held =
-    let lane = lane_of queue queues in
-    IsFifo-with_lane queue (entered entry lane) queues
-    (IsLane-entered entry lane free (IsLane-lane_of queue queues held))
-    (codes-entered lane.entries entry none) held
+    let held = queue_state queue queues in
+    IsFifo-with_queue_state queue (entered entry held) queues
+    (IsLane-entered entry held free (IsLane-queue_state queue queues held))
+    (codes-entered held.entries entry none) held
 
 pub IsFifo-pushed : (queue : Queue) (entry : Entry) (queues : Queues) → is_control (kind_of entry.status) ≡ false → IsFifo queues → IsFifo (pushed queue entry queues)
 IsFifo-pushed queue entry queues none held =
-    pushed-cases queue entry queues (is_full (lane_of queue queues)) refl none held
+    pushed-cases queue entry queues (is_full (queue_state queue queues)) refl none held
 
 -- entries that are the same in each queue
 codes-both : (xs ys zs : List Entry) → codes_of xs ≡ codes_of ys → codes_of (xs ++ zs) ≡ codes_of (ys ++ zs)
@@ -173,19 +173,19 @@ pub IsFifo-control_pushed : (code : Code) (queues : Queues) → IsFifo queues �
 IsFifo-control_pushed code queues held =
     control-cases code queues (is_full queues.one) (is_full queues.two) (is_full queues.three) refl refl refl held
 
-pub IsFifo-taken_from : (queue : Queue) (count : ℕ) (queues : Queues) → 1 ≤ count → (lane_of queue queues).taken + count ≤ front_valid (lane_of queue queues) → IsFifo queues → IsFifo (with_lane queue (taken_from count (lane_of queue queues)) queues)
+pub IsFifo-taken_from : (queue : Queue) (count : ℕ) (queues : Queues) → 1 ≤ count → (queue_state queue queues).taken + count ≤ front_valid (queue_state queue queues) → IsFifo queues → IsFifo (with_queue_state queue (taken_from count (queue_state queue queues)) queues)
 IsFifo-taken_from queue count queues some most held =
-    let lane = lane_of queue queues in
-    IsFifo-with_lane queue (taken_from count lane) queues
-    (IsLane-taken_from count lane most (IsLane-lane_of queue queues held))
-    (codes-taken_from count lane some most) held
+    let held = queue_state queue queues in
+    IsFifo-with_queue_state queue (taken_from count held) queues
+    (IsLane-taken_from count held most (IsLane-queue_state queue queues held))
+    (codes-taken_from count held some most) held
 
-pub IsFifo-removed : (queue : Queue) (queues : Queues) → front_code (lane_of queue queues) ≡ None → IsFifo queues → IsFifo (with_lane queue (removed (lane_of queue queues)) queues)
+pub IsFifo-removed : (queue : Queue) (queues : Queues) → front_code (queue_state queue queues) ≡ None → IsFifo queues → IsFifo (with_queue_state queue (removed (queue_state queue queues)) queues)
 IsFifo-removed queue queues none held =
-    let lane = lane_of queue queues in
-    IsFifo-with_lane queue (removed lane) queues
-    (IsLane-removed lane (IsLane-lane_of queue queues held))
-    (codes-without_data lane.entries none) held
+    let held = queue_state queue queues in
+    IsFifo-with_queue_state queue (removed held) queues
+    (IsLane-removed held (IsLane-queue_state queue queues held))
+    (codes-without_data held.entries none) held
 
 -- two lists that begin with a code, and are the same, are the same without it
 same-rest : (xs ys : List Entry) (x y : Code) → codes_of xs ≡ x ∷ codes_of (drop 1 xs) → codes_of ys ≡ y ∷ codes_of (drop 1 ys) → codes_of xs ≡ codes_of ys → codes_of (drop 1 xs) ≡ codes_of (drop 1 ys)
@@ -197,7 +197,7 @@ popped-cases xs ys (Some x) None first-x first-y some-x some-y same = cc
 popped-cases xs ys (Some x) (Some y) first-x first-y some-x some-y same =
     same-rest ys xs y x (codes-without_code ys y first-y) (codes-without_code xs x first-x) same
 
-codes-popped : (one other : Lane) → IsSome (front_code one) → IsSome (front_code other) → codes_of other.entries ≡ codes_of one.entries → codes_of (drop 1 other.entries) ≡ codes_of (drop 1 one.entries)
+codes-popped : (one other : QueueState) → IsSome (front_code one) → IsSome (front_code other) → codes_of other.entries ≡ codes_of one.entries → codes_of (drop 1 other.entries) ≡ codes_of (drop 1 one.entries)
 codes-popped one other some-one some-other same =
     popped-cases one.entries other.entries (front_code one) (front_code other) refl refl some-one some-other same
 

@@ -1,8 +1,8 @@
 -- The list of the three queues after a call, by the queues that it gives.
 use Rattle.std.proofs.Common.{◌≡◌, ℕ, List, length, sym, subst}
-use Rattle.fifo_model.specs.Queues.{Lane, Queues, IsFifo}
+use Rattle.fifo_model.specs.Queues.{QueueState, Queues, IsFifo}
 use Rattle.fifo_model.specs.Rings.{queues_of, AreRings}
 
-pub AreRings-kept : (lanes : List Lane) (lost : ℕ) (queues : Queues) → length lanes ≡ 3 → queues_of lanes lost ≡ queues → IsFifo queues → AreRings lanes lost
+pub AreRings-kept : (lanes : List QueueState) (lost : ℕ) (queues : Queues) → length lanes ≡ 3 → queues_of lanes lost ≡ queues → IsFifo queues → AreRings lanes lost
 AreRings-kept lanes lost queues three same held =
     record { three = three; facts = subst IsFifo (sym same) held }

@@ -14,7 +14,7 @@ use Rattle.fifo_model.specs.declared.Pushed.TheVariants.{Held, Overrun}
 
 -- one queue: its entries with the front first, how many entries it has room for, the bytes taken of
 -- its front already, and how often a push to it was lost
-pub record Lane : Type 0 where
+pub record QueueState : Type 0 where
   pub entries : List Entry
   pub capacity : ℕ
   pub taken : ℕ
@@ -22,51 +22,51 @@ pub record Lane : Type 0 where
 
 -- the three queues, and how often a control push was lost
 pub record Queues : Type 0 where
-  pub one : Lane
-  pub two : Lane
-  pub three : Lane
+  pub one : QueueState
+  pub two : QueueState
+  pub three : QueueState
   pub control_overruns : ℕ
 
 -- a count that stands still at the greatest number of 64 bits
 abbrev pub more : ℕ → ℕ → ℕ
 more count by = min (count + by) (2 ^ 64 - 1)
 
-abbrev pub lane_of : Queue → Queues → Lane
-lane_of One queues = queues.one
-lane_of Two queues = queues.two
-lane_of Three queues = queues.three
+abbrev pub queue_state : Queue → Queues → QueueState
+queue_state One queues = queues.one
+queue_state Two queues = queues.two
+queue_state Three queues = queues.three
 
 -- the queues with one of them changed
-abbrev pub with_lane : Queue → Lane → Queues → Queues
-with_lane One lane queues = record queues { one = lane }
-with_lane Two lane queues = record queues { two = lane }
-with_lane Three lane queues = record queues { three = lane }
+abbrev pub with_queue_state : Queue → QueueState → Queues → Queues
+with_queue_state One held queues = record queues { one = held }
+with_queue_state Two held queues = record queues { two = held }
+with_queue_state Three held queues = record queues { three = held }
 
-abbrev pub empty_lane : ℕ → Lane
-empty_lane capacity = record { entries = []; capacity = capacity; taken = 0; overruns = 0 }
+abbrev pub empty_queue : ℕ → QueueState
+empty_queue capacity = record { entries = []; capacity = capacity; taken = 0; overruns = 0 }
 
 abbrev pub empty_queues : ℕ → ℕ → ℕ → Queues
 empty_queues one two three =
-    record { one = empty_lane one; two = empty_lane two; three = empty_lane three; control_overruns = 0 }
+    record { one = empty_queue one; two = empty_queue two; three = empty_queue three; control_overruns = 0 }
 
-abbrev pub is_full : Lane → Bool
-is_full lane = length lane.entries == lane.capacity
+abbrev pub is_full : QueueState → Bool
+is_full held = length held.entries == held.capacity
 
-abbrev pub entered : Entry → Lane → Lane
-entered entry lane = record lane { entries = lane.entries ++ entry ∷ [] }
+abbrev pub entered : Entry → QueueState → QueueState
+entered entry held = record held { entries = held.entries ++ entry ∷ [] }
 
-abbrev pub overrun : Lane → Lane
-overrun lane = record lane { overruns = more lane.overruns 1 }
+abbrev pub overrun : QueueState → QueueState
+overrun held = record held { overruns = more held.overruns 1 }
 
 -- a data push
 abbrev pub push_answer : Queue → Queues → Pushed
-push_answer queue queues = if is_full (lane_of queue queues) then Overrun else Held
+push_answer queue queues = if is_full (queue_state queue queues) then Overrun else Held
 
 abbrev pub pushed : Queue → Entry → Queues → Queues
 pushed queue entry queues =
-    if is_full (lane_of queue queues)
-    then with_lane queue (overrun (lane_of queue queues)) queues
-    else with_lane queue (entered entry (lane_of queue queues)) queues
+    if is_full (queue_state queue queues)
+    then with_queue_state queue (overrun (queue_state queue queues)) queues
+    else with_queue_state queue (entered entry (queue_state queue queues)) queues
 
 -- a control push: all three queues or none
 abbrev pub control_entry : Code → Entry
@@ -94,25 +94,25 @@ abbrev pub first : List Entry → Option Entry
 first [] = None
 first (entry ∷ _) = Some entry
 
-abbrev pub front : Lane → Option Entry
-front lane = first lane.entries
+abbrev pub front : QueueState → Option Entry
+front held = first held.entries
 
 -- a queue without its front entry
-abbrev pub removed : Lane → Lane
-removed lane = record lane { entries = drop 1 lane.entries; taken = 0 }
+abbrev pub removed : QueueState → QueueState
+removed held = record held { entries = drop 1 held.entries; taken = 0 }
 
 -- a queue after some more bytes of its front were taken; the front goes when all are
-abbrev pub taken_more : ℕ → Lane → List Entry → Lane
-taken_more count lane [] = lane
-taken_more count lane (entry ∷ _) =
-    if lane.taken + count == valid_bytes entry.status
-    then removed lane
-    else record lane { taken = lane.taken + count }
+abbrev pub taken_more : ℕ → QueueState → List Entry → QueueState
+taken_more count held [] = held
+taken_more count held (entry ∷ _) =
+    if held.taken + count == valid_bytes entry.status
+    then removed held
+    else record held { taken = held.taken + count }
 
-abbrev pub taken_from : ℕ → Lane → Lane
-taken_from count lane = taken_more count lane lane.entries
+abbrev pub taken_from : ℕ → QueueState → QueueState
+taken_from count held = taken_more count held held.entries
 
--- the bytes of a DWORD in lane order
+-- the bytes of a DWORD, lane 0 first
 abbrev pub lane_bytes : ℕ → List ℕ
 lane_bytes dword =
     dword % 256 ∷ dword / 2 ^ 8 % 256 ∷ dword / 2 ^ 16 % 256 ∷ dword / 2 ^ 24 % 256 ∷ []
@@ -122,8 +122,8 @@ abbrev pub valid_of : Option Entry → ℕ
 valid_of None = 0
 valid_of (Some entry) = valid_bytes entry.status
 
-abbrev pub front_valid : Lane → ℕ
-front_valid lane = valid_of (front lane)
+abbrev pub front_valid : QueueState → ℕ
+front_valid held = valid_of (front held)
 
 -- the bytes that taking `count` of a front gives, from the `taken` that were taken before
 abbrev pub bytes_taken : Entry → ℕ → ℕ → List ℕ
@@ -134,16 +134,16 @@ bytes_of_front None taken count = []
 bytes_of_front (Some entry) taken count = bytes_taken entry taken count
 
 -- the bytes that taking `count` of a queue's front gives
-abbrev pub front_bytes : ℕ → Lane → List ℕ
-front_bytes count lane = bytes_of_front (front lane) lane.taken count
+abbrev pub front_bytes : ℕ → QueueState → List ℕ
+front_bytes count held = bytes_of_front (front held) held.taken count
 
 -- whether a queue holds so many entries, or an entry that is an end or a control code
 abbrev pub wakes : StatusKind → Bool
 wakes kind = is_end kind || is_control kind
 
-abbrev pub is_ready : ℕ → Lane → Bool
-is_ready trigger lane =
-    nat_le trigger (length lane.entries) || list_any (λ entry. wakes (kind_of entry.status)) lane.entries
+abbrev pub is_ready : ℕ → QueueState → Bool
+is_ready trigger held =
+    nat_le trigger (length held.entries) || list_any (λ entry. wakes (kind_of entry.status)) held.entries
 
 -- the control code of a front entry, if it is one
 abbrev pub code_of_kind : StatusKind → Option Code
@@ -154,8 +154,8 @@ abbrev pub front_code_of : Option Entry → Option Code
 front_code_of None = None
 front_code_of (Some entry) = code_of_kind (kind_of entry.status)
 
-abbrev pub front_code : Lane → Option Code
-front_code lane = front_code_of (front lane)
+abbrev pub front_code : QueueState → Option Code
+front_code held = front_code_of (front held)
 
 abbrev pub code_before : Option Code → List Code → List Code
 code_before None codes = codes
@@ -172,8 +172,8 @@ all_removed queues =
     record queues { one = removed queues.one; two = removed queues.two; three = removed queues.three }
 
 -- a queue emptied; its count of overruns stays
-abbrev pub emptied : Lane → Lane
-emptied lane = record lane { entries = []; taken = 0 }
+abbrev pub emptied : QueueState → QueueState
+emptied held = record held { entries = []; taken = 0 }
 
 abbrev pub cleared : Queues → Queues
 cleared queues =
@@ -186,11 +186,11 @@ overruns_of queues =
 
 -- what holds of each queue: it has room for 1 to 4,096 entries and holds no more than that, and of its
 -- front fewer bytes are taken than are valid, none where none are
-pub record IsLane (lane : Lane) : Type 0 where
-  pub some_room : 1 ≤ lane.capacity
-  pub most_room : lane.capacity ≤ 4096
-  pub within : length lane.entries ≤ lane.capacity
-  pub part : (lane.taken ≡ 0) ⊎ (lane.taken < front_valid lane)
+pub record IsLane (held : QueueState) : Type 0 where
+  pub some_room : 1 ≤ held.capacity
+  pub most_room : held.capacity ≤ 4096
+  pub within : length held.entries ≤ held.capacity
+  pub part : (held.taken ≡ 0) ⊎ (held.taken < front_valid held)
 
 -- what holds of the three: the control codes in them are the same, in the same order
 pub record IsFifo (queues : Queues) : Type 0 where

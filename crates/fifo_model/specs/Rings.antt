@@ -4,7 +4,7 @@ use Rattle.sync_status.specs.Statuses.{kind_of}
 use Rattle.fifo_model.specs.declared.Entry.{Entry}
 use Rattle.fifo_model.specs.declared.Queue.{Queue}
 use Rattle.fifo_model.specs.declared.Queue.TheVariants.{One, Two, Three}
-use Rattle.fifo_model.specs.Queues.{Lane, Queues, empty_lane, wakes, IsFifo}
+use Rattle.fifo_model.specs.Queues.{QueueState, Queues, empty_queue, wakes, IsFifo}
 
 -- how many entries of a list are an end or a control code
 abbrev pub waking : List Entry → ℕ
@@ -16,12 +16,12 @@ place_of One = 0
 place_of Two = 1
 place_of Three = 2
 
-abbrev pub lane_at : List Lane → ℕ → Lane
-lane_at lanes place = get_or lanes place (empty_lane 0)
+abbrev pub queue_at : List QueueState → ℕ → QueueState
+queue_at lanes place = get_or lanes place (empty_queue 0)
 
-abbrev pub queues_of : List Lane → ℕ → Queues
+abbrev pub queues_of : List QueueState → ℕ → Queues
 queues_of lanes lost =
-    record { one = lane_at lanes 0; two = lane_at lanes 1; three = lane_at lanes 2; control_overruns = lost }
+    record { one = queue_at lanes 0; two = queue_at lanes 1; three = queue_at lanes 2; control_overruns = lost }
 
 -- what holds of the fields of a `Ring`, beside what its queue's value says
 pub record IsRing (entries : List Entry) (capacity wakers : ℕ) : Type 0 where
@@ -30,6 +30,6 @@ pub record IsRing (entries : List Entry) (capacity wakers : ℕ) : Type 0 where
   pub counted : wakers ≡ waking entries
 
 -- what holds of the fields of a `Fifo`
-pub record AreRings (lanes : List Lane) (lost : ℕ) : Type 0 where
+pub record AreRings (lanes : List QueueState) (lost : ℕ) : Type 0 where
   pub three : length lanes ≡ 3
   pub facts : IsFifo (queues_of lanes lost)

@@ -3,7 +3,7 @@
 
 ghost use Rattle.std.specs.Prelude.{◌≡◌, ◌+◌, ◌<◌, ◌≤◌, ◌⊎◌, ◌++◌, drop, slice_index, All, IfOk, IsSome, false};
 ghost use Rattle.sync_status.specs.Statuses.{kind_of, is_control};
-ghost use Rattle.fifo_model.specs.Queues.{lane_of, with_lane, empty_queues, push_answer, pushed, control_entry, control_answer, control_pushed, front, front_valid, front_bytes, taken_from, removed, is_ready, front_code, all_removed, cleared, overruns_of, IsFifo};
+ghost use Rattle.fifo_model.specs.Queues.{queue_state, with_queue_state, empty_queues, push_answer, pushed, control_entry, control_answer, control_pushed, front, front_valid, front_bytes, taken_from, removed, is_ready, front_code, all_removed, cleared, overruns_of, IsFifo};
 ghost use Rattle.fifo_model.specs.Rings.{place_of};
 
 mod ring;
@@ -23,12 +23,12 @@ pub enum Queue {
     Three,
 }
 
-/// An entry of a queue: a DWORD with its status. Lane k of the DWORD is bits 8k + 7 to 8k.
+/// An entry of a queue: a DWORD with its status. QueueState k of the DWORD is bits 8k + 7 to 8k.
 #[derive(Clone, Copy, Debug, PartialEq, Eq)]
 pub struct Entry {
     /// It says how many lanes hold bytes, from lane 0 on.
     pub status: Status,
-    /// Lane 0, its lowest bits, is the first byte.
+    /// QueueState 0, its lowest bits, is the first byte.
     pub dword: u32,
 }
 
@@ -135,7 +135,7 @@ impl Fifo {
     /// The entry at the front of a queue, if there is one.
     #[inline]
     pub fn front(&self, q: Queue) -> Option<Entry>
-        ensures entry { result ≡ front (lane_of q self.now) }
+        ensures entry { result ≡ front (queue_state q self.now) }
         ensures facts { IsFifo self.now }
     {
         self.rings[q.place()].front()
@@ -144,8 +144,8 @@ impl Fifo {
     /// How many bytes of the front of a queue are taken already, 0 where there is no front.
     #[inline]
     pub fn part(&self, q: Queue) -> u8
-        ensures part { result ≡ (lane_of q self.now).taken }
-        ensures within { (result ≡ 0) ⊎ (result < front_valid (lane_of q self.now)) }
+        ensures part { result ≡ (queue_state q self.now).taken }
+        ensures within { (result ≡ 0) ⊎ (result < front_valid (queue_state q self.now)) }
     {
         self.rings[q.place()].taken()
     }
@@ -156,10 +156,10 @@ impl Fifo {
     #[inline]
     pub fn take(&mut self, q: Queue, n: u8, out: &mut [u8; 4]) -> u8
         requires some { 1 ≤ n }
-        requires valid { (lane_of q self.old).taken + n ≤ front_valid (lane_of q self.old) }
-        ensures part { result ≡ (lane_of q self.old).taken }
-        ensures bytes { out.new ≡ front_bytes n (lane_of q self.old) ++ drop n out.old }
-        ensures queues { self.new ≡ with_lane q (taken_from n (lane_of q self.old)) self.old }
+        requires valid { (queue_state q self.old).taken + n ≤ front_valid (queue_state q self.old) }
+        ensures part { result ≡ (queue_state q self.old).taken }
+        ensures bytes { out.new ≡ front_bytes n (queue_state q self.old) ++ drop n out.old }
+        ensures queues { self.new ≡ with_queue_state q (taken_from n (queue_state q self.old)) self.old }
         ensures facts { IsFifo self.new }
     {
         self.rings[q.place()].take(n, out)
@@ -168,9 +168,9 @@ impl Fifo {
     /// Removes the front of a queue.
     #[inline]
     pub fn discard(&mut self, q: Queue)
-        requires there { IsSome (front (lane_of q self.old)) }
-        requires no_control { front_code (lane_of q self.old) ≡ None }
-        ensures queues { self.new ≡ with_lane q (removed (lane_of q self.old)) self.old }
+        requires there { IsSome (front (queue_state q self.old)) }
+        requires no_control { front_code (queue_state q self.old) ≡ None }
+        ensures queues { self.new ≡ with_queue_state q (removed (queue_state q self.old)) self.old }
         ensures facts { IsFifo self.new }
     {
         self.rings[q.place()].remove()
@@ -198,7 +198,7 @@ impl Fifo {
     #[inline]
     pub fn ready(&self, q: Queue, n: u16) -> bool
         requires { 1 ≤ n }
-        ensures { result ≡ is_ready n (lane_of q self.now) }
+        ensures { result ≡ is_ready n (queue_state q self.now) }
     {
         self.rings[q.place()].is_ready(n)
     }

@@ -1,7 +1,7 @@
 //! One queue: a ring of entries of which nothing but `new` takes memory.
 ghost use Rattle.std.specs.Prelude.{◌≡◌, ◌+◌, ◌<◌, ◌≤◌, ◌||◌, ◌++◌, length, take, drop, IfOk, IsSome, if◌then◌else◌, nat_le};
 ghost use Rattle.sync_status.specs.Statuses.{kind_of};
-ghost use Rattle.fifo_model.specs.Queues.{empty_lane, is_full, entered, overrun, front, front_code, removed, taken_from, front_valid, front_bytes, lane_bytes, wakes, is_ready, emptied};
+ghost use Rattle.fifo_model.specs.Queues.{empty_queue, is_full, entered, overrun, front, front_code, removed, taken_from, front_valid, front_bytes, lane_bytes, wakes, is_ready, emptied};
 
 use crate::{Entry, Pushed};
 use circular_buffer::HeapCircularBuffer;
@@ -21,10 +21,10 @@ pub struct Ring {
 }
 
 impl Model for Ring {
-    ghost use Rattle.fifo_model.specs.Queues.{Lane};
+    ghost use Rattle.fifo_model.specs.Queues.{QueueState};
     ghost use Rattle.fifo_model.specs.Rings.{IsRing};
 
-    ghost Value = { Lane };
+    ghost Value = { QueueState };
 
     ghost view = { λ ring. record { entries = ring.entries.items; capacity = ring.entries.capacity; taken = ring.taken; overruns = ring.overruns } };
 
@@ -42,7 +42,7 @@ fn is_waking(status: Status) -> bool
 impl Ring {
     pub fn new(alloc: Global, capacity: usize) -> Result<Ring, AllocError>
         requires { capacity ≤ 4096 }
-        ensures { IfOk result (λ ring. ring ≡ empty_lane capacity) }
+        ensures { IfOk result (λ ring. ring ≡ empty_queue capacity) }
     {
         let entries = HeapCircularBuffer::with_capacity(alloc, capacity)?;
         Ok(Ring {

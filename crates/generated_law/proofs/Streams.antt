@@ -6,7 +6,7 @@ use Rattle.std.proofs.lemmas.List.{append_assoc, append-nil}
 use Rattle.std.proofs.lemmas.List.Concat.{flat_map-append}
 use Rattle.fifo_model.specs.declared.Entry.{Entry}
 use Rattle.fifo_model.specs.declared.Queue.{Queue}
-use Rattle.fifo_model.specs.Queues.{lane_of}
+use Rattle.fifo_model.specs.Queues.{queue_state}
 use Rattle.pixel_layout.specs.declared.Parity.{Parity}
 use Rattle.pixel_layout.specs.declared.Parity.TheVariants.{Top, Bottom}
 use Rattle.machine_model.specs.States.{State}
@@ -174,7 +174,7 @@ module _ (d : Desc) (seed frames frame : ℕ) (field : Parity) (has : HasField d
 
   module _ (m : State) (j l : ℕ) (late : place_of d frame field ≤ j) (on : j ≤ l) (enough : place_behind d frame field ≤ l + 16)
       (awaits : Awaits d field m (between (place_of d frame field) j (stream_steps d seed frames))) where
-    in_order : (q : Queue) → (lane_of q m.queues).entries ++ coming (between j l (stream_steps d seed frames)) q
+    in_order : (q : Queue) → (queue_state q m.queues).entries ++ coming (between j l (stream_steps d seed frames)) q
         ≡ awaits.before q ++ (drawn_entries d field number q ++ (comes_to q l enough).rest)
     in_order q =
         let place = place_of d frame field in

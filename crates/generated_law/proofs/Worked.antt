@@ -3,7 +3,7 @@ use Rattle.std.proofs.Common.{◌≡◌, List, [], ◌++◌, refl, arith}
 use Rattle.std.proofs.lemmas.List.Elements.{All-nil}
 use Rattle.fifo_model.specs.declared.Queue.{Queue}
 use Rattle.fifo_model.specs.declared.Queue.TheVariants.{One, Two, Three}
-use Rattle.fifo_model.specs.Queues.{lane_of}
+use Rattle.fifo_model.specs.Queues.{queue_state}
 use Rattle.pixel_layout.specs.declared.Parity.TheVariants.{Top}
 use Rattle.machine_model.specs.States.{first_state}
 use Rattle.machine_model.specs.Steps.{Step}
@@ -22,7 +22,7 @@ steps = stream_steps smallest 1 1
 has : HasField smallest 1 0 Top
 has = record { description = described; valid = refl; described = refl; within = omega arith }
 
-held : (q : Queue) → (lane_of q (state_of smallest 0 steps 2).queues).entries ≡ [] ++ coming (between 0 2 steps) q
+held : (q : Queue) → (queue_state q (state_of smallest 0 steps 2).queues).entries ≡ [] ++ coming (between 0 2 steps) q
 held One = refl
 held Two = refl
 held Three = refl

@@ -3,7 +3,7 @@ use Rattle.std.specs.Prelude.{◌≡◌, ℕ, ◌+◌, ◌*◌, ◌<◌, ◌≤�
 use Rattle.std.specs.List.{flat_map}
 use Rattle.fifo_model.specs.declared.Entry.{Entry}
 use Rattle.fifo_model.specs.declared.Queue.{Queue}
-use Rattle.fifo_model.specs.Queues.{lane_of}
+use Rattle.fifo_model.specs.Queues.{queue_state}
 use Rattle.pixel_layout.specs.declared.Parity.{Parity}
 use Rattle.pixel_layout.specs.declared.Parity.TheVariants.{Top, Bottom}
 use Rattle.machine_model.specs.declared.Job.TheVariants.{Waiting}
@@ -55,7 +55,7 @@ pub record Awaits (d : Desc) (field : Parity) (m : State) (begun : List Step) : 
   pub waits : m.job ≡ Waiting no_control true (vertical field)
   pub there : m.pc ≡ after_opening d field
   pub before : Queue → List Entry
-  pub held : (q : Queue) → (lane_of q m.queues).entries ≡ before q ++ coming begun q
+  pub held : (q : Queue) → (queue_state q m.queues).entries ≡ before q ++ coming begun q
   pub unmarked : (q : Queue) → All (λ entry. IsVertical field entry → ⊥) (before q)
 
 -- a field that the stream of so many frames of a valid description has

@@ -9,7 +9,7 @@ use Rattle.sync_status.specs.declared.Verdict.{Verdict}
 use Rattle.sync_status.specs.declared.Verdict.TheVariants.{Take, Discard, Broken, Missing}
 use Rattle.fifo_model.specs.declared.Entry.{Entry}
 use Rattle.fifo_model.specs.declared.Queue.{Queue}
-use Rattle.fifo_model.specs.Queues.{lane_of, is_full, some_full}
+use Rattle.fifo_model.specs.Queues.{queue_state, is_full, some_full}
 use Rattle.irq_status.specs.declared.HostWrite.{HostWrite}
 use Rattle.irq_status.specs.declared.HostWrite.TheVariants.{Ack, Enable, Trigger}
 use Rattle.page_table.specs.Grants.{Chunk}
@@ -76,7 +76,7 @@ module _ (program : RiscProgram) (chunks : List Chunk) where
 
   takes : (q : Queue) (count : ℕ) (instr : Instr) (ds : Demands) (entry : Entry) (m : State) → Over program chunks m → Over program chunks (took q count instr ds entry m)
   takes q count instr ds entry m h =
-      record { same = h.same; there = chunks-stored_all m.memory (stores_of instr (demand_on q ds) entry (lane_of q m.queues).taken count) ∙ h.there }
+      record { same = h.same; there = chunks-stored_all m.memory (stores_of instr (demand_on q ds) entry (queue_state q m.queues).taken count) ∙ h.there }
 
   judges : (verdict : Verdict) (q : Queue) (instr : Instr) (ds : Demands) (entry : Entry) (m : State) → Over program chunks m →
       Over program chunks (judged verdict q instr ds entry m)
@@ -103,7 +103,7 @@ module _ (program : RiscProgram) (chunks : List Chunk) where
   filled false m h = h
 
   pushes : (on : Bool) (q : Queue) (entry : Entry) (m : State) → Over program chunks m → Over program chunks (push_if on q entry m)
-  pushes true q entry m h = let f = filled (is_full (lane_of q m.queues)) m h in record { same = f.same; there = f.there }
+  pushes true q entry m h = let f = filled (is_full (queue_state q m.queues)) m h in record { same = f.same; there = f.there }
   pushes false q entry m h = h
 
   controls : (on : Bool) (code : Code) (m : State) → Over program chunks m → Over program chunks (push_control_if on code m)

@@ -9,7 +9,7 @@ use Rattle.sync_status.specs.declared.Verdict.TheVariants.{Take, Discard, Broken
 use Rattle.sync_status.specs.Statuses.{kind_of}
 use Rattle.fifo_model.specs.declared.Entry.{Entry}
 use Rattle.fifo_model.specs.declared.Queue.{Queue}
-use Rattle.fifo_model.specs.Queues.{Queues, lane_of, is_full, some_full, pushed, control_pushed}
+use Rattle.fifo_model.specs.Queues.{Queues, queue_state, is_full, some_full, pushed, control_pushed}
 use Rattle.irq_status.specs.declared.HostWrite.{HostWrite}
 use Rattle.irq_status.specs.declared.HostWrite.TheVariants.{Ack, Enable, Trigger}
 use Rattle.irq_status.specs.Register.{fbus, fdsr, has_ocerr}
@@ -271,7 +271,7 @@ module _ (program : RiscProgram) (sound : IsSound program) where
   judges Discard q instr ds entry m e v h =
       record { same = h.same; number = h.number; there = h.there; no_error = ocerr-raised m.interrupts fdsr h.no_error refl }
   judges (Take count) q instr ds entry m e v h =
-      let least = (take-Takes (kind_of entry.status) (demand_on q ds).needs_sol (lane_of q m.queues).taken (demand_on q ds).rest count v).least in
+      let least = (take-Takes (kind_of entry.status) (demand_on q ds).needs_sol (queue_state q m.queues).taken (demand_on q ds).rest count v).least in
       ends _ instr (with_demand q (demand_less count (demand_on q ds)) ds) (took q count instr ds entry m) refl
       (takes q count instr ds entry m e (omega arith) h)
 
@@ -309,7 +309,7 @@ module _ (program : RiscProgram) (sound : IsSound program) where
   with_queues false m queues h = record { same = h.same; number = h.number; there = h.there; no_error = h.no_error }
 
   pushes : (on : Bool) (q : Queue) (entry : Entry) (m : State) → Follows program m → Follows program (push_if on q entry m)
-  pushes true q entry m h = with_queues (is_full (lane_of q m.queues)) m (pushed q entry m.queues) h
+  pushes true q entry m h = with_queues (is_full (queue_state q m.queues)) m (pushed q entry m.queues) h
   pushes false q entry m h = h
 
   controls : (on : Bool) (code : Code) (m : State) → Follows program m → Follows program (push_control_if on code m)

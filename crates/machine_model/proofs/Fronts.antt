@@ -8,7 +8,7 @@ use Rattle.sync_status.specs.Statuses.{kinds, kind_of, valid_bytes, valid_lanes,
 use Rattle.fifo_model.specs.declared.Entry.{Entry}
 use Rattle.fifo_model.specs.declared.Queue.{Queue}
 use Rattle.fifo_model.specs.declared.Queue.TheVariants.{One, Two, Three}
-use Rattle.fifo_model.specs.Queues.{Queues, lane_of, front, code_of_kind, front_code_of, front_code}
+use Rattle.fifo_model.specs.Queues.{Queues, queue_state, front, code_of_kind, front_code_of, front_code}
 use Rattle.machine_model.specs.Turns.{no_code, lowest_stray, code_if}
 
 -- ---- waiting
@@ -46,7 +46,7 @@ front_stray None h = refl
 front_stray (Some entry) h = data_code (kind_of entry.status) h
 
 -- the front of the lowest stray queue is no control code
-pub front-stray : (q : Queue) (queues : Queues) → lowest_stray queues ≡ Some q → front_code (lane_of q queues) ≡ None
+pub front-stray : (q : Queue) (queues : Queues) → lowest_stray queues ≡ Some q → front_code (queue_state q queues) ≡ None
 unfolding pick
 front-stray One queues h = front_stray (front queues.one) (first_of_three _ _ _ One h)
 front-stray Two queues h = front_stray (front queues.two) (first_of_three _ _ _ Two h)

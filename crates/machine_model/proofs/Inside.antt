@@ -9,7 +9,7 @@ use Rattle.sync_status.specs.declared.Verdict.TheVariants.{Take, Discard, Broken
 use Rattle.sync_status.specs.Statuses.{kind_of}
 use Rattle.fifo_model.specs.declared.Entry.{Entry}
 use Rattle.fifo_model.specs.declared.Queue.{Queue}
-use Rattle.fifo_model.specs.Queues.{lane_of, front, bytes_taken, lane_bytes}
+use Rattle.fifo_model.specs.Queues.{queue_state, front, bytes_taken, lane_bytes}
 use Rattle.page_table.specs.Grants.{Chunk, granted}
 use Rattle.machine_model.specs.declared.Demands.{Demands}
 use Rattle.machine_model.specs.declared.Job.{Job}
@@ -62,7 +62,7 @@ module _ (program : RiscProgram) (sound : IsSound program) where
   judged-granted Discard q instr ds entry m v d = All-nil (IsGranted program.grants)
   judged-granted Missing q instr ds entry m v d = All-nil (IsGranted program.grants)
   judged-granted (Take count) q instr ds entry m v d =
-      let taken : ℕ = (lane_of q m.queues).taken in
+      let taken : ℕ = (queue_state q m.queues).taken in
       let least = (take-Takes (kind_of entry.status) (demand_on q ds).needs_sol taken (demand_on q ds).rest count v).least in
       let few : length (bytes_taken entry taken count) ≤ (demand_on q ds).rest =
       omega (arith, length-take count (drop taken (lane_bytes entry.dword))) in
@@ -83,7 +83,7 @@ module _ (program : RiscProgram) (sound : IsSound program) where
   in-granted (Waiting ctl resync code) q m e h = All-nil (IsGranted program.grants)
   in-granted (Running instr ds) q m e h =
       let runs = runs_there program (path program h.number) m.pc m.skipping m.target m.job instr ds e h.there in
-      served-granted (front (lane_of q m.queues)) q instr ds m (demand-granted program.grants q ds runs.within)
+      served-granted (front (queue_state q m.queues)) q instr ds m (demand-granted program.grants q ds runs.within)
 
   continued : (count : ℕ) (q : Queue) (next : Option State) → ((after : State) → next ≡ Some after → All (IsGranted program.grants) (burst_stores count q after)) →
       All (IsGranted program.grants) (elim next as (λ _. List Store) [ None ↦ [] | Some after ↦ burst_stores count q after ])

@@ -10,9 +10,9 @@ use Rattle.sync_status.specs.declared.Verdict.TheVariants.{Take, Discard, Broken
 use Rattle.sync_status.specs.Statuses.{kind_of, valid_bytes, is_control}
 use Rattle.fifo_model.specs.declared.Entry.{Entry}
 use Rattle.fifo_model.specs.declared.Queue.{Queue}
-use Rattle.fifo_model.specs.Queues.{Lane, Queues, pushed, control_pushed, lane_of, front, front_code, front_valid, valid_of, front_code_of, IsFifo, is_full, some_full}
+use Rattle.fifo_model.specs.Queues.{QueueState, Queues, pushed, control_pushed, queue_state, front, front_code, front_valid, valid_of, front_code_of, IsFifo, is_full, some_full}
 use Rattle.fifo_model.proofs.Codes.{code-data}
-use Rattle.fifo_model.proofs.Kept.{IsLane-lane_of, IsFifo-empty, IsFifo-pushed, IsFifo-control_pushed, IsFifo-taken_from, IsFifo-removed, IsFifo-all_removed, IsFifo-cleared}
+use Rattle.fifo_model.proofs.Kept.{IsLane-queue_state, IsFifo-empty, IsFifo-pushed, IsFifo-control_pushed, IsFifo-taken_from, IsFifo-removed, IsFifo-all_removed, IsFifo-cleared}
 use Rattle.irq_status.specs.declared.HostWrite.{HostWrite}
 use Rattle.irq_status.specs.declared.HostWrite.TheVariants.{Ack, Enable, Trigger}
 use Rattle.machine_model.specs.declared.Cause.{Cause}
@@ -129,29 +129,29 @@ enough : (taken valid : ℕ) → (taken ≡ 0) ⊎ (taken < valid) → 1 ≤ val
 enough taken valid part some = omega arith
 
 takes : (q : Queue) (count : ℕ) (instr : Instr) (ds : Demands) (entry : Entry) (m : State) → m.job ≡ Running instr ds →
-    front (lane_of q m.queues) ≡ Some entry → ((demand_on q ds).rest == 0) ≡ false → verdict_at q ds entry m ≡ Take count → IsOrderly m →
+    front (queue_state q m.queues) ≡ Some entry → ((demand_on q ds).rest == 0) ≡ false → verdict_at q ds entry m ≡ Take count → IsOrderly m →
     IsOrderly (took q count instr ds entry m)
 takes q count instr ds entry m e f n v h =
-    let lane : Lane = lane_of q m.queues in
+    let held : QueueState = queue_state q m.queues in
     let fits : JobFits m.skipping m.target (Running instr ds) = subst (λ job. JobFits m.skipping m.target job) e h.job in
-    let takes : Takes (kind_of entry.status) lane.taken (demand_on q ds).rest count =
-    take-Takes (kind_of entry.status) (demand_on q ds).needs_sol lane.taken (demand_on q ds).rest count v in
-    let valid : front_valid lane ≡ valid_bytes entry.status = ap valid_of f in
-    let some = valid-some entry.status lane.taken (demand_on q ds).rest count takes in
-    let part = (IsLane-lane_of q m.queues h.queues).part in
-    let below : lane.taken < front_valid lane = enough lane.taken (front_valid lane) part (omega arith) in
+    let takes : Takes (kind_of entry.status) held.taken (demand_on q ds).rest count =
+    take-Takes (kind_of entry.status) (demand_on q ds).needs_sol held.taken (demand_on q ds).rest count v in
+    let valid : front_valid held ≡ valid_bytes entry.status = ap valid_of f in
+    let some = valid-some entry.status held.taken (demand_on q ds).rest count takes in
+    let part = (IsLane-queue_state q m.queues h.queues).part in
+    let below : held.taken < front_valid held = enough held.taken (front_valid held) part (omega arith) in
     let asked : 1 ≤ (demand_on q ds).rest = nonzero (demand_on q ds).rest n in
     let least = takes.least in
     record { job = fits; queues = IsFifo-taken_from q count m.queues (omega arith) (omega arith) h.queues; triggered = h.triggered }
 
 judges : (verdict : Verdict) (q : Queue) (instr : Instr) (ds : Demands) (entry : Entry) (m : State) → m.job ≡ Running instr ds →
-    front (lane_of q m.queues) ≡ Some entry → ((demand_on q ds).rest == 0) ≡ false → verdict_at q ds entry m ≡ verdict → IsOrderly m →
+    front (queue_state q m.queues) ≡ Some entry → ((demand_on q ds).rest == 0) ≡ false → verdict_at q ds entry m ≡ verdict → IsOrderly m →
     IsOrderly (judged verdict q instr ds entry m)
 judges Broken q instr ds entry m e f n v h = record { job = refl; queues = h.queues; triggered = h.triggered }
 judges Missing q instr ds entry m e f n v h = record { job = no_target (rest_of_line instr); queues = h.queues; triggered = h.triggered }
 judges Discard q instr ds entry m e f n v h =
-    let kind = discarded-data (kind_of entry.status) (demand_on q ds).needs_sol (lane_of q m.queues).taken (demand_on q ds).rest v in
-    let code : front_code (lane_of q m.queues) ≡ None = ap front_code_of f ∙ code-data (kind_of entry.status) kind in
+    let kind = discarded-data (kind_of entry.status) (demand_on q ds).needs_sol (queue_state q m.queues).taken (demand_on q ds).rest v in
+    let code : front_code (queue_state q m.queues) ≡ None = ap front_code_of f ∙ code-data (kind_of entry.status) kind in
     record { job = h.job; queues = IsFifo-removed q m.queues code h.queues; triggered = h.triggered }
 judges (Take count) q instr ds entry m e f n v h = ends _ instr _ (takes q count instr ds entry m e f n v h)
 
@@ -180,7 +180,7 @@ with_queues true m queues f h = record { job = h.job; queues = f; triggered = h.
 with_queues false m queues f h = record { job = h.job; queues = f; triggered = h.triggered }
 
 pushes : (on : Bool) (q : Queue) (entry : Entry) (m : State) → is_control (kind_of entry.status) ≡ false → IsOrderly m → IsOrderly (push_if on q entry m)
-pushes true q entry m n h = with_queues (is_full (lane_of q m.queues)) m (pushed q entry m.queues) (IsFifo-pushed q entry m.queues n h.queues) h
+pushes true q entry m n h = with_queues (is_full (queue_state q m.queues)) m (pushed q entry m.queues) (IsFifo-pushed q entry m.queues n h.queues) h
 pushes false q entry m n h = h
 
 pub IsOrderly-push : (q : Queue) (entry : Entry) (m : State) → is_control (kind_of entry.status) ≡ false → IsOrderly m → IsOrderly (push q entry m)

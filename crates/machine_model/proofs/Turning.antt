@@ -5,7 +5,7 @@ use Rattle.risc_word.specs.declared.Ctl.{Ctl}
 use Rattle.risc_word.specs.declared.Instr.{Instr}
 use Rattle.fifo_model.specs.declared.Entry.{Entry}
 use Rattle.fifo_model.specs.declared.Queue.{Queue}
-use Rattle.fifo_model.specs.Queues.{lane_of, front}
+use Rattle.fifo_model.specs.Queues.{queue_state, front}
 use Rattle.machine_model.specs.declared.Demands.{Demands}
 use Rattle.machine_model.specs.declared.Job.{Job}
 use Rattle.machine_model.specs.declared.Job.TheVariants.{Idle, Waiting, Running}
@@ -22,12 +22,12 @@ pub record IsKept (P : State → Type 0) : Type 0 where
   pub retires : (instr : Instr) (ds : Demands) (m : State) → m.job ≡ Running instr ds → is_done ds ≡ true → P m →
       P (retired instr m)
   pub judges : (q : Queue) (instr : Instr) (ds : Demands) (entry : Entry) (m : State) → m.job ≡ Running instr ds →
-      front (lane_of q m.queues) ≡ Some entry → ((demand_on q ds).rest == 0) ≡ false → P m →
+      front (queue_state q m.queues) ≡ Some entry → ((demand_on q ds).rest == 0) ≡ false → P m →
       P (judged (verdict_at q ds entry m) q instr ds entry m)
 
 module _ (P : State → Type 0) (kept : IsKept P) where
   asked : (q : Queue) (instr : Instr) (ds : Demands) (entry : Entry) (m after : State) (none : Bool) →
-      m.job ≡ Running instr ds → front (lane_of q m.queues) ≡ Some entry → ((demand_on q ds).rest == 0) ≡ none → P m →
+      m.job ≡ Running instr ds → front (queue_state q m.queues) ≡ Some entry → ((demand_on q ds).rest == 0) ≡ none → P m →
       (if none then None else Some (judged (verdict_at q ds entry m) q instr ds entry m)) ≡ Some after → P after
   asked q instr ds entry m after true e f n h s = cc
   asked q instr ds entry m after false e f n h s =
@@ -35,7 +35,7 @@ module _ (P : State → Type 0) (kept : IsKept P) where
       subst P same (kept.judges q instr ds entry m e f n h)
 
   served-kept : (q : Queue) (instr : Instr) (ds : Demands) (m after : State) (top : Option Entry) →
-      m.job ≡ Running instr ds → front (lane_of q m.queues) ≡ top → P m → served top q instr ds m ≡ Some after → P after
+      m.job ≡ Running instr ds → front (queue_state q m.queues) ≡ top → P m → served top q instr ds m ≡ Some after → P after
   served-kept q instr ds m after None e f h s = cc
   served-kept q instr ds m after (Some entry) e f h s = asked q instr ds entry m after _ e f refl h s
 

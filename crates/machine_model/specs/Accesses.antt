@@ -7,7 +7,7 @@ use Rattle.sync_status.specs.declared.Verdict.{Verdict}
 use Rattle.sync_status.specs.declared.Verdict.TheVariants.{Take, Discard, Broken, Missing}
 use Rattle.fifo_model.specs.declared.Entry.{Entry}
 use Rattle.fifo_model.specs.declared.Queue.{Queue}
-use Rattle.fifo_model.specs.Queues.{lane_of, front}
+use Rattle.fifo_model.specs.Queues.{queue_state, front}
 use Rattle.machine_model.specs.declared.Demands.{Demands}
 use Rattle.machine_model.specs.declared.Job.{Job}
 use Rattle.machine_model.specs.declared.Job.TheVariants.{Idle, Waiting, Running}
@@ -21,7 +21,7 @@ judged_stores Broken q instr ds entry m = []
 judged_stores Discard q instr ds entry m = []
 judged_stores Missing q instr ds entry m = []
 judged_stores (Take count) q instr ds entry m =
-    stores_of instr (demand_on q ds) entry (lane_of q m.queues).taken count
+    stores_of instr (demand_on q ds) entry (queue_state q m.queues).taken count
 
 abbrev pub served_stores : Option Entry → Queue → Instr → Demands → State → List Store
 served_stores None q instr ds m = []
@@ -29,7 +29,7 @@ served_stores (Some entry) q instr ds m =
     if (demand_on q ds).rest == 0 then [] else judged_stores (verdict_at q ds entry m) q instr ds entry m
 
 abbrev pub stores_in : Job → Queue → State → List Store
-stores_in (Running instr ds) q m = served_stores (front (lane_of q m.queues)) q instr ds m
+stores_in (Running instr ds) q m = served_stores (front (queue_state q m.queues)) q instr ds m
 stores_in _ q m = []
 
 abbrev pub apply_stores : Queue → State → List Store

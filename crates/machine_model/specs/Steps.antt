@@ -5,7 +5,7 @@ use Rattle.fifo_model.specs.declared.Entry.{Entry}
 use Rattle.fifo_model.specs.declared.Queue.{Queue}
 use Rattle.fifo_model.specs.declared.Pushed.{Pushed}
 use Rattle.fifo_model.specs.declared.Pushed.TheVariants.{Off}
-use Rattle.fifo_model.specs.Queues.{lane_of, is_full, some_full, pushed, push_answer, control_pushed, control_answer, cleared}
+use Rattle.fifo_model.specs.Queues.{queue_state, is_full, some_full, pushed, push_answer, control_pushed, control_answer, cleared}
 use Rattle.irq_status.specs.declared.HostWrite.{HostWrite}
 use Rattle.irq_status.specs.declared.HostWrite.TheVariants.{Ack, Enable, Trigger}
 use Rattle.irq_status.specs.Register.{fbus, acknowledged}
@@ -23,7 +23,7 @@ with_fbus_if false m = m
 -- a data push; a push is ignored while the FIFO is disabled
 abbrev pub data_push : Queue → Entry → State → State
 data_push q entry m =
-    record (with_fbus_if (is_full (lane_of q m.queues)) m) { queues = pushed q entry m.queues }
+    record (with_fbus_if (is_full (queue_state q m.queues)) m) { queues = pushed q entry m.queues }
 
 abbrev pub push_if : Bool → Queue → Entry → State → State
 push_if true q entry m = data_push q entry m

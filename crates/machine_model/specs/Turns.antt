@@ -12,7 +12,7 @@ use Rattle.sync_status.specs.Statuses.{kind_of, valid_bytes, is_end, is_control,
 use Rattle.fifo_model.specs.declared.Entry.{Entry}
 use Rattle.fifo_model.specs.declared.Queue.{Queue}
 use Rattle.fifo_model.specs.declared.Queue.TheVariants.{One, Two, Three}
-use Rattle.fifo_model.specs.Queues.{Lane, Queues, more, lane_of, with_lane, front, front_code, removed, all_removed, taken_from, bytes_taken, is_ready}
+use Rattle.fifo_model.specs.Queues.{QueueState, Queues, more, queue_state, with_queue_state, front, front_code, removed, all_removed, taken_from, bytes_taken, is_ready}
 use Rattle.irq_status.specs.Register.{fdsr, ocerr, raised, applied}
 use Rattle.page_table.specs.Blocks.{Block, stored}
 use Rattle.machine_model.specs.declared.Cause.{Cause}
@@ -42,8 +42,8 @@ with_fdsr_unless false m = with_fdsr m
 abbrev pub with_control_bits : Ctl → State → State
 with_control_bits ctl m = record m { interrupts = applied ctl m.interrupts }
 
-abbrev pub with_queue : Queue → Lane → State → State
-with_queue q lane m = record m { queues = with_lane q lane m.queues }
+abbrev pub with_queue : Queue → QueueState → State → State
+with_queue q held m = record m { queues = with_queue_state q held m.queues }
 
 -- no instruction can be executed: OCERR, and the controller stops
 abbrev pub halted : State → State
@@ -114,8 +114,8 @@ abbrev pub no_code : Option Entry → Bool
 no_code None = false
 no_code (Some entry) = not (is_control (kind_of entry.status))
 
-abbrev pub is_stray : Lane → Bool
-is_stray lane = no_code (front lane)
+abbrev pub is_stray : QueueState → Bool
+is_stray held = no_code (front held)
 
 abbrev pub lowest_stray : Queues → Option Queue
 lowest_stray queues =
@@ -133,7 +133,7 @@ abbrev pub common_code : Queues → Option Code
 common_code queues = code_if (front_code queues.one) (front_code queues.two) (front_code queues.three)
 
 abbrev pub dropped : Queue → Bool → State → State
-dropped q resync m = with_fdsr_unless resync (with_queue q (removed (lane_of q m.queues)) m)
+dropped q resync m = with_fdsr_unless resync (with_queue q (removed (queue_state q m.queues)) m)
 
 abbrev pub without_codes : State → State
 without_codes m = record m { queues = all_removed m.queues }
@@ -207,12 +207,12 @@ is_cut_short entry taken count rest =
 
 abbrev pub took : Queue → ℕ → Instr → Demands → Entry → State → State
 took q count instr ds entry m =
-    let lane : Lane = lane_of q m.queues in
+    let held : QueueState = queue_state q m.queues in
     let d : Demand = demand_on q ds in
-    let stores : List Store = stores_of instr d entry lane.taken count in
+    let stores : List Store = stores_of instr d entry held.taken count in
     record m {
       job = Running instr (with_demand q (demand_less count d) ds);
-      queues = with_lane q (taken_from count lane) m.queues;
+      queues = with_queue_state q (taken_from count held) m.queues;
       memory = stored_all m.memory stores;
       moved = more m.moved (length stores);
     }
@@ -223,18 +223,18 @@ ended false instr m = m
 
 abbrev pub taking : Queue → ℕ → Instr → Demands → Entry → State → State
 taking q count instr ds entry m =
-    ended (is_cut_short entry (lane_of q m.queues).taken count (demand_on q ds).rest) instr
+    ended (is_cut_short entry (queue_state q m.queues).taken count (demand_on q ds).rest) instr
     (took q count instr ds entry m)
 
 abbrev pub judged : Verdict → Queue → Instr → Demands → Entry → State → State
 judged Broken q instr ds entry m = given_up ToSync m
-judged Discard q instr ds entry m = with_fdsr (with_queue q (removed (lane_of q m.queues)) m)
+judged Discard q instr ds entry m = with_fdsr (with_queue q (removed (queue_state q m.queues)) m)
 judged Missing q instr ds entry m = given_up (rest_of_line instr) m
 judged (Take count) q instr ds entry m = taking q count instr ds entry m
 
 abbrev pub verdict_at : Queue → Demands → Entry → State → Verdict
 verdict_at q ds entry m =
-    verdict_on (kind_of entry.status) (demand_on q ds).needs_sol (lane_of q m.queues).taken (demand_on q ds).rest
+    verdict_on (kind_of entry.status) (demand_on q ds).needs_sol (queue_state q m.queues).taken (demand_on q ds).rest
 
 -- one application to the front of a queue; none where nothing is asked of it or it is empty
 abbrev pub served : Option Entry → Queue → Instr → Demands → State → Option State
@@ -244,7 +244,7 @@ served (Some entry) q instr ds m =
     else Some (judged (verdict_at q ds entry m) q instr ds entry m)
 
 abbrev pub apply_in : Job → Queue → State → Option State
-apply_in (Running instr ds) q m = served (front (lane_of q m.queues)) q instr ds m
+apply_in (Running instr ds) q m = served (front (queue_state q m.queues)) q instr ds m
 apply_in _ q m = None
 
 abbrev pub apply : Queue → State → Option State
@@ -257,7 +257,7 @@ burst (suc count) q m = elim (apply q m) [ None ↦ m | Some after ↦ burst cou
 
 -- whether something is asked of a queue and it is ready, and the lowest such queue
 abbrev pub is_served : Queue → Demands → State → Bool
-is_served q ds m = not ((demand_on q ds).rest == 0) && is_ready m.trigger (lane_of q m.queues)
+is_served q ds m = not ((demand_on q ds).rest == 0) && is_ready m.trigger (queue_state q m.queues)
 
 abbrev pub lowest_served : Demands → State → Option Queue
 lowest_served ds m =

@@ -2,7 +2,7 @@
 use Rattle.std.proofs.Common.{◌≡◌, ℕ, ◌+◌, true, false, All, List, [], ◌∷◌, ◌++◌, length, length-append, refl, sym, ap, ◌∙◌, subst, arith}
 use Rattle.fifo_model.specs.declared.Entry.{Entry}
 use Rattle.fifo_model.specs.declared.Queue.{Queue}
-use Rattle.fifo_model.specs.Queues.{lane_of}
+use Rattle.fifo_model.specs.Queues.{queue_state}
 use Rattle.irq_status.specs.Register.{fdsr, has}
 use Rattle.page_table.specs.Blocks.{byte_at, chunks_of}
 use Rattle.page_table.specs.Taken.{in_order}
@@ -68,8 +68,8 @@ module _ (d : Desc) (field : Parity) (picture : Picture) (m : State) (steps : Li
           entries = c.arrives.entries;
           rest = c.arrives.rest;
           order = λ q.
-              ap (λ (mets : List Met). (lane_of q m.queues).entries ++ law.coming mets q) (sym same)
-              ∙ ap (λ (entries : List Entry). (lane_of q m.queues).entries ++ entries) (coming_same m.program steps q) ∙ c.arrives.order q;
+              ap (λ (mets : List Met). (queue_state q m.queues).entries ++ law.coming mets q) (sym same)
+              ∙ ap (λ (entries : List Entry). (queue_state q m.queues).entries ++ entries) (coming_same m.program steps q) ∙ c.arrives.order q;
           unmarked = c.arrives.unmarked;
           brings = c.arrives.brought.brings;
         };

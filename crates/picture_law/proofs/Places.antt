@@ -2,7 +2,7 @@
 use Rattle.std.proofs.Common.{◌≡◌, ℕ, ◌+◌, ◌-◌, ◌*◌, ◌≤◌, true, false, All, List, [], ◌∷◌, ◌++◌, length, take, drop, refl, sym, ap, ◌∙◌, subst, arith}
 use Rattle.std.proofs.lemmas.List.Elements.{All-drop, All-take}
 use Rattle.fifo_model.specs.declared.Queue.{Queue}
-use Rattle.fifo_model.specs.Queues.{lane_of}
+use Rattle.fifo_model.specs.Queues.{queue_state}
 use Rattle.irq_status.specs.Register.{fdsr, has}
 use Rattle.pixel_layout.specs.declared.Parity.{Parity}
 use Rattle.machine_model.specs.States.{State, first_state}
@@ -45,12 +45,12 @@ module _ (d : Desc) (field : Parity) (picture : Picture) (fill : ℕ) (steps : L
 
   -- a signal stands before l
   in_time : (early late : List Step) (l : ℕ) (part : List Step) → between j l steps ≡ part → early ++ late ≡ part → (arrives : Arrives d field picture m part) →
-      ((q : Queue) → entries_of arrives.before arrives.entries q ≤ length (lane_of q m.queues).entries + length (coming early q)) →
+      ((q : Queue) → entries_of arrives.before arrives.entries q ≤ length (queue_state q m.queues).entries + length (coming early q)) →
       5 * size d field + over_queues (entries_of arrives.before arrives.entries) ≤ turns_in late → has_signal d field m part ≡ true
   in_time early late l part same split =
       subst
       (λ (part : List Step). between j l steps ≡ part → (arrives : Arrives d field picture m part) →
-      ((q : Queue) → entries_of arrives.before arrives.entries q ≤ length (lane_of q m.queues).entries + length (coming early q)) →
+      ((q : Queue) → entries_of arrives.before arrives.entries q ≤ length (queue_state q m.queues).entries + length (coming early q)) →
       5 * size d field + over_queues (entries_of arrives.before arrives.entries) ≤ turns_in late → has_signal d field m part ≡ true)
       split
       (λ same arrives come many. signals_in_time d field picture m early late (captures l (early ++ late) same arrives) come many) same

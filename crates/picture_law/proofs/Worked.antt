@@ -2,7 +2,7 @@
 use Rattle.std.proofs.Common.{◌≡◌, ℕ, ◌^◌, ◌<◌, true, false, All, List, [], ◌∷◌, ◌++◌, length, refl, arith}
 use Rattle.std.proofs.lemmas.List.Elements.{All-nil, All-append, All-from_recursion}
 use Rattle.risc_word.specs.declared.Code.TheVariants.{Vre}
-use Rattle.fifo_model.specs.Queues.{lane_of}
+use Rattle.fifo_model.specs.Queues.{queue_state}
 use Rattle.fifo_model.specs.declared.Queue.{Queue}
 use Rattle.fifo_model.specs.declared.Queue.TheVariants.{One, Two, Three}
 use Rattle.pixel_layout.specs.declared.Parity.TheVariants.{Top}
@@ -61,7 +61,7 @@ row_bytes Three = All-nil HoldsBytes
 pictured : IsPicture smallest Top picture
 pictured = record { vbi = no_lines 2044; rows = rows; vbi_bytes = All-nil HoldsBytes; row_bytes = row_bytes }
 
-order : (q : Queue) → (lane_of q machine.queues).entries ++ coming (moves ++ Turn ∷ []) q ≡ before q ++ (entries q ++ [])
+order : (q : Queue) → (queue_state q machine.queues).entries ++ coming (moves ++ Turn ∷ []) q ≡ before q ++ (entries q ++ [])
 order One = refl
 order Two = refl
 order Three = refl

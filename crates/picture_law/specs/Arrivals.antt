@@ -5,7 +5,7 @@ use Rattle.sync_status.specs.Statuses.{kind_of}
 use Rattle.fifo_model.specs.declared.Entry.{Entry}
 use Rattle.fifo_model.specs.declared.Queue.{Queue}
 use Rattle.fifo_model.specs.declared.Pushed.TheVariants.{Held}
-use Rattle.fifo_model.specs.Queues.{lane_of, code_of_kind}
+use Rattle.fifo_model.specs.Queues.{queue_state, code_of_kind}
 use Rattle.irq_status.specs.declared.HostWrite.TheVariants.{Ack, Enable, Trigger}
 use Rattle.pixel_layout.specs.declared.Parity.{Parity}
 use Rattle.machine_model.specs.declared.Job.TheVariants.{Waiting}
@@ -53,7 +53,7 @@ pub record Arrives (d : Desc) (field : Parity) (picture : Picture) (m : State) (
   pub before : Queue → List Entry
   pub entries : Queue → List Entry
   pub rest : Queue → List Entry
-  pub order : (q : Queue) → (lane_of q m.queues).entries ++ coming steps q ≡ before q ++ (entries q ++ rest q)
+  pub order : (q : Queue) → (queue_state q m.queues).entries ++ coming steps q ≡ before q ++ (entries q ++ rest q)
   pub unmarked : (q : Queue) → All (λ entry. IsVertical field entry → ⊥) (before q)
   pub brought : IsField d field picture entries
 

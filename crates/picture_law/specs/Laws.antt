@@ -1,7 +1,7 @@
 -- The law of the picture, for the program of every valid description.
 use Rattle.std.specs.Prelude.{◌≡◌, ℕ, ◌+◌, ◌*◌, ◌≤◌, true, false, All, List, [], ◌∷◌, ◌++◌, length}
 use Rattle.fifo_model.specs.declared.Queue.{Queue}
-use Rattle.fifo_model.specs.Queues.{lane_of}
+use Rattle.fifo_model.specs.Queues.{queue_state}
 use Rattle.irq_status.specs.Register.{fdsr, risci, has, risc_status}
 use Rattle.page_table.specs.Blocks.{Block, byte_at, chunks_of}
 use Rattle.pixel_layout.specs.declared.Parity.{Parity}
@@ -71,7 +71,7 @@ SignalsField = (d : Desc) (field : Parity) (picture : Picture) (m : State) (earl
 abbrev pub SignalsInTime : Type 0
 SignalsInTime = (d : Desc) (field : Parity) (picture : Picture) (m : State) (early late : List Step)
     (captures : Captures d field picture m (early ++ late)) →
-    ((q : Queue) → entries_of captures.arrives.before captures.arrives.entries q ≤ length (lane_of q m.queues).entries + length (coming early q)) →
+    ((q : Queue) → entries_of captures.arrives.before captures.arrives.entries q ≤ length (queue_state q m.queues).entries + length (coming early q)) →
     5 * size d field + over_queues (entries_of captures.arrives.before captures.arrives.entries) ≤ turns_in late →
     has_signal d field m (early ++ late) ≡ true
 

@@ -1,7 +1,7 @@
 -- The law of the picture over the places of a run: place k is the moment before step k.
 use Rattle.std.specs.Prelude.{◌≡◌, ℕ, ◌+◌, ◌-◌, ◌*◌, ◌<◌, ◌≤◌, Bool, true, false, List, length, take, drop, slice_index_or}
 use Rattle.fifo_model.specs.declared.Queue.{Queue}
-use Rattle.fifo_model.specs.Queues.{lane_of}
+use Rattle.fifo_model.specs.Queues.{queue_state}
 use Rattle.irq_status.specs.Register.{fdsr, has}
 use Rattle.pixel_layout.specs.declared.Parity.{Parity}
 use Rattle.machine_model.specs.States.{State, first_state}
@@ -61,6 +61,6 @@ RunTellsField = (d : Desc) (field : Parity) (picture : Picture) (fill : ℕ) (st
 abbrev pub RunSignalsInTime : Type 0
 RunSignalsInTime = (d : Desc) (field : Parity) (picture : Picture) (fill : ℕ) (steps : List Step) (j i l : ℕ) → IsCapture d field picture steps →
     j ≤ i → i ≤ l → l ≤ length steps → (arrives : Arrives d field picture (state_of d fill steps j) (between j l steps)) →
-    ((q : Queue) → entries_of arrives.before arrives.entries q ≤ length (lane_of q (state_of d fill steps j).queues).entries + length (coming (between j i steps) q)) →
+    ((q : Queue) → entries_of arrives.before arrives.entries q ≤ length (queue_state q (state_of d fill steps j).queues).entries + length (coming (between j i steps) q)) →
     5 * size d field + over_queues (entries_of arrives.before arrives.entries) ≤ turns_in (between i l steps) →
     (k : ℕ) × IsFirstSignal d field (first_state (compiled d) fill) steps j k × (k < l)

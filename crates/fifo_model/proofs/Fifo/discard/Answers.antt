@@ -1,13 +1,13 @@
 use Rattle.std.proofs.Common.{subst, arith}
 use Rattle.std.proofs.lemmas.Grind.{common_steps}
-use Rattle.fifo_model.specs.Queues.{with_lane, removed, lane_of, IsFifo}
+use Rattle.fifo_model.specs.Queues.{with_queue_state, removed, queue_state, IsFifo}
 use Rattle.fifo_model.proofs.Kept.{IsFifo-removed}
 use Rattle.fifo_model.proofs.Rings.{AreRings-kept}
 use Rattle.fifo_model.proofs.Fifo.discard.Goals as goal
 
 pub invariant_of-self : goal.invariant_of-self
 invariant_of-self c =
-    AreRings-kept _ _ (with_lane c.args.q (removed (lane_of c.args.q c.args.self.now)) c.args.self.now) (grind (arith, common_steps)) (grind (arith, common_steps))
+    AreRings-kept _ _ (with_queue_state c.args.q (removed (queue_state c.args.q c.args.self.now)) c.args.self.now) (grind (arith, common_steps)) (grind (arith, common_steps))
     (IsFifo-removed c.args.q c.args.self.now c.requires.no_control (subst IsFifo c.self.view_is c.self.invariant.facts))
 
 pub returns-clause-facts : goal.returns-clause-facts
