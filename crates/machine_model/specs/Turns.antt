@@ -13,7 +13,7 @@ use Rattle.fifo_model.specs.declared.Entry.{Entry}
 use Rattle.fifo_model.specs.declared.Queue.{Queue}
 use Rattle.fifo_model.specs.declared.Queue.TheVariants.{One, Two, Three}
 use Rattle.fifo_model.specs.Queues.{QueueState, Queues, more, queue_state, with_queue_state, front, front_code, removed, all_removed, taken_from, bytes_taken, is_ready}
-use Rattle.irq_status.specs.Register.{fdsr, ocerr, raised, applied}
+use Rattle.irq_status.specs.Register.{has, fdsr, ocerr, raised, applied}
 use Rattle.page_table.specs.Blocks.{Block, stored}
 use Rattle.machine_model.specs.declared.Cause.{Cause}
 use Rattle.machine_model.specs.declared.Demand.{Demand}
@@ -294,3 +294,11 @@ turn_if true m = worked m.job m
 
 abbrev pub turn : State → State
 turn m = turn_if m.risc_on (counted m)
+
+-- The turn at a state sets FDSR where the same turn leaves it set though no bit of INT_STAT stood before; what a turn
+-- does never depends on these bits
+abbrev pub with_interrupts : ℕ → State → State
+with_interrupts register m = record m { interrupts = register }
+
+abbrev pub sets_fdsr : State → Bool
+sets_fdsr m = has fdsr (turn (with_interrupts 0 m)).interrupts
