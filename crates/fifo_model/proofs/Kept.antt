@@ -22,40 +22,40 @@ part-entered taken (front ∷ rest) entry part = part
 room : (n capacity : ℕ) → n ≤ capacity → (n == capacity) ≡ false → n + 1 ≤ capacity
 room n capacity within free = grind (arith, nat_tests)
 
-pub IsLane-entered : (entry : Entry) (held : QueueState) → is_full held ≡ false → IsLane held → IsLane (entered entry held)
-IsLane-entered entry held free held =
-    let longer : length held.entries + 1 ≤ held.capacity = room _ _ held.within free in
+pub IsLane-entered : (entry : Entry) (state : QueueState) → is_full state ≡ false → IsLane state → IsLane (entered entry state)
+IsLane-entered entry state free held =
+    let longer : length state.entries + 1 ≤ state.capacity = room _ _ held.within free in
     record {
       some_room = held.some_room;
       most_room = held.most_room;
-      within = omega (arith, length-append held.entries (entry ∷ []));
-      part = part-entered held.taken held.entries entry held.part;
+      within = omega (arith, length-append state.entries (entry ∷ []));
+      part = part-entered state.taken state.entries entry held.part;
     }
 
-pub IsLane-overrun : (held : QueueState) → IsLane held → IsLane (overrun held)
-IsLane-overrun held held =
+pub IsLane-overrun : (state : QueueState) → IsLane state → IsLane (overrun state)
+IsLane-overrun state held =
     record { some_room = held.some_room; most_room = held.most_room; within = held.within; part = held.part }
 
-pub IsLane-removed : (held : QueueState) → IsLane held → IsLane (removed held)
-IsLane-removed held held =
+pub IsLane-removed : (state : QueueState) → IsLane state → IsLane (removed state)
+IsLane-removed state held =
     record {
       some_room = held.some_room;
       most_room = held.most_room;
-      within = omega (arith, held.within, length-drop 1 held.entries);
+      within = omega (arith, held.within, length-drop 1 state.entries);
       part = inl refl;
     }
 
-pub IsLane-emptied : (held : QueueState) → IsLane held → IsLane (emptied held)
-IsLane-emptied held held =
+pub IsLane-emptied : (state : QueueState) → IsLane state → IsLane (emptied state)
+IsLane-emptied state held =
     record { some_room = held.some_room; most_room = held.most_room; within = omega arith; part = inl refl }
 
 part_after : (taken count valid : ℕ) → taken + count ≤ valid → (taken + count == valid) ≡ false → taken + count < valid
 part_after taken count valid most other = grind (arith, nat_tests)
 
-taken-cases : (count : ℕ) (held : QueueState) (entry : Entry) (rest : List Entry) (whole : Bool) → (held.taken + count == valid_bytes entry.status) ≡ whole → held.entries ≡ entry ∷ rest → held.taken + count ≤ valid_bytes entry.status → IsLane held → IsLane (if whole then removed held else record held { taken = held.taken + count })
-taken-cases count held entry rest true whole same most held = IsLane-removed held held
-taken-cases count held entry rest false other same most held =
-    let less : held.taken + count < valid_bytes entry.status = part_after held.taken count (valid_bytes entry.status) most other in
+taken-cases : (count : ℕ) (state : QueueState) (entry : Entry) (rest : List Entry) (whole : Bool) → (state.taken + count == valid_bytes entry.status) ≡ whole → state.entries ≡ entry ∷ rest → state.taken + count ≤ valid_bytes entry.status → IsLane state → IsLane (if whole then removed state else record state { taken = state.taken + count })
+taken-cases count state entry rest true whole same most held = IsLane-removed state held
+taken-cases count state entry rest false other same most held =
+    let less : state.taken + count < valid_bytes entry.status = part_after state.taken count (valid_bytes entry.status) most other in
     record {
       some_room = held.some_room;
       most_room = held.most_room;
@@ -63,28 +63,28 @@ taken-cases count held entry rest false other same most held =
       part = inr (rw same less);
     }
 
-taken-list : (count : ℕ) (held : QueueState) (entries : List Entry) → held.entries ≡ entries → held.taken + count ≤ valid_of (first entries) → IsLane held → IsLane (taken_more count held entries)
-taken-list count held [] same most held = held
-taken-list count held (entry ∷ rest) same most held =
-    taken-cases count held entry rest (held.taken + count == valid_bytes entry.status) refl same most held
+taken-list : (count : ℕ) (state : QueueState) (entries : List Entry) → state.entries ≡ entries → state.taken + count ≤ valid_of (first entries) → IsLane state → IsLane (taken_more count state entries)
+taken-list count state [] same most held = held
+taken-list count state (entry ∷ rest) same most held =
+    taken-cases count state entry rest (state.taken + count == valid_bytes entry.status) refl same most held
 
-pub IsLane-taken_from : (count : ℕ) (held : QueueState) → held.taken + count ≤ front_valid held → IsLane held → IsLane (taken_from count held)
-IsLane-taken_from count held most held = taken-list count held held.entries refl most held
+pub IsLane-taken_from : (count : ℕ) (state : QueueState) → state.taken + count ≤ front_valid state → IsLane state → IsLane (taken_from count state)
+IsLane-taken_from count state most held = taken-list count state state.entries refl most held
 
 -- The codes of a queue after bytes of its front were taken.
-codes-taken_cases : (held : QueueState) (taken : ℕ) (whole : Bool) → codes_of (drop 1 held.entries) ≡ codes_of held.entries → codes_of (if whole then removed held else record held { taken = taken }).entries ≡ codes_of held.entries
-codes-taken_cases held taken true same = same
-codes-taken_cases held taken false same = refl
+codes-taken_cases : (state : QueueState) (taken : ℕ) (whole : Bool) → codes_of (drop 1 state.entries) ≡ codes_of state.entries → codes_of (if whole then removed state else record state { taken = taken }).entries ≡ codes_of state.entries
+codes-taken_cases state taken true same = same
+codes-taken_cases state taken false same = refl
 
-codes-taken_more : (count : ℕ) (held : QueueState) (entries : List Entry) → codes_of (drop 1 held.entries) ≡ codes_of held.entries → codes_of (taken_more count held entries).entries ≡ codes_of held.entries
-codes-taken_more count held [] same = refl
-codes-taken_more count held (entry ∷ rest) same =
-    codes-taken_cases held (held.taken + count) (held.taken + count == valid_bytes entry.status) same
+codes-taken_more : (count : ℕ) (state : QueueState) (entries : List Entry) → codes_of (drop 1 state.entries) ≡ codes_of state.entries → codes_of (taken_more count state entries).entries ≡ codes_of state.entries
+codes-taken_more count state [] same = refl
+codes-taken_more count state (entry ∷ rest) same =
+    codes-taken_cases state (state.taken + count) (state.taken + count == valid_bytes entry.status) same
 
-pub codes-taken_from : (count : ℕ) (held : QueueState) → 1 ≤ count → held.taken + count ≤ front_valid held → codes_of (taken_from count held).entries ≡ codes_of held.entries
-codes-taken_from count held some most =
-    codes-taken_more count held held.entries
-    (codes-without_data held.entries (front-valid (front held) (omega arith)))
+pub codes-taken_from : (count : ℕ) (state : QueueState) → 1 ≤ count → state.taken + count ≤ front_valid state → codes_of (taken_from count state).entries ≡ codes_of state.entries
+codes-taken_from count state some most =
+    codes-taken_more count state state.entries
+    (codes-without_data state.entries (front-valid (front state) (omega arith)))
 
 -- The three queues.
 
@@ -94,8 +94,8 @@ IsLane-queue_state Two queues held = held.two
 IsLane-queue_state Three queues held = held.three
 
 -- one queue changes, and its control codes stay
-pub IsFifo-with_queue_state : (queue : Queue) (held : QueueState) (queues : Queues) → IsLane held → codes_of held.entries ≡ codes_of (queue_state queue queues).entries → IsFifo queues → IsFifo (with_queue_state queue held queues)
-IsFifo-with_queue_state One held queues new same held =
+pub IsFifo-with_queue_state : (queue : Queue) (state : QueueState) (queues : Queues) → IsLane state → codes_of state.entries ≡ codes_of (queue_state queue queues).entries → IsFifo queues → IsFifo (with_queue_state queue state queues)
+IsFifo-with_queue_state One state queues new same held =
     record {
       one = new;
       two = held.two;
@@ -103,7 +103,7 @@ IsFifo-with_queue_state One held queues new same held =
       second = held.second ∙ sym same;
       third = held.third ∙ sym same;
     }
-IsFifo-with_queue_state Two held queues new same held =
+IsFifo-with_queue_state Two state queues new same held =
     record {
       one = held.one;
       two = new;
@@ -111,7 +111,7 @@ IsFifo-with_queue_state Two held queues new same held =
       second = same ∙ held.second;
       third = held.third;
     }
-IsFifo-with_queue_state Three held queues new same held =
+IsFifo-with_queue_state Three state queues new same held =
     record {
       one = held.one;
       two = held.two;
@@ -132,13 +132,13 @@ IsFifo-empty one two three some-one most-one some-two most-two some-three most-t
 
 pushed-cases : (queue : Queue) (entry : Entry) (queues : Queues) (full : Bool) → is_full (queue_state queue queues) ≡ full → is_control (kind_of entry.status) ≡ false → IsFifo queues → IsFifo (if full then with_queue_state queue (overrun (queue_state queue queues)) queues else with_queue_state queue (entered entry (queue_state queue queues)) queues)
 pushed-cases queue entry queues true full none held =
-    let held = queue_state queue queues in
-    IsFifo-with_queue_state queue (overrun held) queues (IsLane-overrun held (IsLane-queue_state queue queues held)) refl held
+    let state = queue_state queue queues in
+    IsFifo-with_queue_state queue (overrun state) queues (IsLane-overrun state (IsLane-queue_state queue queues held)) refl held
 pushed-cases queue entry queues false free none held =
-    let held = queue_state queue queues in
-    IsFifo-with_queue_state queue (entered entry held) queues
-    (IsLane-entered entry held free (IsLane-queue_state queue queues held))
-    (codes-entered held.entries entry none) held
+    let state = queue_state queue queues in
+    IsFifo-with_queue_state queue (entered entry state) queues
+    (IsLane-entered entry state free (IsLane-queue_state queue queues held))
+    (codes-entered state.entries entry none) held
 
 pub IsFifo-pushed : (queue : Queue) (entry : Entry) (queues : Queues) → is_control (kind_of entry.status) ≡ false → IsFifo queues → IsFifo (pushed queue entry queues)
 IsFifo-pushed queue entry queues none held =
@@ -175,17 +175,17 @@ IsFifo-control_pushed code queues held =
 
 pub IsFifo-taken_from : (queue : Queue) (count : ℕ) (queues : Queues) → 1 ≤ count → (queue_state queue queues).taken + count ≤ front_valid (queue_state queue queues) → IsFifo queues → IsFifo (with_queue_state queue (taken_from count (queue_state queue queues)) queues)
 IsFifo-taken_from queue count queues some most held =
-    let held = queue_state queue queues in
-    IsFifo-with_queue_state queue (taken_from count held) queues
-    (IsLane-taken_from count held most (IsLane-queue_state queue queues held))
-    (codes-taken_from count held some most) held
+    let state = queue_state queue queues in
+    IsFifo-with_queue_state queue (taken_from count state) queues
+    (IsLane-taken_from count state most (IsLane-queue_state queue queues held))
+    (codes-taken_from count state some most) held
 
 pub IsFifo-removed : (queue : Queue) (queues : Queues) → front_code (queue_state queue queues) ≡ None → IsFifo queues → IsFifo (with_queue_state queue (removed (queue_state queue queues)) queues)
 IsFifo-removed queue queues none held =
-    let held = queue_state queue queues in
-    IsFifo-with_queue_state queue (removed held) queues
-    (IsLane-removed held (IsLane-queue_state queue queues held))
-    (codes-without_data held.entries none) held
+    let state = queue_state queue queues in
+    IsFifo-with_queue_state queue (removed state) queues
+    (IsLane-removed state (IsLane-queue_state queue queues held))
+    (codes-without_data state.entries none) held
 
 -- two lists that begin with a code, and are the same, are the same without it
 same-rest : (xs ys : List Entry) (x y : Code) → codes_of xs ≡ x ∷ codes_of (drop 1 xs) → codes_of ys ≡ y ∷ codes_of (drop 1 ys) → codes_of xs ≡ codes_of ys → codes_of (drop 1 xs) ≡ codes_of (drop 1 ys)
