@@ -27,9 +27,20 @@ first_ungranted chunks address zero = None
 first_ungranted chunks address (suc count) =
     if granted chunks address then first_ungranted chunks (address + 1) count else Some address
 
--- a page: 4,096 bytes from a multiple of 4,096 on
+-- the bytes of a page
+abbrev pub page_size : ℕ
+page_size = 4096
+
+-- how many chunks may be granted, and how many bytes they may have together
+abbrev pub max_chunks : ℕ
+max_chunks = 4096
+
+abbrev pub max_bytes : ℕ
+max_bytes = 16777216
+
+-- a page: it begins at a multiple of its size
 abbrev pub is_page : Chunk → Bool
-is_page c = c.at % 4096 == 0 && c.len == 4096
+is_page c = c.at % page_size == 0 && c.len == page_size
 
 -- a chunk that can be granted
 pub record IsChunk (c : Chunk) : Type 0 where
@@ -49,6 +60,6 @@ total chunks = sum_by (λ c. c.len) chunks
 
 -- the chunks of one memory
 pub record AreGrants (chunks : List Chunk) : Type 0 where
-  pub few : length chunks ≤ 4096
-  pub small : total chunks ≤ 2 ^ 24
+  pub few : length chunks ≤ max_chunks
+  pub small : total chunks ≤ max_bytes
   pub rising : AreRising 0 chunks

@@ -2,7 +2,7 @@
 use Rattle.std.specs.Prelude.{ℕ, ◌+◌, ◌-◌, ◌^◌, ◌<◌, ◌≤◌, ◌≡◌, true, not, List, [], ◌∷◌, length, map, None, Result, Ok, Err, if◌then◌else◌, nat_lt, min, slice_index_or, ⊤}
 use Rattle.std.specs.Int.{div_ceil}
 use Rattle.std.specs.List.{position, All}
-use Rattle.page_table.specs.Grants.{Chunk, total}
+use Rattle.page_table.specs.Grants.{Chunk, page_size, total}
 use Rattle.page_table.specs.Taken.{first_shared, is_aligned, is_page_address, listed, page_at, pair_chunk}
 use Rattle.page_table.specs.declared.scatter.ScatterFault.{ScatterFault}
 use Rattle.page_table.specs.declared.scatter.ScatterFault.TheVariants.{TooFew, Memory}
@@ -55,7 +55,7 @@ if_enough need have s = if nat_lt have need then Err (TooFew need have) else Ok 
 
 abbrev pub scattered_pages : List ℕ → ℕ → Result ScatterList ScatterFault
 scattered_pages pages len =
-    if_enough (div_ceil len 4096) (length pages) (scatter_list (map page_at pages) len)
+    if_enough (div_ceil len page_size) (length pages) (scatter_list (map page_at pages) len)
 
 abbrev pub scattered_chunks : List Chunk → ℕ → Result ScatterList ScatterFault
 scattered_chunks chunks len = if_enough len (total chunks) (scatter_list chunks len)

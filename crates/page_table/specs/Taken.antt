@@ -1,7 +1,7 @@
 -- Which grants a list of pages or chunks makes, or the first fault of the list.
 use Rattle.std.specs.Prelude.{ℕ, ◌+◌, ◌%◌, ◌^◌, ◌≡◌, Bool, not, ◌&&◌, ◌||◌, List, [], ◌∷◌, ◌++◌, length, map, Option, Some, None, Result, Ok, Err, if◌then◌else◌, nat_lt, nat_le, ◌==◌, ⊤}
 use Rattle.std.specs.List.{list_any, position}
-use Rattle.page_table.specs.Grants.{Chunk, chunk, total}
+use Rattle.page_table.specs.Grants.{Chunk, chunk, max_bytes, max_chunks, page_size, total}
 use Rattle.page_table.specs.declared.PageFault.{PageFault}
 use Rattle.page_table.specs.declared.PageFault.TheVariants.{TooMany, Unaligned, Twice, Memory}
 
@@ -14,14 +14,14 @@ listed pairs = map pair_chunk pairs
 
 -- the page at an address
 abbrev pub page_at : ℕ → Chunk
-page_at address = chunk address 4096
+page_at address = chunk address page_size
 
 -- address and length are multiples of 4, there are some bytes, and the last is an address
 abbrev pub is_aligned : Chunk → Bool
 is_aligned c = c.at % 4 == 0 && c.len % 4 == 0 && nat_lt 0 c.len && nat_le (c.at + c.len) (2 ^ 32)
 
 abbrev pub is_page_address : ℕ → Bool
-is_page_address address = address % 4096 == 0
+is_page_address address = address % page_size == 0
 
 -- two chunks share a byte
 abbrev pub shares : Chunk → Chunk → Bool
@@ -65,13 +65,13 @@ unless_many many unaligned chunks =
 -- from the addresses of pages
 abbrev pub taken_pages : List ℕ → Taking
 taken_pages pages =
-    unless_many (nat_lt 4096 (length pages)) (position (λ page. not (is_page_address page)) pages)
+    unless_many (nat_lt max_chunks (length pages)) (position (λ page. not (is_page_address page)) pages)
     (map page_at pages)
 
 -- from chunks
 abbrev pub taken_chunks : List (ℕ × ℕ) → Taking
 taken_chunks pairs =
-    unless_many (nat_lt 4096 (length pairs) || nat_lt (2 ^ 24) (total (listed pairs)))
+    unless_many (nat_lt max_chunks (length pairs) || nat_lt max_bytes (total (listed pairs)))
     (position (λ pair. not (is_aligned (pair_chunk pair))) pairs) (listed pairs)
 
 -- a call answers this; only want of memory is free

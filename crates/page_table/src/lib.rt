@@ -4,7 +4,7 @@
 ghost use Rattle.std.specs.Prelude.{◌≡◌, ◌+◌, ◌*◌, ◌^◌, ◌<◌, ◌≤◌, ◌↔◌, true, false, not, [], length, map, nat_le, IfOk, IfSome, IsTrue, MatchResult, Some, None};
 ghost use Rattle.std.specs.List.{list_any, position, prefix_len, All};
 ghost use Rattle.std.specs.Result.{result_err};
-ghost use Rattle.page_table.specs.Grants.{AreGrants, AreRising, IsChunk, chunk, chunk_at, first_ungranted, total};
+ghost use Rattle.page_table.specs.Grants.{AreGrants, AreRising, IsChunk, chunk, chunk_at, first_ungranted, max_bytes, max_chunks, page_size, total};
 ghost use Rattle.page_table.specs.Taken.{Answers, first_shared, is_aligned, is_page_address, listed, page_at, pair_chunk, shares, taken_chunks, taken_pages, unless_shared};
 ghost use Rattle.page_table.specs.declared.PageFault.TheVariants.{Memory};
 
@@ -16,11 +16,14 @@ mod scatter;
 
 pub use scatter::{Scatter, ScatterFault};
 
-const MOST_CHUNKS: usize = 4096;
+/// The most chunks that can be granted (this project's own limit).
+pub const MAX_CHUNKS: usize = 4096;
 
-const MOST_BYTES: u64 = 16_777_216;
+/// The most bytes that all chunks together may have (this project's own limit).
+pub const MAX_BYTES: u64 = 16_777_216;
 
-const PAGE: u32 = 4096;
+/// The bytes of a page.
+pub const PAGE_SIZE: u32 = 4096;
 
 /// Why a list makes no set of grants. A number is the place in the list, counted from 0, of the
 /// first entry at fault. The order of the faults and their limits are this project's own rule.
@@ -80,13 +83,13 @@ fn first_off_page(pages: &[u32]) -> Option<usize>
     ensures found { result ≡ position (λ page. not (is_page_address page)) pages.now }
     ensures within { IfSome result (λ place. place < length pages.now) }
 {
-    pages.iter().position(|page| page % PAGE != 0)
+    pages.iter().position(|page| page % PAGE_SIZE != 0)
 }
 
 fn whole_pages(alloc: Global, pages: &[u32]) -> Result<Vec<(u32, u32)>, AllocError>
-    ensures { IfOk result (λ chunks. chunks.items ≡ map (λ page. (page, 4096)) pages.now) }
+    ensures { IfOk result (λ chunks. chunks.items ≡ map (λ page. (page, page_size)) pages.now) }
 {
-    pages.iter().map(|page| (*page, PAGE)).collect(alloc)
+    pages.iter().map(|page| (*page, PAGE_SIZE)).collect(alloc)
 }
 
 // Whether a chunk shares a byte with one of the set: the last that begins before its end tells.
@@ -118,8 +121,8 @@ fn are_rising(chunks: &[(u32, u32)]) -> bool
 
 // Puts aligned chunks into rising order, unless one shares a byte with one before it.
 fn sorted(alloc: Global, chunks: &[(u32, u32)]) -> Result<PageSet, PageFault>
-    requires few { length (listed chunks.now) ≤ 4096 }
-    requires small { total (listed chunks.now) ≤ 2 ^ 24 }
+    requires few { length (listed chunks.now) ≤ max_chunks }
+    requires small { total (listed chunks.now) ≤ max_bytes }
     requires aligned { All (λ c. is_aligned c ≡ true) (listed chunks.now) }
     ensures answer { Answers (unless_shared (first_shared [] (listed chunks.now)) (listed chunks.now)) result }
     ensures grants { IfOk result AreGrants }
@@ -138,8 +141,8 @@ fn sorted(alloc: Global, chunks: &[(u32, u32)]) -> Result<PageSet, PageFault>
 // Puts aligned chunks into rising order, unless one shares a byte with one before it. Those of a
 // program file rise already, and are taken as they stand.
 fn gathered(alloc: Global, chunks: &[(u32, u32)]) -> Result<PageSet, PageFault>
-    requires few { length (listed chunks.now) ≤ 4096 }
-    requires small { total (listed chunks.now) ≤ 2 ^ 24 }
+    requires few { length (listed chunks.now) ≤ max_chunks }
+    requires small { total (listed chunks.now) ≤ max_bytes }
     requires aligned { All (λ c. is_aligned c ≡ true) (listed chunks.now) }
     ensures answer { Answers (unless_shared (first_shared [] (listed chunks.now)) (listed chunks.now)) result }
     ensures grants { IfOk result AreGrants }
@@ -208,7 +211,7 @@ impl PageSet {
         ensures answer { Answers (taken_pages pages.now) result }
         ensures grants { IfOk result AreGrants }
     {
-        if pages.len() > MOST_CHUNKS {
+        if pages.len() > MAX_CHUNKS {
             return Err(PageFault::TooMany);
         }
         if let Some(place) = first_off_page(pages) {
@@ -224,7 +227,7 @@ impl PageSet {
         ensures answer { Answers (taken_chunks chunks.now) result }
         ensures grants { IfOk result AreGrants }
     {
-        if chunks.len() > MOST_CHUNKS || total(chunks) > MOST_BYTES {
+        if chunks.len() > MAX_CHUNKS || total(chunks) > MAX_BYTES {
             return Err(PageFault::TooMany);
         }
         if let Some(place) = first_unaligned(chunks) {

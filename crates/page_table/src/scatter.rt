@@ -8,7 +8,7 @@ ghost use Rattle.page_table.specs.Taken.{first_shared, is_aligned, listed, page_
 ghost use Rattle.page_table.specs.Scattered.{AreChunks, ArePages, Holds, IsScatterList, Scatters, address_at, ends_from, room_at, run_at, scatter_list, scattered_chunks, scattered_pages};
 ghost use Rattle.page_table.specs.declared.scatter.ScatterFault.TheVariants.{Memory};
 
-use super::{PAGE, total, whole_pages};
+use super::{PAGE_SIZE, total, whole_pages};
 use std::alloc::{AllocError, AllocFailed, Global};
 use std::marker::Model;
 
@@ -79,7 +79,7 @@ fn chunk_holding(chunks: &[(u32, u32)], ends: &[u64], off: u64) -> usize
     requires within { off < total (listed chunks.now) }
     ensures { Holds chunks.now ends.now off result }
 {
-    let page = (off / u64::from(PAGE)) as usize;
+    let page = (off / u64::from(PAGE_SIZE)) as usize;
     if lies_in(ends, page, off) {
         page
     } else {
@@ -140,7 +140,7 @@ impl Scatter {
         ensures answer { Scatters (scattered_pages pages.now len) result }
         ensures list { IfOk result IsScatterList }
     {
-        let need = len.div_ceil(u64::from(PAGE));
+        let need = len.div_ceil(u64::from(PAGE_SIZE));
         let have = pages.len() as u64;
         if need > have {
             return Err(ScatterFault::TooFew { need, have });

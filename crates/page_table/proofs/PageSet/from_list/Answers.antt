@@ -19,6 +19,6 @@ gathered-requires-clause-aligned c =
 pub returns-clause-answer : goal.returns-clause-answer
 returns-clause-answer c =
     let are_pages : listed c.deref.result.now ≡ map page_at c.args.pages.now = ap listed (c.deref.ensures.value ∙ c.in_ok-chunks.ensures) ∙ listed-pages c.args.pages.now in
-    let wanted = taken_pages-aligned c.args.pages.now c.if-pages-gt-MOST_CHUNKS.false (sym c.first_off_page.ensures.found ∙ c.in_default.is) in
+    let wanted = taken_pages-aligned c.args.pages.now c.if-pages-gt-MAX_CHUNKS.false (sym c.first_off_page.ensures.found ∙ c.in_default.is) in
     let same = ap (λ (chunks : List Chunk). unless_shared (first_shared [] chunks) chunks) are_pages in
     subst (λ (taking : Taking). Answers taking c.gathered.result) (same ∙ sym wanted) c.gathered.ensures.answer
