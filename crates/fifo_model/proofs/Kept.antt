@@ -6,13 +6,13 @@ use Rattle.sync_status.specs.Statuses.{kind_of, is_control, valid_bytes}
 use Rattle.fifo_model.specs.declared.Entry.{Entry}
 use Rattle.fifo_model.specs.declared.Queue.{Queue}
 use Rattle.fifo_model.specs.declared.Queue.TheVariants.{One, Two, Three}
-use Rattle.fifo_model.specs.Queues.{QueueState, Queues, queue_state, with_queue_state, empty_queue, empty_queues, is_full, entered, overrun, pushed, control_entry, control_pushed, all_entered, first, front, valid_of, front_valid, removed, taken_more, taken_from, more, front_code_of, front_code, codes_of, all_removed, emptied, cleared, IsLane, IsFifo}
+use Rattle.fifo_model.specs.Queues.{QueueState, Queues, queue_state, with_queue_state, empty_queue, empty_queues, max_capacity, is_full, entered, overrun, pushed, control_entry, control_pushed, all_entered, first, front, valid_of, front_valid, removed, taken_more, taken_from, more, front_code_of, front_code, codes_of, all_removed, emptied, cleared, IsQueue, IsFifo}
 use Rattle.fifo_model.proofs.Codes.{codes-append, codes-entered, codes-without_data, codes-without_code, front-valid}
 
 -- One queue.
 
-pub IsLane-empty : (capacity : ℕ) → 1 ≤ capacity → capacity ≤ 4096 → IsLane (empty_queue capacity)
-IsLane-empty capacity some most =
+pub IsQueue-empty : (capacity : ℕ) → 1 ≤ capacity → capacity ≤ max_capacity → IsQueue (empty_queue capacity)
+IsQueue-empty capacity some most =
     record { some_room = some; most_room = most; within = omega arith; part = inl refl }
 
 part-entered : (taken : ℕ) (entries : List Entry) (entry : Entry) → (taken ≡ 0) ⊎ (taken < valid_of (first entries)) → (taken ≡ 0) ⊎ (taken < valid_of (first (entries ++ entry ∷ [])))
@@ -22,8 +22,8 @@ part-entered taken (front ∷ rest) entry part = part
 room : (n capacity : ℕ) → n ≤ capacity → (n == capacity) ≡ false → n + 1 ≤ capacity
 room n capacity within free = grind (arith, nat_tests)
 
-pub IsLane-entered : (entry : Entry) (state : QueueState) → is_full state ≡ false → IsLane state → IsLane (entered entry state)
-IsLane-entered entry state free held =
+pub IsQueue-entered : (entry : Entry) (state : QueueState) → is_full state ≡ false → IsQueue state → IsQueue (entered entry state)
+IsQueue-entered entry state free held =
     let longer : length state.entries + 1 ≤ state.capacity = room _ _ held.within free in
     record {
       some_room = held.some_room;
@@ -32,12 +32,12 @@ IsLane-entered entry state free held =
       part = part-entered state.taken state.entries entry held.part;
     }
 
-pub IsLane-overrun : (state : QueueState) → IsLane state → IsLane (overrun state)
-IsLane-overrun state held =
+pub IsQueue-overrun : (state : QueueState) → IsQueue state → IsQueue (overrun state)
+IsQueue-overrun state held =
     record { some_room = held.some_room; most_room = held.most_room; within = held.within; part = held.part }
 
-pub IsLane-removed : (state : QueueState) → IsLane state → IsLane (removed state)
-IsLane-removed state held =
+pub IsQueue-removed : (state : QueueState) → IsQueue state → IsQueue (removed state)
+IsQueue-removed state held =
     record {
       some_room = held.some_room;
       most_room = held.most_room;
@@ -45,15 +45,15 @@ IsLane-removed state held =
       part = inl refl;
     }
 
-pub IsLane-emptied : (state : QueueState) → IsLane state → IsLane (emptied state)
-IsLane-emptied state held =
+pub IsQueue-emptied : (state : QueueState) → IsQueue state → IsQueue (emptied state)
+IsQueue-emptied state held =
     record { some_room = held.some_room; most_room = held.most_room; within = omega arith; part = inl refl }
 
 part_after : (taken count valid : ℕ) → taken + count ≤ valid → (taken + count == valid) ≡ false → taken + count < valid
 part_after taken count valid most other = grind (arith, nat_tests)
 
-taken-cases : (count : ℕ) (state : QueueState) (entry : Entry) (rest : List Entry) (whole : Bool) → (state.taken + count == valid_bytes entry.status) ≡ whole → state.entries ≡ entry ∷ rest → state.taken + count ≤ valid_bytes entry.status → IsLane state → IsLane (if whole then removed state else record state { taken = state.taken + count })
-taken-cases count state entry rest true whole same most held = IsLane-removed state held
+taken-cases : (count : ℕ) (state : QueueState) (entry : Entry) (rest : List Entry) (whole : Bool) → (state.taken + count == valid_bytes entry.status) ≡ whole → state.entries ≡ entry ∷ rest → state.taken + count ≤ valid_bytes entry.status → IsQueue state → IsQueue (if whole then removed state else record state { taken = state.taken + count })
+taken-cases count state entry rest true whole same most held = IsQueue-removed state held
 taken-cases count state entry rest false other same most held =
     let less : state.taken + count < valid_bytes entry.status = part_after state.taken count (valid_bytes entry.status) most other in
     record {
@@ -63,13 +63,13 @@ taken-cases count state entry rest false other same most held =
       part = inr (rw same less);
     }
 
-taken-list : (count : ℕ) (state : QueueState) (entries : List Entry) → state.entries ≡ entries → state.taken + count ≤ valid_of (first entries) → IsLane state → IsLane (taken_more count state entries)
+taken-list : (count : ℕ) (state : QueueState) (entries : List Entry) → state.entries ≡ entries → state.taken + count ≤ valid_of (first entries) → IsQueue state → IsQueue (taken_more count state entries)
 taken-list count state [] same most held = held
 taken-list count state (entry ∷ rest) same most held =
     taken-cases count state entry rest (state.taken + count == valid_bytes entry.status) refl same most held
 
-pub IsLane-taken_from : (count : ℕ) (state : QueueState) → state.taken + count ≤ front_valid state → IsLane state → IsLane (taken_from count state)
-IsLane-taken_from count state most held = taken-list count state state.entries refl most held
+pub IsQueue-taken_from : (count : ℕ) (state : QueueState) → state.taken + count ≤ front_valid state → IsQueue state → IsQueue (taken_from count state)
+IsQueue-taken_from count state most held = taken-list count state state.entries refl most held
 
 -- The codes of a queue after bytes of its front were taken.
 codes-taken_cases : (state : QueueState) (taken : ℕ) (whole : Bool) → codes_of (drop 1 state.entries) ≡ codes_of state.entries → codes_of (if whole then removed state else record state { taken = taken }).entries ≡ codes_of state.entries
@@ -88,13 +88,13 @@ codes-taken_from count state some most =
 
 -- The three queues.
 
-pub IsLane-queue_state : (queue : Queue) (queues : Queues) → IsFifo queues → IsLane (queue_state queue queues)
-IsLane-queue_state One queues held = held.one
-IsLane-queue_state Two queues held = held.two
-IsLane-queue_state Three queues held = held.three
+pub IsQueue-queue_state : (queue : Queue) (queues : Queues) → IsFifo queues → IsQueue (queue_state queue queues)
+IsQueue-queue_state One queues held = held.one
+IsQueue-queue_state Two queues held = held.two
+IsQueue-queue_state Three queues held = held.three
 
 -- one queue changes, and its control codes stay
-pub IsFifo-with_queue_state : (queue : Queue) (state : QueueState) (queues : Queues) → IsLane state → codes_of state.entries ≡ codes_of (queue_state queue queues).entries → IsFifo queues → IsFifo (with_queue_state queue state queues)
+pub IsFifo-with_queue_state : (queue : Queue) (state : QueueState) (queues : Queues) → IsQueue state → codes_of state.entries ≡ codes_of (queue_state queue queues).entries → IsFifo queues → IsFifo (with_queue_state queue state queues)
 IsFifo-with_queue_state One state queues new same held =
     record {
       one = new;
@@ -120,12 +120,12 @@ IsFifo-with_queue_state Three state queues new same held =
       third = same ∙ held.third;
     }
 
-pub IsFifo-empty : (one two three : ℕ) → 1 ≤ one → one ≤ 4096 → 1 ≤ two → two ≤ 4096 → 1 ≤ three → three ≤ 4096 → IsFifo (empty_queues one two three)
+pub IsFifo-empty : (one two three : ℕ) → 1 ≤ one → one ≤ max_capacity → 1 ≤ two → two ≤ max_capacity → 1 ≤ three → three ≤ max_capacity → IsFifo (empty_queues one two three)
 IsFifo-empty one two three some-one most-one some-two most-two some-three most-three =
     record {
-      one = IsLane-empty one some-one most-one;
-      two = IsLane-empty two some-two most-two;
-      three = IsLane-empty three some-three most-three;
+      one = IsQueue-empty one some-one most-one;
+      two = IsQueue-empty two some-two most-two;
+      three = IsQueue-empty three some-three most-three;
       second = refl;
       third = refl;
     }
@@ -133,11 +133,11 @@ IsFifo-empty one two three some-one most-one some-two most-two some-three most-t
 pushed-cases : (queue : Queue) (entry : Entry) (queues : Queues) (full : Bool) → is_full (queue_state queue queues) ≡ full → is_control (kind_of entry.status) ≡ false → IsFifo queues → IsFifo (if full then with_queue_state queue (overrun (queue_state queue queues)) queues else with_queue_state queue (entered entry (queue_state queue queues)) queues)
 pushed-cases queue entry queues true full none held =
     let state = queue_state queue queues in
-    IsFifo-with_queue_state queue (overrun state) queues (IsLane-overrun state (IsLane-queue_state queue queues held)) refl held
+    IsFifo-with_queue_state queue (overrun state) queues (IsQueue-overrun state (IsQueue-queue_state queue queues held)) refl held
 pushed-cases queue entry queues false free none held =
     let state = queue_state queue queues in
     IsFifo-with_queue_state queue (entered entry state) queues
-    (IsLane-entered entry state free (IsLane-queue_state queue queues held))
+    (IsQueue-entered entry state free (IsQueue-queue_state queue queues held))
     (codes-entered state.entries entry none) held
 
 pub IsFifo-pushed : (queue : Queue) (entry : Entry) (queues : Queues) → is_control (kind_of entry.status) ≡ false → IsFifo queues → IsFifo (pushed queue entry queues)
@@ -152,9 +152,9 @@ codes-both xs ys zs same =
 pub IsFifo-all_entered : (entry : Entry) (queues : Queues) → is_full queues.one ≡ false → is_full queues.two ≡ false → is_full queues.three ≡ false → IsFifo queues → IsFifo (all_entered entry queues)
 IsFifo-all_entered entry queues one two three held =
     record {
-      one = IsLane-entered entry queues.one one held.one;
-      two = IsLane-entered entry queues.two two held.two;
-      three = IsLane-entered entry queues.three three held.three;
+      one = IsQueue-entered entry queues.one one held.one;
+      two = IsQueue-entered entry queues.two two held.two;
+      three = IsQueue-entered entry queues.three three held.three;
       second = codes-both queues.two.entries queues.one.entries (entry ∷ []) held.second;
       third = codes-both queues.three.entries queues.one.entries (entry ∷ []) held.third;
     }
@@ -177,14 +177,14 @@ pub IsFifo-taken_from : (queue : Queue) (count : ℕ) (queues : Queues) → 1 �
 IsFifo-taken_from queue count queues some most held =
     let state = queue_state queue queues in
     IsFifo-with_queue_state queue (taken_from count state) queues
-    (IsLane-taken_from count state most (IsLane-queue_state queue queues held))
+    (IsQueue-taken_from count state most (IsQueue-queue_state queue queues held))
     (codes-taken_from count state some most) held
 
 pub IsFifo-removed : (queue : Queue) (queues : Queues) → front_code (queue_state queue queues) ≡ None → IsFifo queues → IsFifo (with_queue_state queue (removed (queue_state queue queues)) queues)
 IsFifo-removed queue queues none held =
     let state = queue_state queue queues in
     IsFifo-with_queue_state queue (removed state) queues
-    (IsLane-removed state (IsLane-queue_state queue queues held))
+    (IsQueue-removed state (IsQueue-queue_state queue queues held))
     (codes-without_data state.entries none) held
 
 -- two lists that begin with a code, and are the same, are the same without it
@@ -204,9 +204,9 @@ codes-popped one other some-one some-other same =
 pub IsFifo-all_removed : (queues : Queues) → IsSome (front_code queues.one) → IsSome (front_code queues.two) → IsSome (front_code queues.three) → IsFifo queues → IsFifo (all_removed queues)
 IsFifo-all_removed queues one two three held =
     record {
-      one = IsLane-removed queues.one held.one;
-      two = IsLane-removed queues.two held.two;
-      three = IsLane-removed queues.three held.three;
+      one = IsQueue-removed queues.one held.one;
+      two = IsQueue-removed queues.two held.two;
+      three = IsQueue-removed queues.three held.three;
       second = codes-popped queues.one queues.two one two held.second;
       third = codes-popped queues.one queues.three one three held.third;
     }
@@ -214,9 +214,9 @@ IsFifo-all_removed queues one two three held =
 pub IsFifo-cleared : (queues : Queues) → IsFifo queues → IsFifo (cleared queues)
 IsFifo-cleared queues held =
     record {
-      one = IsLane-emptied queues.one held.one;
-      two = IsLane-emptied queues.two held.two;
-      three = IsLane-emptied queues.three held.three;
+      one = IsQueue-emptied queues.one held.one;
+      two = IsQueue-emptied queues.two held.two;
+      three = IsQueue-emptied queues.three held.three;
       second = refl;
       third = refl;
     }

@@ -3,6 +3,6 @@ use Rattle.std.proofs.Common.{◌≡◌, ℕ, List, length, sym, subst}
 use Rattle.fifo_model.specs.Queues.{QueueState, Queues, IsFifo}
 use Rattle.fifo_model.specs.Rings.{queues_of, AreRings}
 
-pub AreRings-kept : (lanes : List QueueState) (lost : ℕ) (queues : Queues) → length lanes ≡ 3 → queues_of lanes lost ≡ queues → IsFifo queues → AreRings lanes lost
-AreRings-kept lanes lost queues three same held =
+pub AreRings-kept : (states : List QueueState) (lost : ℕ) (queues : Queues) → length states ≡ 3 → queues_of states lost ≡ queues → IsFifo queues → AreRings states lost
+AreRings-kept states lost queues three same held =
     record { three = three; facts = subst IsFifo (sym same) held }

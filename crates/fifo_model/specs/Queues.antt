@@ -45,9 +45,24 @@ with_queue_state Three held queues = record queues { three = held }
 abbrev pub empty_queue : ℕ → QueueState
 empty_queue capacity = record { entries = []; capacity = capacity; taken = 0; overruns = 0 }
 
+-- how many entries a queue may have room for
+abbrev pub max_capacity : ℕ
+max_capacity = 4096
+
+-- the room of the chip's queues, in entries: that of queue 1, and that of queues 2 and 3
+abbrev pub luma_capacity : ℕ
+luma_capacity = 70
+
+abbrev pub chroma_capacity : ℕ
+chroma_capacity = 35
+
 abbrev pub empty_queues : ℕ → ℕ → ℕ → Queues
 empty_queues one two three =
     record { one = empty_queue one; two = empty_queue two; three = empty_queue three; control_overruns = 0 }
+
+-- the chip's queues
+abbrev pub empty_fifo : Queues
+empty_fifo = empty_queues luma_capacity chroma_capacity chroma_capacity
 
 abbrev pub is_full : QueueState → Bool
 is_full held = length held.entries == held.capacity
@@ -186,16 +201,16 @@ overruns_of queues =
 
 -- what holds of each queue: it has room for 1 to 4,096 entries and holds no more than that, and of its
 -- front fewer bytes are taken than are valid, none where none are
-pub record IsLane (held : QueueState) : Type 0 where
+pub record IsQueue (held : QueueState) : Type 0 where
   pub some_room : 1 ≤ held.capacity
-  pub most_room : held.capacity ≤ 4096
+  pub most_room : held.capacity ≤ max_capacity
   pub within : length held.entries ≤ held.capacity
   pub part : (held.taken ≡ 0) ⊎ (held.taken < front_valid held)
 
 -- what holds of the three: the control codes in them are the same, in the same order
 pub record IsFifo (queues : Queues) : Type 0 where
-  pub one : IsLane queues.one
-  pub two : IsLane queues.two
-  pub three : IsLane queues.three
+  pub one : IsQueue queues.one
+  pub two : IsQueue queues.two
+  pub three : IsQueue queues.three
   pub second : codes_of queues.two.entries ≡ codes_of queues.one.entries
   pub third : codes_of queues.three.entries ≡ codes_of queues.one.entries

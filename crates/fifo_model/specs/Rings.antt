@@ -4,7 +4,7 @@ use Rattle.sync_status.specs.Statuses.{kind_of}
 use Rattle.fifo_model.specs.declared.Entry.{Entry}
 use Rattle.fifo_model.specs.declared.Queue.{Queue}
 use Rattle.fifo_model.specs.declared.Queue.TheVariants.{One, Two, Three}
-use Rattle.fifo_model.specs.Queues.{QueueState, Queues, empty_queue, wakes, IsFifo}
+use Rattle.fifo_model.specs.Queues.{QueueState, Queues, empty_queue, max_capacity, wakes, IsFifo}
 
 -- how many entries of a list are an end or a control code
 abbrev pub waking : List Entry → ℕ
@@ -17,19 +17,19 @@ place_of Two = 1
 place_of Three = 2
 
 abbrev pub queue_at : List QueueState → ℕ → QueueState
-queue_at lanes place = get_or lanes place (empty_queue 0)
+queue_at states place = get_or states place (empty_queue 0)
 
 abbrev pub queues_of : List QueueState → ℕ → Queues
-queues_of lanes lost =
-    record { one = queue_at lanes 0; two = queue_at lanes 1; three = queue_at lanes 2; control_overruns = lost }
+queues_of states lost =
+    record { one = queue_at states 0; two = queue_at states 1; three = queue_at states 2; control_overruns = lost }
 
 -- what holds of the fields of a `Ring`, beside what its queue's value says
 pub record IsRing (entries : List Entry) (capacity wakers : ℕ) : Type 0 where
-  pub most : capacity ≤ 4096
+  pub most : capacity ≤ max_capacity
   pub within : length entries ≤ capacity
   pub counted : wakers ≡ waking entries
 
 -- what holds of the fields of a `Fifo`
-pub record AreRings (lanes : List QueueState) (lost : ℕ) : Type 0 where
-  pub three : length lanes ≡ 3
-  pub facts : IsFifo (queues_of lanes lost)
+pub record AreRings (states : List QueueState) (lost : ℕ) : Type 0 where
+  pub three : length states ≡ 3
+  pub facts : IsFifo (queues_of states lost)

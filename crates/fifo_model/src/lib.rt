@@ -3,7 +3,7 @@
 
 ghost use Rattle.std.specs.Prelude.{◌≡◌, ◌+◌, ◌<◌, ◌≤◌, ◌⊎◌, ◌++◌, drop, slice_index, All, IfOk, IsSome, false};
 ghost use Rattle.sync_status.specs.Statuses.{kind_of, is_control};
-ghost use Rattle.fifo_model.specs.Queues.{queue_state, with_queue_state, empty_queues, push_answer, pushed, control_entry, control_answer, control_pushed, front, front_valid, front_bytes, taken_from, removed, is_ready, front_code, all_removed, cleared, overruns_of, IsFifo};
+ghost use Rattle.fifo_model.specs.Queues.{queue_state, with_queue_state, empty_queues, max_capacity, push_answer, pushed, control_entry, control_answer, control_pushed, front, front_valid, front_bytes, taken_from, removed, is_ready, front_code, all_removed, cleared, overruns_of, IsFifo};
 ghost use Rattle.fifo_model.specs.Rings.{place_of};
 
 mod ring;
@@ -14,6 +14,12 @@ use std::alloc::{AllocError, Global};
 use std::marker::Model;
 use sync_status::{Status, StatusKind, kind};
 
+/// The room of queue 1 of the chip, in entries (Bt878 data sheet, "FIFO interface").
+pub const LUMA_CAPACITY: usize = 70;
+
+/// The room of queue 2, and of queue 3, in entries (Bt878 data sheet, "FIFO interface").
+pub const CHROMA_CAPACITY: usize = 35;
+
 /// A queue of the FIFO: queue 1 takes packed data or luma, queues 2 and 3 chroma
 /// (Bt878 data sheet, "FIFO interface").
 #[derive(Clone, Copy, Debug, PartialEq, Eq)]
@@ -23,12 +29,12 @@ pub enum Queue {
     Three,
 }
 
-/// An entry of a queue: a DWORD with its status. QueueState k of the DWORD is bits 8k + 7 to 8k.
+/// An entry of a queue: a DWORD with its status. Lane k of the DWORD is bits 8k + 7 to 8k.
 #[derive(Clone, Copy, Debug, PartialEq, Eq)]
 pub struct Entry {
     /// It says how many lanes hold bytes, from lane 0 on.
     pub status: Status,
-    /// QueueState 0, its lowest bits, is the first byte.
+    /// Lane 0, its lowest bits, is the first byte.
     pub dword: u32,
 }
 
@@ -90,7 +96,7 @@ fn control(code: Code) -> Entry
 impl Fifo {
     /// Empty queues with room for so many entries each. It is the only call that takes memory.
     pub fn new(alloc: Global, caps: [usize; 3]) -> Result<Fifo, AllocError>
-        requires { All (λ cap. (1 ≤ cap) × (cap ≤ 4096)) caps }
+        requires { All (λ cap. (1 ≤ cap) × (cap ≤ max_capacity)) caps }
         ensures { IfOk result (λ fifo. fifo ≡ empty_queues (slice_index caps 0) (slice_index caps 1) (slice_index caps 2)) }
     {
         let [one, two, three] = caps;
@@ -259,7 +265,11 @@ mod tests {
 
     #[test]
     fn takes_lanes_in_order(rt: HostRuntime) {
-        let mut fifo = Fifo::new(rt.alloc(), [70, 35, 35]).expect(&rt, "memory");
+        let mut fifo = Fifo::new(
+            rt.alloc(),
+            [LUMA_CAPACITY, CHROMA_CAPACITY, CHROMA_CAPACITY],
+        )
+        .expect(&rt, "memory");
         assert_eq!(rt; fifo.push(Queue::One, data(0, 0x13121110)), Pushed::Held);
         assert_eq!(rt; fifo.push(Queue::One, data(13, 0xff161514)), Pushed::Held);
         assert_eq!(rt; next(&mut fifo, 3), Some((0, [0x10, 0x11, 0x12, 0xee])));

@@ -1,7 +1,7 @@
 //! One queue: a ring of entries of which nothing but `new` takes memory.
 ghost use Rattle.std.specs.Prelude.{◌≡◌, ◌+◌, ◌<◌, ◌≤◌, ◌||◌, ◌++◌, length, take, drop, IfOk, IsSome, if◌then◌else◌, nat_le};
 ghost use Rattle.sync_status.specs.Statuses.{kind_of};
-ghost use Rattle.fifo_model.specs.Queues.{empty_queue, is_full, entered, overrun, front, front_code, removed, taken_from, front_valid, front_bytes, lane_bytes, wakes, is_ready, emptied};
+ghost use Rattle.fifo_model.specs.Queues.{empty_queue, max_capacity, is_full, entered, overrun, front, front_code, removed, taken_from, front_valid, front_bytes, lane_bytes, wakes, is_ready, emptied};
 
 use crate::{Entry, Pushed};
 use circular_buffer::HeapCircularBuffer;
@@ -41,7 +41,7 @@ fn is_waking(status: Status) -> bool
 
 impl Ring {
     pub fn new(alloc: Global, capacity: usize) -> Result<Ring, AllocError>
-        requires { capacity ≤ 4096 }
+        requires { capacity ≤ max_capacity }
         ensures { IfOk result (λ ring. ring ≡ empty_queue capacity) }
     {
         let entries = HeapCircularBuffer::with_capacity(alloc, capacity)?;

@@ -12,7 +12,7 @@ use Rattle.fifo_model.specs.declared.Entry.{Entry}
 use Rattle.fifo_model.specs.declared.Queue.{Queue}
 use Rattle.fifo_model.specs.Queues.{QueueState, Queues, pushed, control_pushed, queue_state, front, front_code, front_valid, valid_of, front_code_of, IsFifo, is_full, some_full}
 use Rattle.fifo_model.proofs.Codes.{code-data}
-use Rattle.fifo_model.proofs.Kept.{IsLane-queue_state, IsFifo-empty, IsFifo-pushed, IsFifo-control_pushed, IsFifo-taken_from, IsFifo-removed, IsFifo-all_removed, IsFifo-cleared}
+use Rattle.fifo_model.proofs.Kept.{IsQueue-queue_state, IsFifo-empty, IsFifo-pushed, IsFifo-control_pushed, IsFifo-taken_from, IsFifo-removed, IsFifo-all_removed, IsFifo-cleared}
 use Rattle.irq_status.specs.declared.HostWrite.{HostWrite}
 use Rattle.irq_status.specs.declared.HostWrite.TheVariants.{Ack, Enable, Trigger}
 use Rattle.machine_model.specs.declared.Cause.{Cause}
@@ -138,7 +138,7 @@ takes q count instr ds entry m e f n v h =
     take-Takes (kind_of entry.status) (demand_on q ds).needs_sol held.taken (demand_on q ds).rest count v in
     let valid : front_valid held ≡ valid_bytes entry.status = ap valid_of f in
     let some = valid-some entry.status held.taken (demand_on q ds).rest count takes in
-    let part = (IsLane-queue_state q m.queues h.queues).part in
+    let part = (IsQueue-queue_state q m.queues h.queues).part in
     let below : held.taken < front_valid held = enough held.taken (front_valid held) part (omega arith) in
     let asked : 1 ≤ (demand_on q ds).rest = nonzero (demand_on q ds).rest n in
     let least = takes.least in
