@@ -6,6 +6,7 @@ use Rattle.std.proofs.lemmas.Bool.Decides.{nat_tests}
 use Rattle.toml.specs.Data.{Data, Members, get_member}
 use Rattle.pixel_layout.specs.Layouts.{layout, planes_of}
 use Rattle.capture_desc.specs.declared.desc.Desc.{Desc}
+use Rattle.page_table.specs.Grants.{max_bytes, max_chunks}
 use Rattle.capture_desc.specs.declared.fault.Key.{Key}
 use Rattle.capture_desc.specs.declared.fault.DescError.{DescError}
 use Rattle.capture_desc.specs.declared.fault.Key.TheVariants as key
@@ -51,13 +52,13 @@ pages_read false (Ok None) read h = absurd (cc)
 pages_read false (Err fault) read h = absurd (cc)
 
 page_list : Members → Reading (Option (List ℕ))
-page_list ms = list is_integer u32_of (λ ns. nat_le (length ns) 4096) key.Pages ms
+page_list ms = list is_integer u32_of (λ ns. nat_le (length ns) max_chunks) key.Pages ms
 
-few_pages : (ms : Members) (read : List ℕ) → pages ms ≡ Ok read → length read ≤ 4096
+few_pages : (ms : Members) (read : List ℕ) → pages ms ≡ Ok read → length read ≤ max_chunks
 unfolding page_list
 few_pages ms read h =
     elim (pages_read (is_there key.Chunks ms) (page_list ms) read h) [
-      | inl there ↦ (let fits : nat_le (length read) 4096 ≡ true = list_fits is_integer u32_of (λ ns. nat_le (length ns) 4096) key.Pages ms (Some read) there in grind (arith, nat_tests))
+      | inl there ↦ (let fits : nat_le (length read) max_chunks ≡ true = list_fits is_integer u32_of (λ ns. nat_le (length ns) max_chunks) key.Pages ms (Some read) there in grind (arith, nat_tests))
       | inr none ↦ rw none (omega arith)
     ]
 
@@ -70,7 +71,7 @@ no_pages : (ms : Members) (read : List ℕ) → is_there key.Pages ms ≡ false 
 unfolding page_list
 no_pages ms read absent h =
     elim (pages_read (is_there key.Chunks ms) (page_list ms) read h) [
-      | inl there ↦ (let none : page_list ms ≡ Ok None = absent_list key.Pages (list_typed is_integer) (each u32_of) (λ ns. nat_le (length ns) 4096) (get_member (name_of key.Pages) ms) absent in absurd (cc))
+      | inl there ↦ (let none : page_list ms ≡ Ok None = absent_list key.Pages (list_typed is_integer) (each u32_of) (λ ns. nat_le (length ns) max_chunks) (get_member (name_of key.Pages) ms) absent in absurd (cc))
       | inr none ↦ none
     ]
 
@@ -80,14 +81,14 @@ not_true false h = refl
 
 -- chunks that fit
 record Fit (has_pages : Bool) (list : List (ℕ × ℕ)) : Type 0 where
-  few : length list ≤ 4096
-  small : bytes_of_chunks list ≤ 16777216
+  few : length list ≤ max_chunks
+  small : bytes_of_chunks list ≤ max_bytes
   alone : has_pages ≡ false
 
 fit : (has_pages : Bool) (list : List (ℕ × ℕ)) → chunks_fit has_pages list ≡ true → Fit has_pages list
 fit has_pages list h =
-    let (sizes, alone) = and_parts (nat_le (length list) 4096 && nat_le (bytes_of_chunks list) 16777216) (not has_pages) h in
-    let (few, small) = and_parts (nat_le (length list) 4096) (nat_le (bytes_of_chunks list) 16777216) sizes in
+    let (sizes, alone) = and_parts (nat_le (length list) max_chunks && nat_le (bytes_of_chunks list) max_bytes) (not has_pages) h in
+    let (few, small) = and_parts (nat_le (length list) max_chunks) (nat_le (bytes_of_chunks list) max_bytes) sizes in
     record { few = grind (arith, nat_tests); small = grind (arith, nat_tests); alone = not_true has_pages alone }
 
 chunks_read : (ms : Members) (read : Option (List (ℕ × ℕ))) → chunks ms ≡ Ok read → IfSome read (Fit (is_there key.Pages ms))

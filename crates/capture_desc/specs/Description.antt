@@ -5,6 +5,8 @@ use Rattle.toml.specs.Data.{Members, get_member}
 use Rattle.toml.specs.Parse.{parse_document}
 use Rattle.pixel_layout.specs.Layouts.{format_named, layout, planes_of}
 use Rattle.pixel_layout.specs.declared.Format.{Format}
+use Rattle.page_table.specs.Grants.{max_bytes, max_chunks}
+use Rattle.clip_spans.specs.Clipping.{max_rects}
 use Rattle.clip_spans.specs.declared.Rect.{Rect}
 use Rattle.capture_desc.specs.declared.desc.Desc.{Desc}
 use Rattle.capture_desc.specs.declared.desc.Fields.{Fields}
@@ -16,7 +18,7 @@ use Rattle.capture_desc.specs.declared.fault.DescError.{DescError}
 use Rattle.capture_desc.specs.declared.fault.DescError.TheVariants.{Bad, Memory}
 use Rattle.capture_desc.specs.Keys.{name_of, unknown_names, least}
 use Rattle.capture_desc.specs.Values.{Reading, ◌>>=◌, required, otherwise, word, number, u32_max, list, is_integer, u32_of, is_row, rect_of, chunk_of}
-use Rattle.capture_desc.specs.WellFormed.{bytes_of_chunks}
+use Rattle.capture_desc.specs.WellFormed.{bytes_of_chunks, max_skip_lines}
 
 abbrev pub fields_named : List ℕ → Option Fields
 fields_named name =
@@ -33,7 +35,7 @@ abbrev pub plane_numbers : Format → Key → Members → Reading (Option (List 
 plane_numbers format = list is_integer u32_of (λ ns. length ns == planes_of (layout format))
 
 abbrev pub clips : Members → Reading (Option (List Rect))
-clips = list is_row rect_of (λ rects. nat_le (length rects) 64) key.Clip
+clips = list is_row rect_of (λ rects. nat_le (length rects) max_rects) key.Clip
 
 -- pages have to be there where no chunks are
 abbrev pub pages_beside : Bool → Reading (Option (List ℕ)) → Reading (List ℕ)
@@ -42,12 +44,12 @@ pages_beside chunks pages = if chunks then otherwise [] pages else required key.
 abbrev pub pages : Members → Reading (List ℕ)
 pages members =
     pages_beside (is_there key.Chunks members)
-    (list is_integer u32_of (λ ns. nat_le (length ns) 4096) key.Pages members)
+    (list is_integer u32_of (λ ns. nat_le (length ns) max_chunks) key.Pages members)
 
 -- chunks stand in place of pages, and have at most 16 MiB together
 abbrev pub chunks_fit : Bool → List (ℕ × ℕ) → Bool
 chunks_fit pages chunks =
-    nat_le (length chunks) 4096 && nat_le (bytes_of_chunks chunks) 16777216 && not pages
+    nat_le (length chunks) max_chunks && nat_le (bytes_of_chunks chunks) max_bytes && not pages
 
 abbrev pub chunks : Members → Reading (Option (List (ℕ × ℕ)))
 chunks members = list is_row chunk_of (chunks_fit (is_there key.Pages members)) key.Chunks members
@@ -61,7 +63,7 @@ values members =
     otherwise Both (word fields_named key.Fields members) >>= (λ fields.
     plane_numbers format key.Stride members >>= (λ stride.
     plane_numbers format key.Offset members >>= (λ offset.
-    otherwise 0 (number 255 key.SkipLines members) >>= (λ skip_lines.
+    otherwise 0 (number max_skip_lines key.SkipLines members) >>= (λ skip_lines.
     otherwise 0 (number u32_max key.VbiLines members) >>= (λ vbi_lines.
     otherwise 2044 (number u32_max key.VbiBytes members) >>= (λ vbi_bytes.
     number u32_max key.VbiOffset members >>= (λ vbi_offset.

@@ -1,7 +1,12 @@
 -- What every description meets.
 use Rattle.std.specs.Prelude.{◌≡◌, ℕ, ◌+◌, ◌≤◌, List, [], ◌∷◌, Option, length, IfSome}
+use Rattle.page_table.specs.Grants.{max_bytes, max_chunks}
 use Rattle.pixel_layout.specs.Layouts.{layout, planes_of}
 use Rattle.capture_desc.specs.declared.desc.Desc.{Desc}
+
+-- how many lines a field may skip
+abbrev pub max_skip_lines : ℕ
+max_skip_lines = 255
 
 -- the bytes of chunks, each an address and a length
 abbrev pub bytes_of_chunks : List (ℕ × ℕ) → ℕ
@@ -15,7 +20,7 @@ HasPlanes d numbers = IfSome numbers (λ ns. length ns ≡ planes_of (layout d.f
 pub record IsWellFormed (d : Desc) : Type 0 where
   pub stride : HasPlanes d d.stride
   pub offset : HasPlanes d d.offset
-  pub pages : length d.pages ≤ 4096
+  pub pages : length d.pages ≤ max_chunks
   pub no_pages : IfSome d.chunks (λ _. d.pages ≡ [])
-  pub chunks : IfSome d.chunks (λ cs. length cs ≤ 4096)
-  pub bytes : IfSome d.chunks (λ cs. bytes_of_chunks cs ≤ 16777216)
+  pub chunks : IfSome d.chunks (λ cs. length cs ≤ max_chunks)
+  pub bytes : IfSome d.chunks (λ cs. bytes_of_chunks cs ≤ max_bytes)

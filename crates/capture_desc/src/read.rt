@@ -1,6 +1,7 @@
 //! Reading a description.
 ghost use Rattle.std.specs.Prelude.{◌≡◌, ◌≤◌, [], Option, length, option_map, string_bytes, ℕ, List, IfOk, IfErr};
 ghost use Rattle.toml.specs.View.{table_view};
+ghost use Rattle.page_table.specs.Grants.{max_chunks};
 ghost use Rattle.pixel_layout.specs.Layouts.{format_named};
 ghost use Rattle.capture_desc.specs.Keys.{least, unknown_names};
 ghost use Rattle.capture_desc.specs.Values.{number, otherwise, required, u32_max, word};
@@ -13,15 +14,13 @@ use crate::fault::{DescError, DescFault, Key, is_known};
 use crate::lists::{ChunkList, KeyText, Numbers};
 use crate::values::{list, number, number_or, required_number, value_at, word};
 use clip_spans::{ClipFault, Clips, Rect};
+use page_table::{MAX_BYTES, MAX_CHUNKS};
 use pixel_layout::Format;
 use std::alloc::Global;
 use toml::Table;
 
-const MOST_PAGES: usize = 4096;
-
-const MOST_CHUNKS: usize = 4096;
-
-const MOST_BYTES: u64 = 16_777_216;
+// The most lines that a field may skip.
+const MAX_SKIP_LINES: u32 = 255;
 
 fn format(table: &Table) -> Result<Format, DescError>
     ensures { Answers (required Key.Format (word format_named Key.Format (table_view table.now))) result }
@@ -81,7 +80,7 @@ fn pages(alloc: Global, table: &Table) -> Result<Numbers, DescError>
     let has_chunks = is_there(table, Key::Chunks);
     match list::<u32>(alloc, table, Key::Pages)? {
         Some(pages) => {
-            if pages.len() > MOST_PAGES {
+            if pages.len() > MAX_CHUNKS {
                 return Err(DescError::Bad(DescFault::OutOfRange(Key::Pages)));
             }
             Ok(Numbers::from_vec(pages))
@@ -97,7 +96,7 @@ fn pages(alloc: Global, table: &Table) -> Result<Numbers, DescError>
 
 // The bytes of all the chunks.
 fn bytes_of_chunks(chunks: &[(u32, u32)]) -> u64
-    requires { length chunks.now ≤ 4096 }
+    requires { length chunks.now ≤ max_chunks }
     ensures { result ≡ bytes_of_chunks chunks.now }
 {
     let mut bytes = 0;
@@ -115,7 +114,7 @@ fn chunks(alloc: Global, table: &Table) -> Result<Option<ChunkList>, DescError>
     let Some(chunks) = list::<(u32, u32)>(alloc, table, Key::Chunks)? else {
         return Ok(None);
     };
-    if has_pages || chunks.len() > MOST_CHUNKS || bytes_of_chunks(&chunks) > MOST_BYTES {
+    if has_pages || chunks.len() > MAX_CHUNKS || bytes_of_chunks(&chunks) > MAX_BYTES {
         return Err(DescError::Bad(DescFault::OutOfRange(Key::Chunks)));
     }
     Ok(Some(ChunkList::from_vec(chunks)))
@@ -131,7 +130,7 @@ fn values(alloc: Global, table: &Table) -> Result<Desc, DescError>
     let fields = fields(table)?;
     let stride = plane_numbers(alloc, table, Key::Stride, format)?;
     let offset = plane_numbers(alloc, table, Key::Offset, format)?;
-    let skip_lines = number_or(table, Key::SkipLines, 0, 255)?;
+    let skip_lines = number_or(table, Key::SkipLines, 0, MAX_SKIP_LINES)?;
     let vbi_lines = number_or(table, Key::VbiLines, 0, u32::MAX)?;
     let vbi_bytes = number_or(table, Key::VbiBytes, 2044, u32::MAX)?;
     let vbi_offset = number(table, Key::VbiOffset, u32::MAX)?;

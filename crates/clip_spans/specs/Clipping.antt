@@ -3,6 +3,10 @@ use Rattle.std.specs.Prelude.{ℕ, zero, suc, ◌+◌, ◌*◌, ◌/◌, ◌^◌
 use Rattle.std.specs.List.{list_any}
 use Rattle.clip_spans.specs.declared.Rect.{Rect}
 
+-- how many clip rectangles there may be
+abbrev pub max_rects : ℕ
+max_rects = 64
+
 -- a rectangle has pixels in a row
 abbrev pub meets : Rect → ℕ → Bool
 meets rect row = nat_le rect.y row && nat_lt row (rect.y + rect.h)

@@ -3,7 +3,7 @@
 
 ghost use Rattle.std.specs.Prelude.{◌≡◌, ◌↔◌, ℕ, ◌+◌, ◌*◌, ◌%◌, ◌<◌, ◌≤◌, ◌++◌, List, length, IfOk, IfSome};
 ghost use Rattle.std.specs.List.{All};
-ghost use Rattle.clip_spans.specs.Clipping.{clipped_at, edge_after, meets, next_edge};
+ghost use Rattle.clip_spans.specs.Clipping.{clipped_at, edge_after, max_rects, meets, next_edge};
 ghost use Rattle.clip_spans.specs.Parts.{AreInOrder, IsPart, is_inside, part_of, parts_of, unless_empty};
 ghost use Rattle.clip_spans.specs.Runs.{Alternate, AreRunsFrom, AreSpans, spans_of};
 ghost use Rattle.clip_spans.specs.declared.ClipFault.TheVariants.{Memory};
@@ -13,7 +13,8 @@ ghost use Rattle.clip_spans.specs.declared.Span.{Span};
 use std::alloc::{AllocError, AllocFailed, Global};
 use std::marker::Model;
 
-const MOST_RECTS: usize = 64;
+/// The most clip rectangles (this project's own limit).
+pub const MAX_RECTS: usize = 64;
 
 // The row where no rectangle begins or ends: the first behind all rows.
 const NO_EDGE: u64 = 1 << 32;
@@ -93,12 +94,13 @@ pub struct Clips {
 impl Model for Clips {
     ghost use Rattle.std.specs.Prelude.{◌≤◌, List, length};
     ghost use Rattle.clip_spans.specs.declared.Rect.{Rect};
+    ghost use Rattle.clip_spans.specs.Clipping.{max_rects};
 
     ghost Value = { List Rect };
 
     ghost view = { λ c. c.rects.items };
 
-    ghost invariant = { λ c. length c.rects.items ≤ 64 };
+    ghost invariant = { λ c. length c.rects.items ≤ max_rects };
 }
 
 // A stretch of a row that one rectangle clips.
@@ -226,10 +228,10 @@ fn merged(alloc: Global, parts: &[Part], width: u32) -> Result<Vec<Span>, AllocE
 impl Clips {
     /// Keeps a list of rectangles.
     pub fn new(alloc: Global, rects: &[Rect]) -> Result<Clips, ClipFault>
-        ensures many { (result ≡ Err ClipFault.TooMany) ↔ (64 < length rects.now) }
+        ensures many { (result ≡ Err ClipFault.TooMany) ↔ (max_rects < length rects.now) }
         ensures list { IfOk result (λ clips. clips ≡ rects.now) }
     {
-        if rects.len() > MOST_RECTS {
+        if rects.len() > MAX_RECTS {
             return Err(ClipFault::TooMany);
         }
         let mut kept = Vec::new(alloc);
@@ -245,7 +247,7 @@ impl Clips {
         ensures spans { IfOk result (AreSpans self.now row width unit) }
         ensures alternate { IfOk result Alternate }
         ensures value { IfOk result (λ spans. spans ≡ spans_of self.now row width unit) }
-        ensures few { length self.now ≤ 64 }
+        ensures few { length self.now ≤ max_rects }
     {
         let parts = sorted_parts(alloc, &self.rects, row, width, unit)?;
         let spans = merged(alloc, &parts, width)?;
@@ -258,7 +260,7 @@ impl Clips {
         ensures value { result ≡ next_edge self.now row }
         ensures later { row < result }
         ensures spans { (other width unit : ℕ) → row ≤ other → other < result → spans_of self.now other width unit ≡ spans_of self.now row width unit }
-        ensures few { length self.now ≤ 64 }
+        ensures few { length self.now ≤ max_rects }
     {
         next_edge(&self.rects, row)
     }
