@@ -12,25 +12,25 @@ use std::marker::Model;
 
 // One chunk: the address of its first byte, and its bytes.
 #[derive(Drop)]
-struct Stretch {
+struct ChunkBytes {
     at: u32,
     bytes: Vec<u8>,
 }
 
-impl Model for Stretch {
+impl Model for ChunkBytes {
     ghost use Rattle.page_table.specs.Blocks.{Block};
 
     ghost Value = { Block };
 
-    ghost view = { λ stretch. record { at = stretch.at; bytes = stretch.bytes.items } };
+    ghost view = { λ block. record { at = block.at; bytes = block.bytes.items } };
 }
 
-impl Stretch {
-    fn new(alloc: Global, at: u32, len: u32, fill: u8) -> Result<Stretch, AllocError>
-        ensures { IfOk result (λ stretch. stretch ≡ filled_block fill (chunk at len)) }
+impl ChunkBytes {
+    fn new(alloc: Global, at: u32, len: u32, fill: u8) -> Result<ChunkBytes, AllocError>
+        ensures { IfOk result (λ block. block ≡ filled_block fill (chunk at len)) }
     {
         let bytes = vec![in alloc; fill; len as usize]?;
-        Ok(Stretch { at, bytes })
+        Ok(ChunkBytes { at, bytes })
     }
 
     fn byte(&self, addr: u32) -> u8
@@ -48,7 +48,7 @@ impl Stretch {
     }
 }
 
-impl Span for Stretch {
+impl Span for ChunkBytes {
     ghost chunk = { chunk_of };
 
     fn at(&self) -> u32 {
@@ -63,7 +63,7 @@ impl Span for Stretch {
 /// The plain memory: a vector of bytes for each chunk.
 #[derive(Drop)]
 pub struct MapRam {
-    stretches: Vec<Stretch>,
+    blocks: Vec<ChunkBytes>,
     // the place of the chunk that was written last
     near: usize,
 }
@@ -74,9 +74,9 @@ impl Model for MapRam {
 
     ghost Value = { List Block };
 
-    ghost view = { λ ram. ram.stretches.items };
+    ghost view = { λ ram. ram.blocks.items };
 
-    ghost invariant = { λ ram. AreBlocks ram.stretches.items };
+    ghost invariant = { λ ram. AreBlocks ram.blocks.items };
 }
 
 impl MapRam {
@@ -84,12 +84,12 @@ impl MapRam {
     pub fn new(alloc: Global, grants: &PageSet, fill: u8) -> Result<MapRam, AllocError>
         ensures { IfOk result (λ ram. ram ≡ filled fill grants.now) }
     {
-        let mut stretches = Vec::with_capacity(alloc, grants.len())?;
+        let mut blocks = Vec::with_capacity(alloc, grants.len())?;
         for i in 0..grants.len() {
-            let stretch = Stretch::new(alloc, grants.get(i), grants.size(i), fill)?;
-            stretches.push(stretch)?;
+            let block = ChunkBytes::new(alloc, grants.get(i), grants.size(i), fill)?;
+            blocks.push(block)?;
         }
-        Ok(MapRam { stretches, near: 0 })
+        Ok(MapRam { blocks, near: 0 })
     }
 }
 
@@ -98,10 +98,10 @@ impl ByteStore for MapRam {
 
     #[inline]
     fn store_byte(&mut self, addr: u32, byte: u8) {
-        let place = place_of(&self.stretches, self.near, addr);
+        let place = place_of(&self.blocks, self.near, addr);
         self.near = place;
-        let stretch = &mut self.stretches[place];
-        stretch.set_byte(addr, byte);
+        let block = &mut self.blocks[place];
+        block.set_byte(addr, byte);
     }
 }
 
@@ -117,17 +117,17 @@ impl Ram for MapRam {
     }
 
     fn load(&self, addr: u32) -> u8 {
-        let place = place_of(&self.stretches, self.near, addr);
-        let stretch = &self.stretches[place];
-        stretch.byte(addr)
+        let place = place_of(&self.blocks, self.near, addr);
+        let block = &self.blocks[place];
+        block.byte(addr)
     }
 
     fn pages(&self) -> usize {
-        self.stretches.len()
+        self.blocks.len()
     }
 
     fn page(&self, i: usize) -> (u32, &[u8]) {
-        let stretch = &self.stretches[i];
-        (stretch.at, &stretch.bytes)
+        let block = &self.blocks[i];
+        (block.at, &block.bytes)
     }
 }
