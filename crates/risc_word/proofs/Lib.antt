@@ -1,3 +1,4 @@
 pub mod FirstWord
+pub mod MoreWords
 pub mod Read
 pub mod ReadBack
