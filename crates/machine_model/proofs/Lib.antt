@@ -12,3 +12,4 @@ pub mod Safe
 pub mod Rows
 pub mod Inside
 pub mod Runs
+pub mod InstrSeen

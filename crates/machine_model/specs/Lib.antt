@@ -4,3 +4,4 @@ pub mod Turns
 pub mod Steps
 pub mod Accesses
 pub mod Safety
+pub mod Seen

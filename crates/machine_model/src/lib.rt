@@ -4,6 +4,7 @@
 
 pub mod laws;
 
+use fifo_model::Queue;
 use risc_word::{Code, Ctl, Instr};
 
 /// Why a place of a program's path isn't fine.
@@ -67,4 +68,47 @@ pub enum Job {
     Waiting { ctl: Ctl, resync: bool, code: Code },
     /// In a data instruction.
     Running { instr: Instr, demands: Demands },
+}
+
+/// What one turn of the machine did. A turn of a running instruction makes a burst of applications to the
+/// fronts of one queue; their rules are this project's own.
+#[derive(Clone, Copy, Debug, PartialEq, Eq)]
+pub enum Did {
+    /// Nothing: RISC is disabled, a SYNC waits for entries, or no queue of which the instruction asks is ready.
+    Still,
+    /// A JUMP was executed.
+    Jumped,
+    /// A SYNC began to wait.
+    Synced,
+    /// A data instruction was passed over in a skip.
+    Passed,
+    /// A data instruction began.
+    Begun,
+    /// While a SYNC waits, a front entry that is no control code was discarded.
+    Dropped,
+    /// The awaited control code came.
+    Matched,
+    /// Another control code came, and was discarded.
+    Missed,
+    /// A data instruction ended, with all that it asked for.
+    Retired,
+    /// Entries of this queue were taken or discarded, and the instruction runs on.
+    Moved(Queue),
+    /// The instruction was given up at an entry of this queue, perhaps after others were taken or discarded.
+    GivenUp(Queue),
+}
+
+/// What one turn did, and at which instruction. The three flags speak of all entries that the turn met.
+#[derive(Clone, Copy, Debug, PartialEq, Eq)]
+pub struct Seen {
+    /// What the turn did.
+    pub did: Did,
+    /// The address of the instruction that was fetched, waits or runs; pc where RISC is disabled.
+    pub at: u32,
+    /// Bytes were taken.
+    pub took: bool,
+    /// The last entry of a line was taken to its end.
+    pub ended: bool,
+    /// A reserved entry was discarded by an instruction that didn't await the start of a line.
+    pub reserved: bool,
 }
