@@ -5,7 +5,7 @@ use Rattle.std.proofs.lemmas.Nat.Bits.{bit_at_and, bit_at_or, bit_at-lt, bit_at_
 use Rattle.std.specs.Int.{bit_at}
 use Rattle.std.specs.Int.Bits.{or_zero_r}
 use Rattle.risc_word.specs.declared.Ctl.{Ctl}
-use Rattle.irq_status.specs.Register.{IsKnown, acknowledged, applied, below_status, fbus, fdsr, has, has_ocerr, interrupts, irq_bit, raised, risc_status, risci, status_after}
+use Rattle.irq_status.specs.Register.{IsKnown, acknowledged, applied, below_status, fbus, fdsr, has, has_ocerr, interrupts, irq_bit, ocerr, raised, risc_status, risci, status_after}
 
 -- ---- which bits there are
 
@@ -192,3 +192,13 @@ fdsr-raised_fbus register = ap (λ x. x == 1) (other_raised register fbus 14 ref
 
 pub fbus-raised_fdsr : (register : ℕ) → has fbus (raised register fdsr) ≡ has fbus register
 fbus-raised_fdsr register = ap (λ x. x == 1) (other_raised register fdsr 12 refl)
+
+pub fdsr-raised_ocerr : (register : ℕ) → has fdsr (raised register ocerr) ≡ has fdsr register
+fdsr-raised_ocerr register = ap (λ x. x == 1) (other_raised register ocerr 14 refl)
+
+-- a raised flag stands
+pub fdsr-raised_fdsr : (register : ℕ) → has fdsr (raised register fdsr) ≡ true
+fdsr-raised_fdsr register =
+    let there : bit_at fdsr 14 ≡ 1 = refl in
+    let one : bit_at (raised register fdsr) 14 ≡ 1 = omega (arith, there, bit_at_or register fdsr 14, bit_at-lt register 14) in
+    ap (λ x. x == 1) one

@@ -13,3 +13,7 @@ pub mod Rows
 pub mod Inside
 pub mod Runs
 pub mod InstrSeen
+pub mod Beside
+pub mod Stored
+pub mod FetchedAlike
+pub mod Wider

@@ -1,5 +1,5 @@
 -- What steps keep, runs keep.
-use Rattle.std.proofs.Common.{◌≡◌, ℕ, List, [], ◌∷◌, ◌++◌, take, All, refl, sym, subst, ◌∙◌}
+use Rattle.std.proofs.Common.{◌≡◌, ℕ, List, [], ◌∷◌, ◌++◌, take, map, All, refl, sym, ap, subst, ◌∙◌}
 use Rattle.std.proofs.lemmas.List.Elements.{All-head, All-tail, All-take}
 use Rattle.page_table.specs.Blocks.{chunks_of}
 use Rattle.machine_model.specs.Paths.{RiscProgram, IsSound}
@@ -62,3 +62,13 @@ pub chunks-run_in : (m : State) (steps : List (RiscProgram × Step)) → chunks_
 chunks-run_in m [] = refl
 chunks-run_in m (s ∷ steps) =
     chunks-run_in (step s.1 (with_program s.0 m)) steps ∙ chunks-step s.1 (with_program s.0 m)
+
+pub run_in-append : (m : State) (first second : List (RiscProgram × Step)) → run_in m (first ++ second) ≡ run_in (run_in m first) second
+run_in-append m [] second = refl
+run_in-append m (s ∷ first) second = run_in-append (step s.1 (with_program s.0 m)) first second
+
+-- a run is one in which each step meets the machine's own program
+pub run-run_in : (m : State) (steps : List Step) → run m steps ≡ run_in m (map (λ s. (m.program, s)) steps)
+run-run_in m [] = refl
+run-run_in m (s ∷ steps) =
+    run-run_in (step s m) steps ∙ ap (λ (program : RiscProgram). run_in (step s m) (map (λ s. (program, s)) steps)) (program-step s m)

@@ -1,5 +1,5 @@
--- What a turn writes and fetches.
-use Rattle.std.specs.Prelude.{ℕ, zero, suc, ◌+◌, max, Bool, true, false, List, [], ◌∷◌, ◌++◌, map, Option, Some, None, if◌then◌else◌, ◌==◌, slice_index}
+-- What a turn writes and fetches, and what it reads of its program.
+use Rattle.std.specs.Prelude.{◌≡◌, ℕ, zero, suc, ◌+◌, max, Bool, true, false, All, List, [], ◌∷◌, ◌++◌, length, map, Option, Some, None, if◌then◌else◌, ◌==◌, slice_index}
 use Rattle.bit_field.specs.Bits.{bits}
 use Rattle.risc_word.specs.declared.Instr.{Instr}
 use Rattle.risc_word.specs.Words.{opcode_length}
@@ -11,7 +11,7 @@ use Rattle.fifo_model.specs.Queues.{queue_state, front}
 use Rattle.machine_model.specs.declared.Demands.{Demands}
 use Rattle.machine_model.specs.declared.Job.{Job}
 use Rattle.machine_model.specs.declared.Job.TheVariants.{Idle, Waiting, Running}
-use Rattle.machine_model.specs.Paths.{RiscProgram, word_number, is_word}
+use Rattle.machine_model.specs.Paths.{RiscProgram, word_number, is_word, word_at, fetch}
 use Rattle.machine_model.specs.States.{State}
 use Rattle.machine_model.specs.Turns.{Store, stores_of, demand_on, verdict_at, apply, lowest_served, is_done, counted}
 
@@ -58,9 +58,12 @@ abbrev pub stores_if : Bool → State → List Store
 stores_if false m = []
 stores_if true m = worked_stores m.job m
 
--- the addresses that the turn at a state writes
+-- the stores of the turn at a state, in their order, and the addresses that it writes
+abbrev pub stores : State → List Store
+stores m = stores_if m.risc_on (counted m)
+
 abbrev pub writes : State → List ℕ
-writes m = map (λ store. store.address) (stores_if m.risc_on (counted m))
+writes m = map (λ store. store.address) (stores m)
 
 -- so many addresses of words, from one on
 abbrev pub word_addresses : ℕ → ℕ → List ℕ
@@ -85,3 +88,17 @@ fetches_if true m = fetched_by m.job m
 -- the addresses of the words that the turn at a state reads as an instruction
 abbrev pub fetches : State → List ℕ
 fetches m = fetches_if m.risc_on m
+
+-- two programs of one base, of as many words and with the same grants, that have the same words at these addresses
+pub record AgreeAt (addresses : List ℕ) (first second : RiscProgram) : Type 0 where
+  pub base : first.base ≡ second.base
+  pub count : length first.words ≡ length second.words
+  pub grants : first.grants ≡ second.grants
+  pub words : All (λ address. word_at first address ≡ word_at second address) addresses
+
+-- all that a turn which fetches at pc reads of a program is the same in two: the instruction there, the grants, and
+-- which addresses are those of words, since a JUMP's target must be one
+pub record AreFetchedAlike (pc : ℕ) (first second : RiscProgram) : Type 0 where
+  pub instruction : fetch first pc ≡ fetch second pc
+  pub grants : first.grants ≡ second.grants
+  pub words : (address : ℕ) → is_word first address ≡ is_word second address

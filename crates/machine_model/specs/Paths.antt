@@ -1,5 +1,5 @@
 -- The path of a program, and when a program is sound.
-use Rattle.std.specs.Prelude.{◌≡◌, ℕ, zero, suc, ◌+◌, ◌-◌, ◌*◌, ◌/◌, ◌%◌, ◌^◌, ◌<◌, ◌≤◌, Bool, true, false, not, ◌&&◌, min, max, All, List, length, Option, Some, None, Ok, Err, option_map, if◌then◌else◌, ◌==◌, nat_lt, nat_le, slice_index}
+use Rattle.std.specs.Prelude.{◌≡◌, ℕ, zero, suc, ◌+◌, ◌-◌, ◌*◌, ◌/◌, ◌%◌, ◌^◌, ◌<◌, ◌≤◌, Bool, true, false, not, ◌&&◌, min, max, IsTrue, All, List, length, Option, Some, None, Ok, Err, option_map, if◌then◌else◌, ◌==◌, nat_lt, nat_le, slice_index}
 use Rattle.risc_word.specs.declared.Ctl.{Ctl}
 use Rattle.risc_word.specs.declared.Ends.{Ends}
 use Rattle.risc_word.specs.declared.Instr.{Instr}
@@ -7,7 +7,7 @@ use Rattle.risc_word.specs.declared.Instr.TheVariants.{Write, Skip, WriteC, Jump
 use Rattle.risc_word.specs.declared.WordFault.{WordFault}
 use Rattle.risc_word.specs.declared.WordFault.TheVariants as fault
 use Rattle.risc_word.specs.Words.{Reading, instr_at}
-use Rattle.page_table.specs.Grants.{Chunk, AreGrants, first_ungranted}
+use Rattle.page_table.specs.Grants.{Chunk, AreGrants, granted, first_ungranted}
 use Rattle.machine_model.specs.declared.Cause.{Cause}
 use Rattle.machine_model.specs.declared.Cause.TheVariants.{Cut, Reserved, SyncCode, JumpOut, NoTarget, Wrap, Ungranted}
 use Rattle.machine_model.specs.declared.Demand.{Demand}
@@ -24,10 +24,14 @@ abbrev pub shares_byte : RiscProgram → Chunk → Bool
 shares_byte program c =
     nat_lt (max program.base c.at) (min (program.base + 4 * length program.words) (c.at + c.len))
 
+-- the most words of a program
+abbrev pub most_words : ℕ
+most_words = 1048576
+
 -- a program as it can be made
 pub record IsProgram (program : RiscProgram) : Type 0 where
   pub aligned : program.base % 4 ≡ 0
-  pub few : length program.words ≤ 1048576
+  pub few : length program.words ≤ most_words
   pub ends : program.base + 4 * length program.words ≤ 2 ^ 32
   pub fit : All (λ word. word < 2 ^ 32) program.words
   pub grants : AreGrants program.grants
@@ -46,6 +50,11 @@ abbrev pub is_word : RiscProgram → ℕ → Bool
 is_word program address =
     nat_le program.base address && (address - program.base) % 4 == 0
     && nat_lt (word_number program address) (length program.words)
+
+-- the word at an address
+abbrev pub word_at : RiscProgram → ℕ → Option ℕ
+word_at program address =
+    if is_word program address then Some (slice_index program.words (word_number program address)) else None
 
 -- the instruction at an address
 abbrev pub fetch : RiscProgram → ℕ → Reading
@@ -169,6 +178,10 @@ target_cause _ target = None
 abbrev pub data_cause : List Chunk → Instr → Option ℕ → Option Cause
 data_cause grants instr target =
     first_cause (target_cause instr target) (demands_cause grants (demands_of instr target))
+
+-- whatever the first grant, the second grant too
+abbrev pub AreWithin : List Chunk → List Chunk → Type 0
+AreWithin grants wider = (address : ℕ) → IsTrue (granted grants address) → IsTrue (granted wider address)
 
 -- why an instruction isn't fine
 abbrev pub instr_cause : RiscProgram → Instr → Option ℕ → Option Cause

@@ -81,7 +81,9 @@ pub record StaysInside (m : State) : Type 0 where
   pub written : All (λ address. IsTrue (granted m.program.grants address)) (writes m)
   pub read : All (λ address. IsTrue (is_word m.program address)) (fetches m)
 
--- a state in a run of this program: safe, its turn stays inside, and OCERR is 0
+-- a state in a run of this program: safe, its turn stays inside, and OCERR is 0. That the turn stores nowhere but at
+-- `writes` is the law `turns_store_what_is_listed`, and that it reads no word but those at `fetches` is
+-- `turns_read_what_is_listed`
 pub record IsInside (program : RiscProgram) (m : State) : Type 0 where
   pub same : m.program ≡ program
   pub safe : IsSafe m

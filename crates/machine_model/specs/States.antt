@@ -1,6 +1,6 @@
 -- The machine's state.
 use Rattle.std.specs.Prelude.{ℕ, Bool, true, List, Option, None}
-use Rattle.fifo_model.specs.Queues.{Queues, empty_queues}
+use Rattle.fifo_model.specs.Queues.{Queues, empty_fifo}
 use Rattle.page_table.specs.Blocks.{Block, filled}
 use Rattle.machine_model.specs.declared.Skipping.{Skipping}
 use Rattle.machine_model.specs.declared.Skipping.TheVariants.{Nothing}
@@ -45,6 +45,6 @@ started program memory queues =
       moved = 0;
     }
 
--- the first state: every granted byte is `fill`, and the queues have room for 70, 35 and 35 entries
+-- the first state: every granted byte is `fill`, and the queues are empty
 abbrev pub first_state : RiscProgram → ℕ → State
-first_state program fill = started program (filled fill program.grants) (empty_queues 70 35 35)
+first_state program fill = started program (filled fill program.grants) empty_fifo

@@ -295,8 +295,8 @@ turn_if true m = worked m.job m
 abbrev pub turn : State → State
 turn m = turn_if m.risc_on (counted m)
 
--- The turn at a state sets FDSR where the same turn leaves it set though no bit of INT_STAT stood before; what a turn
--- does never depends on these bits
+-- The turn at a state sets FDSR where the same turn leaves it set though no bit of INT_STAT stood before. What a turn
+-- does never depends on these bits (law `interrupts_change_no_turn`)
 abbrev pub with_interrupts : ℕ → State → State
 with_interrupts register m = record m { interrupts = register }
 

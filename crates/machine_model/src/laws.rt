@@ -1,14 +1,18 @@
-//! Laws over whole runs.
+//! Laws of turns and of whole runs. The functions do nothing; their contracts are the laws.
 
-ghost use Rattle.std.specs.Prelude.{◌≡◌, ℕ, List, All, true};
+ghost use Rattle.std.specs.Prelude.{◌≡◌, ◌≢◌, ℕ, ◌||◌, true, List, All, Option, None};
 ghost use Rattle.risc_word.specs.declared.Instr.{Instr};
-ghost use Rattle.page_table.specs.Blocks.{chunks_of};
+ghost use Rattle.irq_status.specs.Register.{has, fdsr};
+ghost use Rattle.page_table.specs.Grants.{Chunk};
+ghost use Rattle.page_table.specs.Blocks.{byte_at, chunks_of};
 ghost use Rattle.machine_model.specs.declared.Demands.{Demands};
-ghost use Rattle.machine_model.specs.declared.Job.TheVariants.{Running};
-ghost use Rattle.machine_model.specs.Paths.{RiscProgram, IsSound};
+ghost use Rattle.machine_model.specs.declared.Job.TheVariants.{Idle, Running};
+ghost use Rattle.machine_model.specs.Paths.{RiscProgram, AreWithin, data_cause, demands_cause, IsSound};
 ghost use Rattle.machine_model.specs.Seen.{StandsAt, seen};
 ghost use Rattle.machine_model.specs.States.{State, first_state};
-ghost use Rattle.machine_model.specs.Steps.{Step, run_in, state_at};
+ghost use Rattle.machine_model.specs.Turns.{stored_all, turn, with_interrupts, sets_fdsr};
+ghost use Rattle.machine_model.specs.Steps.{Step, with_program, run_in, state_at};
+ghost use Rattle.machine_model.specs.Accesses.{stores, writes, fetches, AgreeAt, AreFetchedAlike};
 ghost use Rattle.machine_model.specs.Safety.{IsInside, IsOrderly, IsSafe, IsStep};
 
 /// At every place of every run of a sound program from the first state, however the steps of decoder,
@@ -38,4 +42,35 @@ pub fn every_program_keeps_order()
 pub fn running_instructions_are_seen()
     ensures { (m : State) (instr : Instr) (ds : Demands) → IsSound m.program → IsSafe m → m.job ≡ Running instr ds → m.risc_on ≡ true →
         StandsAt m instr (seen m).at }
+{}
+
+/// The turn at a state stores exactly the bytes that are listed, in their order: the byte at an address that the turn
+/// doesn't write stays.
+pub fn turns_store_what_is_listed()
+    ensures memory { (m : State) → (turn m).memory ≡ stored_all m.memory (stores m) }
+    ensures others { (m : State) (address : ℕ) → All (λ written. address ≢ written) (writes m) → byte_at (turn m).memory address ≡ byte_at m.memory address }
+{}
+
+/// A turn reads no other word of its program than those that are listed: beside a program of the same base, number of
+/// words and grants that has the same words there, the same happens. Only an idle machine with RISC on reads its
+/// program, namely the instruction at pc, the grants, and whether the target of a JUMP is a word.
+pub fn turns_read_what_is_listed()
+    ensures listed { (m : State) (program : RiscProgram) → AgreeAt (fetches m) m.program program → turn (with_program program m) ≡ with_program program (turn m) }
+    ensures idle { (m : State) (program : RiscProgram) → (m.risc_on ≡ true → m.job ≡ Idle → AreFetchedAlike m.pc m.program program) →
+        turn (with_program program m) ≡ with_program program (turn m) }
+{}
+
+/// What a turn does never depends on INT_STAT: from another register all but the register is the same. So a turn sets
+/// FDSR from one register where it sets it from every other, and FDSR stands after it where it stood or was set.
+pub fn interrupts_change_no_turn()
+    ensures same { (m : State) (register : ℕ) → turn (with_interrupts register m) ≡ with_interrupts (turn (with_interrupts register m)).interrupts (turn m) }
+    ensures fdsr { (m : State) → has fdsr (turn m).interrupts ≡ (has fdsr m.interrupts || sets_fdsr m) }
+{}
+
+/// A data instruction without a fault, and a running one that may write what it still asks for, have none where more is
+/// granted.
+pub fn wider_grants_bring_no_fault()
+    ensures instruction { (grants wider : List Chunk) (instr : Instr) (target : Option ℕ) → AreWithin grants wider →
+        data_cause grants instr target ≡ None → data_cause wider instr target ≡ None }
+    ensures demands { (grants wider : List Chunk) (ds : Demands) → AreWithin grants wider → demands_cause grants ds ≡ None → demands_cause wider ds ≡ None }
 {}
