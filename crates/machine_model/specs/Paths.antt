@@ -24,14 +24,14 @@ abbrev pub shares_byte : RiscProgram → Chunk → Bool
 shares_byte program c =
     nat_lt (max program.base c.at) (min (program.base + 4 * length program.words) (c.at + c.len))
 
--- the most words of a program
-abbrev pub most_words : ℕ
-most_words = 1048576
+-- how many words a program may have
+abbrev pub max_words : ℕ
+max_words = 1048576
 
 -- a program as it can be made
 pub record IsProgram (program : RiscProgram) : Type 0 where
   pub aligned : program.base % 4 ≡ 0
-  pub few : length program.words ≤ most_words
+  pub few : length program.words ≤ max_words
   pub ends : program.base + 4 * length program.words ≤ 2 ^ 32
   pub fit : All (λ word. word < 2 ^ 32) program.words
   pub grants : AreGrants program.grants

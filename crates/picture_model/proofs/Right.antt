@@ -4,7 +4,7 @@ use Rattle.std.specs.Prelude.{nat_le, nat_lt, option_map}
 use Rattle.std.specs.Int.{div_ceil}
 use Rattle.std.specs.List.{All, list_any, range_with_len}
 use Rattle.std.proofs.lemmas.Bool.{leb-true, ltb-false, eqb-true, and_parts, and_cases, or_parts, not-false, cases_lt}
-use Rattle.page_table.specs.Grants.{total}
+use Rattle.page_table.specs.Grants.{page_size, total}
 use Rattle.page_table.specs.Taken.{first_shared, is_aligned, listed}
 use Rattle.page_table.proofs.Pages.{pages_aligned}
 use Rattle.page_table.proofs.ScatterLists.{chunks_aligned, pages_enough}
@@ -13,7 +13,8 @@ use Rattle.capture_desc.specs.declared.desc.Desc.{Desc}
 use Rattle.picture_model.specs.declared.BuildFault.{BuildFault}
 use Rattle.picture_model.specs.declared.BuildFault.TheVariants.{PageUnaligned, PageTwice}
 use Rattle.picture_model.specs.Described.{IsDescription, both, layout_of, memory_of, memory_from, planes, plane_row_bytes, stride, offset, taken, highest_end}
-use Rattle.picture_model.specs.Geometry.{Check, IsFrame, IsValid, first_after, first_missing, first_unaligned, frame_faults, program_faults, is_between, is_multiple, some_overlap, when}
+use Rattle.picture_model.specs.Geometry.{Check, IsFrame, IsValid, first_after, first_missing, first_unaligned, frame_faults, max_height, max_vbi_lines, max_width, min_line_bytes, program_faults, is_between, is_multiple, some_overlap, when}
+use Rattle.picture_model.specs.Plans.{max_piece}
 use Rattle.picture_model.specs.Programs.{compiled}
 use Rattle.pixel_layout.specs.Layouts.{planes_of}
 
@@ -68,21 +69,21 @@ aligned_memory (Some pairs) pages fit aligned apart = chunks_aligned pairs (reco
 
 enough : (chunks : Option (List (ℕ × ℕ))) (pages : List ℕ) (end : ℕ) → first_missing chunks pages end ≡ None → end ≤ total (memory_from chunks pages)
 enough None pages end none =
-    pages_enough pages end (ltb-false (length pages) (div_ceil end 4096) (when_not _ _ none))
+    pages_enough pages end (ltb-false (length pages) (div_ceil end page_size) (when_not _ _ none))
 enough (Some pairs) pages end none = ltb-false (total (listed pairs)) end (when_not _ _ none)
 
 -- what the faults of the frame leave
 pub record IsRight (d : Desc) : Type 0 where
-  pub width : (1 ≤ d.width) × (d.width ≤ 1024)
-  pub height : (1 ≤ d.height) × (d.height ≤ 1024)
+  pub width : (1 ≤ d.width) × (d.width ≤ max_width)
+  pub height : (1 ≤ d.height) × (d.height ≤ max_height)
   pub units : d.width % (layout_of d).pixels ≡ 0
   pub even : both d ≡ true → d.height % 2 ≡ 0
-  pub wide : (plane : ℕ) → 1 ≤ plane → plane ≤ planes_of (layout_of d) → 5 ≤ plane_row_bytes d plane
+  pub wide : (plane : ℕ) → 1 ≤ plane → plane ≤ planes_of (layout_of d) → min_line_bytes ≤ plane_row_bytes d plane
   pub rows_apart : (plane : ℕ) → 1 ≤ plane → plane ≤ planes_of (layout_of d) → plane_row_bytes d plane ≤ stride d plane
   pub on_units : (layout_of d).planar ≡ true → (offset d 1 % (layout_of d).pixels ≡ 0) × (stride d 1 % (layout_of d).pixels ≡ 0)
   pub parts_apart : some_overlap (taken d) ≡ false
-  pub vbi_lines : d.vbi_lines ≤ 32
-  pub vbi_bytes : 0 < d.vbi_lines → (5 ≤ d.vbi_bytes) × (d.vbi_bytes ≤ 4092)
+  pub vbi_lines : d.vbi_lines ≤ max_vbi_lines
+  pub vbi_bytes : 0 < d.vbi_lines → (min_line_bytes ≤ d.vbi_bytes) × (d.vbi_bytes ≤ max_piece)
   pub aligned : All (λ c. is_aligned c ≡ true) (memory_of d)
   pub chunks_apart : first_shared [] (memory_of d) ≡ None
   pub enough : highest_end (taken d) ≤ total (memory_of d)
@@ -90,14 +91,14 @@ pub record IsRight (d : Desc) : Type 0 where
 in_planes : (d : Desc) (test : ℕ → Bool) → list_any test (planes d) ≡ false → (plane : ℕ) → 1 ≤ plane → plane ≤ planes_of (layout_of d) → test plane ≡ false
 in_planes d test none plane low high = none_in_range test 1 (planes_of (layout_of d)) plane none low (omega arith)
 
-pub vbi_range : (lines bytes : ℕ) → (nat_lt 32 lines || (nat_lt 0 lines && not (is_between 5 4092 bytes))) ≡ false → (lines ≤ 32) × (0 < lines → (5 ≤ bytes) × (bytes ≤ 4092))
+pub vbi_range : (lines bytes : ℕ) → (nat_lt max_vbi_lines lines || (nat_lt 0 lines && not (is_between min_line_bytes max_piece bytes))) ≡ false → (lines ≤ max_vbi_lines) × (0 < lines → (min_line_bytes ≤ bytes) × (bytes ≤ max_piece))
 vbi_range lines bytes none =
-    let parts = or_parts (nat_lt 32 lines) (nat_lt 0 lines && not (is_between 5 4092 bytes)) none in (
-      ltb-false 32 lines parts.0,
+    let parts = or_parts (nat_lt max_vbi_lines lines) (nat_lt 0 lines && not (is_between min_line_bytes max_piece bytes)) none in (
+      ltb-false max_vbi_lines lines parts.0,
       λ some. ⊎_elim
           (λ no. let zero_lines = ltb-false 0 lines no in absurd (omega arith))
-          (λ inside. between_parts 5 4092 bytes inside)
-          (and_cases (nat_lt 0 lines) (not (is_between 5 4092 bytes)) parts.1),
+          (λ inside. between_parts min_line_bytes max_piece bytes inside)
+          (and_cases (nat_lt 0 lines) (not (is_between min_line_bytes max_piece bytes)) parts.1),
     )
 
 units_of : (planar : Bool) (unit from by : ℕ) → (planar && not (is_multiple unit from && is_multiple unit by)) ≡ false → planar ≡ true → (from % unit ≡ 0) × (by % unit ≡ 0)
@@ -124,11 +125,11 @@ clear-IsRight : (d : Desc) → IsDescription d → AreClear frame_faults d → I
 clear-IsRight d is clear =
     let memory = clear_memory d clear in
     record {
-      width = between_parts 1 1024 d.width (when_not _ _ clear.0);
-      height = between_parts 1 1024 d.height (when_not _ _ clear.1.0);
+      width = between_parts 1 max_width d.width (when_not _ _ clear.0);
+      height = between_parts 1 max_height d.height (when_not _ _ clear.1.0);
       units = multiple_is _ _ (not-false _ (when_not _ _ clear.1.1.0));
       even = even_height (both d) d.height (when_not _ _ clear.1.1.1.0);
-      wide = λ plane low high. ltb-false _ _ (in_planes d (λ p. nat_lt (plane_row_bytes d p) 5) (when_not _ _ clear.1.1.1.1.0) plane low high);
+      wide = λ plane low high. ltb-false _ _ (in_planes d (λ p. nat_lt (plane_row_bytes d p) min_line_bytes) (when_not _ _ clear.1.1.1.1.0) plane low high);
       rows_apart = λ plane low high. ltb-false _ _ (in_planes d (λ p. nat_lt (stride d p) (plane_row_bytes d p)) (when_not _ _ clear.1.1.1.1.1.0) plane low high);
       on_units = units_of _ _ _ _ (when_not _ _ clear.1.1.1.1.1.1.0);
       parts_apart = when_not _ _ clear.1.1.1.1.1.1.1.0;

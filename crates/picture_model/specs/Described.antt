@@ -5,20 +5,21 @@ use Rattle.std.specs.List.{range_with_len}
 use Rattle.pixel_layout.specs.declared.Parity.{Parity}
 use Rattle.pixel_layout.specs.declared.Parity.TheVariants.{Top, Bottom}
 use Rattle.pixel_layout.specs.Layouts.{Layout, layout, planes_of, row_bytes, chroma_rows}
+use Rattle.clip_spans.specs.Clipping.{max_rects}
 use Rattle.page_table.specs.Grants.{Chunk}
 use Rattle.page_table.specs.Taken.{listed, page_at}
-use Rattle.capture_desc.specs.WellFormed.{IsWellFormed}
+use Rattle.capture_desc.specs.WellFormed.{IsWellFormed, max_skip_lines}
 use Rattle.capture_desc.specs.declared.desc.Desc.{Desc}
 use Rattle.capture_desc.specs.declared.desc.Fields.{Fields}
 use Rattle.capture_desc.specs.declared.desc.Fields.TheVariants as fields
 
--- what every description meets; its pages are addresses, and it has at most 64 clip rectangles and 255
+-- what every description meets; its pages are addresses, and it has not too many clip rectangles and
 -- skipped lines
 pub record IsDescription (d : Desc) : Type 0 where
   pub formed : IsWellFormed d
   pub pages : All (λ page. page < 2 ^ 32) d.pages
-  pub clips : length d.clip ≤ 64
-  pub skipped : d.skip_lines ≤ 255
+  pub clips : length d.clip ≤ max_rects
+  pub skipped : d.skip_lines ≤ max_skip_lines
 
 -- the fields
 

@@ -107,6 +107,10 @@ vbi_strip d field line =
 
 -- how a line is cut
 
+-- how many bytes of a plane a piece may move
+abbrev pub max_piece : ℕ
+max_piece = 4092
+
 -- n grains of a line, from grain `at` on, within a span
 pub record Cut : Type 0 where
   pub at : ℕ
@@ -120,7 +124,7 @@ IsInOneChunk memory _ size _ at n = Unit {0}
 
 -- n grains keep the limits of a track: at most 4,092 bytes, and those written within one chunk
 pub record FitsTrack (memory : List Chunk) (clipped : Bool) (at n : ℕ) (t : Track) : Type 0 where
-  pub few : n * t.size ≤ 4092
+  pub few : n * t.size ≤ max_piece
   pub whole : IsInOneChunk memory clipped t.size t.start at n
 
 -- n grains stand within their span and keep the limits of each track
@@ -168,7 +172,7 @@ Writes memory _ size _ at n = Unit {0}
 
 -- a cut moves at most 4,092 bytes of a track, and what it writes there is granted
 pub record IsMoved (memory : List Chunk) (k : Cut) (t : Track) : Type 0 where
-  pub few : k.n * t.size ≤ 4092
+  pub few : k.n * t.size ≤ max_piece
   pub written : Writes memory k.clipped t.size t.start k.at k.n
 
 pub record IsSafeCut (memory : List Chunk) (strip : Strip) (k : Cut) : Type 0 where
@@ -190,8 +194,8 @@ most (suc less) bytes otherwise = bytes / suc less
 
 -- the bytes that a cut may have on a track
 abbrev pub bytes_free : List Chunk → Bool → ℕ → Option ℕ → ℕ → ℕ
-bytes_free memory false size (Some start) at = min 4092 (room_at memory (start + at * size))
-bytes_free memory _ size _ at = 4092
+bytes_free memory false size (Some start) at = min max_piece (room_at memory (start + at * size))
+bytes_free memory _ size _ at = max_piece
 
 abbrev pub most_of : List Chunk → Bool → ℕ → ℕ → Track → ℕ
 most_of memory clipped at otherwise t =

@@ -144,12 +144,16 @@ sections_by fields.Both d from last = section d Top (from + 4 * section_length d
 abbrev pub sections : Desc → ℕ → ℕ → List Instr
 sections d from last = sections_by d.fields d from last
 
+-- the words of the sections as they stand at an address, of which the last leads back to another
+abbrev pub sections_words : Desc → ℕ → ℕ → List ℕ
+sections_words d at back = words_of (sections d at back)
+
 -- the program: its last section leads back to its base, and it may write the description's pages or chunks
 abbrev pub compiled : Desc → RiscProgram
 compiled d =
     record {
       base = d.base;
-      words = words_of (sections d d.base d.base);
+      words = sections_words d d.base d.base;
       grants = in_order (memory_of d);
     }
 
