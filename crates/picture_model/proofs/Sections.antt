@@ -16,7 +16,7 @@ use Rattle.capture_desc.specs.declared.desc.Fields.{Fields}
 use Rattle.capture_desc.specs.declared.desc.Fields.TheVariants as fields
 use Rattle.picture_model.specs.Described.{both, describes, field_height, layout_of, memory_of, picture_row, rows_of}
 use Rattle.picture_model.specs.Plans.{Strip, row_strip, skipped_strip, vbi_strip}
-use Rattle.picture_model.specs.Programs.{Stands, begin_by, body, closing, closing_begin, compiled, data_code, field_instrs, field_words, line_instrs, lines_instrs, next_by, opening, picture_strips, section, section_begin, section_length, section_next, sections, sections_by, vbi_from, vbi_instrs, vbi_strips, vbi_words, vertical, words_of}
+use Rattle.picture_model.specs.Programs.{Stands, begin_by, body, closing, closing_begin, compiled, data_code, field_instrs, field_words, line_instrs, lines_instrs, next_by, opening, picture_strips, section, section_begin, section_length, section_next, sections, sections_by, sections_words, vbi_from, vbi_instrs, vbi_strips, vbi_words, vertical, words_of}
 use Rattle.picture_model.proofs.Circle.{IsAt, IsFineInstr, IsPlain, Lead, a_word, circle_sound, lead_plain, split_length, words_split}
 use Rattle.picture_model.proofs.Each.{Each, each_append, each_flat_map, each_map, each_only, each_range, each_replicate}
 use Rattle.picture_model.proofs.Fine.{AreWords, IsGoodInstr, good_line, good_sync}
@@ -97,6 +97,26 @@ section_long d field target = with_closing target ∙ sym (with_closing 0)
     with_closing at =
         ap length (words_split (opening field ∷ body d field) (closing field at) [])
         ∙ split_length (words_of (opening field ∷ body d field)) (encoded (closing field at)) []
+
+-- nor does it depend on where the sections stand
+abbrev long_by : Fields → Desc → ℕ
+long_by fields.Top d = section_length d Top
+long_by fields.Bottom d = section_length d Bottom
+long_by fields.Both d = section_length d Top + section_length d Bottom
+
+sections_long : (which : Fields) (d : Desc) (at back : ℕ) → length (words_of (sections_by which d at back)) ≡ long_by which d
+sections_long fields.Top d at back = section_long d Top back
+sections_long fields.Bottom d at back = section_long d Bottom back
+sections_long fields.Both d at back =
+    let mid = at + 4 * section_length d Top in
+    let top = section_long d Top mid in
+    let bottom = section_long d Bottom back in
+    let parts = ap length (flat_map-append encoded (section d Top mid) (section d Bottom back)) ∙ length-append (words_of (section d Top mid)) (words_of (section d Bottom back)) in
+    omega arith
+
+pub sections_as_long : (d : Desc) (at back other last : ℕ) → length (sections_words d at back) ≡ length (sections_words d other last)
+sections_as_long d at back other last =
+    sections_long d.fields d at back ∙ sym (sections_long d.fields d other last)
 
 in_parts : (a b c e : List ℕ) → (a ++ (b ++ c)) ++ (e ++ []) ≡ ((a ++ b) ++ c) ++ e
 in_parts a b c e = simp (append_assoc, append-nil)

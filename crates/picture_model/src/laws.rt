@@ -14,7 +14,7 @@ ghost use Rattle.picture_model.specs.Described.{IsDescription, describes, layout
 ghost use Rattle.picture_model.specs.Geometry.{IsFrame, IsValid};
 ghost use Rattle.picture_model.specs.Places.{Byte, HasPlane, IsByte, byte_clipped, byte_place};
 ghost use Rattle.picture_model.specs.Plans.{CoverSafely, IsPlan, IsRowCut, IsVbiCut, cuts_of, grain_bytes, grain_clipped, grains_of, row_plan, row_strip, skipped_plan, skipped_strip, vbi_plan, vbi_strip};
-ghost use Rattle.picture_model.specs.Programs.{Stands, closing, closing_begin, compiled, field_words, opening, section, section_begin, section_next, sections, vbi_words, words_of};
+ghost use Rattle.picture_model.specs.Programs.{Stands, closing, closing_begin, compiled, field_words, opening, section, section_begin, section_next, sections, sections_words, vbi_words, words_of};
 
 /// Each row, each skipped line and each VBI line has exactly one plan, the one that is computed.
 pub fn every_line_has_one_plan()
@@ -79,6 +79,11 @@ pub fn sections_stand_in_their_program()
         Stands (words_of (sections d from last)) from (words_of (section d field (section_next d from last field))) (section_begin d from field) }
     ensures closing { (d : Desc) (from last : ℕ) (field : Parity) → describes d.fields field ≡ true →
         Stands (words_of (sections d from last)) from (encoded (closing field (section_next d from last field))) (closing_begin d from field) }
+{}
+
+/// The sections have as many words wherever they stand, and wherever the last leads back.
+pub fn sections_are_as_long_anywhere()
+    ensures { (d : Desc) (at back other last : ℕ) → length (sections_words d at back) ≡ length (sections_words d other last) }
 {}
 
 /// The program of a description is sound: its path has no fault.
