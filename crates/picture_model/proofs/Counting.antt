@@ -1,5 +1,5 @@
--- How many cuts a line has: one for each span, and more where a chunk ends or 4,092 bytes are full.
-use Rattle.std.proofs.Common.{◌≡◌, ℕ, ◌+◌, ◌-◌, ◌*◌, ◌<◌, ◌≤◌, ◌⊎◌, inl, inr, Bool, true, false, List, [], ◌∷◌, length, length-append, Option, Some, None, sym, ap, ◌∙◌, subst, arith, ⊎_elim}
+-- How many words a line has: those of a cut for each span, and more where a chunk ends or 4,092 bytes are full.
+use Rattle.std.proofs.Common.{◌≡◌, ℕ, ◌+◌, ◌-◌, ◌*◌, ◌<◌, ◌≤◌, ◌⊎◌, inl, inr, Bool, true, false, List, [], ◌∷◌, ◌++◌, Option, Some, None, refl, sym, ap, ◌∙◌, subst, arith, ⊎_elim}
 use Rattle.std.proofs.lemmas.Bool.{cases_lt}
 use Rattle.std.proofs.lemmas.Nat.{row_fits, mul-le}
 use Rattle.page_table.specs.Grants.{Chunk}
@@ -81,6 +81,28 @@ track_full memory false grains size (Some start) g n small fit inside few one =
     (cases_lt (room_at memory (start + g * size)) ((n + 1) * size)))
     (cases_lt 4092 ((n + 1) * size))
 
+-- the words that a cut takes at most: what is clipped is skipped
+abbrev pub words_for : Bool → ℕ
+words_for true = 2
+words_for false = 5
+
+words_for-few : (clipped : Bool) → words_for clipped ≤ 5
+words_for-few true = omega arith
+words_for-few false = omega arith
+
+abbrev pub cut_words : List Cut → ℕ
+cut_words [] = 0
+cut_words (k ∷ rest) = words_for k.clipped + cut_words rest
+
+cut_words-append : (xs ys : List Cut) → cut_words (xs ++ ys) ≡ cut_words xs + cut_words ys
+cut_words-append [] ys = omega arith
+cut_words-append (k ∷ xs) ys = let more = cut_words-append xs ys in omega arith
+
+-- the words of spans that are cut once each
+abbrev pub span_weights : List Span → ℕ
+span_weights [] = 0
+span_weights (s ∷ rest) = words_for s.clipped + span_weights rest
+
 -- the levels of the three tracks together
 abbrev pub height : List Chunk → Strip → ℕ → ℕ
 height memory strip g = level memory strip.one g + level memory strip.two g + level memory strip.three g
@@ -112,45 +134,47 @@ module _ (memory : List Chunk) (strip : Strip) (is : IsStrip memory strip) where
       (λ rises. omega arith)
       (full s strip.one at k.n is.one (omega arith) cut.fits.one)
 
-  none_left : (s : Span) (rest : List Cut) (at : ℕ) → at ≡ s.to → AreCutsFrom memory strip s at rest → length rest ≡ 0
-  none_left s [] at done are = omega arith
+  none_left : (s : Span) (rest : List Cut) (at : ℕ) → at ≡ s.to → AreCutsFrom memory strip s at rest → cut_words rest ≡ 0
+  none_left s [] at done are = refl
   none_left s (k ∷ rest) at done are =
       let some = are.0.some in let within = are.0.fits.within in absurd (omega arith)
 
-  span_count : (s : Span) (at : ℕ) (cuts : List Cut) → s.to ≤ strip.grains → AreCutsFrom memory strip s at cuts → length cuts * 4089 + height memory strip at ≤ height memory strip s.to + 4089
-  span_count s at [] end are =
+  span_words : (s : Span) (at : ℕ) (cuts : List Cut) → s.to ≤ strip.grains → AreCutsFrom memory strip s at cuts → cut_words cuts * 4089 + 5 * height memory strip at ≤ 5 * height memory strip s.to + words_for s.clipped * 4089
+  span_words s at [] end are =
       let same : height memory strip at ≡ height memory strip s.to = ap (height memory strip) are in omega arith
-  span_count s at (k ∷ rest) end are =
+  span_words s at (k ∷ rest) end are =
       let within = are.0.fits.within in
+      let few = words_for-few s.clipped in
+      let same : words_for k.clipped ≡ words_for s.clipped = ap words_for are.0.same in
       ⊎_elim
       (λ inside.
       let rises = cut_rises s at k end inside are.0 in
-      let more = span_count s (at + k.n) rest end are.1 in omega arith)
+      let more = span_words s (at + k.n) rest end are.1 in omega arith)
       (λ done.
       let last : at + k.n ≡ s.to = omega arith in
       let none = none_left s rest (at + k.n) last are.1 in
-      let same : height memory strip (at + k.n) ≡ height memory strip s.to = ap (height memory strip) last in
+      let level : height memory strip (at + k.n) ≡ height memory strip s.to = ap (height memory strip) last in
       let rises = height-le at k.n in omega arith)
       (cases_lt (at + k.n) s.to)
 
-  spans_count : (at : ℕ) (spans : List Span) (cuts : List Cut) → Cover strip.grains at spans → AreCuts memory strip spans cuts → length cuts * 4089 + height memory strip at ≤ height memory strip strip.grains + 4089 * length spans
-  spans_count at [] cuts cover are =
-      let none : length cuts ≡ 0 = ap length are in
+  spans_words : (at : ℕ) (spans : List Span) (cuts : List Cut) → Cover strip.grains at spans → AreCuts memory strip spans cuts → cut_words cuts * 4089 + 5 * height memory strip at ≤ 5 * height memory strip strip.grains + span_weights spans * 4089
+  spans_words at [] cuts cover are =
+      let none : cut_words cuts ≡ 0 = ap cut_words are in
       let same : height memory strip at ≡ height memory strip strip.grains = ap (height memory strip) cover in omega arith
-  spans_count at (s ∷ rest) cuts cover are =
+  spans_words at (s ∷ rest) cuts cover are =
       let end = cover_end strip.grains s.to rest cover.2 in
-      let first = span_count s s.from are.0 end are.3 in
-      let later = spans_count s.to rest are.1 cover.2 are.4 in
+      let first = span_words s s.from are.0 end are.3 in
+      let later = spans_words s.to rest are.1 cover.2 are.4 in
       let begin : height memory strip s.from ≡ height memory strip at = ap (height memory strip) cover.0 in
-      let all : length cuts ≡ length are.0 + length are.1 = ap length are.2 ∙ length-append are.0 are.1 in omega arith
+      let all : cut_words cuts ≡ cut_words are.0 + cut_words are.1 = ap cut_words are.2 ∙ cut_words-append are.0 are.1 in omega arith
 
 -- the chunk ends that a line's tracks have passed at a grain
 abbrev pub all_passed : List Chunk → Strip → ℕ → ℕ
 all_passed memory strip g =
     passed memory strip.one.size strip.one.start g + passed memory strip.two.size strip.two.start g + passed memory strip.three.size strip.three.start g
 
--- a line has at most one cut for each of its spans, for each chunk end that it crosses, and three more
-pub cuts-few : (memory : List Chunk) (strip : Strip) → IsStrip memory strip → strip.grains * strip.one.size ≤ 4096 → strip.grains * strip.two.size ≤ 4096 → strip.grains * strip.three.size ≤ 4096 → length (cuts_of memory strip strip.spans) + all_passed memory strip 0 ≤ all_passed memory strip strip.grains + length strip.spans + 3
-cuts-few memory strip is one two three =
-    let count = spans_count memory strip is 0 strip.spans (cuts_of memory strip strip.spans) is.covers (strip_cuts memory strip is) in
+-- the words of a line are those for each of its spans, 5 for each chunk end that it crosses, and 5 more
+pub line_words-few : (memory : List Chunk) (strip : Strip) → IsStrip memory strip → strip.grains * strip.one.size + strip.grains * strip.two.size + strip.grains * strip.three.size ≤ 4096 → cut_words (cuts_of memory strip strip.spans) + 5 * all_passed memory strip 0 ≤ 5 * all_passed memory strip strip.grains + span_weights strip.spans + 5
+line_words-few memory strip is small =
+    let count = spans_words memory strip is 0 strip.spans (cuts_of memory strip strip.spans) is.covers (strip_cuts memory strip is) in
     omega arith

@@ -11,6 +11,7 @@ pub mod Circle
 pub mod Fine
 pub mod Sections
 pub mod Ends
+pub mod Crossing
 pub mod Counting
 pub mod Limit
 pub mod Made

@@ -1,21 +1,23 @@
--- A compiled program has few words: fewer than a program may have.
+-- A compiled program has fewer than 500,000 words.
 use Rattle.std.proofs.Common.{◌≡◌, ℕ, zero, suc, ◌+◌, ◌*◌, ◌/◌, ◌%◌, ◌<◌, ◌≤◌, ◌⊎◌, Bool, true, false, List, [], ◌∷◌, ◌++◌, length, length-append, map, Option, Some, None, refl, sym, ap, ◌∙◌, subst, arith, ⊎_elim, if◌then◌else◌}
 use Rattle.std.specs.Prelude.{replicate, ◌==◌, IfSome}
 use Rattle.std.specs.List.{range_with_len}
 use Rattle.std.proofs.lemmas.Grind.{flat_map-append}
+use Rattle.std.proofs.lemmas.Bool.{cases_lt}
 use Rattle.std.proofs.lemmas.List.{length-map}
 use Rattle.std.proofs.lemmas.List.FromFn.{length-range_with_len}
-use Rattle.std.proofs.lemmas.Simd.{map-map}
 use Rattle.std.proofs.lemmas.Nat.{mul-le, row_fits}
 use Rattle.std.proofs.Math.Nat.{div-le_self, div-mul-le_self}
 use Rattle.risc_word.specs.declared.Ends.{Ends}
 use Rattle.risc_word.specs.Words.{encoded}
 use Rattle.pixel_layout.specs.declared.Parity.{Parity}
 use Rattle.pixel_layout.specs.declared.Parity.TheVariants.{Top, Bottom}
-use Rattle.pixel_layout.specs.Layouts.{chroma_place, field_row}
+use Rattle.pixel_layout.specs.Layouts.{chroma_place, field_row, planes_of}
 use Rattle.pixel_layout.proofs.Table.{layout_sizes}
-use Rattle.clip_spans.specs.Runs.{spans_of}
+use Rattle.clip_spans.specs.declared.Span.{Span}
+use Rattle.clip_spans.specs.Runs.{Alternate, BeginsWithout, spans_of}
 use Rattle.clip_spans.proofs.Few.{spans-few}
+use Rattle.clip_spans.proofs.Runs.{runs-alternate}
 use Rattle.page_table.specs.Grants.{Chunk}
 use Rattle.page_table.specs.Taken.{page_at, pair_chunk}
 use Rattle.capture_desc.specs.declared.desc.Desc.{Desc}
@@ -23,35 +25,39 @@ use Rattle.capture_desc.specs.declared.desc.Fields.{Fields}
 use Rattle.capture_desc.specs.declared.desc.Fields.TheVariants as fields
 use Rattle.picture_model.specs.declared.PieceKind.{PieceKind}
 use Rattle.picture_model.specs.declared.PieceKind.TheVariants.{Write, WriteLuma, Skip}
-use Rattle.picture_model.specs.Described.{IsDescription, both, describes, field_height, is_both, layout_of, memory_from, memory_of, picture_row, rows_of, stride}
+use Rattle.picture_model.specs.Described.{Extent, IsDescription, both, describes, extent, fields_of, is_both, layout_of, memory_from, memory_of, picture_row, rows_of, stride, vbi_area}
+use Rattle.picture_model.specs.Geometry.{some_overlap}
 use Rattle.picture_model.specs.Places.{plane_row, row_offset, vbi_line_offset}
-use Rattle.picture_model.specs.Plans.{Cut, Strip, cuts_of, grain_bytes, grains_of, in_grains, kind_of, piece_of, row_strip, skipped_strip, vbi_strip}
-use Rattle.picture_model.specs.Programs.{body, closing, compiled, field_instrs, instr_by, instr_of, line_instrs, lines_instrs, opening, picture_strips, section, section_length, sections_by, vbi_from, vbi_instrs, vbi_strips, words_of}
+use Rattle.picture_model.specs.Plans.{Cut, Strip, cuts_of, grain_bytes, grain_clipped, grains_of, in_grains, kind_of, piece_of, row_strip, skipped_strip, vbi_strip}
+use Rattle.picture_model.specs.Programs.{body, closing, field_instrs, instr_by, instr_of, line_instrs, lines_instrs, opening, picture_strips, section, section_length, sections_by, sections_words, vbi_from, vbi_instrs, vbi_strips, words_of}
 use Rattle.picture_model.proofs.Right.{IsRight}
 use Rattle.picture_model.proofs.Each.{Each, each_range}
-use Rattle.picture_model.proofs.Ends.{AreInOrder, all_ended, crossed-few, ended, ended_after, range_in_order}
-use Rattle.picture_model.proofs.Counting.{cuts-few, passed}
-use Rattle.picture_model.proofs.Grains.{bytes_units, held_plane, row_grains}
-use Rattle.picture_model.proofs.Offsets.{chroma_row-IsKept, row_offset-IsRowAt}
-use Rattle.picture_model.proofs.Spans.{product_less, whole_is}
+use Rattle.picture_model.proofs.Ends.{AreInOrder, all_ended, crossed-within, ended, ended_after, interleaved, range_in_order}
+use Rattle.picture_model.proofs.Crossing.{at_begins, at_ends, crossed_once, forward_append, forward_map}
+use Rattle.picture_model.proofs.Counting.{cut_words, line_words-few, passed, span_weights, words_for}
+use Rattle.picture_model.proofs.Grains.{held_plane, row_grains}
+use Rattle.picture_model.proofs.Offsets.{chroma_row-IsKept, row_offset-IsRowAt, row_within, vbi_line_within}
+use Rattle.picture_model.proofs.Spans.{product_less, row_runs, whole_is}
 use Rattle.picture_model.proofs.Sections.{rows_below}
 use Rattle.picture_model.proofs.Circle.{split_length, words_split}
 use Rattle.picture_model.proofs.Strips.{row-IsStrip, skipped-IsStrip, vbi-IsStrip}
 
--- a piece has 5 words at most
+-- a piece has 2 words at most where it is clipped, and 5 where it isn't
 
-short_by : (planar : Bool) (kind : PieceKind) (ends : Ends) (a b c x y z : ℕ) → length (encoded (instr_by planar kind (record { kind = kind; ends = ends; counts = a ∷ b ∷ c ∷ []; addrs = x ∷ y ∷ z ∷ [] }))) ≤ 5
-short_by true Write ends a b c x y z = omega arith
-short_by true WriteLuma ends a b c x y z = omega arith
-short_by true Skip ends a b c x y z = omega arith
-short_by false Write ends a b c x y z = omega arith
-short_by false WriteLuma ends a b c x y z = omega arith
-short_by false Skip ends a b c x y z = omega arith
+short_by : (planar clipped : Bool) (kind : PieceKind) (ends : Ends) (a b c x y z : ℕ) → length (encoded (instr_by planar (kind_of clipped kind) (record { kind = kind_of clipped kind; ends = ends; counts = a ∷ b ∷ c ∷ []; addrs = x ∷ y ∷ z ∷ [] }))) ≤ words_for clipped
+short_by true true kind ends a b c x y z = omega arith
+short_by false true kind ends a b c x y z = omega arith
+short_by true false Write ends a b c x y z = omega arith
+short_by true false WriteLuma ends a b c x y z = omega arith
+short_by true false Skip ends a b c x y z = omega arith
+short_by false false Write ends a b c x y z = omega arith
+short_by false false WriteLuma ends a b c x y z = omega arith
+short_by false false Skip ends a b c x y z = omega arith
 
-piece_short : (memory : List Chunk) (strip : Strip) (k : Cut) → length (encoded (instr_of strip.planar (piece_of memory strip k))) ≤ 5
-piece_short memory strip k = short_by strip.planar (kind_of k.clipped strip.kind) _ _ _ _ _ _ _
+piece_short : (memory : List Chunk) (strip : Strip) (k : Cut) → length (encoded (instr_of strip.planar (piece_of memory strip k))) ≤ words_for k.clipped
+piece_short memory strip k = short_by strip.planar k.clipped strip.kind _ _ _ _ _ _ _
 
-pieces_short : (memory : List Chunk) (strip : Strip) (cuts : List Cut) → length (words_of (map (instr_of strip.planar) (map (piece_of memory strip) cuts))) ≤ 5 * length cuts
+pieces_short : (memory : List Chunk) (strip : Strip) (cuts : List Cut) → length (words_of (map (instr_of strip.planar) (map (piece_of memory strip) cuts))) ≤ cut_words cuts
 pieces_short memory strip [] = omega arith
 pieces_short memory strip (k ∷ rest) =
     let one = piece_short memory strip k in
@@ -59,16 +65,17 @@ pieces_short memory strip (k ∷ rest) =
     let all = length-append (encoded (instr_of strip.planar (piece_of memory strip k))) (words_of (map (instr_of strip.planar) (map (piece_of memory strip) rest))) in
     omega arith
 
--- the cuts of lines
-abbrev total_cuts : List Chunk → List Strip → ℕ
-total_cuts memory [] = 0
-total_cuts memory (strip ∷ rest) = length (cuts_of memory strip strip.spans) + total_cuts memory rest
+-- the words of the cuts of lines
+abbrev pub total_words : List Chunk → List Strip → ℕ
+total_words memory [] = 0
+total_words memory (strip ∷ rest) =
+    cut_words (cuts_of memory strip strip.spans) + total_words memory rest
 
-total_append : (memory : List Chunk) (xs ys : List Strip) → total_cuts memory (xs ++ ys) ≡ total_cuts memory xs + total_cuts memory ys
+total_append : (memory : List Chunk) (xs ys : List Strip) → total_words memory (xs ++ ys) ≡ total_words memory xs + total_words memory ys
 total_append memory [] ys = omega arith
 total_append memory (x ∷ xs) ys = let more = total_append memory xs ys in omega arith
 
-lines_short : (d : Desc) (strips : List Strip) → length (words_of (lines_instrs d strips)) ≤ 5 * total_cuts (memory_of d) strips
+lines_short : (d : Desc) (strips : List Strip) → length (words_of (lines_instrs d strips)) ≤ total_words (memory_of d) strips
 lines_short d [] = omega arith
 lines_short d (strip ∷ rest) =
     let one = pieces_short (memory_of d) strip (cuts_of (memory_of d) strip strip.spans) in
@@ -87,47 +94,81 @@ passed_none : (memory : List Chunk) (size : ℕ) (start : Option ℕ) → passed
 passed_none memory size start =
     let none : 0 * size ≡ 0 = omega arith in passed_is memory size start 0 ∙ ap (λ (n : ℕ). ended_after memory n start) none
 
--- the bytes of a row on a plane are at most 4,096
+-- the bytes of a row on all planes are at most 4,096
 
-grains_small : (planar first : Bool) (w p m : ℕ) → 1 ≤ p → w ≤ 1024 → m ≤ 4 * p → (planar ≡ true → m ≤ 4) → (if planar then w / p else w / p * m) * (if first then (if planar then m else 1) else (if planar then 1 else 0)) ≤ 4096
-grains_small true true w p m some wide bytes unit =
-    let few = div-le_self w p in let u = unit refl in mul-le (w / p) m 1024 4 (omega arith) u
-grains_small true false w p m some wide bytes unit = let few = div-le_self w p in omega arith
-grains_small false true w p m some wide bytes unit =
+grains_small : (planar : Bool) (w p m : ℕ) → 1 ≤ p → w ≤ 1024 → m ≤ 4 * p → (planar ≡ true → m ≡ p) →
+    (if planar then w / p else w / p * m) * (if planar then m else 1) + (if planar then w / p else w / p * m) * (if planar then 1 else 0) + (if planar then w / p else w / p * m) * (if planar then 1 else 0) ≤ 4096
+grains_small true w p m some wide bytes unit =
+    let few = div-le_self w p in
+    let whole = div-mul-le_self w p in
+    let same : w / p * m ≡ w / p * p = ap (λ (n : ℕ). w / p * n) (unit refl) in omega arith
+grains_small false w p m some wide bytes unit =
     let whole = div-mul-le_self w p in
     let more = mul-le (w / p) m (w / p) (4 * p) (omega arith) bytes in
     let four : w / p * (4 * p) ≡ 4 * (w / p * p) = grind arith in
     omega arith
-grains_small false false w p m some wide bytes unit = omega arith
 
-unit_small : (bytes : ℕ) → (bytes ≡ 2) ⊎ (bytes ≡ 4) → bytes ≤ 4
-unit_small bytes which = ⊎_elim (λ two. omega arith) (λ four. omega arith) which
-
-abbrev row_size : Desc → ℕ → ℕ
+abbrev pub row_size : Desc → ℕ → ℕ
 row_size d plane = grains_of (layout_of d) d.width * grain_bytes (layout_of d) plane
 
-row_small : (d : Desc) (plane : ℕ) → IsRight d → row_size d plane ≤ 4096
-row_small d plane right =
+row_small : (d : Desc) → IsRight d → row_size d 1 + row_size d 2 + row_size d 3 ≤ 4096
+row_small d right =
     let sizes = layout_sizes d.format in
-    grains_small (layout_of d).planar (plane == 1) d.width (layout_of d).pixels (layout_of d).bytes sizes.some_pixels right.width.1 sizes.few_bytes
-    (λ planar. unit_small (layout_of d).bytes (bytes_units d planar))
+    grains_small (layout_of d).planar d.width (layout_of d).pixels (layout_of d).bytes sizes.some_pixels right.width.1 sizes.few_bytes
+    (λ planar. let unit = sizes.unit planar in unit.1 ∙ sym unit.0)
 
--- the rows of a field: each of at most 64 rectangles adds at most two spans
-pub row_spans_few : (d : Desc) (row : ℕ) → IsDescription d → IsRight d → length (row_strip d row).spans ≤ 129
+-- the spans of a row alternate, and each of at most 64 rectangles adds at most two
+
+row_spans_few : (d : Desc) (row : ℕ) → IsDescription d → IsRight d → length (row_strip d row).spans ≤ 129
 row_spans_few d row is right =
     let clips = is.clips in
     let few = spans-few d.clip row d.width (layout_of d).pixels (layout_sizes d.format).some_pixels right.units in
     let same = length-map (spans_of d.clip row d.width (layout_of d).pixels) (in_grains (layout_of d)) in
     omega arith
 
--- a row's cuts, by what its three tracks have passed before and behind it
-row_cuts : (d : Desc) (row : ℕ) → IsDescription d → IsRight d → row < d.height → length (cuts_of (memory_of d) (row_strip d row) (row_strip d row).spans) + (ended_after (memory_of d) 0 (row_offset d 1 row) + ended_after (memory_of d) 0 (row_offset d 2 row) + ended_after (memory_of d) 0 (row_offset d 3 row)) ≤ ended_after (memory_of d) (row_size d 1) (row_offset d 1 row) + ended_after (memory_of d) (row_size d 2) (row_offset d 2 row) + ended_after (memory_of d) (row_size d 3) (row_offset d 3 row) + 132
-row_cuts d row is right below =
+record HasFewWords (spans : List Span) : Type 0 where
+  all : 2 * span_weights spans ≤ 7 * length spans + 3
+  clipped : BeginsWithout false spans → 2 * span_weights spans ≤ 7 * length spans
+
+one_more : (clipped : Bool) (count rest : ℕ) → 2 * rest ≤ 7 * count + 3 → (clipped ≡ false → 2 * rest ≤ 7 * count) → 2 * (words_for clipped + rest) ≤ 7 * (count + 1) + (if clipped then 0 else 3)
+one_more true count rest all clipped = omega arith
+one_more false count rest all clipped = let few = clipped refl in omega arith
+
+with_other : (clipped : Bool) (rest : List Span) → clipped ≡ false → BeginsWithout clipped rest → BeginsWithout false rest
+with_other clipped rest is begins = subst (λ (b : Bool). BeginsWithout b rest) is begins
+
+alternating_few : (spans : List Span) → Alternate spans → HasFewWords spans
+alternating_few [] alternate = record { all = omega arith; clipped = λ begins. omega arith }
+alternating_few (s ∷ rest) alternate =
+    let more = alternating_few rest alternate.1 in
+    let all = one_more s.clipped (length rest) (span_weights rest) more.all (λ is. more.clipped (with_other s.clipped rest is alternate.0)) in
+    record {
+      all = let few = few_by s.clipped _ _ all in omega arith;
+      clipped = λ begins. let few = fewer_by s.clipped _ _ begins all in omega arith;
+    }
+  where
+    few_by : (clipped : Bool) (a b : ℕ) → a ≤ b + (if clipped then 0 else 3) → a ≤ b + 3
+    few_by true a b less = omega arith
+    few_by false a b less = less
+
+    fewer_by : (clipped : Bool) (a b : ℕ) → clipped ≡ true → a ≤ b + (if clipped then 0 else 3) → a ≤ b
+    fewer_by true a b is less = omega arith
+    fewer_by false a b is less = cc
+
+row_weights : (d : Desc) (row : ℕ) → IsDescription d → IsRight d → span_weights (row_strip d row).spans ≤ 453
+row_weights d row is right =
+    let few = row_spans_few d row is right in
+    let alternate = runs-alternate (grain_clipped d row) (grains_of (layout_of d) d.width) 0 (row_strip d row).spans (row_runs d row right) in
+    let all = (alternating_few (row_strip d row).spans alternate).all in omega arith
+
+-- a row's words, by what its three tracks have passed before and behind it
+row_words : (d : Desc) (row : ℕ) → IsDescription d → IsRight d → row < d.height → cut_words (cuts_of (memory_of d) (row_strip d row) (row_strip d row).spans) + 5 * (ended_after (memory_of d) 0 (row_offset d 1 row) + ended_after (memory_of d) 0 (row_offset d 2 row) + ended_after (memory_of d) 0 (row_offset d 3 row)) ≤ 5 * (ended_after (memory_of d) (row_size d 1) (row_offset d 1 row) + ended_after (memory_of d) (row_size d 2) (row_offset d 2 row) + ended_after (memory_of d) (row_size d 3) (row_offset d 3 row)) + 458
+row_words d row is right below =
     let memory = memory_of d in
     let size = grain_bytes (layout_of d) in
     let grains = grains_of (layout_of d) d.width in
-    let few = cuts-few memory (row_strip d row) (row-IsStrip d row right below) (row_small d 1 right) (row_small d 2 right) (row_small d 3 right) in
-    let spans = row_spans_few d row is right in
+    let few = line_words-few memory (row_strip d row) (row-IsStrip d row right below) (row_small d right) in
+    let spans = row_weights d row is right in
     let b1 = passed_none memory (size 1) (row_offset d 1 row) in
     let b2 = passed_none memory (size 2) (row_offset d 2 row) in
     let b3 = passed_none memory (size 3) (row_offset d 3 row) in
@@ -145,14 +186,20 @@ before d plane rows = all_ended (memory_of d) 0 (starts d plane rows)
 abbrev behind : Desc → ℕ → List ℕ → ℕ
 behind d plane rows = all_ended (memory_of d) (row_size d plane) (starts d plane rows)
 
-rows_cuts : (d : Desc) (rows : List ℕ) → IsDescription d → IsRight d → Each (λ row. row < d.height) rows → total_cuts (memory_of d) (map (row_strip d) rows) + (before d 1 rows + before d 2 rows + before d 3 rows) ≤ behind d 1 rows + behind d 2 rows + behind d 3 rows + 132 * length rows
-rows_cuts d [] is right below = omega arith
-rows_cuts d (row ∷ rows) is right below =
-    let first = row_cuts d row is right below.0 in
-    let later = rows_cuts d rows is right below.1 in
+abbrev all_before : Desc → List ℕ → ℕ
+all_before d rows = before d 1 rows + before d 2 rows + before d 3 rows
+
+abbrev all_behind : Desc → List ℕ → ℕ
+all_behind d rows = behind d 1 rows + behind d 2 rows + behind d 3 rows
+
+rows_words : (d : Desc) (rows : List ℕ) → IsDescription d → IsRight d → Each (λ row. row < d.height) rows → total_words (memory_of d) (map (row_strip d) rows) + 5 * all_before d rows ≤ 5 * all_behind d rows + 458 * length rows
+rows_words d [] is right below = omega arith
+rows_words d (row ∷ rows) is right below =
+    let first = row_words d row is right below.0 in
+    let later = rows_words d rows is right below.1 in
     omega arith
 
--- the rows of a field stand in order on each plane
+-- the rows of a picture stand in order on each plane
 
 rise_by : (first : Bool) (r s c e : ℕ) (chroma chroma' : Option ℕ) → (if first then Some r else chroma) ≡ Some c → (if first then Some s else chroma') ≡ Some e → r < s → (chroma ≡ Some c → chroma' ≡ Some e → c < e) → c < e
 rise_by true r s c e chroma chroma' is is' less more = let one : r ≡ c = cc in let two : s ≡ e = cc in omega arith
@@ -164,70 +211,74 @@ parts_rise v k l whole whole' less =
     let two = whole_is l v whole' in
     product_less (k / v) (l / v) v (omega arith)
 
-chroma_rise : (two : Bool) (field : Parity) (v k l : ℕ) → k < l → field_row two (picture_row two field k) % v ≡ 0 → field_row two (picture_row two field l) % v ≡ 0 → chroma_place v two (picture_row two field k) < chroma_place v two (picture_row two field l)
-chroma_rise false field v k l less whole whole' = parts_rise v k l whole whole' less
-chroma_rise true Top v k l less whole whole' =
-    let rise = parts_rise v (2 * k / 2) (2 * l / 2) whole whole' (omega arith) in omega arith
-chroma_rise true Bottom v k l less whole whole' =
-    let rise = parts_rise v ((2 * k + 1) / 2) ((2 * l + 1) / 2) whole whole' (omega arith) in omega arith
+chroma_rise : (two : Bool) (v k l : ℕ) → k < l → field_row two k % v ≡ 0 → field_row two l % v ≡ 0 → chroma_place v two k < chroma_place v two l
+chroma_rise false v k l less whole whole' = parts_rise v k l whole whole' less
+chroma_rise true v k l less whole whole' =
+    ⊎_elim
+    (λ later. let rise = parts_rise v (k / 2) (l / 2) whole whole' later in omega arith)
+    (λ no. let same : k / 2 ≡ l / 2 = omega arith in let place : k / 2 / v ≡ l / 2 / v = ap (λ (n : ℕ). n / v) same in omega arith)
+    (cases_lt (k / 2) (l / 2))
 
-picture_rise : (two : Bool) (field : Parity) (k l : ℕ) → k < l → picture_row two field k < picture_row two field l
-picture_rise false field k l less = less
-picture_rise true Top k l less = omega arith
-picture_rise true Bottom k l less = omega arith
-
-numbers_rise : (d : Desc) (plane k l c e : ℕ) (field : Parity) → k < l → plane_row (layout_of d) (both d) plane (picture_row (both d) field k) ≡ Some c → plane_row (layout_of d) (both d) plane (picture_row (both d) field l) ≡ Some e → c < e
-numbers_rise d plane k l c e field less is is' =
-    rise_by (plane == 1) (picture_row (both d) field k) (picture_row (both d) field l) c e _ _ is is' (picture_rise (both d) field k l less)
+numbers_rise : (d : Desc) (plane k l c e : ℕ) → k < l → plane_row (layout_of d) (both d) plane k ≡ Some c → plane_row (layout_of d) (both d) plane l ≡ Some e → c < e
+numbers_rise d plane k l c e less is is' =
+    rise_by (plane == 1) k l c e _ _ is is' less
     (λ chroma chroma'.
-    let kept = chroma_row-IsKept (layout_of d) (both d) (picture_row (both d) field k) c chroma in
-    let kept' = chroma_row-IsKept (layout_of d) (both d) (picture_row (both d) field l) e chroma' in
-    let rise = chroma_rise (both d) field (layout_of d).down k l less kept.kept kept'.kept in
+    let kept = chroma_row-IsKept (layout_of d) (both d) k c chroma in
+    let kept' = chroma_row-IsKept (layout_of d) (both d) l e chroma' in
+    let rise = chroma_rise (both d) (layout_of d).down k l less kept.kept kept'.kept in
     let at = kept.at in let at' = kept'.at in omega arith)
 
-rows_apart : (d : Desc) (plane k l o p : ℕ) (field : Parity) → IsRight d → 1 ≤ plane → plane ≤ 3 → k < l → row_offset d plane (picture_row (both d) field k) ≡ Some o → row_offset d plane (picture_row (both d) field l) ≡ Some p → o + row_size d plane ≤ p
-rows_apart d plane k l o p field right low high less is is' =
-    let one = row_offset-IsRowAt d plane (picture_row (both d) field k) o is in
-    let two = row_offset-IsRowAt d plane (picture_row (both d) field l) p is' in
-    let has = held_plane d plane (picture_row (both d) field k) one.number low high one.held in
-    let rise = numbers_rise d plane k l one.number two.number field less one.held two.held in
+rows_apart : (d : Desc) (plane k l o p : ℕ) → IsRight d → 1 ≤ plane → plane ≤ 3 → k < l → row_offset d plane k ≡ Some o → row_offset d plane l ≡ Some p → o + row_size d plane ≤ p
+rows_apart d plane k l o p right low high less is is' =
+    let one = row_offset-IsRowAt d plane k o is in
+    let two = row_offset-IsRowAt d plane l p is' in
+    let has = held_plane d plane k one.number low high one.held in
+    let rise = numbers_rise d plane k l one.number two.number less one.held two.held in
     let wide = right.rows_apart plane has.low has.high in
     let bytes = row_grains d plane has in
     let step : one.number * stride d plane + stride d plane ≤ two.number * stride d plane = row_fits one.number (stride d plane) two.number (stride d plane) rise (omega arith) in
     let at = one.at in let at' = two.at in omega arith
 
-rows_in_order : (d : Desc) (plane : ℕ) (field : Parity) → IsRight d → 1 ≤ plane → plane ≤ 3 → AreInOrder (row_size d plane) 0 (starts d plane (rows_of d field))
-rows_in_order d plane field right low high =
-    subst (AreInOrder (row_size d plane) 0) (sym (map-map (row_offset d plane) (picture_row (both d) field) (range_with_len 0 (field_height d field))))
-    (range_in_order (λ k. row_offset d plane (picture_row (both d) field k)) (row_size d plane) 0 0 (field_height d field)
-    (λ k o from is. omega arith)
-    (λ k l o p less is is'. rows_apart d plane k l o p field right low high less is is'))
-
-field_rows_few : (d : Desc) (field : Parity) → IsDescription d → IsRight d → total_cuts (memory_of d) (map (row_strip d) (rows_of d field)) ≤ 3 * length (memory_of d) + 132 * length (rows_of d field)
-field_rows_few d field is right =
-    let rows = rows_of d field in
-    let cuts = rows_cuts d rows is right (rows_below d field) in
-    let one = crossed-few (memory_of d) (row_size d 1) 0 (starts d 1 rows) (rows_in_order d 1 field right (omega arith) (omega arith)) in
-    let two = crossed-few (memory_of d) (row_size d 2) 0 (starts d 2 rows) (rows_in_order d 2 field right (omega arith) (omega arith)) in
-    let three = crossed-few (memory_of d) (row_size d 3) 0 (starts d 3 rows) (rows_in_order d 3 field right (omega arith) (omega arith)) in
-    omega arith
+-- the rows of a picture cross at most the chunk ends in their plane
+plane_crossed : (d : Desc) (plane low high count : ℕ) → IsRight d → 1 ≤ plane → plane ≤ 3 → low ≤ high → (plane ≤ planes_of (layout_of d) → (low ≡ (extent d plane).from) × (high ≡ (extent d plane).to)) → count ≤ d.height → behind d plane (range_with_len 0 count) + ended (memory_of d) low ≤ before d plane (range_with_len 0 count) + ended (memory_of d) high
+plane_crossed d plane low high count right some few forward bounds within =
+    crossed-within (memory_of d) (row_size d plane) low high (starts d plane (range_with_len 0 count))
+    (range_in_order (row_offset d plane) (row_size d plane) low high 0 count forward
+    (λ k o from below is.
+    let at = row_offset-IsRowAt d plane k o is in
+    let has = held_plane d plane k at.number some few at.held in
+    let inside = row_within d plane k o right (omega arith) at in
+    let bytes = row_grains d plane has in
+    let is_low = (bounds has.high).0 in
+    let is_high = (bounds has.high).1 in
+    (omega arith, omega arith))
+    (λ k l o p less is is'. rows_apart d plane k l o p right some few less is is'))
 
 -- skipped lines and VBI lines
 
-skipped_few : (d : Desc) (count : ℕ) → IsRight d → total_cuts (memory_of d) (replicate count (skipped_strip d)) ≤ 4 * count
+skipped_few : (d : Desc) (count : ℕ) → IsRight d → total_words (memory_of d) (replicate count (skipped_strip d)) ≤ 7 * count
 skipped_few d zero right = omega arith
 skipped_few d (suc count) right =
-    let one = cuts-few (memory_of d) (skipped_strip d) (skipped-IsStrip d) (row_small d 1 right) (row_small d 2 right) (row_small d 3 right) in
+    let one = line_words-few (memory_of d) (skipped_strip d) (skipped-IsStrip d) (row_small d right) in
     let more = skipped_few d count right in omega arith
 
-vbi_cuts : (d : Desc) (field : Parity) (lines : List ℕ) → IsRight d → describes d.fields field ≡ true → Each (λ line. line < d.vbi_lines) lines → total_cuts (memory_of d) (map (vbi_strip d field) lines) + all_ended (memory_of d) 0 (map (λ line. Some (vbi_line_offset d field line)) lines) ≤ all_ended (memory_of d) d.vbi_bytes (map (λ line. Some (vbi_line_offset d field line)) lines) + 4 * length lines
-vbi_cuts d field [] right described below = omega arith
-vbi_cuts d field (line ∷ lines) right described below =
+abbrev vbi_starts : Desc → Parity → ℕ → List (Option ℕ)
+vbi_starts d field count = map (λ line. Some (vbi_line_offset d field line)) (range_with_len 0 count)
+
+abbrev vbi_before : Desc → Parity → ℕ
+vbi_before d field = all_ended (memory_of d) 0 (vbi_starts d field d.vbi_lines)
+
+abbrev vbi_behind : Desc → Parity → ℕ
+vbi_behind d field = all_ended (memory_of d) d.vbi_bytes (vbi_starts d field d.vbi_lines)
+
+vbi_lines_words : (d : Desc) (field : Parity) (lines : List ℕ) → IsRight d → describes d.fields field ≡ true → Each (λ line. line < d.vbi_lines) lines → total_words (memory_of d) (map (vbi_strip d field) lines) + 5 * all_ended (memory_of d) 0 (map (λ line. Some (vbi_line_offset d field line)) lines) ≤ 5 * all_ended (memory_of d) d.vbi_bytes (map (λ line. Some (vbi_line_offset d field line)) lines) + 10 * length lines
+vbi_lines_words d field [] right described below = omega arith
+vbi_lines_words d field (line ∷ lines) right described below =
     let memory = memory_of d in
     let start = vbi_line_offset d field line in
     let bytes = (right.vbi_bytes (let first = below.0 in omega arith)).1 in
-    let few = cuts-few memory (vbi_strip d field line) (vbi-IsStrip d field line right described below.0) (omega arith) (omega arith) (omega arith) in
-    let more = vbi_cuts d field lines right described below.1 in
+    let few = line_words-few memory (vbi_strip d field line) (vbi-IsStrip d field line right described below.0) (omega arith) in
+    let more = vbi_lines_words d field lines right described below.1 in
     let begin : ended memory (start + 0 * 1) ≡ ended memory (start + 0) = ap (ended memory) (let e : start + 0 * 1 ≡ start + 0 = omega arith in e) in
     let end : ended memory (start + d.vbi_bytes * 1) ≡ ended memory (start + d.vbi_bytes) = ap (ended memory) (let e : start + d.vbi_bytes * 1 ≡ start + d.vbi_bytes = omega arith in e) in
     omega arith
@@ -236,50 +287,119 @@ vbi_apart : (d : Desc) (field : Parity) (k l : ℕ) → k < l → vbi_line_offse
 vbi_apart d field k l less =
     let step = row_fits k d.vbi_bytes l d.vbi_bytes less (omega arith) in omega arith
 
-vbi_few : (d : Desc) (field : Parity) → IsRight d → describes d.fields field ≡ true → total_cuts (memory_of d) (vbi_strips d field) ≤ length (memory_of d) + 128
-vbi_few d field right described =
-    let lines = range_with_len 0 d.vbi_lines in
-    let cuts = vbi_cuts d field lines right described (each_range 0 d.vbi_lines d.vbi_lines (omega arith)) in
-    let order : AreInOrder d.vbi_bytes 0 (map (λ line. Some (vbi_line_offset d field line)) lines) =
-    range_in_order (λ line. Some (vbi_line_offset d field line)) d.vbi_bytes 0 0 d.vbi_lines (λ k o from is. omega arith)
+vbi_crossed : (d : Desc) (field : Parity) → vbi_behind d field + ended (memory_of d) (vbi_area d field).from ≤ vbi_before d field + ended (memory_of d) (vbi_area d field).to
+vbi_crossed d field =
+    crossed-within (memory_of d) d.vbi_bytes (vbi_area d field).from (vbi_area d field).to (vbi_starts d field d.vbi_lines)
+    (range_in_order (λ line. Some (vbi_line_offset d field line)) d.vbi_bytes (vbi_area d field).from (vbi_area d field).to 0 d.vbi_lines (omega arith)
+    (λ k o from below is.
+    let at : vbi_line_offset d field k ≡ o = cc in
+    let inside = vbi_line_within d.vbi_lines d.vbi_bytes k (omega arith) in
+    (omega arith, omega arith))
     (λ k l o p less is is'.
     let one : vbi_line_offset d field k ≡ o = cc in
     let two : vbi_line_offset d field l ≡ p = cc in
-    let apart = vbi_apart d field k l less in omega arith)
-    in
-    let crossed = crossed-few (memory_of d) d.vbi_bytes 0 (map (λ line. Some (vbi_line_offset d field line)) lines) order in
-    let count = length-range_with_len 0 d.vbi_lines in
-    let few = right.vbi_lines in
-    omega arith
+    let apart = vbi_apart d field k l less in omega arith))
 
 -- sections
 
-vbi_words_few : (d : Desc) (field : Parity) (lines : ℕ) → IsRight d → describes d.fields field ≡ true → length (words_of (vbi_from lines d field)) ≤ 2 + 5 * (length (memory_of d) + 128)
-vbi_words_few d field zero right described = omega arith
-vbi_words_few d field (suc more) right described =
+vbi_words_few : (d : Desc) (field : Parity) (lines : ℕ) → lines ≡ d.vbi_lines → IsRight d → describes d.fields field ≡ true → length (words_of (vbi_from lines d field)) + 5 * vbi_before d field ≤ 2 + 5 * vbi_behind d field + 10 * d.vbi_lines
+vbi_words_few d field zero same right described =
+    let all = vbi_lines_words d field (range_with_len 0 d.vbi_lines) right described (each_range 0 d.vbi_lines d.vbi_lines (omega arith)) in
+    let count = length-range_with_len 0 d.vbi_lines in omega arith
+vbi_words_few d field (suc more) same right described =
     let short = lines_short d (vbi_strips d field) in
-    let few = vbi_few d field right described in omega arith
+    let all = vbi_lines_words d field (range_with_len 0 d.vbi_lines) right described (each_range 0 d.vbi_lines d.vbi_lines (omega arith)) in
+    let count = length-range_with_len 0 d.vbi_lines in omega arith
 
-field_words_few : (d : Desc) (field : Parity) → IsDescription d → IsRight d → length (words_of (field_instrs d field)) ≤ 2 + 5 * (1020 + 3 * length (memory_of d) + 132 * length (rows_of d field))
+field_words_few : (d : Desc) (field : Parity) → IsDescription d → IsRight d → length (words_of (field_instrs d field)) + 5 * all_before d (rows_of d field) ≤ 2 + 7 * d.skip_lines + 5 * all_behind d (rows_of d field) + 458 * length (rows_of d field)
 field_words_few d field is right =
     let short = lines_short d (picture_strips d field) in
     let parts = total_append (memory_of d) (replicate d.skip_lines (skipped_strip d)) (map (row_strip d) (rows_of d field)) in
     let skipped = skipped_few d d.skip_lines right in
-    let rows = field_rows_few d field is right in
-    let most = is.skipped in
+    let rows = rows_words d (rows_of d field) is right (rows_below d field) in
     omega arith
 
-section_few : (d : Desc) (field : Parity) (target : ℕ) → IsDescription d → IsRight d → describes d.fields field ≡ true → length (words_of (section d field target)) ≤ 8 + 5 * (length (memory_of d) + 128) + 5 * (1020 + 3 * length (memory_of d) + 132 * field_height d field)
+section_few : (d : Desc) (field : Parity) (target : ℕ) → IsDescription d → IsRight d → describes d.fields field ≡ true → length (words_of (section d field target)) + 5 * vbi_before d field + 5 * all_before d (rows_of d field) ≤ 2113 + 5 * vbi_behind d field + 5 * all_behind d (rows_of d field) + 458 * length (rows_of d field)
 section_few d field target is right described =
-    let vbi = vbi_words_few d field d.vbi_lines right described in
+    let vbi = vbi_words_few d field d.vbi_lines refl right described in
     let picture = field_words_few d field is right in
+    let lines = right.vbi_lines in
+    let skipped = is.skipped in
     let inner : length (words_of (body d field)) ≡ length (words_of (vbi_instrs d field)) + length (words_of (field_instrs d field)) =
     ap length (flat_map-append encoded (vbi_instrs d field) (field_instrs d field)) ∙ length-append (words_of (vbi_instrs d field)) (words_of (field_instrs d field))
     in
     let all = ap length (words_split (opening field ∷ body d field) (closing field target) []) ∙ split_length (words_of (opening field ∷ body d field)) (encoded (closing field target)) [] in
-    let rows = length-map (range_with_len 0 (field_height d field)) (picture_row (both d) field) in
-    let count = length-range_with_len 0 (field_height d field) in
     omega arith
+
+-- all areas together
+
+abbrev areas : Desc → Bool → Fields → List Extent
+areas d planar which =
+    map (extent d) (range_with_len 1 (if planar then 3 else 1)) ++ map (vbi_area d) (fields_of which)
+
+areas_crossed : (d : Desc) (planar : Bool) (which : Fields) → some_overlap (areas d planar which) ≡ false → at_ends (ended (memory_of d)) (areas d planar which) ≤ at_begins (ended (memory_of d)) (areas d planar which) + length (memory_of d)
+areas_crossed d planar which apart =
+    crossed_once (memory_of d) (areas d planar which)
+    (forward_append (map (extent d) (range_with_len 1 (if planar then 3 else 1))) (map (vbi_area d) (fields_of which))
+    (forward_map (extent d) (range_with_len 1 (if planar then 3 else 1)) (λ plane. omega arith))
+    (forward_map (vbi_area d) (fields_of which) (λ field. omega arith)))
+    apart
+
+abbrev vbi_behind_all : Desc → Fields → ℕ
+vbi_behind_all d fields.Top = vbi_behind d Top
+vbi_behind_all d fields.Bottom = vbi_behind d Bottom
+vbi_behind_all d fields.Both = vbi_behind d Top + vbi_behind d Bottom
+
+abbrev vbi_before_all : Desc → Fields → ℕ
+vbi_before_all d fields.Top = vbi_before d Top
+vbi_before_all d fields.Bottom = vbi_before d Bottom
+vbi_before_all d fields.Both = vbi_before d Top + vbi_before d Bottom
+
+module _ (d : Desc) (right : IsRight d) (count : ℕ) (within : count ≤ d.height) where
+  held_crossed : (plane : ℕ) → 1 ≤ plane → plane ≤ 3 → behind d plane (range_with_len 0 count) + ended (memory_of d) (extent d plane).from ≤ before d plane (range_with_len 0 count) + ended (memory_of d) (extent d plane).to
+  held_crossed plane some few =
+      plane_crossed d plane (extent d plane).from (extent d plane).to count right some few (omega arith) (λ has. (refl, refl)) within
+
+  other_crossed : (plane : ℕ) → 1 ≤ plane → plane ≤ 3 → (plane ≤ planes_of (layout_of d) → ⊥) → behind d plane (range_with_len 0 count) ≤ before d plane (range_with_len 0 count)
+  other_crossed plane some few none =
+      let same = plane_crossed d plane 0 0 count right some few (omega arith) (λ has. absurd (none has)) within in omega arith
+
+  all_crossed : (planar : Bool) (which : Fields) → (layout_of d).planar ≡ planar → some_overlap (areas d planar which) ≡ false → all_behind d (range_with_len 0 count) + vbi_behind_all d which ≤ all_before d (range_with_len 0 count) + vbi_before_all d which + length (memory_of d)
+  all_crossed true fields.Top is apart =
+      let all = areas_crossed d true fields.Top apart in
+      let one = held_crossed 1 (omega arith) (omega arith) in
+      let two = held_crossed 2 (omega arith) (omega arith) in
+      let three = held_crossed 3 (omega arith) (omega arith) in
+      let top = vbi_crossed d Top in omega arith
+  all_crossed true fields.Bottom is apart =
+      let all = areas_crossed d true fields.Bottom apart in
+      let one = held_crossed 1 (omega arith) (omega arith) in
+      let two = held_crossed 2 (omega arith) (omega arith) in
+      let three = held_crossed 3 (omega arith) (omega arith) in
+      let bottom = vbi_crossed d Bottom in omega arith
+  all_crossed true fields.Both is apart =
+      let all = areas_crossed d true fields.Both apart in
+      let one = held_crossed 1 (omega arith) (omega arith) in
+      let two = held_crossed 2 (omega arith) (omega arith) in
+      let three = held_crossed 3 (omega arith) (omega arith) in
+      let top = vbi_crossed d Top in
+      let bottom = vbi_crossed d Bottom in omega arith
+  all_crossed false which is apart =
+      let one_plane : planes_of (layout_of d) ≡ 1 = ap (λ (planar : Bool). if planar then 3 else 1) is in
+      let one = held_crossed 1 (omega arith) (omega arith) in
+      let two = other_crossed 2 (omega arith) (omega arith) (λ has. absurd (omega arith)) in
+      let three = other_crossed 3 (omega arith) (omega arith) (λ has. absurd (omega arith)) in
+      packed which apart one two three
+    where
+      packed : (which : Fields) → some_overlap (areas d false which) ≡ false → behind d 1 (range_with_len 0 count) + ended (memory_of d) (extent d 1).from ≤ before d 1 (range_with_len 0 count) + ended (memory_of d) (extent d 1).to → behind d 2 (range_with_len 0 count) ≤ before d 2 (range_with_len 0 count) → behind d 3 (range_with_len 0 count) ≤ before d 3 (range_with_len 0 count) → all_behind d (range_with_len 0 count) + vbi_behind_all d which ≤ all_before d (range_with_len 0 count) + vbi_before_all d which + length (memory_of d)
+      packed fields.Top apart one two three =
+          let all = areas_crossed d false fields.Top apart in let top = vbi_crossed d Top in omega arith
+      packed fields.Bottom apart one two three =
+          let all = areas_crossed d false fields.Bottom apart in let bottom = vbi_crossed d Bottom in omega arith
+      packed fields.Both apart one two three =
+          let all = areas_crossed d false fields.Both apart in
+          let top = vbi_crossed d Top in
+          let bottom = vbi_crossed d Bottom in omega arith
 
 memory_short : (chunks : Option (List (ℕ × ℕ))) (pages : List ℕ) → length pages ≤ 4096 → IfSome chunks (λ cs. length cs ≤ 4096) → length (memory_from chunks pages) ≤ 4096
 memory_short None pages few many = let same = length-map pages page_at in omega arith
@@ -288,40 +408,67 @@ memory_short (Some pairs) pages few many = let same = length-map pairs pair_chun
 pub memory_few : (d : Desc) → IsDescription d → length (memory_of d) ≤ 4096
 memory_few d is = memory_short d.chunks d.pages is.formed.pages is.formed.chunks
 
-height_by : (described two : Bool) (h : ℕ) → h ≤ 1024 → (if described then (if two then h / 2 else h) else 0) ≤ 1024
-height_by true true h most = omega arith
-height_by true false h most = most
-height_by false two h most = omega arith
+-- the rows of the described fields
 
-half_height : (described two : Bool) (h : ℕ) → h ≤ 1024 → two ≡ true → (if described then (if two then h / 2 else h) else 0) ≤ 512
-half_height true true h most is = omega arith
-half_height true false h most is = cc
-half_height false two h most is = omega arith
+abbrev rows_by : Fields → ℕ → Parity → List ℕ
+rows_by which height field =
+    map (picture_row (is_both which) field) (range_with_len 0 (if describes which field then (if is_both which then height / 2 else height) else 0))
 
-one_few : (d : Desc) (field : Parity) (target : ℕ) → IsDescription d → IsRight d → describes d.fields field ≡ true → length (words_of (section d field target)) ≤ 1048576
-one_few d field target is right described =
-    let few = section_few d field target is right described in
+plain_rows : (field : Parity) (from count : ℕ) → map (picture_row false field) (range_with_len from count) ≡ range_with_len from count
+plain_rows field from zero = refl
+plain_rows field from (suc count) = ap (λ (rest : List ℕ). from ∷ rest) (plain_rows field (from + 1) count)
+
+program_few : (which : Fields) (d : Desc) (at back : ℕ) → d.fields ≡ which → IsDescription d → IsRight d → length (words_of (sections_by which d at back)) < 500000
+program_few fields.Top d at back same is right =
+    let few = section_few d Top back is right (ap (λ (w : Fields). describes w Top) same) in
+    let rows : rows_of d Top ≡ range_with_len 0 d.height = ap (λ (w : Fields). rows_by w d.height Top) same ∙ plain_rows Top 0 d.height in
+    let begun = ap (all_before d) rows in
+    let gone = ap (all_behind d) rows in
+    let count = ap length rows ∙ length-range_with_len 0 d.height in
+    let apart : some_overlap (areas d (layout_of d).planar fields.Top) ≡ false = subst (λ (w : Fields). some_overlap (areas d (layout_of d).planar w) ≡ false) same right.parts_apart in
+    let crossed = all_crossed d right d.height (omega arith) (layout_of d).planar fields.Top refl apart in
     let memory = memory_few d is in
-    let high : field_height d field ≤ 1024 = height_by (describes d.fields field) (both d) d.height right.height.1 in
+    let high = right.height.1 in
     omega arith
-
-half_few : (d : Desc) (field : Parity) (target : ℕ) → IsDescription d → IsRight d → describes d.fields field ≡ true → both d ≡ true → length (words_of (section d field target)) ≤ 524288
-half_few d field target is right described two =
-    let few = section_few d field target is right described in
+program_few fields.Bottom d at back same is right =
+    let few = section_few d Bottom back is right (ap (λ (w : Fields). describes w Bottom) same) in
+    let rows : rows_of d Bottom ≡ range_with_len 0 d.height = ap (λ (w : Fields). rows_by w d.height Bottom) same ∙ plain_rows Bottom 0 d.height in
+    let begun = ap (all_before d) rows in
+    let gone = ap (all_behind d) rows in
+    let count = ap length rows ∙ length-range_with_len 0 d.height in
+    let apart : some_overlap (areas d (layout_of d).planar fields.Bottom) ≡ false = subst (λ (w : Fields). some_overlap (areas d (layout_of d).planar w) ≡ false) same right.parts_apart in
+    let crossed = all_crossed d right d.height (omega arith) (layout_of d).planar fields.Bottom refl apart in
     let memory = memory_few d is in
-    let high : field_height d field ≤ 512 = half_height (describes d.fields field) (both d) d.height right.height.1 two in
+    let high = right.height.1 in
+    omega arith
+program_few fields.Both d at back same is right =
+    let mid = at + 4 * section_length d Top in
+    let half = d.height / 2 in
+    let even = map (λ n. 2 * n) (range_with_len 0 half) in
+    let odd = map (λ n. 2 * n + 1) (range_with_len 0 half) in
+    let top = section_few d Top mid is right (ap (λ (w : Fields). describes w Top) same) in
+    let bottom = section_few d Bottom back is right (ap (λ (w : Fields). describes w Bottom) same) in
+    let rows : rows_of d Top ≡ even = ap (λ (w : Fields). rows_by w d.height Top) same in
+    let rows' : rows_of d Bottom ≡ odd = ap (λ (w : Fields). rows_by w d.height Bottom) same in
+    let begun = ap (all_before d) rows in
+    let begun' = ap (all_before d) rows' in
+    let gone = ap (all_behind d) rows in
+    let gone' = ap (all_behind d) rows' in
+    let size = length-range_with_len 0 half in
+    let count = ap length rows ∙ length-map (range_with_len 0 half) (λ n. 2 * n) in
+    let count' = ap length rows' ∙ length-map (range_with_len 0 half) (λ n. 2 * n + 1) in
+    let apart : some_overlap (areas d (layout_of d).planar fields.Both) ≡ false = subst (λ (w : Fields). some_overlap (areas d (layout_of d).planar w) ≡ false) same right.parts_apart in
+    let crossed = all_crossed d right (2 * half) (omega arith) (layout_of d).planar fields.Both refl apart in
+    let before_1 = interleaved (memory_of d) 0 (row_offset d 1) 0 half 0 (2 * half) (omega arith) (omega arith) in
+    let before_2 = interleaved (memory_of d) 0 (row_offset d 2) 0 half 0 (2 * half) (omega arith) (omega arith) in
+    let before_3 = interleaved (memory_of d) 0 (row_offset d 3) 0 half 0 (2 * half) (omega arith) (omega arith) in
+    let behind_1 = interleaved (memory_of d) (row_size d 1) (row_offset d 1) 0 half 0 (2 * half) (omega arith) (omega arith) in
+    let behind_2 = interleaved (memory_of d) (row_size d 2) (row_offset d 2) 0 half 0 (2 * half) (omega arith) (omega arith) in
+    let behind_3 = interleaved (memory_of d) (row_size d 3) (row_offset d 3) 0 half 0 (2 * half) (omega arith) (omega arith) in
+    let all = ap length (flat_map-append encoded (section d Top mid) (section d Bottom back)) ∙ length-append (words_of (section d Top mid)) (words_of (section d Bottom back)) in
+    let memory = memory_few d is in
+    let high = right.height.1 in
     omega arith
 
-program_few : (which : Fields) (d : Desc) (from last : ℕ) → d.fields ≡ which → IsDescription d → IsRight d → length (words_of (sections_by which d from last)) ≤ 1048576
-program_few fields.Top d from last same is right = one_few d Top last is right (ap (λ (w : Fields). describes w Top) same)
-program_few fields.Bottom d from last same is right = one_few d Bottom last is right (ap (λ (w : Fields). describes w Bottom) same)
-program_few fields.Both d from last same is right =
-    let mid = from + 4 * section_length d Top in
-    let two : both d ≡ true = ap is_both same in
-    let top = half_few d Top mid is right (ap (λ (w : Fields). describes w Top) same) two in
-    let bottom = half_few d Bottom last is right (ap (λ (w : Fields). describes w Bottom) same) two in
-    let all = ap length (flat_map-append encoded (section d Top mid) (section d Bottom last)) ∙ length-append (words_of (section d Top mid)) (words_of (section d Bottom last)) in
-    omega arith
-
-pub compiled_few : (d : Desc) → IsDescription d → IsRight d → length (compiled d).words ≤ 1048576
-compiled_few d is right = program_few d.fields d d.base d.base refl is right
+pub sections_few : (d : Desc) (at back : ℕ) → IsDescription d → IsRight d → length (sections_words d at back) < 500000
+sections_few d at back is right = program_few d.fields d at back refl is right

@@ -22,7 +22,7 @@ use Rattle.picture_model.specs.Geometry.{IsValid}
 use Rattle.picture_model.specs.Programs.{body, closing, compiled, opening, section, section_length, sections_by, words_of}
 use Rattle.picture_model.proofs.Each.{Each, each_All, each_append, each_flat_map, each_only}
 use Rattle.picture_model.proofs.Fine.{AreWords, IsGoodInstr}
-use Rattle.picture_model.proofs.Limit.{compiled_few, memory_few}
+use Rattle.picture_model.proofs.Limit.{memory_few, sections_few}
 use Rattle.picture_model.proofs.Places.{any-in_order}
 use Rattle.picture_model.proofs.Right.{IsFrame-IsRight, IsRight, IsValid-HasRoom, IsValid-IsFrame}
 use Rattle.picture_model.proofs.Sections.{closing_words, good_body, section_long}
@@ -118,7 +118,7 @@ compiled_program d is valid =
     let room = IsValid-HasRoom d valid in
     record {
       aligned = room.base;
-      few = compiled_few d is right;
+      few = let few = sections_few d d.base d.base is right in omega arith;
       ends = room.ends;
       fit = each_All (λ word. word < 2 ^ 32) (compiled d).words (words_by d (compiled d) d.fields d.base (good_body d right (compiled d) refl) room.ends);
       grants = memory_grants d is right;

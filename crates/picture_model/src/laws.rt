@@ -81,9 +81,11 @@ pub fn sections_stand_in_their_program()
         Stands (words_of (sections d from last)) from (encoded (closing field (section_next d from last field))) (closing_begin d from field) }
 {}
 
-/// The sections have as many words wherever they stand, and wherever the last leads back.
+/// The sections have as many words wherever they stand and wherever the last leads back: fewer than
+/// 500,000 where the frame is right.
 pub fn sections_are_as_long_anywhere()
-    ensures { (d : Desc) (at back other last : ℕ) → length (sections_words d at back) ≡ length (sections_words d other last) }
+    ensures few { (d : Desc) (at back : ℕ) → IsDescription d → IsFrame d → length (sections_words d at back) < 500000 }
+    ensures same { (d : Desc) (at back other last : ℕ) → length (sections_words d at back) ≡ length (sections_words d other last) }
 {}
 
 /// The program of a description is sound: its path has no fault.
@@ -91,9 +93,9 @@ pub fn compiled_programs_are_sound()
     ensures { (d : Desc) → IsDescription d → IsFrame d → IsSound (compiled d) }
 {}
 
-/// The program of a description has no more words than a program may have, and where the description
-/// has no fault at all, it is a program.
+/// The program of a description whose frame is right has fewer than 500,000 words, and where the
+/// description has no fault at all, it is a program.
 pub fn compiled_programs_can_be_made()
-    ensures words { (d : Desc) → IsDescription d → IsFrame d → length (compiled d).words ≤ 1048576 }
+    ensures words { (d : Desc) → IsDescription d → IsFrame d → length (compiled d).words < 500000 }
     ensures program { (d : Desc) → IsDescription d → IsValid d → IsProgram (compiled d) }
 {}
