@@ -1,5 +1,5 @@
 -- What a turn does has nothing to do with the count of turns.
-use Rattle.std.proofs.Common.{◌≡◌, ℕ, zero, suc, ◌+◌, ◌-◌, ◌<◌, ◌≤◌, ◌^◌, Bool, true, false, List, Option, Some, None, Ok, Err, option_map, replicate, refl, sym, ap, ◌∙◌, arith, min, if◌then◌else◌, ◌==◌}
+use Rattle.std.proofs.Common.{◌≡◌, ℕ, zero, suc, ◌-◌, ◌≤◌, ◌^◌, Bool, true, false, Option, Some, None, Ok, Err, option_map, replicate, refl, sym, ap, ◌∙◌, arith, if◌then◌else◌, ◌==◌}
 use Rattle.risc_word.specs.declared.Code.{Code}
 use Rattle.risc_word.specs.declared.Ctl.{Ctl}
 use Rattle.risc_word.specs.declared.Instr.{Instr}
@@ -19,7 +19,7 @@ use Rattle.machine_model.specs.declared.Skipping.TheVariants.{Nothing, ToEol, To
 use Rattle.machine_model.specs.Paths.{data_cause, fetch, is_word, target_before}
 use Rattle.machine_model.specs.States.{State}
 use Rattle.machine_model.specs.Steps.{Turn, run}
-use Rattle.machine_model.specs.Turns.{apply, apply_in, begun_with, burst, burst_of, code_seen, common_code, data_fetched, demand_on, dropped, ended, fetched, instr_fetched, is_cut_short, is_done, judged, jumped, lowest_served, lowest_stray, met, ran, served, stray_seen, taking, took, turn, turn_if, verdict_at, with_fdsr_unless, with_queue, without_codes, worked}
+use Rattle.machine_model.specs.Turns.{apply, apply_in, begun_with, burst, burst_of, code_seen, common_code, data_fetched, demand_on, ended, fetched, instr_fetched, is_cut_short, is_done, judged, jumped, lowest_served, lowest_stray, met, ran, served, stray_seen, took, turn, turn_if, verdict_at, with_fdsr_unless, with_queue, without_codes, worked}
 use Rattle.dma_machine.specs.Counts.{acted, with_turns}
 
 module _ (t : ℕ) where
@@ -129,6 +129,12 @@ acted-turns t m = turn_if-turns t m.risc_on m
 -- a turn counts one, and what it does is done whatever the count
 pub turn-acted : (m : State) → turn m ≡ with_turns (more m.turns 1) (acted m)
 turn-acted m = acted-turns (more m.turns 1) m
+
+-- so it may be counted after it is taken
+pub acted-counted : (m : State) → with_turns (more (acted m).turns 1) (acted m) ≡ turn m
+acted-counted m =
+    let same : (acted m).turns ≡ m.turns = ap (λ after. after.turns) (acted-turns m.turns m) in
+    ap (λ turns. with_turns (more turns 1) (acted m)) same ∙ sym (turn-acted m)
 
 -- so many turns count as many
 pub run-turns : (count : ℕ) (m : State) → m.turns ≤ 2 ^ 64 - 1 → (run m (replicate count Turn)).turns ≡ more m.turns count

@@ -7,3 +7,7 @@ pub mod Plains
 pub mod Standing
 pub mod Stills
 pub mod Turns
+pub mod Spelled
+pub mod Noting
+pub mod Retiring
+pub mod StillSeen

@@ -1,5 +1,5 @@
 -- Every step leaves a machine, and a machine can take its turn.
-use Rattle.std.proofs.Common.{◌≡◌, ℕ, true, Ok, Err, refl, sym, ap, subst, ◌∙◌}
+use Rattle.std.proofs.Common.{◌≡◌, ℕ, ◌<◌, ◌^◌, true, Ok, Err, refl, sym, ap, subst, ◌∙◌, arith}
 use Rattle.risc_word.specs.declared.Instr.{Instr}
 use Rattle.risc_word.specs.declared.Instr.TheVariants.{Jump, Sync}
 use Rattle.risc_word.specs.Words.{Reading}
@@ -7,16 +7,17 @@ use Rattle.machine_model.specs.declared.Job.{Job}
 use Rattle.machine_model.specs.declared.Job.TheVariants.{Idle, Waiting, Running}
 use Rattle.machine_model.specs.declared.Skipping.{Skipping}
 use Rattle.machine_model.specs.declared.Skipping.TheVariants.{Nothing, ToEol, ToSync}
-use Rattle.machine_model.specs.Paths.{IsProgram, IsSound, fetch, is_data, demands_cause}
+use Rattle.machine_model.specs.Paths.{RiscProgram, IsProgram, IsSound, fetch, is_data, demands_cause}
 use Rattle.machine_model.specs.States.{State}
-use Rattle.machine_model.specs.Steps.{Step, Turn, step}
+use Rattle.machine_model.specs.Steps.{Step, Turn, step, with_program}
 use Rattle.machine_model.specs.Turns.{turn}
 use Rattle.machine_model.specs.Safety.{IsStep}
 use Rattle.machine_model.proofs.Fixed.{program-step}
 use Rattle.machine_model.proofs.Safe.{IsSafe-step}
-use Rattle.machine_model.proofs.Rows.{idle-data, running-RunsAt, target-Reaches}
+use Rattle.machine_model.proofs.Rows.{IsWord-ends, pc-IsWord, idle-data, running-RunsAt, target-Reaches}
 use Rattle.dma_machine.specs.Counts.{acted, with_turns}
 use Rattle.dma_machine.specs.Facts.{IsMachine}
+use Rattle.dma_machine.specs.Looks.{CanGoOn}
 use Rattle.dma_machine.specs.Needs.{CanBegin, CanExecute, CanFetch, CanWork}
 use Rattle.dma_machine.proofs.Counting.{acted-turns, turn-acted}
 
@@ -48,6 +49,16 @@ pub IsMachine-acted : (m after : State) → after ≡ acted m → IsMachine m �
 IsMachine-acted m after made h =
     let same : with_turns m.turns (turn m) ≡ acted m = ap (with_turns m.turns) (turn-acted m) ∙ sym (acted-turns m.turns m) in
     subst IsMachine (same ∙ sym made) (IsMachine-turns m.turns (turn m) (IsMachine-step Turn m (turn m) refl tt h))
+
+-- pc is the address of a word
+pub IsMachine-pc : (m : State) → IsMachine m → m.pc < 2 ^ 32
+IsMachine-pc m h =
+    let ends = IsWord-ends m.program m.pc h.made (pc-IsWord m h.sound h.safe) in
+    omega arith
+
+-- with another program that can be made and is sound
+pub IsMachine-program : (program : RiscProgram) (m : State) → IsProgram program → IsSound program → CanGoOn program m → IsMachine (with_program program m)
+IsMachine-program program m made sound h = record { made = made; sound = sound; safe = h.safe }
 
 module _ (m : State) (h : IsMachine m) where
   can_begin : (skipping : Skipping) (instr : Instr) (count : ℕ) → m.job ≡ Idle → m.skipping ≡ skipping → fetch m.program m.pc ≡ Ok (instr, count) →

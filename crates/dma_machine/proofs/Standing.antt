@@ -7,7 +7,9 @@ use Rattle.fifo_model.specs.declared.Queue.TheVariants.{One, Two, Three}
 use Rattle.risc_word.specs.declared.Code.{Code}
 use Rattle.machine_model.specs.declared.Job.{Job}
 use Rattle.machine_model.specs.declared.Job.TheVariants.{Idle, Waiting, Running}
+use Rattle.machine_model.specs.Paths.{RiscProgram}
 use Rattle.machine_model.specs.States.{State}
+use Rattle.machine_model.specs.Steps.{with_program}
 use Rattle.machine_model.specs.Turns.{burst_of, code_seen, common_code, is_done, lowest_stray, ran, stray_seen, turn_if, worked}
 use Rattle.dma_machine.specs.Counts.{acted, with_turns}
 use Rattle.dma_machine.specs.Stills.{StillIf, is_still, none_served, works_still}
@@ -63,3 +65,13 @@ is_still-turns t m = ap (λ still. if m.risc_on then still else true) (works_sti
 pub StillIf-turns : (t : ℕ) (flag : Bool) (m : State) → StillIf flag m → StillIf flag (with_turns t m)
 StillIf-turns t true m e = is_still-turns t m ∙ e
 StillIf-turns t false m e = tt
+
+works_still-program : (program : RiscProgram) (job : Job) (m : State) → works_still job (with_program program m) ≡ works_still job m
+works_still-program program Idle m = refl
+works_still-program program (Waiting ctl resync code) m = refl
+works_still-program program (Running instr ds) m = refl
+
+-- and so does another program
+pub StillIf-program : (program : RiscProgram) (flag : Bool) (m : State) → StillIf flag m → StillIf flag (with_program program m)
+StillIf-program program true m e = ap (λ still. if m.risc_on then still else true) (works_still-program program m.job m) ∙ e
+StillIf-program program false m e = tt

@@ -1,5 +1,5 @@
 -- The turns of a record: all are counted first, and then each is taken.
-use Rattle.std.proofs.Common.{◌≡◌, ℕ, zero, suc, ◌+◌, ◌-◌, ◌<◌, ◌≤◌, ◌^◌, replicate, refl, sym, ap, ◌∙◌, arith, add-one}
+use Rattle.std.proofs.Common.{◌≡◌, ℕ, ◌+◌, ◌-◌, ◌≤◌, ◌^◌, replicate, sym, ap, ◌∙◌, add-one}
 use Rattle.fifo_model.specs.Queues.{more}
 use Rattle.machine_model.specs.States.{State}
 use Rattle.machine_model.specs.Steps.{Turn, run}

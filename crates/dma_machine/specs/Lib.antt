@@ -4,3 +4,5 @@ pub mod Plain
 pub mod Stills
 pub mod Views
 pub mod Counts
+pub mod Noted
+pub mod Looks

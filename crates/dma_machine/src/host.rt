@@ -12,13 +12,14 @@ use risc_word::{Code, Ctl, Instr};
 
 impl<R: Ram> Engine<R> {
     ghost use Rattle.dma_machine.specs.Facts.{IsMachine, report_of};
+    ghost use Rattle.dma_machine.specs.Looks.{holds, next_fetch};
     ghost use Rattle.dma_machine.specs.Views.{state_of};
     ghost use Rattle.fifo_model.specs.Queues.{empty_queues};
     ghost use Rattle.irq_status.specs.Writes.{IsWrite};
     ghost use Rattle.machine_model.specs.States.{started};
     ghost use Rattle.page_table.specs.Blocks.{chunks_of};
     ghost use Rattle.machine_model.specs.Steps.{control_pushed_as, host, push, push_control, pushed_as, restarted, with_fifo, with_risc};
-    ghost use Rattle.std.specs.Prelude.{◌≡◌, false};
+    ghost use Rattle.std.specs.Prelude.{◌≡◌, ◌<◌, ◌^◌, false};
     ghost use Rattle.sync_status.specs.Statuses.{is_control, kind_of};
 
     /// A data push.
@@ -116,6 +117,24 @@ impl<R: Ram> Engine<R> {
     {
         self.write(w);
         self.still = false;
+    }
+
+    /// Where the next turn fetches, if it does.
+    pub fn next_fetch(&self) -> Option<u32>
+        requires { self.now.pc < 2 ^ 32 }
+        ensures { result ≡ next_fetch (state_of R.memory self.now) }
+    {
+        match self.phase {
+            Phase::Idle if self.risc_on => Some(self.pc as u32),
+            _ => None,
+        }
+    }
+
+    /// Whether a queue holds an entry.
+    pub fn holds(&self, q: Queue) -> bool
+        ensures { result ≡ holds q (state_of R.memory self.now) }
+    {
+        self.queues.front(q).is_some()
     }
 
     /// The counts and INT_STAT.

@@ -4,13 +4,15 @@
 
 ghost use Rattle.dma_machine.specs.Counts.{acted, with_turns};
 ghost use Rattle.dma_machine.specs.Facts.{IsMachine, report_of};
+ghost use Rattle.dma_machine.specs.Looks.{CanGoOn, RetiresAt, holds, next_fetch};
 ghost use Rattle.fifo_model.specs.Queues.{empty_queues, more};
 ghost use Rattle.irq_status.specs.Register.{has_ocerr};
 ghost use Rattle.irq_status.specs.Writes.{IsWrite};
 ghost use Rattle.machine_model.specs.Safety.{StaysInside};
+ghost use Rattle.machine_model.specs.Seen.{seen};
 ghost use Rattle.machine_model.specs.States.{started};
-ghost use Rattle.machine_model.specs.Steps.{Turn, control_pushed_as, host, push, push_control, pushed_as, run};
-ghost use Rattle.machine_model.specs.Turns.{turn};
+ghost use Rattle.machine_model.specs.Steps.{Turn, control_pushed_as, host, push, push_control, pushed_as, run, with_program};
+ghost use Rattle.machine_model.specs.Turns.{counted, turn};
 ghost use Rattle.page_table.specs.Blocks.{chunks_of};
 ghost use Rattle.std.specs.Prelude.{◌≡◌, ◌<◌, ◌^◌, false, replicate};
 ghost use Rattle.sync_status.specs.Statuses.{is_control, kind_of};
@@ -21,16 +23,19 @@ mod host;
 mod parts;
 mod program;
 mod running;
+mod seeing;
 mod stores;
 mod turning;
 
 use engine::Engine;
 use fifo_model::{Entry, Fifo, Pushed, Queue};
 use irq_status::HostWrite;
+pub use machine_model::{Did, Seen};
 use page_ram::Ram;
 use risc_verify::{Accepted, Program};
 use risc_word::Code;
 use std::marker::Model;
+use std::mem::swap;
 
 /// What a machine reports: its counts, each up to 2^64 - 1, and its interrupt status.
 #[derive(Clone, Copy, Debug, PartialEq, Eq)]
@@ -141,6 +146,62 @@ impl<R: Ram> Machine<R> {
         for _turn in 0..count {
             self.act();
         }
+    }
+
+    /// One turn of the controller, and what it did. It is the same turn as `turn` takes.
+    pub fn turn_seen(&mut self) -> Seen
+        ensures state { self.new ≡ turn self.old }
+        ensures seen { result ≡ seen self.old }
+        ensures still { result.did ≡ Did.Still → self.new ≡ counted self.old }
+        ensures retired { result.did ≡ Did.Retired → RetiresAt self.old result.at }
+        ensures facts { IsMachine self.new }
+        ensures inside { StaysInside self.old }
+        ensures no_error { has_ocerr self.new.interrupts ≡ false }
+    {
+        let seen = self.act_seen();
+        self.count(1);
+        seen
+    }
+
+    /// Takes a turn without counting it, and tells what it did.
+    fn act_seen(&mut self) -> Seen
+        ensures state { self.new ≡ acted self.old }
+        ensures seen { result ≡ seen self.old }
+        ensures before { IsMachine self.old }
+        ensures facts { IsMachine self.new }
+    {
+        self.engine.act_seen()
+    }
+
+    /// Exchanges the machine's program for another one with which it can go on: one that begins at the same address, has
+    /// as many words and the same grants, and on whose path the machine stands (this project's own rule). Nothing else
+    /// changes.
+    pub fn swap(&mut self, other: &mut Accepted)
+        requires { CanGoOn other.old self.old }
+        ensures state { self.new ≡ with_program other.old self.old }
+        ensures other { other.new ≡ self.old.program }
+        ensures facts { IsMachine self.new }
+    {
+        // the call tells what each program keeps
+        let _base = other.program().base();
+        swap(&mut self.engine.accepted, other);
+    }
+
+    /// The address at which the next turn fetches an instruction. None exactly where RISC is disabled or the machine
+    /// waits in a SYNC or runs a data instruction.
+    pub fn next_fetch(&self) -> Option<u32>
+        ensures address { result ≡ next_fetch self.now }
+        ensures facts { IsMachine self.now }
+    {
+        self.engine.next_fetch()
+    }
+
+    /// Whether a queue holds an entry, which a host write that disables the FIFO would lose.
+    pub fn holds(&self, q: Queue) -> bool
+        ensures held { result ≡ holds q self.now }
+        ensures facts { IsMachine self.now }
+    {
+        self.engine.holds(q)
     }
 
     /// A register write of the host.

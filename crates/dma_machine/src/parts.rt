@@ -4,7 +4,8 @@ ghost use Rattle.dma_machine.specs.Needs.{IsAddress};
 ghost use Rattle.machine_model.specs.Paths.{demand, demands_of, first_demand, instr_ctl, instr_ends, instr_off, no_demand, target_after, target_before, target_moved, three_demands};
 ghost use Rattle.machine_model.specs.Turns.{demand_less, demand_on, is_cut_short, is_done, rest_of_line, skipping_after, with_demand};
 ghost use Rattle.dma_machine.specs.Plain.{is_plain};
-ghost use Rattle.std.specs.Prelude.{◌≡◌, ◌+◌, ◌≤◌};
+ghost use Rattle.risc_word.specs.Words.{encoded};
+ghost use Rattle.std.specs.Prelude.{◌≡◌, ◌+◌, ◌≤◌, length};
 ghost use Rattle.sync_status.specs.Statuses.{kind_of};
 
 use fifo_model::{Entry, Queue};
@@ -59,6 +60,28 @@ pub fn off_of(instr: &Instr) -> u8
         | Instr::Write123 { off, .. }
         | Instr::Write1S23 { off, .. } => off,
         Instr::Skip { .. } | Instr::Jump { .. } | Instr::Sync { .. } | Instr::Skip123 { .. } => 0,
+    }
+}
+
+/// The length in words of a planar instruction: its first word has one count, the next two, and its addresses follow.
+fn planar_length(counts: &[u16; 3], addrs: &[u32]) -> u8
+    requires { length addrs.now ≤ 3 }
+    ensures three { length counts.now ≡ 3 }
+    ensures words { result ≡ length addrs.now + 2 }
+{
+    1 + (counts.len() / 2) as u8 + addrs.len() as u8
+}
+
+/// The length of its one spelling in words.
+pub fn length_in_words(instr: &Instr) -> u8
+    ensures { result ≡ length (encoded instr.now) }
+{
+    match instr {
+        Instr::Skip { .. } | Instr::WriteC { .. } => 1,
+        Instr::Write { .. } | Instr::Jump { .. } | Instr::Sync { .. } => 2,
+        Instr::Skip123 { counts, .. } => planar_length(counts, &[]),
+        Instr::Write1S23 { counts, addr, .. } => planar_length(counts, &[*addr]),
+        Instr::Write123 { counts, addrs, .. } => planar_length(counts, addrs),
     }
 }
 

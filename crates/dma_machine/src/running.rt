@@ -145,7 +145,7 @@ impl<R: Ram> Engine<R> {
     }
 
     #[inline(always)]
-    fn apply(&mut self, q: Queue) -> bool
+    pub fn apply(&mut self, q: Queue) -> bool
         requires { demands_cause (chunks_of (R.memory self.old.ram)) self.old.demands ≡ None }
         ensures applied { Applied (apply q (state_of R.memory self.old)) result (state_of R.memory self.new) (state_of R.memory self.old) }
         ensures within { demands_cause (chunks_of (R.memory self.new.ram)) self.new.demands ≡ None }
@@ -192,7 +192,7 @@ impl<R: Ram> Engine<R> {
 
     /// The lowest queue that is served.
     #[inline(always)]
-    fn lowest_served(&self) -> Option<Queue>
+    pub fn lowest_served(&self) -> Option<Queue>
         ensures queue { result ≡ lowest_served self.now.demands (state_of R.memory self.now) }
         ensures none { result ≡ None → none_served self.now.demands (state_of R.memory self.now) ≡ true }
     {

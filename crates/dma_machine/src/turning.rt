@@ -53,7 +53,7 @@ impl<R: Ram> Engine<R> {
     }
 
     #[inline]
-    fn is_still(&self) -> bool
+    pub fn is_still(&self) -> bool
         ensures { result ≡ is_still (state_of R.memory self.now) }
     {
         if !self.risc_on {

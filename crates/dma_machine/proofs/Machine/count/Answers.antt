@@ -1,7 +1,5 @@
-use Rattle.std.proofs.Common.{◌≡◌, ap, sym, subst, ◌∙◌}
-use Rattle.dma_machine.specs.Counts.{with_turns}
+use Rattle.std.proofs.Common.{sym, subst}
 use Rattle.dma_machine.specs.Facts.{IsMachine}
-use Rattle.dma_machine.specs.Stills.{StillIf}
 use Rattle.dma_machine.proofs.Machines.{IsMachine-turns}
 use Rattle.dma_machine.proofs.Standing.{StillIf-turns}
 use Rattle.dma_machine.proofs.Machine.count.Goals as goal

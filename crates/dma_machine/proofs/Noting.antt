@@ -1,0 +1,78 @@
+-- What is noted of a burst, application by application, is what is seen of it.
+use Rattle.std.proofs.Common.{◌≡◌, ℕ, zero, suc, ◌-◌, ◌<◌, ◌++◌, Bool, true, false, List, [], ◌∷◌, Option, Some, None, refl, sym, ap, ◌∙◌, arith, if◌then◌else◌}
+use Rattle.std.specs.Prelude.{◌||◌}
+use Rattle.std.specs.List.{list_any}
+use Rattle.fifo_model.specs.declared.Queue.{Queue}
+use Rattle.machine_model.specs.declared.Did.{Did}
+use Rattle.machine_model.specs.declared.Did.TheVariants.{GivenUp, Moved}
+use Rattle.machine_model.specs.declared.Seen.{Seen}
+use Rattle.machine_model.specs.Seen.{Application, application, applications, discards_reserved, ends, gives_up, seen_alone, seen_burst, takes}
+use Rattle.machine_model.specs.States.{State}
+use Rattle.machine_model.specs.Turns.{apply}
+use Rattle.dma_machine.specs.Needs.{Applied}
+use Rattle.dma_machine.specs.Noted.{all_noted, noted}
+
+all_noted-append : (q : Queue) (first rest : List Application) (seen : Seen) → all_noted q (first ++ rest) seen ≡ all_noted q rest (all_noted q first seen)
+all_noted-append q [] rest seen = refl
+all_noted-append q (a ∷ first) rest seen = all_noted-append q first rest (noted q a seen)
+
+continued : (wanted : Option State) (left : ℕ) (q : Queue) (made : Bool) (after before : State) (seen : Seen) → Applied wanted made after before →
+    all_noted q (elim wanted as (λ _. List Application) [ None ↦ [] | Some next ↦ applications left q next ]) seen
+    ≡ (if made then all_noted q (applications left q after) seen else seen)
+continued None left q true after before seen h = let e = h.0 in cc
+continued None left q false after before seen h = refl
+continued (Some next) left q true after before seen h = ap (λ m. all_noted q (applications left q m) seen) (sym h.1)
+continued (Some next) left q false after before seen h = let e = h.0 in cc
+
+-- what is left to note of a burst after an application, or after none
+pub noted-applied : (left : ℕ) (q : Queue) (made : Bool) (after before : State) (seen : Seen) → 0 < left → Applied (apply q before) made after before →
+    all_noted q (applications left q before) seen
+    ≡ (if made then all_noted q (applications (left - 1) q after) (all_noted q (application q before) seen) else all_noted q (application q before) seen)
+noted-applied zero q made after before seen some h = absurd (omega arith)
+noted-applied (suc left) q made after before seen some h =
+    let one_less : suc left - 1 ≡ left = omega arith in
+    all_noted-append q (application q before) _ seen
+    ∙ continued (apply q before) left q made after before (all_noted q (application q before) seen) h
+    ∙ ap (λ n. if made then all_noted q (applications n q after) (all_noted q (application q before) seen) else all_noted q (application q before) seen)
+    (sym one_less)
+
+or_false : (one : Bool) → (one || false) ≡ one
+or_false true = refl
+or_false false = refl
+
+or_assoc : (one two three : Bool) → ((one || two) || three) ≡ (one || (two || three))
+or_assoc true two three = refl
+or_assoc false two three = refl
+
+either : (one other : Bool) (given otherwise : Did) → (if other then given else (if one then given else otherwise)) ≡ (if one || other then given else otherwise)
+either true true given otherwise = refl
+either true false given otherwise = refl
+either false other given otherwise = refl
+
+abbrev seen_as : Did → ℕ → Bool → Bool → Bool → Seen
+seen_as did at took ended reserved = record { did = did; at = at; took = took; ended = ended; reserved = reserved }
+
+same_seen : (did did_too : Did) (at : ℕ) (took took_too ended ended_too reserved reserved_too : Bool) →
+    did ≡ did_too → took ≡ took_too → ended ≡ ended_too → reserved ≡ reserved_too →
+    seen_as did at took ended reserved ≡ seen_as did_too at took_too ended_too reserved_too
+same_seen did did_too at took took_too ended ended_too reserved reserved_too d t e r = cc (d, t, e, r)
+
+-- what was seen before, with all that is noted of some applications
+abbrev with_all : Queue → List Application → Seen → Seen
+with_all q made seen =
+    seen_as (if list_any gives_up made then GivenUp q else seen.did) seen.at (seen.took || list_any takes made)
+    (seen.ended || list_any ends made) (seen.reserved || list_any discards_reserved made)
+
+all_noted-with_all : (q : Queue) (made : List Application) (seen : Seen) → all_noted q made seen ≡ with_all q made seen
+all_noted-with_all q [] seen =
+    same_seen _ _ seen.at _ _ _ _ _ _ refl (sym (or_false seen.took)) (sym (or_false seen.ended)) (sym (or_false seen.reserved))
+all_noted-with_all q (a ∷ made) seen =
+    all_noted-with_all q made (noted q a seen)
+    ∙ same_seen _ _ seen.at _ _ _ _ _ _
+    (either (gives_up a) (list_any gives_up made) (GivenUp q) seen.did)
+    (or_assoc seen.took (takes a) (list_any takes made))
+    (or_assoc seen.ended (ends a) (list_any ends made))
+    (or_assoc seen.reserved (discards_reserved a) (list_any discards_reserved made))
+
+pub all_noted-seen_burst : (q : Queue) (at : ℕ) (made : List Application) → all_noted q made (seen_alone (Moved q) at) ≡ seen_burst q at made
+all_noted-seen_burst q at made = all_noted-with_all q made (seen_alone (Moved q) at)

@@ -1,0 +1,41 @@
+-- What is asked of a machine without a turn, and what a turn leaves to say of an instruction.
+use Rattle.std.specs.Prelude.{◌≡◌, ℕ, Bool, true, Option, Some, None, is_some, length}
+use Rattle.fifo_model.specs.declared.Queue.{Queue}
+use Rattle.fifo_model.specs.Queues.{front, queue_state}
+use Rattle.risc_word.specs.declared.Instr.{Instr}
+use Rattle.machine_model.specs.declared.Demands.{Demands}
+use Rattle.machine_model.specs.declared.Job.{Job}
+use Rattle.machine_model.specs.declared.Job.TheVariants.{Idle, Running}
+use Rattle.machine_model.specs.Paths.{RiscProgram}
+use Rattle.machine_model.specs.Safety.{IsSafe}
+use Rattle.machine_model.specs.Seen.{StandsAt}
+use Rattle.machine_model.specs.States.{State}
+use Rattle.machine_model.specs.Steps.{with_program}
+use Rattle.machine_model.specs.Turns.{is_done}
+
+-- where the next turn fetches: with RISC enabled an idle machine fetches at pc
+abbrev pub fetches_at : Bool → Job → ℕ → Option ℕ
+fetches_at true Idle pc = Some pc
+fetches_at _ _ pc = None
+
+abbrev pub next_fetch : State → Option ℕ
+next_fetch m = fetches_at m.risc_on m.job m.pc
+
+-- whether a queue holds an entry
+abbrev pub holds : Queue → State → Bool
+holds q m = is_some (front (queue_state q m.queues))
+
+-- a program with which the machine can go on from this state in place of its own
+pub record CanGoOn (program : RiscProgram) (m : State) : Type 0 where
+  pub base : program.base ≡ m.program.base
+  pub words : length program.words ≡ length m.program.words
+  pub grants : program.grants ≡ m.program.grants
+  pub safe : IsSafe (with_program program m)
+
+-- the instruction that this state retires stands at this address of the program, and pc is the address after it
+pub record RetiresAt (m : State) (at : ℕ) : Type 0 where
+  pub instr : Instr
+  pub demands : Demands
+  pub runs : m.job ≡ Running instr demands
+  pub done : is_done demands ≡ true
+  pub there : StandsAt m instr at

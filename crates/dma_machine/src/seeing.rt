@@ -1,0 +1,229 @@
+//! Turns that tell what they did: each looks at what comes, and then lets the code of turns do it.
+
+ghost use Rattle.dma_machine.specs.Noted.{noted};
+ghost use Rattle.machine_model.specs.Seen.{instr_did, seen_alone};
+ghost use Rattle.std.specs.Prelude.{◌≡◌, ◌+◌, ◌<◌, ◌≤◌, ◌⊎◌, ◌&&◌, ◌==◌};
+ghost use Rattle.sync_status.specs.Statuses.{is_end, kind_of, valid_bytes};
+
+use crate::engine::{Engine, Phase};
+use crate::parts::{demand_on, is_cut_short, is_done, length_in_words};
+use crate::program::instr_at;
+use fifo_model::{Entry, Queue};
+use machine_model::{Demand, Did, Seen, Skipping};
+use page_ram::Ram;
+use risc_word::Instr;
+use sync_status::{StatusKind, Verdict, judge, kind};
+
+/// What fetching an instruction does.
+fn instr_did(instr: &Instr, skipping: Skipping) -> Did
+    ensures { result ≡ instr_did instr.now skipping }
+{
+    match instr {
+        Instr::Jump { .. } => Did::Jumped,
+        Instr::Sync { .. } => Did::Synced,
+        Instr::Write { .. }
+        | Instr::Skip { .. }
+        | Instr::WriteC { .. }
+        | Instr::Write123 { .. }
+        | Instr::Skip123 { .. }
+        | Instr::Write1S23 { .. } => match skipping {
+            Skipping::Nothing => Did::Begun,
+            Skipping::ToEol | Skipping::ToSync => Did::Passed,
+        },
+    }
+}
+
+/// What is seen of a turn that applies nothing to a queue.
+fn seen_alone(did: Did, at: u32) -> Seen
+    ensures { result ≡ seen_alone did at }
+{
+    Seen {
+        did,
+        at,
+        took: false,
+        ended: false,
+        reserved: false,
+    }
+}
+
+/// Whether a line's last entry goes with the bytes that are taken of it.
+fn ends_line(entry: Entry, taken: u8, count: u8) -> bool
+    requires { taken + count ≤ 4 }
+    ensures { result ≡ (is_end (kind_of entry.status) && taken + count == valid_bytes entry.status) }
+{
+    match kind(entry.status) {
+        StatusKind::End(valid) => taken + count == valid,
+        _ => false,
+    }
+}
+
+/// What is seen, with an application to an entry of which `taken` bytes were taken before.
+fn with_application(seen: Seen, q: Queue, entry: Entry, taken: u8, demand: Demand) -> Seen
+    requires asked { 1 ≤ demand.rest }
+    requires within { (taken ≡ 0) ⊎ (taken < valid_bytes entry.status) }
+    ensures { result ≡ noted q (record { entry = entry; taken = taken; demand = demand }) seen }
+{
+    match judge(entry.status, demand.needs_sol, taken, demand.rest) {
+        Verdict::Take(count) => Seen {
+            did: if is_cut_short(entry, taken, count, demand.rest) {
+                Did::GivenUp(q)
+            } else {
+                seen.did
+            },
+            took: true,
+            ended: seen.ended || ends_line(entry, taken, count),
+            ..seen
+        },
+        Verdict::Discard => Seen {
+            reserved: seen.reserved || !demand.needs_sol,
+            ..seen
+        },
+        Verdict::Broken | Verdict::Missing => Seen {
+            did: Did::GivenUp(q),
+            ..seen
+        },
+    }
+}
+
+impl<R: Ram> Engine<R> {
+    ghost use Rattle.dma_machine.specs.Counts.{acted};
+    ghost use Rattle.dma_machine.specs.Needs.{Applied, CanWork, IsAddress};
+    ghost use Rattle.dma_machine.specs.Noted.{all_noted};
+    ghost use Rattle.dma_machine.specs.Stills.{StillIf};
+    ghost use Rattle.dma_machine.specs.Views.{state_of};
+    ghost use Rattle.machine_model.specs.Paths.{demands_cause, fetch};
+    ghost use Rattle.machine_model.specs.Seen.{address_before, application, applications, fetched_did, seen, seen_burst, seen_in, seen_running, waited_did};
+    ghost use Rattle.machine_model.specs.Turns.{apply, burst, common_code, is_done, lowest_stray, ran, worked};
+    ghost use Rattle.page_table.specs.Blocks.{chunks_of};
+    ghost use Rattle.std.specs.Prelude.{◌≡◌, ◌*◌, ◌-◌, ◌^◌, None};
+
+    /// Where an instruction of so many words stands that waits or runs.
+    fn address_before(&self, words: u8) -> u32
+        requires { self.now.pc < 2 ^ 32 }
+        ensures { result ≡ self.now.pc - 4 * words }
+    {
+        self.pc.saturating_sub(4 * u64::from(words)) as u32
+    }
+
+    /// What a turn of an idle machine does.
+    fn fetched_did(&self) -> Did
+        ensures { result ≡ fetched_did (fetch self.now.accepted self.now.pc) self.now.skipping }
+    {
+        match instr_at(self.accepted.program(), self.pc) {
+            Ok((instr, _)) => instr_did(&instr, self.skipping),
+            Err(_) => Did::Still,
+        }
+    }
+
+    /// What a turn of a machine that waits does.
+    fn waited_did(&self) -> Did
+        ensures { result ≡ waited_did (lowest_stray self.now.queues) (common_code self.now.queues) self.now.wait.code }
+    {
+        match (self.lowest_stray(), self.common_code()) {
+            (Some(_), _) => Did::Dropped,
+            (None, Some(code)) if code.nibble() == self.wait.code.nibble() => Did::Matched,
+            (None, Some(_)) => Did::Missed,
+            (None, None) => Did::Still,
+        }
+    }
+
+    /// What is seen, with the next application to a queue, if there is one.
+    fn with_next(&self, seen: Seen, q: Queue) -> Seen
+        ensures { result ≡ all_noted q (application q (state_of R.memory self.now)) seen }
+    {
+        if !matches!(self.phase, Phase::Running) {
+            return seen;
+        }
+        let demand = demand_on(&self.demands, q);
+        match self.queues.front(q) {
+            Some(entry) if demand.rest != 0 => {
+                with_application(seen, q, entry, self.queues.part(q), demand)
+            }
+            _ => seen,
+        }
+    }
+
+    /// Makes the next application to a queue and notes it; whether there was one.
+    fn apply_seen(&mut self, q: Queue, seen: &mut Seen) -> bool
+        requires { demands_cause (chunks_of (R.memory self.old.ram)) self.old.demands ≡ None }
+        ensures seen { seen.new ≡ all_noted q (application q (state_of R.memory self.old)) seen.old }
+        ensures applied { Applied (apply q (state_of R.memory self.old)) result (state_of R.memory self.new) (state_of R.memory self.old) }
+        ensures within { demands_cause (chunks_of (R.memory self.new.ram)) self.new.demands ≡ None }
+    {
+        *seen = self.with_next(*seen, q);
+        self.apply(q)
+    }
+
+    /// A burst from a queue that is served, up to the trigger point, by the instruction at an address.
+    fn burst_seen(&mut self, q: Queue, at: u32) -> Seen
+        requires { demands_cause (chunks_of (R.memory self.old.ram)) self.old.demands ≡ None }
+        ensures state { state_of R.memory self.new ≡ burst self.old.trigger q (state_of R.memory self.old) }
+        ensures seen { result ≡ seen_burst q at (applications self.old.trigger q (state_of R.memory self.old)) }
+    {
+        let mut seen = seen_alone(Did::Moved(q), at);
+        let mut left = self.trigger;
+        while left > 0 && self.apply_seen(q, &mut seen) {
+            left -= 1;
+        }
+        seen
+    }
+
+    /// A turn of a machine that runs the instruction at an address.
+    fn run_seen(&mut self, at: u32) -> Seen
+        requires target { IsAddress self.old.target }
+        requires within { demands_cause (chunks_of (R.memory self.old.ram)) self.old.demands ≡ None }
+        ensures state { state_of R.memory self.new ≡ ran (is_done self.old.demands) self.old.instr self.old.demands (state_of R.memory self.old) }
+        ensures seen { result ≡ seen_running (is_done self.old.demands) at self.old.demands (state_of R.memory self.old) }
+    {
+        if is_done(&self.demands) {
+            self.retire();
+            return seen_alone(Did::Retired, at);
+        }
+        match self.lowest_served() {
+            Some(q) => self.burst_seen(q, at),
+            None => seen_alone(Did::Still, at),
+        }
+    }
+
+    /// A turn of an enabled machine.
+    fn work_seen(&mut self) -> Seen
+        requires can { CanWork (state_of R.memory self.old).job (state_of R.memory self.old) }
+        requires small { self.old.pc < 2 ^ 32 }
+        ensures state { state_of R.memory self.new ≡ worked (state_of R.memory self.old).job (state_of R.memory self.old) }
+        ensures seen { result ≡ seen_in (state_of R.memory self.old).job (state_of R.memory self.old) }
+    {
+        match self.phase {
+            Phase::Running => {
+                let at = self.address_before(length_in_words(&self.instr));
+                self.run_seen(at)
+            }
+            Phase::Waiting => {
+                let seen = seen_alone(self.waited_did(), self.address_before(2));
+                self.wait();
+                seen
+            }
+            Phase::Idle => {
+                let seen = seen_alone(self.fetched_did(), self.address_before(0));
+                self.fetch();
+                seen
+            }
+        }
+    }
+
+    /// Takes a turn without counting it, and finds out whether those after it do nothing.
+    pub fn act_seen(&mut self) -> Seen
+        requires can { CanWork (state_of R.memory self.old).job (state_of R.memory self.old) }
+        requires small { self.old.pc < 2 ^ 32 }
+        ensures state { state_of R.memory self.new ≡ acted (state_of R.memory self.old) }
+        ensures seen { result ≡ seen (state_of R.memory self.old) }
+        ensures still { StillIf self.new.still (state_of R.memory self.new) }
+    {
+        let seen = if self.risc_on {
+            self.work_seen()
+        } else {
+            seen_alone(Did::Still, self.address_before(0))
+        };
+        self.still = self.is_still();
+        seen
+    }
+}
