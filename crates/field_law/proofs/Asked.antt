@@ -133,8 +133,8 @@ pub record Shows (code : Code) (asks : List Ask) (stores : List Store) (left : �
   pub less : suc entries_left ≡ left
   pub next : Outlook asks stores entries_left 0 ((removed held).entries ++ later)
 
-shows_in : (code : Code) (asks : List Ask) (stores : List Store) (left : ℕ) (held : QueueState) (later held : List Entry) → held.entries ≡ held →
-    Awaits code asks stores left (held ++ later) → (held ≡ []) ⊎ Shows code asks stores left held later
+shows_in : (code : Code) (asks : List Ask) (stores : List Store) (left : ℕ) (held : QueueState) (later now : List Entry) → held.entries ≡ now →
+    Awaits code asks stores left (now ++ later) → (now ≡ []) ⊎ Shows code asks stores left held later
 shows_in code asks stores left held later [] e h = inl refl
 shows_in code asks stores left held later (entry ∷ es) e h =
     let order = h.order in
