@@ -1,11 +1,11 @@
 -- Every run shows the pictures that it captures, by the law of the picture.
-use Rattle.std.proofs.Common.{◌≡◌, ℕ, ◌+◌, ◌*◌, ◌<◌, ◌≤◌, List, length, All, sym, subst}
+use Rattle.std.proofs.Common.{◌≡◌, ℕ, ◌+◌, ◌*◌, ◌<◌, ◌≤◌, false, List, length, All, sym, subst}
 use Rattle.fifo_model.specs.declared.Queue.{Queue}
 use Rattle.fifo_model.specs.Queues.{queue_state}
-use Rattle.irq_status.specs.Register.{fdsr, has}
 use Rattle.pixel_layout.specs.declared.Parity.{Parity}
 use Rattle.machine_model.specs.Paths.{RiscProgram}
 use Rattle.machine_model.specs.States.{first_state}
+use Rattle.machine_model.specs.Turns.{sets_fdsr}
 use Rattle.machine_model.specs.Steps.{Step, Turn, state_at}
 use Rattle.machine_model.specs.Safety.{IsStep}
 use Rattle.capture_desc.specs.declared.desc.Desc.{Desc}
@@ -48,7 +48,7 @@ module _ (program : RiscProgram) (fill : ℕ) (steps : List Step) (made : All Is
       subst
       (λ (p : RiscProgram).
       ArrivesUpTo d field picture (first_state p fill) steps j k → j ≤ i → i ≤ k → step_at steps i ≡ Turn →
-      has fdsr (state_at (first_state p fill) steps (i + 1)).interrupts ≡ has fdsr (state_at (first_state p fill) steps i).interrupts)
+      sets_fdsr (state_at (first_state p fill) steps i) ≡ false)
       (sym c.same) (λ a. run_shows_no_fault d field picture fill steps j k i (signalled d field picture j k c a))
 
   pub signals_come : SignalsInTime (first_state program fill) steps

@@ -1,12 +1,12 @@
 -- What a run promises of the pictures that it captures, where its program is that of a description. Place k is the
 -- moment before step k.
-use Rattle.std.specs.Prelude.{◌≡◌, ℕ, ◌+◌, ◌*◌, ◌<◌, ◌≤◌, true, List, length}
+use Rattle.std.specs.Prelude.{◌≡◌, ℕ, ◌+◌, ◌*◌, ◌<◌, ◌≤◌, true, false, List, length}
 use Rattle.fifo_model.specs.declared.Queue.{Queue}
 use Rattle.fifo_model.specs.Queues.{queue_state}
-use Rattle.irq_status.specs.Register.{fdsr, has}
 use Rattle.pixel_layout.specs.declared.Parity.{Parity}
 use Rattle.machine_model.specs.Paths.{RiscProgram}
 use Rattle.machine_model.specs.States.{State}
+use Rattle.machine_model.specs.Turns.{sets_fdsr}
 use Rattle.machine_model.specs.Steps.{Step, Turn, state_at}
 use Rattle.capture_desc.specs.declared.desc.Desc.{Desc}
 use Rattle.picture_model.specs.Described.{IsDescription, describes}
@@ -42,12 +42,12 @@ ShowsPictures first steps =
     (d : Desc) (field : Parity) (picture : Picture) (j k : ℕ) → IsCompiled first.program d field picture →
     ArrivesUpTo d field picture first steps j k → IsShown d field picture (state_at first steps j) (state_at first steps (k + 1))
 
--- no turn from j to k sets FDSR or changes it
+-- no turn from j to k sets FDSR, whether or not the bit stands
 abbrev pub ShowsNoFault : State → List Step → Type 0
 ShowsNoFault first steps =
     (d : Desc) (field : Parity) (picture : Picture) (j k i : ℕ) → IsCompiled first.program d field picture →
     ArrivesUpTo d field picture first steps j k → j ≤ i → i ≤ k → step_at steps i ≡ Turn →
-    has fdsr (state_at first steps (i + 1)).interrupts ≡ has fdsr (state_at first steps i).interrupts
+    sets_fdsr (state_at first steps i) ≡ false
 
 -- where the picture arrives at j over the steps up to l, and all entries up to the field's last were pushed before i, the
 -- first signal stands before l once there are so many turns from i to l: five for each instruction of the field's

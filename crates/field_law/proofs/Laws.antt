@@ -16,10 +16,9 @@ use Rattle.machine_model.specs.declared.Job.{Job}
 use Rattle.machine_model.specs.declared.Job.TheVariants.{Waiting}
 use Rattle.machine_model.specs.Paths.{RiscProgram}
 use Rattle.machine_model.specs.States.{State}
-use Rattle.machine_model.specs.Turns.{turn}
+use Rattle.machine_model.specs.Turns.{turn, with_interrupts, sets_fdsr}
 use Rattle.machine_model.specs.Steps.{Turn, with_program, run_in}
-use Rattle.machine_model.specs.Safety.{JobFits}
-use Rattle.machine_model.proofs.Orderly.{IsOrderly-with_program}
+use Rattle.machine_model.specs.Safety.{JobFits, IsOrderly}
 use Rattle.field_law.specs.Fields.{Token}
 use Rattle.field_law.specs.Sections.{Section, Holds, Paints, section_stores}
 use Rattle.field_law.specs.Arrivals.{Met, after, coming, pushed_by, entries_of, over_queues, is_signal, has_signal, turns_in}
@@ -99,23 +98,29 @@ module _ (s : Section) (field : Queue → List Token) (m : State) (early late : 
   turned : run_in m (early ++ (program, Turn) ∷ []) ≡ turn before
   turned = run_in-append m early ((program, Turn) ∷ [])
 
-  closes_by : (bound : ℕ) → IsReached s field r.uses given chunks final seen bound before → is_signal s before Turn ≡ true → Closes s given chunks final seen before
-  closes_by bound (inl opening) signal =
-      let idle = (signal-Signals s before signal).idle in
+  closes_by : (now : State) (bound : ℕ) → IsReached s field r.uses given chunks final seen bound now → Holds s now.program → is_signal s now Turn ≡ true →
+      Closes s given chunks final seen now
+  closes_by now bound (inl opening) held signal =
+      let idle = (signal-Signals s now signal).idle in
       let waits = opening.waits in
       cc
-  closes_by bound (inr within) signal = signal-Closes s given chunks final seen bound before within held signal
+  closes_by now bound (inr within) held signal = signal-Closes s given chunks final seen bound now within held signal
 
   closed : is_signal s before Turn ≡ true → Closes s given chunks final seen before
-  closed signal = closes_by ran.next ran.reached signal
+  closed signal = closes_by before ran.next ran.reached held signal
 
-  quiet : has fdsr (turn before).interrupts ≡ has fdsr before.interrupts
+  -- nothing that is known of the state speaks of its interrupts, so the turn that begins with none is known as well
+  abbrev acted : State
+  acted = with_interrupts 0 before
+
+  orderly : IsOrderly acted
+  orderly = let known = ran.orderly in record { job = known.job; queues = known.queues; triggered = known.triggered }
+
+  quiet : sets_fdsr before ≡ false
   quiet =
       ⊎_elim
-      (λ signal. let c = closed signal in ap (has fdsr) c.interrupts ∙ fdsr-applied s.closing before.interrupts)
-      (λ none.
-      let t = turn-Reaches s field r.uses given chunks final seen ran.next before (IsOrderly-with_program program (run_in m early) ran.orderly) held ran.reached none in
-      t.quiet)
+      (λ signal. let c = closes_by acted ran.next ran.reached held signal in ap (has fdsr) c.interrupts ∙ fdsr-applied s.closing 0)
+      (λ none. let t = turn-Reaches s field r.uses given chunks final seen ran.next acted orderly held ran.reached none in t.quiet)
       (cases_Bool (is_signal s before Turn))
 
 -- ---- the laws
@@ -133,9 +138,7 @@ shows_picture s field final m early late program r paints silent signal address 
     ∙ ap (λ memory. byte_at memory address) c.memory ∙ c.settled paints address
 
 pub shows_no_fault : ShowsNoFault
-shows_no_fault s field m early late program r silent =
-    ap (λ (m' : State). has fdsr m'.interrupts) (turned s field m early late program r silent ⊥ [] (λ _. 0) (λ none. absurd none))
-    ∙ quiet s field m early late program r silent ⊥ [] (λ _. 0) (λ none. absurd none)
+shows_no_fault s field m early late program r silent = quiet s field m early late program r silent ⊥ [] (λ _. 0) (λ none. absurd none)
 
 -- a status of which each bit is set or cleared
 whole_status : (old set reset : ℕ) → set + reset ≡ 15 → status_after old set reset ≡ set

@@ -3,11 +3,12 @@ use Rattle.std.specs.Prelude.{◌≡◌, ℕ, ◌+◌, ◌*◌, ◌≤◌, true,
 use Rattle.risc_word.specs.declared.Ctl.{Ctl}
 use Rattle.fifo_model.specs.declared.Queue.{Queue}
 use Rattle.fifo_model.specs.Queues.{queue_state}
-use Rattle.irq_status.specs.Register.{fdsr, risci, has, risc_status, applied}
+use Rattle.irq_status.specs.Register.{risci, has, risc_status, applied}
 use Rattle.page_table.specs.Blocks.{byte_at}
 use Rattle.machine_model.specs.Paths.{RiscProgram}
 use Rattle.machine_model.specs.States.{State}
-use Rattle.machine_model.specs.Steps.{Turn, run_in}
+use Rattle.machine_model.specs.Turns.{sets_fdsr}
+use Rattle.machine_model.specs.Steps.{Turn, with_program, run_in}
 use Rattle.machine_model.specs.Safety.{IsOrderly}
 use Rattle.field_law.specs.Fields.{Token}
 use Rattle.field_law.specs.Sections.{Section, Holds, Uses, Paints}
@@ -26,11 +27,11 @@ ShowsPicture = (s : Section) (field : Queue → List Token) (final : ℕ → ℕ
     Receives s field m (early ++ (program, Turn) ∷ late) → Paints s field m.memory final → has_signal s m early ≡ false →
     is_signal s (run_in m early) Turn ≡ true → (address : ℕ) → byte_at (run_in m (early ++ (program, Turn) ∷ [])).memory address ≡ final address
 
--- no turn up to it sets FDSR or changes it
+-- no turn up to it sets FDSR, whether or not the bit stands
 abbrev pub ShowsNoFault : Type 0
 ShowsNoFault = (s : Section) (field : Queue → List Token) (m : State) (early late : List Met) (program : RiscProgram) →
     Receives s field m (early ++ (program, Turn) ∷ late) → has_signal s m early ≡ false →
-    has fdsr (run_in m (early ++ (program, Turn) ∷ [])).interrupts ≡ has fdsr (run_in m early).interrupts
+    sets_fdsr (with_program program (run_in m early)) ≡ false
 
 -- the register after control bits were applied: RISCI, and the RISC status where each of its bits is set or cleared
 pub record ShowsBits (ctl : Ctl) (before now : ℕ) : Type 0 where

@@ -21,7 +21,7 @@ pub fn signal_shows_the_picture()
     ensures { ShowsPicture }
 {}
 
-/// No turn up to the signal changes FDSR, and the signal applies the control bits of the closing.
+/// No turn up to the signal sets FDSR, also where the bit stands already, and the signal applies the control bits of the closing.
 pub fn field_shows_no_fault()
     ensures quiet { ShowsNoFault }
     ensures signalled { SignalsClosing }

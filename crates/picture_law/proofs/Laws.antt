@@ -3,14 +3,14 @@ use Rattle.std.proofs.Common.{◌≡◌, ℕ, ◌+◌, true, false, All, List, [
 use Rattle.fifo_model.specs.declared.Entry.{Entry}
 use Rattle.fifo_model.specs.declared.Queue.{Queue}
 use Rattle.fifo_model.specs.Queues.{queue_state}
-use Rattle.irq_status.specs.Register.{fdsr, has}
 use Rattle.page_table.specs.Blocks.{byte_at, chunks_of}
 use Rattle.page_table.specs.Taken.{in_order}
 use Rattle.pixel_layout.specs.declared.Parity.{Parity}
 use Rattle.pixel_layout.specs.declared.Parity.TheVariants.{Top, Bottom}
 use Rattle.machine_model.specs.Paths.{RiscProgram}
 use Rattle.machine_model.specs.States.{State, first_state}
-use Rattle.machine_model.specs.Steps.{Step, Turn, run, run_in}
+use Rattle.machine_model.specs.Turns.{sets_fdsr}
+use Rattle.machine_model.specs.Steps.{Step, Turn, run, run_in, with_program}
 use Rattle.machine_model.proofs.Runs.{IsOrderly-run, chunks-run, program-run}
 use Rattle.machine_model.proofs.Orderly.{IsOrderly-first_state}
 use Rattle.machine_model.specs.Safety.{IsStep}
@@ -118,12 +118,15 @@ shows_picture d field picture m early late c silent signal =
     (after_paints d is_right field c.capture.described picture c.capture.pictured skipped skips m.memory chunks now after)
     (no_signal d field picture m early late c silent) (signalled d field picture m early late c silent signal) address)
 
+-- a run keeps its program
+own_program : (m : State) (steps : List Step) → run m steps ≡ with_program m.program (run m steps)
+own_program m steps = ap (λ (program : RiscProgram). with_program program (run m steps)) (program-run m steps)
+
 pub shows_no_fault : ShowsNoFault
 shows_no_fault d field picture m early late c silent =
-    ap (λ (m' : State). has fdsr m'.interrupts) (turned d field picture m early late c silent)
+    ap sets_fdsr (own_program m early ∙ ap (with_program m.program) (ran d field picture m early late c silent))
     ∙ proved.shows_no_fault (section_of d field) (field_tokens d picture c.arrives.brought.skipped) m (meets m.program early) (meets m.program late) m.program
     (received d field picture m early late c silent) (no_signal d field picture m early late c silent)
-    ∙ ap (λ (m' : State). has fdsr m'.interrupts) (sym (ran d field picture m early late c silent))
 
 tells : (field : Parity) (old : ℕ) (m : State) → ShowsBits (signal field) old m.interrupts → TellsField field m
 tells Top old m bits = record { raised = bits.raised refl; status = bits.status refl }

@@ -3,9 +3,9 @@ use Rattle.std.proofs.Common.{◌≡◌, ℕ, ◌+◌, ◌-◌, ◌*◌, ◌≤�
 use Rattle.std.proofs.lemmas.List.Elements.{All-drop, All-take}
 use Rattle.fifo_model.specs.declared.Queue.{Queue}
 use Rattle.fifo_model.specs.Queues.{queue_state}
-use Rattle.irq_status.specs.Register.{fdsr, has}
 use Rattle.pixel_layout.specs.declared.Parity.{Parity}
 use Rattle.machine_model.specs.States.{State, first_state}
+use Rattle.machine_model.specs.Turns.{sets_fdsr}
 use Rattle.machine_model.specs.Steps.{Step, Turn, run}
 use Rattle.machine_model.specs.Safety.{IsStep}
 use Rattle.capture_desc.specs.declared.desc.Desc.{Desc}
@@ -108,14 +108,9 @@ run_shows_no_fault d field picture fill steps j k i s from to is_turn =
     let late = between (i + 1) (k + 1) steps in
     let parts : between j (k + 1) steps ≡ early ++ Turn ∷ late =
     between_at j i (k + 1) steps from (omega arith) (omega arith) ∙ ap (λ (st : Step). early ++ st ∷ late) is_turn in
-    let first : between j (i + 1) steps ≡ early ++ Turn ∷ [] =
-    between_last j i steps from (omega arith) ∙ ap (λ (st : Step). early ++ st ∷ []) is_turn in
-    let after : run m (early ++ Turn ∷ []) ≡ state_of d fill steps (i + 1) =
-    ap (run m) (sym first) ∙ ran d field picture fill steps j k s (i + 1) (omega arith) in
-    ap (λ (m' : State). has fdsr m'.interrupts) (sym after)
+    ap sets_fdsr (sym (ran d field picture fill steps j k s i from))
     ∙ shows_no_fault d field picture m early late (captured d field picture fill steps j s.capture (k + 1) (early ++ Turn ∷ late) parts s.arrives)
     (silent_to d field picture fill steps j k s i from to)
-    ∙ ap (λ (m' : State). has fdsr m'.interrupts) (ran d field picture fill steps j k s i from)
 
 pub run_signals_in_time : RunSignalsInTime
 run_signals_in_time d field picture fill steps j i l c first later within arrives come many =

@@ -2,11 +2,12 @@
 use Rattle.std.specs.Prelude.{◌≡◌, ℕ, ◌+◌, ◌*◌, ◌≤◌, true, false, All, List, [], ◌∷◌, ◌++◌, length}
 use Rattle.fifo_model.specs.declared.Queue.{Queue}
 use Rattle.fifo_model.specs.Queues.{queue_state}
-use Rattle.irq_status.specs.Register.{fdsr, risci, has, risc_status}
+use Rattle.irq_status.specs.Register.{risci, has, risc_status}
 use Rattle.page_table.specs.Blocks.{Block, byte_at, chunks_of}
 use Rattle.pixel_layout.specs.declared.Parity.{Parity}
 use Rattle.pixel_layout.specs.declared.Parity.TheVariants.{Top, Bottom}
 use Rattle.machine_model.specs.States.{State}
+use Rattle.machine_model.specs.Turns.{sets_fdsr}
 use Rattle.machine_model.specs.Steps.{Step, Turn, run}
 use Rattle.machine_model.specs.Safety.{IsStep, IsOrderly}
 use Rattle.capture_desc.specs.declared.desc.Desc.{Desc}
@@ -46,11 +47,11 @@ ShowsPicture = (d : Desc) (field : Parity) (picture : Picture) (m : State) (earl
     Captures d field picture m (early ++ Turn ∷ late) → has_signal d field m early ≡ false → is_signal d field (run m early) Turn ≡ true →
     After d field picture m.memory (run m (early ++ Turn ∷ [])).memory
 
--- no turn up to it sets FDSR or changes it
+-- no turn up to it sets FDSR, whether or not the bit stands
 abbrev pub ShowsNoFault : Type 0
 ShowsNoFault = (d : Desc) (field : Parity) (picture : Picture) (m : State) (early late : List Step) →
     Captures d field picture m (early ++ Turn ∷ late) → has_signal d field m early ≡ false →
-    has fdsr (run m (early ++ Turn ∷ [])).interrupts ≡ has fdsr (run m early).interrupts
+    sets_fdsr (run m early) ≡ false
 
 -- after it RISCI is set, and the RISC status tells which field it was
 abbrev pub status_of : Parity → ℕ

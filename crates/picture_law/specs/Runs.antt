@@ -2,9 +2,9 @@
 use Rattle.std.specs.Prelude.{◌≡◌, ℕ, ◌+◌, ◌-◌, ◌*◌, ◌<◌, ◌≤◌, Bool, true, false, List, length, take, drop, slice_index_or}
 use Rattle.fifo_model.specs.declared.Queue.{Queue}
 use Rattle.fifo_model.specs.Queues.{queue_state}
-use Rattle.irq_status.specs.Register.{fdsr, has}
 use Rattle.pixel_layout.specs.declared.Parity.{Parity}
 use Rattle.machine_model.specs.States.{State, first_state}
+use Rattle.machine_model.specs.Turns.{sets_fdsr}
 use Rattle.machine_model.specs.Steps.{Step, Turn, state_at}
 use Rattle.capture_desc.specs.declared.desc.Desc.{Desc}
 use Rattle.picture_model.specs.Programs.{compiled, size}
@@ -46,10 +46,10 @@ abbrev pub RunShowsPicture : Type 0
 RunShowsPicture = (d : Desc) (field : Parity) (picture : Picture) (fill : ℕ) (steps : List Step) (j k : ℕ) → IsSignalled d field picture fill steps j k →
     After d field picture (state_of d fill steps j).memory (state_of d fill steps (k + 1)).memory
 
--- no turn from j to k sets FDSR or changes it
+-- no turn from j to k sets FDSR, whether or not the bit stands
 abbrev pub RunShowsNoFault : Type 0
 RunShowsNoFault = (d : Desc) (field : Parity) (picture : Picture) (fill : ℕ) (steps : List Step) (j k i : ℕ) → IsSignalled d field picture fill steps j k →
-    j ≤ i → i ≤ k → step_at steps i ≡ Turn → has fdsr (state_of d fill steps (i + 1)).interrupts ≡ has fdsr (state_of d fill steps i).interrupts
+    j ≤ i → i ≤ k → step_at steps i ≡ Turn → sets_fdsr (state_of d fill steps i) ≡ false
 
 -- after step k RISCI is set, and the RISC status tells which field it was
 abbrev pub RunTellsField : Type 0

@@ -22,7 +22,7 @@ pub fn pictures_are_shown()
     ensures { ShowsPicture }
 {}
 
-/// No turn up to the signal changes FDSR. After it RISCI is set, and the RISC status is 1 for the top field and 2 for
+/// No turn up to the signal sets FDSR, also where the bit stands already. After it RISCI is set, and the RISC status is 1 for the top field and 2 for
 /// the bottom field.
 pub fn fields_show_no_fault()
     ensures quiet { ShowsNoFault }
