@@ -48,7 +48,7 @@ three_none one two three first second third = none-first one (first_cause two th
 abbrev pub AreWords : List ℕ → Type 0
 AreWords words = Each (λ word. word < 2 ^ 32) words
 
-flag_small : (at : ℕ) (b : Bool) → flag at b ≤ 2 ^ at
+pub flag_small : (at : ℕ) (b : Bool) → flag at b ≤ 2 ^ at
 flag_small at true = omega arith
 flag_small at false = omega arith
 

@@ -68,21 +68,23 @@ total_few : (chunks : Option (List (ℕ × ℕ))) (pages : List ℕ) → length 
 total_few None pages few bytes = let all = total-pages pages in omega arith
 total_few (Some pairs) pages few bytes = let all = total_chunks pairs in omega arith
 
-pub memory_grants : (d : Desc) → IsDescription d → IsRight d → AreGrants (in_order (memory_of d))
-memory_grants d is right =
-    let memory = memory_of d in
-    let few = memory_few d is in
-    let small = total_few d.chunks d.pages is.formed.pages is.formed.bytes in
+-- chunks without a fault, put into rising order, are granted memory
+pub chunks_grants : (memory : List Chunk) → length memory ≤ 4096 → total memory ≤ 2 ^ 24 → All (λ c. is_aligned c ≡ true) memory → first_shared [] memory ≡ None → AreGrants (in_order memory)
+chunks_grants memory few small aligned apart =
     let same = length-all_placed [] memory in
     let bytes = total-all_placed [] memory in
     let none : total [] ≡ 0 = refl in
     record {
       few = omega arith;
       small = omega arith;
-      rising = rising_gathered [] [] memory memory (none_gathered memory) (each_of memory right.aligned) right.chunks_apart;
+      rising = rising_gathered [] [] memory memory (none_gathered memory) (each_of memory aligned) apart;
     }
 
-none_shares : (test : Chunk → Bool) (chunks : List Chunk) → list_any test chunks ≡ false → Each (λ c. test c ≡ false) chunks
+pub memory_grants : (d : Desc) → IsDescription d → IsRight d → AreGrants (in_order (memory_of d))
+memory_grants d is right =
+    chunks_grants (memory_of d) (memory_few d is) (total_few d.chunks d.pages is.formed.pages is.formed.bytes) right.aligned right.chunks_apart
+
+pub none_shares : (test : Chunk → Bool) (chunks : List Chunk) → list_any test chunks ≡ false → Each (λ c. test c ≡ false) chunks
 none_shares test [] none = tt
 none_shares test (c ∷ rest) none =
     let parts = or_parts (test c) (list_any test rest) none in (parts.0, none_shares test rest parts.1)

@@ -120,8 +120,9 @@ skipped-IsStrip d =
       placed = tt;
     }
 
-vbi_track : (memory : List Chunk) (bytes start : ℕ) → start + bytes ≤ total memory → IsTrack memory bytes (track 1 (Some start))
-vbi_track memory bytes start within =
+-- bytes that are written in order from an offset on
+pub packed_track : (memory : List Chunk) (bytes start : ℕ) → start + bytes ≤ total memory → IsTrack memory bytes (track 1 (Some start))
+packed_track memory bytes start within =
     record {
       small = omega arith;
       fit = (omega arith, omega arith, λ at inside. lt-room_at memory (start + at * 1) (omega arith));
@@ -131,7 +132,7 @@ pub vbi-IsStrip : (d : Desc) (field : Parity) (line : ℕ) → IsRight d → des
 vbi-IsStrip d field line right described below =
     record {
       covers = (refl, omega arith, refl);
-      one = vbi_track (memory_of d) d.vbi_bytes (vbi_line_offset d field line) (vbi_end d field line right described below);
+      one = packed_track (memory_of d) d.vbi_bytes (vbi_line_offset d field line) (vbi_end d field line right described below);
       two = unwritten-IsTrack (memory_of d) d.vbi_bytes 0 (omega arith);
       three = unwritten-IsTrack (memory_of d) d.vbi_bytes 0 (omega arith);
       placed = tt;

@@ -1,0 +1,6 @@
+pub mod Lines
+pub mod Blocks
+pub mod Sound
+pub mod Writes
+pub mod Few
+pub mod Made
