@@ -1,0 +1,3 @@
+mod Listing
+pub mod Least
+mod Documents
