@@ -119,7 +119,7 @@ row_small d right =
 
 -- the spans of a row alternate, and each of at most 64 rectangles adds at most two
 
-row_spans_few : (d : Desc) (row : ℕ) → IsDescription d → IsRight d → length (row_strip d row).spans ≤ 129
+pub row_spans_few : (d : Desc) (row : ℕ) → IsDescription d → IsRight d → length (row_strip d row).spans ≤ 129
 row_spans_few d row is right =
     let clips = is.clips in
     let few = spans-few d.clip row d.width (layout_of d).pixels (layout_sizes d.format).some_pixels right.units in

@@ -7,6 +7,23 @@ pub mod laws;
 
 use risc_word::Ends;
 
+/// The most pixels of a row (this project's own limit).
+pub const MAX_WIDTH: u32 = 1024;
+
+/// The most rows of a picture (this project's own limit).
+pub const MAX_HEIGHT: u32 = 1024;
+
+/// The most lines of VBI data in a field (this project's own limit).
+pub const MAX_VBI_LINES: u32 = 32;
+
+/// The fewest bytes of a line on a plane: one DWORD that begins the line and one that ends it with a byte
+/// (this project's own rule).
+pub const MIN_LINE_BYTES: u32 = 5;
+
+/// The most bytes of a plane that a piece moves, a multiple of 4 that the 12 bits of a byte count hold (this
+/// project's own limit).
+pub const MAX_PIECE: u32 = 4092;
+
 /// Why a description has no program: the faults of its geometry, in the order in which they are judged
 /// (this project's own rules). Places in the list of pages or chunks are counted from 0.
 #[derive(Clone, Copy, Debug, PartialEq, Eq)]

@@ -4,15 +4,14 @@ use Rattle.std.specs.Prelude.{not, nat_lt, IfSome}
 use Rattle.std.proofs.lemmas.Bool.{cond-false, le-ltb, or_from}
 use Rattle.page_table.specs.declared.PageFault.{PageFault}
 use Rattle.page_table.specs.declared.PageFault.TheVariants.{TooMany, Unaligned, Twice}
-use Rattle.page_table.specs.Grants.{Chunk, total}
+use Rattle.page_table.specs.Grants.{Chunk, max_bytes, max_chunks, total}
 use Rattle.page_table.specs.Scattered.{IsScatterList, ScatterList, scatter_list}
 use Rattle.page_table.specs.Taken.{first_shared, in_order, listed, unless_shared, unless_unaligned}
 use Rattle.capture_desc.specs.declared.desc.Desc.{Desc}
 use Rattle.capture_desc.specs.WellFormed.{IsWellFormed, bytes_of_chunks}
 use Rattle.picture_model.specs.declared.BuildFault.{BuildFault}
-use Rattle.picture_model.specs.declared.BuildFault.TheVariants.{Overlap, VbiRange}
 use Rattle.picture_model.specs.Described.{highest_end, memory_from, memory_of, taken}
-use Rattle.picture_model.specs.Geometry.{Check, first_after, first_missing, first_unaligned, frame_fault, frame_faults, is_between, some_overlap, when}
+use Rattle.picture_model.specs.Geometry.{Check, first_after, first_unaligned, frame_fault, memory_faults, overlap, page_faults, picture_faults, size_faults, too_few, vbi_range}
 use Rattle.picture_model.proofs.Made.{total_chunks}
 use Rattle.planar_plan.specs.declared.judge.BuildError.{BuildError}
 use Rattle.planar_plan.specs.declared.judge.BuildError.TheVariants.{Bad, Memory}
@@ -42,62 +41,46 @@ one_alone check d = last_alone (check d) d
 
 -- the faults of a frame, as they are judged: in groups
 
-abbrev pub size_checks : List Check
-size_checks = take 7 frame_faults
-
-abbrev pub overlap_check : List Check
-overlap_check = take 1 (drop 7 frame_faults)
-
-abbrev pub vbi_fault : Check
-vbi_fault d =
-    when (nat_lt 32 d.vbi_lines || (nat_lt 0 d.vbi_lines && not (is_between 5 4092 d.vbi_bytes))) VbiRange
-
-abbrev vbi_check : List Check
-vbi_check = vbi_fault ∷ []
-
-abbrev pub page_checks : List Check
-page_checks = take 2 (drop 9 frame_faults)
-
 module _ (d : Desc) where
-  pub at_sizes : (fault : BuildFault) → first_after None size_checks d ≡ Some fault → first_after None (take 9 frame_faults) d ≡ Some fault
-  at_sizes = some_front size_checks (overlap_check ++ vbi_check) d
+  pub at_sizes : (fault : BuildFault) → first_after None size_faults d ≡ Some fault → first_after None picture_faults d ≡ Some fault
+  at_sizes = some_front size_faults (overlap ∷ vbi_range ∷ []) d
 
-  pub at_overlap : (fault : BuildFault) → first_after None size_checks d ≡ None → when (some_overlap (taken d)) Overlap ≡ Some fault → first_after None (take 9 frame_faults) d ≡ Some fault
+  pub at_overlap : (fault : BuildFault) → first_after None size_faults d ≡ None → overlap d ≡ Some fault → first_after None picture_faults d ≡ Some fault
   at_overlap fault sizes is =
-      none_front size_checks (overlap_check ++ vbi_check) d sizes
-      ∙ some_front overlap_check vbi_check d fault (one_alone (λ e. when (some_overlap (taken e)) Overlap) d ∙ is)
+      none_front size_faults (overlap ∷ vbi_range ∷ []) d sizes
+      ∙ some_front (overlap ∷ []) (vbi_range ∷ []) d fault (one_alone overlap d ∙ is)
 
-  pub at_vbi : (found : Option BuildFault) → first_after None size_checks d ≡ None → when (some_overlap (taken d)) Overlap ≡ None → vbi_fault d ≡ found → first_after None (take 9 frame_faults) d ≡ found
-  at_vbi found sizes overlap is =
-      none_front size_checks (overlap_check ++ vbi_check) d sizes
-      ∙ none_front overlap_check vbi_check d (one_alone (λ e. when (some_overlap (taken e)) Overlap) d ∙ overlap)
-      ∙ one_alone vbi_fault d ∙ is
+  pub at_vbi : (found : Option BuildFault) → first_after None size_faults d ≡ None → overlap d ≡ None → vbi_range d ≡ found → first_after None picture_faults d ≡ found
+  at_vbi found sizes apart is =
+      none_front size_faults (overlap ∷ vbi_range ∷ []) d sizes
+      ∙ none_front (overlap ∷ []) (vbi_range ∷ []) d (one_alone overlap d ∙ apart)
+      ∙ one_alone vbi_range d ∙ is
 
-  pub at_picture : (fault : BuildFault) → first_after None (take 9 frame_faults) d ≡ Some fault → frame_fault d ≡ Some fault
-  at_picture = some_front (take 9 frame_faults) (drop 9 frame_faults) d
+  pub at_picture : (fault : BuildFault) → first_after None picture_faults d ≡ Some fault → frame_fault d ≡ Some fault
+  at_picture = some_front picture_faults (page_faults ++ memory_faults) d
 
-  pub at_pages : (fault : BuildFault) → first_after None (take 9 frame_faults) d ≡ None → first_after None page_checks d ≡ Some fault → frame_fault d ≡ Some fault
+  pub at_pages : (fault : BuildFault) → first_after None picture_faults d ≡ None → first_after None page_faults d ≡ Some fault → frame_fault d ≡ Some fault
   at_pages fault picture is =
-      none_front (take 9 frame_faults) (drop 9 frame_faults) d picture ∙ some_front page_checks (drop 11 frame_faults) d fault is
+      none_front picture_faults (page_faults ++ memory_faults) d picture ∙ some_front page_faults memory_faults d fault is
 
-  pub at_memory : first_after None (take 9 frame_faults) d ≡ None → first_after None page_checks d ≡ None → frame_fault d ≡ first_missing d.chunks d.pages (highest_end (taken d))
+  pub at_memory : first_after None picture_faults d ≡ None → first_after None page_faults d ≡ None → frame_fault d ≡ too_few d
   at_memory picture pages =
-      none_front (take 9 frame_faults) (drop 9 frame_faults) d picture
-      ∙ none_front page_checks (drop 11 frame_faults) d pages
-      ∙ one_alone (λ e. first_missing e.chunks e.pages (highest_end (taken e))) d
+      none_front picture_faults (page_faults ++ memory_faults) d picture
+      ∙ none_front page_faults memory_faults d pages
+      ∙ one_alone too_few d
 
 -- pages and chunks
 
-few_pages : (pages : List ℕ) → length pages ≤ 4096 → taken_memory None pages ≡ unless_unaligned (first_unaligned None pages) (memory_from None pages)
-few_pages pages few = cond-false (nat_lt 4096 (length pages)) _ _ (le-ltb 4096 (length pages) few)
+few_pages : (pages : List ℕ) → length pages ≤ max_chunks → taken_memory None pages ≡ unless_unaligned (first_unaligned None pages) (memory_from None pages)
+few_pages pages few = cond-false (nat_lt max_chunks (length pages)) _ _ (le-ltb max_chunks (length pages) few)
 
-few_chunks : (pairs : List (ℕ × ℕ)) (pages : List ℕ) → length pairs ≤ 4096 → bytes_of_chunks pairs ≤ 16777216 → taken_memory (Some pairs) pages ≡ unless_unaligned (first_unaligned (Some pairs) pages) (memory_from (Some pairs) pages)
+few_chunks : (pairs : List (ℕ × ℕ)) (pages : List ℕ) → length pairs ≤ max_chunks → bytes_of_chunks pairs ≤ max_bytes → taken_memory (Some pairs) pages ≡ unless_unaligned (first_unaligned (Some pairs) pages) (memory_from (Some pairs) pages)
 few_chunks pairs pages few small =
     let bytes = total_chunks pairs in
-    cond-false (nat_lt 4096 (length pairs) || nat_lt (2 ^ 24) (total (listed pairs))) _ _
-    (or_from _ _ (le-ltb 4096 (length pairs) few) (le-ltb (2 ^ 24) (total (listed pairs)) (omega arith)))
+    cond-false (nat_lt max_chunks (length pairs) || nat_lt max_bytes (total (listed pairs))) _ _
+    (or_from _ _ (le-ltb max_chunks (length pairs) few) (le-ltb max_bytes (total (listed pairs)) (omega arith)))
 
-few_in : (chunks : Option (List (ℕ × ℕ))) (pages : List ℕ) → length pages ≤ 4096 → IfSome chunks (λ cs. length cs ≤ 4096) → IfSome chunks (λ cs. bytes_of_chunks cs ≤ 16777216) → taken_memory chunks pages ≡ unless_unaligned (first_unaligned chunks pages) (memory_from chunks pages)
+few_in : (chunks : Option (List (ℕ × ℕ))) (pages : List ℕ) → length pages ≤ max_chunks → IfSome chunks (λ cs. length cs ≤ max_chunks) → IfSome chunks (λ cs. bytes_of_chunks cs ≤ max_bytes) → taken_memory chunks pages ≡ unless_unaligned (first_unaligned chunks pages) (memory_from chunks pages)
 few_in None pages few chunks bytes = few_pages pages few
 few_in (Some pairs) pages few chunks bytes = few_chunks pairs pages chunks bytes
 

@@ -4,7 +4,7 @@ use Rattle.std.specs.List.{All}
 use Rattle.page_table.specs.Scattered.{IsScatterList, ScatterList, scatter_list}
 use Rattle.page_table.specs.Taken.{Taking, taken_chunks, taken_pages}
 use Rattle.capture_desc.specs.declared.desc.Desc.{Desc}
-use Rattle.capture_desc.specs.WellFormed.{IsWellFormed}
+use Rattle.capture_desc.specs.WellFormed.{IsWellFormed, max_skip_lines}
 use Rattle.picture_model.specs.declared.BuildFault.{BuildFault}
 use Rattle.picture_model.specs.Described.{highest_end, memory_of, taken}
 use Rattle.picture_model.specs.Geometry.{IsFrame}
@@ -26,7 +26,7 @@ taken_memory (Some pairs) pages = taken_chunks pairs
 pub record IsFramed (d : Desc) : Type 0 where
   pub formed : IsWellFormed d
   pub pages : All (λ page. page < 2 ^ 32) d.pages
-  pub skipped : d.skip_lines ≤ 255
+  pub skipped : d.skip_lines ≤ max_skip_lines
   pub geometry : IsFrame d
 
 -- a frame's scatter list has the bytes that its picture takes

@@ -5,7 +5,7 @@ use Rattle.page_table.specs.Scattered.{ScatterList, address_at, room_at}
 use Rattle.clip_spans.specs.declared.Span.{Span}
 use Rattle.capture_desc.specs.declared.desc.Desc.{Desc}
 use Rattle.picture_model.specs.declared.Piece.{Piece}
-use Rattle.picture_model.specs.Plans.{Strip, Track, row_strip, track}
+use Rattle.picture_model.specs.Plans.{Strip, Track, max_piece, row_strip, track}
 use Rattle.planar_plan.specs.declared.cut.Line.{Line}
 use Rattle.planar_plan.specs.declared.cut.PlaneTrack.{PlaneTrack}
 use Rattle.planar_plan.specs.declared.cut.Reach.{Reach}
@@ -72,11 +72,11 @@ AreSpansOf d kept = (row : ℕ) → kept.from ≤ row → row < kept.to → kept
 pub record Reaches (rest size far from : ℕ) (r : Reach) : Type 0 where
   pub address : r.address ≡ from
   pub grains : r.grains ≡ min rest far
-  pub few : r.grains * size ≤ 4092
+  pub few : r.grains * size ≤ max_piece
 
 -- a window holds bytes of one chunk
 pub record IsWindow (s : ScatterList) (w : Window) : Type 0 where
-  pub few : w.to ≤ w.from + 4092
+  pub few : w.to ≤ w.from + max_piece
   pub room : w.to ≤ w.from + room_at s.chunks w.from
   pub address : w.from < w.to → w.address ≡ address_at s.chunks w.from
   pub fits : w.address + (w.to - w.from) ≤ 2 ^ 32

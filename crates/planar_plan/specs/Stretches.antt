@@ -5,7 +5,7 @@ use Rattle.page_table.specs.Scattered.{address_at, room_at}
 use Rattle.clip_spans.specs.Runs.{span}
 use Rattle.clip_spans.specs.declared.Span.{Span}
 use Rattle.picture_model.specs.declared.Piece.{Piece}
-use Rattle.picture_model.specs.Plans.{Fits, Strip, Track, cut, ends_of, kind_of, pieces_of, span_cuts}
+use Rattle.picture_model.specs.Plans.{Fits, Strip, Track, cut, ends_of, kind_of, max_piece, pieces_of, span_cuts}
 use Rattle.planar_plan.specs.Lines.{strip_of}
 use Rattle.planar_plan.specs.declared.cut.Line.{Line}
 use Rattle.planar_plan.specs.declared.stretch.Stretch.{Stretch}
@@ -18,7 +18,7 @@ place_on w false at = w.address + at * w.step
 
 -- no piece has too many bytes, and no address is too high
 abbrev pub IsFit : ℕ → ℕ → Stretch → Type 0
-IsFit grains size w = (grains * size ≤ 4092) × (w.address + grains * w.step ≤ 2 ^ 32)
+IsFit grains size w = (grains * size ≤ max_piece) × (w.address + grains * w.step ≤ 2 ^ 32)
 
 -- the bytes lie in one chunk, where they are written
 abbrev pub StandsAt : List Chunk → ℕ → ℕ → Option ℕ → Stretch → Type 0

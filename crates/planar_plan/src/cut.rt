@@ -5,20 +5,18 @@ ghost use Rattle.std.specs.List.{All};
 ghost use Rattle.clip_spans.specs.Runs.{span};
 ghost use Rattle.pixel_layout.specs.Layouts.{layout};
 ghost use Rattle.page_table.specs.Scattered.{ScatterList, address_at, room_at};
-ghost use Rattle.picture_model.specs.Plans.{address_of, cut, cuts_of, grains_of, in_grains, longest, most, most_of, piece_of, pieces_of, span_cuts};
+ghost use Rattle.picture_model.specs.Geometry.{max_width};
+ghost use Rattle.picture_model.specs.Plans.{address_of, cut, cuts_of, grains_of, in_grains, longest, max_piece, most, most_of, piece_of, pieces_of, span_cuts};
 ghost use Rattle.planar_plan.specs.Lines.{AreHeld, AreWindows, AreWithin, CanBeCut, CountsFit, IsHeld, IsWindow, Reaches, strip_of, track_of};
 
 use crate::stretch::WholeRow;
 use clip_spans::Span;
 use page_table::Scatter;
-use picture_model::{Piece, PieceKind};
+use picture_model::{MAX_PIECE, Piece, PieceKind};
 use pixel_layout::Format;
 use risc_word::Ends;
 use std::alloc::{AllocError, Global};
 use std::marker::Model;
-
-// The most bytes of a piece on a plane.
-pub(crate) const MOST_BYTES: u32 = 4092;
 
 /// The pieces of a line, in order. Contracts see the list.
 #[derive(Drop)]
@@ -162,9 +160,9 @@ fn no_windows() -> Windows
 // How many of the grains that are left so many bytes hold; a track without bytes sets no limit.
 #[inline(always)]
 fn held_by(bytes: u32, size: u32, rest: u32) -> u32
-    requires { bytes ≤ 4092 }
+    requires { bytes ≤ max_piece }
     ensures grains { result ≡ min rest (most size bytes rest) }
-    ensures few { result * size ≤ 4092 }
+    ensures few { result * size ≤ max_piece }
 {
     if u64::from(rest) * u64::from(size) <= u64::from(bytes) {
         rest
@@ -175,12 +173,12 @@ fn held_by(bytes: u32, size: u32, rest: u32) -> u32
 
 // A track that isn't written. `rest` grains are left in the span.
 #[inline(always)]
-fn unwritten(size: u32, rest: u32) -> Reach
-    ensures { Reaches rest size (most size 4092 rest) 0 result }
+fn unwritten_reach(size: u32, rest: u32) -> Reach
+    ensures { Reaches rest size (most size max_piece rest) 0 result }
 {
     Reach {
         address: 0,
-        grains: held_by(MOST_BYTES, size, rest),
+        grains: held_by(MAX_PIECE, size, rest),
     }
 }
 
@@ -197,11 +195,11 @@ fn look_up(
     requires len { scatter.now.len ≤ 2 ^ 32 }
     requires some { 1 ≤ rest }
     requires held { AreHeld scatter.now (at + rest) size (Some start) }
-    ensures reach { Reaches rest size (most size (min 4092 (room_at scatter.now.chunks (start + at * size))) rest) (address_at scatter.now.chunks (start + at * size)) result }
+    ensures reach { Reaches rest size (most size (min max_piece (room_at scatter.now.chunks (start + at * size))) rest) (address_at scatter.now.chunks (start + at * size)) result }
     ensures window { IsWindow scatter.now window.new }
 {
     let offset = start + u64::from(at) * u64::from(size);
-    let (address, bytes) = scatter.run(offset, MOST_BYTES);
+    let (address, bytes) = scatter.run(offset, MAX_PIECE);
     *window = Window {
         from: offset,
         to: offset + u64::from(bytes),
@@ -227,7 +225,7 @@ fn written(
     requires some { 1 ≤ rest }
     requires held { AreHeld scatter.now (at + rest) size (Some start) }
     requires window { IsWindow scatter.now window.old }
-    ensures reach { Reaches rest size (most size (min 4092 (room_at scatter.now.chunks (start + at * size))) rest) (address_at scatter.now.chunks (start + at * size)) result }
+    ensures reach { Reaches rest size (most size (min max_piece (room_at scatter.now.chunks (start + at * size))) rest) (address_at scatter.now.chunks (start + at * size)) result }
     ensures window { IsWindow scatter.now window.new }
 {
     let offset = start + u64::from(at) * u64::from(size);
@@ -258,11 +256,11 @@ fn reach_on(
     ensures reach { Reaches rest track.size (most_of scatter.now.chunks clipped at rest (track_of track)) (address_of scatter.now.chunks clipped track.size track.start at) result }
 {
     if clipped {
-        return unwritten(track.size, rest);
+        return unwritten_reach(track.size, rest);
     }
     match track.start {
         Some(start) => written(scatter, window, track.size, start, at, rest),
-        None => unwritten(track.size, rest),
+        None => unwritten_reach(track.size, rest),
     }
 }
 
@@ -271,7 +269,7 @@ fn reach_on(
 #[tactic(auto, using(crate::proofs::Bounds::fewer_grains))]
 pub(crate) fn bytes(grains: u32, size: u32, most: u32) -> u16
     requires fewer { grains ≤ most }
-    requires few { most * size ≤ 4092 }
+    requires few { most * size ≤ max_piece }
     ensures value { result ≡ grains * size }
     ensures few { result < 4096 }
 {
@@ -367,7 +365,7 @@ pub(crate) fn unit_bytes(format: Format) -> u32
 // The grains in so many pixels of a row.
 #[tactic(auto, using(pixel_layout::proofs::Sizes::units_fit))]
 pub(crate) fn grains_of(format: Format, pixels: u32) -> u32
-    requires { pixels ≤ 1024 }
+    requires { pixels ≤ max_width }
     ensures { result ≡ grains_of (layout format) pixels }
 {
     let units = pixels / format.unit_pixels();
@@ -379,8 +377,8 @@ pub(crate) fn grains_of(format: Format, pixels: u32) -> u32
 }
 
 fn in_grains(format: Format, span: &Span) -> Span
-    requires from { span.now.from ≤ 1024 }
-    requires to { span.now.to ≤ 1024 }
+    requires from { span.now.from ≤ max_width }
+    requires to { span.now.to ≤ max_width }
     ensures { result ≡ in_grains (layout format) span.now }
 {
     Span {
@@ -396,7 +394,7 @@ pub(crate) fn spans_in_grains(
     format: Format,
     spans: &[Span],
 ) -> Result<Vec<Span>, AllocError>
-    requires { AreWithin 1024 spans.now }
+    requires { AreWithin max_width spans.now }
     ensures { IfOk result (λ grains. grains.items ≡ map (in_grains (layout format)) spans.now) }
 {
     let mut grains = Vec::with_capacity(alloc, spans.len())?;

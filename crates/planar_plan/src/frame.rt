@@ -1,12 +1,12 @@
 //! A frame and the plans of its lines.
 
-ghost use Rattle.std.specs.Prelude.{◌≡◌, ◌<◌, ◌≤◌, length, take, true, IfOk, IfSome, None};
+ghost use Rattle.std.specs.Prelude.{◌≡◌, ◌<◌, ◌≤◌, length, true, IfOk, IfSome, None};
 ghost use Rattle.std.specs.List.{All, flat_map};
 ghost use Rattle.capture_desc.specs.WellFormed.{IsWellFormed};
 ghost use Rattle.clip_spans.specs.Clipping.{next_edge};
 ghost use Rattle.page_table.specs.Taken.{in_order};
 ghost use Rattle.picture_model.specs.Described.{IsDescription, describes, field_height, highest_end, memory_of, taken};
-ghost use Rattle.picture_model.specs.Geometry.{first_after, frame_fault, frame_faults};
+ghost use Rattle.picture_model.specs.Geometry.{first_after, frame_fault, picture_faults};
 ghost use Rattle.picture_model.specs.Plans.{row_plan, row_strip, skipped_plan, vbi_plan};
 ghost use Rattle.planar_plan.specs.Frames.{HasScatter, IsFramed, Judges};
 ghost use Rattle.planar_plan.specs.Lines.{AreSpansOf, AreWithin, CountsFit};
@@ -46,7 +46,7 @@ impl Model for Frame {
 // Judges the picture and its VBI lines, and answers their highest end.
 fn end_of(alloc: Global, desc: &Desc) -> Result<u64, BuildError>
     requires { IsWellFormed desc.now }
-    ensures answer { Judges (first_after None (take 9 frame_faults) desc.now) result }
+    ensures answer { Judges (first_after None picture_faults desc.now) result }
     ensures end { IfOk result (λ end. end ≡ highest_end (taken desc.now)) }
 {
     size_faults(desc)?;
@@ -62,7 +62,7 @@ fn scatter_of(alloc: Global, desc: &Desc) -> Result<Scatter, BuildError>
     ensures answer { Judges (frame_fault desc.now) result }
     ensures scatter { IfOk result (HasScatter desc.now) }
 {
-    // read, so that it is known to be at most 255
+    // read, so that it is known to be a byte
     let _skip_lines = desc.skip_lines;
     let end = end_of(alloc, desc)?;
     page_faults(alloc, desc)?;

@@ -1,17 +1,17 @@
 //! The faults of a description's geometry, each by a function of its own.
 
-ghost use Rattle.std.specs.Prelude.{◌≡◌, ℕ, ◌+◌, ◌*◌, ◌%◌, ◌^◌, ◌<◌, ◌≤◌, not, ◌&&◌, ◌||◌, nat_lt, take, IfOk, None};
+ghost use Rattle.std.specs.Prelude.{◌≡◌, ℕ, ◌+◌, ◌*◌, ◌%◌, ◌^◌, ◌<◌, ◌≤◌, ◌||◌, nat_lt, IfOk, None};
 ghost use Rattle.std.specs.List.{list_any};
 ghost use Rattle.std.specs.Result.{result_err};
 ghost use Rattle.picture_model.specs.Described.{both, highest_end, layout_of, offset, plane_row_bytes, planes, stride, vbi_size};
 ghost use Rattle.capture_desc.specs.WellFormed.{IsWellFormed};
-ghost use Rattle.picture_model.specs.Geometry.{first_after, frame_faults, is_between, is_multiple, overlaps, some_overlap, when};
+ghost use Rattle.picture_model.specs.Geometry.{first_after, height_range, max_height, max_width, min_line_bytes, odd_height, off_unit, overlaps, size_faults, some_overlap, stride_short, too_narrow, vbi_range, when, width_off_unit, width_range};
 ghost use Rattle.planar_plan.specs.Sizes.{IsPlane, IsSized};
 ghost use Rattle.planar_plan.specs.declared.judge.BuildError.TheVariants.{Bad, Memory};
 
-use crate::places::{Stretch, is_both, offset, plane_row_bytes, stride};
+use crate::places::{Area, is_both, offset, plane_row_bytes, stride};
 use capture_desc::Desc;
-use picture_model::BuildFault;
+use picture_model::{BuildFault, MAX_HEIGHT, MAX_PIECE, MAX_VBI_LINES, MAX_WIDTH, MIN_LINE_BYTES};
 use std::alloc::{AllocError, AllocFailed};
 
 /// Why no frame or program is made of a description.
@@ -55,21 +55,21 @@ fn refuse(holds: bool, fault: BuildFault) -> Result<(), BuildFault>
 }
 
 fn width_range(desc: &Desc) -> Result<(), BuildFault>
-    ensures fault { result_err result ≡ when (not (is_between 1 1024 desc.now.width)) BuildFault.WidthRange }
-    ensures range { IfOk result (λ _. (1 ≤ desc.now.width) × (desc.now.width ≤ 1024)) }
+    ensures fault { result_err result ≡ width_range desc.now }
+    ensures range { IfOk result (λ _. (1 ≤ desc.now.width) × (desc.now.width ≤ max_width)) }
 {
-    refuse(!(1..=1024).contains(&desc.width), BuildFault::WidthRange)
+    refuse(!(1..=MAX_WIDTH).contains(&desc.width), BuildFault::WidthRange)
 }
 
 fn height_range(desc: &Desc) -> Result<(), BuildFault>
-    ensures fault { result_err result ≡ when (not (is_between 1 1024 desc.now.height)) BuildFault.HeightRange }
-    ensures range { IfOk result (λ _. (1 ≤ desc.now.height) × (desc.now.height ≤ 1024)) }
+    ensures fault { result_err result ≡ height_range desc.now }
+    ensures range { IfOk result (λ _. (1 ≤ desc.now.height) × (desc.now.height ≤ max_height)) }
 {
-    refuse(!(1..=1024).contains(&desc.height), BuildFault::HeightRange)
+    refuse(!(1..=MAX_HEIGHT).contains(&desc.height), BuildFault::HeightRange)
 }
 
 fn width_off_unit(desc: &Desc) -> Result<(), BuildFault>
-    ensures fault { result_err result ≡ when (not (is_multiple (layout_of desc.now).pixels desc.now.width)) BuildFault.WidthOffUnit }
+    ensures fault { result_err result ≡ width_off_unit desc.now }
     ensures units { IfOk result (λ _. desc.now.width % (layout_of desc.now).pixels ≡ 0) }
 {
     refuse(
@@ -79,7 +79,7 @@ fn width_off_unit(desc: &Desc) -> Result<(), BuildFault>
 }
 
 fn odd_height(desc: &Desc) -> Result<(), BuildFault>
-    ensures { result_err result ≡ when (both desc.now && not (is_multiple 2 desc.now.height)) BuildFault.OddHeight }
+    ensures { result_err result ≡ odd_height desc.now }
 {
     refuse(
         is_both(desc.fields) && desc.height % 2 != 0,
@@ -90,15 +90,17 @@ fn odd_height(desc: &Desc) -> Result<(), BuildFault>
 // Whether some plane has rows of fewer than 5 bytes.
 fn has_narrow_plane(desc: &Desc) -> bool
     requires { IsSized desc.now }
-    ensures { result ≡ list_any (λ p. nat_lt (plane_row_bytes desc.now p) 5) (planes desc.now) }
+    ensures { result ≡ list_any (λ p. nat_lt (plane_row_bytes desc.now p) min_line_bytes) (planes desc.now) }
 {
-    plane_row_bytes(desc, 1) < 5
-        || desc.format.is_planar() && (plane_row_bytes(desc, 2) < 5 || plane_row_bytes(desc, 3) < 5)
+    plane_row_bytes(desc, 1) < MIN_LINE_BYTES
+        || desc.format.is_planar()
+            && (plane_row_bytes(desc, 2) < MIN_LINE_BYTES
+                || plane_row_bytes(desc, 3) < MIN_LINE_BYTES)
 }
 
 fn too_narrow(desc: &Desc) -> Result<(), BuildFault>
     requires { IsSized desc.now }
-    ensures { result_err result ≡ when (list_any (λ p. nat_lt (plane_row_bytes desc.now p) 5) (planes desc.now)) BuildFault.TooNarrow }
+    ensures { result_err result ≡ too_narrow desc.now }
 {
     refuse(has_narrow_plane(desc), BuildFault::TooNarrow)
 }
@@ -114,7 +116,7 @@ fn is_stride_short(desc: &Desc, plane: u32) -> bool
 
 fn stride_short(desc: &Desc) -> Result<(), BuildFault>
     requires { IsSized desc.now }
-    ensures { result_err result ≡ when (list_any (λ p. nat_lt (stride desc.now p) (plane_row_bytes desc.now p)) (planes desc.now)) BuildFault.StrideShort }
+    ensures { result_err result ≡ stride_short desc.now }
 {
     let short = is_stride_short(desc, 1)
         || desc.format.is_planar() && (is_stride_short(desc, 2) || is_stride_short(desc, 3));
@@ -123,7 +125,7 @@ fn stride_short(desc: &Desc) -> Result<(), BuildFault>
 
 fn off_unit(desc: &Desc) -> Result<(), BuildFault>
     requires { IsSized desc.now }
-    ensures { result_err result ≡ when ((layout_of desc.now).planar && not (is_multiple (layout_of desc.now).pixels (offset desc.now 1) && is_multiple (layout_of desc.now).pixels (stride desc.now 1))) BuildFault.OffUnit }
+    ensures { result_err result ≡ off_unit desc.now }
 {
     let unit = desc.format.unit_pixels();
     let on_units = offset(desc, 1) % u64::from(unit) == 0 && stride(desc, 1) % unit == 0;
@@ -133,7 +135,7 @@ fn off_unit(desc: &Desc) -> Result<(), BuildFault>
 // Judges the sizes of the picture and of its planes.
 pub(crate) fn size_faults(desc: &Desc) -> Result<(), BuildFault>
     requires { IsWellFormed desc.now }
-    ensures fault { result_err result ≡ first_after None (take 7 frame_faults) desc.now }
+    ensures fault { result_err result ≡ first_after None size_faults desc.now }
     ensures sized { IfOk result (λ _. IsSized desc.now) }
 {
     width_range(desc)?;
@@ -145,21 +147,21 @@ pub(crate) fn size_faults(desc: &Desc) -> Result<(), BuildFault>
     off_unit(desc)
 }
 
-// Whether two stretches have an offset in common.
-fn overlaps(first: &Stretch, second: &Stretch) -> bool
+// Whether two areas have an offset in common.
+fn overlaps(first: &Area, second: &Area) -> bool
     ensures { result ≡ overlaps first.now second.now }
 {
     first.from.max(second.from) < first.to.min(second.to)
 }
 
-// Whether a stretch has an offset in common with one of some others.
-fn meets_one(first: &Stretch, others: &[Stretch]) -> bool
+// Whether an area has an offset in common with one of some others.
+fn meets_one(first: &Area, others: &[Area]) -> bool
     ensures { result ≡ list_any (overlaps first.now) others.now }
 {
     others.iter().any(|other| overlaps(first, other))
 }
 
-fn some_overlap(taken: &[Stretch]) -> bool
+fn some_overlap(taken: &[Area]) -> bool
     ensures { result ≡ some_overlap taken.now }
 {
     match taken {
@@ -168,7 +170,7 @@ fn some_overlap(taken: &[Stretch]) -> bool
     }
 }
 
-pub(crate) fn overlap(taken: &[Stretch]) -> Result<(), BuildFault>
+pub(crate) fn overlap(taken: &[Area]) -> Result<(), BuildFault>
     ensures { result_err result ≡ when (some_overlap taken.now) BuildFault.Overlap }
 {
     refuse(some_overlap(taken), BuildFault::Overlap)
@@ -176,17 +178,17 @@ pub(crate) fn overlap(taken: &[Stretch]) -> Result<(), BuildFault>
 
 pub(crate) fn vbi_range(desc: &Desc) -> Result<(), BuildFault>
     ensures few { IfOk result (λ _. vbi_size desc.now ≤ 2 ^ 17) }
-    ensures fault { result_err result ≡ when (nat_lt 32 desc.now.vbi_lines || (nat_lt 0 desc.now.vbi_lines && not (is_between 5 4092 desc.now.vbi_bytes))) BuildFault.VbiRange }
+    ensures fault { result_err result ≡ vbi_range desc.now }
 {
-    let bytes_out = !(5..=4092).contains(&desc.vbi_bytes);
+    let bytes_out = !(MIN_LINE_BYTES..=MAX_PIECE).contains(&desc.vbi_bytes);
     refuse(
-        desc.vbi_lines > 32 || desc.vbi_lines > 0 && bytes_out,
+        desc.vbi_lines > MAX_VBI_LINES || desc.vbi_lines > 0 && bytes_out,
         BuildFault::VbiRange,
     )
 }
 
-// The highest end of some stretches, of which an empty one ends where it begins.
-pub(crate) fn highest_end(taken: &[Stretch]) -> u128
+// The highest end of some areas, of which an empty one ends where it begins.
+pub(crate) fn highest_end(taken: &[Area]) -> u128
     ensures { result ≡ highest_end taken.now }
 {
     match taken {

@@ -2,6 +2,7 @@
 
 ghost use Rattle.std.specs.Prelude.{◌≡◌, ◌^◌, ◌≤◌, IfSome, None};
 ghost use Rattle.picture_model.specs.Described.{both, layout_of};
+ghost use Rattle.picture_model.specs.Geometry.{max_height};
 ghost use Rattle.picture_model.specs.Places.{plane_row, row_offset, vbi_line_offset};
 ghost use Rattle.picture_model.specs.Plans.{grain_bytes, kind_by, row_strip, row_track, skipped_strip, vbi_strip};
 ghost use Rattle.pixel_layout.specs.Layouts.{chroma_row, layout};
@@ -34,10 +35,10 @@ fn chroma_row(desc: &Desc, row: u32) -> Option<u32>
 
 // The row of a plane that takes a picture row.
 fn plane_row(desc: &Desc, plane: u32, row: u32) -> Option<u32>
-    requires row { row ≤ 1024 }
+    requires row { row ≤ max_height }
     requires plane { (1 ≤ plane) × (plane ≤ 3) }
     ensures value { result ≡ plane_row (layout_of desc.now) (both desc.now) plane row }
-    ensures few { IfSome result (λ kept. kept ≤ 1024) }
+    ensures few { IfSome result (λ kept. kept ≤ max_height) }
     ensures plane { IfSome result (λ _. IsPlane desc.now plane) }
 {
     if plane == 1 {
@@ -51,7 +52,7 @@ fn plane_row(desc: &Desc, plane: u32, row: u32) -> Option<u32>
 #[tactic(auto, using(crate::proofs::Bounds::products))]
 fn row_offset(desc: &Desc, plane: u32, row: u32) -> Option<u64>
     requires sized { IsSized desc.now }
-    requires row { row ≤ 1024 }
+    requires row { row ≤ max_height }
     requires plane { (1 ≤ plane) × (plane ≤ 3) }
     ensures { result ≡ row_offset desc.now plane row }
 {
@@ -65,7 +66,7 @@ fn row_offset(desc: &Desc, plane: u32, row: u32) -> Option<u64>
 
 fn row_track(desc: &Desc, plane: u32, row: u32) -> PlaneTrack
     requires sized { IsSized desc.now }
-    requires row { row ≤ 1024 }
+    requires row { row ≤ max_height }
     requires plane { (1 ≤ plane) × (plane ≤ 3) }
     ensures { track_of result ≡ row_track desc.now plane row }
 {
@@ -89,7 +90,7 @@ fn row_kind(desc: &Desc, row: u32) -> PieceKind
 // A row of the picture.
 pub(crate) fn row_line(desc: &Desc, row: u32) -> Line
     requires sized { IsSized desc.now }
-    requires row { row ≤ 1024 }
+    requires row { row ≤ max_height }
     ensures { strip_of result ≡ bare (row_strip desc.now row) }
 {
     Line {
@@ -102,7 +103,7 @@ pub(crate) fn row_line(desc: &Desc, row: u32) -> Line
 }
 
 // A track that isn't written.
-fn unwritten(size: u32) -> PlaneTrack
+fn unwritten_track(size: u32) -> PlaneTrack
     ensures { result ≡ record { size = size; start = None } }
 {
     PlaneTrack { size, start: None }
@@ -116,9 +117,9 @@ pub(crate) fn skipped_line(desc: &Desc) -> Line
     Line {
         grains: grains_of(desc.format, desc.width),
         kind: PieceKind::Skip,
-        one: unwritten(grain_bytes(desc.format, 1)),
-        two: unwritten(grain_bytes(desc.format, 2)),
-        three: unwritten(grain_bytes(desc.format, 3)),
+        one: unwritten_track(grain_bytes(desc.format, 1)),
+        two: unwritten_track(grain_bytes(desc.format, 2)),
+        three: unwritten_track(grain_bytes(desc.format, 3)),
     }
 }
 
@@ -136,7 +137,7 @@ pub(crate) fn vbi_line(desc: &Desc, field: Parity, line: u32) -> Line
             size: 1,
             start: Some(start as u64),
         },
-        two: unwritten(0),
-        three: unwritten(0),
+        two: unwritten_track(0),
+        three: unwritten_track(0),
     }
 }

@@ -1,12 +1,12 @@
 //! The pages or chunks of a description.
 
-ghost use Rattle.std.specs.Prelude.{◌≡◌, ℕ, ◌^◌, ◌<◌, [], map, take, drop, IfOk, None, Some};
+ghost use Rattle.std.specs.Prelude.{◌≡◌, ℕ, ◌^◌, ◌<◌, [], map, IfOk, None, Some};
 ghost use Rattle.std.specs.List.{All};
 ghost use Rattle.page_table.specs.Scattered.{AreChunks, ArePages, IsScatterList, scatter_list};
 ghost use Rattle.page_table.specs.Taken.{Answers, first_shared, in_order, listed, page_at};
 ghost use Rattle.capture_desc.specs.WellFormed.{IsWellFormed};
 ghost use Rattle.picture_model.specs.Described.{memory_of};
-ghost use Rattle.picture_model.specs.Geometry.{first_after, first_missing, first_unaligned, frame_faults};
+ghost use Rattle.picture_model.specs.Geometry.{first_after, first_missing, first_unaligned, page_faults};
 ghost use Rattle.planar_plan.specs.Frames.{Judges, taken_memory};
 
 use crate::judge::BuildError;
@@ -33,7 +33,7 @@ fn taken_memory(
 // Judges the pages or chunks each for itself and against those before it.
 pub(crate) fn page_faults(alloc: Global, desc: &Desc) -> Result<(), BuildError>
     requires { IsWellFormed desc.now }
-    ensures answer { Judges (first_after None (take 2 (drop 9 frame_faults)) desc.now) result }
+    ensures answer { Judges (first_after None page_faults desc.now) result }
     ensures aligned { IfOk result (λ _. first_unaligned desc.now.chunks desc.now.pages ≡ None) }
     ensures apart { IfOk result (λ _. first_shared [] (memory_of desc.now) ≡ None) }
     ensures pages { All (λ page. page < 2 ^ 32) desc.now.pages }

@@ -11,15 +11,15 @@ use pixel_layout::{Format, Parity};
 use std::alloc::{AllocError, Global};
 use std::marker::Model;
 
-// The offsets from `from` up to `to`, which isn't part of them. The end of a VBI area passes 2^64 where
-// its lines are many and long.
+// The offsets from `from` up to `to`, which isn't part of them: those of a plane, or of a field's VBI
+// lines, whose end passes 2^64 where they are many and long.
 #[derive(Clone, Copy)]
-pub(crate) struct Stretch {
+pub(crate) struct Area {
     pub(crate) from: u128,
     pub(crate) to: u128,
 }
 
-impl Model for Stretch {
+impl Model for Area {
     ghost use Rattle.picture_model.specs.Described.{Extent};
 
     ghost Value = { Extent };
@@ -165,7 +165,7 @@ pub(crate) fn offset(desc: &Desc, plane: u32) -> u64
 }
 
 // The offsets that a plane takes.
-fn extent(desc: &Desc, plane: u32) -> Stretch
+fn extent(desc: &Desc, plane: u32) -> Area
     requires sized { IsSized desc.now }
     requires plane { IsPlane desc.now plane }
     ensures value { result ≡ extent desc.now plane }
@@ -173,7 +173,7 @@ fn extent(desc: &Desc, plane: u32) -> Stretch
 {
     let from = offset(desc, plane);
     let to = from + plane_bytes(desc, plane);
-    Stretch {
+    Area {
         from: u128::from(from),
         to: u128::from(to),
     }
@@ -227,20 +227,20 @@ pub(crate) fn vbi_offset(desc: &Desc, field: Parity) -> u128
 }
 
 // The offsets that the VBI lines of a field take.
-fn vbi_area(desc: &Desc, field: Parity) -> Stretch
+fn vbi_area(desc: &Desc, field: Parity) -> Area
     requires { IsSized desc.now }
     ensures value { result ≡ vbi_area desc.now field }
     ensures few { vbi_size desc.now ≤ 2 ^ 17 → result.to ≤ 2 ^ 47 }
 {
     let from = vbi_offset(desc, field);
-    Stretch {
+    Area {
         from,
         to: from + vbi_size(desc),
     }
 }
 
 // The stretches of the planes.
-fn extents(alloc: Global, desc: &Desc) -> Result<Vec<Stretch>, AllocError>
+fn extents(alloc: Global, desc: &Desc) -> Result<Vec<Area>, AllocError>
     requires { IsSized desc.now }
     ensures value { IfOk result (λ stretches. stretches.items ≡ extents desc.now) }
     ensures few { IfOk result (λ stretches. highest_end stretches.items ≤ 2 ^ 46) }
@@ -255,7 +255,7 @@ fn extents(alloc: Global, desc: &Desc) -> Result<Vec<Stretch>, AllocError>
 }
 
 // The stretches of the planes and of the VBI areas, of which some may be empty.
-pub(crate) fn taken(alloc: Global, desc: &Desc) -> Result<Vec<Stretch>, AllocError>
+pub(crate) fn taken(alloc: Global, desc: &Desc) -> Result<Vec<Area>, AllocError>
     requires { IsSized desc.now }
     ensures value { IfOk result (λ stretches. stretches.items ≡ taken desc.now) }
     ensures few { IfOk result (λ stretches. vbi_size desc.now ≤ 2 ^ 17 → highest_end stretches.items ≤ 2 ^ 47) }

@@ -8,10 +8,10 @@ ghost use Rattle.picture_model.specs.Plans.{FitsTrack};
 ghost use Rattle.planar_plan.specs.Lines.{AreWithin, CanBeCut, CountsFit, IsHeld, strip_of, track_of};
 ghost use Rattle.planar_plan.specs.Stretches.{AreFit, AreStretches, FitsInOne, IsStretch, IsWhole, piece_in, pieces_in, place_on};
 
-use crate::cut::{Line, MOST_BYTES, PlaneTrack, bytes};
+use crate::cut::{Line, PlaneTrack, bytes};
 use clip_spans::Span;
 use page_table::Scatter;
-use picture_model::{Piece, PieceKind};
+use picture_model::{MAX_PIECE, Piece, PieceKind};
 use risc_word::Ends;
 use std::alloc::AllocError;
 use std::marker::Model;
@@ -58,7 +58,7 @@ fn stretch_of(scatter: &Scatter, grains: u32, track: PlaneTrack) -> Option<Stret
     ensures none { result ≡ None → 1 ≤ grains → FitsTrack scatter.now.chunks false 0 grains (track_of track) → ⊥ }
 {
     let bytes = u64::from(grains) * u64::from(track.size);
-    if grains == 0 || u64::from(MOST_BYTES) < bytes {
+    if grains == 0 || u64::from(MAX_PIECE) < bytes {
         return None;
     }
     let Some(start) = track.start else {
@@ -67,7 +67,7 @@ fn stretch_of(scatter: &Scatter, grains: u32, track: PlaneTrack) -> Option<Stret
             step: 0,
         });
     };
-    let (address, run) = scatter.run(start, MOST_BYTES);
+    let (address, run) = scatter.run(start, MAX_PIECE);
     if u64::from(run) < bytes {
         return None;
     }

@@ -3,22 +3,22 @@ use Rattle.std.proofs.lemmas.Result.{err_from_is_err_and}
 use Rattle.page_table.specs.Scattered.{ScatterList, scatter_list}
 use Rattle.picture_model.specs.declared.BuildFault.{BuildFault}
 use Rattle.picture_model.specs.Described.{memory_of}
-use Rattle.picture_model.specs.Geometry.{first_after, first_missing, frame_fault, frame_faults}
+use Rattle.picture_model.specs.Geometry.{first_after, first_missing, frame_fault, page_faults, picture_faults}
 use Rattle.planar_plan.specs.Frames.{Judges}
-use Rattle.planar_plan.proofs.Faults.{at_memory, at_pages, at_picture, has_scatter, judges_err, page_checks}
+use Rattle.planar_plan.proofs.Faults.{at_memory, at_pages, at_picture, has_scatter, judges_err}
 use Rattle.planar_plan.proofs.frame.scatter_of.Goals as goal
 
 pub returns-in_err-end-clause-answer : goal.returns-in_err-end-clause-answer
 returns-in_err-end-clause-answer c =
     let p = err_from_is_err_and c.from_residual.result c.from_residual.ensures.1 in
     let d = c.args.desc.now in
-    rw (p.1, p.2) (judges_err ℕ ScatterList (first_after None (take 9 frame_faults) d) (frame_fault d) c.in_err-end.field-0.0 (at_picture d) c.in_err-end.ensures.answer)
+    rw (p.1, p.2) (judges_err ℕ ScatterList (first_after None picture_faults d) (frame_fault d) c.in_err-end.field-0.0 (at_picture d) c.in_err-end.ensures.answer)
 
 pub returns-in_err-page_faults-clause-answer : goal.returns-in_err-page_faults-clause-answer
 returns-in_err-page_faults-clause-answer c =
     let p = err_from_is_err_and c.from_residual-in_err-page_faults.result c.from_residual-in_err-page_faults.ensures.1 in
     let d = c.args.desc.now in
-    rw (p.1, p.2) (judges_err (Unit {0}) ScatterList (first_after None page_checks d) (frame_fault d) c.in_err-page_faults.field-0.0 (λ fault. at_pages d fault c.in_ok-end.ensures.answer) c.in_err-page_faults.ensures.answer)
+    rw (p.1, p.2) (judges_err (Unit {0}) ScatterList (first_after None page_faults d) (frame_fault d) c.in_err-page_faults.field-0.0 (λ fault. at_pages d fault c.in_ok-end.ensures.answer) c.in_err-page_faults.ensures.answer)
 
 pub returns-clause-answer : goal.returns-clause-answer
 returns-clause-answer c =
