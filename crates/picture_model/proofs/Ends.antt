@@ -88,7 +88,7 @@ range_in_order f bytes low high from (suc count) some within apart =
     let first = within from o (omega arith) (omega arith) here in (
       first.0,
       range_in_order f bytes (o + bytes) high (from + 1) count first.1
-      (λ k p later below is. (apart from k o p (omega arith) here is, (within k p (omega arith) (omega arith) is).1)) apart,
+          (λ k p later below is. (apart from k o p (omega arith) here is, (within k p (omega arith) (omega arith) is).1)) apart,
     ))
 
 -- what the even and the odd ones of a range have passed, all of it has

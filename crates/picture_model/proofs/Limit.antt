@@ -1,5 +1,5 @@
 -- A compiled program has fewer than 500,000 words.
-use Rattle.std.proofs.Common.{◌≡◌, ℕ, zero, suc, ◌+◌, ◌*◌, ◌/◌, ◌%◌, ◌<◌, ◌≤◌, ◌⊎◌, Bool, true, false, List, [], ◌∷◌, ◌++◌, length, length-append, map, Option, Some, None, refl, sym, ap, ◌∙◌, subst, arith, ⊎_elim, if◌then◌else◌}
+use Rattle.std.proofs.Common.{◌≡◌, ℕ, zero, suc, ◌+◌, ◌*◌, ◌/◌, ◌%◌, ◌<◌, ◌≤◌, Bool, true, false, List, [], ◌∷◌, ◌++◌, length, length-append, map, Option, Some, None, refl, sym, ap, ◌∙◌, subst, arith, ⊎_elim, if◌then◌else◌}
 use Rattle.std.specs.Prelude.{replicate, ◌==◌, IfSome}
 use Rattle.std.specs.List.{range_with_len}
 use Rattle.std.proofs.lemmas.Grind.{flat_map-append}
@@ -32,7 +32,7 @@ use Rattle.picture_model.specs.Plans.{Cut, Strip, cuts_of, grain_bytes, grain_cl
 use Rattle.picture_model.specs.Programs.{body, closing, field_instrs, instr_by, instr_of, line_instrs, lines_instrs, opening, picture_strips, section, section_length, sections_by, sections_words, vbi_from, vbi_instrs, vbi_strips, words_of}
 use Rattle.picture_model.proofs.Right.{IsRight}
 use Rattle.picture_model.proofs.Each.{Each, each_range}
-use Rattle.picture_model.proofs.Ends.{AreInOrder, all_ended, crossed-within, ended, ended_after, interleaved, range_in_order}
+use Rattle.picture_model.proofs.Ends.{all_ended, crossed-within, ended, ended_after, interleaved, range_in_order}
 use Rattle.picture_model.proofs.Crossing.{at_begins, at_ends, crossed_once, forward_append, forward_map}
 use Rattle.picture_model.proofs.Counting.{cut_words, line_words-few, passed, span_weights, words_for}
 use Rattle.picture_model.proofs.Grains.{held_plane, row_grains}

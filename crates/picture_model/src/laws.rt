@@ -1,7 +1,7 @@
 //! Laws of descriptions whose geometry has no fault. The functions do nothing; their contracts are the
 //! laws.
 
-ghost use Rattle.std.specs.Prelude.{◌≡◌, ◌↔◌, ℕ, ◌+◌, ◌*◌, ◌<◌, ◌≤◌, ◌++◌, true, Some, List, length};
+ghost use Rattle.std.specs.Prelude.{◌≡◌, ◌↔◌, ℕ, ◌+◌, ◌*◌, ◌<◌, ◌++◌, true, Some, List, length};
 ghost use Rattle.std.specs.List.{All};
 ghost use Rattle.capture_desc.specs.declared.desc.Desc.{Desc};
 ghost use Rattle.clip_spans.specs.Runs.{AreRunsFrom};

@@ -1,5 +1,5 @@
 -- The first of some faults, and the faults of pages and chunks.
-use Rattle.std.proofs.Common.{◌≡◌, ℕ, ◌^◌, ◌≤◌, ◌&&◌, ◌||◌, List, [], ◌∷◌, ◌++◌, take, drop, length, Option, Some, None, Result, Ok, Err, IfOk, refl, ap, ◌∙◌, arith}
+use Rattle.std.proofs.Common.{◌≡◌, ℕ, ◌≤◌, ◌||◌, List, [], ◌∷◌, ◌++◌, length, Option, Some, None, Result, Ok, Err, IfOk, refl, ap, ◌∙◌, arith}
 use Rattle.std.specs.Prelude.{not, nat_lt, IfSome}
 use Rattle.std.proofs.lemmas.Bool.{cond-false, le-ltb, or_from}
 use Rattle.page_table.specs.declared.PageFault.{PageFault}

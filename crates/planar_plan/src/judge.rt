@@ -3,7 +3,7 @@
 ghost use Rattle.std.specs.Prelude.{◌≡◌, ℕ, ◌+◌, ◌*◌, ◌%◌, ◌^◌, ◌<◌, ◌≤◌, ◌||◌, nat_lt, IfOk, None};
 ghost use Rattle.std.specs.List.{list_any};
 ghost use Rattle.std.specs.Result.{result_err};
-ghost use Rattle.picture_model.specs.Described.{both, highest_end, layout_of, offset, plane_row_bytes, planes, stride, vbi_size};
+ghost use Rattle.picture_model.specs.Described.{highest_end, layout_of, offset, plane_row_bytes, planes, stride, vbi_size};
 ghost use Rattle.capture_desc.specs.WellFormed.{IsWellFormed};
 ghost use Rattle.picture_model.specs.Geometry.{first_after, height_range, max_height, max_width, min_line_bytes, odd_height, off_unit, overlaps, size_faults, some_overlap, stride_short, too_narrow, vbi_range, when, width_off_unit, width_range};
 ghost use Rattle.planar_plan.specs.Sizes.{IsPlane, IsSized};
@@ -58,14 +58,20 @@ fn width_range(desc: &Desc) -> Result<(), BuildFault>
     ensures fault { result_err result ≡ width_range desc.now }
     ensures range { IfOk result (λ _. (1 ≤ desc.now.width) × (desc.now.width ≤ max_width)) }
 {
-    refuse(!(1..=MAX_WIDTH).contains(&desc.width), BuildFault::WidthRange)
+    refuse(
+        !(1..=MAX_WIDTH).contains(&desc.width),
+        BuildFault::WidthRange,
+    )
 }
 
 fn height_range(desc: &Desc) -> Result<(), BuildFault>
     ensures fault { result_err result ≡ height_range desc.now }
     ensures range { IfOk result (λ _. (1 ≤ desc.now.height) × (desc.now.height ≤ max_height)) }
 {
-    refuse(!(1..=MAX_HEIGHT).contains(&desc.height), BuildFault::HeightRange)
+    refuse(
+        !(1..=MAX_HEIGHT).contains(&desc.height),
+        BuildFault::HeightRange,
+    )
 }
 
 fn width_off_unit(desc: &Desc) -> Result<(), BuildFault>

@@ -1,4 +1,4 @@
-use Rattle.std.proofs.Common.{arith, ◌≡◌, ℕ, ◌∙◌, take, None, Option, IfOk, sym, ap, subst}
+use Rattle.std.proofs.Common.{arith, ◌≡◌, ℕ, ◌∙◌, None, Option, IfOk, sym, ap, subst}
 use Rattle.std.proofs.lemmas.Result.{err_from_is_err_and}
 use Rattle.page_table.specs.Scattered.{ScatterList, scatter_list}
 use Rattle.picture_model.specs.declared.BuildFault.{BuildFault}
