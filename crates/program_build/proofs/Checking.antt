@@ -1,17 +1,20 @@
 -- What holds of a checked description and its program.
-use Rattle.std.proofs.Common.{◌≡◌, ℕ, Bool, ◌||◌, List, [], ◌∷◌, map, refl, Option, None, sym, ap, ◌∙◌}
+use Rattle.std.proofs.Common.{◌≡◌, ℕ, ◌+◌, ◌*◌, ◌^◌, Bool, not, ◌&&◌, ◌||◌, List, [], ◌∷◌, length, map, refl, Option, Some, None, sym, ap, ◌∙◌}
+use Rattle.std.specs.Prelude.{nat_le}
 use Rattle.std.specs.List.{list_any}
 use Rattle.page_table.specs.Grants.{Chunk}
 use Rattle.machine_model.specs.Paths.{IsProgram, IsSound, RiscProgram}
 use Rattle.capture_desc.specs.declared.desc.Desc.{Desc}
 use Rattle.picture_model.specs.declared.BuildFault.{BuildFault}
-use Rattle.picture_model.specs.Geometry.{first_after, first_fault, frame_fault, frame_faults, program_faults}
+use Rattle.picture_model.specs.declared.BuildFault.TheVariants.{ProgramBase, ProgramOnPage}
+use Rattle.picture_model.specs.Described.{memory_of}
+use Rattle.picture_model.specs.Geometry.{first_after, first_fault, frame_fault, frame_faults, is_multiple, program_base, program_faults, program_on_page, when}
 use Rattle.picture_model.specs.Programs.{compiled}
 use Rattle.picture_model.proofs.Made.{compiled_program}
 use Rattle.picture_model.proofs.Right.{IsFrame-IsRight, IsValid-IsFrame}
 use Rattle.picture_model.proofs.Sections.{compiled_sound}
 use Rattle.planar_plan.proofs.Faults.{none_front}
-use Rattle.program_build.specs.Checks.{IsChecked}
+use Rattle.program_build.specs.Checks.{IsChecked, is_met}
 
 pub checked_program : (d : Desc) → IsChecked d → IsProgram (compiled d)
 checked_program d is = compiled_program d is.description is.valid
@@ -32,6 +35,22 @@ same_program base words grants p one two three =
 pub then_program : (d e : Desc) (found : Option BuildFault) → frame_fault d ≡ None → e ≡ d → first_after None program_faults e ≡ found → first_fault d ≡ found
 then_program d e found none same is =
     none_front frame_faults program_faults d none ∙ ap (first_after None program_faults) (sym same) ∙ is
+
+-- where a program's base and end are right, a byte shared with its pages is the fault
+pub on_page : (d e : Desc) (end : ℕ) (fault : BuildFault) → e ≡ d → end ≡ d.base + 4 * length (compiled d).words → None ≡ when (not (is_multiple 4 e.base && nat_le end (2 ^ 32))) ProgramBase → Some fault ≡ when (list_any (is_met e.base end) (memory_of e)) ProgramOnPage → first_after None program_faults d ≡ Some fault
+on_page d e end fault same ends right shared =
+    let first : program_base d ≡ None =
+    sym (right
+    ∙ ap (λ (x : Desc). when (not (is_multiple 4 x.base && nat_le end (2 ^ 32))) ProgramBase) same
+    ∙ ap (λ (n : ℕ). when (not (is_multiple 4 d.base && nat_le n (2 ^ 32))) ProgramBase) ends)
+    in
+    let second : program_on_page d ≡ Some fault =
+    sym (shared
+    ∙ ap (λ (x : Desc). when (list_any (is_met x.base end) (memory_of x)) ProgramOnPage) same
+    ∙ ap (λ (n : ℕ). when (list_any (is_met d.base n) (memory_of d)) ProgramOnPage) ends)
+    in
+    ap (λ (o : Option BuildFault). first_after o (program_on_page ∷ []) d) first
+    ∙ ap (λ (o : Option BuildFault). first_after o [] d) second
 
 -- a test of what a list is mapped to
 pub any_map : {A B : Type 0} (test : B → Bool) (f : A → B) (xs : List A) → list_any test (map f xs) ≡ list_any (λ x. test (f x)) xs

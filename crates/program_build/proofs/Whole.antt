@@ -1,7 +1,5 @@
--- The words of a program by its sections.
-use Rattle.std.proofs.Common.{◌≡◌, ℕ, ◌+◌, ◌*◌, ◌^◌, ◌≤◌, Bool, true, false, List, [], ◌∷◌, ◌++◌, length, length-append, Some, refl, sym, ap, ◌∙◌, arith}
-use Rattle.std.specs.Prelude.{◌&&◌, nat_le, not}
-use Rattle.std.proofs.lemmas.Bool.{lt-leb}
+-- The words of the sections.
+use Rattle.std.proofs.Common.{◌≡◌, ℕ, ◌+◌, ◌*◌, ◌%◌, ◌^◌, List, [], ◌∷◌, ◌++◌, length, length-append, sym, ap, ◌∙◌, arith}
 use Rattle.std.proofs.lemmas.Grind.{flat_map-append}
 use Rattle.std.proofs.lemmas.List.{append-nil}
 use Rattle.risc_word.specs.declared.Instr.{Instr}
@@ -11,12 +9,9 @@ use Rattle.pixel_layout.specs.declared.Parity.TheVariants.{Top, Bottom}
 use Rattle.capture_desc.specs.declared.desc.Desc.{Desc}
 use Rattle.capture_desc.specs.declared.desc.Fields.{Fields}
 use Rattle.capture_desc.specs.declared.desc.Fields.TheVariants as fields
-use Rattle.picture_model.specs.declared.BuildFault.{BuildFault}
-use Rattle.picture_model.specs.declared.BuildFault.TheVariants.{ProgramBase}
-use Rattle.picture_model.specs.Geometry.{first_after, is_multiple, when}
-use Rattle.picture_model.specs.Programs.{body, closing, compiled, opening, section, section_length, sections_by, words_of}
+use Rattle.picture_model.specs.Programs.{body, closing, opening, section, section_length, sections_by, sections_words, words_of}
 use Rattle.picture_model.proofs.Sections.{section_long}
-use Rattle.program_build.specs.Checks.{base_fault}
+use Rattle.program_build.specs.Checks.{AreSections}
 
 -- a section but for its closing
 abbrev pub open_words : Desc → Parity → List ℕ
@@ -31,53 +26,56 @@ pub open_long : (d : Desc) (field : Parity) → section_length d field ≡ lengt
 open_long d field =
     ap length (closed d field 0) ∙ length-append (open_words d field) (encoded (closing field 0))
 
+-- the section of one field
+
+pub top_alone : (d : Desc) (at back : ℕ) (words : List ℕ) → d.fields ≡ fields.Top → words ≡ words_of (section d Top back) → AreSections d at back words
+top_alone d at back words same is =
+    let whole : words ≡ sections_words d at back = is ∙ sym (ap (λ (which : Fields). words_of (sections_by which d at back)) same) in
+    record { long = ap length whole; same = λ ends. whole }
+
+pub bottom_alone : (d : Desc) (at back : ℕ) (words : List ℕ) → d.fields ≡ fields.Bottom → words ≡ words_of (section d Bottom back) → AreSections d at back words
+bottom_alone d at back words same is =
+    let whole : words ≡ sections_words d at back = is ∙ sym (ap (λ (which : Fields). words_of (sections_by which d at back)) same) in
+    record { long = ap length whole; same = λ ends. whole }
+
 -- the sections of both fields
 
-both_by : (which : Fields) (d : Desc) (from last : ℕ) → which ≡ fields.Both → sections_by which d from last ≡ section d Top (from + 4 * section_length d Top) ++ section d Bottom last
-both_by fields.Top d from last is = cc
-both_by fields.Bottom d from last is = cc
-both_by fields.Both d from last is = refl
-
-module _ (d : Desc) (both : d.fields ≡ fields.Both) where
-  both_words : (compiled d).words ≡ words_of (section d Top (d.base + 4 * section_length d Top)) ++ words_of (section d Bottom d.base)
+module _ (d : Desc) (at back : ℕ) (both : d.fields ≡ fields.Both) where
+  both_words : sections_words d at back ≡ words_of (section d Top (at + 4 * section_length d Top)) ++ words_of (section d Bottom back)
   both_words =
-      ap words_of (both_by d.fields d d.base d.base both)
-      ∙ flat_map-append encoded (section d Top (d.base + 4 * section_length d Top)) (section d Bottom d.base)
+      ap (λ (which : Fields). words_of (sections_by which d at back)) both
+      ∙ flat_map-append encoded (section d Top (at + 4 * section_length d Top)) (section d Bottom back)
 
-  pub both_long : length (compiled d).words ≡ section_length d Top + section_length d Bottom
+  pub both_long : length (sections_words d at back) ≡ section_length d Top + section_length d Bottom
   both_long =
-      let parts = ap length both_words ∙ length-append (words_of (section d Top (d.base + 4 * section_length d Top))) (words_of (section d Bottom d.base)) in
-      let top = section_long d Top (d.base + 4 * section_length d Top) in
-      let bottom = section_long d Bottom d.base in omega arith
+      let parts = ap length both_words ∙ length-append (words_of (section d Top (at + 4 * section_length d Top))) (words_of (section d Bottom back)) in
+      let top = section_long d Top (at + 4 * section_length d Top) in
+      let bottom = section_long d Bottom back in omega arith
 
   -- the top section, its closing and the bottom section are the whole
-  pub both_whole : (top closed_top all : List ℕ) (jump : Instr) (base target : ℕ) → top ≡ open_words d Top → jump ≡ closing Top target → closed_top ≡ top ++ encoded jump → all ≡ closed_top ++ words_of (section d Bottom base) → base ≡ d.base → target ≡ base + 4 * (length top + 2) → all ≡ (compiled d).words
-  both_whole top closed_top all jump base target start leads one two same at =
-      let long = open_long d Top in
-      let size = ap length start in
-      let next : target ≡ d.base + 4 * section_length d Top = omega arith in
-      let first : closed_top ≡ words_of (section d Top (d.base + 4 * section_length d Top)) =
+  pub both_whole : (top closed_top all : List ℕ) (jump : Instr) (target : ℕ) → top ≡ open_words d Top → jump ≡ closing Top target → closed_top ≡ top ++ encoded jump → all ≡ closed_top ++ words_of (section d Bottom back) → target ≡ (at + 4 * (length top + 2)) % 2 ^ 32 → AreSections d at back all
+  both_whole top closed_top all jump target start leads one two next =
+      let closed_top_is : closed_top ≡ words_of (section d Top target) =
       one
       ∙ ap (λ (w : List ℕ). w ++ encoded jump) start
       ∙ ap (λ (i : Instr). open_words d Top ++ encoded i) leads
-      ∙ ap (λ (t : ℕ). open_words d Top ++ encoded (closing Top t)) next
-      ∙ sym (closed d Top (d.base + 4 * section_length d Top))
+      ∙ sym (closed d Top target)
       in
-      two
-      ∙ ap (λ (w : List ℕ). w ++ words_of (section d Bottom base)) first
-      ∙ ap (λ (b : ℕ). words_of (section d Top (d.base + 4 * section_length d Top)) ++ words_of (section d Bottom b)) same
-      ∙ sym both_words
-
-beyond : (aligned inside : Bool) (fault : BuildFault) (d : Desc) → inside ≡ false → fault ≡ ProgramBase → first_after (when (not (aligned && inside)) ProgramBase) [] d ≡ Some fault
-beyond true true fault d out is = cc
-beyond true false fault d out is = ap Some (sym is)
-beyond false inside fault d out is = ap Some (sym is)
-
--- where the bottom section would begin beyond 2^32, the program ends there
-pub ends_beyond : (d : Desc) (base words : ℕ) (fault : BuildFault) → d.fields ≡ fields.Both → base ≡ d.base → words ≡ length (open_words d Top) → 2 ^ 32 ≤ base + 4 * (words + 2) → fault ≡ ProgramBase → base_fault d ≡ Some fault
-ends_beyond d base words fault both same count far is =
-    let whole = both_long d both in
-    let top = open_long d Top in
-    let bottom = open_long d Bottom in
-    beyond (is_multiple 4 d.base) (nat_le (d.base + 4 * length (compiled d).words) (2 ^ 32)) fault d
-    (lt-leb (d.base + 4 * length (compiled d).words) (2 ^ 32) (omega arith)) is
+      let all_is : all ≡ words_of (section d Top target) ++ words_of (section d Bottom back) =
+      two ∙ ap (λ (w : List ℕ). w ++ words_of (section d Bottom back)) closed_top_is
+      in
+      let parts = ap length all_is ∙ length-append (words_of (section d Top target)) (words_of (section d Bottom back)) in
+      let first = section_long d Top target in
+      let last = section_long d Bottom back in
+      let whole = both_long in
+      let top_long = open_long d Top in
+      let bottom_long = open_long d Bottom in
+      let size = ap length start in
+      record {
+        long = omega arith;
+        same = λ ends.
+            let there : target ≡ at + 4 * section_length d Top = omega arith in
+            all_is
+            ∙ ap (λ (t : ℕ). words_of (section d Top t) ++ words_of (section d Bottom back)) there
+            ∙ sym both_words;
+      }

@@ -1,27 +1,21 @@
--- What a checked description meets, and what a refusal tells.
-use Rattle.std.specs.Prelude.{◌≡◌, ◌+◌, Bool, Option, Some, None, List, ℕ, max, min, nat_lt, take, ⊤}
+-- What a checked description meets, and the words of its sections.
+use Rattle.std.specs.Prelude.{◌≡◌, ◌+◌, ◌*◌, ◌^◌, ◌≤◌, Bool, List, ℕ, length, max, min, nat_lt}
 use Rattle.page_table.specs.Grants.{Chunk}
 use Rattle.capture_desc.specs.declared.desc.Desc.{Desc}
-use Rattle.picture_model.specs.declared.BuildFault.{BuildFault}
 use Rattle.picture_model.specs.Described.{IsDescription}
-use Rattle.picture_model.specs.Geometry.{IsValid, first_after, program_faults}
-use Rattle.picture_model.specs.Programs.{compiled}
-use Rattle.planar_plan.specs.declared.judge.BuildError.{BuildError}
-use Rattle.planar_plan.specs.declared.judge.BuildError.TheVariants.{Bad, Memory}
+use Rattle.picture_model.specs.Geometry.{IsValid}
+use Rattle.picture_model.specs.Programs.{compiled, sections_words}
 
 -- a description whose geometry has no fault at all
 pub record IsChecked (d : Desc) : Type 0 where
   pub description : IsDescription d
   pub valid : IsValid d
 
--- the fault of a program's base and end
-abbrev pub base_fault : Desc → Option BuildFault
-base_fault d = first_after None (take 1 program_faults) d
-
--- a refusal tells the fault that was found; want of memory is free
-abbrev pub Refuses : Option BuildFault → BuildError → Type 0
-Refuses found (Bad fault) = found ≡ Some fault
-Refuses found Memory = ⊤
+-- words are those of the sections at an address, with a way back. Where the sections end beyond 2^32 there
+-- is no address for each of them, and only their number is that of the sections
+pub record AreSections (d : Desc) (at back : ℕ) (words : List ℕ) : Type 0 where
+  pub long : length words ≡ length (sections_words d at back)
+  pub same : at + 4 * length (sections_words d at back) ≤ 2 ^ 32 → words ≡ sections_words d at back
 
 -- the words that are kept of a description are those of its program
 pub record HasWords (d : Desc) (kept : List ℕ) : Type 0 where

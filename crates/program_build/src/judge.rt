@@ -1,6 +1,6 @@
 //! The words of a program, and the faults of its place in memory.
 
-ghost use Rattle.std.specs.Prelude.{◌≡◌, ◌+◌, ◌*◌, ◌^◌, ◌≤◌, not, ◌&&◌, nat_le, IfOk, OnOk, None};
+ghost use Rattle.std.specs.Prelude.{◌≡◌, ◌+◌, ◌*◌, ◌^◌, not, ◌&&◌, nat_le, IfOk, OnOk, None};
 ghost use Rattle.std.specs.List.{list_any};
 ghost use Rattle.std.specs.Result.{result_err};
 ghost use Rattle.page_table.specs.Grants.{chunk};
@@ -11,13 +11,12 @@ ghost use Rattle.picture_model.specs.Programs.{compiled};
 ghost use Rattle.planar_plan.specs.Frames.{Judges};
 ghost use Rattle.program_build.specs.Checks.{is_met};
 
-use crate::sections::program_words;
+use crate::sections::sections_words;
 use capture_desc::Desc;
+use page_table::PAGE_SIZE;
 use picture_model::BuildFault;
 use planar_plan::{BuildError, Frame};
 use std::alloc::Global;
-
-const PAGE: u32 = 4096;
 
 // Judges where a program begins and ends.
 fn program_base(base: u32, end: u64) -> Result<(), BuildFault>
@@ -40,7 +39,7 @@ fn is_met(base: u32, end: u64, at: u32, len: u32) -> bool
 fn meets_pages(base: u32, end: u64, pages: &[u32]) -> bool
     ensures { result ≡ list_any (λ page. is_met base end (page_at page)) pages.now }
 {
-    pages.iter().any(|page| is_met(base, end, *page, PAGE))
+    pages.iter().any(|page| is_met(base, end, *page, PAGE_SIZE))
 }
 
 fn meets_chunks(base: u32, end: u64, chunks: &[(u32, u32)]) -> bool
@@ -78,8 +77,8 @@ pub(crate) fn judged_words(alloc: Global, frame: &Frame) -> Result<Vec<u32>, Bui
     ensures words { IfOk result (λ words. words.items ≡ (compiled frame.now).words) }
     ensures description { OnOk result (IsDescription frame.now) }
 {
-    let words = program_words(alloc, frame)?;
     let desc = frame.desc();
+    let words = sections_words(alloc, frame, desc.base, desc.base)?;
     let end = u64::from(desc.base) + 4 * words.len() as u64;
     program_base(desc.base, end)?;
     program_on_page(desc.base, end, desc)?;

@@ -7,6 +7,7 @@ mod sections;
 
 pub use checked::{Checked, build, check};
 pub use planar_plan::{BuildError, BuildFault};
+pub use sections::sections_words;
 
 #[cfg(test)]
 mod tests;

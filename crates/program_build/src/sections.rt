@@ -1,18 +1,17 @@
-//! The sections of a program, one for each described field.
+//! The sections of a description's program, one for each described field.
 
-ghost use Rattle.std.specs.Prelude.{◌≡◌, ◌++◌, ◌+◌, ◌*◌, ◌^◌, ◌∷◌, ◌≤◌, IfErr, IfOk, IsTrue, OnOk, MatchResult, length, true};
+ghost use Rattle.std.specs.Prelude.{◌≡◌, ◌++◌, ◌+◌, ◌*◌, ◌%◌, ◌^◌, ◌∷◌, ◌<◌, IfOk, IsTrue, OnOk, true};
 ghost use Rattle.capture_desc.specs.declared.desc.Fields.TheVariants as fields;
-ghost use Rattle.picture_model.specs.declared.BuildFault.TheVariants.{ProgramBase};
 ghost use Rattle.picture_model.specs.Described.{IsDescription, describes};
-ghost use Rattle.picture_model.specs.Programs.{body, closing, compiled, opening, section, vertical, words_of};
-ghost use Rattle.program_build.specs.Checks.{Refuses, base_fault};
+ghost use Rattle.picture_model.specs.Programs.{body, closing, opening, section, vertical, words_of};
+ghost use Rattle.planar_plan.specs.Frames.{IsFramed};
+ghost use Rattle.program_build.specs.Checks.{AreSections};
 ghost use Rattle.risc_word.specs.Words.{fits};
 
 use capture_desc::Fields;
 use field_compile::{compile_field, push_instr, sync};
-use picture_model::BuildFault;
 use pixel_layout::Parity;
-use planar_plan::{BuildError, Frame};
+use planar_plan::Frame;
 use risc_word::{Code, Ctl, Instr};
 use std::alloc::{AllocError, Global};
 use vbi_compile::compile_vbi;
@@ -78,55 +77,61 @@ fn push_section(
 }
 
 // The section of a description that has one field.
-fn one_section(alloc: Global, frame: &Frame, field: Parity) -> Result<Vec<u32>, AllocError>
+fn one_section(
+    alloc: Global,
+    frame: &Frame,
+    field: Parity,
+    back: u32,
+) -> Result<Vec<u32>, AllocError>
     requires { describes frame.now.fields field ≡ true }
-    ensures words { IfOk result (λ words. words.items ≡ words_of (section frame.now field frame.now.base)) }
+    ensures words { IfOk result (λ words. words.items ≡ words_of (section frame.now field back)) }
     ensures description { OnOk result (IsDescription frame.now) }
 {
     let mut words = Vec::new(alloc);
-    push_section(alloc, frame, field, frame.desc().base, &mut words)?;
+    push_section(alloc, frame, field, back, &mut words)?;
     Ok(words)
 }
 
-// The address after a closing that follows so many words. There is none where the program would end
-// beyond 2^32.
-fn address_after(base: u32, words: usize) -> Result<u32, BuildFault>
-    requires { words ≤ 2 ^ 61 }
-    ensures { MatchResult result (λ address. address ≡ base + 4 * (words + 2)) (λ fault. (fault ≡ ProgramBase) × (2 ^ 32 ≤ base + 4 * (words + 2))) }
+// The address after a closing that follows so many words, modulo 2^32.
+fn address_after(at: u32, words: usize) -> u32
+    requires { words < 500000 }
+    ensures { result ≡ (at + 4 * (words + 2)) % 2 ^ 32 }
 {
-    let address = u64::from(base) + 4 * (words as u64 + 2);
-    if address < 1 << 32 {
-        Ok(address as u32)
-    } else {
-        Err(BuildFault::ProgramBase)
-    }
+    at.wrapping_add(4 * (words as u32 + 2))
 }
 
-// The sections of both fields: the top one leads to the bottom one, and this to the base.
-fn both_sections(alloc: Global, frame: &Frame) -> Result<Vec<u32>, BuildError>
-    requires { frame.now.fields ≡ fields.Both }
-    ensures words { IfOk result (λ words. words.items ≡ (compiled frame.now).words) }
-    ensures fault { IfErr result (Refuses (base_fault frame.now)) }
+// The sections of both fields: the top one leads to the bottom one, and this goes back.
+fn both_sections(alloc: Global, frame: &Frame, at: u32, back: u32) -> Result<Vec<u32>, AllocError>
+    requires both { frame.now.fields ≡ fields.Both }
+    requires framed { IsFramed frame.now }
+    ensures words { IfOk result (λ words. AreSections frame.now at back words.items) }
     ensures description { OnOk result (IsDescription frame.now) }
 {
-    let base = frame.desc().base;
     let mut words = Vec::new(alloc);
     push_body(alloc, frame, Parity::Top, &mut words)?;
-    let bottom = address_after(base, words.len())?;
+    let bottom = address_after(at, words.len());
     push_instr(&closing(Parity::Top, bottom), &mut words)?;
-    push_section(alloc, frame, Parity::Bottom, base, &mut words)?;
+    push_section(alloc, frame, Parity::Bottom, back, &mut words)?;
     Ok(words)
 }
 
-// The words of a frame's program, where it doesn't end beyond 2^32.
-pub(crate) fn program_words(alloc: Global, frame: &Frame) -> Result<Vec<u32>, BuildError>
-    ensures words { IfOk result (λ words. words.items ≡ (compiled frame.now).words) }
-    ensures fault { IfErr result (Refuses (base_fault frame.now)) }
+/// The words of a frame's sections, one for each described field, the top one first, as they stand at the
+/// address `at`. A section has SYNC on the field's vertical code with RESYNC, the VBI part, the picture
+/// part, and a JUMP that interrupts and leads to the next section, or from the last to the address `back`
+/// (this project's own rule). Where the sections would end beyond 2^32, the answer has as many words as they
+/// have.
+pub fn sections_words(
+    alloc: Global,
+    frame: &Frame,
+    at: u32,
+    back: u32,
+) -> Result<Vec<u32>, AllocError>
+    ensures words { IfOk result (λ words. AreSections frame.now at back words.items) }
     ensures description { OnOk result (IsDescription frame.now) }
 {
     match frame.desc().fields {
-        Fields::Top => Ok(one_section(alloc, frame, Parity::Top)?),
-        Fields::Bottom => Ok(one_section(alloc, frame, Parity::Bottom)?),
-        Fields::Both => both_sections(alloc, frame),
+        Fields::Top => one_section(alloc, frame, Parity::Top, back),
+        Fields::Bottom => one_section(alloc, frame, Parity::Bottom, back),
+        Fields::Both => both_sections(alloc, frame, at, back),
     }
 }
