@@ -10,11 +10,10 @@ use Rattle.machine_model.specs.Steps.{Step, Turn, state_at}
 use Rattle.machine_model.specs.Safety.{IsStep}
 use Rattle.capture_desc.specs.declared.desc.Desc.{Desc}
 use Rattle.picture_model.specs.Programs.{compiled, size}
-use Rattle.field_law.specs.Arrivals.{entries_of, over_queues}
+use Rattle.field_law.specs.Arrivals.{meeting, coming, entries_of, over_queues, turns_in}
 use Rattle.picture_law.specs.Pictures.{Picture}
-use Rattle.picture_law.specs.Arrivals.{Arrives, coming, turns_in}
-use Rattle.picture_law.specs.Laws.{IsCapture}
-use Rattle.picture_law.specs.Runs.{IsFirstSignal, IsSignalled, between, step_at}
+use Rattle.picture_law.specs.Sections.{section_of}
+use Rattle.picture_law.specs.Runs.{ArrivesAt, IsCapture, IsFirstSignal, IsSignalled, between, step_at}
 use Rattle.picture_law.proofs.Places.{run_shows_picture, run_shows_no_fault, run_tells_field, run_signals_in_time}
 use Rattle.bt878_tasks.specs.Pictures.{ArrivesUpTo, IsCompiled, IsShown, ShowsPictures, ShowsNoFault, SignalsInTime}
 
@@ -55,8 +54,8 @@ module _ (program : RiscProgram) (fill : ℕ) (steps : List Step) (made : All Is
   signals_come d field picture j i l c =
       subst
       (λ (p : RiscProgram).
-      j ≤ i → i ≤ l → l ≤ length steps → (arrives : Arrives d field picture (state_at (first_state p fill) steps j) (between j l steps)) →
-      ((q : Queue) → entries_of arrives.before arrives.entries q ≤ length (queue_state q (state_at (first_state p fill) steps j).queues).entries + length (coming (between j i steps) q)) →
-      5 * size d field + over_queues (entries_of arrives.before arrives.entries) ≤ turns_in (between i l steps) →
-      (k : ℕ) × IsFirstSignal d field (first_state p fill) steps j k × (k < l))
+      j ≤ i → i ≤ l → l ≤ length steps → (arrives : ArrivesAt d field picture (state_at (first_state p fill) steps j) (between j l steps)) →
+      ((q : Queue) → entries_of arrives.before arrives.entries q ≤ length (queue_state q (state_at (first_state p fill) steps j).queues).entries + length (coming (meeting (compiled d) (between j i steps)) q)) →
+      5 * size d field + over_queues (entries_of arrives.before arrives.entries) ≤ turns_in (meeting (compiled d) (between i l steps)) →
+      (k : ℕ) × IsFirstSignal (section_of d field) (first_state p fill) steps j k × (k < l))
       (sym c.same) (run_signals_in_time d field picture fill steps j i l (capture d field picture c))

@@ -12,11 +12,11 @@ use Rattle.capture_desc.specs.declared.desc.Desc.{Desc}
 use Rattle.picture_model.specs.Described.{IsDescription, describes}
 use Rattle.picture_model.specs.Geometry.{IsValid}
 use Rattle.picture_model.specs.Programs.{compiled, size}
-use Rattle.field_law.specs.Arrivals.{entries_of, over_queues}
+use Rattle.field_law.specs.Arrivals.{meeting, coming, entries_of, over_queues, turns_in}
 use Rattle.picture_law.specs.Pictures.{Picture, IsPicture, After}
-use Rattle.picture_law.specs.Arrivals.{Arrives, coming, turns_in}
+use Rattle.picture_law.specs.Sections.{section_of}
 use Rattle.picture_law.specs.Laws.{TellsField}
-use Rattle.picture_law.specs.Runs.{IsFirstSignal, between, step_at}
+use Rattle.picture_law.specs.Runs.{ArrivesAt, IsFirstSignal, between, step_at}
 
 -- a valid description whose program is this one, a field that it describes, and a picture of the field
 pub record IsCompiled (program : RiscProgram) (d : Desc) (field : Parity) (picture : Picture) : Type 0 where
@@ -28,8 +28,8 @@ pub record IsCompiled (program : RiscProgram) (d : Desc) (field : Parity) (pictu
 
 -- the first signal of the field after place j is step k, and the picture arrives at j over the steps j to k
 pub record ArrivesUpTo (d : Desc) (field : Parity) (picture : Picture) (first : State) (steps : List Step) (j k : ℕ) : Type 0 where
-  pub signal : IsFirstSignal d field first steps j k
-  pub arrives : Arrives d field picture (state_at first steps j) (between j (k + 1) steps)
+  pub signal : IsFirstSignal (section_of d field) first steps j k
+  pub arrives : ArrivesAt d field picture (state_at first steps j) (between j (k + 1) steps)
 
 -- memory is that of before with the picture, RISCI is set, and the RISC status tells the field
 pub record IsShown (d : Desc) (field : Parity) (picture : Picture) (before now : State) : Type 0 where
@@ -55,7 +55,7 @@ ShowsNoFault first steps =
 abbrev pub SignalsInTime : State → List Step → Type 0
 SignalsInTime first steps =
     (d : Desc) (field : Parity) (picture : Picture) (j i l : ℕ) → IsCompiled first.program d field picture →
-    j ≤ i → i ≤ l → l ≤ length steps → (arrives : Arrives d field picture (state_at first steps j) (between j l steps)) →
-    ((q : Queue) → entries_of arrives.before arrives.entries q ≤ length (queue_state q (state_at first steps j).queues).entries + length (coming (between j i steps) q)) →
-    5 * size d field + over_queues (entries_of arrives.before arrives.entries) ≤ turns_in (between i l steps) →
-    (k : ℕ) × IsFirstSignal d field first steps j k × (k < l)
+    j ≤ i → i ≤ l → l ≤ length steps → (arrives : ArrivesAt d field picture (state_at first steps j) (between j l steps)) →
+    ((q : Queue) → entries_of arrives.before arrives.entries q ≤ length (queue_state q (state_at first steps j).queues).entries + length (coming (meeting (compiled d) (between j i steps)) q)) →
+    5 * size d field + over_queues (entries_of arrives.before arrives.entries) ≤ turns_in (meeting (compiled d) (between i l steps)) →
+    (k : ℕ) × IsFirstSignal (section_of d field) first steps j k × (k < l)

@@ -13,10 +13,7 @@ use Rattle.fifo_model.proofs.Codes.{codes-without_code}
 use Rattle.machine_model.specs.Turns.{no_code, is_stray, code_if}
 use Rattle.machine_model.proofs.Fronts.{data_code}
 use Rattle.field_law.specs.Fields.{Token, Mark, Brings}
-
--- an entry is that control code, or it is not
-abbrev pub HasCode : Code → Entry → Type 0
-HasCode code entry = code_of_kind (kind_of entry.status) ≡ Some code
+use Rattle.field_law.specs.Arrivals.{HasCode}
 
 -- ---- the front of a queue
 

@@ -79,7 +79,7 @@ idle_planned (suc count) rest line tokens = idle_planned count rest line tokens
 
 -- ---- where the bytes of a line go
 
-laid_each : (P : Store → Type 0) (address : ℕ) (bytes : List ℕ) → ((x : ℕ) → x < length bytes → P (record { address = address + x; byte = slice_index bytes x })) →
+pub laid_each : (P : Store → Type 0) (address : ℕ) (bytes : List ℕ) → ((x : ℕ) → x < length bytes → P (record { address = address + x; byte = slice_index bytes x })) →
     All P (laid_from address bytes)
 laid_each P address [] h = All-nil P
 laid_each P address (byte ∷ bytes) h =

@@ -69,7 +69,7 @@ module _ (s : Section) (field : Queue → List Token) (m : State) (steps : List 
         rest = rest;
         order = order;
         unmarked = r.arrives.unmarked;
-        brings = r.arrives.brings;
+        brings = r.arrives.brought;
         painted = painted;
         bounded = omega arith;
       })
@@ -89,7 +89,7 @@ module _ (s : Section) (field : Queue → List Token) (m : State) (early late : 
       (first_bound s field m (early ++ (program, Turn) ∷ late) r given chunks final painted) (run_in m early)
   ran =
       runs s field r.uses given chunks final early ((program, Turn) ∷ late) ((program, Turn) ∷ late)
-      (first_bound s field m (early ++ (program, Turn) ∷ late) r given chunks final painted) m r.orderly r.held r.arrives.quiet silent
+      (first_bound s field m (early ++ (program, Turn) ∷ late) r given chunks final painted) m r.orderly r.made r.held r.arrives.kept silent
       (starts s field m (early ++ (program, Turn) ∷ late) r given chunks final painted (coming (early ++ (program, Turn) ∷ late)) r.arrives.rest r.arrives.order)
 
   held : Holds s program
@@ -191,10 +191,10 @@ module _ (s : Section) (field : Queue → List Token) (m : State) (early late : 
   in_time silent =
       let parts = signal-append s m early late silent in
       let first : Ran s field r.uses ⊥ [] (λ _. 0) [] late (5 * suc (length s.body) + 1 + over_queues (entries_of r.arrives.before r.arrives.entries)) (run_in m early) =
-      runs s field r.uses ⊥ [] (λ _. 0) early late [] (5 * suc (length s.body) + 1 + over_queues (entries_of r.arrives.before r.arrives.entries)) m r.orderly r.held r.arrives.quiet parts.0
+      runs s field r.uses ⊥ [] (λ _. 0) early late [] (5 * suc (length s.body) + 1 + over_queues (entries_of r.arrives.before r.arrives.entries)) m r.orderly r.made r.held r.arrives.kept parts.0
       (starts s field m (early ++ late) r ⊥ [] (λ _. 0) (λ none. absurd none) (coming (early ++ []))
       (λ q. drop (length (r.arrives.before q ++ r.arrives.entries q)) ((queue_state q m.queues).entries ++ coming early q)) there) in
-      let last = counted_runs s field r.uses ⊥ [] (λ _. 0) late first.next (run_in m early) first.orderly (all_first (λ met. Holds s met.0) early late r.held) first.quiet parts.1 first.reached in
+      let last = counted_runs s field r.uses ⊥ [] (λ _. 0) late first.next (run_in m early) first.orderly first.made (all_first (λ met. Holds s met.0) early late r.held) first.kept parts.1 first.reached in
       let first_most = first.most in
       let last_most = last.most in
       omega arith

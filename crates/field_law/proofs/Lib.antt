@@ -13,6 +13,8 @@ pub mod Turns
 pub mod Pushes
 pub mod Runs
 pub mod Closing
+pub mod GrantedStores
+pub mod Meeting
 pub mod Laws
 pub mod Worked
 pub mod CutLines

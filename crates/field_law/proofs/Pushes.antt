@@ -15,7 +15,7 @@ use Rattle.machine_model.specs.States.{State}
 use Rattle.machine_model.specs.Steps.{Step, Push, Control, Turn, Host, answer_if, pushed_as, control_pushed_as, with_fbus_if, push_if, push, push_control_if, push_control, step}
 use Rattle.field_law.specs.Fields.{Token}
 use Rattle.field_law.specs.Sections.{Section, Uses, asks}
-use Rattle.field_law.specs.Arrivals.{pushed_by, IsQuiet, turn_count}
+use Rattle.field_law.specs.Arrivals.{pushed_by, IsKept, turn_count}
 use Rattle.field_law.proofs.Served.{Outlook}
 use Rattle.field_law.proofs.Asked.{outlook_with}
 use Rattle.field_law.proofs.Within.{Within, job_asks}
@@ -151,25 +151,25 @@ module _ (s : Section) (field : Queue → List Token) (uses : Uses s field) (giv
     reached_moved (inr h) = inr (within_moved h)
 
   -- a step that is no turn
-  pub step-moved : (later later' more : Queue → List Entry) (bound : ℕ) (st : Step) (m : State) → IsQuiet m st → turn_count st ≡ 0 →
+  pub step-moved : (later later' more : Queue → List Entry) (bound : ℕ) (st : Step) (m : State) → IsKept m st → turn_count st ≡ 0 →
       ((after : Queues) → Adds m.queues after (pushed_by st) → (q : Queue) → (queue_state q after).entries ++ later' q ≡ ((queue_state q m.queues).entries ++ later q) ++ more q) →
       IsReached s field uses given chunks final later bound m → IsReached s field uses given chunks final later' bound (step st m)
-  step-moved later later' more bound (Push to entry) m quiet no_turn ahead h =
+  step-moved later later' more bound (Push to entry) m kept no_turn ahead h =
       let queues' : Queues = with_queue_state to (entered entry (queue_state to m.queues)) m.queues in
       let adds = adds_to to entry m.queues in
-      subst (λ (m' : State). IsReached s field uses given chunks final later' bound m') (sym (push-is to entry m quiet.0))
+      subst (λ (m' : State). IsReached s field uses given chunks final later' bound m') (sym (push-is to entry m kept))
       (reached_moved later later' more m.queues queues' adds.taken (ahead queues' adds) bound m.risc_on m.pc m.skipping m.job m.memory h)
-  step-moved later later' more bound (Control code) m quiet no_turn ahead h =
+  step-moved later later' more bound (Control code) m kept no_turn ahead h =
       let queues' : Queues = all_entered (control_entry code) m.queues in
       let adds = adds_all code m.queues in
-      subst (λ (m' : State). IsReached s field uses given chunks final later' bound m') (sym (push_control-is code m quiet))
+      subst (λ (m' : State). IsReached s field uses given chunks final later' bound m') (sym (push_control-is code m kept))
       (reached_moved later later' more m.queues queues' adds.taken (ahead queues' adds) bound m.risc_on m.pc m.skipping m.job m.memory h)
-  step-moved later later' more bound Turn m quiet no_turn ahead h = absurd (omega arith)
-  step-moved later later' more bound (Host (Ack mask)) m quiet no_turn ahead h =
+  step-moved later later' more bound Turn m kept no_turn ahead h = absurd (omega arith)
+  step-moved later later' more bound (Host (Ack mask)) m kept no_turn ahead h =
       let adds = adds_none m.queues in
       reached_moved later later' more m.queues m.queues adds.taken (ahead m.queues adds) bound m.risc_on m.pc m.skipping m.job m.memory h
-  step-moved later later' more bound (Host (Enable fifo risc)) m quiet no_turn ahead h = absurd quiet
-  step-moved later later' more bound (Host (Trigger number)) m quiet no_turn ahead h =
+  step-moved later later' more bound (Host (Enable fifo risc)) m kept no_turn ahead h = absurd kept
+  step-moved later later' more bound (Host (Trigger number)) m kept no_turn ahead h =
       let adds = adds_none m.queues in
       reached_moved later later' more m.queues m.queues adds.taken (ahead m.queues adds) bound m.risc_on m.pc m.skipping m.job m.memory h
 

@@ -1,8 +1,8 @@
 -- The worked field meets the premises of the law.
-use Rattle.std.proofs.Common.{◌≡◌, true, false, List, [], ◌∷◌, ◌++◌, Some, All, map, refl, sym, arith}
+use Rattle.std.proofs.Common.{◌≡◌, true, false, List, [], ◌∷◌, ◌++◌, All, refl, sym, arith}
 use Rattle.std.proofs.lemmas.List.Elements.{All-nil, All-cons, All-from_recursion}
 use Rattle.risc_word.specs.declared.Code.TheVariants.{Vre, Fm1}
-use Rattle.fifo_model.specs.Queues.{queue_state, code_of_kind, control_entry}
+use Rattle.fifo_model.specs.Queues.{queue_state, control_entry}
 use Rattle.fifo_model.specs.declared.Entry.{Entry}
 use Rattle.fifo_model.specs.declared.Queue.{Queue}
 use Rattle.fifo_model.specs.declared.Queue.TheVariants.{One, Two, Three}
@@ -14,13 +14,12 @@ use Rattle.machine_model.proofs.Orderly.{IsOrderly-first_state}
 use Rattle.machine_model.proofs.Runs.{IsOrderly-run}
 use Rattle.page_table.specs.Grants.{granted}
 use Rattle.page_table.specs.Blocks.{chunks_of}
-use Rattle.sync_status.specs.Statuses.{kind_of}
 use Rattle.field_law.specs.Fields.{Mark, IsLine, Brings}
 use Rattle.field_law.specs.Sections.{Holds, Uses, Paints, section_stores}
-use Rattle.field_law.specs.Arrivals.{Met, coming, Arrives, is_signal, has_signal}
+use Rattle.field_law.specs.Arrivals.{Met, meeting, coming, HasCode, Arrives, BringsField, is_signal, has_signal}
 use Rattle.field_law.specs.Laws.{Receives}
 use Rattle.field_law.proofs.Painting.{IsAgreed, byte_at-unstored}
-use Rattle.field_law.specs.Worked.{program, section, field, entry, begun, machine, line, moves, met_by, early, final}
+use Rattle.field_law.specs.Worked.{program, section, field, entry, begun, machine, line, moves, early, final}
 
 holds : Holds section program
 holds = (refl, tt, refl, (refl, refl, refl, (refl, refl)))
@@ -30,15 +29,18 @@ uses One = (refl, refl, (refl, omega arith, omega arith, (refl, refl)))
 uses Two = (refl, refl, (omega arith, (refl, refl)))
 uses Three = (refl, refl, (omega arith, (refl, refl)))
 
+abbrev IsMade : Met → Type 0
+IsMade met = IsStep met.1
+
 abbrev IsHeld : Met → Type 0
 IsHeld met = Holds section met.0
 
-steps_hold : (steps : List Step) → All IsHeld (map met_by steps)
+steps_hold : (steps : List Step) → All IsHeld (meeting program steps)
 steps_hold [] = All-nil IsHeld
-steps_hold (step ∷ steps) = All-cons IsHeld (met_by step) (map met_by steps) holds (steps_hold steps)
+steps_hold (step ∷ steps) = All-cons IsHeld (program, step) (meeting program steps) holds (steps_hold steps)
 
 abbrev pub IsOther : Entry → Type 0
-IsOther entry = code_of_kind (kind_of entry.status) ≡ Some Vre → ⊥
+IsOther entry = HasCode Vre entry → ⊥
 
 abbrev pub before : Queue → List Entry
 before One = entry 0 0xffffffff ∷ []
@@ -80,20 +82,20 @@ brings One = (
 brings Two = (control_entry Vre, control_entry Fm1 ∷ [], refl, refl, (control_entry Fm1, [], refl, refl, refl))
 brings Three = (control_entry Vre, control_entry Fm1 ∷ [], refl, refl, (control_entry Fm1, [], refl, refl, refl))
 
-arrives : Arrives section field machine (early ++ (program, Turn) ∷ [])
+arrives : Arrives section (BringsField section field) machine (early ++ (program, Turn) ∷ [])
 arrives =
     record {
       fifo_on = refl;
       risc_on = refl;
       waits = refl;
       there = refl;
-      quiet = (tt, (refl, (tt, (refl, ((refl, refl), (tt, (tt, (tt, (tt, ((refl, refl), (tt, (tt, (tt, tt)))))))))))));
+      kept = (tt, (refl, (tt, (refl, (refl, (tt, (tt, (tt, (tt, (refl, (tt, (tt, (tt, tt)))))))))))));
       before = before;
       entries = entries;
       rest = λ q. [];
       order = order;
       unmarked = unmarked;
-      brings = brings;
+      brought = brings;
     }
 
 pub begun_made : All IsStep begun
@@ -102,8 +104,11 @@ begun_made = All-from_recursion IsStep begun (refl, (tt, tt))
 orderly : IsOrderly machine
 orderly = IsOrderly-run (first_state program 0) begun begun_made (IsOrderly-first_state program 0)
 
+steps_made : All IsMade (early ++ (program, Turn) ∷ [])
+steps_made = All-from_recursion IsMade (early ++ (program, Turn) ∷ []) (tt, (tt, (tt, (tt, (refl, (tt, (tt, (tt, (tt, (refl, (tt, (tt, (tt, tt)))))))))))))
+
 pub receives : Receives section field machine (early ++ (program, Turn) ∷ [])
-receives = record { orderly = orderly; held = steps_hold (moves ++ Turn ∷ []); uses = uses; arrives = arrives }
+receives = record { orderly = orderly; made = steps_made; held = steps_hold (moves ++ Turn ∷ []); uses = uses; arrives = arrives }
 
 abbrev IsWithin : Store → Type 0
 IsWithin store = granted (chunks_of machine.memory) store.address ≡ true

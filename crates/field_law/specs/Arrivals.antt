@@ -1,6 +1,7 @@
 -- When a field arrives at a machine that waits for it, and when its section signals.
-use Rattle.std.specs.Prelude.{◌≡◌, ℕ, ◌+◌, Bool, true, false, ◌&&◌, ◌||◌, All, List, [], ◌∷◌, ◌++◌, length, Some, if◌then◌else◌, ◌==◌}
-use Rattle.sync_status.specs.Statuses.{kind_of, is_control}
+use Rattle.std.specs.Prelude.{◌≡◌, ℕ, ◌+◌, Bool, true, false, ◌&&◌, ◌||◌, All, List, [], ◌∷◌, ◌++◌, length, map, Some, if◌then◌else◌, ◌==◌}
+use Rattle.risc_word.specs.declared.Code.{Code}
+use Rattle.sync_status.specs.Statuses.{kind_of}
 use Rattle.fifo_model.specs.declared.Entry.{Entry}
 use Rattle.fifo_model.specs.declared.Queue.{Queue}
 use Rattle.fifo_model.specs.declared.Queue.TheVariants.{One, Two, Three}
@@ -22,6 +23,10 @@ Met = RiscProgram × Step
 abbrev pub after : State → Met → State
 after m met = step met.1 (with_program met.0 m)
 
+-- steps that all meet one program
+abbrev pub meeting : RiscProgram → List Step → List Met
+meeting program steps = map (λ step. (program, step)) steps
+
 -- what steps push to a queue; a control code goes to each
 abbrev pub is_queue : Queue → Queue → Bool
 is_queue One One = true
@@ -35,37 +40,48 @@ pushed_by (Control code) q = control_entry code ∷ []
 pushed_by Turn q = []
 pushed_by (Host write) q = []
 
+abbrev pub pushed_in : List Step → Queue → List Entry
+pushed_in [] q = []
+pushed_in (first ∷ steps) q = pushed_by first q ++ pushed_in steps q
+
 abbrev pub coming : List Met → Queue → List Entry
-coming [] q = []
-coming (met ∷ steps) q = pushed_by met.1 q ++ coming steps q
+coming steps q = pushed_in (map (λ met. met.1) steps) q
 
--- no push is lost or ignored, no control code comes as data, and the host acknowledges or sets the trigger point
-abbrev pub IsQuiet : State → Step → Type 0
-IsQuiet m (Push q entry) = (pushed_as q m ≡ Held) × (is_control (kind_of entry.status) ≡ false)
-IsQuiet m (Control code) = control_pushed_as m ≡ Held
-IsQuiet m Turn = Unit {0}
-IsQuiet m (Host (Ack mask)) = Unit {0}
-IsQuiet m (Host (Enable fifo risc)) = ⊥
-IsQuiet m (Host (Trigger number)) = Unit {0}
+-- no push is lost or ignored, and the host acknowledges or sets the trigger point
+abbrev pub IsKept : State → Step → Type 0
+IsKept m (Push q entry) = pushed_as q m ≡ Held
+IsKept m (Control code) = control_pushed_as m ≡ Held
+IsKept m Turn = Unit {0}
+IsKept m (Host (Ack mask)) = Unit {0}
+IsKept m (Host (Enable fifo risc)) = ⊥
+IsKept m (Host (Trigger number)) = Unit {0}
 
-abbrev pub AreQuiet : State → List Met → Type 0
-AreQuiet m [] = Unit {0}
-AreQuiet m (met ∷ steps) = IsQuiet (with_program met.0 m) met.1 × AreQuiet (after m met) steps
+abbrev pub AreKept : State → List Met → Type 0
+AreKept m [] = Unit {0}
+AreKept m (met ∷ steps) = IsKept (with_program met.0 m) met.1 × AreKept (after m met) steps
+
+-- an entry is that control code
+abbrev pub HasCode : Code → Entry → Type 0
+HasCode code entry = code_of_kind (kind_of entry.status) ≡ Some code
+
+-- entries of each queue that bring a section's code and then a field
+abbrev pub BringsField : Section → (Queue → List Token) → (Queue → List Entry) → Type 0
+BringsField s field entries = (q : Queue) → Brings (Mark s.code ∷ field q) (entries q)
 
 -- the machine waits in a section's opening; each queue holds and is brought some entries without the code awaited, then
--- the field, then any others
-pub record Arrives (s : Section) (field : Queue → List Token) (m : State) (steps : List Met) : Type 0 where
+-- those of a field, then any others; `IsField` says which entries are those of the field
+pub record Arrives (s : Section) (IsField : (Queue → List Entry) → Type 0) (m : State) (steps : List Met) : Type 0 where
   pub fifo_on : m.fifo_on ≡ true
   pub risc_on : m.risc_on ≡ true
   pub waits : m.job ≡ Waiting s.opening true s.code
   pub there : m.pc ≡ s.at
-  pub quiet : AreQuiet m steps
+  pub kept : AreKept m steps
   pub before : Queue → List Entry
   pub entries : Queue → List Entry
   pub rest : Queue → List Entry
   pub order : (q : Queue) → (queue_state q m.queues).entries ++ coming steps q ≡ before q ++ (entries q ++ rest q)
-  pub unmarked : (q : Queue) → All (λ entry. (code_of_kind (kind_of entry.status) ≡ Some s.code) → ⊥) (before q)
-  pub brings : (q : Queue) → Brings (Mark s.code ∷ field q) (entries q)
+  pub unmarked : (q : Queue) → All (λ entry. HasCode s.code entry → ⊥) (before q)
+  pub brought : IsField entries
 
 -- how many entries that is, over the three queues
 abbrev pub over_queues : (Queue → ℕ) → ℕ

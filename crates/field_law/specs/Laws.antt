@@ -9,17 +9,19 @@ use Rattle.machine_model.specs.Paths.{RiscProgram}
 use Rattle.machine_model.specs.States.{State}
 use Rattle.machine_model.specs.Turns.{sets_fdsr}
 use Rattle.machine_model.specs.Steps.{Turn, with_program, run_in}
-use Rattle.machine_model.specs.Safety.{IsOrderly}
+use Rattle.machine_model.specs.Safety.{IsStep, IsOrderly}
 use Rattle.field_law.specs.Fields.{Token}
 use Rattle.field_law.specs.Sections.{Section, Holds, Uses, Paints}
-use Rattle.field_law.specs.Arrivals.{Met, Arrives, coming, entries_of, over_queues, is_signal, has_signal, turns_in}
+use Rattle.field_law.specs.Arrivals.{Met, Arrives, BringsField, coming, entries_of, over_queues, is_signal, has_signal, turns_in}
 
--- every program that the steps meet holds the section, and the field arrives over these steps and is used up
+-- every program that the steps meet holds the section, no data push has a control code, and the field arrives over these
+-- steps and is used up
 pub record Receives (s : Section) (field : Queue → List Token) (m : State) (steps : List Met) : Type 0 where
   pub orderly : IsOrderly m
+  pub made : All (λ met. IsStep met.1) steps
   pub held : All (λ met. Holds s met.0) steps
   pub uses : Uses s field
-  pub arrives : Arrives s field m steps
+  pub arrives : Arrives s (BringsField s field) m steps
 
 -- after the first signal memory is as it is to be in the end
 abbrev pub ShowsPicture : Type 0

@@ -1,5 +1,5 @@
 -- A field of one line, worked: it arrives behind an entry of an earlier one.
-use Rattle.std.specs.Prelude.{ℕ, true, false, List, [], ◌∷◌, map}
+use Rattle.std.specs.Prelude.{ℕ, true, false, List, [], ◌∷◌}
 use Rattle.risc_word.specs.declared.Code.TheVariants.{Vre, Fm1}
 use Rattle.risc_word.specs.declared.Ctl.{Ctl}
 use Rattle.risc_word.specs.declared.Instr.TheVariants.{Write, Sync}
@@ -14,7 +14,7 @@ use Rattle.machine_model.specs.Turns.{stored_all}
 use Rattle.machine_model.specs.Steps.{Step, Push, Control, Turn, run}
 use Rattle.field_law.specs.Fields.{Token, Mark, Row}
 use Rattle.field_law.specs.Sections.{Section, section_stores}
-use Rattle.field_law.specs.Arrivals.{Met}
+use Rattle.field_law.specs.Arrivals.{Met, meeting}
 
 -- SYNC VRE with RESYNC, SYNC FM1, a WRITE of 8 bytes and a JUMP to the base
 abbrev pub program : RiscProgram
@@ -62,11 +62,8 @@ abbrev pub moves : List Step
 moves =
     Turn ∷ Control Vre ∷ Turn ∷ Control Fm1 ∷ Push One (entry 2 0x13121110) ∷ Turn ∷ Turn ∷ Turn ∷ Turn ∷ Push One (entry 1 0x17161514) ∷ Turn ∷ Turn ∷ []
 
-abbrev pub met_by : Step → Met
-met_by step = (program, step)
-
 abbrev pub early : List Met
-early = map met_by moves
+early = meeting program moves
 
 -- the byte at each address in the end
 abbrev pub final : ℕ → ℕ

@@ -4,14 +4,17 @@
 //! and register writes in any order.
 #![tactic(auto)]
 
-ghost use Rattle.std.specs.Prelude.{◌≡◌, ◌<◌, ℕ, Bool, Some, All, List, [], ◌∷◌, ◌++◌, true, false, length, map, slice_index_or};
+ghost use Rattle.std.specs.Prelude.{◌≡◌, ◌<◌, ℕ, Bool, Some, All, List, [], ◌∷◌, ◌++◌, true, false, length, slice_index_or};
+ghost use Rattle.fifo_model.specs.declared.Queue.{Queue};
+ghost use Rattle.page_table.specs.Grants.{granted};
+ghost use Rattle.machine_model.specs.Paths.{RiscProgram};
 ghost use Rattle.machine_model.specs.States.{State};
 ghost use Rattle.machine_model.specs.Steps.{Step, Turn, run, run_in};
 ghost use Rattle.machine_model.specs.Turns.{Store};
 ghost use Rattle.field_law.specs.Fields.{Token};
-ghost use Rattle.field_law.specs.Sections.{Ask, UsesUp, planned, is_stored, Paints};
+ghost use Rattle.field_law.specs.Sections.{Section, Holds, Ask, UsesUp, planned, is_stored, section_stores, Paints};
 ghost use Rattle.field_law.specs.CutLines.{CutLine, IsCovered, lines_asks, lines_rows, lines_stores, address_in, EachByte};
-ghost use Rattle.field_law.specs.Arrivals.{is_signal, has_signal};
+ghost use Rattle.field_law.specs.Arrivals.{meeting, is_signal, has_signal};
 ghost use Rattle.field_law.specs.Laws.{Receives, ShowsPicture, ShowsNoFault, SignalsClosing, IsBounded};
 ghost use Rattle.field_law.specs.Worked.{program, section, field, machine, early, final};
 
@@ -35,7 +38,13 @@ pub fn signal_comes_in_time()
 
 /// A run is one in which each step meets the machine's own program.
 pub fn run_meets_its_program()
-    ensures { (m : State) (steps : List Step) → run m steps ≡ run_in m (map (λ step. (m.program, step)) steps) }
+    ensures { (m : State) (steps : List Step) → run m steps ≡ run_in m (meeting m.program steps) }
+{}
+
+/// A program that holds a section grants what it stores, whatever field it uses up.
+pub fn held_section_grants_its_stores()
+    ensures { (s : Section) (field : Queue → List Token) (program : RiscProgram) → Holds s program → (q : Queue) →
+        All (λ store. granted program.grants store.address ≡ true) (section_stores s field q) }
 {}
 
 /// Lines cut into stretches that cover them are used up, whatever comes after them; each byte that a stretch writes is

@@ -19,12 +19,12 @@ use Rattle.picture_model.proofs.Right.{IsRight, IsFrame-IsRight}
 use Rattle.field_law.specs.Arrivals.{is_queue}
 use Rattle.field_law.specs.Fields.{Token, Mark, Brings}
 use Rattle.picture_law.specs.Pictures.{AreLines, AreRows, HoldBytes, IsField, IsPicture, Picture, field_tokens, lines_of, lines_on, picture_tokens, plane_of, rows_on, vbi_on, vbi_tokens}
-use Rattle.picture_law.specs.Arrivals.{coming}
+use Rattle.field_law.specs.Arrivals.{pushed_in}
 use Rattle.field_stream.specs.Pushes.{Push, packed_line, picture_line, picture_pushes, repeated, vbi_pushes}
 use Rattle.field_stream.proofs.Moving.{repeated_split}
 use Rattle.generated_law.specs.Drawn.{BringsPicture, DrawsPicture, bytes_before, cut, drawn_bytes, drawn_entries, drawn_picture, drawn_steps, number_behind, vbi_bytes_on}
 use Rattle.generated_law.specs.Drawn as drawn
-use Rattle.generated_law.proofs.Statuses.{coming-drawn, packed_nothing, packed_statuses}
+use Rattle.generated_law.proofs.Statuses.{pushed_in-drawn, packed_nothing, packed_statuses}
 use Rattle.generated_law.proofs.Whole.{AreBytes}
 use Rattle.generated_law.proofs.Repeated.{AreDrawn, brings-append, lines_drawn, nothing_drawn, rows_drawn}
 use Rattle.generated_law.proofs.Cutting.{bytes_in, bytes_in-append, bytes_in-lines, bytes_in-vbi, carried-brings, cut-concat, drop_both, length-concat}
@@ -44,7 +44,7 @@ record AreVbi (lines bytes number : ℕ) : Type 0 where
   rows : List (List ℕ)
   are : AreLines lines bytes rows
   hold : HoldBytes rows
-  brings : Brings (vbi_tokens lines rows) (coming (drawn_steps number (vbi_pushes lines bytes)) One)
+  brings : Brings (vbi_tokens lines rows) (pushed_in (drawn_steps number (vbi_pushes lines bytes)) One)
 
 vbi_drawn : (lines bytes number : ℕ) → (0 < lines → 5 ≤ bytes) → AreVbi lines bytes number
 vbi_drawn zero bytes number some =
@@ -55,13 +55,13 @@ vbi_drawn (suc more) bytes number some =
       rows = all.lines;
       are = all.are;
       hold = all.hold;
-      brings = mark_brings Fm1 (lines_of all.lines) (coming (drawn_steps number (repeated (suc more) (packed_line bytes))) One) all.brings;
+      brings = mark_brings Fm1 (lines_of all.lines) (pushed_in (drawn_steps number (repeated (suc more) (packed_line bytes))) One) all.brings;
     }
 
-no_vbi : (lines bytes number : ℕ) (q : Queue) → is_queue One q ≡ false → Brings (vbi_tokens lines []) (coming (drawn_steps number (vbi_pushes lines bytes)) q)
+no_vbi : (lines bytes number : ℕ) (q : Queue) → is_queue One q ≡ false → Brings (vbi_tokens lines []) (pushed_in (drawn_steps number (vbi_pushes lines bytes)) q)
 no_vbi zero bytes number q other = refl
 no_vbi (suc more) bytes number q other =
-    mark_brings Fm1 [] (coming (drawn_steps number (repeated (suc more) (packed_line bytes))) q)
+    mark_brings Fm1 [] (pushed_in (drawn_steps number (repeated (suc more) (packed_line bytes))) q)
     (nothing_drawn (suc more) number (packed_line bytes) q (packed_nothing q bytes other))
 
 -- ---- a field
@@ -80,10 +80,10 @@ module _ (d : Desc) (field : Parity) (number : ℕ) (right : IsRight d) where
   vbi : AreVbi d.vbi_lines d.vbi_bytes number
   vbi = vbi_drawn d.vbi_lines d.vbi_bytes number (λ some. (right.vbi_bytes some).0)
 
-  skipped : (q : Queue) → AreDrawn (lines_on d q d.skip_lines) (plane_row_bytes d (plane_of q)) (coming (drawn_steps behind_vbi (repeated d.skip_lines (picture_line d))) q)
+  skipped : (q : Queue) → AreDrawn (lines_on d q d.skip_lines) (plane_row_bytes d (plane_of q)) (pushed_in (drawn_steps behind_vbi (repeated d.skip_lines (picture_line d))) q)
   skipped q = rows_drawn d d.skip_lines behind_vbi q right
 
-  rows : (q : Queue) → AreDrawn (lines_on d q (field_height d field)) (plane_row_bytes d (plane_of q)) (coming (drawn_steps behind_skipped (repeated (field_height d field) (picture_line d))) q)
+  rows : (q : Queue) → AreDrawn (lines_on d q (field_height d field)) (plane_row_bytes d (plane_of q)) (pushed_in (drawn_steps behind_skipped (repeated (field_height d field) (picture_line d))) q)
   rows q = rows_drawn d (field_height d field) behind_skipped q right
 
   abbrev picture : Picture
@@ -94,38 +94,38 @@ module _ (d : Desc) (field : Parity) (number : ℕ) (right : IsRight d) where
 
   -- ---- its entries bring the lines
 
-  vbi_brings : (q : Queue) → Brings (vbi_tokens d.vbi_lines (vbi_on picture q)) (coming (drawn_steps number (vbi_pushes d.vbi_lines d.vbi_bytes)) q)
+  vbi_brings : (q : Queue) → Brings (vbi_tokens d.vbi_lines (vbi_on picture q)) (pushed_in (drawn_steps number (vbi_pushes d.vbi_lines d.vbi_bytes)) q)
   vbi_brings One = vbi.brings
   vbi_brings Two = no_vbi d.vbi_lines d.vbi_bytes number Two refl
   vbi_brings Three = no_vbi d.vbi_lines d.vbi_bytes number Three refl
 
-  rows_brings : (q : Queue) → Brings (lines_of (rows_on picture q)) (coming (drawn_steps behind_skipped (repeated (field_height d field) (picture_line d))) q)
+  rows_brings : (q : Queue) → Brings (lines_of (rows_on picture q)) (pushed_in (drawn_steps behind_skipped (repeated (field_height d field) (picture_line d))) q)
   rows_brings One = (rows One).brings
   rows_brings Two = (rows Two).brings
   rows_brings Three = (rows Three).brings
 
-  lines_bring : (q : Queue) → Brings (lines_of (skipped_lines q) ++ lines_of (rows_on picture q)) (coming (drawn_steps behind_vbi (repeated (d.skip_lines + field_height d field) (picture_line d))) q)
+  lines_bring : (q : Queue) → Brings (lines_of (skipped_lines q) ++ lines_of (rows_on picture q)) (pushed_in (drawn_steps behind_vbi (repeated (d.skip_lines + field_height d field) (picture_line d))) q)
   lines_bring q =
       let line = picture_line d in
-      let both = ap (λ (pushes : List Push). coming (drawn_steps behind_vbi pushes) q) (repeated_split d.skip_lines (field_height d field) line)
-      ∙ coming-drawn behind_vbi (repeated d.skip_lines line) (repeated (field_height d field) line) q in
+      let both = ap (λ (pushes : List Push). pushed_in (drawn_steps behind_vbi pushes) q) (repeated_split d.skip_lines (field_height d field) line)
+      ∙ pushed_in-drawn behind_vbi (repeated d.skip_lines line) (repeated (field_height d field) line) q in
       subst (Brings (lines_of (skipped_lines q) ++ lines_of (rows_on picture q))) (sym both)
-      (brings-append (lines_of (skipped_lines q)) (lines_of (rows_on picture q)) (coming (drawn_steps behind_vbi (repeated d.skip_lines line)) q)
-      (coming (drawn_steps behind_skipped (repeated (field_height d field) line)) q) (skipped q).brings (rows_brings q))
+      (brings-append (lines_of (skipped_lines q)) (lines_of (rows_on picture q)) (pushed_in (drawn_steps behind_vbi (repeated d.skip_lines line)) q)
+      (pushed_in (drawn_steps behind_skipped (repeated (field_height d field) line)) q) (skipped q).brings (rows_brings q))
 
-  picture_brings : (q : Queue) → Brings (picture_tokens (layout_of d).planar (skipped_lines q) (rows_on picture q)) (coming (drawn_steps behind_vbi (picture_pushes d field)) q)
+  picture_brings : (q : Queue) → Brings (picture_tokens (layout_of d).planar (skipped_lines q) (rows_on picture q)) (pushed_in (drawn_steps behind_vbi (picture_pushes d field)) q)
   picture_brings q =
       mark_brings (data_code (layout_of d).planar) (lines_of (skipped_lines q) ++ lines_of (rows_on picture q))
-      (coming (drawn_steps behind_vbi (repeated (d.skip_lines + field_height d field) (picture_line d))) q) (lines_bring q)
+      (pushed_in (drawn_steps behind_vbi (repeated (d.skip_lines + field_height d field) (picture_line d))) q) (lines_bring q)
 
   field_brings : (q : Queue) → Brings (Mark (vertical field) ∷ field_tokens d picture skipped_lines q) (drawn_entries d field number q)
   field_brings q =
       let vbi_first = vbi_pushes d.vbi_lines d.vbi_bytes in
       let vbi_part = vbi_tokens d.vbi_lines (vbi_on picture q) in
       let picture_part = picture_tokens (layout_of d).planar (skipped_lines q) (rows_on picture q) in
-      mark_brings (vertical field) (vbi_part ++ picture_part) (coming (drawn_steps number (vbi_first ++ picture_pushes d field)) q)
-      (subst (Brings (vbi_part ++ picture_part)) (sym (coming-drawn number vbi_first (picture_pushes d field) q))
-      (brings-append vbi_part picture_part (coming (drawn_steps number vbi_first) q) (coming (drawn_steps behind_vbi (picture_pushes d field)) q) (vbi_brings q) (picture_brings q)))
+      mark_brings (vertical field) (vbi_part ++ picture_part) (pushed_in (drawn_steps number (vbi_first ++ picture_pushes d field)) q)
+      (subst (Brings (vbi_part ++ picture_part)) (sym (pushed_in-drawn number vbi_first (picture_pushes d field) q))
+      (brings-append vbi_part picture_part (pushed_in (drawn_steps number vbi_first) q) (pushed_in (drawn_steps behind_vbi (picture_pushes d field)) q) (vbi_brings q) (picture_brings q)))
 
   -- ---- the lines are those of the picture that is drawn
 

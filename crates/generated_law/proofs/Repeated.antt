@@ -10,10 +10,10 @@ use Rattle.picture_model.specs.Described.{plane_row_bytes}
 use Rattle.picture_model.proofs.Right.{IsRight}
 use Rattle.field_law.specs.Fields.{Token, Mark, Row, Brings, carried}
 use Rattle.picture_law.specs.Pictures.{AreLines, HoldBytes, has_plane, lines_of, lines_on, plane_of}
-use Rattle.picture_law.specs.Arrivals.{coming}
+use Rattle.field_law.specs.Arrivals.{pushed_in}
 use Rattle.field_stream.specs.Pushes.{Push, picture_line, repeated}
 use Rattle.generated_law.specs.Drawn.{drawn_steps, number_behind}
-use Rattle.generated_law.proofs.Statuses.{coming-drawn, line_statuses, statuses, statuses-coming, statuses_of}
+use Rattle.generated_law.proofs.Statuses.{pushed_in-drawn, line_statuses, statuses, statuses-pushed_in, statuses_of}
 use Rattle.generated_law.proofs.Whole.{AreBytes, carried_hold, whole_line}
 use Rattle.generated_law.proofs.Rows.{row_nothing, row_statuses, row_wide}
 
@@ -63,30 +63,30 @@ drawn_more count long line rest some same more =
     }
 
 pub lines_drawn : (count long number : ℕ) (pushes : List Push) (q : Queue) → 5 ≤ long → statuses q pushes ≡ line_statuses long →
-    AreDrawn count long (coming (drawn_steps number (repeated count pushes)) q)
+    AreDrawn count long (pushed_in (drawn_steps number (repeated count pushes)) q)
 lines_drawn zero long number pushes q some same = drawn_none long [] refl
 lines_drawn (suc count) long number pushes q some same =
-    subst (AreDrawn (suc count) long) (sym (coming-drawn number pushes (repeated count pushes) q))
-    (drawn_more count long (coming (drawn_steps number pushes) q) (coming (drawn_steps (number_behind number pushes) (repeated count pushes)) q) some
-    (statuses-coming number pushes q ∙ same) (lines_drawn count long (number_behind number pushes) pushes q some same))
+    subst (AreDrawn (suc count) long) (sym (pushed_in-drawn number pushes (repeated count pushes) q))
+    (drawn_more count long (pushed_in (drawn_steps number pushes) q) (pushed_in (drawn_steps (number_behind number pushes) (repeated count pushes)) q) some
+    (statuses-pushed_in number pushes q ∙ same) (lines_drawn count long (number_behind number pushes) pushes q some same))
 
 no_entries : (entries : List Entry) → statuses_of entries ≡ [] → entries ≡ []
 no_entries [] none = refl
 no_entries (entry ∷ rest) none = cc
 
-pub nothing_drawn : (count number : ℕ) (pushes : List Push) (q : Queue) → statuses q pushes ≡ [] → coming (drawn_steps number (repeated count pushes)) q ≡ []
+pub nothing_drawn : (count number : ℕ) (pushes : List Push) (q : Queue) → statuses q pushes ≡ [] → pushed_in (drawn_steps number (repeated count pushes)) q ≡ []
 nothing_drawn zero number pushes q none = refl
 nothing_drawn (suc count) number pushes q none =
-    coming-drawn number pushes (repeated count pushes) q
-    ∙ ap (λ (entries : List Entry). entries ++ coming (drawn_steps (number_behind number pushes) (repeated count pushes)) q) (no_entries (coming (drawn_steps number pushes) q) (statuses-coming number pushes q ∙ none))
+    pushed_in-drawn number pushes (repeated count pushes) q
+    ∙ ap (λ (entries : List Entry). entries ++ pushed_in (drawn_steps (number_behind number pushes) (repeated count pushes)) q) (no_entries (pushed_in (drawn_steps number pushes) q) (statuses-pushed_in number pushes q ∙ none))
     ∙ nothing_drawn count (number_behind number pushes) pushes q none
 
 -- lines of a picture over each queue
 pub rows_drawn : (d : Desc) (count number : ℕ) (q : Queue) → IsRight d →
-    AreDrawn (lines_on d q count) (plane_row_bytes d (plane_of q)) (coming (drawn_steps number (repeated count (picture_line d))) q)
+    AreDrawn (lines_on d q count) (plane_row_bytes d (plane_of q)) (pushed_in (drawn_steps number (repeated count (picture_line d))) q)
 rows_drawn d count number q right =
     let long = plane_row_bytes d (plane_of q) in
-    let entries = coming (drawn_steps number (repeated count (picture_line d))) q in
+    let entries = pushed_in (drawn_steps number (repeated count (picture_line d))) q in
     ⊎_elim
     (λ has. subst (λ (n : ℕ). AreDrawn n long entries) (sym (cond-true (has_plane d q) count 0 has))
     (lines_drawn count long number (picture_line d) q (row_wide d q right has) (row_statuses d q has)))

@@ -8,27 +8,27 @@ use Rattle.fifo_model.specs.declared.Queue.{Queue}
 use Rattle.fifo_model.specs.declared.Queue.TheVariants.{One}
 use Rattle.machine_model.specs.Steps.{Step}
 use Rattle.field_law.specs.Arrivals.{is_queue, pushed_by}
-use Rattle.picture_law.specs.Arrivals.{coming}
+use Rattle.field_law.specs.Arrivals.{pushed_in}
 use Rattle.field_stream.specs.Made.{after}
 use Rattle.field_stream.specs.Pushes.{Push, Mark, Fill, line_entries, packed_line, status_at}
 use Rattle.generated_law.specs.Drawn.{drawn_steps, number_behind}
 
 -- ---- what comes over a queue
 
-pub coming-append : (a b : List Step) (q : Queue) → coming (a ++ b) q ≡ coming a q ++ coming b q
-coming-append [] b q = refl
-coming-append (first ∷ a) b q =
-    ap (λ (rest : List Entry). pushed_by first q ++ rest) (coming-append a b q) ∙ sym (append_assoc (pushed_by first q) (coming a q) (coming b q))
+pub pushed_in-append : (a b : List Step) (q : Queue) → pushed_in (a ++ b) q ≡ pushed_in a q ++ pushed_in b q
+pushed_in-append [] b q = refl
+pushed_in-append (first ∷ a) b q =
+    ap (λ (rest : List Entry). pushed_by first q ++ rest) (pushed_in-append a b q) ∙ sym (append_assoc (pushed_by first q) (pushed_in a q) (pushed_in b q))
 
 pub drawn_steps-append : (number : ℕ) (a b : List Push) → drawn_steps number (a ++ b) ≡ drawn_steps number a ++ drawn_steps (number_behind number a) b
 drawn_steps-append number [] b = refl
 drawn_steps-append number (push ∷ a) b =
     ap (λ (rest : List Step). drawn_steps number (push ∷ []) ++ rest) (drawn_steps-append (after number push) a b)
 
-pub coming-drawn : (number : ℕ) (a b : List Push) (q : Queue) →
-    coming (drawn_steps number (a ++ b)) q ≡ coming (drawn_steps number a) q ++ coming (drawn_steps (number_behind number a) b) q
-coming-drawn number a b q =
-    ap (λ (steps : List Step). coming steps q) (drawn_steps-append number a b) ∙ coming-append (drawn_steps number a) (drawn_steps (number_behind number a) b) q
+pub pushed_in-drawn : (number : ℕ) (a b : List Push) (q : Queue) →
+    pushed_in (drawn_steps number (a ++ b)) q ≡ pushed_in (drawn_steps number a) q ++ pushed_in (drawn_steps (number_behind number a) b) q
+pushed_in-drawn number a b q =
+    ap (λ (steps : List Step). pushed_in steps q) (drawn_steps-append number a b) ∙ pushed_in-append (drawn_steps number a) (drawn_steps (number_behind number a) b) q
 
 -- ---- statuses
 
@@ -58,12 +58,12 @@ statuses_if true entry rest more same = ap (λ (list : List ℕ). entry.status �
 statuses_if false entry rest more same = same
 
 -- the entries that come have the statuses of the pushes
-pub statuses-coming : (number : ℕ) (pushes : List Push) (q : Queue) → statuses_of (coming (drawn_steps number pushes) q) ≡ statuses q pushes
-statuses-coming number [] q = refl
-statuses-coming number (Mark code ∷ rest) q =
-    ap (λ (list : List ℕ). code_number code ∷ list) (statuses-coming number rest q)
-statuses-coming number (Fill to status ∷ rest) q =
-    statuses_if (is_queue to q) _ (coming (drawn_steps (after number (Fill to status)) rest) q) (statuses q rest) (statuses-coming (after number (Fill to status)) rest q)
+pub statuses-pushed_in : (number : ℕ) (pushes : List Push) (q : Queue) → statuses_of (pushed_in (drawn_steps number pushes) q) ≡ statuses q pushes
+statuses-pushed_in number [] q = refl
+statuses-pushed_in number (Mark code ∷ rest) q =
+    ap (λ (list : List ℕ). code_number code ∷ list) (statuses-pushed_in number rest q)
+statuses-pushed_in number (Fill to status ∷ rest) q =
+    statuses_if (is_queue to q) _ (pushed_in (drawn_steps (after number (Fill to status)) rest) q) (statuses q rest) (statuses-pushed_in (after number (Fill to status)) rest q)
 
 -- ---- lines
 

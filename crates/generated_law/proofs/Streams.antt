@@ -15,18 +15,19 @@ use Rattle.capture_desc.specs.declared.desc.Desc.{Desc}
 use Rattle.capture_desc.specs.declared.desc.Fields.{Fields}
 use Rattle.capture_desc.specs.declared.desc.Fields.TheVariants as fields
 use Rattle.picture_model.specs.Described.{describes, fields_of}
-use Rattle.picture_model.specs.Programs.{vertical}
+use Rattle.picture_model.specs.Programs.{compiled, vertical}
 use Rattle.picture_model.proofs.Right.{IsValid-IsFrame}
 use Rattle.field_stream.specs.Generator.{first_number}
 use Rattle.field_stream.specs.Made.{after}
 use Rattle.field_stream.specs.Pushes.{Push, Mark, field_pushes, frame_pushes, picture_pushes, repeated, stream_pushes, vbi_pushes}
-use Rattle.picture_law.specs.Arrivals.{AreKept, Arrives, coming}
-use Rattle.picture_law.specs.Runs.{between, state_of}
+use Rattle.field_law.specs.Arrivals.{AreKept, meeting, pushed_in}
+use Rattle.field_law.proofs.Meeting.{coming-meeting}
+use Rattle.picture_law.specs.Runs.{ArrivesAt, between, state_of}
 use Rattle.picture_law.proofs.Between.{between_both}
 use Rattle.picture_law.proofs.Places.{run_shows_picture}
 use Rattle.generated_law.specs.Drawn.{drawn_entries, drawn_step, drawn_steps, number_behind}
 use Rattle.generated_law.specs.Streams.{Awaits, FieldsArrive, FieldsAreSignalled, FieldsStand, HasField, PicturesAreShown, fields_before, place_behind, place_of, pushes_before, stream_picture, stream_steps}
-use Rattle.generated_law.proofs.Statuses.{coming-append, drawn_steps-append}
+use Rattle.generated_law.proofs.Statuses.{pushed_in-append, drawn_steps-append}
 use Rattle.field_stream.proofs.Moving.{repeated_split}
 use Rattle.generated_law.proofs.Fields.{brings_picture, draws_picture}
 use Rattle.generated_law.proofs.Steps.{steps_made, stream_data}
@@ -96,7 +97,7 @@ from_place before steps place l long =
 -- so many of some steps and more: at least those before the last turns
 record Comes (q : Queue) (steps : List Step) (count : ℕ) (more : List Step) : Type 0 where
   rest : List Entry
-  same : coming (take count (steps ++ more)) q ≡ coming steps q ++ rest
+  same : pushed_in (take count (steps ++ more)) q ≡ pushed_in steps q ++ rest
 
 comes_front : (q : Queue) (front : List Step) (count : ℕ) (more : List Step) → length front ≤ count → Comes q (front ++ replicate 16 Turn) count more
 comes_front q front count more enough =
@@ -104,12 +105,12 @@ comes_front q front count more enough =
     let parts : count ≡ length front + (count - length front) = omega arith in
     let behind = take (count - length front) (turns ++ more) in
     record {
-      rest = coming behind q;
-      same = ap (λ (n : ℕ). coming (take n ((front ++ turns) ++ more)) q) parts
-          ∙ ap (λ (steps : List Step). coming (take (length front + (count - length front)) steps) q) (append_assoc front turns more)
-          ∙ ap (λ (steps : List Step). coming steps q) (take-append-add front (turns ++ more) (count - length front))
-          ∙ coming-append front behind q
-          ∙ ap (λ (entries : List Entry). entries ++ coming behind q) (sym (coming-append front turns q ∙ append-nil (coming front q)));
+      rest = pushed_in behind q;
+      same = ap (λ (n : ℕ). pushed_in (take n ((front ++ turns) ++ more)) q) parts
+          ∙ ap (λ (steps : List Step). pushed_in (take (length front + (count - length front)) steps) q) (append_assoc front turns more)
+          ∙ ap (λ (steps : List Step). pushed_in steps q) (take-append-add front (turns ++ more) (count - length front))
+          ∙ pushed_in-append front behind q
+          ∙ ap (λ (entries : List Entry). entries ++ pushed_in behind q) (sym (pushed_in-append front turns q ∙ append-nil (pushed_in front q)));
     }
 
 comes : (q : Queue) (steps : List Step) (count : ℕ) (more : List Step) → EndsInTurns steps → length steps ≤ count + 16 → Comes q steps count more
@@ -142,7 +143,7 @@ module _ (d : Desc) (seed frames frame : ℕ) (field : Parity) (has : HasField d
 
   record ComesTo (q : Queue) (l : ℕ) : Type 0 where
     rest : List Entry
-    same : coming (between (place_of d frame field) l (stream_steps d seed frames)) q ≡ drawn_entries d field number q ++ rest
+    same : pushed_in (between (place_of d frame field) l (stream_steps d seed frames)) q ≡ drawn_entries d field number q ++ rest
 
   -- from the place of the field on stand its steps and those behind it
   from_here : (l : ℕ) → between (place_of d frame field) l (stream_steps d seed frames) ≡ take (l - place_of d frame field) (steps_of ++ steps_behind)
@@ -168,27 +169,27 @@ module _ (d : Desc) (seed frames frame : ℕ) (field : Parity) (has : HasField d
       let found = comes q steps_of (l - place) steps_behind ends (omega arith) in
       record { rest = found.rest; same = whole found.rest found.same }
     where
-      whole : (rest : List Entry) → coming (take (l - place_of d frame field) (steps_of ++ steps_behind)) q ≡ drawn_entries d field number q ++ rest →
-          coming (between (place_of d frame field) l (stream_steps d seed frames)) q ≡ drawn_entries d field number q ++ rest
-      whole rest same = ap (λ (steps : List Step). coming steps q) (from_here l) ∙ same
+      whole : (rest : List Entry) → pushed_in (take (l - place_of d frame field) (steps_of ++ steps_behind)) q ≡ drawn_entries d field number q ++ rest →
+          pushed_in (between (place_of d frame field) l (stream_steps d seed frames)) q ≡ drawn_entries d field number q ++ rest
+      whole rest same = ap (λ (steps : List Step). pushed_in steps q) (from_here l) ∙ same
 
   module _ (m : State) (j l : ℕ) (late : place_of d frame field ≤ j) (on : j ≤ l) (enough : place_behind d frame field ≤ l + 16)
       (awaits : Awaits d field m (between (place_of d frame field) j (stream_steps d seed frames))) where
-    in_order : (q : Queue) → (queue_state q m.queues).entries ++ coming (between j l (stream_steps d seed frames)) q
+    in_order : (q : Queue) → (queue_state q m.queues).entries ++ pushed_in (between j l (stream_steps d seed frames)) q
         ≡ awaits.before q ++ (drawn_entries d field number q ++ (comes_to q l enough).rest)
     in_order q =
         let place = place_of d frame field in
         let steps = stream_steps d seed frames in
-        let first = coming (between place j steps) q in
-        let later = coming (between j l steps) q in
+        let first = pushed_in (between place j steps) q in
+        let later = pushed_in (between j l steps) q in
         ap (λ (entries : List Entry). entries ++ later) (awaits.held q)
         ∙ append_assoc (awaits.before q) first later
         ∙ ap (λ (entries : List Entry). awaits.before q ++ entries)
-        (sym (coming-append (between place j steps) (between j l steps) q)
-        ∙ ap (λ (steps : List Step). coming steps q) (sym (between_both place j l steps late on))
+        (sym (pushed_in-append (between place j steps) (between j l steps) q)
+        ∙ ap (λ (steps : List Step). pushed_in steps q) (sym (between_both place j l steps late on))
         ∙ (comes_to q l enough).same)
 
-    arrival : AreKept m (between j l (stream_steps d seed frames)) → Arrives d field (stream_picture d seed frame field) m (between j l (stream_steps d seed frames))
+    arrival : AreKept m (meeting (compiled d) (between j l (stream_steps d seed frames))) → ArrivesAt d field (stream_picture d seed frame field) m (between j l (stream_steps d seed frames))
     arrival kept =
         record {
           fifo_on = awaits.fifo_on;
@@ -199,7 +200,7 @@ module _ (d : Desc) (seed frames frame : ℕ) (field : Parity) (has : HasField d
           before = awaits.before;
           entries = drawn_entries d field number;
           rest = λ q. (comes_to q l enough).rest;
-          order = in_order;
+          order = λ q. ap (λ (entries : List Entry). (queue_state q m.queues).entries ++ entries) (coming-meeting (compiled d) (between j l (stream_steps d seed frames)) q) ∙ in_order q;
           unmarked = awaits.unmarked;
           brought = brings_picture d field number has.description (IsValid-IsFrame d has.valid);
         }

@@ -1,6 +1,7 @@
 -- The generated stream of the smallest description: its field arrives, and is signalled.
 use Rattle.std.proofs.Common.{◌≡◌, List, [], ◌++◌, refl, arith}
 use Rattle.std.proofs.lemmas.List.Elements.{All-nil}
+use Rattle.risc_word.specs.declared.Code.TheVariants.{Vre}
 use Rattle.fifo_model.specs.declared.Queue.{Queue}
 use Rattle.fifo_model.specs.declared.Queue.TheVariants.{One, Two, Three}
 use Rattle.fifo_model.specs.Queues.{queue_state}
@@ -9,7 +10,8 @@ use Rattle.machine_model.specs.States.{first_state}
 use Rattle.machine_model.specs.Steps.{Step}
 use Rattle.picture_model.specs.Programs.{compiled}
 use Rattle.picture_model.specs.Worked.{smallest}
-use Rattle.picture_law.specs.Arrivals.{AreKept, IsVertical, coming}
+use Rattle.field_law.specs.Arrivals.{AreKept, HasCode, meeting, pushed_in}
+use Rattle.picture_law.specs.Sections.{section_of}
 use Rattle.picture_law.specs.Runs.{IsFirstSignal, between, state_of}
 use Rattle.picture_law.proofs.Between.{silent_at}
 use Rattle.picture_law.proofs.Worked.{described}
@@ -22,7 +24,7 @@ steps = stream_steps smallest 1 1
 has : HasField smallest 1 0 Top
 has = record { description = described; valid = refl; described = refl; within = omega arith }
 
-held : (q : Queue) → (queue_state q (state_of smallest 0 steps 2).queues).entries ≡ [] ++ coming (between 0 2 steps) q
+held : (q : Queue) → (queue_state q (state_of smallest 0 steps 2).queues).entries ≡ [] ++ pushed_in (between 0 2 steps) q
 held One = refl
 held Two = refl
 held Three = refl
@@ -36,19 +38,19 @@ awaits =
       there = refl;
       before = λ q. [];
       held = held;
-      unmarked = λ q. All-nil (λ entry. IsVertical Top entry → ⊥);
+      unmarked = λ q. All-nil (λ entry. HasCode Vre entry → ⊥);
     }
 
-kept : AreKept (state_of smallest 0 steps 2) (between 2 55 steps)
+kept : AreKept (state_of smallest 0 steps 2) (meeting (compiled smallest) (between 2 55 steps))
 kept = (tt, (tt, (tt, (tt, (tt, (tt, (tt, (tt, (tt, (tt, (tt, (tt, (tt, (tt, (tt, (refl, (tt, (tt, (tt, (tt, (tt, (tt, (tt, (tt, (tt, (tt, (tt, (tt, (tt, (tt, (tt, (tt, (refl, (tt, (tt, (tt, (tt, (tt, (tt, (tt, (tt, (tt, (tt, (tt, (tt, (tt, (tt, (tt, (tt, (refl, (tt, (tt, (tt, tt)))))))))))))))))))))))))))))))))))))))))))))))))))))
 
-first_signal : IsFirstSignal smallest Top (first_state (compiled smallest) 0) steps 2 54
+first_signal : IsFirstSignal (section_of smallest Top) (first_state (compiled smallest) 0) steps 2 54
 first_signal =
     record {
       later = omega arith;
       there = omega arith;
       signal = refl;
-      first = λ i from to. silent_at smallest Top (first_state (compiled smallest) 0) steps 52 2 54 i refl (omega arith) refl from to;
+      first = λ i from to. silent_at (section_of smallest Top) (first_state (compiled smallest) 0) steps 52 2 54 i refl (omega arith) refl from to;
     }
 
 pub taken : IsTaken smallest 1 1 0 Top 0 2 54

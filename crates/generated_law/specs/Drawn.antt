@@ -15,8 +15,8 @@ use Rattle.field_stream.specs.Generator.{drawn, lanes}
 use Rattle.field_stream.specs.Pushes.{Push, Mark, Fill, field_pushes}
 use Rattle.field_stream.specs.Made.{after}
 use Rattle.field_law.specs.Fields.{carried}
+use Rattle.field_law.specs.Arrivals.{pushed_in}
 use Rattle.picture_law.specs.Pictures.{IsField, IsPicture, Picture, lines_on, plane_of}
-use Rattle.picture_law.specs.Arrivals.{coming}
 
 -- the step of a push: a control code, or an entry with the lanes that are drawn
 abbrev pub drawn_step : ℕ → Push → Step
@@ -35,7 +35,7 @@ number_behind number (push ∷ rest) = number_behind (after number push) rest
 
 -- the entries of a field over a queue, from a number of the generator on, and the bytes in their valid lanes
 abbrev pub drawn_entries : Desc → Parity → ℕ → Queue → List Entry
-drawn_entries d field number q = coming (drawn_steps number (field_pushes d field)) q
+drawn_entries d field number q = pushed_in (drawn_steps number (field_pushes d field)) q
 
 abbrev pub drawn_bytes : Desc → Parity → ℕ → Queue → List ℕ
 drawn_bytes d field number q = carried (drawn_entries d field number q)

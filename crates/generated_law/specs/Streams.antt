@@ -18,8 +18,9 @@ use Rattle.picture_model.specs.Programs.{no_control, vertical}
 use Rattle.field_stream.specs.Generator.{first_number}
 use Rattle.field_stream.specs.Pushes.{Push, field_pushes, stream_pushes}
 use Rattle.picture_law.specs.Pictures.{After, Picture}
-use Rattle.picture_law.specs.Arrivals.{AreKept, Arrives, IsVertical, after_opening, coming}
-use Rattle.picture_law.specs.Runs.{IsFirstSignal, IsSignalled, between, state_of}
+use Rattle.field_law.specs.Arrivals.{AreKept, HasCode, meeting, pushed_in}
+use Rattle.picture_law.specs.Sections.{section_of}
+use Rattle.picture_law.specs.Runs.{ArrivesAt, IsFirstSignal, IsSignalled, between, state_of}
 use Rattle.machine_model.specs.States.{first_state}
 use Rattle.picture_model.specs.Programs.{compiled}
 use Rattle.generated_law.specs.Drawn.{drawn_picture, drawn_steps, number_behind}
@@ -53,10 +54,10 @@ pub record Awaits (d : Desc) (field : Parity) (m : State) (begun : List Step) : 
   pub fifo_on : m.fifo_on ≡ true
   pub risc_on : m.risc_on ≡ true
   pub waits : m.job ≡ Waiting no_control true (vertical field)
-  pub there : m.pc ≡ after_opening d field
+  pub there : m.pc ≡ (section_of d field).at
   pub before : Queue → List Entry
-  pub held : (q : Queue) → (queue_state q m.queues).entries ≡ before q ++ coming begun q
-  pub unmarked : (q : Queue) → All (λ entry. IsVertical field entry → ⊥) (before q)
+  pub held : (q : Queue) → (queue_state q m.queues).entries ≡ before q ++ pushed_in begun q
+  pub unmarked : (q : Queue) → All (λ entry. HasCode (vertical field) entry → ⊥) (before q)
 
 -- a field that the stream of so many frames of a valid description has
 pub record HasField (d : Desc) (frames frame : ℕ) (field : Parity) : Type 0 where
@@ -75,8 +76,8 @@ FieldsStand = (d : Desc) (seed frames frame : ℕ) (field : Parity) → HasField
 abbrev pub FieldsArrive : Type 0
 FieldsArrive = (d : Desc) (seed frames frame : ℕ) (field : Parity) (m : State) (j l : ℕ) → HasField d frames frame field →
     place_of d frame field ≤ j → j ≤ l → place_behind d frame field ≤ l + 16 →
-    Awaits d field m (between (place_of d frame field) j (stream_steps d seed frames)) → AreKept m (between j l (stream_steps d seed frames)) →
-    Arrives d field (stream_picture d seed frame field) m (between j l (stream_steps d seed frames))
+    Awaits d field m (between (place_of d frame field) j (stream_steps d seed frames)) → AreKept m (meeting (compiled d) (between j l (stream_steps d seed frames))) →
+    ArrivesAt d field (stream_picture d seed frame field) m (between j l (stream_steps d seed frames))
 
 -- the same in a run of the compiled program from the first state, where step k is the first signal of the field after j
 pub record IsTaken (d : Desc) (seed frames frame : ℕ) (field : Parity) (fill j k : ℕ) : Type 0 where
@@ -84,8 +85,8 @@ pub record IsTaken (d : Desc) (seed frames frame : ℕ) (field : Parity) (fill j
   pub later : place_of d frame field ≤ j
   pub pushed : place_behind d frame field ≤ k + 17
   pub awaits : Awaits d field (state_of d fill (stream_steps d seed frames) j) (between (place_of d frame field) j (stream_steps d seed frames))
-  pub kept : AreKept (state_of d fill (stream_steps d seed frames) j) (between j (k + 1) (stream_steps d seed frames))
-  pub signal : IsFirstSignal d field (first_state (compiled d) fill) (stream_steps d seed frames) j k
+  pub kept : AreKept (state_of d fill (stream_steps d seed frames) j) (meeting (compiled d) (between j (k + 1) (stream_steps d seed frames)))
+  pub signal : IsFirstSignal (section_of d field) (first_state (compiled d) fill) (stream_steps d seed frames) j k
 
 abbrev pub FieldsAreSignalled : Type 0
 FieldsAreSignalled = (d : Desc) (seed frames frame : ℕ) (field : Parity) (fill j k : ℕ) → IsTaken d seed frames frame field fill j k →

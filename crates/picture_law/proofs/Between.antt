@@ -3,12 +3,12 @@ use Rattle.std.proofs.Common.{◌≡◌, ℕ, zero, suc, ◌+◌, ◌-◌, ◌<�
 use Rattle.std.proofs.Math.Seq.{take-add}
 use Rattle.std.proofs.lemmas.Bool.{cases_Bool, cases_lt, or_cases, or_from, or_parts}
 use Rattle.std.proofs.lemmas.List.{drop-drop, drop_more, take_more}
-use Rattle.pixel_layout.specs.declared.Parity.{Parity}
+use Rattle.machine_model.specs.Paths.{RiscProgram}
 use Rattle.machine_model.specs.States.{State}
-use Rattle.machine_model.specs.Steps.{Step, Push, Control, Turn, Host, run, state_at, step}
-use Rattle.machine_model.proofs.Runs.{run-append}
-use Rattle.capture_desc.specs.declared.desc.Desc.{Desc}
-use Rattle.picture_law.specs.Arrivals.{has_signal, is_signal}
+use Rattle.machine_model.specs.Steps.{Step, Push, Control, Turn, Host, run, state_at, step, with_program}
+use Rattle.machine_model.proofs.Runs.{program-run, run-append}
+use Rattle.field_law.specs.Sections.{Section}
+use Rattle.field_law.specs.Arrivals.{meeting, has_signal, is_signal}
 use Rattle.picture_law.specs.Runs.{IsFirstSignal, between, signals_at, step_at}
 
 -- ---- steps
@@ -51,34 +51,41 @@ state_between m steps j i first =
 -- ---- signals
 
 -- only a turn is a signal
-pub signal_turn : (d : Desc) (field : Parity) (m : State) (st : Step) → is_signal d field m st ≡ true → st ≡ Turn
-signal_turn d field m Turn signal = refl
-signal_turn d field m (Push q entry) signal = cc
-signal_turn d field m (Control code) signal = cc
-signal_turn d field m (Host write) signal = cc
+pub signal_turn : (s : Section) (m : State) (st : Step) → is_signal s m st ≡ true → st ≡ Turn
+signal_turn s m Turn signal = refl
+signal_turn s m (Push q entry) signal = cc
+signal_turn s m (Control code) signal = cc
+signal_turn s m (Host write) signal = cc
 
-module _ (d : Desc) (field : Parity) (m : State) (steps : List Step) where
+-- a run keeps its program
+pub own_program : (m : State) (steps : List Step) → run m steps ≡ with_program m.program (run m steps)
+own_program m steps = ap (λ (program : RiscProgram). with_program program (run m steps)) (program-run m steps)
+
+module _ (s : Section) (m : State) (steps : List Step) where
   abbrev signals_from : ℕ → ℕ → Bool
-  signals_from j l = has_signal d field (state_at m steps j) (between j l steps)
+  signals_from j l = has_signal s (state_at m steps j) (meeting m.program (between j l steps))
 
   none_from : (j : ℕ) → signals_from j j ≡ false
-  none_from j = ap (has_signal d field (state_at m steps j)) (between_none j steps)
+  none_from j = ap (λ (part : List Step). has_signal s (state_at m steps j) (meeting m.program part)) (between_none j steps)
 
-  signals_first : (j l : ℕ) → j < l → l ≤ length steps → signals_from j l ≡ (signals_at d field m steps j || signals_from (j + 1) l)
+  signals_first : (j l : ℕ) → j < l → l ≤ length steps → signals_from j l ≡ (signals_at s m steps j || signals_from (j + 1) l)
   signals_first j l before within =
-      ap (has_signal d field (state_at m steps j)) (between_first j l steps before (omega arith))
-      ∙ ap (λ (m' : State). signals_at d field m steps j || has_signal d field m' (between (j + 1) l steps)) (sym (state_next m steps j (omega arith)))
+      let st = step_at steps j in
+      let next : step st (with_program m.program (state_at m steps j)) ≡ state_at m steps (j + 1) =
+      ap (step st) (sym (own_program m (take j steps))) ∙ sym (state_next m steps j (omega arith)) in
+      ap (λ (part : List Step). has_signal s (state_at m steps j) (meeting m.program part)) (between_first j l steps before (omega arith))
+      ∙ ap (λ (m' : State). signals_at s m steps j || has_signal s m' (meeting m.program (between (j + 1) l steps))) next
 
   -- no step signals
-  pub no_signal : (n j l : ℕ) → j + n ≡ l → l ≤ length steps → ((i : ℕ) → j ≤ i → i < l → signals_at d field m steps i ≡ false) → signals_from j l ≡ false
+  pub no_signal : (n j l : ℕ) → j + n ≡ l → l ≤ length steps → ((i : ℕ) → j ≤ i → i < l → signals_at s m steps i ≡ false) → signals_from j l ≡ false
   no_signal zero j l end within none = let here : l ≡ j = omega arith in ap (signals_from j) here ∙ none_from j
   no_signal (suc n) j l end within none =
       signals_first j l (omega arith) within
-      ∙ or_from (signals_at d field m steps j) (signals_from (j + 1) l) (none j (omega arith) (omega arith))
+      ∙ or_from (signals_at s m steps j) (signals_from (j + 1) l) (none j (omega arith) (omega arith))
       (no_signal n (j + 1) l (omega arith) within (λ i from to. none i (omega arith) to))
 
   -- some step does: the first
-  pub some_signal : (n j l : ℕ) → j + n ≡ l → l ≤ length steps → signals_from j l ≡ true → (k : ℕ) × IsFirstSignal d field m steps j k × (k < l)
+  pub some_signal : (n j l : ℕ) → j + n ≡ l → l ≤ length steps → signals_from j l ≡ true → (k : ℕ) × IsFirstSignal s m steps j k × (k < l)
   some_signal zero j l end within signal =
       let here : l ≡ j = omega arith in
       let none : signals_from j l ≡ false = ap (signals_from j) here ∙ none_from j in cc
@@ -86,27 +93,27 @@ module _ (d : Desc) (field : Parity) (m : State) (steps : List Step) where
       ⊎_elim
       (λ now. (j, record { later = omega arith; there = omega arith; signal = now; first = λ i from to. absurd (omega arith) }, omega arith))
       (λ not_now.
-      let both : (signals_at d field m steps j || signals_from (j + 1) l) ≡ true = sym (signals_first j l (omega arith) within) ∙ signal in
+      let both : (signals_at s m steps j || signals_from (j + 1) l) ≡ true = sym (signals_first j l (omega arith) within) ∙ signal in
       let rest : signals_from (j + 1) l ≡ true =
-      ⊎_elim (λ now. cc) (λ more. more) (or_cases (signals_at d field m steps j) (signals_from (j + 1) l) both) in
+      ⊎_elim (λ now. cc) (λ more. more) (or_cases (signals_at s m steps j) (signals_from (j + 1) l) both) in
       let found = some_signal n (j + 1) l (omega arith) within rest in
       let later = found.1.later in
       (found.0, record { later = omega arith; there = found.1.there; signal = found.1.signal; first = first_of found.0 not_now found.1 }, found.2))
-      (cases_Bool (signals_at d field m steps j))
+      (cases_Bool (signals_at s m steps j))
     where
-      first_of : (k : ℕ) → signals_at d field m steps j ≡ false → IsFirstSignal d field m steps (j + 1) k → (i : ℕ) → j ≤ i → i < k → signals_at d field m steps i ≡ false
+      first_of : (k : ℕ) → signals_at s m steps j ≡ false → IsFirstSignal s m steps (j + 1) k → (i : ℕ) → j ≤ i → i < k → signals_at s m steps i ≡ false
       first_of k not_now first i from to =
           ⊎_elim
           (λ after. first.first i (omega arith) to)
-          (λ here. let same : j ≡ i = omega arith in subst (λ (n : ℕ). signals_at d field m steps n ≡ false) same not_now)
+          (λ here. let same : j ≡ i = omega arith in subst (λ (n : ℕ). signals_at s m steps n ≡ false) same not_now)
           (cases_lt j i)
 
   -- where none does, the step at each place doesn't
-  pub silent_at : (n j l i : ℕ) → j + n ≡ l → l ≤ length steps → signals_from j l ≡ false → j ≤ i → i < l → signals_at d field m steps i ≡ false
+  pub silent_at : (n j l i : ℕ) → j + n ≡ l → l ≤ length steps → signals_from j l ≡ false → j ≤ i → i < l → signals_at s m steps i ≡ false
   silent_at zero j l i end within silent from to = absurd (omega arith)
   silent_at (suc n) j l i end within silent from to =
-      let parts = or_parts (signals_at d field m steps j) (signals_from (j + 1) l) (sym (signals_first j l (omega arith) within) ∙ silent) in
+      let parts = or_parts (signals_at s m steps j) (signals_from (j + 1) l) (sym (signals_first j l (omega arith) within) ∙ silent) in
       ⊎_elim
       (λ after. silent_at n (j + 1) l i (omega arith) within parts.1 (omega arith) to)
-      (λ here. let same : j ≡ i = omega arith in subst (λ (k : ℕ). signals_at d field m steps k ≡ false) same parts.0)
+      (λ here. let same : j ≡ i = omega arith in subst (λ (k : ℕ). signals_at s m steps k ≡ false) same parts.0)
       (cases_lt j i)

@@ -28,7 +28,7 @@ use Rattle.field_law.specs.Fields.{Mark}
 use Rattle.field_law.specs.Sections.{Uses, section_stores}
 use Rattle.field_law.specs.CutLines.{lines_stores}
 use Rattle.picture_law.specs.Pictures.{Picture, AreRows, IsPicture, field_tokens, has_plane, lines_of, picture_tokens, plane_of, rows_on, vbi_on, vbi_tokens}
-use Rattle.picture_law.specs.Sections.{section_of}
+use Rattle.picture_law.specs.Sections.{section_at}
 use Rattle.picture_law.proofs.Cuts.{Starts, moves, track_on}
 use Rattle.picture_law.proofs.Goes.{grain_some, queue_plane, row_track_on}
 use Rattle.picture_law.proofs.Lines.{Carries, CarriesAll, carries_all, cut_lines}
@@ -219,8 +219,9 @@ module _ (d : Desc) (right : IsRight d) (field : Parity) (described : describes 
       serves_both q (vbi_instrs d field) (field_instrs d field) (vbi_tokens d.vbi_lines (vbi_on picture q)) (picture_tokens (layout_of d).planar (skipped q) (rows_on picture q))
       (vbi_stores q) (skipped_stores q ++ row_stores q) (vbi_serves q d.vbi_lines refl) (picture_serves q)
 
-  pub section_uses : Uses (section_of d field) (field_tokens d picture skipped)
-  section_uses q = serves_used q (body d field) (field_tokens d picture skipped q) (field_stores q) (body_serves q)
+  -- wherever the section stands, and its closing leads
+  pub section_uses : (begin target : ℕ) → Uses (section_at d field begin target) (field_tokens d picture skipped)
+  section_uses begin target q = serves_used q (body d field) (field_tokens d picture skipped q) (field_stores q) (body_serves q)
 
-  pub section_makes : (q : Queue) → section_stores (section_of d field) (field_tokens d picture skipped) q ≡ field_stores q
-  section_makes q = serves_made q (body d field) (field_tokens d picture skipped q) (field_stores q) (body_serves q)
+  pub section_makes : (begin target : ℕ) (q : Queue) → section_stores (section_at d field begin target) (field_tokens d picture skipped) q ≡ field_stores q
+  section_makes begin target q = serves_made q (body d field) (field_tokens d picture skipped q) (field_stores q) (body_serves q)

@@ -6,7 +6,6 @@ pub mod Serves
 pub mod Body
 pub mod Kept
 pub mod Painted
-pub mod Meets
 pub mod Laws
 pub mod Worked
 pub mod Between

@@ -1,5 +1,5 @@
 -- Memory with a picture: what the section of its field stores paints it.
-use Rattle.std.proofs.Common.{◌≡◌, ℕ, true, false, List, [], ◌∷◌, ◌++◌, All, slice_index_or, sym, ap, ◌∙◌, subst, ⊎_elim}
+use Rattle.std.proofs.Common.{◌≡◌, ℕ, true, false, List, [], ◌∷◌, ◌++◌, All, slice_index_or, refl, sym, ap, ◌∙◌, subst, ⊎_elim}
 use Rattle.std.specs.Prelude.{◌==◌}
 use Rattle.std.proofs.lemmas.Bool.{cases_Bool, eqb-true, or_cases}
 use Rattle.std.proofs.lemmas.List.Elements.{All-append, All-head, All-tail}
@@ -8,20 +8,21 @@ use Rattle.fifo_model.specs.declared.Queue.TheVariants.{One, Two, Three}
 use Rattle.pixel_layout.specs.declared.Parity.{Parity}
 use Rattle.page_table.specs.Grants.{Chunk, granted}
 use Rattle.page_table.specs.Blocks.{Block, byte_at, chunks_of, stored}
-use Rattle.page_table.specs.Taken.{in_order}
 use Rattle.page_table.proofs.Memory.{chunks_of-stored, byte_at-stored_same}
+use Rattle.machine_model.specs.Paths.{RiscProgram}
 use Rattle.machine_model.specs.Turns.{Store, stored_all}
 use Rattle.machine_model.proofs.Memory.{chunks-stored_all}
 use Rattle.capture_desc.specs.declared.desc.Desc.{Desc}
-use Rattle.picture_model.specs.Described.{describes, memory_of}
+use Rattle.picture_model.specs.Described.{describes}
 use Rattle.picture_model.proofs.Right.{IsRight}
-use Rattle.field_law.specs.Sections.{Paints, is_stored, section_stores}
+use Rattle.field_law.specs.Sections.{Holds, Paints, is_stored, section_stores}
 use Rattle.field_law.proofs.CutLines.{stored_first, stored_second}
+use Rattle.field_law.proofs.GrantedStores.{stores_granted}
 use Rattle.field_law.proofs.Painting.{byte_at-unstored}
-use Rattle.picture_law.specs.Pictures.{Picture, After, AreRows, FieldByte, IsKeptAt, IsPicture, field_tokens, shown_as}
-use Rattle.picture_law.specs.Sections.{section_of}
+use Rattle.picture_law.specs.Pictures.{Picture, After, AreRows, FieldByte, HasPlaces, IsKeptAt, IsPicture, field_tokens, shown_as}
+use Rattle.picture_law.specs.Sections.{section_at}
 use Rattle.picture_law.proofs.Body.{field_stores, section_makes}
-use Rattle.picture_law.proofs.Kept.{IsOfPicture, all_of, kept_granted, kept_once, kept_stored, queue_of}
+use Rattle.picture_law.proofs.Kept.{IsOfPicture, all_of, kept_once, kept_stored, queue_of}
 
 -- ---- stores one after another
 
@@ -56,7 +57,7 @@ last_at P chunks memory (store ∷ stores) address same within all some =
 -- ---- the picture
 
 module _ (d : Desc) (right : IsRight d) (field : Parity) (described : describes d.fields field ≡ true) (picture : Picture) (is : IsPicture d field picture)
-    (skipped : Queue → List (List ℕ)) (skips : (q : Queue) → AreRows d q d.skip_lines (skipped q)) (memory : List Block) (chunks : chunks_of memory ≡ in_order (memory_of d)) where
+    (skipped : Queue → List (List ℕ)) (skips : (q : Queue) → AreRows d q d.skip_lines (skipped q)) (memory : List Block) (places : HasPlaces d field (chunks_of memory)) where
   abbrev stores : Queue → List Store
   stores q = field_stores d right field described picture is skipped skips q
 
@@ -69,8 +70,8 @@ module _ (d : Desc) (right : IsRight d) (field : Parity) (described : describes 
   of_picture : (q : Queue) → All IsStore (stores q)
   of_picture q = all_of d right field described picture is skipped skips q
 
-  is_granted : (store : Store) → IsStore store → granted (in_order (memory_of d)) store.address ≡ true
-  is_granted store of = kept_granted d right field described of.byte store.address of.kept
+  is_granted : (store : Store) → IsStore store → granted (chunks_of memory) store.address ≡ true
+  is_granted store of = places of.byte store.address of.kept
 
   every_of : All IsStore every
   every_of = All-append IsStore (stores One) (stores Two ++ stores Three) (of_picture One) (All-append IsStore (stores Two) (stores Three) (of_picture Two) (of_picture Three))
@@ -82,7 +83,7 @@ module _ (d : Desc) (right : IsRight d) (field : Parity) (described : describes 
 
   last : (address : ℕ) → is_stored address every ≡ true → IsLastAt IsStore (stored_all memory every) address
   last address some =
-      last_at IsStore (in_order (memory_of d)) memory every address chunks (λ k other within. is_granted (slice_index_or every k other) (every_of k other within)) every_of some
+      last_at IsStore (chunks_of memory) memory every address refl (λ k other within. is_granted (slice_index_or every k other) (every_of k other within)) every_of some
 
   -- memory after all these stores
   abbrev pub painted : List Block
@@ -111,8 +112,8 @@ module _ (d : Desc) (right : IsRight d) (field : Parity) (described : describes 
 
   -- ---- whatever memory shows the picture, the section paints it
 
-  makes : (q : Queue) → stores q ≡ section_stores (section_of d field) (field_tokens d picture skipped) q
-  makes q = sym (section_makes d right field described picture is skipped skips q)
+  makes : (begin target : ℕ) (q : Queue) → stores q ≡ section_stores (section_at d field begin target) (field_tokens d picture skipped) q
+  makes begin target q = sym (section_makes d right field described picture is skipped skips begin target q)
 
   in_no_queue : (address : ℕ) → ((q : Queue) → is_stored address (stores q) ≡ false) → (byte : FieldByte) → IsKeptAt d field byte address → ⊥
   in_no_queue address none byte kept =
@@ -120,18 +121,38 @@ module _ (d : Desc) (right : IsRight d) (field : Parity) (described : describes 
       let no = none (queue_of d right field described picture is skipped skips byte) in
       cc
 
-  pub after_paints : (now : List Block) → After d field picture memory now → Paints (section_of d field) (field_tokens d picture skipped) memory (byte_at now)
-  after_paints now after =
+  pub after_paints : (begin target : ℕ) (now : List Block) → After d field picture memory now → Paints (section_at d field begin target) (field_tokens d picture skipped) memory (byte_at now)
+  after_paints begin target now after =
       record {
-        within = λ q. subst (λ (made : List Store). All (λ store. granted (chunks_of memory) store.address ≡ true) made) (makes q)
-            (λ k other within. ap (λ (cs : List Chunk). granted cs (slice_index_or (stores q) k other).address) chunks ∙ is_granted (slice_index_or (stores q) k other) (of_picture q k other within));
-        agree = λ q. subst (λ (made : List Store). All (λ store. byte_at now store.address ≡ store.byte) made) (makes q)
+        within = λ q. subst (λ (made : List Store). All (λ store. granted (chunks_of memory) store.address ≡ true) made) (makes begin target q)
+            (λ k other within. is_granted (slice_index_or (stores q) k other) (of_picture q k other within));
+        agree = λ q. subst (λ (made : List Store). All (λ store. byte_at now store.address ≡ store.byte) made) (makes begin target q)
             (λ k other within. agrees (slice_index_or (stores q) k other) (of_picture q k other within));
-        others = λ address none. sym (after.others address (in_no_queue address (λ q. ap (is_stored address) (makes q) ∙ none q)));
+        others = λ address none. sym (after.others address (in_no_queue address (λ q. ap (is_stored address) (makes begin target q) ∙ none q)));
       }
     where
       agrees : (store : Store) → IsStore store → byte_at now store.address ≡ store.byte
       agrees store of = after.shown of.byte store.address of.kept ∙ of.shown
+
+-- ---- a program that holds the section grants the picture's places
+
+stored_holds : (P : ℕ → Type 0) (stores : List Store) (address : ℕ) → All (λ store. P store.address) stores → is_stored address stores ≡ true → P address
+stored_holds P [] address all some = cc
+stored_holds P (store ∷ stores) address all some =
+    ⊎_elim
+    (λ here. subst P (eqb-true store.address address here) (All-head (λ store. P store.address) store stores all))
+    (λ later. stored_holds P stores address (All-tail (λ store. P store.address) store stores all) later)
+    (or_cases (store.address == address) (is_stored address stores) some)
+
+pub holds_places : (d : Desc) (right : IsRight d) (field : Parity) (described : describes d.fields field ≡ true) (picture : Picture) (is : IsPicture d field picture)
+    (skipped : Queue → List (List ℕ)) (skips : (q : Queue) → AreRows d q d.skip_lines (skipped q)) (begin target : ℕ) (program : RiscProgram) →
+    Holds (section_at d field begin target) program → HasPlaces d field program.grants
+holds_places d right field described picture is skipped skips begin target program held byte address kept =
+    let q = queue_of d right field described picture is skipped skips byte in
+    stored_holds (λ address. granted program.grants address ≡ true) (section_stores (section_at d field begin target) (field_tokens d picture skipped) q) address
+    (stores_granted (section_at d field begin target) (field_tokens d picture skipped) program held q)
+    (ap (is_stored address) (section_makes d right field described picture is skipped skips begin target q)
+    ∙ kept_stored d right field described picture is skipped skips byte address kept)
 
 -- memory with the same bytes shows the same picture
 pub after_same : (d : Desc) (field : Parity) (picture : Picture) (before now other : List Block) → After d field picture before now → chunks_of other ≡ chunks_of before →

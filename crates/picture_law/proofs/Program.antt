@@ -25,7 +25,6 @@ use Rattle.picture_model.proofs.Fine.{IsGoodInstr}
 use Rattle.picture_model.proofs.Right.{IsRight}
 use Rattle.picture_model.proofs.Sections.{good_body, section_stands, signal_spelled}
 use Rattle.field_law.specs.Sections.{IsPlain, HoldsFrom, Holds, closing_at, words_in}
-use Rattle.picture_law.specs.Arrivals.{after_opening}
 use Rattle.picture_law.specs.Sections.{section_of}
 
 -- ---- the instructions of a body
@@ -51,12 +50,12 @@ vbi_plain : (d : Desc) (field : Parity) (lines : ℕ) → Each IsPlain (vbi_from
 vbi_plain d field zero = tt
 vbi_plain d field (suc more) = (tt, lines_plain d (vbi_strips d field))
 
-body_plain : (d : Desc) (field : Parity) → Each IsPlain (body d field)
+pub body_plain : (d : Desc) (field : Parity) → Each IsPlain (body d field)
 body_plain d field =
     each_append IsPlain (vbi_instrs d field) (field_instrs d field) (vbi_plain d field d.vbi_lines) (tt, lines_plain d (picture_strips d field))
 
 -- what an instruction without a fault writes is granted
-granted_demands : (program : RiscProgram) (i : Instr) → IsPlain i → ((target : Option ℕ) → instr_cause program i target ≡ None) →
+pub granted_demands : (program : RiscProgram) (i : Instr) → IsPlain i → ((target : Option ℕ) → instr_cause program i target ≡ None) →
     demands_cause program.grants (demands_of i None) ≡ None
 granted_demands program (instr.Write ctl ends off count addr) plain fine = fine None
 granted_demands program (instr.Skip ctl ends count) plain fine = fine None
@@ -70,7 +69,7 @@ granted_demands program (instr.Write1S23 ctl ends off counts addr) plain fine = 
 -- ---- where they stand
 
 -- an instruction is read where its words stand
-fetched_at : (program : RiscProgram) (before after : List ℕ) (i : Instr) (address : ℕ) → program.words ≡ before ++ (encoded i ++ after) →
+pub fetched_at : (program : RiscProgram) (before after : List ℕ) (i : Instr) (address : ℕ) → program.words ≡ before ++ (encoded i ++ after) →
     address ≡ program.base + 4 * length before → IsInstr i → 0 < length (encoded i) → fetch program address ≡ Ok (i, length (encoded i))
 fetched_at program before after i address words at is some =
     let all : length program.words ≡ length before + (length (encoded i) + length after) = ap length words ∙ split_length before (encoded i) after in
@@ -82,7 +81,7 @@ fetched_at program before after i address words at is some =
     ∙ reads_back i is before after
 
 module _ (program : RiscProgram) (ctl : Ctl) (target : ℕ) (spelled : IsInstr (instr.Jump ctl target)) (word : is_word program target ≡ true) (after : List ℕ) where
-  holds_from : (instrs : List Instr) (before : List ℕ) (address : ℕ) → program.words ≡ before ++ (words_of instrs ++ (encoded (instr.Jump ctl target) ++ after)) →
+  pub holds_from : (instrs : List Instr) (before : List ℕ) (address : ℕ) → program.words ≡ before ++ (words_of instrs ++ (encoded (instr.Jump ctl target) ++ after)) →
       address ≡ program.base + 4 * length before → Each (IsGoodInstr program) instrs → Each IsPlain instrs → HoldsFrom program address instrs ctl target
   holds_from [] before address words at good plain = (fetched_at program before after (instr.Jump ctl target) address words at spelled (omega arith), word)
   holds_from (i ∷ rest) before address words at good plain =
@@ -112,7 +111,7 @@ section_some : (d : Desc) (field : Parity) (target : ℕ) → 0 < length (words_
 section_some d field target =
     let long : length (words_of (section d field target)) ≡ suc (suc (length (words_of (body d field ++ closing field target ∷ [])))) = refl in omega arith
 
-begin_is_word : (d : Desc) (field : Parity) → describes d.fields field ≡ true → is_word (compiled d) (section_begin d d.base field) ≡ true
+pub begin_is_word : (d : Desc) (field : Parity) → describes d.fields field ≡ true → is_word (compiled d) (section_begin d d.base field) ≡ true
 begin_is_word d field is =
     let stands = section_stands d d.base d.base field is in
     let part = words_of (section d field (section_next d d.base d.base field)) in
@@ -120,7 +119,7 @@ begin_is_word d field is =
     let some = section_some d field (section_next d d.base d.base field) in
     subst (λ (a : ℕ). is_word (compiled d) a ≡ true) (sym stands.at) (a_word (compiled d) (length stands.before) (omega arith))
 
-next_is_word : (d : Desc) (field : Parity) → describes d.fields field ≡ true → is_word (compiled d) (section_next d d.base d.base field) ≡ true
+pub next_is_word : (d : Desc) (field : Parity) → describes d.fields field ≡ true → is_word (compiled d) (section_next d d.base d.base field) ≡ true
 next_is_word d field is =
     let next = next_field d.fields d d.base field is in
     subst (λ (a : ℕ). is_word (compiled d) a ≡ true) (sym next.2) (begin_is_word d next.0 next.1)
@@ -138,13 +137,13 @@ section_holds d field right is =
     let end = encoded (closing field target) in
     let good = good_body d right (compiled d) refl field is in
     let at = stands.at in
-    holds_from (compiled d) (signal field) target (signal_spelled field target) (next_is_word d field is) stands.after (body d field) (stands.before ++ start) (after_opening d field)
+    holds_from (compiled d) (signal field) target (signal_spelled field target) (next_is_word d field is) stands.after (body d field) (stands.before ++ start) (section_of d field).at
     (stands.split
     ∙ ap (λ (words : List ℕ). stands.before ++ ((start ++ words) ++ stands.after)) (words_split (body d field) (closing field target) [])
     ∙ regrouped stands.before start (words_of (body d field)) end stands.after)
     (omega (arith, length-append stands.before start)) good.1 (body_plain d field)
 
-words_in-words_of : (instrs : List Instr) → words_in instrs ≡ length (words_of instrs)
+pub words_in-words_of : (instrs : List Instr) → words_in instrs ≡ length (words_of instrs)
 words_in-words_of [] = refl
 words_in-words_of (i ∷ rest) =
     ap (λ (n : ℕ). length (encoded i) + n) (words_in-words_of rest) ∙ sym (length-append (encoded i) (words_of rest))

@@ -16,13 +16,13 @@ use Rattle.field_law.specs.Worked.{begun, line, moves}
 use Rattle.field_law.proofs.Worked as worked
 use Rattle.field_law.proofs.Worked.{before, begun_made, entries, unmarked}
 use Rattle.picture_law.specs.Pictures.{AreLines, AreRows, HoldBytes, IsPicture, field_tokens, rows_on}
-use Rattle.picture_law.specs.Arrivals.{Arrives, coming, has_signal, is_signal}
-use Rattle.picture_law.specs.Laws.{Captures, IsCapture}
+use Rattle.field_law.specs.Arrivals.{meeting, coming, has_signal, is_signal}
+use Rattle.picture_law.specs.Sections.{section_of}
 use Rattle.picture_model.specs.Worked.{smallest}
 use Rattle.picture_law.specs.Worked.{machine, picture, steps}
-use Rattle.picture_law.specs.Runs.{IsSignalled}
+use Rattle.picture_law.specs.Runs.{ArrivesAt, CapturesOf, IsCapture, IsSignalled}
 use Rattle.picture_law.proofs.Between.{silent_at}
-use Rattle.picture_law.proofs.Laws.{runs_compiled}
+use Rattle.picture_law.proofs.Laws.{compiled_is_met, runs_compiled}
 
 pub described : IsDescription smallest
 described =
@@ -61,7 +61,7 @@ row_bytes Three = All-nil HoldsBytes
 pictured : IsPicture smallest Top picture
 pictured = record { vbi = no_lines 2044; rows = rows; vbi_bytes = All-nil HoldsBytes; row_bytes = row_bytes }
 
-order : (q : Queue) → (queue_state q machine.queues).entries ++ coming (moves ++ Turn ∷ []) q ≡ before q ++ (entries q ++ [])
+order : (q : Queue) → (queue_state q machine.queues).entries ++ coming (meeting (compiled smallest) (moves ++ Turn ∷ [])) q ≡ before q ++ (entries q ++ [])
 order One = refl
 order Two = refl
 order Three = refl
@@ -76,7 +76,7 @@ brings One = worked.brings One
 brings Two = worked.brings Two
 brings Three = worked.brings Three
 
-arrives : Arrives smallest Top picture machine (moves ++ Turn ∷ [])
+arrives : ArrivesAt smallest Top picture machine (moves ++ Turn ∷ [])
 arrives =
     record {
       fifo_on = refl;
@@ -98,15 +98,12 @@ captured_over made_steps made = record { description = described; valid = refl; 
 more_steps : All IsStep (moves ++ Turn ∷ [])
 more_steps = All-from_recursion IsStep (moves ++ Turn ∷ []) (tt, (tt, (tt, (tt, (refl, (tt, (tt, (tt, (tt, (refl, (tt, (tt, (tt, tt)))))))))))))
 
-pub captures : Captures smallest Top picture machine (moves ++ Turn ∷ [])
+pub captures : CapturesOf smallest Top picture machine (moves ++ Turn ∷ [])
 captures =
-    record {
-      capture = captured_over (moves ++ Turn ∷ []) more_steps;
-      machine = runs_compiled smallest 0 begun begun_made;
-      arrives = arrives;
-    }
+    compiled_is_met smallest Top picture machine (moves ++ Turn ∷ []) (captured_over (moves ++ Turn ∷ []) more_steps)
+    (runs_compiled smallest 0 begun begun_made) arrives
 
-pub signals : (has_signal smallest Top machine moves ≡ false) × (is_signal smallest Top (run machine moves) Turn ≡ true)
+pub signals : (has_signal (section_of smallest Top) machine (meeting (compiled smallest) moves) ≡ false) × (is_signal (section_of smallest Top) (run machine moves) Turn ≡ true)
 signals = (refl, refl)
 
 -- ---- over the places of a run
@@ -119,7 +116,7 @@ signalled =
         later = omega arith;
         there = omega arith;
         signal = refl;
-        first = λ i from to. silent_at smallest Top (first_state (compiled smallest) 0) steps 12 2 14 i refl (omega arith) refl from to;
+        first = λ i from to. silent_at (section_of smallest Top) (first_state (compiled smallest) 0) steps 12 2 14 i refl (omega arith) refl from to;
       };
       arrives = arrives;
     }

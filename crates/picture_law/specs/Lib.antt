@@ -1,5 +1,4 @@
 pub mod Pictures
-pub mod Arrivals
 pub mod Sections
 pub mod Laws
 pub mod Worked

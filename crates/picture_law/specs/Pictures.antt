@@ -6,6 +6,7 @@ use Rattle.fifo_model.specs.declared.Queue.{Queue}
 use Rattle.fifo_model.specs.declared.Queue.TheVariants.{One, Two, Three}
 use Rattle.pixel_layout.specs.declared.Parity.{Parity}
 use Rattle.pixel_layout.specs.Layouts.{planes_of}
+use Rattle.page_table.specs.Grants.{Chunk, granted}
 use Rattle.page_table.specs.Blocks.{Block, chunks_of, byte_at}
 use Rattle.capture_desc.specs.declared.desc.Desc.{Desc}
 use Rattle.picture_model.specs.Described.{both, field_height, layout_of, picture_row, plane_row_bytes}
@@ -112,6 +113,10 @@ IsUnclipped d field (of_vbi line x) = (line < d.vbi_lines) × (x < d.vbi_bytes)
 -- it is kept at an address
 abbrev pub IsKeptAt : Desc → Parity → FieldByte → ℕ → Type 0
 IsKeptAt d field byte address = IsUnclipped d field byte × (byte_place d (byte_in d field byte) ≡ Some address)
+
+-- memory has each of these addresses
+abbrev pub HasPlaces : Desc → Parity → List Chunk → Type 0
+HasPlaces d field chunks = (byte : FieldByte) (address : ℕ) → IsKeptAt d field byte address → granted chunks address ≡ true
 
 -- memory after a picture of a field: each byte that is kept stands at its place, and at every other address is what
 -- was there before

@@ -1,20 +1,19 @@
-//! The law of the picture for compiled programs: whatever the schedule and the history, a field that arrives at the
-//! program of a valid description is shown at its places. The functions do nothing; their contracts are the laws.
+//! The law of the picture: whatever the schedule and the history, a field of a description that arrives at its section
+//! is shown at its places. The section stands anywhere, its closing leads anywhere, and each step meets a program of its
+//! own that holds it; compiled programs are one use. The functions do nothing; their contracts are the laws.
 #![tactic(auto)]
 
-ghost use Rattle.std.specs.Prelude.{◌≡◌, ℕ, true, false, All, List, [], ◌∷◌, ◌++◌};
+ghost use Rattle.std.specs.Prelude.{◌≡◌, true, false, [], ◌∷◌, ◌++◌};
 ghost use Rattle.pixel_layout.specs.declared.Parity.TheVariants.{Top};
-ghost use Rattle.machine_model.specs.Safety.{IsStep};
-ghost use Rattle.machine_model.specs.States.{first_state};
-ghost use Rattle.machine_model.specs.Steps.{Step, Turn, run};
-ghost use Rattle.capture_desc.specs.declared.desc.Desc.{Desc};
+ghost use Rattle.machine_model.specs.Steps.{Turn, run};
 ghost use Rattle.picture_model.specs.Programs.{compiled};
 ghost use Rattle.field_law.specs.Worked.{moves};
-ghost use Rattle.picture_law.specs.Arrivals.{has_signal, is_signal};
-ghost use Rattle.picture_law.specs.Runs.{IsSignalled, RunShowsPicture, RunShowsNoFault, RunTellsField, RunSignalsInTime};
+ghost use Rattle.field_law.specs.Arrivals.{meeting, has_signal, is_signal};
+ghost use Rattle.picture_law.specs.Sections.{section_of};
+ghost use Rattle.picture_law.specs.Runs.{CapturesOf, CompiledIsMet, RunsAreMet, IsSignalled, RunShowsPicture, RunShowsNoFault, RunTellsField, RunSignalsInTime};
 ghost use Rattle.picture_law.specs.Worked.{machine, picture, steps};
 ghost use Rattle.picture_model.specs.Worked.{smallest};
-ghost use Rattle.picture_law.specs.Laws.{Captures, RunsCompiled, HoldsSection, UsesPicture, PaintsPicture, ShowsPicture, ShowsNoFault, SignalsField, SignalsInTime};
+ghost use Rattle.picture_law.specs.Laws.{EndsSection, GrantsPlaces, HoldsSection, UsesPicture, PaintsPicture, ShowsPicture, ShowsNoFault, SignalsField, SignalsInTime};
 
 /// After the first signal of a field that arrives, each of its bytes that is not clipped stands at its place where it
 /// has one, and every other byte of memory is as it was when the machine waited in the field's opening.
@@ -35,7 +34,7 @@ pub fn signals_come_in_time()
     ensures { SignalsInTime }
 {}
 
-/// The same over the places of a run of the compiled program from the machine's first state, whatever its history: where
+/// The same over the places of a run of a description's compiled program from the machine's first state, whatever its history: where
 /// the first signal of a field after place j is step k, and a picture arrives at j over the steps j to k.
 pub fn runs_show_their_pictures()
     ensures shown { RunShowsPicture }
@@ -44,24 +43,29 @@ pub fn runs_show_their_pictures()
     ensures in_time { RunSignalsInTime }
 {}
 
-/// Each state of a run from the machine's first state is one of which these laws speak.
-pub fn runs_are_met()
-    ensures { (d : Desc) (fill : ℕ) (steps : List Step) → All IsStep steps → RunsCompiled d (run (first_state (compiled d) fill) steps) }
+/// These laws speak of the compiled program of every valid description: of each state of a run from the machine's first
+/// state, and of each picture that arrives at such a state over steps that meet the program.
+pub fn compiled_programs_are_met()
+    ensures runs { RunsAreMet }
+    ensures captures { CompiledIsMet }
 {}
 
 /// The section of a field meets the premises of the law of a section, also where the program as a whole has no room: it
-/// stands in the compiled program, it uses up a picture of the field, and it paints what shows the picture.
+/// stands in the compiled program, with its closing where the description has it. Wherever it stands it uses up a picture
+/// of the field and paints what shows the picture, and a program that holds it grants the picture's places.
 pub fn sections_meet_their_law()
     ensures holds { HoldsSection }
+    ensures ends { EndsSection }
     ensures uses { UsesPicture }
     ensures paints { PaintsPicture }
+    ensures grants { GrantsPlaces }
 {}
 
 /// The premises of these laws can be met: a picture of one line does, behind an entry of an earlier field, and its field
 /// is signalled.
 pub fn worked_picture_arrives()
-    ensures captured { Captures smallest Top picture machine (moves ++ Turn ∷ []) }
-    ensures silent { has_signal smallest Top machine moves ≡ false }
-    ensures signalled { is_signal smallest Top (run machine moves) Turn ≡ true }
+    ensures captured { CapturesOf smallest Top picture machine (moves ++ Turn ∷ []) }
+    ensures silent { has_signal (section_of smallest Top) machine (meeting (compiled smallest) moves) ≡ false }
+    ensures signalled { is_signal (section_of smallest Top) (run machine moves) Turn ≡ true }
     ensures in_a_run { IsSignalled smallest Top picture 0 steps 2 14 }
 {}
