@@ -15,6 +15,7 @@ pub mod Runs
 pub mod Closing
 pub mod GrantedStores
 pub mod Meeting
+pub mod Bringing
 pub mod Laws
 pub mod Worked
 pub mod CutLines

@@ -1,23 +1,19 @@
 -- What is pushed for a field brings the picture that is drawn.
-use Rattle.std.proofs.Common.{◌≡◌, ℕ, zero, suc, ◌+◌, ◌*◌, ◌<◌, ◌≤◌, false, List, [], ◌∷◌, ◌++◌, length, drop, Some, refl, sym, ap, ◌∙◌, subst, arith}
+use Rattle.std.proofs.Common.{◌≡◌, ℕ, zero, suc, ◌+◌, ◌*◌, ◌<◌, ◌≤◌, false, List, [], ◌∷◌, ◌++◌, length, drop, refl, sym, ap, ◌∙◌, subst, arith}
 use Rattle.std.specs.List.{concat}
 use Rattle.std.proofs.lemmas.List.{append-nil, nil_from_length}
 use Rattle.std.proofs.lemmas.List.Elements.{All-nil}
-use Rattle.risc_word.specs.declared.Code.{Code}
-use Rattle.risc_word.specs.declared.Code.TheVariants.{Vre, Vro, Fm1, Fm3}
-use Rattle.risc_word.specs.Words.{code_number}
-use Rattle.sync_status.specs.Statuses.{kind_of}
-use Rattle.fifo_model.specs.declared.Entry.{Entry}
+use Rattle.risc_word.specs.declared.Code.TheVariants.{Fm1}
 use Rattle.fifo_model.specs.declared.Queue.{Queue}
 use Rattle.fifo_model.specs.declared.Queue.TheVariants.{One, Two, Three}
-use Rattle.fifo_model.specs.Queues.{code_of_kind, control_entry}
 use Rattle.pixel_layout.specs.declared.Parity.{Parity}
 use Rattle.capture_desc.specs.declared.desc.Desc.{Desc}
 use Rattle.picture_model.specs.Described.{field_height, layout_of, plane_row_bytes}
 use Rattle.picture_model.specs.Programs.{data_code, vertical}
 use Rattle.picture_model.proofs.Right.{IsRight, IsFrame-IsRight}
 use Rattle.field_law.specs.Arrivals.{is_queue}
-use Rattle.field_law.specs.Fields.{Token, Mark, Brings}
+use Rattle.field_law.specs.Fields.{Mark, Brings}
+use Rattle.field_law.proofs.Bringing.{mark_brings}
 use Rattle.picture_law.specs.Pictures.{AreLines, AreRows, HoldBytes, IsField, IsPicture, Picture, field_tokens, lines_of, lines_on, picture_tokens, plane_of, rows_on, vbi_on, vbi_tokens}
 use Rattle.field_law.specs.Arrivals.{pushed_in}
 use Rattle.field_stream.specs.Pushes.{Push, packed_line, picture_line, picture_pushes, repeated, vbi_pushes}
@@ -28,15 +24,6 @@ use Rattle.generated_law.proofs.Statuses.{pushed_in-drawn, packed_nothing, packe
 use Rattle.generated_law.proofs.Whole.{AreBytes}
 use Rattle.generated_law.proofs.Repeated.{AreDrawn, brings-append, lines_drawn, nothing_drawn, rows_drawn}
 use Rattle.generated_law.proofs.Cutting.{bytes_in, bytes_in-append, bytes_in-lines, bytes_in-vbi, carried-brings, cut-concat, drop_both, length-concat}
-
-code_seen : (code : Code) → code_of_kind (kind_of (code_number code)) ≡ Some code
-code_seen Vre = refl
-code_seen Vro = refl
-code_seen Fm1 = refl
-code_seen Fm3 = refl
-
-mark_brings : (code : Code) (tokens : List Token) (entries : List Entry) → Brings tokens entries → Brings (Mark code ∷ tokens) (control_entry code ∷ entries)
-mark_brings code tokens entries here = (control_entry code, entries, refl, code_seen code, here)
 
 -- ---- VBI lines
 

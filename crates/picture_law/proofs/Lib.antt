@@ -8,5 +8,6 @@ pub mod Kept
 pub mod Painted
 pub mod Laws
 pub mod Worked
+pub mod WorkedPlanar
 pub mod Between
 pub mod Places

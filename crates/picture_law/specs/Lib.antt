@@ -3,3 +3,4 @@ pub mod Sections
 pub mod Laws
 pub mod Worked
 pub mod Runs
+pub mod WorkedPlanar

@@ -12,6 +12,7 @@ ghost use Rattle.field_law.specs.Arrivals.{meeting, has_signal, is_signal};
 ghost use Rattle.picture_law.specs.Sections.{section_of};
 ghost use Rattle.picture_law.specs.Runs.{CapturesOf, CompiledIsMet, RunsAreMet, IsSignalled, RunShowsPicture, RunShowsNoFault, RunTellsField, RunSignalsInTime};
 ghost use Rattle.picture_law.specs.Worked.{machine, picture, steps};
+ghost use Rattle.picture_law.specs.WorkedPlanar.{planar, planar_picture, planar_steps, MeetsBound};
 ghost use Rattle.picture_model.specs.Worked.{smallest};
 ghost use Rattle.picture_law.specs.Laws.{EndsSection, GrantsPlaces, HoldsSection, UsesPicture, PaintsPicture, ShowsPicture, ShowsNoFault, SignalsField, SignalsInTime};
 
@@ -68,4 +69,12 @@ pub fn worked_picture_arrives()
     ensures silent { has_signal (section_of smallest Top) machine (meeting (compiled smallest) moves) ≡ false }
     ensures signalled { is_signal (section_of smallest Top) (run machine moves) Turn ≡ true }
     ensures in_a_run { IsSignalled smallest Top picture 0 steps 2 14 }
+{}
+
+/// They can be met with all that a description may have: both fields, VBI lines, skipped lines, a clip, a planar format
+/// with chroma that is kept and chroma that is not, and two chunks. The top field of such a description arrives behind an
+/// entry of an earlier field, is signalled within the bound, and meets the premises of each law over a run.
+pub fn worked_planar_picture_arrives()
+    ensures signalled { IsSignalled planar Top planar_picture 0 planar_steps 2 76 }
+    ensures in_time { MeetsBound 2 28 128 }
 {}
