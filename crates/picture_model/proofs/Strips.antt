@@ -65,7 +65,7 @@ one_fits memory clipped grains at t inside is =
     let small = is.small in
     record { few = omega arith; whole = one_in_chunk memory clipped grains t.size t.start at inside is.fit }
 
-all_fit : (memory : List Chunk) (strip : Strip) (at : ℕ) (spans : List Span) → IsStrip memory strip → Cover strip.grains at spans → AllFit memory strip spans
+pub all_fit : (memory : List Chunk) (strip : Strip) (at : ℕ) (spans : List Span) → IsStrip memory strip → Cover strip.grains at spans → AllFit memory strip spans
 all_fit memory strip at [] is cover = tt
 all_fit memory strip at (s ∷ rest) is cover =
     let end = cover_end strip.grains s.to rest cover.2 in
