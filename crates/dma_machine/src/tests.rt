@@ -2,7 +2,7 @@
 
 ghost use Rattle.std.specs.Prelude.{◌≡◌, ◌<◌};
 
-use crate::{Machine, Report};
+use crate::{Did, Machine, Report, Seen};
 use fifo_model::{Entry, Fifo, Queue};
 use irq_status::HostWrite;
 use page_ram::{MapRam, Ram};
@@ -324,5 +324,128 @@ fn planar(rt: HostRuntime) -> Result<(), Fail> {
             &[0x30, 0x31, 0x32, 0x33, 0x34, 0x35, 0x36, 0x37, 0]
         )
     );
+    Ok(())
+}
+
+fn saw(did: Did, at: u32, took: bool, ended: bool, reserved: bool) -> Seen {
+    Seen {
+        did,
+        at,
+        took,
+        ended,
+        reserved,
+    }
+}
+
+fn saw_alone(did: Did, at: u32) -> Seen {
+    saw(did, at, false, false, false)
+}
+
+// Whether this is seen of the next turns.
+fn sees(m: &mut Machine<MapRam>, want: &[Seen]) -> bool {
+    for seen in want {
+        if m.turn_seen() != *seen {
+            return false;
+        }
+    }
+    true
+}
+
+// All turns of a line, and what is asked between them.
+#[test]
+fn turns_are_seen(rt: HostRuntime) -> Result<(), Fail> {
+    let mut m = machine::<Brand>(rt.alloc(), &ONE_LINE, 0, Blank::new(1))?;
+    assert_eq!(rt; m.next_fetch(), Some(0x1000));
+    assert!(rt;
+        sees(
+            &mut m,
+            &[
+                saw_alone(Did::Synced, 0x1000),
+                saw_alone(Did::Still, 0x1000)
+            ]
+        )
+    );
+    assert_eq!(rt; m.next_fetch(), None);
+    act(&mut m, Push(Three, 3, 0));
+    assert!(rt; m.holds(Three));
+    assert!(rt; !m.holds(One));
+    act(&mut m, Control(Code::Vro));
+    act(&mut m, Control(Code::Vre));
+    act(&mut m, Control(Code::Fm1));
+    act(&mut m, Push(One, 2, 0x1312_1110));
+    act(&mut m, Push(One, 1, 0x1716_1514));
+    let line = [
+        saw_alone(Did::Dropped, 0x1000),
+        saw_alone(Did::Missed, 0x1000),
+        saw_alone(Did::Matched, 0x1000),
+        saw_alone(Did::Synced, 0x1008),
+        saw_alone(Did::Matched, 0x1008),
+        saw_alone(Did::Begun, 0x1010),
+        saw(Did::Moved(One), 0x1010, true, false, false),
+        saw(Did::Moved(One), 0x1010, true, true, false),
+        saw_alone(Did::Retired, 0x1010),
+        saw_alone(Did::Jumped, 0x1018),
+    ];
+    assert!(rt; sees(&mut m, &line));
+    assert_eq!(rt; m.report(), report(12, 8, [0; 4], 0x1000_0800));
+    assert_eq!(rt; m.next_fetch(), Some(0x1000));
+    let off = HostWrite::Enable {
+        fifo: true,
+        risc: false,
+    };
+    act(&mut m, Host(off));
+    assert!(rt; sees(&mut m, &[saw_alone(Did::Still, 0x1000)]));
+    assert_eq!(rt; m.next_fetch(), None);
+    Ok(())
+}
+
+// Lines that are given up, and flags of several entries of one burst.
+#[test]
+fn broken_lines_are_seen(rt: HostRuntime) -> Result<(), Fail> {
+    let words = [
+        0x8000_8004,
+        0,
+        0x8000_0006,
+        0,
+        0x1800_0004,
+        0x20000,
+        0x1400_0008,
+        0x20008,
+        0x71e1_0000,
+        0x1000,
+    ];
+    let mut m = machine::<Brand>(rt.alloc(), &words, 0, Blank::new(1))?;
+    act(&mut m, Control(Code::Vre));
+    act(&mut m, Control(Code::Fm1));
+    act(&mut m, Turns(5));
+    act(&mut m, Host(HostWrite::Trigger(0)));
+    act(&mut m, Push(One, 7, 0));
+    act(&mut m, Push(One, 2, 0x1312_1110));
+    act(&mut m, Push(One, 3, 0));
+    act(&mut m, Push(One, 5, 0x14));
+    act(&mut m, Push(One, 2, 0x2322_2120));
+    let first = [
+        saw(Did::Moved(One), 0x1010, true, false, false),
+        saw_alone(Did::Retired, 0x1010),
+        saw_alone(Did::Begun, 0x1018),
+        saw(Did::GivenUp(One), 0x1018, true, true, true),
+        saw_alone(Did::Jumped, 0x1020),
+    ];
+    assert!(rt; sees(&mut m, &first));
+    act(&mut m, Turns(1));
+    act(&mut m, Control(Code::Vre));
+    act(&mut m, Control(Code::Fm1));
+    act(&mut m, Control(Code::Vre));
+    let second = [
+        saw_alone(Did::Dropped, 0x1000),
+        saw_alone(Did::Matched, 0x1000),
+        saw_alone(Did::Synced, 0x1008),
+        saw_alone(Did::Matched, 0x1008),
+        saw_alone(Did::Begun, 0x1010),
+        saw_alone(Did::GivenUp(One), 0x1010),
+        saw_alone(Did::Passed, 0x1018),
+        saw_alone(Did::Jumped, 0x1020),
+    ];
+    assert!(rt; sees(&mut m, &second));
     Ok(())
 }
