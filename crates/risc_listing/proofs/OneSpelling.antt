@@ -10,7 +10,7 @@ use Rattle.risc_word.specs.declared.Code.{Code}
 use Rattle.risc_word.specs.declared.Instr.{Instr}
 use Rattle.risc_word.specs.Words.{Reading, by_opcode, code_number, code_numbered, control_bits, counts_word, data_word, encoded, first_count, first_instr, flag, head_word, instr_at, jump_at, lanes_off, line_ends, skip_123_at, skip_at, sync_at, sync_for, sync_word, write_123_at, write_1_s_23_at, write_at, write_c_at}
 use Rattle.risc_listing.specs.Listings.{if_spelled, spelled}
-use Rattle.risc_listing.specs.Unnamed.{is_plain, is_plain_counts, is_plain_data, is_plain_jump, is_plain_skip, is_plain_sync}
+use Rattle.risc_listing.specs.Unnamed.{are_unnamed_zero, are_unnamed_zero_in_counts, are_unnamed_zero_in_data, are_unnamed_zero_in_jump, are_unnamed_zero_in_skip, are_unnamed_zero_in_sync}
 
 not_zero : (n : ℕ) → (suc n == 0) ≡ false
 not_zero n = ne_eqb (suc n) 0 (λ same. omega arith)
@@ -70,7 +70,7 @@ module _ (word : ℕ) (small : word < 2 ^ 32) where
       data_of word opcode (bits 28 4 word) (bits 27 1 word) (bits 26 1 word) (bits 25 1 word) (bits 24 1 word) (bits 20 4 word) (bits 16 4 word) (bits 12 4 word) (bits 0 12 word) _ _ _ is
       (flag_of 27 (bits 27 1 word) (bit_small 27 word)) (flag_of 26 (bits 26 1 word) (bit_small 26 word)) (flag_of 24 (bits 24 1 word) (bit_small 24 word)) (fields_are word small)
 
-  data_same : (opcode : ℕ) → bits 28 4 word ≡ opcode → (data_word opcode (control_bits word) (line_ends word) (lanes_off word) (first_count word) == word) ≡ is_plain_data word
+  data_same : (opcode : ℕ) → bits 28 4 word ≡ opcode → (data_word opcode (control_bits word) (line_ends word) (lanes_off word) (first_count word) == word) ≡ are_unnamed_zero_in_data word
   data_same opcode is = same_word word _ (bits 25 1 word * 2 ^ 25) (data_sum opcode is) ∙ scaled (bits 25 1 word) (2 ^ 25) (omega arith)
 
   skip_sum : (opcode : ℕ) → bits 28 4 word ≡ opcode → word ≡ data_word opcode (control_bits word) (line_ends word) 0 (first_count word) + (bits 25 1 word * 2 ^ 25 + bits 12 4 word * 2 ^ 12)
@@ -80,7 +80,7 @@ module _ (word : ℕ) (small : word < 2 ^ 32) where
       without_lanes : (word head lanes count spare : ℕ) → word ≡ head + lanes * 2 ^ 12 + count + spare * 2 ^ 25 → word ≡ head + 0 * 2 ^ 12 + count + (spare * 2 ^ 25 + lanes * 2 ^ 12)
       without_lanes word head lanes count spare is = omega arith
 
-  skip_same : (opcode : ℕ) → bits 28 4 word ≡ opcode → (data_word opcode (control_bits word) (line_ends word) 0 (first_count word) == word) ≡ is_plain_skip word
+  skip_same : (opcode : ℕ) → bits 28 4 word ≡ opcode → (data_word opcode (control_bits word) (line_ends word) 0 (first_count word) == word) ≡ are_unnamed_zero_in_skip word
   skip_same opcode is = same_word word _ _ (skip_sum opcode is) ∙ sum_zero (bits 25 1 word) (bits 12 4 word) (2 ^ 25) (2 ^ 12) (omega arith) (omega arith)
 
   head_fields : word ≡ bits 28 4 word * 2 ^ 28 + bits 25 3 word * 2 ^ 25 + bits 24 1 word * 2 ^ 24 + bits 20 4 word * 2 ^ 20 + bits 16 4 word * 2 ^ 16 + bits 0 16 word
@@ -96,7 +96,7 @@ module _ (word : ℕ) (small : word < 2 ^ 32) where
       head_of opcode (bits 28 4 word) (bits 25 3 word) (bits 24 1 word) (bits 20 4 word) (bits 16 4 word) (bits 0 16 word) _ is
       (flag_of 24 (bits 24 1 word) (bit_small 24 word)) head_fields
 
-  jump_same : bits 28 4 word ≡ 7 → (head_word 7 (control_bits word) == word) ≡ is_plain_jump word
+  jump_same : bits 28 4 word ≡ 7 → (head_word 7 (control_bits word) == word) ≡ are_unnamed_zero_in_jump word
   jump_same is = same_word word _ _ (head_sum 7 is) ∙ sum_zero (bits 25 3 word) (bits 0 16 word) (2 ^ 25) 1 (omega arith) (omega arith)
 
   lower_half : bits 0 16 word ≡ bits 15 1 word * 2 ^ 15 + bits 4 11 word * 2 ^ 4 + bits 0 4 word
@@ -106,7 +106,7 @@ module _ (word : ℕ) (small : word < 2 ^ 32) where
       word ≡ head + (b25 * 2 ^ 25 + half * 1) → word ≡ head + f15 + number + (b25 * 2 ^ 25 + b4 * 2 ^ 4)
   sync_of head half b25 b15 b4 b0 f15 number h15 h0 split sum = omega arith
 
-  sync_same : (code : Code) → bits 28 4 word ≡ 8 → code_number code ≡ bits 0 4 word → (sync_word (control_bits word) (bits 15 1 word == 1) code == word) ≡ is_plain_sync word
+  sync_same : (code : Code) → bits 28 4 word ≡ 8 → code_number code ≡ bits 0 4 word → (sync_word (control_bits word) (bits 15 1 word == 1) code == word) ≡ are_unnamed_zero_in_sync word
   sync_same code is number =
       let sum = sync_of (head_word 8 (control_bits word)) (bits 0 16 word) (bits 25 3 word) (bits 15 1 word) (bits 4 11 word) (bits 0 4 word) _ (code_number code)
       (flag_of 15 (bits 15 1 word) (bit_small 15 word)) number lower_half (head_sum 8 is) in
@@ -115,7 +115,7 @@ module _ (word : ℕ) (small : word < 2 ^ 32) where
   counts_sum : word ≡ counts_word (bits 0 12 word) (bits 16 12 word) + (bits 12 4 word * 2 ^ 12 + bits 28 4 word * 2 ^ 28)
   counts_sum = omega arith
 
-  counts_same : (counts_word (bits 0 12 word) (bits 16 12 word) == word) ≡ is_plain_counts word
+  counts_same : (counts_word (bits 0 12 word) (bits 16 12 word) == word) ≡ are_unnamed_zero_in_counts word
   counts_same = same_word word _ _ counts_sum ∙ sum_zero (bits 12 4 word) (bits 28 4 word) (2 ^ 12) (2 ^ 28) (omega arith) (omega arith)
 
 abbrev IsNumbered : ℕ → Option Code → Type 0
@@ -131,27 +131,27 @@ number_back n =
 -- what is read of words is spelled by them exactly where they are plain
 abbrev IsExact : ℕ → List ℕ → Reading → Type 0
 IsExact word rest reading =
-    IfOk reading (λ read. starts_with (λ one other. one == other) (word ∷ rest) (encoded read.0) ≡ is_plain read.0 word (slice_index rest 0))
+    IfOk reading (λ read. starts_with (λ one other. one == other) (word ∷ rest) (encoded read.0) ≡ are_unnamed_zero read.0 word (slice_index rest 0))
 
 module _ (word : ℕ) (small : word < 2 ^ 32) where
   write_exact : bits 28 4 word ≡ 1 → (rest : List ℕ) → IsExact word rest (write_at word rest)
   write_exact is [] = tt
-  write_exact is (address ∷ rest) = rw (data_same word small 1 is, same address) (and_true (is_plain_data word))
+  write_exact is (address ∷ rest) = rw (data_same word small 1 is, same address) (and_true (are_unnamed_zero_in_data word))
 
   skip_exact : bits 28 4 word ≡ 2 → (rest : List ℕ) → IsExact word rest (skip_at word)
-  skip_exact is rest = rw (skip_same word small 2 is) (and_true (is_plain_skip word))
+  skip_exact is rest = rw (skip_same word small 2 is) (and_true (are_unnamed_zero_in_skip word))
 
   write_c_exact : bits 28 4 word ≡ 5 → (rest : List ℕ) → IsExact word rest (write_c_at word)
-  write_c_exact is rest = rw (data_same word small 5 is) (and_true (is_plain_data word))
+  write_c_exact is rest = rw (data_same word small 5 is) (and_true (are_unnamed_zero_in_data word))
 
   jump_exact : bits 28 4 word ≡ 7 → (rest : List ℕ) → IsExact word rest (jump_at word rest)
   jump_exact is [] = tt
-  jump_exact is (target ∷ rest) = rw (jump_same word small is, same target) (and_true (is_plain_jump word))
+  jump_exact is (target ∷ rest) = rw (jump_same word small is, same target) (and_true (are_unnamed_zero_in_jump word))
 
   sync_for_exact : bits 28 4 word ≡ 8 → (second : ℕ) (rest : List ℕ) (found : Option Code) → IsNumbered (bits 0 4 word) found → IsExact word (second ∷ rest) (sync_for word found)
   sync_for_exact is second rest None number = tt
   sync_for_exact is second rest (Some code) number =
-      rw (sync_same word small code is number, zero_test second) (ap (λ (b : Bool). is_plain_sync word && b) (and_true (second == 0)))
+      rw (sync_same word small code is number, zero_test second) (ap (λ (b : Bool). are_unnamed_zero_in_sync word && b) (and_true (second == 0)))
 
   sync_exact : bits 28 4 word ≡ 8 → (rest : List ℕ) → IsExact word rest (sync_at word rest)
   sync_exact is [] = tt
@@ -163,18 +163,18 @@ module _ (word : ℕ) (small : word < 2 ^ 32) where
   write_123_exact is (counts ∷ first ∷ []) rest_small = tt
   write_123_exact is (counts ∷ first ∷ second ∷ []) rest_small = tt
   write_123_exact is (counts ∷ first ∷ second ∷ third ∷ rest) rest_small =
-      rw (data_same word small 9 is, counts_same counts rest_small, same first, same second, same third) (ap (λ (b : Bool). is_plain_data word && b) (and_true (is_plain_counts counts)))
+      rw (data_same word small 9 is, counts_same counts rest_small, same first, same second, same third) (ap (λ (b : Bool). are_unnamed_zero_in_data word && b) (and_true (are_unnamed_zero_in_counts counts)))
 
   skip_123_exact : bits 28 4 word ≡ 10 → (rest : List ℕ) → slice_index rest 0 < 2 ^ 32 → IsExact word rest (skip_123_at word rest)
   skip_123_exact is [] rest_small = tt
   skip_123_exact is (counts ∷ rest) rest_small =
-      rw (skip_same word small 10 is, counts_same counts rest_small) (ap (λ (b : Bool). is_plain_skip word && b) (and_true (is_plain_counts counts)))
+      rw (skip_same word small 10 is, counts_same counts rest_small) (ap (λ (b : Bool). are_unnamed_zero_in_skip word && b) (and_true (are_unnamed_zero_in_counts counts)))
 
   write_1_s_23_exact : bits 28 4 word ≡ 11 → (rest : List ℕ) → slice_index rest 0 < 2 ^ 32 → IsExact word rest (write_1_s_23_at word rest)
   write_1_s_23_exact is [] rest_small = tt
   write_1_s_23_exact is (counts ∷ []) rest_small = tt
   write_1_s_23_exact is (counts ∷ address ∷ rest) rest_small =
-      rw (data_same word small 11 is, counts_same counts rest_small, same address) (ap (λ (b : Bool). is_plain_data word && b) (and_true (is_plain_counts counts)))
+      rw (data_same word small 11 is, counts_same counts rest_small, same address) (ap (λ (b : Bool). are_unnamed_zero_in_data word && b) (and_true (are_unnamed_zero_in_counts counts)))
 
   chosen : (opcode this : ℕ) (rest : List ℕ) (one other : Reading) → (opcode ≡ this → IsExact word rest one) → IsExact word rest other → IsExact word rest (if opcode == this then one else other)
   chosen opcode this rest one other one_exact other_exact =
@@ -192,13 +192,13 @@ module _ (word : ℕ) (small : word < 2 ^ 32) where
       (chosen (bits 28 4 word) 11 rest _ _ (λ is. write_1_s_23_exact is rest rest_small) tt)))))))
 
 exact : (words : List ℕ) → ((k : ℕ) → slice_index words k < 2 ^ 32) →
-    IfOk (first_instr words) (λ read. starts_with (λ one other. one == other) words (encoded read.0) ≡ is_plain read.0 (slice_index words 0) (slice_index words 1))
+    IfOk (first_instr words) (λ read. starts_with (λ one other. one == other) words (encoded read.0) ≡ are_unnamed_zero read.0 (slice_index words 0) (slice_index words 1))
 exact [] small = tt
 exact (word ∷ rest) small = exact_by_opcode word (small 0) rest (small 1)
 
 -- what was read is spelled, by the test of the bits
 pub spelled_where : (test : Bool) (words : List ℕ) → ((k : ℕ) → slice_index words k < 2 ^ 32) → (instr : Instr) (number : ℕ) → Ok (instr, number) ≡ instr_at words 0 →
-    is_plain instr (slice_index words 0) (slice_index words 1) ≡ test → spelled words ≡ (if test then Some (instr, number) else None)
+    are_unnamed_zero instr (slice_index words 0) (slice_index words 1) ≡ test → spelled words ≡ (if test then Some (instr, number) else None)
 spelled_where test words small instr number is test_is =
-    let plain = MatchResult-at_ok (λ read. starts_with (λ one other. one == other) words (encoded read.0) ≡ is_plain read.0 (slice_index words 0) (slice_index words 1)) (λ _. Unit {0}) (instr, number) (sym is) (exact words small) in
+    let plain = MatchResult-at_ok (λ read. starts_with (λ one other. one == other) words (encoded read.0) ≡ are_unnamed_zero read.0 (slice_index words 0) (slice_index words 1)) (λ _. Unit {0}) (instr, number) (sym is) (exact words small) in
     ap (if_spelled words) (sym is) ∙ ap (λ (b : Bool). if b then Some (instr, number) else None) (plain ∙ test_is)

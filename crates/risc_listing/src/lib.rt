@@ -19,7 +19,7 @@ use risc_verify::Program;
 use risc_word::{Instr, decode};
 use std::alloc::{AllocError, Global};
 use std::fmt::Write;
-use unnamed::is_plain;
+use unnamed::are_unnamed_zero;
 
 const PAGE: u32 = 4096;
 
@@ -38,7 +38,7 @@ fn spelled(words: &[u32]) -> Option<(Instr, usize)>
     let Ok((instr, number)) = decode(words, 0) else {
         return None;
     };
-    if is_plain(&instr, words) {
+    if are_unnamed_zero(&instr, words) {
         Some((instr, usize::from(number)))
     } else {
         None

@@ -1,7 +1,7 @@
 //! The bits of an instruction's words that no field names (Bt878 data sheet, "RISC instructions"; the
 //! planar counts are this project's own).
 
-ghost use Rattle.risc_listing.specs.Unnamed.{is_plain, is_plain_counts, is_plain_data, is_plain_jump, is_plain_skip, is_plain_sync};
+ghost use Rattle.risc_listing.specs.Unnamed.{are_unnamed_zero, are_unnamed_zero_in_counts, are_unnamed_zero_in_data, are_unnamed_zero_in_jump, are_unnamed_zero_in_skip, are_unnamed_zero_in_sync};
 ghost use Rattle.std.specs.Prelude.{◌≡◌, slice_index};
 
 use bit_field::Field;
@@ -28,36 +28,36 @@ type AboveSecondCount = Field<12, 4>;
 type AboveThirdCount = Field<28, 4>;
 
 #[inline(always)]
-fn is_plain_data(word: u32) -> bool
-    ensures { result ≡ is_plain_data word }
+fn are_unnamed_zero_in_data(word: u32) -> bool
+    ensures { result ≡ are_unnamed_zero_in_data word }
 {
     Spare::get(word) == 0
 }
 
 #[inline(always)]
-fn is_plain_skip(word: u32) -> bool
-    ensures { result ≡ is_plain_skip word }
+fn are_unnamed_zero_in_skip(word: u32) -> bool
+    ensures { result ≡ are_unnamed_zero_in_skip word }
 {
-    is_plain_data(word) && Lanes::get(word) == 0
+    are_unnamed_zero_in_data(word) && Lanes::get(word) == 0
 }
 
 #[inline(always)]
-fn is_plain_jump(word: u32) -> bool
-    ensures { result ≡ is_plain_jump word }
+fn are_unnamed_zero_in_jump(word: u32) -> bool
+    ensures { result ≡ are_unnamed_zero_in_jump word }
 {
     NoEnds::get(word) == 0 && LowerHalf::get(word) == 0
 }
 
 #[inline(always)]
-fn is_plain_sync(word: u32) -> bool
-    ensures { result ≡ is_plain_sync word }
+fn are_unnamed_zero_in_sync(word: u32) -> bool
+    ensures { result ≡ are_unnamed_zero_in_sync word }
 {
     NoEnds::get(word) == 0 && BelowResync::get(word) == 0
 }
 
 #[inline(always)]
-fn is_plain_counts(word: u32) -> bool
-    ensures { result ≡ is_plain_counts word }
+fn are_unnamed_zero_in_counts(word: u32) -> bool
+    ensures { result ≡ are_unnamed_zero_in_counts word }
 {
     AboveSecondCount::get(word) == 0 && AboveThirdCount::get(word) == 0
 }
@@ -72,19 +72,19 @@ fn word_or_zero(words: &[u32], at: usize) -> u32
 
 /// Whether each bit that no field of the instruction names is 0, where the words begin with it.
 #[inline(always)]
-pub fn is_plain(instr: &Instr, words: &[u32]) -> bool
-    ensures { result ≡ is_plain instr.now (slice_index words.now 0) (slice_index words.now 1) }
+pub fn are_unnamed_zero(instr: &Instr, words: &[u32]) -> bool
+    ensures { result ≡ are_unnamed_zero instr.now (slice_index words.now 0) (slice_index words.now 1) }
 {
     let first = word_or_zero(words, 0);
     let second = word_or_zero(words, 1);
     match instr {
-        Instr::Write { .. } => is_plain_data(first),
-        Instr::Skip { .. } => is_plain_skip(first),
-        Instr::WriteC { .. } => is_plain_data(first),
-        Instr::Jump { .. } => is_plain_jump(first),
-        Instr::Sync { .. } => is_plain_sync(first) && second == 0,
-        Instr::Write123 { .. } => is_plain_data(first) && is_plain_counts(second),
-        Instr::Skip123 { .. } => is_plain_skip(first) && is_plain_counts(second),
-        Instr::Write1S23 { .. } => is_plain_data(first) && is_plain_counts(second),
+        Instr::Write { .. } => are_unnamed_zero_in_data(first),
+        Instr::Skip { .. } => are_unnamed_zero_in_skip(first),
+        Instr::WriteC { .. } => are_unnamed_zero_in_data(first),
+        Instr::Jump { .. } => are_unnamed_zero_in_jump(first),
+        Instr::Sync { .. } => are_unnamed_zero_in_sync(first) && second == 0,
+        Instr::Write123 { .. } => are_unnamed_zero_in_data(first) && are_unnamed_zero_in_counts(second),
+        Instr::Skip123 { .. } => are_unnamed_zero_in_skip(first) && are_unnamed_zero_in_counts(second),
+        Instr::Write1S23 { .. } => are_unnamed_zero_in_data(first) && are_unnamed_zero_in_counts(second),
     }
 }
