@@ -3,21 +3,20 @@ use Rattle.std.specs.Prelude.{◌≡◌, ℕ, zero, suc, ◌+◌, ◌-◌, ◌*�
 use Rattle.std.specs.List.{flat_map}
 use Rattle.risc_word.specs.declared.Code.TheVariants.{Fm1}
 use Rattle.risc_word.specs.declared.Instr.TheVariants.{Write}
-use Rattle.sync_status.specs.Statuses.{kind_of}
 use Rattle.fifo_model.specs.declared.Entry.{Entry}
 use Rattle.fifo_model.specs.declared.Queue.{Queue}
 use Rattle.fifo_model.specs.declared.Queue.TheVariants.{One, Two, Three}
-use Rattle.fifo_model.specs.Queues.{queue_state, code_of_kind}
+use Rattle.fifo_model.specs.Queues.{queue_state}
 use Rattle.irq_status.specs.Register.{has, risci, risc_status}
 use Rattle.page_table.specs.Blocks.{byte_at}
 use Rattle.page_table.specs.Scattered.{address_at}
 use Rattle.machine_model.specs.declared.Job.{Job}
 use Rattle.machine_model.specs.declared.Job.TheVariants.{Running, Waiting}
-use Rattle.machine_model.specs.Safety.{IsOrderly}
+use Rattle.machine_model.specs.Safety.{IsOrderly, IsStep}
 use Rattle.machine_model.specs.States.{State}
 use Rattle.machine_model.specs.Steps.{Step, Turn, run, step}
 use Rattle.machine_model.specs.Turns.{is_done, sets_fdsr}
-use Rattle.field_law.specs.Arrivals.{AreQuiet, Met, coming}
+use Rattle.field_law.specs.Arrivals.{AreKept, HasCode, meeting, pushed_in}
 use Rattle.field_law.specs.Fields.{Brings, IsLine, Mark, Row, Token}
 use Rattle.picture_model.specs.Programs.{no_control}
 use Rattle.ring_model.specs.Rings.{IsRing, Ring, bytes_of, ends, memory_of, ring_program}
@@ -50,10 +49,6 @@ block_ends block_at m (s ∷ steps) = one_if (block_end block_at m s) + block_en
 
 -- what arrives
 
--- steps that meet the machine's own program
-abbrev pub met_by : State → List Step → List Met
-met_by m steps = map (λ s. (m.program, s)) steps
-
 -- entries that begin a line of so many bytes and don't finish it: at least its last entry is still to come
 pub record IsUnfinished (bytes : ℕ) (entries : List Entry) : Type 0 where
   pub missing : List Entry
@@ -83,12 +78,12 @@ pub record IsRingRun (r : Ring) (lines : List (List ℕ)) (m : State) (steps : L
   pub risc_on : m.risc_on ≡ true
   pub waits : m.job ≡ Waiting no_control true Fm1
   pub there : m.pc ≡ r.base + 8
-  pub quiet : AreQuiet m (met_by m steps)
+  pub kept : AreKept m (meeting m.program steps)
   pub before : Queue → List Entry
   pub entries : Queue → List Entry
   pub unfinished : List Entry
-  pub order : (q : Queue) → (queue_state q m.queues).entries ++ coming (met_by m steps) q ≡ before q ++ (entries q ++ left_on unfinished q)
-  pub unmarked : (q : Queue) → All (λ entry. (code_of_kind (kind_of entry.status) ≡ Some Fm1) → ⊥) (before q)
+  pub order : (q : Queue) → (queue_state q m.queues).entries ++ pushed_in steps q ≡ before q ++ (entries q ++ left_on unfinished q)
+  pub unmarked : (q : Queue) → All (λ entry. HasCode Fm1 entry → ⊥) (before q)
   pub brings : (q : Queue) → Brings (tokens_on lines q) (entries q)
   pub long : All (λ line. length line ≡ r.line_bytes) lines
   pub last : IsUnfinished r.line_bytes unfinished
@@ -129,7 +124,7 @@ pub record ShowsBlocks (r : Ring) (lines : List (List ℕ)) (number : ℕ) (m no
 -- the theorem: a ring run that ends with a block end shows the blocks, and none of its turns sets FDSR
 abbrev pub RingsShowTheirBlocks : Type 0
 RingsShowTheirBlocks = (r : Ring) (lines : List (List ℕ)) (m : State) (early : List Step) (block : ℕ) →
-    IsRing r → IsOrderly m → IsRingRun r lines m (early ++ Turn ∷ []) → block_end (ends r) (run m early) Turn ≡ Some block →
+    IsRing r → IsOrderly m → All IsStep early → IsRingRun r lines m (early ++ Turn ∷ []) → block_end (ends r) (run m early) Turn ≡ Some block →
     (block ≡ block_ends (ends r) m early % r.blocks)
     × ShowsBlocks r lines (block_ends (ends r) m early) m (run m (early ++ Turn ∷ []))
     × ((before after : List Step) → early ++ Turn ∷ [] ≡ before ++ Turn ∷ after → sets_fdsr (run m before) ≡ false)

@@ -1,7 +1,7 @@
 //! Laws of rings without a fault. The functions do nothing; their contracts are the laws.
 
 ghost use Rattle.std.specs.Prelude.{◌≡◌, ◌≤◌, ◌<◌, ℕ, List, [], ◌∷◌, Some, None, length, map};
-ghost use Rattle.machine_model.specs.Paths.{IsProgram, IsSound};
+ghost use Rattle.machine_model.specs.Paths.{IsProgram, IsSound, max_words};
 ghost use Rattle.ring_model.specs.Rings.{IsPlaced, IsRing, Ring, ends, ring_program};
 ghost use Rattle.ring_model.specs.Runs.{block_ends};
 ghost use Rattle.ring_model.specs.Worked.{after, machine, steps, two_lines};
@@ -15,7 +15,7 @@ pub fn ring_programs_are_sound()
 /// The program of a ring has no more words than a program may have, and where the ring's place has no fault, it is a
 /// program.
 pub fn ring_programs_can_be_made()
-    ensures words { (r : Ring) → IsRing r → length (ring_program r).words ≤ 1048576 }
+    ensures words { (r : Ring) → IsRing r → length (ring_program r).words ≤ max_words }
     ensures program { (r : Ring) → IsRing r → IsPlaced r → IsProgram (ring_program r) }
 {}
 
