@@ -2,8 +2,8 @@
 use Rattle.std.specs.Prelude.{◌≡◌, ℕ, zero, suc, ◌+◌, ◌-◌, ◌*◌, ◌%◌, ◌^◌, ◌<◌, Bool, not, ◌&&◌, List, [], ◌∷◌, ◌++◌, length, drop, Option, Some, None, Result, Ok, Err, if◌then◌else◌, ◌==◌, nat_lt, nat_le, codes}
 use Rattle.std.specs.List.{flat_map, list_all}
 use Rattle.byteorder.specs.Endian.{little_number, little_bytes}
-use Rattle.page_table.specs.Grants.{Chunk, chunk, is_page}
-use Rattle.machine_model.specs.Paths.{RiscProgram, IsProgram, shares_byte}
+use Rattle.page_table.specs.Grants.{Chunk, chunk, is_page, max_bytes, max_chunks, page_size}
+use Rattle.machine_model.specs.Paths.{RiscProgram, IsProgram, shares_byte, max_words}
 use Rattle.capture_file.specs.declared.FileKind.{FileKind}
 use Rattle.capture_file.specs.declared.FileKind.TheVariants as fault
 use Rattle.capture_file.specs.declared.FileFault.{FileFault}
@@ -69,7 +69,7 @@ base_field size bytes = do
 
 abbrev pub word_count_fault : ℕ → ℕ → Option FileKind
 word_count_fault base count =
-    if nat_le count 1048576 && nat_le (base + 4 * count) (2 ^ 32) then None else Some fault.Count
+    if nat_le count max_words && nat_le (base + 4 * count) (2 ^ 32) then None else Some fault.Count
 
 unfoldable pub word_count_field : ℕ → ℕ → List ℕ → Field ℕ
 word_count_field size base bytes = do
@@ -89,7 +89,7 @@ words_field size count bytes =
 
 -- the number of chunks
 abbrev pub chunk_count_fault : ℕ → Option FileKind
-chunk_count_fault count = if nat_le count 4096 then None else Some fault.Count
+chunk_count_fault count = if nat_le count max_chunks then None else Some fault.Count
 
 unfoldable pub chunk_count_field : ℕ → List ℕ → Field ℕ
 chunk_count_field size bytes = do
@@ -101,9 +101,9 @@ chunk_count_field size bytes = do
 -- address alone is written
 abbrev pub page_fault : RiscProgram → ℕ → ℕ → Option FileKind
 page_fault program from at =
-    if not (at % 4096 == 0) then Some fault.Page
+    if not (at % page_size == 0) then Some fault.Page
     else (if nat_lt at from then Some fault.Order
-    else (if shares_byte program (chunk at 4096) then Some fault.Overlap
+    else (if shares_byte program (chunk at page_size) then Some fault.Overlap
     else None))
 
 abbrev pub address_fault : ℕ → ℕ → Option FileKind
@@ -113,7 +113,7 @@ address_fault from at =
 
 abbrev pub is_length : ℕ → ℕ → ℕ → Bool
 is_length sum at len =
-    not (len == 0) && len % 4 == 0 && nat_le (at + len) (2 ^ 32) && nat_le (sum + len) 16777216
+    not (len == 0) && len % 4 == 0 && nat_le (at + len) (2 ^ 32) && nat_le (sum + len) max_bytes
 
 abbrev pub length_fault : RiscProgram → ℕ → ℕ → ℕ → Option FileKind
 length_fault program sum at len =
@@ -125,7 +125,7 @@ unfoldable pub page_field : ℕ → RiscProgram → ℕ → List ℕ → Field C
 page_field size program from bytes = do
   at ← number_field size bytes
   _ ← judged (page_fault program from at.0) size bytes
-  Ok (chunk at.0 4096, at.1)
+  Ok (chunk at.0 page_size, at.1)
 
 unfoldable pub long_chunk_field : ℕ → RiscProgram → ℕ → ℕ → List ℕ → Field Chunk
 long_chunk_field size program from sum bytes = do

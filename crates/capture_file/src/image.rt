@@ -4,7 +4,7 @@ ghost use Rattle.capture_desk.specs.Desks.{Puts, WriteCounts, after_write};
 ghost use Rattle.capture_file.specs.Images.{block_image, image_as, image_head, image_name, image_of, place_image};
 ghost use Rattle.capture_file.specs.Programs.{layout_for};
 ghost use Rattle.page_table.specs.Blocks.{AreBlocks, Block, chunk_of, chunks_of};
-ghost use Rattle.page_table.specs.Grants.{is_page};
+ghost use Rattle.page_table.specs.Grants.{is_page, max_bytes};
 ghost use Rattle.std.specs.List.{flat_map, list_all};
 ghost use Rattle.std.specs.Prelude.{◌≡◌, ◌^◌, ◌≤◌, length, IsTrue};
 
@@ -12,6 +12,7 @@ use super::program::Layout;
 use super::writing::{put_numbers, spell_one};
 use capture_desk::{Desk, Failed, put};
 use page_ram::Ram;
+use page_table::PAGE_SIZE;
 
 fn name(layout: Layout) -> [u8; 4]
     ensures { result ≡ image_name layout }
@@ -51,7 +52,7 @@ fn put_place<D: Desk>(desk: &mut D, layout: Layout, at: u32, len: u32) -> Result
 // Appends a chunk of an image.
 fn put_block<D: Desk>(desk: &mut D, layout: Layout, at: u32, bytes: &[u8]) -> Result<(), Failed>
     requires open { IsTrue (D.told desk.old).output_open }
-    requires small { length bytes.now ≤ 2 ^ 24 }
+    requires small { length bytes.now ≤ max_bytes }
     ensures puts { Puts (block_image layout (record { at = at; bytes = bytes.now })) result after_write
         (D.told desk.old) (D.told desk.new) }
     ensures counts { WriteCounts result (D.read_faults desk.old) (D.read_faults desk.new)
@@ -64,7 +65,7 @@ fn put_block<D: Desk>(desk: &mut D, layout: Layout, at: u32, bytes: &[u8]) -> Re
 fn is_page_at(at: u32, bytes: &[u8]) -> bool
     ensures { result ≡ is_page (chunk_of (record { at = at; bytes = bytes.now })) }
 {
-    at % 4096 == 0 && bytes.len() == 4096
+    at % PAGE_SIZE == 0 && bytes.len() == PAGE_SIZE as usize
 }
 
 // The form of a memory's image: whether all chunks are pages.

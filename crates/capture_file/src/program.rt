@@ -3,16 +3,17 @@
 ghost use Rattle.capture_file.specs.Programs.{Gives, address_fault, base_field, base_fault, chunk_count_fault, chunk_count_field, chunk_field, chunks_field, cut, fill_fault, fill_field, is_length, judged, layout_field, layout_of, length_fault, long_chunk_field, number_field, page_fault, page_field, program_of, without_grants, word_count_fault, word_count_field, words_field, words_in, wrong};
 ghost use Rattle.std.specs.List.{All, list_all};
 ghost use Rattle.byteorder.specs.Endian.{little_number};
-ghost use Rattle.page_table.specs.Grants.{AreRising, chunk, is_page, total};
+ghost use Rattle.page_table.specs.Grants.{AreRising, chunk, is_page, total, max_bytes, max_chunks};
 ghost use Rattle.capture_file.specs.declared.program.ProgramError.TheVariants.{File, Memory};
 ghost use Rattle.page_table.specs.Taken.{listed, pair_chunk};
-ghost use Rattle.machine_model.specs.Paths.{shares_byte};
+ghost use Rattle.machine_model.specs.Paths.{shares_byte, max_words};
 ghost use Rattle.std.specs.Prelude.{false, ◌%◌, ◌≡◌, ◌+◌, ◌-◌, ◌*◌, ◌^◌, ◌≤◌, ◌<◌, List, ℕ, [], drop, length, IfOk, IfErr, Ok};
 
 use super::records::number;
 use super::{FileFault, FileKind};
 use byteorder::{ByteOrder, LittleEndian};
-use page_table::{PageFault, PageSet};
+use machine_model::MAX_WORDS;
+use page_table::{MAX_BYTES, MAX_CHUNKS, PAGE_SIZE, PageFault, PageSet};
 use risc_verify::Program;
 use std::alloc::{AllocError, AllocFailed, Global};
 
@@ -63,12 +64,6 @@ pub enum Layout {
     /// Some chunk isn't: `BRP2`, `BMI2`.
     Chunked,
 }
-
-const MOST_WORDS: u32 = 1_048_576;
-
-const MOST_CHUNKS: u32 = 4_096;
-
-const MOST_BYTES: u64 = 16_777_216;
 
 const ADDRESSES: u64 = 0x1_0000_0000;
 
@@ -166,7 +161,7 @@ fn read_base(size: usize, bytes: &[u8]) -> Result<(u32, &[u8]), ProgramError>
 fn word_count_wrong(base: u32, count: u32) -> Option<FileKind>
     ensures { result ≡ word_count_fault base count }
 {
-    if count <= MOST_WORDS && u64::from(base) + 4 * u64::from(count) <= ADDRESSES {
+    if count <= MAX_WORDS && u64::from(base) + 4 * u64::from(count) <= ADDRESSES {
         None
     } else {
         Some(FileKind::Count)
@@ -178,7 +173,7 @@ fn read_word_count(size: usize, base: u32, bytes: &[u8]) -> Result<(u32, &[u8]),
     requires { length bytes.now ≤ size }
     ensures value { Gives (λ x. (x.0, x.1.now)) result (word_count_field size base bytes.now) }
     ensures rest { IfOk result (λ x. length x.1.now ≤ length bytes.now) }
-    ensures few { IfOk result (λ x. x.0 ≤ 1048576) }
+    ensures few { IfOk result (λ x. x.0 ≤ max_words) }
     ensures ends { IfOk result (λ x. base + 4 * x.0 ≤ 2 ^ 32) }
 {
     let (count, rest) = read_number(size, bytes)?;
@@ -189,7 +184,7 @@ fn read_word_count(size: usize, base: u32, bytes: &[u8]) -> Result<(u32, &[u8]),
 fn chunk_count_wrong(count: u32) -> Option<FileKind>
     ensures { result ≡ chunk_count_fault count }
 {
-    if count <= MOST_CHUNKS {
+    if count as usize <= MAX_CHUNKS {
         None
     } else {
         Some(FileKind::Count)
@@ -201,7 +196,7 @@ fn read_chunk_count(size: usize, bytes: &[u8]) -> Result<(u32, &[u8]), ProgramEr
     requires { length bytes.now ≤ size }
     ensures value { Gives (λ x. (x.0, x.1.now)) result (chunk_count_field size bytes.now) }
     ensures rest { IfOk result (λ x. length x.1.now ≤ length bytes.now) }
-    ensures few { IfOk result (λ x. x.0 ≤ 4096) }
+    ensures few { IfOk result (λ x. x.0 ≤ max_chunks) }
 {
     let (count, rest) = read_number(size, bytes)?;
     judge(chunk_count_wrong(count), size, bytes)?;
@@ -267,7 +262,7 @@ fn read_words(
 
 // Whether a chunk shares a byte with a program of so many words.
 fn shares(base: u32, words: &[u32], at: u32, len: u32) -> bool
-    requires { length words.now ≤ 1048576 }
+    requires { length words.now ≤ max_words }
     ensures { result ≡ shares_byte (without_grants base words.now) (chunk at len) }
 {
     let end = u64::from(base) + 4 * words.len() as u64;
@@ -277,14 +272,14 @@ fn shares(base: u32, words: &[u32], at: u32, len: u32) -> bool
 }
 
 fn page_wrong(base: u32, words: &[u32], from: u64, at: u32) -> Option<FileKind>
-    requires { length words.now ≤ 1048576 }
+    requires { length words.now ≤ max_words }
     ensures { result ≡ page_fault (without_grants base words.now) from at }
 {
-    if at % 4096 != 0 {
+    if at % PAGE_SIZE != 0 {
         Some(FileKind::Page)
     } else if u64::from(at) < from {
         Some(FileKind::Order)
-    } else if shares(base, words, at, 4096) {
+    } else if shares(base, words, at, PAGE_SIZE) {
         Some(FileKind::Overlap)
     } else {
         None
@@ -310,11 +305,11 @@ fn is_right_length(sum: u64, at: u32, len: u32) -> bool
     len != 0
         && len % 4 == 0
         && u64::from(at) + u64::from(len) <= ADDRESSES
-        && sum + u64::from(len) <= MOST_BYTES
+        && sum + u64::from(len) <= MAX_BYTES
 }
 
 fn length_wrong(base: u32, words: &[u32], sum: u64, at: u32, len: u32) -> Option<FileKind>
-    requires few { length words.now ≤ 1048576 }
+    requires few { length words.now ≤ max_words }
     requires small { sum < 2 ^ 62 }
     ensures { result ≡ length_fault (without_grants base words.now) sum at len }
 {
@@ -336,14 +331,14 @@ fn read_page<'a>(
     bytes: &'a [u8],
 ) -> Result<((u32, u32), &'a [u8]), ProgramError>
     requires inside { length bytes.now ≤ size }
-    requires few { length words.now ≤ 1048576 }
+    requires few { length words.now ≤ max_words }
     ensures value { Gives (λ x. (pair_chunk x.0, x.1.now)) result (page_field size (without_grants base words.now) from bytes.now) }
     ensures rest { IfOk result (λ x. length x.1.now ≤ length bytes.now) }
     ensures wide { IfOk result (λ x. x.0.1 < 2 ^ 32) }
 {
     let (at, rest) = read_number(size, bytes)?;
     judge(page_wrong(base, words, from, at), size, bytes)?;
-    Ok(((at, 4096), rest))
+    Ok(((at, PAGE_SIZE), rest))
 }
 
 #[tactic(auto, unfolding(crate::specs::Programs::long_chunk_field))]
@@ -356,7 +351,7 @@ fn read_long_chunk<'a>(
     bytes: &'a [u8],
 ) -> Result<((u32, u32), &'a [u8]), ProgramError>
     requires inside { length bytes.now ≤ size }
-    requires few { length words.now ≤ 1048576 }
+    requires few { length words.now ≤ max_words }
     requires small { sum < 2 ^ 62 }
     ensures value { Gives (λ x. (pair_chunk x.0, x.1.now)) result (long_chunk_field size (without_grants base words.now) from sum bytes.now) }
     ensures rest { IfOk result (λ x. length x.1.now ≤ length bytes.now) }
@@ -379,7 +374,7 @@ fn read_chunk<'a>(
     bytes: &'a [u8],
 ) -> Result<((u32, u32), &'a [u8]), ProgramError>
     requires inside { length bytes.now ≤ size }
-    requires few { length words.now ≤ 1048576 }
+    requires few { length words.now ≤ max_words }
     requires small { sum < 2 ^ 62 }
     ensures value { Gives (λ x. (pair_chunk x.0, x.1.now)) result (chunk_field layout size (without_grants base words.now) from sum bytes.now) }
     ensures rest { IfOk result (λ x. length x.1.now ≤ length bytes.now) }
@@ -401,12 +396,12 @@ fn read_chunks<'a>(
     bytes: &'a [u8],
 ) -> Result<(Vec<(u32, u32)>, &'a [u8]), ProgramError>
     requires inside { length bytes.now ≤ size }
-    requires few { length words.now ≤ 1048576 }
-    requires count { count ≤ 4096 }
+    requires few { length words.now ≤ max_words }
+    requires count { count ≤ max_chunks }
     ensures value { Gives (λ x. (listed x.0.items, x.1.now)) result (chunks_field layout size (without_grants base words.now) count 0 0 bytes.now) }
     ensures rest { IfOk result (λ x. length x.1.now ≤ length bytes.now) }
     ensures rising { IfOk result (λ x. AreRising 0 (listed x.0.items)) }
-    ensures small { IfOk result (λ x. total (listed x.0.items) ≤ 2 ^ 24) }
+    ensures small { IfOk result (λ x. total (listed x.0.items) ≤ max_bytes) }
     ensures apart { IfOk result (λ x. All (λ c. shares_byte (without_grants base words.now) c ≡ false) (listed x.0.items)) }
     ensures len { IfOk result (λ x. length x.0.items ≡ count) }
 {
@@ -475,7 +470,7 @@ fn read_fill(
 fn grants_of(alloc: Global, chunks: &[(u32, u32)]) -> Result<PageSet, ProgramError>
     requires rising { AreRising 0 (listed chunks.now) }
     requires few { length chunks.now ≤ 4096 }
-    requires small { total (listed chunks.now) ≤ 2 ^ 24 }
+    requires small { total (listed chunks.now) ≤ max_bytes }
     ensures value { IfOk result (λ grants. grants ≡ listed chunks.now) }
     ensures memory { IfErr result (λ e. e ≡ Memory) }
 {

@@ -1,5 +1,6 @@
 //! Program files written to a desk.
 
+ghost use Rattle.machine_model.specs.Paths.{max_words};
 ghost use Rattle.byteorder.specs.Endian.{little_bytes};
 ghost use Rattle.capture_desk.specs.Desks.{Puts, WriteCounts, after_write};
 ghost use Rattle.capture_file.specs.Programs.{chunk_in, chunk_numbers, grants_spelled, head_spelled, layout_for, name_of, numbers_spelled, spelled, spelled_as};
@@ -200,7 +201,7 @@ fn put_all<D: Desk>(
     fill: u8,
 ) -> Result<(), Failed>
     requires open { IsTrue (D.told desk.old).output_open }
-    requires few { length words.now ≤ 1048576 }
+    requires few { length words.now ≤ max_words }
     ensures puts { Puts (spelled_as layout (record { base = base; words = words.now; grants = grants.now }) fill) result after_write
         (D.told desk.old) (D.told desk.new) }
     ensures counts { WriteCounts result (D.read_faults desk.old) (D.read_faults desk.new)

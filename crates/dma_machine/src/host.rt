@@ -14,7 +14,7 @@ impl<R: Ram> Engine<R> {
     ghost use Rattle.dma_machine.specs.Facts.{IsMachine, report_of};
     ghost use Rattle.dma_machine.specs.Looks.{holds, next_fetch};
     ghost use Rattle.dma_machine.specs.Views.{state_of};
-    ghost use Rattle.fifo_model.specs.Queues.{empty_queues};
+    ghost use Rattle.fifo_model.specs.Queues.{empty_queues, empty_fifo};
     ghost use Rattle.irq_status.specs.Writes.{IsWrite};
     ghost use Rattle.machine_model.specs.States.{started};
     ghost use Rattle.page_table.specs.Blocks.{chunks_of};
@@ -152,7 +152,7 @@ impl<R: Ram> Engine<R> {
     /// The parts of a machine at the base of its program. What `wait`, `instr` and `demands` are means nothing yet.
     pub fn new(accepted: Accepted, ram: R, queues: Fifo) -> Engine<R>
         requires granted { chunks_of (R.memory ram) ≡ accepted.grants }
-        requires empty { queues ≡ empty_queues 70 35 35 }
+        requires empty { queues ≡ empty_fifo }
         ensures state { state_of R.memory result ≡ started accepted (R.memory ram) queues }
         ensures still { result.still ≡ false }
         ensures facts { IsMachine (state_of R.memory result) }

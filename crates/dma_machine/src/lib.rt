@@ -5,7 +5,7 @@
 ghost use Rattle.dma_machine.specs.Counts.{acted, with_turns};
 ghost use Rattle.dma_machine.specs.Facts.{IsMachine, report_of};
 ghost use Rattle.dma_machine.specs.Looks.{CanGoOn, RetiresAt, holds, next_fetch};
-ghost use Rattle.fifo_model.specs.Queues.{empty_queues, more};
+ghost use Rattle.fifo_model.specs.Queues.{empty_queues, more, empty_fifo};
 ghost use Rattle.irq_status.specs.Register.{has_ocerr};
 ghost use Rattle.irq_status.specs.Writes.{IsWrite};
 ghost use Rattle.machine_model.specs.Safety.{StaysInside};
@@ -74,7 +74,7 @@ impl<R: Ram> Machine<R> {
     /// A machine at the base of its program: both enables are on, and the trigger point is 1.
     pub fn new(accepted: Accepted, ram: R, fifo: Fifo) -> Machine<R>
         requires granted { chunks_of (R.memory ram) ≡ accepted.grants }
-        requires empty { fifo ≡ empty_queues 70 35 35 }
+        requires empty { fifo ≡ empty_fifo }
         ensures state { result ≡ started accepted (R.memory ram) fifo }
         ensures facts { IsMachine result }
     {

@@ -7,6 +7,9 @@ pub mod laws;
 use fifo_model::Queue;
 use risc_word::{Code, Ctl, Instr};
 
+/// How many words a program may have (this project's own limit).
+pub const MAX_WORDS: u32 = 1_048_576;
+
 /// Why a place of a program's path isn't fine.
 #[derive(Clone, Copy, Debug, PartialEq, Eq)]
 pub enum Cause {

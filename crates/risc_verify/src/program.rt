@@ -1,6 +1,6 @@
 //! A program in memory, and one that was accepted.
 
-ghost use Rattle.machine_model.specs.Paths.{IsProgram, IsSound, fetch, shares_byte};
+ghost use Rattle.machine_model.specs.Paths.{IsProgram, IsSound, fetch, shares_byte, max_words};
 ghost use Rattle.risc_verify.specs.Programs.{word_of};
 ghost use Rattle.std.specs.List.{All};
 ghost use Rattle.std.specs.Prelude.{◌≡◌, ◌+◌, ◌*◌, ◌%◌, ◌^◌, ◌<◌, ◌≤◌, false, length, IfSome, OnOk};
@@ -31,7 +31,7 @@ impl Program {
     /// The program of `words` from the address `base` on, which may write the memory of `grants`.
     pub fn new(base: u32, words: Vec<u32>, grants: PageSet) -> Program
         requires aligned { base % 4 ≡ 0 }
-        requires few { length words.items ≤ 1048576 }
+        requires few { length words.items ≤ max_words }
         requires ends { base + 4 * length words.items ≤ 2 ^ 32 }
         requires apart { All (λ c. shares_byte (record { base = base; words = words.items; grants = grants }) c ≡ false) grants }
         ensures { result ≡ record { base = base; words = words.items; grants = grants } }
