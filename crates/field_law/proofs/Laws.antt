@@ -31,16 +31,16 @@ use Rattle.field_law.proofs.Closing.{signal-Signals, Closes, signal-Closes}
 
 -- ---- lists of steps
 
-all_first : (P : Met → Type 0) (early late : List Met) → All P (early ++ late) → All P late
+pub all_first : (P : Met → Type 0) (early late : List Met) → All P (early ++ late) → All P late
 all_first P [] late h = h
 all_first P (met ∷ early) late h = all_first P early late (All-tail P met (early ++ late) h)
 
-coming-append : (early late : List Met) (q : Queue) → coming (early ++ late) q ≡ coming early q ++ coming late q
+pub coming-append : (early late : List Met) (q : Queue) → coming (early ++ late) q ≡ coming early q ++ coming late q
 coming-append [] late q = refl
 coming-append (met ∷ early) late q =
     ap (λ (entries : List Entry). pushed_by met.1 q ++ entries) (coming-append early late q) ∙ sym (append_assoc (pushed_by met.1 q) (coming early q) (coming late q))
 
-signal-append : (s : Section) (m : State) (early late : List Met) → has_signal s m (early ++ late) ≡ false →
+pub signal-append : (s : Section) (m : State) (early late : List Met) → has_signal s m (early ++ late) ≡ false →
     (has_signal s m early ≡ false) × (has_signal s (run_in m early) late ≡ false)
 signal-append s m [] late h = (refl, h)
 signal-append s m (met ∷ early) late h =
@@ -141,13 +141,13 @@ pub shows_no_fault : ShowsNoFault
 shows_no_fault s field m early late program r silent = quiet s field m early late program r silent ⊥ [] (λ _. 0) (λ none. absurd none)
 
 -- a status of which each bit is set or cleared
-whole_status : (old set reset : ℕ) → set + reset ≡ 15 → status_after old set reset ≡ set
+pub whole_status : (old set reset : ℕ) → set + reset ≡ 15 → status_after old set reset ≡ set
 whole_status old set reset h =
     let kept : 15 - reset ≡ set = omega arith in
     ap (λ (mask : ℕ). bit_or (bit_and old mask) set) kept
     ∙ same_from_bits _ _ (λ i. omega (arith, bit_at_or (bit_and old set) set i, bit_at_and old set i))
 
-shows_bits : (ctl : Ctl) (before now : ℕ) → now ≡ applied ctl before → ShowsBits ctl before now
+pub shows_bits : (ctl : Ctl) (before now : ℕ) → now ≡ applied ctl before → ShowsBits ctl before now
 shows_bits ctl before now e =
     record {
       register = e;
@@ -164,7 +164,7 @@ signals_closing s field m early late program r silent signal =
 -- ---- the bound
 
 -- a list that is as long as another's beginning begins with it
-beginning : (a b c d : List Entry) → a ++ b ≡ c ++ d → length c ≤ length a → a ≡ c ++ drop (length c) a
+pub beginning : (a b c d : List Entry) → a ++ b ≡ c ++ d → length c ≤ length a → a ≡ c ++ drop (length c) a
 beginning a b c d e le =
     let first : take (length c) a ≡ c = sym (take-append-le (length c) a b le) ∙ ap (take (length c)) e ∙ take_at c d (length c) refl in
     sym (take-append-drop (length c) a) ∙ ap (λ (first : List Entry). first ++ drop (length c) a) first

@@ -14,6 +14,7 @@ pub mod Pushes
 pub mod Runs
 pub mod Closing
 pub mod GrantedStores
+pub mod OnPath
 pub mod Meeting
 pub mod Bringing
 pub mod Laws

@@ -27,10 +27,10 @@ pub record Adds (queues after : Queues) (new : Queue → List Entry) : Type 0 wh
   pub taken : (q : Queue) → (queue_state q after).taken ≡ (queue_state q queues).taken
   pub entries : (q : Queue) → (queue_state q after).entries ≡ (queue_state q queues).entries ++ new q
 
-adds_none : (queues : Queues) → Adds queues queues (λ q. [])
+pub adds_none : (queues : Queues) → Adds queues queues (λ q. [])
 adds_none queues = record { taken = λ q. refl; entries = λ q. sym (append-nil (queue_state q queues).entries) }
 
-adds_to : (to : Queue) (entry : Entry) (queues : Queues) → Adds queues (with_queue_state to (entered entry (queue_state to queues)) queues) (λ q. pushed_by (Push to entry) q)
+pub adds_to : (to : Queue) (entry : Entry) (queues : Queues) → Adds queues (with_queue_state to (entered entry (queue_state to queues)) queues) (λ q. pushed_by (Push to entry) q)
 adds_to to entry queues = record { taken = taken to; entries = entries to }
   where
     taken : (to q : Queue) → (queue_state q (with_queue_state to (entered entry (queue_state to queues)) queues)).taken ≡ (queue_state q queues).taken
@@ -55,7 +55,7 @@ adds_to to entry queues = record { taken = taken to; entries = entries to }
     entries Three Two = sym (append-nil queues.two.entries)
     entries Three Three = refl
 
-adds_all : (code : Code) (queues : Queues) → Adds queues (all_entered (control_entry code) queues) (λ q. pushed_by (Control code) q)
+pub adds_all : (code : Code) (queues : Queues) → Adds queues (all_entered (control_entry code) queues) (λ q. pushed_by (Control code) q)
 adds_all code queues = record { taken = taken; entries = entries }
   where
     taken : (q : Queue) → (queue_state q (all_entered (control_entry code) queues)).taken ≡ (queue_state q queues).taken

@@ -56,6 +56,16 @@ HoldsFrom program at (instr ∷ rest) closing target =
 abbrev pub Holds : Section → RiscProgram → Type 0
 Holds s program = HoldsFrom program s.at s.body s.closing s.target
 
+-- its instructions stand there, whether or not the program grants what they write
+abbrev pub StandsFrom : RiscProgram → ℕ → List Instr → Ctl → ℕ → Type 0
+StandsFrom program at [] closing target = fetch program at ≡ Ok (Jump closing target, 2)
+StandsFrom program at (instr ∷ rest) closing target =
+    (fetch program at ≡ Ok (instr, length (encoded instr))) × IsPlain instr
+    × StandsFrom program (at + 4 * length (encoded instr)) rest closing target
+
+abbrev pub Stands : Section → RiscProgram → Type 0
+Stands s program = StandsFrom program s.at s.body s.closing s.target
+
 -- what an instruction asks of one queue: a control code, or so many bytes, which go to memory from an address on or
 -- nowhere; the first of them begin a line, or all go on in the line that is under way
 pub data Ask : Type 0 where

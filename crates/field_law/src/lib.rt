@@ -7,12 +7,12 @@
 ghost use Rattle.std.specs.Prelude.{◌≡◌, ◌<◌, ℕ, Bool, Some, All, List, [], ◌∷◌, ◌++◌, true, false, length, slice_index_or};
 ghost use Rattle.fifo_model.specs.declared.Queue.{Queue};
 ghost use Rattle.page_table.specs.Grants.{granted};
-ghost use Rattle.machine_model.specs.Paths.{RiscProgram};
+ghost use Rattle.machine_model.specs.Paths.{RiscProgram, path, IsSound};
 ghost use Rattle.machine_model.specs.States.{State};
 ghost use Rattle.machine_model.specs.Steps.{Step, Turn, run, run_in};
 ghost use Rattle.machine_model.specs.Turns.{Store};
 ghost use Rattle.field_law.specs.Fields.{Token};
-ghost use Rattle.field_law.specs.Sections.{Section, Holds, Ask, UsesUp, planned, is_stored, section_stores, Paints};
+ghost use Rattle.field_law.specs.Sections.{Section, Holds, Stands, Ask, UsesUp, planned, is_stored, section_stores, Paints};
 ghost use Rattle.field_law.specs.CutLines.{CutLine, IsCovered, lines_asks, lines_rows, lines_stores, address_in, EachByte};
 ghost use Rattle.field_law.specs.Arrivals.{meeting, is_signal, has_signal};
 ghost use Rattle.field_law.specs.Laws.{Receives, ShowsPicture, ShowsNoFault, SignalsClosing, IsBounded};
@@ -39,6 +39,11 @@ pub fn signal_comes_in_time()
 /// A run is one in which each step meets the machine's own program.
 pub fn run_meets_its_program()
     ensures { (m : State) (steps : List Step) → run m steps ≡ run_in m (meeting m.program steps) }
+{}
+
+/// A sound program on whose path the instructions of a section stand holds the section.
+pub fn section_on_the_path_is_held()
+    ensures { (s : Section) (program : RiscProgram) (number : ℕ) → IsSound program → (path program number).pc ≡ s.at → Stands s program → Holds s program }
 {}
 
 /// A program that holds a section grants what it stores, whatever field it uses up.

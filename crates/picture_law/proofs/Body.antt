@@ -49,13 +49,13 @@ unmoved_packed planar One unmoved = cc
 unmoved_packed planar Two unmoved = (unmoved, refl)
 unmoved_packed planar Three unmoved = (unmoved, refl)
 
-row_starts : (planar : Bool) (chroma : Option ℕ) (one : ℕ) (f g : ℕ → ℕ) → Starts planar (kind_by planar chroma) (Some one) (option_map f chroma) (option_map g chroma)
+pub row_starts : (planar : Bool) (chroma : Option ℕ) (one : ℕ) (f g : ℕ → ℕ) → Starts planar (kind_by planar chroma) (Some one) (option_map f chroma) (option_map g chroma)
 row_starts true None one f g = tt
 row_starts true (Some row) one f g = tt
 row_starts false None one f g = tt
 row_starts false (Some row) one f g = tt
 
-skipped_starts : (planar : Bool) → Starts planar Skip None None None
+pub skipped_starts : (planar : Bool) → Starts planar Skip None None None
 skipped_starts true = tt
 skipped_starts false = tt
 
@@ -115,7 +115,7 @@ module _ (d : Desc) (right : IsRight d) (q : Queue) (has : has_plane d q ≡ tru
         any = omega arith;
       }
 
-vbi_carries : (d : Desc) (right : IsRight d) (field : Parity) → describes d.fields field ≡ true → (k : ℕ) (bytes : List ℕ) → k < d.vbi_lines → length bytes ≡ d.vbi_bytes →
+pub vbi_carries : (d : Desc) (right : IsRight d) (field : Parity) → describes d.fields field ≡ true → (k : ℕ) (bytes : List ℕ) → k < d.vbi_lines → length bytes ≡ d.vbi_bytes →
     Carries d One (vbi_strip d field k) bytes
 vbi_carries d right field described k bytes within long =
     let some = (right.vbi_bytes (omega arith)).0 in

@@ -1,5 +1,5 @@
 -- The section of a field stands in the program of its description.
-use Rattle.std.proofs.Common.{◌≡◌, ℕ, zero, suc, ◌+◌, ◌*◌, ◌<◌, Bool, true, false, List, [], ◌∷◌, ◌++◌, length, length-append, append_assoc, map, Option, None, Ok, refl, sym, ap, ◌∙◌, subst, arith}
+use Rattle.std.proofs.Common.{◌≡◌, ℕ, zero, suc, ◌+◌, ◌*◌, ◌<◌, Bool, true, false, List, [], ◌∷◌, ◌++◌, length, length-append, append_assoc, map, None, Ok, refl, sym, ap, ◌∙◌, subst, arith}
 use Rattle.std.proofs.lemmas.Bool.{cond-true}
 use Rattle.std.proofs.lemmas.List.{append-nil}
 use Rattle.risc_word.specs.declared.Ctl.{Ctl}
@@ -9,7 +9,7 @@ use Rattle.risc_word.specs.Words.{IsInstr, encoded, instr_at}
 use Rattle.risc_word.proofs.ReadBack.{reads_back}
 use Rattle.pixel_layout.specs.declared.Parity.{Parity}
 use Rattle.pixel_layout.specs.declared.Parity.TheVariants.{Top, Bottom}
-use Rattle.machine_model.specs.Paths.{RiscProgram, is_word, word_number, fetch, demands_of, demands_cause, instr_cause}
+use Rattle.machine_model.specs.Paths.{RiscProgram, is_word, word_number, fetch}
 use Rattle.capture_desc.specs.declared.desc.Desc.{Desc}
 use Rattle.capture_desc.specs.declared.desc.Fields.{Fields}
 use Rattle.capture_desc.specs.declared.desc.Fields.TheVariants as fields
@@ -25,6 +25,7 @@ use Rattle.picture_model.proofs.Fine.{IsGoodInstr}
 use Rattle.picture_model.proofs.Right.{IsRight}
 use Rattle.picture_model.proofs.Sections.{good_body, section_stands, signal_spelled}
 use Rattle.field_law.specs.Sections.{IsPlain, HoldsFrom, Holds, closing_at, words_in}
+use Rattle.field_law.proofs.OnPath.{granted_demands}
 use Rattle.picture_law.specs.Sections.{section_of}
 
 -- ---- the instructions of a body
@@ -54,18 +55,6 @@ pub body_plain : (d : Desc) (field : Parity) → Each IsPlain (body d field)
 body_plain d field =
     each_append IsPlain (vbi_instrs d field) (field_instrs d field) (vbi_plain d field d.vbi_lines) (tt, lines_plain d (picture_strips d field))
 
--- what an instruction without a fault writes is granted
-pub granted_demands : (program : RiscProgram) (i : Instr) → IsPlain i → ((target : Option ℕ) → instr_cause program i target ≡ None) →
-    demands_cause program.grants (demands_of i None) ≡ None
-granted_demands program (instr.Write ctl ends off count addr) plain fine = fine None
-granted_demands program (instr.Skip ctl ends count) plain fine = fine None
-granted_demands program (instr.WriteC ctl ends off count) plain fine = absurd plain
-granted_demands program (instr.Jump ctl addr) plain fine = absurd plain
-granted_demands program (instr.Sync ctl resync code) plain fine = refl
-granted_demands program (instr.Write123 ctl ends off counts addrs) plain fine = fine None
-granted_demands program (instr.Skip123 ctl ends counts) plain fine = fine None
-granted_demands program (instr.Write1S23 ctl ends off counts addr) plain fine = fine None
-
 -- ---- where they stand
 
 -- an instruction is read where its words stand
@@ -90,7 +79,7 @@ module _ (program : RiscProgram) (ctl : Ctl) (target : ℕ) (spelled : IsInstr (
       words ∙ ap (λ (ws : List ℕ). before ++ ws) (append_assoc (encoded i) (words_of rest) (encoded (instr.Jump ctl target) ++ after)) in (
         fetched_at program before later i address split at good.0.fine.spelled good.0.fine.some,
         plain.0,
-        granted_demands program i plain.0 good.0.fine.fine,
+        granted_demands program i None plain.0 (good.0.fine.fine None),
         holds_from rest (before ++ encoded i) (address + 4 * length (encoded i)) (split ∙ sym (append_assoc before (encoded i) later))
             (omega (arith, length-append before (encoded i))) good.1 plain.1,
       )

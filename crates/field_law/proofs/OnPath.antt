@@ -1,0 +1,62 @@
+-- A sound program holds each section that stands on its path.
+use Rattle.std.proofs.Common.{◌≡◌, ℕ, suc, ◌+◌, ◌*◌, Bool, true, false, List, [], ◌∷◌, length, Option, Some, None, Ok, if◌then◌else◌, refl, sym, ap, ◌∙◌}
+use Rattle.risc_word.specs.declared.Ctl.{Ctl}
+use Rattle.risc_word.specs.declared.Instr.{Instr}
+use Rattle.risc_word.specs.declared.Instr.TheVariants.{Write, Skip, WriteC, Jump, Sync, Write123, Skip123, Write1S23}
+use Rattle.risc_word.specs.Words.{Reading, encoded}
+use Rattle.machine_model.specs.declared.Cause.{Cause}
+use Rattle.machine_model.specs.declared.Cause.TheVariants.{JumpOut}
+use Rattle.machine_model.specs.Paths.{RiscProgram, Place, is_word, fetch, path, IsSound, demands_of, demands_cause, instr_cause, reading_cause, next_by, place_read, place_after}
+use Rattle.field_law.specs.Sections.{Section, IsPlain, HoldsFrom, Holds, StandsFrom, Stands}
+
+-- what an instruction without a fault writes is granted
+pub granted_demands : (program : RiscProgram) (instr : Instr) (target : Option ℕ) → IsPlain instr → instr_cause program instr target ≡ None →
+    demands_cause program.grants (demands_of instr None) ≡ None
+granted_demands program (Write ctl ends off count addr) target plain fine = fine
+granted_demands program (Skip ctl ends count) target plain fine = fine
+granted_demands program (WriteC ctl ends off count) target plain fine = absurd plain
+granted_demands program (Jump ctl addr) target plain fine = absurd plain
+granted_demands program (Sync ctl resync code) target plain fine = refl
+granted_demands program (Write123 ctl ends off counts addrs) target plain fine = fine
+granted_demands program (Skip123 ctl ends counts) target plain fine = fine
+granted_demands program (Write1S23 ctl ends off counts addr) target plain fine = fine
+
+-- the next place follows it
+pc_after : (instr : Instr) (count : ℕ) (place : Place) → IsPlain instr → (place_after instr count place).pc ≡ place.pc + 4 * count
+pc_after (Write ctl ends off count' addr) count place plain = refl
+pc_after (Skip ctl ends count') count place plain = refl
+pc_after (WriteC ctl ends off count') count place plain = refl
+pc_after (Jump ctl addr) count place plain = absurd plain
+pc_after (Sync ctl resync code) count place plain = refl
+pc_after (Write123 ctl ends off counts addrs) count place plain = refl
+pc_after (Skip123 ctl ends counts) count place plain = refl
+pc_after (Write1S23 ctl ends off counts addr) count place plain = refl
+
+leads_to_word : (there : Bool) (address : ℕ) → (if there then None else Some (JumpOut address)) ≡ None → there ≡ true
+leads_to_word true address fine = refl
+leads_to_word false address fine = cc
+
+module _ (program : RiscProgram) (sound : IsSound program) where
+  fine_at : (number : ℕ) (instr : Instr) (count : ℕ) → fetch program (path program number).pc ≡ Ok (instr, count) → instr_cause program instr (path program number).target ≡ None
+  fine_at number instr count e = sym (ap (λ (reading : Reading). reading_cause program (path program number).target reading) e) ∙ sound number
+
+  holds_from : (instrs : List Instr) (at : ℕ) (closing : Ctl) (target number : ℕ) → (path program number).pc ≡ at → StandsFrom program at instrs closing target →
+      HoldsFrom program at instrs closing target
+  holds_from [] at closing target number here stands =
+      (stands, leads_to_word (is_word program target) target (fine_at number (Jump closing target) 2 (ap (fetch program) here ∙ stands)))
+  holds_from (instr ∷ rest) at closing target number here stands =
+      let long = length (encoded instr) in
+      let place = path program number in
+      let read : fetch program place.pc ≡ Ok (instr, long) = ap (fetch program) here ∙ stands.0 in
+      let next : (path program (suc number)).pc ≡ at + 4 * long =
+      ap (λ (cause : Option Cause). (next_by cause program place).pc) (sound number)
+      ∙ ap (λ (reading : Reading). (place_read reading place).pc) read
+      ∙ pc_after instr long place stands.1 ∙ ap (λ (pc : ℕ). pc + 4 * long) here in (
+        stands.0,
+        stands.1,
+        granted_demands program instr place.target stands.1 (fine_at number instr long read),
+        holds_from rest (at + 4 * long) closing target (suc number) next stands.2,
+      )
+
+pub sound_holds : (s : Section) (program : RiscProgram) (number : ℕ) → IsSound program → (path program number).pc ≡ s.at → Stands s program → Holds s program
+sound_holds s program number sound here stands = holds_from program sound s.body s.at s.closing s.target number here stands
