@@ -1,0 +1,3 @@
+pub mod Readers
+pub mod Drafts
+pub mod Assembly
