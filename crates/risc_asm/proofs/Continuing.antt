@@ -1,0 +1,55 @@
+-- Line by line a text tells what it tells as a whole.
+use Rattle.std.proofs.Common.{◌≡◌, ℕ, zero, suc, ◌≤◌, ◌<◌, true, false, List, [], ◌∷◌, length, Some, None, refl, sym, ap, ◌∙◌, arith}
+use Rattle.std.specs.Prelude.{◌==◌}
+use Rattle.std.proofs.lemmas.Bool.{eqb-true}
+use Rattle.risc_text.specs.declared.Line.{Line}
+use Rattle.risc_text.specs.Readers.{line_at, ◌>>=◌}
+use Rattle.risc_text.specs.Drafts.{Draft, blank, drafted, gathered, taken}
+
+-- a draft, and the text that is left of one
+pub record Continues (d : Draft) (rest text : List ℕ) : Type 0 where
+  pub most : ℕ
+  pub enough : length rest ≤ most
+  pub same : gathered most d rest ≡ drafted text
+
+pub begin : (text : List ℕ) → Continues blank text text
+begin text = record { most = length text; enough = omega arith; same = refl }
+
+on_by : (most : ℕ) (d : Draft) (rest text left : List ℕ) (l : Line) → length rest ≤ most → gathered most d rest ≡ drafted text → line_at rest ≡ Some (l, left) → length left < length rest → Continues (taken d l) left text
+unfolding gathered
+on_by most d [] text left l enough same is shorter = absurd (omega arith)
+on_by zero d (byte ∷ rest) text left l enough same is shorter = absurd (omega arith)
+on_by (suc most) d (byte ∷ rest) text left l enough same is shorter = record {
+  most = most;
+  enough = omega arith;
+  same = sym (ap (λ found. found >>= (λ (read : Line × List ℕ). gathered most (taken d read.0) read.1)) is) ∙ same;
+}
+
+pub on : (d : Draft) (rest text left : List ℕ) (l : Line) → Continues d rest text → line_at rest ≡ Some (l, left) → length left < length rest → Continues (taken d l) left text
+on d rest text left l so_far is shorter = on_by so_far.most d rest text left l so_far.enough so_far.same is shorter
+
+unread_by : (most : ℕ) (d : Draft) (rest text : List ℕ) → length rest ≤ most → gathered most d rest ≡ drafted text → line_at rest ≡ None → 0 < length rest → drafted text ≡ None
+unfolding gathered
+unread_by most d [] text enough same is some = absurd (omega arith)
+unread_by zero d (byte ∷ rest) text enough same is some = absurd (omega arith)
+unread_by (suc most) d (byte ∷ rest) text enough same is some = sym same ∙ ap (λ found. found >>= (λ (read : Line × List ℕ). gathered most (taken d read.0) read.1)) is
+
+pub unread : (d : Draft) (rest text : List ℕ) → Continues d rest text → line_at rest ≡ None → 0 < length rest → drafted text ≡ None
+unread d rest text so_far is some = unread_by so_far.most d rest text so_far.enough so_far.same is some
+
+end_by : (most : ℕ) (d : Draft) (rest text : List ℕ) → gathered most d rest ≡ drafted text → length rest ≡ 0 → drafted text ≡ Some d
+unfolding gathered
+end_by zero d [] text same none = sym same
+end_by (suc most) d [] text same none = sym same
+end_by zero d (byte ∷ rest) text same none = absurd (omega arith)
+end_by (suc most) d (byte ∷ rest) text same none = absurd (omega arith)
+
+pub end : (d : Draft) (rest text : List ℕ) → Continues d rest text → length rest ≡ 0 → drafted text ≡ Some d
+end d rest text so_far none = end_by so_far.most d rest text so_far.same none
+
+pub not_empty : (text : List ℕ) → (length text == 0) ≡ false → 0 < length text
+not_empty [] is = absurd (cc)
+not_empty (byte ∷ text) is = omega arith
+
+pub is_empty : (text : List ℕ) → (length text == 0) ≡ true → length text ≡ 0
+is_empty text is = eqb-true (length text) 0 is

@@ -1,0 +1,5 @@
+pub mod Continuing
+pub mod Matching
+pub mod Making
+pub mod Judging
+pub mod Searching

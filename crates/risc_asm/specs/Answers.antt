@@ -1,0 +1,42 @@
+-- What `assemble` answers.
+use Rattle.std.specs.Prelude.{◌≡◌, ℕ, ◌+◌, ◌≤◌, ◌<◌, List, ◌++◌, length, take, Result, Ok, Err, true}
+use Rattle.capture_file.specs.declared.program.ProgramFile.{ProgramFile}
+use Rattle.risc_text.specs.Assembly.{Assembles, BeginsListing, EndsShort, IsWrongLine, LineAtFault, are_lines, line_count}
+use Rattle.risc_asm.specs.declared.AsmError.{AsmError}
+use Rattle.risc_asm.specs.declared.AsmError.TheVariants.{Bad, Memory}
+use Rattle.risc_asm.specs.declared.AsmFault.{AsmFault}
+use Rattle.risc_asm.specs.declared.AsmFault.TheVariants.{Line, Short, TooLong}
+
+abbrev pub most_bytes : ℕ
+most_bytes = 67108864
+
+abbrev pub IsFault : List ℕ → AsmFault → Type 0
+IsFault text (Line k) = (length text ≤ most_bytes) × LineAtFault text k
+IsFault text (Short k) = (length text ≤ most_bytes) × EndsShort text k
+IsFault text TooLong = most_bytes < length text
+
+-- only want of memory is free
+abbrev pub Answers : List ℕ → Result ProgramFile AsmError → Type 0
+Answers text (Ok file) = (length text ≤ most_bytes) × Assembles text file.program file.fill
+Answers text (Err (Bad fault)) = IsFault text fault
+Answers text (Err Memory) = Unit {0}
+
+-- the k-th of these lines, counted from 1, is the first with which they begin no listing
+pub record HasWrongLine (lines : List ℕ) (k : ℕ) : Type 0 where
+  pub before : List ℕ
+  pub line : List ℕ
+  pub after : List ℕ
+  pub parts : lines ≡ before ++ (line ++ after)
+  pub whole : are_lines before ≡ true
+  pub number : k ≡ line_count before + 1
+  pub wrong : IsWrongLine before line
+
+-- The first line at fault stands between two places of whole lines: the lines up to the first begin a
+-- listing, those up to the second don't.
+pub record IsBetween (lines : List ℕ) (low high : ℕ) : Type 0 where
+  pub order : low < high
+  pub within : high ≤ length lines
+  pub low_whole : are_lines (take low lines) ≡ true
+  pub high_whole : are_lines (take high lines) ≡ true
+  pub begun : BeginsListing (take low lines)
+  pub wrong : BeginsListing (take high lines) → ⊥

@@ -1,0 +1,188 @@
+//! Whether a text begins a listing, or is one: what was read of it is listed again.
+
+ghost use Rattle.machine_model.specs.Paths.{IsProgram, RiscProgram, shares_byte};
+ghost use Rattle.page_table.specs.Grants.{AreGrants, Chunk};
+ghost use Rattle.page_table.specs.Taken.{listed};
+ghost use Rattle.risc_asm.specs.Drafts.{seen};
+ghost use Rattle.risc_asm.specs.Verdicts.{Agrees, EndAgrees, Judges, WithoutWords};
+ghost use Rattle.risc_text.specs.Drafts.{drafted};
+ghost use Rattle.std.specs.List.{All};
+ghost use Rattle.std.specs.Prelude.{◌≡◌, ◌≤◌, ◌<◌, ◌^◌, ◌↔◌, false, IfOk, IsTrue, Some, [], length, ◌++◌, List, ℕ};
+
+use super::draft::{Draft, read_draft};
+use capture_file::ProgramFile;
+use page_table::{PageFault, PageSet};
+use risc_listing::{Lines, memory_lines, push_base, push_words};
+use risc_verify::Program;
+use std::alloc::{AllocError, Global};
+
+const MOST_WORDS: usize = 1_048_576;
+
+const ADDRESSES: u64 = 0x1_0000_0000;
+
+// The length of the last line of a listing, `fill` and two digits.
+const FILL_LINE: usize = 8;
+
+/// What a text is.
+#[derive(Drop)]
+pub enum Verdict {
+    /// No listing begins with it.
+    Wrong,
+    /// It begins a listing, and is none.
+    Begun,
+    /// It is the listing of this program with its fill.
+    Whole(ProgramFile),
+}
+
+// How a text agrees with a listing.
+#[derive(Clone, Copy)]
+enum Agreement {
+    No,
+    // It has all lines but the last.
+    AllButFill,
+    Whole,
+}
+
+// Whether no chunk shares a byte with a program of so many words.
+fn is_apart(base: u32, words: &[u32], grants: &PageSet) -> bool
+    requires { length words.now ≤ 1048576 }
+    ensures { IsTrue result ↔ All (λ c. shares_byte (record { base = base; words = words.now; grants = [] }) c ≡ false) grants.now }
+{
+    let end = u64::from(base) + 4 * words.len() as u64;
+    for i in 0..grants.len() {
+        let at = grants.get(i);
+        let low = base.max(at);
+        let high = end.min(u64::from(at) + u64::from(grants.size(i)));
+        if u64::from(low) < high {
+            return false;
+        }
+    }
+    true
+}
+
+// The grants of chunks that rise.
+fn grants_of(alloc: Global, chunks: &[(u32, u32)]) -> Result<Option<PageSet>, AllocError>
+    ensures { IfOk result (λ found. (grants : List Chunk) → AreGrants grants → grants ≡ listed chunks.now → found ≡ Some grants) }
+{
+    match PageSet::from_chunks(alloc, chunks) {
+        Ok(grants) => Ok(Some(grants)),
+        Err(PageFault::Memory) => Err(AllocError),
+        Err(PageFault::TooMany) => Ok(None),
+        Err(PageFault::Unaligned(_)) => Ok(None),
+        Err(PageFault::Twice(_)) => Ok(None),
+    }
+}
+
+// The program with these parts, where there is one.
+fn program_of(
+    alloc: Global,
+    base: u32,
+    words: Vec<u32>,
+    chunks: &[(u32, u32)],
+) -> Result<Option<Program>, AllocError>
+    ensures { IfOk result (λ found. (program : RiscProgram) → IsProgram program → program.base ≡ base → program.words ≡ words.items → program.grants ≡ listed chunks.now → found ≡ Some program) }
+{
+    if base % 4 != 0
+        || words.len() > MOST_WORDS
+        || u64::from(base) + 4 * words.len() as u64 > ADDRESSES
+    {
+        return Ok(None);
+    }
+    let Some(grants) = grants_of(alloc, chunks)? else {
+        return Ok(None);
+    };
+    if is_apart(base, &words, &grants) {
+        Ok(Some(Program::new(base, words, grants)))
+    } else {
+        Ok(None)
+    }
+}
+
+// The text after the lines of a program's words, where it begins with them.
+fn after_words<'a>(text: &'a [u8], program: &Program) -> Option<&'a [u8]>
+    ensures { WithoutWords program.now.base program.now.words text.now result }
+{
+    let mut lines = Lines::new();
+    let mut rest = text;
+    let mut next = 0;
+    while next < program.words().len() {
+        lines.clear();
+        next = push_words(&mut lines, program, next);
+        rest = rest.strip_prefix(lines.as_str().as_bytes())?;
+    }
+    Some(rest)
+}
+
+// How a text agrees with lines, of which the last is that of the fill.
+fn compare_end(text: &[u8], lines: &[u8]) -> Agreement
+    ensures { (front last : List ℕ) → lines.now ≡ front ++ last → length last ≡ 8 → EndAgrees text.now front last result }
+{
+    let Some(rest) = lines.strip_prefix(text) else {
+        return Agreement::No;
+    };
+    if rest.is_empty() {
+        return Agreement::Whole;
+    }
+    if rest.len() == FILL_LINE {
+        return Agreement::AllButFill;
+    }
+    Agreement::No
+}
+
+// How a text agrees with the listing of a program.
+fn compare(alloc: Global, text: &[u8], program: &Program, fill: u8) -> Result<Agreement, AllocError>
+    ensures value { IfOk result (λ a. Agrees text.now program.now fill a) }
+    ensures made { IfOk result (λ _. IsProgram program.now) }
+    ensures base { IfOk result (λ _. program.now.base < 2 ^ 32) }
+    ensures fill { IfOk result (λ _. fill < 256) }
+{
+    let mut line = Lines::new();
+    push_base(&mut line, program.base());
+    let Some(rest) = text.strip_prefix(line.as_str().as_bytes()) else {
+        return Ok(Agreement::No);
+    };
+    let Some(rest) = after_words(rest, program) else {
+        return Ok(Agreement::No);
+    };
+    let last = memory_lines(alloc, program.grants(), fill)?;
+    Ok(compare_end(rest, &last))
+}
+
+// Judges a text by what its lines tell.
+fn judge_draft(alloc: Global, text: &[u8], draft: Draft) -> Result<Verdict, AllocError>
+    requires drafted { drafted text.now ≡ Some (seen draft) }
+    requires some { 0 < length text.now }
+    ensures { IfOk result (λ verdict. Judges text.now verdict) }
+{
+    let Draft {
+        base,
+        words,
+        chunks,
+        fill,
+    } = draft;
+    let Some(base) = base else {
+        return Ok(Verdict::Wrong);
+    };
+    let Some(program) = program_of(alloc, base, words, &chunks)? else {
+        return Ok(Verdict::Wrong);
+    };
+    let fill = fill.unwrap_or(0);
+    Ok(match compare(alloc, text, &program, fill)? {
+        Agreement::Whole => Verdict::Whole(ProgramFile { program, fill }),
+        Agreement::AllButFill => Verdict::Begun,
+        Agreement::No => Verdict::Wrong,
+    })
+}
+
+/// Whether a text begins a listing, or is one. The error is want of memory.
+pub fn judge(alloc: Global, text: &[u8]) -> Result<Verdict, AllocError>
+    ensures { IfOk result (λ verdict. Judges text.now verdict) }
+{
+    if text.is_empty() {
+        return Ok(Verdict::Begun);
+    }
+    match read_draft(alloc, text)? {
+        Some(draft) => judge_draft(alloc, text, draft),
+        None => Ok(Verdict::Wrong),
+    }
+}

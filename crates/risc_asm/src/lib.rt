@@ -1,0 +1,77 @@
+//! The assembler: the text of a listing is read back to its program.
+#![tactic(auto)]
+
+ghost use Rattle.risc_asm.specs.Answers.{Answers};
+ghost use Rattle.risc_asm.specs.declared.AsmError.TheVariants.{Memory};
+ghost use Rattle.std.specs.Prelude.{◌≡◌};
+
+mod draft;
+mod judge;
+mod lines;
+mod readers;
+mod search;
+
+use capture_file::ProgramFile;
+use judge::{Verdict, judge};
+use search::{count_lines, first_wrong, whole_lines};
+use std::alloc::{AllocError, Global};
+
+const MOST_BYTES: usize = 67_108_864;
+
+/// Why a text is not assembled. Lines end with their newline and are counted from 1.
+#[derive(Clone, Copy, Debug, PartialEq)]
+pub enum AsmFault {
+    /// The lines before this one begin a listing, and with it they begin none. What stands after the
+    /// last newline is a line only where the lines before it are a listing; then it is at fault.
+    Line(u64),
+    /// The text has so many lines and none is at fault, but it is no listing: lines are missing.
+    Short(u64),
+    /// The text has more than 67,108,864 bytes.
+    TooLong,
+}
+
+/// Why a text was not assembled.
+#[derive(Debug, Drop)]
+pub enum AsmError {
+    /// The text is at fault.
+    Bad(AsmFault),
+    /// There was no memory.
+    Memory,
+}
+
+impl From<AllocError> for AsmError {
+    ghost use Rattle.risc_asm.specs.declared.AsmError.TheVariants.{Memory};
+    ghost use Rattle.std.specs.Prelude.{◌≡◌};
+
+    ghost from_gives = { λ _ e. e ≡ Memory };
+
+    fn from(_: AllocError) -> AsmError {
+        AsmError::Memory
+    }
+}
+
+/// The program and the fill whose listing the text is, exactly: its lines as `risc_listing::list` makes
+/// them. The program need not be sound. The form of a listing and its limits are this project's own rule.
+pub fn assemble(alloc: Global, text: &[u8]) -> Result<ProgramFile, AsmError>
+    ensures { Answers text.now result }
+{
+    if text.len() > MOST_BYTES {
+        return Err(AsmError::Bad(AsmFault::TooLong));
+    }
+    let end = whole_lines(text);
+    let lines = &text[..end];
+    let fault = match judge(alloc, lines)? {
+        Verdict::Whole(file) => {
+            if end == text.len() {
+                return Ok(file);
+            }
+            AsmFault::Line(count_lines(lines) + 1)
+        }
+        Verdict::Begun => AsmFault::Short(count_lines(lines)),
+        Verdict::Wrong => AsmFault::Line(first_wrong(alloc, lines)?),
+    };
+    Err(AsmError::Bad(fault))
+}
+
+#[cfg(test)]
+mod tests;

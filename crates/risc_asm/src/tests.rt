@@ -1,0 +1,184 @@
+use crate::{AsmError, AsmFault, assemble};
+use risc_listing::list;
+use std::alloc::Global;
+use std::test::Fail;
+
+// The program of four instructions, and its listing.
+const WORDS: [u32; 8] = [
+    0x8000_8004,
+    0,
+    0x8000_0006,
+    0,
+    0x1c00_0008,
+    0x20000,
+    0x71e1_0000,
+    0x1000,
+];
+
+const LISTING: &[u8] = b"base 00001000\n\
+    00001000 sync vre resync\n\
+    00001008 sync fm1\n\
+    00001010 write sol eol 8 00020000\n\
+    00001018 jump irq set=1 reset=e 00001000\n\
+    page 00020000\n\
+    fill 00\n";
+
+// The fault of a text; none where it is a listing that is listed again alike.
+fn fault_of(alloc: Global, text: &[u8]) -> Result<Option<AsmFault>, Fail> {
+    match assemble(alloc, text) {
+        Ok(file) => {
+            let again = list(alloc, &file.program, file.fill)?;
+            if again.as_slice() == text {
+                Ok(None)
+            } else {
+                Ok(Some(AsmFault::TooLong))
+            }
+        }
+        Err(AsmError::Bad(fault)) => Ok(Some(fault)),
+        Err(AsmError::Memory) => Ok(Some(AsmFault::TooLong)),
+    }
+}
+
+#[test]
+fn listings_are_assembled(rt: HostRuntime) -> Result<(), Fail> {
+    match assemble(rt.alloc(), LISTING) {
+        Ok(file) => {
+            assert_eq!(rt; file.program.words(), WORDS.as_slice());
+            assert_eq!(rt; file.program.base(), 0x1000);
+            assert_eq!(rt; file.program.grants().len(), 1);
+            assert_eq!(rt; file.fill, 0);
+        }
+        Err(_) => assert!(rt; false),
+    }
+    let operand = b"base 00001000\n\
+        00001000 word 80008004\n\
+        00001004 write 4 70000000\n\
+        0000100c word 00001004\n\
+        page 00020000\n\
+        fill 00\n";
+    assert_eq!(rt; fault_of(rt.alloc(), operand)?, None);
+    let all = b"base 00001000\n\
+        00001000 write irq set=1 off=f 0 ffffffff\n\
+        00001008 skip eol 4095\n\
+        0000100c writec sol off=1 10\n\
+        00001010 write123 1 22 333 00020000 00020004 00020008\n\
+        00001024 skip123 sol 1 2 3\n\
+        0000102c write1s23 1 2 3 00020000\n\
+        00001038 sync fm3 irq\n\
+        00001040 sync vro\n\
+        chunk 00020000 8\n\
+        chunk 00020008 4\n\
+        page 00030000\n\
+        fill a5\n";
+    assert_eq!(rt; fault_of(rt.alloc(), all)?, None);
+    Ok(())
+}
+
+#[test]
+fn the_first_line_at_fault_is_told(rt: HostRuntime) -> Result<(), Fail> {
+    let order = b"base 00001000\n\
+        00001000 sync vre resync\n\
+        00001008 sync fm1\n\
+        00001010 write sol eol 8 00020000\n\
+        00001018 jump irq reset=e set=1 00001000\n\
+        page 00020000\n\
+        fill 00\n";
+    assert_eq!(rt; fault_of(rt.alloc(), order)?, Some(AsmFault::Line(5)));
+    assert_eq!(rt; fault_of(rt.alloc(), b"")?, Some(AsmFault::Short(0)));
+    assert_eq!(rt;
+        fault_of(rt.alloc(), b"base 0000")?,
+        Some(AsmFault::Short(0))
+    );
+    // two words that are an instruction: the second line is at fault
+    let jump = b"base 00001000\n00001000 word 70000000\n00001004 word 00001000\n";
+    assert_eq!(rt; fault_of(rt.alloc(), jump)?, Some(AsmFault::Line(3)));
+    // a word that is an instruction alone, and one whose second word is missing
+    let skip = b"base 00001000\n00001000 word 20000004\nfill 00\n";
+    assert_eq!(rt; fault_of(rt.alloc(), skip)?, Some(AsmFault::Line(2)));
+    let cut = b"base 00001000\n00001000 word 70000000\nfill 00\n";
+    assert_eq!(rt; fault_of(rt.alloc(), cut)?, None);
+    // the newline of the last line, and a line after it
+    let unended = b"base 00001000\npage 00020000\nfill 00";
+    assert_eq!(rt; fault_of(rt.alloc(), unended)?, Some(AsmFault::Short(2)));
+    let more = b"base 00001000\nfill 00\n\n";
+    assert_eq!(rt; fault_of(rt.alloc(), more)?, Some(AsmFault::Line(3)));
+    let rest = b"base 00001000\nfill 00\n ";
+    assert_eq!(rt; fault_of(rt.alloc(), rest)?, Some(AsmFault::Line(3)));
+    Ok(())
+}
+
+// Each of these lines after `base 00001000` is at fault.
+const WRONG: [&[u8]; 14] = [
+    b"00001000 sync  vre\n",
+    b"00001000 sync vre resync \n",
+    b"00001000 SYNC vre\n",
+    b"00001000 write 08 00020000\n",
+    b"00001000 write 8 0002000F\n",
+    b"00001000 write eol sol 8 00020000\n",
+    b"00001000 write 4096 00020000\n",
+    b"00001004 sync vre\n",
+    b"00001000 sync vre set=0\n",
+    b"chunk 00020000 4096\n",
+    b"chunk 00020000 6\n",
+    b"page 00001000x\n",
+    b"page 00020001\n",
+    b"fill 0\n",
+];
+
+#[test]
+fn lines_that_are_near_a_listing_are_refused(rt: HostRuntime) -> Result<(), Fail> {
+    for line in WRONG {
+        let mut text = Vec::from_slice(rt.alloc(), b"base 00001000\n")?;
+        text.extend_from_slice(line)?;
+        assert_eq!(rt; fault_of(rt.alloc(), &text)?, Some(AsmFault::Line(2)));
+    }
+    Ok(())
+}
+
+// A listing of 42 bytes: each byte, and which others of `OTHERS` make another listing in its place.
+const SMALL: &[u8] = b"base 00001000\n00001000 skip 4\nfill 00\n";
+
+// Ten bytes that stand in the place of each.
+const OTHERS: [u8; 10] = *b"0158af xe\n";
+
+// The answer by the rule, where the byte at a place is another. The digits of the fill are free, and the
+// count may be any digit; every other byte is told by the form, or by the base, and stands in the line
+// that is at fault. A newline makes a line of what stands before it; without its newline the last line is
+// none.
+fn wanted(at: usize, byte: u8) -> Option<AsmFault> {
+    if SMALL.get(at) == Some(&byte) {
+        return None;
+    }
+    match at {
+        0..=13 => Some(base_wanted(at, byte)),
+        28 if byte.is_ascii_digit() => None,
+        14..=29 => Some(AsmFault::Line(2)),
+        35..=36 if byte.is_ascii_digit() || byte == b'a' || byte == b'f' || byte == b'e' => None,
+        37 => Some(AsmFault::Short(2)),
+        _ => Some(AsmFault::Line(3)),
+    }
+}
+
+// Another base whose digits are right makes the next line the one at fault, unless it is no multiple of 4.
+fn base_wanted(at: usize, byte: u8) -> AsmFault {
+    let digit = byte.is_ascii_digit() || byte == b'a' || byte == b'f' || byte == b'e';
+    match at {
+        5..=11 if digit => AsmFault::Line(2),
+        12 if byte == b'8' => AsmFault::Line(2),
+        _ => AsmFault::Line(1),
+    }
+}
+
+#[test]
+fn each_byte_counts(rt: HostRuntime) -> Result<(), Fail> {
+    for at in 0..SMALL.len() {
+        for byte in OTHERS {
+            let mut text = Vec::from_slice(rt.alloc(), SMALL)?;
+            if let Some(place) = text.get_mut(at) {
+                *place = byte;
+            }
+            assert_eq!(rt; fault_of(rt.alloc(), &text)?, wanted(at, byte));
+        }
+    }
+    Ok(())
+}
