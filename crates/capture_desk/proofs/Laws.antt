@@ -1,13 +1,17 @@
 -- Laws of what a desk's calls change.
 use Rattle.std.proofs.Common.{ℕ, ◌+◌, List, [], ◌∷◌, ◌++◌, drop, Option, Some, None, option_map, Bool, true, false, if◌then◌else◌, ◌≡◌, refl, ap, append_assoc}
-use Rattle.std.proofs.lemmas.List.{append-nil, drop-drop}
+use Rattle.std.proofs.lemmas.List.{drop-drop}
+use Rattle.std.proofs.lemmas.List as list
 use Rattle.std.specs.Str.{bytes_eq}
+use Rattle.capture_desk.specs.declared.append.Sink.{Sink}
+use Rattle.capture_desk.specs.declared.append.Sink.TheVariants.{Output, Text}
+use Rattle.capture_desk.specs.Sinks.{IsReady, after_append}
 use Rattle.capture_desk.specs.Desks.{Outputs, Told, after_read, after_say, after_write, appended, written}
 
 -- nothing appended is nothing changed, and two pieces are one
 more_nil : (o : Option (List ℕ)) → option_map (λ old. old ++ []) o ≡ o
 more_nil None = refl
-more_nil (Some old) = ap Some (append-nil old)
+more_nil (Some old) = ap Some (list.append-nil old)
 
 more_twice : (a b : List ℕ) (o : Option (List ℕ)) → option_map (λ old. old ++ b) (option_map (λ old. old ++ a) o) ≡ option_map (λ old. old ++ (a ++ b)) o
 more_twice a b None = refl
@@ -55,6 +59,19 @@ after_say-nil t = ap (λ x. record t { said = x }) (more_nil t.said)
 
 pub after_say-after_say : (a b : List ℕ) (t : Told) → after_say b (after_say a t) ≡ after_say (a ++ b) t
 after_say-after_say a b t = ap (λ x. record t { said = x }) (more_twice a b t.said)
+
+-- the same wherever bytes are appended
+pub append-nil : (sink : Sink) (t : Told) → after_append sink [] t ≡ t
+append-nil Output t = after_write-nil t
+append-nil Text t = after_say-nil t
+
+pub append-append : (sink : Sink) (a b : List ℕ) (t : Told) → after_append sink b (after_append sink a t) ≡ after_append sink (a ++ b) t
+append-append Output a b t = after_write-after_write a b t
+append-append Text a b t = after_say-after_say a b t
+
+pub ready_after : (sink : Sink) (bytes : List ℕ) (t : Told) → IsReady sink t → IsReady sink (after_append sink bytes t)
+ready_after Output bytes t h = h
+ready_after Text bytes t h = tt
 
 -- nothing read is nothing changed, and two reads are one
 drop_none : (rest : Option (List ℕ)) → option_map (λ bytes. drop 0 bytes) rest ≡ rest

@@ -26,6 +26,23 @@ pub record Told : Type 0 where
   pub input_open : Bool
   pub output_open : Bool
 
+-- A call that opens an input, reads, creates an output or finishes one, and whether it did. A read has the bytes that it
+-- asked for and, where it did not fail, those that it moved. What is written and said is told by the outputs and the text.
+pub data Call : Type 0 where
+  OpenIn : List ℕ → Bool → Call
+  Read : ℕ → Option ℕ → Call
+  CreateOut : List ℕ → Bool → Call
+  Finish : Bool → Call
+
+-- All that is seen of a desk: what it tells, how many calls that read and that write failed, whether the last call
+-- failed, and the calls so far, where it tells them.
+pub record Seen : Type 0 where
+  pub told : Told
+  pub reads : ℕ
+  pub writes : ℕ
+  pub failed : Bool
+  pub calls : Option (List Call)
+
 -- ---- files by name
 
 -- what stands first under a name
@@ -129,7 +146,7 @@ abbrev pub Puts : {A E : Type 0} → List ℕ → Result A E → (List ℕ → T
 Puts bytes (Ok _) after old new = new ≡ after bytes old
 Puts bytes (Err _) after old new = (n : ℕ) × (n < length bytes) × (new ≡ after (take n bytes) old)
 
--- ---- counts of faults, by old and new reads and old and new writes
+-- ---- counts of faults, and the calls
 
 -- one more fault; a count stays at its greatest value
 abbrev pub counted : ℕ → ℕ
@@ -139,24 +156,47 @@ counted n = min (n + 1) (2 ^ 64 - 1)
 abbrev pub HasRisen : ℕ → ℕ → Type 0
 HasRisen old new = counted old ≤ new
 
-abbrev pub NoFault : ℕ → ℕ → ℕ → ℕ → Type 0
-NoFault reads new_reads writes new_writes = (new_reads ≡ reads) × (new_writes ≡ writes)
+-- one more call is told, where calls are told
+abbrev pub recorded : Call → Option (List Call) → Option (List Call)
+recorded call calls = option_map (λ before. before ++ call ∷ []) calls
 
-abbrev pub IsReadFault : ℕ → ℕ → ℕ → ℕ → Type 0
-IsReadFault reads new_reads writes new_writes = HasRisen reads new_reads × (writes ≤ new_writes)
+-- a call did not fail
+abbrev pub IsQuiet : Seen → Seen → Type 0
+IsQuiet old new = (new.reads ≡ old.reads) × (new.writes ≡ old.writes) × (new.failed ≡ false)
 
-abbrev pub IsWriteFault : ℕ → ℕ → ℕ → ℕ → Type 0
-IsWriteFault reads new_reads writes new_writes = (reads ≤ new_reads) × HasRisen writes new_writes
+-- the last call failed at reading, and at writing, and no other call did
+abbrev pub IsReadFault : Seen → Seen → Type 0
+IsReadFault old new = (new.reads ≡ counted old.reads) × (new.writes ≡ old.writes) × (new.failed ≡ true)
 
-abbrev pub OpenCounts : {A : Type 0} → Result A OpenFault → ℕ → ℕ → ℕ → ℕ → Type 0
-OpenCounts (Ok _) = NoFault
-OpenCounts (Err Missing) = NoFault
+abbrev pub IsWriteFault : Seen → Seen → Type 0
+IsWriteFault old new = (new.reads ≡ old.reads) × (new.writes ≡ counted old.writes) × (new.failed ≡ true)
+
+abbrev pub OpenCounts : {A : Type 0} → Result A OpenFault → Seen → Seen → Type 0
+OpenCounts (Ok _) = IsQuiet
+OpenCounts (Err Missing) = IsQuiet
 OpenCounts (Err Failed) = IsReadFault
 
-abbrev pub ReadCounts : {A E : Type 0} → Result A E → ℕ → ℕ → ℕ → ℕ → Type 0
-ReadCounts (Ok _) = NoFault
+abbrev pub ReadCounts : {A E : Type 0} → Result A E → Seen → Seen → Type 0
+ReadCounts (Ok _) = IsQuiet
 ReadCounts (Err _) = IsReadFault
 
-abbrev pub WriteCounts : {A E : Type 0} → Result A E → ℕ → ℕ → ℕ → ℕ → Type 0
-WriteCounts (Ok _) = NoFault
-WriteCounts (Err _) = IsWriteFault
+abbrev pub CallCounts : {A E : Type 0} → Result A E → Seen → Seen → Type 0
+CallCounts (Ok _) = IsQuiet
+CallCounts (Err _) = IsWriteFault
+
+-- no count rose, and no input or output was opened, read or finished
+abbrev pub OnlyWrites : Seen → Seen → Type 0
+OnlyWrites old new = (new.reads ≡ old.reads) × (new.writes ≡ old.writes) × (new.calls ≡ old.calls)
+
+-- what is left by calls that write, or say, one after the other up to the first that fails
+abbrev pub WriteCounts : {A E : Type 0} → Result A E → Seen → Seen → Type 0
+WriteCounts (Ok _) old new = OnlyWrites old new
+WriteCounts (Err _) old new = IsWriteFault old new × (new.calls ≡ old.calls)
+
+abbrev pub was_done : {A E : Type 0} → Result A E → Bool
+was_done (Ok _) = true
+was_done (Err _) = false
+
+abbrev pub moved_by : {E : Type 0} → Result ℕ E → Option ℕ
+moved_by (Ok n) = Some n
+moved_by (Err _) = None

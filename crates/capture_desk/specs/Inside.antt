@@ -43,6 +43,7 @@ memory_of d =
       writing = option_map (λ i. (output_at d.slots.items i).0) d.writing;
       read_faults = d.read_faults;
       write_faults = d.write_faults;
+      failed = d.failed;
     }
 
 -- the first file of a name stands at i

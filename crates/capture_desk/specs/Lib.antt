@@ -1,4 +1,5 @@
 pub mod Desks
+pub mod Sinks
 pub mod Memory
 pub mod Bounds
 pub mod Inside

@@ -1,10 +1,10 @@
 -- The desk over memory: what it holds, and what each of its calls answers and leaves.
-use Rattle.std.specs.Prelude.{ℕ, length, ◌+◌, ◌-◌, min, Bool, ◌==◌, List, [], ◌++◌, map, take, drop, Option, Some, None, option_map, is_some, Result, Ok, Err, if◌then◌else◌}
+use Rattle.std.specs.Prelude.{ℕ, length, ◌+◌, ◌-◌, min, Bool, false, true, ◌==◌, List, [], ◌++◌, map, take, drop, Option, Some, None, option_map, is_some, Result, Ok, Err, if◌then◌else◌}
 use Rattle.std.specs.List.{list_any}
 use Rattle.capture_desk.specs.declared.desk.Failed.{Failed}
 use Rattle.capture_desk.specs.declared.desk.OpenFault.{OpenFault}
 use Rattle.capture_desk.specs.declared.desk.OpenFault.TheVariants.{Missing, Failed as OpenFailed}
-use Rattle.capture_desk.specs.Desks.{Inputs, Outputs, Told, counted, created, named, output_named, written}
+use Rattle.capture_desk.specs.Desks.{Inputs, Outputs, Seen, Told, counted, created, named, output_named, written}
 
 pub record Memory : Type 0 where
   pub inputs : Inputs
@@ -19,6 +19,7 @@ pub record Memory : Type 0 where
   pub writing : Option (List ℕ)  -- the name of the open output
   pub read_faults : ℕ
   pub write_faults : ℕ
+  pub failed : Bool  -- the last call failed
 
 abbrev pub names_of : {V : Type 0} → List (List ℕ × V) → List (List ℕ)
 names_of files = map (λ file. file.0) files
@@ -38,6 +39,10 @@ all_told m =
       output_open = is_some m.writing;
     }
 
+-- and so all that is seen of it, apart from its calls
+abbrev pub seen_of : Memory → Seen
+seen_of m = record { told = all_told m; reads = m.read_faults; writes = m.write_faults; failed = m.failed; calls = None }
+
 abbrev pub new_memory : Inputs → List (List ℕ) → List (List ℕ) → List ℕ → ℕ → ℕ → Memory
 new_memory inputs opens creates failing longest room =
     record {
@@ -53,23 +58,24 @@ new_memory inputs opens creates failing longest room =
       writing = None;
       read_faults = 0;
       write_faults = 0;
+      failed = false;
     }
 
 -- ---- the number of a call, and faults
 
--- the next call has its number from here on
+-- the next call has its number, and has not failed so far
 abbrev pub called : Memory → Memory
-called m = record m { calls = counted m.calls }
+called m = record m { calls = counted m.calls; failed = false }
 
 -- the next call is one that fails
 abbrev pub is_failing : Memory → Bool
 is_failing m = list_any (λ n. n == counted m.calls) m.failing
 
 abbrev pub read_failed : Memory → Memory
-read_failed m = record m { read_faults = counted m.read_faults }
+read_failed m = record m { read_faults = counted m.read_faults; failed = true }
 
 abbrev pub write_failed : Memory → Memory
-write_failed m = record m { write_faults = counted m.write_faults }
+write_failed m = record m { write_faults = counted m.write_faults; failed = true }
 
 -- ---- open_in
 

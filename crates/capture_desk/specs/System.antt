@@ -1,12 +1,13 @@
 -- The desk over the system: what of it can be told.
 use Rattle.std.specs.Prelude.{ℕ, Bool, None}
-use Rattle.capture_desk.specs.Desks.{Told}
+use Rattle.capture_desk.specs.Desks.{Seen, Told}
 
 pub record System : Type 0 where
   pub input_open : Bool
   pub output_open : Bool
   pub read_faults : ℕ
   pub write_faults : ℕ
+  pub failed : Bool
 
 -- no content is told
 abbrev pub only_open : System → Told
@@ -22,3 +23,6 @@ only_open s =
       input_open = s.input_open;
       output_open = s.output_open;
     }
+
+abbrev pub seen_of : System → Seen
+seen_of s = record { told = only_open s; reads = s.read_faults; writes = s.write_faults; failed = s.failed; calls = None }

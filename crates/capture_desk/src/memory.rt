@@ -2,8 +2,8 @@
 ghost use Rattle.std.specs.Prelude.{All, IfOk, IsTrue, MatchOption, None, [], drop, is_some, length, map, option_copied, take, true, ℕ, ◌++◌, ◌+◌, ◌<◌, ◌∷◌, ◌≡◌, ◌≤◌};
 ghost use Rattle.capture_desk.specs.declared.memory.Slot.{Slot};
 ghost use Rattle.capture_desk.specs.Inside.{IsFirstInput, IsFirstSlot, entry, kept};
-ghost use Rattle.capture_desk.specs.Desks.{Appends, IsAllowed, is_among, Makes, OpenCounts, Opens, ReadCounts, Reads, Told, WriteCounts, after_create, after_finish, after_say, after_write, named, output_named};
-ghost use Rattle.capture_desk.specs.Memory.{Memory, add_answer, added, all_told, append_answer, called, created_by, filled, finished, held, is_failing, names_of, new_memory, open_answer, opened, passed, read_answer, read_failed, read_on, rest_of, spoke, spoken, write_answer, write_failed, wrote};
+ghost use Rattle.capture_desk.specs.Desks.{Appends, IsAllowed, is_among, Makes, OpenCounts, Opens, ReadCounts, Reads, Told, CallCounts, after_create, after_finish, after_say, after_write, named, output_named};
+ghost use Rattle.capture_desk.specs.Memory.{Memory, add_answer, added, all_told, seen_of, append_answer, called, created_by, filled, finished, held, is_failing, names_of, new_memory, open_answer, opened, passed, read_answer, read_failed, read_on, rest_of, spoke, spoken, write_answer, write_failed, wrote};
 
 use crate::bounded::Bounded;
 use crate::desk::{Desk, Failed, OpenFault};
@@ -67,6 +67,7 @@ pub struct MemDesk {
     writing: Option<usize>,
     read_faults: u64,
     write_faults: u64,
+    failed: bool,
 }
 
 impl Model for MemDesk {
@@ -165,6 +166,7 @@ impl MemDesk {
             writing: None,
             read_faults: 0,
             write_faults: 0,
+            failed: false,
         })
     }
 
@@ -198,6 +200,7 @@ impl MemDesk {
         ensures fails { result ≡ is_failing self.old }
     {
         self.calls = self.calls.saturating_add(1);
+        self.failed = false;
         self.failing.contains(&self.calls)
     }
 
@@ -205,12 +208,14 @@ impl MemDesk {
         ensures { self.new ≡ read_failed self.old }
     {
         self.read_faults = self.read_faults.saturating_add(1);
+        self.failed = true;
     }
 
     fn count_write_fault(&mut self)
         ensures { self.new ≡ write_failed self.old }
     {
         self.write_faults = self.write_faults.saturating_add(1);
+        self.failed = true;
     }
 
     fn open_step(&mut self, name: &[u8]) -> Result<(), OpenFault>
@@ -378,17 +383,12 @@ impl MemDesk {
 }
 
 impl Desk for MemDesk {
-    ghost told = { all_told };
-
-    ghost read_faults = { λ m. m.read_faults };
-
-    ghost write_faults = { λ m. m.write_faults };
+    ghost seen = { seen_of };
 
     fn open_in(&mut self, name: &str) -> Result<(), OpenFault>
         requires allowed { IsAllowed name.now (all_told self.old).may_open }
         ensures opens { Opens name.now result (all_told self.old) (all_told self.new) }
-        ensures counts { OpenCounts result self.old.read_faults self.new.read_faults
-            self.old.write_faults self.new.write_faults }
+        ensures counts { OpenCounts result (seen_of self.old) (seen_of self.new) }
         ensures answer { result ≡ open_answer name.now self.old }
         ensures after { self.new ≡ opened name.now self.old }
     {
@@ -399,8 +399,7 @@ impl Desk for MemDesk {
         requires open { IsTrue (all_told self.old).input_open }
         requires room { 0 < length buf.old }
         ensures reads { Reads buf.old buf.new result (all_told self.old) (all_told self.new) }
-        ensures counts { ReadCounts result self.old.read_faults self.new.read_faults
-            self.old.write_faults self.new.write_faults }
+        ensures counts { ReadCounts result (seen_of self.old) (seen_of self.new) }
         ensures answer { result ≡ read_answer (length buf.old) self.old }
         ensures after { self.new ≡ read_on (length buf.old) self.old }
         ensures moved { buf.new ≡ filled buf.old self.old }
@@ -411,8 +410,7 @@ impl Desk for MemDesk {
     fn create_out(&mut self, name: &str) -> Result<(), Failed>
         requires allowed { IsAllowed name.now (all_told self.old).may_create }
         ensures creates { Makes result (after_create name.now (all_told self.old)) (all_told self.old) (all_told self.new) }
-        ensures counts { WriteCounts result self.old.read_faults self.new.read_faults
-            self.old.write_faults self.new.write_faults }
+        ensures counts { CallCounts result (seen_of self.old) (seen_of self.new) }
         ensures answer { result ≡ write_answer self.old }
         ensures after { self.new ≡ created_by name.now self.old }
     {
@@ -423,8 +421,7 @@ impl Desk for MemDesk {
         requires open { IsTrue (all_told self.old).output_open }
         requires some { 0 < length bytes.now }
         ensures appends { Appends bytes.now result after_write (all_told self.old) (all_told self.new) }
-        ensures counts { WriteCounts result self.old.read_faults self.new.read_faults
-            self.old.write_faults self.new.write_faults }
+        ensures counts { CallCounts result (seen_of self.old) (seen_of self.new) }
         ensures answer { result ≡ append_answer (length bytes.now) (held self.old.writing self.old.outputs) self.old }
         ensures after { self.new ≡ wrote bytes.now self.old }
     {
@@ -434,8 +431,7 @@ impl Desk for MemDesk {
     fn finish(&mut self) -> Result<(), Failed>
         requires open { IsTrue (all_told self.old).output_open }
         ensures closes { Makes result (after_finish (all_told self.old)) (all_told self.old) (all_told self.new) }
-        ensures counts { WriteCounts result self.old.read_faults self.new.read_faults
-            self.old.write_faults self.new.write_faults }
+        ensures counts { CallCounts result (seen_of self.old) (seen_of self.new) }
         ensures answer { result ≡ write_answer self.old }
         ensures after { self.new ≡ finished self.old }
     {
@@ -445,8 +441,7 @@ impl Desk for MemDesk {
     fn say(&mut self, bytes: &[u8]) -> Result<usize, Failed>
         requires some { 0 < length bytes.now }
         ensures says { Appends bytes.now result after_say (all_told self.old) (all_told self.new) }
-        ensures counts { WriteCounts result self.old.read_faults self.new.read_faults
-            self.old.write_faults self.new.write_faults }
+        ensures counts { CallCounts result (seen_of self.old) (seen_of self.new) }
         ensures answer { result ≡ append_answer (length bytes.now) self.old.text self.old }
         ensures after { self.new ≡ spoke bytes.now self.old }
     {

@@ -1,7 +1,7 @@
 // The desk over the system's files and its standard output.
-ghost use Rattle.std.specs.Prelude.{false, ◌≡◌};
+ghost use Rattle.std.specs.Prelude.{false, true, ◌≡◌};
 ghost use Rattle.capture_desk.specs.Desks.{counted};
-ghost use Rattle.capture_desk.specs.System.{System, only_open};
+ghost use Rattle.capture_desk.specs.System.{System, seen_of};
 
 use crate::desk::{Desk, Failed, OpenFault};
 use std::fs;
@@ -18,6 +18,7 @@ pub struct OsDesk<R: Files + Print + Drop> {
     output: Option<R::File>,
     read_faults: u64,
     write_faults: u64,
+    failed: bool,
 }
 
 impl<R: Files + Print + Drop> Model for OsDesk<R> {
@@ -26,13 +27,13 @@ impl<R: Files + Print + Drop> Model for OsDesk<R> {
 
     ghost Value = { System };
 
-    ghost view = { λ d. record { input_open = is_some d.input; output_open = is_some d.output; read_faults = d.read_faults; write_faults = d.write_faults } };
+    ghost view = { λ d. record { input_open = is_some d.input; output_open = is_some d.output; read_faults = d.read_faults; write_faults = d.write_faults; failed = d.failed } };
 }
 
 impl<R: Files + Print + Drop> OsDesk<R> {
     /// A desk over the runtime's files and standard output, with nothing open.
     pub fn new(runtime: R) -> OsDesk<R>
-        ensures { result ≡ record { input_open = false; output_open = false; read_faults = 0; write_faults = 0 } }
+        ensures { result ≡ record { input_open = false; output_open = false; read_faults = 0; write_faults = 0; failed = false } }
     {
         OsDesk {
             runtime,
@@ -40,35 +41,35 @@ impl<R: Files + Print + Drop> OsDesk<R> {
             output: None,
             read_faults: 0,
             write_faults: 0,
+            failed: false,
         }
     }
 
     fn read_fault(&mut self) -> Failed
-        ensures { self.new ≡ record self.old { read_faults = counted self.old.read_faults } }
+        ensures { self.new ≡ record self.old { read_faults = counted self.old.read_faults; failed = true } }
     {
         self.read_faults = self.read_faults.saturating_add(1);
+        self.failed = true;
         Failed
     }
 
     fn write_fault(&mut self) -> Failed
-        ensures { self.new ≡ record self.old { write_faults = counted self.old.write_faults } }
+        ensures { self.new ≡ record self.old { write_faults = counted self.old.write_faults; failed = true } }
     {
         self.write_faults = self.write_faults.saturating_add(1);
+        self.failed = true;
         Failed
     }
 }
 
 impl<R: Files + Print + Drop> Desk for OsDesk<R> {
-    ghost told = { only_open };
-
-    ghost read_faults = { λ s. s.read_faults };
-
-    ghost write_faults = { λ s. s.write_faults };
+    ghost seen = { seen_of };
 
     fn open_in(&mut self, name: &str) -> Result<(), OpenFault> {
         match fs::open(&self.runtime, name) {
             Ok(file) => {
                 self.input = Some(file);
+                self.failed = false;
                 Ok(())
             }
             Err(_) => {
@@ -83,7 +84,10 @@ impl<R: Files + Print + Drop> Desk for OsDesk<R> {
             unreachable!()
         };
         match file.read(buf) {
-            Ok(n) => Ok(n),
+            Ok(n) => {
+                self.failed = false;
+                Ok(n)
+            }
             Err(_) => Err(self.read_fault()),
         }
     }
@@ -92,6 +96,7 @@ impl<R: Files + Print + Drop> Desk for OsDesk<R> {
         match fs::create(&self.runtime, name) {
             Ok(file) => {
                 self.output = Some(file);
+                self.failed = false;
                 Ok(())
             }
             Err(_) => Err(self.write_fault()),
@@ -103,7 +108,10 @@ impl<R: Files + Print + Drop> Desk for OsDesk<R> {
             unreachable!()
         };
         match file.write(bytes) {
-            Ok(n) if n > 0 => Ok(n),
+            Ok(n) if n > 0 => {
+                self.failed = false;
+                Ok(n)
+            }
             _ => Err(self.write_fault()),
         }
     }
@@ -115,6 +123,7 @@ impl<R: Files + Print + Drop> Desk for OsDesk<R> {
         match file.flush() {
             Ok(()) => {
                 self.output = None;
+                self.failed = false;
                 Ok(())
             }
             Err(_) => Err(self.write_fault()),
@@ -123,7 +132,10 @@ impl<R: Files + Print + Drop> Desk for OsDesk<R> {
 
     fn say(&mut self, bytes: &[u8]) -> Result<usize, Failed> {
         match self.runtime.write_some(bytes) {
-            Ok(n) if n > 0 => Ok(n),
+            Ok(n) if n > 0 => {
+                self.failed = false;
+                Ok(n)
+            }
             _ => Err(self.write_fault()),
         }
     }

@@ -24,8 +24,8 @@ fn desk(alloc: Global) -> Result<MemDesk, AllocError>
 
 // Copies the first bytes of the input to the output, in six calls.
 fn copy<D: Desk>(desk: &mut D) -> Result<usize, Failed>
-    requires opens { IsAllowed (codes "in") (D.told desk.old).may_open }
-    requires creates { IsAllowed (codes "out") (D.told desk.old).may_create }
+    requires opens { IsAllowed (codes "in") (D.seen desk.old).told.may_open }
+    requires creates { IsAllowed (codes "out") (D.seen desk.old).told.may_create }
 {
     match desk.open_in("in") {
         Ok(()) => {}

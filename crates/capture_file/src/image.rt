@@ -25,10 +25,9 @@ fn name(layout: Layout) -> [u8; 4]
 
 // Appends the first word of an image and the number of its chunks.
 fn put_head<D: Desk>(desk: &mut D, layout: Layout, count: u32) -> Result<(), Failed>
-    requires open { IsTrue (D.told desk.old).output_open }
-    ensures puts { Puts (image_head layout count) result after_write (D.told desk.old) (D.told desk.new) }
-    ensures counts { WriteCounts result (D.read_faults desk.old) (D.read_faults desk.new)
-        (D.write_faults desk.old) (D.write_faults desk.new) }
+    requires open { IsTrue (D.seen desk.old).told.output_open }
+    ensures puts { Puts (image_head layout count) result after_write (D.seen desk.old).told (D.seen desk.new).told }
+    ensures counts { WriteCounts result (D.seen desk.old) (D.seen desk.new) }
 {
     let mut piece = [0; 8];
     piece[..4].copy_from_slice(&name(layout));
@@ -38,10 +37,9 @@ fn put_head<D: Desk>(desk: &mut D, layout: Layout, count: u32) -> Result<(), Fai
 
 // Appends the address of a chunk, and its length where it is no page.
 fn put_place<D: Desk>(desk: &mut D, layout: Layout, at: u32, len: u32) -> Result<(), Failed>
-    requires open { IsTrue (D.told desk.old).output_open }
-    ensures puts { Puts (place_image layout at len) result after_write (D.told desk.old) (D.told desk.new) }
-    ensures counts { WriteCounts result (D.read_faults desk.old) (D.read_faults desk.new)
-        (D.write_faults desk.old) (D.write_faults desk.new) }
+    requires open { IsTrue (D.seen desk.old).told.output_open }
+    ensures puts { Puts (place_image layout at len) result after_write (D.seen desk.old).told (D.seen desk.new).told }
+    ensures counts { WriteCounts result (D.seen desk.old) (D.seen desk.new) }
 {
     match layout {
         Layout::Paged => put_numbers(desk, &[at]),
@@ -51,12 +49,11 @@ fn put_place<D: Desk>(desk: &mut D, layout: Layout, at: u32, len: u32) -> Result
 
 // Appends a chunk of an image.
 fn put_block<D: Desk>(desk: &mut D, layout: Layout, at: u32, bytes: &[u8]) -> Result<(), Failed>
-    requires open { IsTrue (D.told desk.old).output_open }
+    requires open { IsTrue (D.seen desk.old).told.output_open }
     requires small { length bytes.now ≤ max_bytes }
     ensures puts { Puts (block_image layout (record { at = at; bytes = bytes.now })) result after_write
-        (D.told desk.old) (D.told desk.new) }
-    ensures counts { WriteCounts result (D.read_faults desk.old) (D.read_faults desk.new)
-        (D.write_faults desk.old) (D.write_faults desk.new) }
+        (D.seen desk.old).told (D.seen desk.new).told }
+    ensures counts { WriteCounts result (D.seen desk.old) (D.seen desk.new) }
 {
     put_place(desk, layout, at, bytes.len() as u32)?;
     put(desk, bytes)
@@ -83,11 +80,10 @@ fn layout_of_ram<R: Ram>(ram: &R) -> Layout
 
 // Appends the chunks of an image.
 fn put_blocks<R: Ram, D: Desk>(ram: &R, layout: Layout, desk: &mut D) -> Result<(), Failed>
-    requires open { IsTrue (D.told desk.old).output_open }
+    requires open { IsTrue (D.seen desk.old).told.output_open }
     ensures puts { Puts (flat_map (block_image layout) (R.memory ram.now)) result after_write
-        (D.told desk.old) (D.told desk.new) }
-    ensures counts { WriteCounts result (D.read_faults desk.old) (D.read_faults desk.new)
-        (D.write_faults desk.old) (D.write_faults desk.new) }
+        (D.seen desk.old).told (D.seen desk.new).told }
+    ensures counts { WriteCounts result (D.seen desk.old) (D.seen desk.new) }
 {
     for i in 0..ram.pages() {
         let (at, bytes) = ram.page(i);
@@ -102,10 +98,9 @@ fn put_blocks<R: Ram, D: Desk>(ram: &R, layout: Layout, desk: &mut D) -> Result<
 /// appended.
 #[tactic(auto, unfolding(crate::specs::Images::image_of))]
 pub fn write_image<R: Ram, D: Desk>(ram: &R, desk: &mut D) -> Result<(), Failed>
-    requires open { IsTrue (D.told desk.old).output_open }
-    ensures puts { Puts (image_of (R.memory ram.now)) result after_write (D.told desk.old) (D.told desk.new) }
-    ensures counts { WriteCounts result (D.read_faults desk.old) (D.read_faults desk.new)
-        (D.write_faults desk.old) (D.write_faults desk.new) }
+    requires open { IsTrue (D.seen desk.old).told.output_open }
+    ensures puts { Puts (image_of (R.memory ram.now)) result after_write (D.seen desk.old).told (D.seen desk.new).told }
+    ensures counts { WriteCounts result (D.seen desk.old) (D.seen desk.new) }
 {
     let layout = layout_of_ram(ram);
     put_head(desk, layout, ram.pages() as u32)?;

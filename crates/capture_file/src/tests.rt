@@ -47,8 +47,8 @@ fn desk(alloc: Global) -> Result<MemDesk, AllocError>
 
 // Writes a program file and the image of its memory.
 fn write_both<D: Desk>(file: &ProgramFile, ram: &MapRam, desk: &mut D) -> Result<(), Failed>
-    requires program { IsAllowed (codes "program") (D.told desk.old).may_create }
-    requires image { IsAllowed (codes "image") (D.told desk.old).may_create }
+    requires program { IsAllowed (codes "program") (D.seen desk.old).told.may_create }
+    requires image { IsAllowed (codes "image") (D.seen desk.old).told.may_create }
 {
     desk.create_out("program")?;
     write_program(&file.program, file.fill, desk)?;

@@ -45,11 +45,10 @@ fn spell(numbers: &[u32], out: &mut [u8])
 
 // Appends numbers to the open output, as many at once as a buffer holds.
 fn put_by<D: Desk>(desk: &mut D, numbers: &[u32], piece: &mut [u8]) -> Result<(), Failed>
-    requires open { IsTrue (D.told desk.old).output_open }
+    requires open { IsTrue (D.seen desk.old).told.output_open }
     requires room { 4 ≤ length piece.old }
-    ensures puts { Puts (numbers_spelled numbers.now) result after_write (D.told desk.old) (D.told desk.new) }
-    ensures counts { WriteCounts result (D.read_faults desk.old) (D.read_faults desk.new)
-        (D.write_faults desk.old) (D.write_faults desk.new) }
+    ensures puts { Puts (numbers_spelled numbers.now) result after_write (D.seen desk.old).told (D.seen desk.new).told }
+    ensures counts { WriteCounts result (D.seen desk.old) (D.seen desk.new) }
 {
     let most = piece.len() / 4;
     let mut at = 0;
@@ -64,10 +63,9 @@ fn put_by<D: Desk>(desk: &mut D, numbers: &[u32], piece: &mut [u8]) -> Result<()
 
 // Appends numbers to the open output. A buffer for many takes time of its own, even for few.
 pub fn put_numbers<D: Desk>(desk: &mut D, numbers: &[u32]) -> Result<(), Failed>
-    requires open { IsTrue (D.told desk.old).output_open }
-    ensures puts { Puts (numbers_spelled numbers.now) result after_write (D.told desk.old) (D.told desk.new) }
-    ensures counts { WriteCounts result (D.read_faults desk.old) (D.read_faults desk.new)
-        (D.write_faults desk.old) (D.write_faults desk.new) }
+    requires open { IsTrue (D.seen desk.old).told.output_open }
+    ensures puts { Puts (numbers_spelled numbers.now) result after_write (D.seen desk.old).told (D.seen desk.new).told }
+    ensures counts { WriteCounts result (D.seen desk.old) (D.seen desk.new) }
 {
     if numbers.len() <= FEW / 4 {
         put_by(desk, numbers, &mut [0; FEW])
@@ -87,10 +85,9 @@ fn name(layout: Layout) -> [u8; 4]
 
 // Appends the first word of a program file, the base and the number of words.
 fn put_head<D: Desk>(desk: &mut D, layout: Layout, base: u32, count: u32) -> Result<(), Failed>
-    requires open { IsTrue (D.told desk.old).output_open }
-    ensures puts { Puts (head_spelled layout base count) result after_write (D.told desk.old) (D.told desk.new) }
-    ensures counts { WriteCounts result (D.read_faults desk.old) (D.read_faults desk.new)
-        (D.write_faults desk.old) (D.write_faults desk.new) }
+    requires open { IsTrue (D.seen desk.old).told.output_open }
+    ensures puts { Puts (head_spelled layout base count) result after_write (D.seen desk.old).told (D.seen desk.new).told }
+    ensures counts { WriteCounts result (D.seen desk.old) (D.seen desk.new) }
 {
     let mut piece = [0; 12];
     piece[..4].copy_from_slice(&name(layout));
@@ -164,10 +161,9 @@ fn list_chunks(
 
 // Appends the chunks to the open output.
 fn put_chunks<D: Desk>(desk: &mut D, layout: Layout, grants: &PageSet) -> Result<(), Failed>
-    requires open { IsTrue (D.told desk.old).output_open }
-    ensures puts { Puts (flat_map (chunk_in layout) grants.now) result after_write (D.told desk.old) (D.told desk.new) }
-    ensures counts { WriteCounts result (D.read_faults desk.old) (D.read_faults desk.new)
-        (D.write_faults desk.old) (D.write_faults desk.new) }
+    requires open { IsTrue (D.seen desk.old).told.output_open }
+    ensures puts { Puts (flat_map (chunk_in layout) grants.now) result after_write (D.seen desk.old).told (D.seen desk.new).told }
+    ensures counts { WriteCounts result (D.seen desk.old) (D.seen desk.new) }
 {
     let mut numbers = [0; 2 * CHUNKS];
     let mut at = 0;
@@ -182,10 +178,9 @@ fn put_chunks<D: Desk>(desk: &mut D, layout: Layout, grants: &PageSet) -> Result
 
 // Appends the number of the chunks and the chunks to the open output.
 fn put_grants<D: Desk>(desk: &mut D, layout: Layout, grants: &PageSet) -> Result<(), Failed>
-    requires open { IsTrue (D.told desk.old).output_open }
-    ensures puts { Puts (grants_spelled layout grants.now) result after_write (D.told desk.old) (D.told desk.new) }
-    ensures counts { WriteCounts result (D.read_faults desk.old) (D.read_faults desk.new)
-        (D.write_faults desk.old) (D.write_faults desk.new) }
+    requires open { IsTrue (D.seen desk.old).told.output_open }
+    ensures puts { Puts (grants_spelled layout grants.now) result after_write (D.seen desk.old).told (D.seen desk.new).told }
+    ensures counts { WriteCounts result (D.seen desk.old) (D.seen desk.new) }
 {
     put_numbers(desk, &[grants.len() as u32])?;
     put_chunks(desk, layout, grants)
@@ -200,12 +195,11 @@ fn put_all<D: Desk>(
     grants: &PageSet,
     fill: u8,
 ) -> Result<(), Failed>
-    requires open { IsTrue (D.told desk.old).output_open }
+    requires open { IsTrue (D.seen desk.old).told.output_open }
     requires few { length words.now ≤ max_words }
     ensures puts { Puts (spelled_as layout (record { base = base; words = words.now; grants = grants.now }) fill) result after_write
-        (D.told desk.old) (D.told desk.new) }
-    ensures counts { WriteCounts result (D.read_faults desk.old) (D.read_faults desk.new)
-        (D.write_faults desk.old) (D.write_faults desk.new) }
+        (D.seen desk.old).told (D.seen desk.new).told }
+    ensures counts { WriteCounts result (D.seen desk.old) (D.seen desk.new) }
 {
     put_head(desk, layout, base, words.len() as u32)?;
     put_numbers(desk, words)?;
@@ -217,10 +211,9 @@ fn put_all<D: Desk>(
 /// pages, else `BRP2`. Where a write fails, a front of the file was appended.
 #[tactic(auto, unfolding(crate::specs::Programs::spelled))]
 pub fn write_program<D: Desk>(program: &Program, fill: u8, desk: &mut D) -> Result<(), Failed>
-    requires open { IsTrue (D.told desk.old).output_open }
-    ensures puts { Puts (spelled program.now fill) result after_write (D.told desk.old) (D.told desk.new) }
-    ensures counts { WriteCounts result (D.read_faults desk.old) (D.read_faults desk.new)
-        (D.write_faults desk.old) (D.write_faults desk.new) }
+    requires open { IsTrue (D.seen desk.old).told.output_open }
+    ensures puts { Puts (spelled program.now fill) result after_write (D.seen desk.old).told (D.seen desk.new).told }
+    ensures counts { WriteCounts result (D.seen desk.old) (D.seen desk.new) }
 {
     let grants = program.grants();
     let layout = layout_of_grants(grants);

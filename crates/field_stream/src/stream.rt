@@ -21,11 +21,10 @@ use risc_word::Code;
 
 // Puts what a draft holds where a line might not fit behind it.
 fn make_room<D: Desk>(draft: &mut Draft, desk: &mut D) -> Result<(), Failed>
-    requires open { IsTrue (D.told desk.old).output_open }
-    ensures moves { Moves draft.old result draft.new (D.told desk.old) (D.told desk.new) }
+    requires open { IsTrue (D.seen desk.old).told.output_open }
+    ensures moves { Moves draft.old result draft.new (D.seen desk.old).told (D.seen desk.new).told }
     ensures room { IfOk result (λ _. length draft.new.bytes + 11264 ≤ 32768) }
-    ensures counts { WriteCounts result (D.read_faults desk.old) (D.read_faults desk.new)
-        (D.write_faults desk.old) (D.write_faults desk.new) }
+    ensures counts { WriteCounts result (D.seen desk.old) (D.seen desk.new) }
 {
     if draft.as_slice().len() > ROOM - LINE {
         put(desk, draft.as_slice())?;
@@ -35,10 +34,9 @@ fn make_room<D: Desk>(draft: &mut Draft, desk: &mut D) -> Result<(), Failed>
 }
 
 fn put_mark<D: Desk>(draft: &mut Draft, desk: &mut D, code: Code) -> Result<(), Failed>
-    requires open { IsTrue (D.told desk.old).output_open }
-    ensures moves { Moves (pushed (Mark code) draft.old) result draft.new (D.told desk.old) (D.told desk.new) }
-    ensures counts { WriteCounts result (D.read_faults desk.old) (D.read_faults desk.new)
-        (D.write_faults desk.old) (D.write_faults desk.new) }
+    requires open { IsTrue (D.seen desk.old).told.output_open }
+    ensures moves { Moves (pushed (Mark code) draft.old) result draft.new (D.seen desk.old).told (D.seen desk.new).told }
+    ensures counts { WriteCounts result (D.seen desk.old) (D.seen desk.new) }
 {
     make_room(draft, desk)?;
     draft.mark(code);
@@ -46,11 +44,10 @@ fn put_mark<D: Desk>(draft: &mut Draft, desk: &mut D, code: Code) -> Result<(), 
 }
 
 fn put_line<D: Desk>(draft: &mut Draft, desk: &mut D, line: Line) -> Result<(), Failed>
-    requires open { IsTrue (D.told desk.old).output_open }
+    requires open { IsTrue (D.seen desk.old).told.output_open }
     requires short { IsShort line }
-    ensures moves { Moves (pushed_all (line_pushes line) draft.old) result draft.new (D.told desk.old) (D.told desk.new) }
-    ensures counts { WriteCounts result (D.read_faults desk.old) (D.read_faults desk.new)
-        (D.write_faults desk.old) (D.write_faults desk.new) }
+    ensures moves { Moves (pushed_all (line_pushes line) draft.old) result draft.new (D.seen desk.old).told (D.seen desk.new).told }
+    ensures counts { WriteCounts result (D.seen desk.old) (D.seen desk.new) }
 {
     make_room(draft, desk)?;
     draft.line(line);
@@ -58,11 +55,10 @@ fn put_line<D: Desk>(draft: &mut Draft, desk: &mut D, line: Line) -> Result<(), 
 }
 
 fn put_lines<D: Desk>(draft: &mut Draft, desk: &mut D, count: u32, line: Line) -> Result<(), Failed>
-    requires open { IsTrue (D.told desk.old).output_open }
+    requires open { IsTrue (D.seen desk.old).told.output_open }
     requires short { IsShort line }
-    ensures moves { Moves (pushed_all (repeated count (line_pushes line)) draft.old) result draft.new (D.told desk.old) (D.told desk.new) }
-    ensures counts { WriteCounts result (D.read_faults desk.old) (D.read_faults desk.new)
-        (D.write_faults desk.old) (D.write_faults desk.new) }
+    ensures moves { Moves (pushed_all (repeated count (line_pushes line)) draft.old) result draft.new (D.seen desk.old).told (D.seen desk.new).told }
+    ensures counts { WriteCounts result (D.seen desk.old) (D.seen desk.new) }
 {
     for _done in 0..count {
         put_line(draft, desk, line)?;
@@ -72,11 +68,10 @@ fn put_lines<D: Desk>(draft: &mut Draft, desk: &mut D, count: u32, line: Line) -
 
 // The VBI lines of a field, if there are any.
 fn put_vbi<D: Desk>(draft: &mut Draft, desk: &mut D, frame: &Frame) -> Result<(), Failed>
-    requires open { IsTrue (D.told desk.old).output_open }
+    requires open { IsTrue (D.seen desk.old).told.output_open }
     ensures moves { Moves (pushed_all (vbi_pushes frame.now.vbi_lines frame.now.vbi_bytes) draft.old) result draft.new
-        (D.told desk.old) (D.told desk.new) }
-    ensures counts { WriteCounts result (D.read_faults desk.old) (D.read_faults desk.new)
-        (D.write_faults desk.old) (D.write_faults desk.new) }
+        (D.seen desk.old).told (D.seen desk.new).told }
+    ensures counts { WriteCounts result (D.seen desk.old) (D.seen desk.new) }
 {
     let count = frame.desc().vbi_lines;
     if count == 0 {
@@ -114,10 +109,9 @@ fn put_picture<D: Desk>(
     frame: &Frame,
     field: Parity,
 ) -> Result<(), Failed>
-    requires open { IsTrue (D.told desk.old).output_open }
-    ensures moves { Moves (pushed_all (picture_pushes frame.now field) draft.old) result draft.new (D.told desk.old) (D.told desk.new) }
-    ensures counts { WriteCounts result (D.read_faults desk.old) (D.read_faults desk.new)
-        (D.write_faults desk.old) (D.write_faults desk.new) }
+    requires open { IsTrue (D.seen desk.old).told.output_open }
+    ensures moves { Moves (pushed_all (picture_pushes frame.now field) draft.old) result draft.new (D.seen desk.old).told (D.seen desk.new).told }
+    ensures counts { WriteCounts result (D.seen desk.old) (D.seen desk.new) }
 {
     put_mark(draft, desk, data_code(frame))?;
     let count = u32::from(frame.desc().skip_lines) + frame.rows_of(field);
@@ -130,10 +124,9 @@ fn put_field<D: Desk>(
     frame: &Frame,
     field: Parity,
 ) -> Result<(), Failed>
-    requires open { IsTrue (D.told desk.old).output_open }
-    ensures moves { Moves (pushed_all (field_pushes frame.now field) draft.old) result draft.new (D.told desk.old) (D.told desk.new) }
-    ensures counts { WriteCounts result (D.read_faults desk.old) (D.read_faults desk.new)
-        (D.write_faults desk.old) (D.write_faults desk.new) }
+    requires open { IsTrue (D.seen desk.old).told.output_open }
+    ensures moves { Moves (pushed_all (field_pushes frame.now field) draft.old) result draft.new (D.seen desk.old).told (D.seen desk.new).told }
+    ensures counts { WriteCounts result (D.seen desk.old) (D.seen desk.new) }
 {
     put_mark(draft, desk, vertical(field))?;
     put_vbi(draft, desk, frame)?;
@@ -142,10 +135,9 @@ fn put_field<D: Desk>(
 
 // The described fields, top before bottom.
 fn put_frame<D: Desk>(draft: &mut Draft, desk: &mut D, frame: &Frame) -> Result<(), Failed>
-    requires open { IsTrue (D.told desk.old).output_open }
-    ensures moves { Moves (pushed_all (frame_pushes frame.now) draft.old) result draft.new (D.told desk.old) (D.told desk.new) }
-    ensures counts { WriteCounts result (D.read_faults desk.old) (D.read_faults desk.new)
-        (D.write_faults desk.old) (D.write_faults desk.new) }
+    requires open { IsTrue (D.seen desk.old).told.output_open }
+    ensures moves { Moves (pushed_all (frame_pushes frame.now) draft.old) result draft.new (D.seen desk.old).told (D.seen desk.new).told }
+    ensures counts { WriteCounts result (D.seen desk.old) (D.seen desk.new) }
 {
     match frame.desc().fields {
         Fields::Top => put_field(draft, desk, frame, Parity::Top),
@@ -163,10 +155,9 @@ fn put_frames<D: Desk>(
     frame: &Frame,
     frames: u8,
 ) -> Result<(), Failed>
-    requires open { IsTrue (D.told desk.old).output_open }
-    ensures moves { Moves (pushed_all (stream_pushes frame.now frames) draft.old) result draft.new (D.told desk.old) (D.told desk.new) }
-    ensures counts { WriteCounts result (D.read_faults desk.old) (D.read_faults desk.new)
-        (D.write_faults desk.old) (D.write_faults desk.new) }
+    requires open { IsTrue (D.seen desk.old).told.output_open }
+    ensures moves { Moves (pushed_all (stream_pushes frame.now frames) draft.old) result draft.new (D.seen desk.old).told (D.seen desk.new).told }
+    ensures counts { WriteCounts result (D.seen desk.old) (D.seen desk.new) }
 {
     for _done in 0..frames {
         put_frame(draft, desk, frame)?;
@@ -176,10 +167,9 @@ fn put_frames<D: Desk>(
 
 // The end record, and all that was not put yet.
 fn put_end<D: Desk>(draft: &mut Draft, desk: &mut D) -> Result<(), Failed>
-    requires open { IsTrue (D.told desk.old).output_open }
-    ensures puts { Puts (draft.old.bytes ++ 0 ∷ []) result after_write (D.told desk.old) (D.told desk.new) }
-    ensures counts { WriteCounts result (D.read_faults desk.old) (D.read_faults desk.new)
-        (D.write_faults desk.old) (D.write_faults desk.new) }
+    requires open { IsTrue (D.seen desk.old).told.output_open }
+    ensures puts { Puts (draft.old.bytes ++ 0 ∷ []) result after_write (D.seen desk.old).told (D.seen desk.new).told }
+    ensures counts { WriteCounts result (D.seen desk.old) (D.seen desk.new) }
 {
     make_room(draft, desk)?;
     draft.append(&[0]);
@@ -192,12 +182,11 @@ fn put_end<D: Desk>(draft: &mut Draft, desk: &mut D) -> Result<(), Failed>
 #[inline(never)]
 pub fn make<D: Desk>(frame: &Frame, seed: u64, frames: u8, desk: &mut D) -> Result<Made, Failed>
     requires frames { (1 ≤ frames) × (frames ≤ 16) }
-    requires open { IsTrue (D.told desk.old).output_open }
-    ensures puts { Puts (made frame.now seed frames) result after_write (D.told desk.old) (D.told desk.new) }
+    requires open { IsTrue (D.seen desk.old).told.output_open }
+    ensures puts { Puts (made frame.now seed frames) result after_write (D.seen desk.old).told (D.seen desk.new).told }
     ensures fields { IfOk result (λ made. made.fields ≡ made_fields frame.now frames) }
     ensures entries { IfOk result (λ made. made.entries ≡ made_entries frame.now frames) }
-    ensures counts { WriteCounts result (D.read_faults desk.old) (D.read_faults desk.new)
-        (D.write_faults desk.old) (D.write_faults desk.new) }
+    ensures counts { WriteCounts result (D.seen desk.old) (D.seen desk.new) }
 {
     let mut draft = Draft::new(seed);
     draft.append(b"BFS1");

@@ -36,7 +36,7 @@ fn desk(alloc: Global, room: usize) -> Result<MemDesk, AllocError>
 
 // Makes a stream of one frame.
 fn put_stream<D: Desk>(frame: &Frame, seed: u64, desk: &mut D) -> Result<Made, Failed>
-    requires { IsAllowed (codes "stream") (D.told desk.old).may_create }
+    requires { IsAllowed (codes "stream") (D.seen desk.old).told.may_create }
 {
     desk.create_out("stream")?;
     let made = make(frame, seed, 1, desk)?;

@@ -6,7 +6,7 @@ use Rattle.capture_file.proofs.Images.{block_small, blocks_more, blocks_break}
 use Rattle.capture_file.proofs.image.put_blocks.Goals as goal
 
 pub loop-i-init : goal.loop-i-init
-loop-i-init g c = record { done = sym (after_write-nil _); reads = refl; writes = refl }
+loop-i-init g c = record { done = sym (after_write-nil _); counts = (refl, refl, refl) }
 
 pub put_block-requires-clause-small : goal.put_block-requires-clause-small
 put_block-requires-clause-small g c = block_small (g.R.Ram.memory c.args.ram.now) c.loop-i.i _ c.page-at.ensures.sound c.page-at.ensures.value
@@ -19,6 +19,5 @@ returns-in_err-put_block-clause-puts g c =
 pub loop-i-preserved : goal.loop-i-preserved
 loop-i-preserved g c = record {
   done = blocks_more (block_image c.args.layout) (g.R.Ram.memory c.args.ram.now) c.loop-i.i _ c.page-at.ensures.value _ _ _ c.loop-i.invariant.done c.in_ok-put_block.ensures.puts;
-  reads = c.in_ok-put_block.ensures.counts.0 ∙ c.loop-i.invariant.reads;
-  writes = c.in_ok-put_block.ensures.counts.1 ∙ c.loop-i.invariant.writes;
+  counts = (c.in_ok-put_block.ensures.counts.0 ∙ c.loop-i.invariant.counts.0, c.in_ok-put_block.ensures.counts.1 ∙ c.loop-i.invariant.counts.1, c.in_ok-put_block.ensures.counts.2 ∙ c.loop-i.invariant.counts.2);
 }

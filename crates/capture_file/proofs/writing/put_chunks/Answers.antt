@@ -6,7 +6,7 @@ use Rattle.capture_file.proofs.Puts.{chunks_more, chunks_break}
 use Rattle.capture_file.proofs.writing.put_chunks.Goals as goal
 
 pub loop-at-init : goal.loop-at-init
-loop-at-init g c = record { within = omega arith; room = refl; done = sym (after_write-nil _); reads = refl; writes = refl }
+loop-at-init g c = record { within = omega arith; room = refl; done = sym (after_write-nil _); counts = (refl, refl, refl) }
 
 pub loop-at-preserved : goal.loop-at-preserved
 loop-at-preserved g c =
@@ -15,8 +15,7 @@ loop-at-preserved g c =
       within = within;
       room = c.list_chunks-listed.auto.out ∙ c.loop-at.invariant.room;
       done = chunks_more (chunk_in c.args.layout) c.args.grants.now c.loop-at.at c.min-count.result _ _ _ c.loop-at.invariant.done _ c.list_chunks-listed.ensures.numbers c.in_ok-put_numbers.ensures.puts;
-      reads = c.in_ok-put_numbers.ensures.counts.0 ∙ c.loop-at.invariant.reads;
-      writes = c.in_ok-put_numbers.ensures.counts.1 ∙ c.loop-at.invariant.writes;
+      counts = (c.in_ok-put_numbers.ensures.counts.0 ∙ c.loop-at.invariant.counts.0, c.in_ok-put_numbers.ensures.counts.1 ∙ c.loop-at.invariant.counts.1, c.in_ok-put_numbers.ensures.counts.2 ∙ c.loop-at.invariant.counts.2);
     }
 
 pub returns-in_err-put_numbers-clause-puts : goal.returns-in_err-put_numbers-clause-puts

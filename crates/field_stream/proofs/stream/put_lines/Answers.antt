@@ -5,14 +5,13 @@ use Rattle.field_stream.proofs.Moving.{moved_none, repeat_broken, repeat_moved}
 use Rattle.field_stream.proofs.stream.put_lines.Goals as goal
 
 pub loop-done-init : goal.loop-done-init
-loop-done-init g c = record { moved = moved_none _ _; reads = refl; writes = refl }
+loop-done-init g c = record { moved = moved_none _ _; counts = (refl, refl, refl) }
 
 pub loop-done-preserved : goal.loop-done-preserved
 loop-done-preserved g c =
     record {
       moved = repeat_moved c.loop-done._done (line_pushes c.args.line) _ _ _ _ _ _ c.loop-done.invariant.moved c.in_ok-put_line.ensures.moves;
-      reads = c.in_ok-put_line.ensures.counts.0 ∙ c.loop-done.invariant.reads;
-      writes = c.in_ok-put_line.ensures.counts.1 ∙ c.loop-done.invariant.writes;
+      counts = (c.in_ok-put_line.ensures.counts.0 ∙ c.loop-done.invariant.counts.0, c.in_ok-put_line.ensures.counts.1 ∙ c.loop-done.invariant.counts.1, c.in_ok-put_line.ensures.counts.2 ∙ c.loop-done.invariant.counts.2);
     }
 
 pub returns-in_err-put_line-clause-moves : goal.returns-in_err-put_line-clause-moves

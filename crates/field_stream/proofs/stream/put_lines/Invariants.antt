@@ -1,4 +1,4 @@
-use Rattle.std.proofs.Common.{◌≡◌}
+use Rattle.capture_desk.specs.Desks.{OnlyWrites}
 use Rattle.field_stream.specs.Pushes.{repeated}
 use Rattle.field_stream.specs.Lines.{line_pushes}
 use Rattle.field_stream.specs.Drafts.{IsMoved, pushed_all}
@@ -7,7 +7,6 @@ use Rattle.field_stream.proofs.stream.put_lines.Given as goal
 abbrev pub invariant-loop-done : goal.invariant-loop-done
 invariant-loop-done g l =
     record {
-      moved : IsMoved (pushed_all (repeated l._done (line_pushes l.line)) l.fn.draft) l.draft (g.D.Desk.told l.fn.desk) (g.D.Desk.told l.desk);
-      reads : g.D.Desk.read_faults l.desk ≡ g.D.Desk.read_faults l.fn.desk;
-      writes : g.D.Desk.write_faults l.desk ≡ g.D.Desk.write_faults l.fn.desk;
+      moved : IsMoved (pushed_all (repeated l._done (line_pushes l.line)) l.fn.draft) l.draft (g.D.Desk.seen l.fn.desk).told (g.D.Desk.seen l.desk).told;
+      counts : OnlyWrites (g.D.Desk.seen l.fn.desk) (g.D.Desk.seen l.desk);
     }
