@@ -1,18 +1,9 @@
--- What a proof sees of a desk, and how the steps that all commands share leave it.
+-- How the steps that all commands share leave a desk.
 use Rattle.std.specs.Prelude.{◌≡◌, ℕ, ◌+◌, ◌≤◌, ◌⊎◌, ⊤, false, true, List, [], ◌∷◌, ◌++◌, length, take, Option, Some, None, Result, Ok, Err}
-use Rattle.capture_desk.specs.Desks.{Inputs, Told, HasRisen, named, is_missing, after_open, after_create, after_write, after_finish, after_say}
+use Rattle.capture_desk.specs.Desks.{Call, CreateOut, Finish, Inputs, IsWriteFault, Seen, Told, HasRisen, counted, recorded, named, is_missing, after_open, after_create, after_write, after_finish, after_say}
 use Rattle.command_steps.specs.declared.answer.Answer.{Answer}
 use Rattle.command_steps.specs.declared.answer.Answer.TheVariants.{Usage, ReadFault, NoMemory}
 use Rattle.command_steps.specs.Texts.{answer_text}
-
--- what a desk tells, and how many faults it met
-pub record Seen : Type 0 where
-  pub told : Told
-  pub reads : ℕ
-  pub writes : ℕ
-
-abbrev pub seen_by : {S : Type 0} → (S → Told) → (S → ℕ) → (S → ℕ) → S → Seen
-seen_by told reads writes desk = record { told = told desk; reads = reads desk; writes = writes desk }
 
 -- what is told, apart from the input that is open
 abbrev pub apart : Told → Told
@@ -26,13 +17,26 @@ ReadsRose old new = HasRisen old.reads new.reads
 abbrev pub WritesRose : Seen → Seen → Type 0
 WritesRose old new = HasRisen old.writes new.writes
 
+-- one call at writing failed, and it is the last call of all
+abbrev pub LastWriteFailed : Seen → Seen → Type 0
+LastWriteFailed old new = (new.writes ≡ counted old.writes) × (new.failed ≡ true)
+
+-- no call follows one that fails at writing
+abbrev pub EndsAtFault : Seen → Seen → Type 0
+EndsAtFault old new = (new.writes ≡ old.writes) ⊎ LastWriteFailed old new
+
 abbrev pub SameCounts : Seen → Seen → Type 0
 SameCounts old new = (new.reads ≡ old.reads) × (new.writes ≡ old.writes)
 
 -- by the answer of a step that only reads
 abbrev pub CountsBy : {A E : Type 0} → Result A E → Seen → Seen → Type 0
 CountsBy (Ok _) old new = SameCounts old new
-CountsBy (Err _) old new = old.writes ≤ new.writes
+CountsBy (Err _) old new = new.writes ≡ old.writes
+
+-- by the answer of a step that only writes and says
+abbrev pub DeliveryCounts : {A E : Type 0} → Result A E → Seen → Seen → Type 0
+DeliveryCounts (Ok _) old new = SameCounts old new
+DeliveryCounts (Err _) old new = IsWriteFault old new
 
 -- ---- inputs
 
@@ -81,6 +85,13 @@ pub record Product : Type 0 where
   pub files : List (List ℕ × List ℕ)
   pub text : List ℕ
 
+-- the calls of an output that was created and finished, and of one that was not, since one of them or a write failed
+abbrev pub FileCalls : {A E : Type 0} → List ℕ → Result A E → Option (List Call) → Option (List Call) → Type 0
+FileCalls name (Ok _) old new = new ≡ recorded (Finish true) (recorded (CreateOut name true) old)
+FileCalls name (Err _) old new =
+    (new ≡ recorded (CreateOut name false) old)
+    ⊎ ((new ≡ recorded (CreateOut name true) old) ⊎ (new ≡ recorded (Finish false) (recorded (CreateOut name true) old)))
+
 -- a file, a name with bytes, was written whole
 abbrev pub after_file : List ℕ × List ℕ → Told → Told
 after_file file t = after_finish (after_write file.1 (after_create file.0 t))
@@ -103,11 +114,11 @@ IsPart (file ∷ files) text t new =
     ⊎ (((n : ℕ) × (n ≤ length file.1) × (new ≡ after_write (take n file.1) (after_create file.0 t)))
     ⊎ IsPart files text (after_file file t) new)
 
--- a text was said and nothing else changed; or a part of it, where the desk met a fault
+-- a text was said and nothing else changed; or a part of it, up to a fault of the desk, after which it was not called
 abbrev pub Says : List ℕ → Seen → Seen → Type 0
 Says text old new =
     (n : ℕ) × (n ≤ length text) × (apart new.told ≡ after_say (take n text) (apart old.told))
-    × ((n ≡ length text) ⊎ WritesRose old new)
+    × (((n ≡ length text) × (new.writes ≡ old.writes)) ⊎ LastWriteFailed old new)
 
 -- a refusal was said, or that there is no memory for its text; a fault of the words is said without memory
 abbrev pub NeedsMemory : Answer → Type 0

@@ -1,12 +1,12 @@
-//! The steps that all commands share: to read an input whole, and to say a text.
+//! The steps that all commands share: to read an input whole, and to say a refusal.
 
 ghost use Rattle.std.specs.Prelude.{◌≡◌, ◌+◌, ◌-◌, ◌<◌, ◌≤◌, ◌^◌, length, take, IfErr, IfOk, IsTrue, vec_len};
-ghost use Rattle.capture_desk.specs.Desks.{IsAllowed, Puts, ReadCounts, WriteCounts, after_read, after_say};
-ghost use Rattle.command_steps.specs.Desks.{CountsBy, Grows, OfInput, OfRest, Opened, Refused, Says, StopsAtRead, StopsReading, apart, seen_by};
+ghost use Rattle.capture_desk.specs.Desks.{IsAllowed, ReadCounts, after_read};
+ghost use Rattle.command_steps.specs.Desks.{CountsBy, Grows, OfInput, OfRest, Opened, Refused, Says, StopsAtRead, StopsReading, apart};
 
 use crate::answer::Answer;
 use crate::texts::{desc_text, geometry_text, malformed_text, plain_text, rejected_text};
-use capture_desk::{Desk, Failed, OpenFault};
+use capture_desk::{Desk, Failed, OpenFault, say_all};
 use std::alloc::Global;
 
 /// The most bytes that one read asks for.
@@ -14,9 +14,9 @@ pub const PIECE: usize = 65_536;
 
 /// Opens an input.
 pub fn open<D: Desk>(name: &str, desk: &mut D) -> Result<(), Answer>
-    requires { IsAllowed name.now (D.told desk.old).may_open }
-    ensures opened { Opened name.now result (seen_by D.told D.read_faults D.write_faults desk.old) (seen_by D.told D.read_faults D.write_faults desk.new) }
-    ensures counts { CountsBy result (seen_by D.told D.read_faults D.write_faults desk.old) (seen_by D.told D.read_faults D.write_faults desk.new) }
+    requires { IsAllowed name.now (D.seen desk.old).told.may_open }
+    ensures opened { Opened name.now result (D.seen desk.old) (D.seen desk.new) }
+    ensures counts { CountsBy result (D.seen desk.old) (D.seen desk.new) }
 {
     match desk.open_in(name) {
         Ok(()) => Ok(()),
@@ -44,15 +44,14 @@ pub fn read_into<D: Desk>(
     end: usize,
     desk: &mut D,
 ) -> Result<usize, Failed>
-    requires open { IsTrue (D.told desk.old).input_open }
+    requires open { IsTrue (D.seen desk.old).told.input_open }
     requires some { at < end }
     requires room { end ≤ length bytes.old }
     ensures few { IfOk result (λ n. n ≤ end - at) }
-    ensures grows { IfOk result (λ n. OfRest (D.told desk.old).rest (λ rest. Grows at n rest bytes.old bytes.new)) }
-    ensures told { IfOk result (λ n. D.told desk.new ≡ after_read n (D.told desk.old)) }
-    ensures same { IfErr result (λ _. D.told desk.new ≡ D.told desk.old) }
-    ensures counts { ReadCounts result (D.read_faults desk.old) (D.read_faults desk.new)
-        (D.write_faults desk.old) (D.write_faults desk.new) }
+    ensures grows { IfOk result (λ n. OfRest (D.seen desk.old).told.rest (λ rest. Grows at n rest bytes.old bytes.new)) }
+    ensures told { IfOk result (λ n. (D.seen desk.new).told ≡ after_read n (D.seen desk.old).told) }
+    ensures same { IfErr result (λ _. (D.seen desk.new).told ≡ (D.seen desk.old).told) }
+    ensures counts { ReadCounts result (D.seen desk.old) (D.seen desk.new) }
 {
     desk.read(&mut bytes[at..end])
 }
@@ -64,15 +63,15 @@ fn read_piece<D: Desk>(
     end: usize,
     desk: &mut D,
 ) -> Result<usize, Answer>
-    requires open { IsTrue (D.told desk.old).input_open }
+    requires open { IsTrue (D.seen desk.old).told.input_open }
     requires filled { at ≤ vec_len bytes.old }
     requires some { at < end }
     ensures few { IfOk result (λ n. (n ≤ end - at) × (at + n ≤ vec_len bytes.new)) }
-    ensures grows { IfOk result (λ n. OfRest (D.told desk.old).rest (λ rest. Grows at n rest bytes.old.items bytes.new.items)) }
-    ensures told { IfOk result (λ n. D.told desk.new ≡ after_read n (D.told desk.old)) }
-    ensures same { IfErr result (λ _. D.told desk.new ≡ D.told desk.old) }
-    ensures stops { IfErr result (λ answer. StopsAtRead answer (seen_by D.told D.read_faults D.write_faults desk.old) (seen_by D.told D.read_faults D.write_faults desk.new)) }
-    ensures counts { CountsBy result (seen_by D.told D.read_faults D.write_faults desk.old) (seen_by D.told D.read_faults D.write_faults desk.new) }
+    ensures grows { IfOk result (λ n. OfRest (D.seen desk.old).told.rest (λ rest. Grows at n rest bytes.old.items bytes.new.items)) }
+    ensures told { IfOk result (λ n. (D.seen desk.new).told ≡ after_read n (D.seen desk.old).told) }
+    ensures same { IfErr result (λ _. (D.seen desk.new).told ≡ (D.seen desk.old).told) }
+    ensures stops { IfErr result (λ answer. StopsAtRead answer (D.seen desk.old) (D.seen desk.new)) }
+    ensures counts { CountsBy result (D.seen desk.old) (D.seen desk.new) }
 {
     make_room(bytes, end)?;
     match read_into(bytes, at, end, desk) {
@@ -84,12 +83,12 @@ fn read_piece<D: Desk>(
 /// Reads the open input until it ends or one byte more than `most` was read. Each read asks for a piece, or
 /// for what is left up to that byte (this project's own rule).
 fn read_rest<D: Desk>(alloc: Global, most: usize, desk: &mut D) -> Result<Vec<u8>, Answer>
-    requires open { IsTrue (D.told desk.old).input_open }
+    requires open { IsTrue (D.seen desk.old).told.input_open }
     requires few { most < 2 ^ 32 }
-    ensures bytes { IfOk result (λ bytes. OfRest (D.told desk.old).rest (λ rest. bytes.items ≡ take (most + 1) rest)) }
-    ensures told { apart (D.told desk.new) ≡ apart (D.told desk.old) }
-    ensures stops { IfErr result (λ answer. StopsAtRead answer (seen_by D.told D.read_faults D.write_faults desk.old) (seen_by D.told D.read_faults D.write_faults desk.new)) }
-    ensures counts { CountsBy result (seen_by D.told D.read_faults D.write_faults desk.old) (seen_by D.told D.read_faults D.write_faults desk.new) }
+    ensures bytes { IfOk result (λ bytes. OfRest (D.seen desk.old).told.rest (λ rest. bytes.items ≡ take (most + 1) rest)) }
+    ensures told { apart (D.seen desk.new).told ≡ apart (D.seen desk.old).told }
+    ensures stops { IfErr result (λ answer. StopsAtRead answer (D.seen desk.old) (D.seen desk.new)) }
+    ensures counts { CountsBy result (D.seen desk.old) (D.seen desk.new) }
 {
     let mut bytes = Vec::new(alloc);
     let mut at = 0;
@@ -112,42 +111,29 @@ pub fn read_whole<D: Desk>(
     most: usize,
     desk: &mut D,
 ) -> Result<Vec<u8>, Answer>
-    requires allowed { IsAllowed name.now (D.told desk.old).may_open }
+    requires allowed { IsAllowed name.now (D.seen desk.old).told.may_open }
     requires few { most < 2 ^ 32 }
-    ensures bytes { IfOk result (λ bytes. OfInput name.now (D.told desk.old).inputs (λ content. bytes.items ≡ take (most + 1) content)) }
-    ensures told { apart (D.told desk.new) ≡ apart (D.told desk.old) }
-    ensures stops { IfErr result (λ answer. StopsReading name.now answer (seen_by D.told D.read_faults D.write_faults desk.old) (seen_by D.told D.read_faults D.write_faults desk.new)) }
-    ensures counts { CountsBy result (seen_by D.told D.read_faults D.write_faults desk.old) (seen_by D.told D.read_faults D.write_faults desk.new) }
+    ensures bytes { IfOk result (λ bytes. OfInput name.now (D.seen desk.old).told.inputs (λ content. bytes.items ≡ take (most + 1) content)) }
+    ensures told { apart (D.seen desk.new).told ≡ apart (D.seen desk.old).told }
+    ensures stops { IfErr result (λ answer. StopsReading name.now answer (D.seen desk.old) (D.seen desk.new)) }
+    ensures counts { CountsBy result (D.seen desk.old) (D.seen desk.new) }
 {
     open(name, desk)?;
     read_rest(alloc, most, desk)
 }
 
-/// Says a whole text. Where the desk fails, the bytes before it were said.
-pub fn say_all<D: Desk>(text: &[u8], desk: &mut D) -> Result<(), Failed>
-    ensures says { Puts text.now result after_say (D.told desk.old) (D.told desk.new) }
-    ensures counts { WriteCounts result (D.read_faults desk.old) (D.read_faults desk.new)
-        (D.write_faults desk.old) (D.write_faults desk.new) }
-{
-    let mut at = 0;
-    while at < text.len() {
-        at += desk.say(&text[at..])?;
-    }
-    Ok(())
-}
-
 /// Says a text as the last act: a fault of the desk changes nothing more.
 fn say_last<D: Desk>(text: &[u8], desk: &mut D)
-    ensures reads { D.read_faults desk.old ≤ D.read_faults desk.new }
-    ensures says { Says text.now (seen_by D.told D.read_faults D.write_faults desk.old) (seen_by D.told D.read_faults D.write_faults desk.new) }
+    ensures reads { (D.seen desk.new).reads ≡ (D.seen desk.old).reads }
+    ensures says { Says text.now (D.seen desk.old) (D.seen desk.new) }
 {
-    let _ = say_all(text, desk);
+    let _ = say_all(desk, text);
 }
 
 /// Says the text of a refusal, and answers it; `NoMemory` where there is none for the text.
 pub fn refuse<D: Desk>(alloc: Global, answer: Answer, desk: &mut D) -> Answer
-    ensures reads { D.read_faults desk.old ≤ D.read_faults desk.new }
-    ensures refused { Refused answer result (seen_by D.told D.read_faults D.write_faults desk.old) (seen_by D.told D.read_faults D.write_faults desk.new) }
+    ensures reads { (D.seen desk.new).reads ≡ (D.seen desk.old).reads }
+    ensures refused { Refused answer result (D.seen desk.old) (D.seen desk.new) }
 {
     let text = match &answer {
         Answer::Malformed(input, fault) => malformed_text(alloc, *input, fault.at, fault.kind),

@@ -8,6 +8,6 @@ mod outputs;
 mod texts;
 
 pub use answer::Answer;
-pub use desks::{PIECE, open, read_into, read_whole, refuse, say_all};
+pub use desks::{PIECE, open, read_into, read_whole, refuse};
 pub use outputs::{write_image_file, write_program_file};
 pub use texts::{ACCEPTED, built_text, made_text, report_text};

@@ -1,10 +1,10 @@
 //! Whole outputs: each is created, written and finished.
 
 ghost use Rattle.std.specs.Prelude.{◌≡◌, MatchResult};
-ghost use Rattle.capture_desk.specs.Desks.{IsAllowed, WriteCounts, after_create, after_finish, after_write};
+ghost use Rattle.capture_desk.specs.Desks.{IsAllowed, after_create, after_finish, after_write};
 ghost use Rattle.capture_file.specs.Images.{image_of};
 ghost use Rattle.capture_file.specs.Programs.{spelled};
-ghost use Rattle.command_steps.specs.Desks.{IsFilePart, after_file};
+ghost use Rattle.command_steps.specs.Desks.{DeliveryCounts, FileCalls, IsFilePart, after_file};
 
 use capture_desk::{Desk, Failed};
 use capture_file::{write_image, write_program};
@@ -13,12 +13,12 @@ use risc_verify::Program;
 
 /// Writes the image of a memory.
 pub fn write_image_file<R: Ram, D: Desk>(name: &str, ram: &R, desk: &mut D) -> Result<(), Failed>
-    requires { IsAllowed name.now (D.told desk.old).may_create }
+    requires { IsAllowed name.now (D.seen desk.old).told.may_create }
     ensures left { MatchResult result
-        (λ _. D.told desk.new ≡ after_file (name.now, image_of (R.memory ram.now)) (D.told desk.old))
-        (λ _. IsFilePart name.now (image_of (R.memory ram.now)) (D.told desk.old) (D.told desk.new)) }
-    ensures counts { WriteCounts result (D.read_faults desk.old) (D.read_faults desk.new)
-        (D.write_faults desk.old) (D.write_faults desk.new) }
+        (λ _. (D.seen desk.new).told ≡ after_file (name.now, image_of (R.memory ram.now)) (D.seen desk.old).told)
+        (λ _. IsFilePart name.now (image_of (R.memory ram.now)) (D.seen desk.old).told (D.seen desk.new).told) }
+    ensures counts { DeliveryCounts result (D.seen desk.old) (D.seen desk.new) }
+    ensures calls { FileCalls name.now result (D.seen desk.old).calls (D.seen desk.new).calls }
 {
     desk.create_out(name)?;
     write_image(ram, desk)?;
@@ -35,12 +35,12 @@ pub fn write_program_file<D: Desk>(
     fill: u8,
     desk: &mut D,
 ) -> Result<(), Failed>
-    requires { IsAllowed name.now (D.told desk.old).may_create }
+    requires { IsAllowed name.now (D.seen desk.old).told.may_create }
     ensures left { MatchResult result
-        (λ _. D.told desk.new ≡ after_file (name.now, spelled program.now fill) (D.told desk.old))
-        (λ _. IsFilePart name.now (spelled program.now fill) (D.told desk.old) (D.told desk.new)) }
-    ensures counts { WriteCounts result (D.read_faults desk.old) (D.read_faults desk.new)
-        (D.write_faults desk.old) (D.write_faults desk.new) }
+        (λ _. (D.seen desk.new).told ≡ after_file (name.now, spelled program.now fill) (D.seen desk.old).told)
+        (λ _. IsFilePart name.now (spelled program.now fill) (D.seen desk.old).told (D.seen desk.new).told) }
+    ensures counts { DeliveryCounts result (D.seen desk.old) (D.seen desk.new) }
+    ensures calls { FileCalls name.now result (D.seen desk.old).calls (D.seen desk.new).calls }
 {
     desk.create_out(name)?;
     write_program(program, fill, desk)?;

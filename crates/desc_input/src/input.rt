@@ -2,7 +2,7 @@
 
 ghost use Rattle.std.specs.Prelude.{◌≡◌, ◌≤◌, length, IfErr, IfOk};
 ghost use Rattle.capture_desk.specs.Desks.{IsAllowed};
-ghost use Rattle.command_steps.specs.Desks.{CountsBy, OfInput, StopsAt, apart, seen_by};
+ghost use Rattle.command_steps.specs.Desks.{CountsBy, OfInput, StopsAt, apart};
 ghost use Rattle.desc_input.specs.Descriptions.{Describes, IsBadDesc, IsRefused, longest_description};
 
 use capture_desc::{DescError, read_desc};
@@ -37,11 +37,11 @@ fn check_bytes(alloc: Global, bytes: &[u8]) -> Result<Checked, Answer>
 /// bytes, `BadDesc` where its text describes no capture, `BadGeometry` with the first fault of the
 /// geometry (this project's own rules).
 pub fn check_file<D: Desk>(alloc: Global, name: &str, desk: &mut D) -> Result<Checked, Answer>
-    requires { IsAllowed name.now (D.told desk.old).may_open }
-    ensures describes { IfOk result (λ checked. OfInput name.now (D.told desk.old).inputs (λ bytes. Describes bytes checked)) }
-    ensures stops { IfErr result (λ answer. StopsAt IsBadDesc name.now answer (seen_by D.told D.read_faults D.write_faults desk.old) (seen_by D.told D.read_faults D.write_faults desk.new)) }
-    ensures told { apart (D.told desk.new) ≡ apart (D.told desk.old) }
-    ensures counts { CountsBy result (seen_by D.told D.read_faults D.write_faults desk.old) (seen_by D.told D.read_faults D.write_faults desk.new) }
+    requires { IsAllowed name.now (D.seen desk.old).told.may_open }
+    ensures describes { IfOk result (λ checked. OfInput name.now (D.seen desk.old).told.inputs (λ bytes. Describes bytes checked)) }
+    ensures stops { IfErr result (λ answer. StopsAt IsBadDesc name.now answer (D.seen desk.old) (D.seen desk.new)) }
+    ensures told { apart (D.seen desk.new).told ≡ apart (D.seen desk.old).told }
+    ensures counts { CountsBy result (D.seen desk.old) (D.seen desk.new) }
 {
     let bytes = read_whole(alloc, name, LONGEST_DESCRIPTION, desk)?;
     if bytes.len() > LONGEST_DESCRIPTION {

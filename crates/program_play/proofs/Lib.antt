@@ -1,4 +1,5 @@
 pub mod Playing
+mod Forms
 pub mod Loading
 pub mod Fitting
 pub mod Lengths

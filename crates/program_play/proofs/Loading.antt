@@ -1,11 +1,11 @@
 -- Laws of programs that are loaded and streams that are played.
 use Rattle.std.proofs.Common.{◌≡◌, ℕ, inl, true, false, Bool, List, Option, Some, None, Err, sym, ap, subst}
-use Rattle.capture_desk.specs.Desks.{HasRisen, Inputs, Told, named, is_missing, first_rest, after_open}
+use Rattle.capture_desk.specs.Desks.{Seen, HasRisen, Inputs, Told, named, is_missing, first_rest, after_open}
 use Rattle.command_steps.specs.declared.answer.Answer.{Answer}
 use Rattle.command_steps.specs.declared.answer.Answer.TheVariants.{ReadFault, Malformed, NoMemory}
 use Rattle.capture_file.specs.declared.Input.TheVariants.{Stream}
 use Rattle.capture_file.specs.Streams.{steps_of}
-use Rattle.command_steps.specs.Desks.{Seen, OfInput, OfRest, OfFile, SameCounts, StopsAt, apart}
+use Rattle.command_steps.specs.Desks.{OfInput, OfRest, OfFile, SameCounts, StopsAt, apart}
 use Rattle.program_play.specs.Plays.{StopsPlaying, longest_stream}
 use Rattle.program_play.specs.Programs.{IsBadStream}
 
@@ -35,7 +35,7 @@ rose_from old mid new e h = subst (λ n. HasRisen n new) e h
 
 -- why a stream that was opened stops
 pub stops_at_stream : (answer : Answer) (name : List ℕ) (old mid new : Seen) → is_missing name old.told.inputs ≡ false → mid.told ≡ after_open name old.told →
-    SameCounts old mid → StopsPlaying mid.told.rest answer mid new → StopsAt IsBadStream name answer old new
+    SameCounts old mid → StopsPlaying false mid.told.rest answer mid new → StopsAt IsBadStream name answer old new
 stops_at_stream ReadFault name old mid new there opened counts h = inl (rose_from old.reads mid.reads new.reads counts.0 h)
 stops_at_stream (Malformed Stream fault) name old mid new there opened counts h =
     opened_input name old.told mid.told (λ bytes. steps_of longest_stream false bytes ≡ Err fault) there opened h

@@ -1,5 +1,5 @@
--- Laws of runs and of streams that come in pieces.
-use Rattle.std.proofs.Common.{◌≡◌, ℕ, ◌+◌, ◌-◌, ◌<◌, ◌≤◌, ◌⊎◌, inl, inr, false, List, [], ◌∷◌, ◌++◌, length, take, drop, option_map, Option, Some, None, Ok, Err, Result, refl, sym, ap, subst, ◌∙◌, arith, length-drop, length-take, zero-add, append_assoc}
+-- Laws of players and of streams that come in pieces.
+use Rattle.std.proofs.Common.{◌≡◌, ℕ, ◌+◌, ◌-◌, ◌<◌, ◌≤◌, ◌⊎◌, inl, inr, Bool, false, List, [], ◌∷◌, ◌++◌, length, take, drop, option_map, Option, Some, None, Ok, Err, Result, refl, sym, ap, subst, ◌∙◌, arith, length-drop, length-take, zero-add, append_assoc}
 use Rattle.std.specs.Prelude.{IfErr, IfOk}
 use Rattle.std.proofs.lemmas.Bool.{lt-ltb}
 use Rattle.std.proofs.Math.Seq.{take-add}
@@ -13,34 +13,35 @@ use Rattle.machine_model.proofs.Runs.{run-append}
 use Rattle.capture_file.specs.declared.Step.{Step}
 use Rattle.capture_file.specs.Streams.{Reading, reading, with_step, Ending, Unfinished, Ended, Bad, atomic, steps_run, stream_of, whole_file, within_if, too_long, judged}
 use Rattle.capture_file.specs.Readers.{Reader, fresh, resumed, closed_by}
-use Rattle.program_play.specs.Plays.{GoesOn, Handed, HandedAll, HandedFront, HandedPart, HasPlayed, IsAtFault, longest_stream}
+use Rattle.program_play.specs.Plays.{GoesOn, Handed, HandedAll, HandedFront, HandedPart, HasPlayed, IsAtFault, PlaysAll, acted, longest_stream, machine_act}
 
-pub GoesOn-itself : (m : State) (whole : Reading) → GoesOn m whole m whole
-GoesOn-itself m whole = record { ran = refl; ending = refl }
+module _ {S : Type 0} (act : Step → S → S) where
+  pub GoesOn-itself : (p : S) (whole : Reading) → GoesOn act p whole p whole
+  GoesOn-itself p whole = record { ran = refl; ending = refl }
 
-pub GoesOn-then : (m : State) (whole : Reading) (now : State) (left : Reading) (later : State) (less : Reading) →
-    GoesOn m whole now left → GoesOn now left later less → GoesOn m whole later less
-GoesOn-then m whole now left later less one two = record { ran = two.ran ∙ one.ran; ending = two.ending ∙ one.ending }
+  pub GoesOn-then : (p : S) (whole : Reading) (now : S) (left : Reading) (later : S) (less : Reading) →
+      GoesOn act p whole now left → GoesOn act now left later less → GoesOn act p whole later less
+  GoesOn-then p whole now left later less one two = record { ran = two.ran ∙ one.ran; ending = two.ending ∙ one.ending }
 
--- a step is taken
-pub GoesOn-step : (m : State) (step : Step) (left : Reading) → GoesOn m (with_step step left) (run m (atomic step)) left
-GoesOn-step m step left = record { ran = sym (run-append m (atomic step) (steps_run left.steps)); ending = refl }
+  -- a step is taken
+  pub GoesOn-step : (p : S) (step : Step) (left : Reading) → GoesOn act p (with_step step left) (act step p) left
+  GoesOn-step p step left = record { ran = refl; ending = refl }
 
--- two pieces are one
-pub Handed-then : (m now later : State) (reader after last : Reader) (first second : List ℕ) →
-    Handed m reader first now after → Handed now after second later last → Handed m reader (first ++ second) later last
-Handed-then m now later reader after last first second one two more =
-    subst (λ bytes. GoesOn m (resumed reader bytes) later (resumed last more)) (sym (append_assoc first second more))
-    (GoesOn-then m (resumed reader (first ++ (second ++ more))) now (resumed after (second ++ more)) later (resumed last more)
-    (one (second ++ more)) (two more))
+  -- two pieces are one
+  pub Handed-then : (p now later : S) (reader after last : Reader) (first second : List ℕ) →
+      Handed act p reader first now after → Handed act now after second later last → Handed act p reader (first ++ second) later last
+  Handed-then p now later reader after last first second one two more =
+      subst (λ bytes. GoesOn act p (resumed reader bytes) later (resumed last more)) (sym (append_assoc first second more))
+      (GoesOn-then p (resumed reader (first ++ (second ++ more))) now (resumed after (second ++ more)) later (resumed last more)
+      (one (second ++ more)) (two more))
 
--- what an answer of the reader says of what is left
-pub GoesOn-after : (m : State) (step : Step) (whole left : Reading) (now : State) → whole ≡ with_step step left → now ≡ run m (atomic step) → GoesOn m whole now left
-GoesOn-after m step whole left now e f =
-    subst (λ w. GoesOn m w now left) (sym e) (subst (λ n. GoesOn m (with_step step left) n left) (sym f) (GoesOn-step m step left))
+  -- what an answer of the reader says of what is left
+  pub GoesOn-after : (p : S) (step : Step) (whole left : Reading) (now : S) → whole ≡ with_step step left → now ≡ act step p → GoesOn act p whole now left
+  GoesOn-after p step whole left now e f =
+      subst (λ w. GoesOn act p w now left) (sym e) (subst (λ n. GoesOn act p (with_step step left) n left) (sym f) (GoesOn-step p step left))
 
-pub GoesOn-same : (m : State) (whole left : Reading) → whole ≡ left → GoesOn m whole m left
-GoesOn-same m whole left e = record { ran = ap (λ (r : Reading). run m (steps_run r.steps)) (sym e); ending = ap (λ (r : Reading). r.ending) (sym e) }
+  pub GoesOn-same : (p : S) (whole left : Reading) → whole ≡ left → GoesOn act p whole p left
+  GoesOn-same p whole left e = record { ran = ap (λ (r : Reading). acted act r.steps p) (sym e); ending = ap (λ (r : Reading). r.ending) (sym e) }
 
 -- all of a piece
 pub drop_whole : (piece more : List ℕ) → drop (length piece) piece ++ more ≡ more
@@ -48,23 +49,23 @@ drop_whole [] more = refl
 drop_whole (x ∷ piece) more = drop_whole piece more
 
 -- the bytes after the first ones
-pub GoesOn-from : (at used : ℕ) (m : State) (reader after last : Reader) (piece : List ℕ) (now later : State) →
-    ((more : List ℕ) → GoesOn m (resumed reader (piece ++ more)) now (resumed after (drop at piece ++ more))) →
-    ((more : List ℕ) → GoesOn now (resumed after (drop at piece ++ more)) later (resumed last (drop used (drop at piece) ++ more))) →
-    (more : List ℕ) → GoesOn m (resumed reader (piece ++ more)) later (resumed last (drop (at + used) piece ++ more))
-GoesOn-from at used m reader after last piece now later one two more =
-    subst (λ bytes. GoesOn m (resumed reader (piece ++ more)) later (resumed last (bytes ++ more))) (drop-drop used at piece)
-    (GoesOn-then m (resumed reader (piece ++ more)) now (resumed after (drop at piece ++ more)) later (resumed last (drop used (drop at piece) ++ more)) (one more) (two more))
+pub GoesOn-from : {S : Type 0} (act : Step → S → S) (at used : ℕ) (m : S) (reader after last : Reader) (piece : List ℕ) (now later : S) →
+    ((more : List ℕ) → GoesOn act m (resumed reader (piece ++ more)) now (resumed after (drop at piece ++ more))) →
+    ((more : List ℕ) → GoesOn act now (resumed after (drop at piece ++ more)) later (resumed last (drop used (drop at piece) ++ more))) →
+    (more : List ℕ) → GoesOn act m (resumed reader (piece ++ more)) later (resumed last (drop (at + used) piece ++ more))
+GoesOn-from act at used m reader after last piece now later one two more =
+    subst (λ bytes. GoesOn act m (resumed reader (piece ++ more)) later (resumed last (bytes ++ more))) (drop-drop used at piece)
+    (GoesOn-then act m (resumed reader (piece ++ more)) now (resumed after (drop at piece ++ more)) later (resumed last (drop used (drop at piece) ++ more)) (one more) (two more))
 
 -- where nothing was handed yet
-module _ (m now later : State) (reader after last : Reader) (piece : List ℕ) (run : ℕ) (none : run ≡ 0) (part : HandedPart run m reader piece now after) where
-  before : (more : List ℕ) → GoesOn m (resumed reader (piece ++ more)) now (resumed after (piece ++ more))
+module _ {S : Type 0} (act : Step → S → S) (m now later : S) (reader after last : Reader) (piece : List ℕ) (run : ℕ) (none : run ≡ 0) (part : HandedPart act run m reader piece now after) where
+  before : (more : List ℕ) → GoesOn act m (resumed reader (piece ++ more)) now (resumed after (piece ++ more))
   before more = let some = part.2 more in rw none at some
 
-  front_after : (o : Option ℕ) → HandedFront o now after piece later last → HandedFront o m reader piece later last
+  front_after : (o : Option ℕ) → HandedFront act o now after piece later last → HandedFront act o m reader piece later last
   front_after None front = (
     omega (arith, none, part.1, front.0),
-    λ more. GoesOn-then m (resumed reader (piece ++ more)) now (resumed after (piece ++ more)) later (resumed last more) (before more) (front.1 more),
+    λ more. GoesOn-then act m (resumed reader (piece ++ more)) now (resumed after (piece ++ more)) later (resumed last more) (before more) (front.1 more),
   )
   front_after (Some used) front = (
     front.0,
@@ -72,11 +73,11 @@ module _ (m now later : State) (reader after last : Reader) (piece : List ℕ) (
       front.1.0,
       omega (arith, none, part.1, front.1.1),
       λ more.
-          GoesOn-then m (resumed reader (piece ++ more)) now (resumed after (piece ++ more)) later (resumed last (drop used piece ++ more)) (before more) (front.1.2 more),
+          GoesOn-then act m (resumed reader (piece ++ more)) now (resumed after (piece ++ more)) later (resumed last (drop used piece ++ more)) (before more) (front.1.2 more),
     ),
   )
 
-  pub handed_after : (r : Result (Option ℕ) FileFault) → IfOk r (λ o. HandedFront o now after piece later last) → IfOk r (λ o. HandedFront o m reader piece later last)
+  pub handed_after : (r : Result (Option ℕ) FileFault) → IfOk r (λ o. HandedFront act o now after piece later last) → IfOk r (λ o. HandedFront act o m reader piece later last)
   handed_after (Ok o) front = front_after o front
   handed_after (Err fault) front = tt
 
@@ -85,12 +86,12 @@ module _ (m now later : State) (reader after last : Reader) (piece : List ℕ) (
   fault_after (Err fault) at = λ more. sym (before more).ending ∙ at more
 
 -- what is read next is handed on
-module _ (m now : State) (after : Reader) where
-  abbrev pub HandedTo : ℕ → Option (List ℕ) → State → Reader → Type 0
-  HandedTo at o later last = OfRest o (λ bytes. (at ≤ length bytes) × Handed m (fresh longest_stream false) (take at bytes) later last)
+module _ {S : Type 0} (act : Step → S → S) (chained : Bool) (m now : S) (after : Reader) where
+  abbrev pub HandedTo : ℕ → Option (List ℕ) → S → Reader → Type 0
+  HandedTo at o later last = OfRest o (λ bytes. (at ≤ length bytes) × Handed act m (fresh longest_stream chained) (take at bytes) later last)
 
-  pub handed_more : (at n : ℕ) (o : Option (List ℕ)) (old new : List ℕ) (later : State) (last : Reader) → HandedTo at o now after →
-      OfRest (option_map (λ bytes. drop at bytes) o) (λ rest. Grows 0 n rest old new) → Handed now after (take n new) later last →
+  pub handed_more : (at n : ℕ) (o : Option (List ℕ)) (old new : List ℕ) (later : S) (last : Reader) → HandedTo at o now after →
+      OfRest (option_map (λ bytes. drop at bytes) o) (λ rest. Grows 0 n rest old new) → Handed act now after (take n new) later last →
       HandedTo (at + n) o later last
   handed_more at n None old new later last one grows two = tt
   handed_more at n (Some bytes) old new later last one grows two =
@@ -98,13 +99,13 @@ module _ (m now : State) (after : Reader) where
       let whole : take at bytes ++ take n new ≡ take (at + n) bytes = ap (λ x. take at bytes ++ x) piece ∙ sym (take-add at n bytes) in
       let few = simp length-drop at grows.0 in (
         omega (arith, few, one.0),
-        subst (λ x. Handed m (fresh longest_stream false) x later last) whole
-            (Handed-then m now later (fresh longest_stream false) after last (take at bytes) (take n new) one.1 two),
+        subst (λ x. Handed act m (fresh longest_stream chained) x later last) whole
+            (Handed-then act m now later (fresh longest_stream chained) after last (take at bytes) (take n new) one.1 two),
       )
 
   pub fault_found : (at n : ℕ) (o : Option (List ℕ)) (old new : List ℕ) (fault : FileFault) → HandedTo at o now after →
       OfRest (option_map (λ bytes. drop at bytes) o) (λ rest. Grows 0 n rest old new) → IsAtFault after (take n new) fault →
-      OfRest o (λ bytes. steps_of longest_stream false bytes ≡ Err fault)
+      OfRest o (λ bytes. steps_of longest_stream chained bytes ≡ Err fault)
   unfolding resumed
   fault_found at n None old new fault one grows is = tt
   fault_found at n (Some bytes) old new fault one grows is =
@@ -112,18 +113,18 @@ module _ (m now : State) (after : Reader) where
       let rest : List ℕ = drop n (drop at bytes) in
       let whole : take at bytes ++ (take n new ++ rest) ≡ bytes =
       ap (λ x. take at bytes ++ (x ++ rest)) piece ∙ ap (λ x. take at bytes ++ x) (take-append-drop n (drop at bytes)) ∙ take-append-drop at bytes in
-      let ending : (stream_of longest_stream false bytes).ending ≡ Bad fault =
-      ap (λ x. (stream_of longest_stream false x).ending) (sym whole) ∙ sym (one.1 (take n new ++ rest)).ending ∙ is rest in
-      ap (λ e. whole_file (length bytes) (stream_of longest_stream false bytes).steps e) ending
+      let ending : (stream_of longest_stream chained bytes).ending ≡ Bad fault =
+      ap (λ x. (stream_of longest_stream chained x).ending) (sym whole) ∙ sym (one.1 (take n new ++ rest)).ending ∙ is rest in
+      ap (λ e. whole_file (length bytes) (stream_of longest_stream chained bytes).steps e) ending
 
   pub ended : (at n : ℕ) (o : Option (List ℕ)) (old new : List ℕ) → HandedTo at o now after →
       OfRest (option_map (λ bytes. drop at bytes) o) (λ rest. Grows 0 n rest old new) → n ≡ 0 → after.place ≡ at →
-      OfRest o (λ bytes. HandedAll bytes m now after)
+      OfRest o (λ bytes. HandedAll act chained bytes m now after)
   ended at n None old new one grows is place = tt
   ended at n (Some bytes) old new one grows is place =
       let none : length bytes - at ≡ 0 = sym (length-drop at bytes) ∙ ap length (grows.1 is) in
       record {
-        handed = subst (λ k. Handed m (fresh longest_stream false) (take k bytes) now after) (sym place) one.1;
+        handed = subst (λ k. Handed act m (fresh longest_stream chained) (take k bytes) now after) (sym place) one.1;
         all = inl (omega (arith, none, one.0, place));
       }
 
@@ -164,54 +165,69 @@ sure_beyond place count limit Ended = tt
 sure_beyond place count limit (Bad fault) = tt
 
 -- bytes beyond the limit change nothing
-record IsEnough (place : ℕ) (bytes : List ℕ) : Type 0 where
-  pub same : stream_of longest_stream false (take place bytes) ≡ stream_of longest_stream false bytes
-  pub sure : IsSure place (length bytes) (stream_of longest_stream false bytes).ending
+record IsEnough (chained : Bool) (place : ℕ) (bytes : List ℕ) : Type 0 where
+  pub same : stream_of longest_stream chained (take place bytes) ≡ stream_of longest_stream chained bytes
+  pub sure : IsSure place (length bytes) (stream_of longest_stream chained bytes).ending
 
-beyond : (limit : ℕ) (bytes : List ℕ) → limit < length bytes → stream_of limit false bytes ≡ reading (judged false (take limit bytes)).steps (too_long limit (judged false (take limit bytes)).ending)
+beyond : (chained : Bool) (limit : ℕ) (bytes : List ℕ) → limit < length bytes → stream_of limit chained bytes ≡ reading (judged chained (take limit bytes)).steps (too_long limit (judged chained (take limit bytes)).ending)
 unfolding stream_of
-beyond limit bytes over = ap (λ b. within_if b limit (judged false (take limit bytes))) (lt-ltb limit (length bytes) over)
+beyond chained limit bytes over = ap (λ b. within_if b limit (judged chained (take limit bytes))) (lt-ltb limit (length bytes) over)
 
-enough : (place : ℕ) (bytes : List ℕ) → (place ≡ length bytes) ⊎ ((longest_stream < place) × (place ≤ length bytes)) → IsEnough place bytes
-enough place bytes (inl is) =
+enough : (chained : Bool) (place : ℕ) (bytes : List ℕ) → (place ≡ length bytes) ⊎ ((longest_stream < place) × (place ≤ length bytes)) → IsEnough chained place bytes
+enough chained place bytes (inl is) =
     record {
-      same = ap (stream_of longest_stream false) (take_all place bytes (omega (arith, is)));
+      same = ap (stream_of longest_stream chained) (take_all place bytes (omega (arith, is)));
       sure = sure_within place (length bytes) _ is;
     }
-enough place bytes (inr h) =
+enough chained place bytes (inr h) =
     let size = length-take place bytes in
     let front : take longest_stream (take place bytes) ≡ take longest_stream bytes = take-take longest_stream place bytes (omega (arith, h.0)) in
     let long : longest_stream < length bytes = omega (arith, h.0, h.1) in
-    let whole = beyond longest_stream bytes long in
-    let part = beyond longest_stream (take place bytes) (omega (arith, h.0, h.1, size)) in
+    let whole = beyond chained longest_stream bytes long in
+    let part = beyond chained longest_stream (take place bytes) (omega (arith, h.0, h.1, size)) in
     record {
-      same = part ∙ ap (λ f. reading (judged false f).steps (too_long longest_stream (judged false f).ending)) front ∙ sym whole;
-      sure = subst (λ (r : Reading). IsSure place (length bytes) r.ending) (sym whole) (sure_beyond place (length bytes) longest_stream (judged false (take longest_stream bytes)).ending);
+      same = part ∙ ap (λ f. reading (judged chained f).steps (too_long longest_stream (judged chained f).ending)) front ∙ sym whole;
+      sure = subst (λ (r : Reading). IsSure place (length bytes) r.ending) (sym whole) (sure_beyond place (length bytes) longest_stream (judged chained (take longest_stream bytes)).ending);
     }
 
-goes_on : (bytes : List ℕ) (m now : State) (after : Reader) → HandedAll bytes m now after → GoesOn m (stream_of longest_stream false bytes) now (resumed after [])
+goes_on : {S : Type 0} (act : Step → S → S) (chained : Bool) (bytes : List ℕ) (m now : S) (after : Reader) → HandedAll act chained bytes m now after → GoesOn act m (stream_of longest_stream chained bytes) now (resumed after [])
 unfolding resumed
-goes_on bytes m now after h =
-    subst (λ r. GoesOn m r now (resumed after []))
-    (ap (stream_of longest_stream false) (append-nil (take after.place bytes)) ∙ (enough after.place bytes h.all).same)
+goes_on act chained bytes m now after h =
+    subst (λ r. GoesOn act m r now (resumed after []))
+    (ap (stream_of longest_stream chained) (append-nil (take after.place bytes)) ∙ (enough chained after.place bytes h.all).same)
     (h.handed [])
 
-pub played : (o : Option (List ℕ)) (m now : State) (after : Reader) → OfRest o (λ bytes. HandedAll bytes m now after) →
-    (resumed after []).steps ≡ [] → Ok tt ≡ closed_by after.place (resumed after []).ending → OfRest o (λ bytes. HasPlayed bytes m now)
-played None m now after h none is = tt
-played (Some bytes) m now after h none is =
-    let on = goes_on bytes m now after h in (
-      (stream_of longest_stream false bytes).steps,
-      ap (whole_file (length bytes) (stream_of longest_stream false bytes).steps) (sym on.ending)
-          ∙ right_file after.place (length bytes) (stream_of longest_stream false bytes).steps (resumed after []).ending (sym is),
-      ap (λ steps. run now (steps_run steps)) (sym none) ∙ on.ran,
-    )
+module _ {S : Type 0} (act : Step → S → S) (chained : Bool) (o : Option (List ℕ)) (m now : S) (after : Reader) where
+  pub played : OfRest o (λ bytes. HandedAll act chained bytes m now after) →
+      (resumed after []).steps ≡ [] → Ok tt ≡ closed_by after.place (resumed after []).ending → OfRest o (λ bytes. PlaysAll act chained bytes m now)
+  played h none is = of_rest o h
+    where
+      of_rest : (o : Option (List ℕ)) → OfRest o (λ bytes. HandedAll act chained bytes m now after) → OfRest o (λ bytes. PlaysAll act chained bytes m now)
+      of_rest None h = tt
+      of_rest (Some bytes) h =
+          let on = goes_on act chained bytes m now after h in (
+            (stream_of longest_stream chained bytes).steps,
+            ap (whole_file (length bytes) (stream_of longest_stream chained bytes).steps) (sym on.ending)
+                ∙ right_file after.place (length bytes) (stream_of longest_stream chained bytes).steps (resumed after []).ending (sym is),
+            ap (λ steps. acted act steps now) (sym none) ∙ on.ran,
+          )
 
-pub not_played : (o : Option (List ℕ)) (m now : State) (after : Reader) (fault : FileFault) → OfRest o (λ bytes. HandedAll bytes m now after) →
-    Err fault ≡ closed_by after.place (resumed after []).ending → OfRest o (λ bytes. steps_of longest_stream false bytes ≡ Err fault)
-not_played None m now after fault h is = tt
-not_played (Some bytes) m now after fault h is =
-    let on = goes_on bytes m now after h in
-    let whole = stream_of longest_stream false bytes in
-    wrong_file after.place (length bytes) whole.steps whole.ending fault (enough after.place bytes h.all).sure
-    (ap (closed_by after.place) (sym on.ending) ∙ sym is)
+  pub not_played : (fault : FileFault) → OfRest o (λ bytes. HandedAll act chained bytes m now after) →
+      Err fault ≡ closed_by after.place (resumed after []).ending → OfRest o (λ bytes. steps_of longest_stream chained bytes ≡ Err fault)
+  not_played fault h is = of_rest o h
+    where
+      of_rest : (o : Option (List ℕ)) → OfRest o (λ bytes. HandedAll act chained bytes m now after) → OfRest o (λ bytes. steps_of longest_stream chained bytes ≡ Err fault)
+      of_rest None h = tt
+      of_rest (Some bytes) h =
+          let on = goes_on act chained bytes m now after h in
+          let whole = stream_of longest_stream chained bytes in
+          wrong_file after.place (length bytes) whole.steps whole.ending fault (enough chained after.place bytes h.all).sure
+          (ap (closed_by after.place) (sym on.ending) ∙ sym is)
+
+-- a machine that took all steps one after the other ran over them
+acted_run : (steps : List Step) (m : State) → acted machine_act steps m ≡ run m (steps_run steps)
+acted_run [] m = refl
+acted_run (step ∷ steps) m = acted_run steps (run m (atomic step)) ∙ sym (run-append m (atomic step) (steps_run steps))
+
+pub machine_played : (bytes : List ℕ) (m now : State) → PlaysAll machine_act false bytes m now → HasPlayed bytes m now
+machine_played bytes m now (steps, reads, is) = (steps, reads, is ∙ acted_run steps m)

@@ -2,7 +2,7 @@
 
 ghost use Rattle.std.specs.Prelude.{◌≡◌, length, string_bytes, IfOk, IfErr};
 ghost use Rattle.capture_desk.specs.Desks.{IsAllowed};
-ghost use Rattle.command_steps.specs.Desks.{CountsBy, OfInput, StopsAt, apart, seen_by};
+ghost use Rattle.command_steps.specs.Desks.{CountsBy, OfInput, StopsAt, apart};
 ghost use Rattle.command_steps.specs.Texts.{report_text};
 ghost use Rattle.dma_machine.specs.Facts.{report_of};
 ghost use Rattle.machine_model.specs.States.{first_state};
@@ -44,12 +44,12 @@ fn play_input<D: Desk, R: Ram>(
     desk: &mut D,
     buffer: &mut [u8],
 ) -> Result<(), Answer>
-    requires allowed { IsAllowed name.now (D.told desk.old).may_open }
+    requires allowed { IsAllowed name.now (D.seen desk.old).told.may_open }
     requires room { length buffer.old ≡ 65536 }
-    ensures played { IfOk result (λ _. OfInput name.now (D.told desk.old).inputs (λ bytes. HasPlayed bytes machine.old machine.new)) }
-    ensures stops { IfErr result (λ answer. StopsAt IsBadStream name.now answer (seen_by D.told D.read_faults D.write_faults desk.old) (seen_by D.told D.read_faults D.write_faults desk.new)) }
-    ensures told { apart (D.told desk.new) ≡ apart (D.told desk.old) }
-    ensures counts { CountsBy result (seen_by D.told D.read_faults D.write_faults desk.old) (seen_by D.told D.read_faults D.write_faults desk.new) }
+    ensures played { IfOk result (λ _. OfInput name.now (D.seen desk.old).told.inputs (λ bytes. HasPlayed bytes machine.old machine.new)) }
+    ensures stops { IfErr result (λ answer. StopsAt IsBadStream name.now answer (D.seen desk.old) (D.seen desk.new)) }
+    ensures told { apart (D.seen desk.new).told ≡ apart (D.seen desk.old).told }
+    ensures counts { CountsBy result (D.seen desk.old) (D.seen desk.new) }
 {
     open(name, desk)?;
     match play(machine, desk, buffer) {
@@ -66,11 +66,11 @@ fn play_on<D: Desk>(
     stream: &str,
     desk: &mut D,
 ) -> Result<Machine<PageRam>, Answer>
-    requires { IsAllowed stream.now (D.told desk.old).may_open }
-    ensures played { IfOk result (λ machine. OfInput stream.now (D.told desk.old).inputs (λ bytes. HasPlayed bytes (first_state accepted fill) machine)) }
-    ensures stops { IfErr result (λ answer. StopsAt IsBadStream stream.now answer (seen_by D.told D.read_faults D.write_faults desk.old) (seen_by D.told D.read_faults D.write_faults desk.new)) }
-    ensures told { apart (D.told desk.new) ≡ apart (D.told desk.old) }
-    ensures counts { CountsBy result (seen_by D.told D.read_faults D.write_faults desk.old) (seen_by D.told D.read_faults D.write_faults desk.new) }
+    requires { IsAllowed stream.now (D.seen desk.old).told.may_open }
+    ensures played { IfOk result (λ machine. OfInput stream.now (D.seen desk.old).told.inputs (λ bytes. HasPlayed bytes (first_state accepted fill) machine)) }
+    ensures stops { IfErr result (λ answer. StopsAt IsBadStream stream.now answer (D.seen desk.old) (D.seen desk.new)) }
+    ensures told { apart (D.seen desk.new).told ≡ apart (D.seen desk.old).told }
+    ensures counts { CountsBy result (D.seen desk.old) (D.seen desk.new) }
 {
     let mut machine = match machine_of(alloc, accepted, fill) {
         Ok(machine) => machine,
@@ -95,13 +95,13 @@ pub fn play_file<D: Desk>(
     stream: &str,
     desk: &mut D,
 ) -> Result<Played, Answer>
-    requires { IsAllowed stream.now (D.told desk.old).may_open }
-    ensures played { IfOk result (λ played. OfInput stream.now (D.told desk.old).inputs (λ bytes. HasPlayed bytes (first_state accepted fill) played.machine)) }
+    requires { IsAllowed stream.now (D.seen desk.old).told.may_open }
+    ensures played { IfOk result (λ played. OfInput stream.now (D.seen desk.old).told.inputs (λ bytes. HasPlayed bytes (first_state accepted fill) played.machine)) }
     ensures fill { IfOk result (λ played. played.fill ≡ fill) }
     ensures report { IfOk result (λ played. string_bytes played.report ≡ report_text (report_of played.machine)) }
-    ensures stops { IfErr result (λ answer. StopsAt IsBadStream stream.now answer (seen_by D.told D.read_faults D.write_faults desk.old) (seen_by D.told D.read_faults D.write_faults desk.new)) }
-    ensures told { apart (D.told desk.new) ≡ apart (D.told desk.old) }
-    ensures counts { CountsBy result (seen_by D.told D.read_faults D.write_faults desk.old) (seen_by D.told D.read_faults D.write_faults desk.new) }
+    ensures stops { IfErr result (λ answer. StopsAt IsBadStream stream.now answer (D.seen desk.old) (D.seen desk.new)) }
+    ensures told { apart (D.seen desk.new).told ≡ apart (D.seen desk.old).told }
+    ensures counts { CountsBy result (D.seen desk.old) (D.seen desk.new) }
 {
     let machine = play_on(alloc, accepted, fill, stream, desk)?;
     match report_text(alloc, &machine.report()) {

@@ -1,97 +1,93 @@
-//! A stream, handed to the machine as it is read.
+//! A stream, handed to a player as it is read.
 
-ghost use Rattle.std.specs.Prelude.{◌≡◌, ◌+◌, ◌≤◌, drop, false, length, IfErr, IfNone, IfOk, IfSome, IsTrue, OnOk, Some};
+ghost use Rattle.std.specs.Prelude.{◌≡◌, ◌+◌, ◌≤◌, drop, length, IfErr, IfNone, IfOk, IfSome, IsTrue, Some};
 ghost use Rattle.capture_file.specs.Readers.{fresh, front_record};
 ghost use Rattle.capture_file.specs.Records.{StepFits};
-ghost use Rattle.capture_file.specs.Streams.{atomic};
-ghost use Rattle.machine_model.specs.Steps.{run};
-ghost use Rattle.command_steps.specs.Desks.{CountsBy, OfRest, apart, seen_by};
-ghost use Rattle.program_play.specs.Plays.{Handed, HandedAll, HandedFront, HandedPart, HasPlayed, IsOther, IsAtFault, StopsPlaying, longest_stream};
+ghost use Rattle.command_steps.specs.Desks.{CountsBy, OfRest, apart};
+ghost use Rattle.program_play.specs.Plays.{Handed, HandedAll, HandedFront, HandedPart, IsOther, IsAtFault, MayStand, PlaysAll, ReadsForm, StopsPlaying, longest_stream};
 
+use crate::player::Player;
 use capture_desk::Desk;
 use capture_file::{FileFault, Got, Input, Step, StepReader};
 use command_steps::{Answer, PIECE, read_into};
-use dma_machine::Machine;
-use page_ram::Ram;
 use std::mem::replace;
 
 /// The most bytes of a stream.
 const LONGEST_STREAM: u64 = 4_294_967_295;
 
-/// Hands a record to the machine.
+/// Hands a record to the player.
 #[inline]
-fn hand<R: Ram>(machine: &mut Machine<R>, step: Step)
-    requires { StepFits step }
-    ensures { machine.new ≡ run machine.old (atomic step) }
+fn hand<P: Player>(player: &mut P, step: Step)
+    requires fits { StepFits step }
+    requires stands { MayStand P.has_slots step }
+    ensures { player.new ≡ P.act step player.old }
 {
     match step {
-        Step::Push(queue, entry) => {
-            let _ = machine.push(queue, entry);
-        }
-        Step::Control(code) => {
-            let _ = machine.push_control(code);
-        }
-        Step::Turns(count) => machine.turns(count),
-        Step::Host(write) => machine.host(write),
-        Step::Patch(..) => {}
+        Step::Push(queue, entry) => player.push(queue, entry),
+        Step::Control(code) => player.push_control(code),
+        Step::Turns(count) => player.turns(count),
+        Step::Host(write) => player.host(write),
+        Step::Patch(slot, buffer) => player.patch(slot, buffer),
     }
 }
 
-/// Hands the data push or the turns that lie whole at the front of a piece to the machine, and answers
+/// Hands the data push or the turns that lie whole at the front of a piece to the player, and answers
 /// how many bytes their record has.
 #[inline(always)]
-fn hand_plain<R: Ram>(
-    machine: &mut Machine<R>,
-    reader: &mut StepReader,
-    piece: &[u8],
-) -> Option<usize>
-    ensures handed { IfSome result (λ used. HandedFront (Some used) machine.old reader.old piece.now machine.new reader.new) }
-    ensures none { IfNone result ((machine.new ≡ machine.old) × (reader.new ≡ reader.old)) }
+fn hand_plain<P: Player>(player: &mut P, reader: &mut StepReader, piece: &[u8]) -> Option<usize>
+    requires form { ReadsForm P.has_slots reader.old }
+    ensures form { ReadsForm P.has_slots reader.new }
+    ensures handed { IfSome result (λ used. HandedFront P.act (Some used) player.old reader.old piece.now player.new reader.new) }
+    ensures none { IfNone result ((player.new ≡ player.old) × (reader.new ≡ reader.old)) }
     ensures other { IfNone result (IsOther (front_record reader.old piece.now)) }
 {
     if let Some((q, e)) = reader.take_push(piece) {
-        let _ = machine.push(q, e);
+        player.push(q, e);
         return Some(6);
     }
     if let Some(count) = reader.take_turns(piece) {
-        machine.turns(count);
+        player.turns(count);
         return Some(5);
     }
     None
 }
 
-/// Hands the data pushes and the turns at the front of a piece to the machine, up to where another
+/// Hands the data pushes and the turns at the front of a piece to the player, up to where another
 /// record stands or the piece ends, and answers how many bytes their records have.
 #[inline(never)]
-fn hand_run<R: Ram>(machine: &mut Machine<R>, reader: &mut StepReader, piece: &[u8]) -> usize
-    ensures handed { HandedPart result machine.old reader.old piece.now machine.new reader.new }
+fn hand_run<P: Player>(player: &mut P, reader: &mut StepReader, piece: &[u8]) -> usize
+    requires form { ReadsForm P.has_slots reader.old }
+    ensures form { ReadsForm P.has_slots reader.new }
+    ensures handed { HandedPart P.act result player.old reader.old piece.now player.new reader.new }
     ensures other { IsOther (front_record reader.new (drop result piece.now)) }
 {
     // in a place of this function's own, where its counts are at hand
     let mut own = replace(reader, StepReader::new(LONGEST_STREAM));
     let mut at = 0;
-    while let Some(used) = hand_plain(machine, &mut own, &piece[at..]) {
+    while let Some(used) = hand_plain(player, &mut own, &piece[at..]) {
         at += used;
     }
     *reader = own;
     at
 }
 
-/// Hands the record at the front of a piece to the machine, and answers how many bytes of the piece it
+/// Hands the record at the front of a piece to the player, and answers how many bytes of the piece it
 /// took; none where the piece ends before a record does.
 #[inline(never)]
-fn hand_record<R: Ram>(
-    machine: &mut Machine<R>,
+fn hand_record<P: Player>(
+    player: &mut P,
     reader: &mut StepReader,
     piece: &[u8],
 ) -> Result<Option<usize>, FileFault>
-    ensures handed { IfOk result (λ used. HandedFront used machine.old reader.old piece.now machine.new reader.new) }
+    requires form { ReadsForm P.has_slots reader.old }
+    ensures form { ReadsForm P.has_slots reader.new }
+    ensures handed { IfOk result (λ used. HandedFront P.act used player.old reader.old piece.now player.new reader.new) }
     ensures fault { IfErr result (λ fault. IsAtFault reader.old piece.now fault) }
 {
     let (used, got) = reader.take(piece);
     match got {
         Got::Step(step) => {
-            hand(machine, step);
+            hand(player, step);
             Ok(Some(used))
         }
         Got::End => Ok(Some(used)),
@@ -100,55 +96,59 @@ fn hand_record<R: Ram>(
     }
 }
 
-/// Hands the records at the front of a piece to the machine, and answers how many bytes of the piece
+/// Hands the records at the front of a piece to the player, and answers how many bytes of the piece
 /// they took; none where the piece ends before a record does.
-fn hand_front<R: Ram>(
-    machine: &mut Machine<R>,
+fn hand_front<P: Player>(
+    player: &mut P,
     reader: &mut StepReader,
     piece: &[u8],
 ) -> Result<Option<usize>, FileFault>
-    ensures handed { IfOk result (λ used. HandedFront used machine.old reader.old piece.now machine.new reader.new) }
+    requires form { ReadsForm P.has_slots reader.old }
+    ensures form { ReadsForm P.has_slots reader.new }
+    ensures handed { IfOk result (λ used. HandedFront P.act used player.old reader.old piece.now player.new reader.new) }
     ensures fault { IfErr result (λ fault. IsAtFault reader.old piece.now fault) }
 {
-    let run = hand_run(machine, reader, piece);
+    let run = hand_run(player, reader, piece);
     if run > 0 {
         Ok(Some(run))
     } else {
-        hand_record(machine, reader, piece)
+        hand_record(player, reader, piece)
     }
 }
 
-/// Hands a piece to the machine, record by record, up to its end or the stream's first fault.
-fn hand_piece<R: Ram>(
-    machine: &mut Machine<R>,
+/// Hands a piece to the player, record by record, up to its end or the stream's first fault.
+fn hand_piece<P: Player>(
+    player: &mut P,
     reader: &mut StepReader,
     piece: &[u8],
 ) -> Result<(), FileFault>
-    ensures handed { IfOk result (λ _. Handed machine.old reader.old piece.now machine.new reader.new) }
+    requires form { ReadsForm P.has_slots reader.old }
+    ensures form { ReadsForm P.has_slots reader.new }
+    ensures handed { IfOk result (λ _. Handed P.act player.old reader.old piece.now player.new reader.new) }
     ensures place { IfOk result (λ _. reader.new.place ≡ reader.old.place + length piece.now) }
     ensures fault { IfErr result (λ fault. IsAtFault reader.old piece.now fault) }
 {
     let mut at = 0;
-    while let Some(used) = hand_front(machine, reader, &piece[at..])? {
+    while let Some(used) = hand_front(player, reader, &piece[at..])? {
         at += used;
     }
     Ok(())
 }
 
-/// Hands the rest of the open input to the machine, up to its end or a byte beyond the longest stream.
-fn hand_all<D: Desk, R: Ram>(
-    machine: &mut Machine<R>,
+/// Hands the rest of the open input to the player, up to its end or a byte beyond the longest stream.
+fn hand_all<D: Desk, P: Player>(
+    player: &mut P,
     reader: &mut StepReader,
     desk: &mut D,
     buffer: &mut [u8],
 ) -> Result<(), Answer>
-    requires open { IsTrue (D.told desk.old).input_open }
+    requires open { IsTrue (D.seen desk.old).told.input_open }
     requires room { length buffer.old ≡ 65536 }
-    requires begins { reader.old ≡ fresh longest_stream false }
-    ensures handed { IfOk result (λ _. OfRest (D.told desk.old).rest (λ bytes. HandedAll bytes machine.old machine.new reader.new)) }
-    ensures stops { IfErr result (λ answer. StopsPlaying (D.told desk.old).rest answer (seen_by D.told D.read_faults D.write_faults desk.old) (seen_by D.told D.read_faults D.write_faults desk.new)) }
-    ensures told { apart (D.told desk.new) ≡ apart (D.told desk.old) }
-    ensures counts { CountsBy result (seen_by D.told D.read_faults D.write_faults desk.old) (seen_by D.told D.read_faults D.write_faults desk.new) }
+    requires begins { reader.old ≡ fresh longest_stream P.has_slots }
+    ensures handed { IfOk result (λ _. OfRest (D.seen desk.old).told.rest (λ bytes. HandedAll P.act P.has_slots bytes player.old player.new reader.new)) }
+    ensures stops { IfErr result (λ answer. StopsPlaying P.has_slots (D.seen desk.old).told.rest answer (D.seen desk.old) (D.seen desk.new)) }
+    ensures told { apart (D.seen desk.new).told ≡ apart (D.seen desk.old).told }
+    ensures counts { CountsBy result (D.seen desk.old) (D.seen desk.new) }
 {
     let mut place: u64 = 0;
     while place <= LONGEST_STREAM {
@@ -160,7 +160,7 @@ fn hand_all<D: Desk, R: Ram>(
         if count == 0 {
             return Ok(());
         }
-        if let Err(fault) = hand_piece(machine, reader, &buffer[..count]) {
+        if let Err(fault) = hand_piece(player, reader, &buffer[..count]) {
             return Err(Answer::Malformed(Input::Stream, fault));
         }
         place += count as u64;
@@ -169,20 +169,20 @@ fn hand_all<D: Desk, R: Ram>(
 }
 
 /// Plays the stream that is open to its end.
-pub fn play<D: Desk, R: Ram>(
-    machine: &mut Machine<R>,
+pub fn play<D: Desk, P: Player>(
+    player: &mut P,
     desk: &mut D,
     buffer: &mut [u8],
 ) -> Result<(), Answer>
-    requires open { IsTrue (D.told desk.old).input_open }
+    requires open { IsTrue (D.seen desk.old).told.input_open }
     requires room { length buffer.old ≡ 65536 }
-    ensures played { IfOk result (λ _. OfRest (D.told desk.old).rest (λ bytes. HasPlayed bytes machine.old machine.new)) }
-    ensures stops { IfErr result (λ answer. StopsPlaying (D.told desk.old).rest answer (seen_by D.told D.read_faults D.write_faults desk.old) (seen_by D.told D.read_faults D.write_faults desk.new)) }
-    ensures told { apart (D.told desk.new) ≡ apart (D.told desk.old) }
-    ensures counts { CountsBy result (seen_by D.told D.read_faults D.write_faults desk.old) (seen_by D.told D.read_faults D.write_faults desk.new) }
+    ensures played { IfOk result (λ _. OfRest (D.seen desk.old).told.rest (λ bytes. PlaysAll P.act P.has_slots bytes player.old player.new)) }
+    ensures stops { IfErr result (λ answer. StopsPlaying P.has_slots (D.seen desk.old).told.rest answer (D.seen desk.old) (D.seen desk.new)) }
+    ensures told { apart (D.seen desk.new).told ≡ apart (D.seen desk.old).told }
+    ensures counts { CountsBy result (D.seen desk.old) (D.seen desk.new) }
 {
-    let mut reader = StepReader::new(LONGEST_STREAM);
-    hand_all(machine, &mut reader, desk, buffer)?;
+    let mut reader = P::reader(LONGEST_STREAM);
+    hand_all(player, &mut reader, desk, buffer)?;
     match reader.close() {
         Ok(()) => Ok(()),
         Err(fault) => Err(Answer::Malformed(Input::Stream, fault)),

@@ -3,7 +3,7 @@
 ghost use Rattle.std.specs.Prelude.{◌≡◌, ◌<◌, IfErr, IfOk, Ok};
 ghost use Rattle.capture_desk.specs.Desks.{IsAllowed};
 ghost use Rattle.capture_file.specs.Programs.{program_of};
-ghost use Rattle.command_steps.specs.Desks.{CountsBy, OfInput, StopsAt, apart, seen_by};
+ghost use Rattle.command_steps.specs.Desks.{CountsBy, OfInput, StopsAt, apart};
 ghost use Rattle.machine_model.specs.Paths.{IsSound};
 ghost use Rattle.program_play.specs.Programs.{Accepts, IsBadFile, IsBadProgram, IsRefused, Misreads};
 ghost use Rattle.risc_verify.specs.Verdicts.{Refuses};
@@ -41,11 +41,11 @@ fn parse(alloc: Global, bytes: &[u8]) -> Result<ProgramFile, Answer>
 
 /// Reads a program file, whose program need not be sound.
 pub fn read_file<D: Desk>(alloc: Global, name: &str, desk: &mut D) -> Result<ProgramFile, Answer>
-    requires { IsAllowed name.now (D.told desk.old).may_open }
-    ensures reads { IfOk result (λ file. OfInput name.now (D.told desk.old).inputs (λ bytes. program_of bytes ≡ Ok file)) }
-    ensures stops { IfErr result (λ answer. StopsAt IsBadFile name.now answer (seen_by D.told D.read_faults D.write_faults desk.old) (seen_by D.told D.read_faults D.write_faults desk.new)) }
-    ensures told { apart (D.told desk.new) ≡ apart (D.told desk.old) }
-    ensures counts { CountsBy result (seen_by D.told D.read_faults D.write_faults desk.old) (seen_by D.told D.read_faults D.write_faults desk.new) }
+    requires { IsAllowed name.now (D.seen desk.old).told.may_open }
+    ensures reads { IfOk result (λ file. OfInput name.now (D.seen desk.old).told.inputs (λ bytes. program_of bytes ≡ Ok file)) }
+    ensures stops { IfErr result (λ answer. StopsAt IsBadFile name.now answer (D.seen desk.old) (D.seen desk.new)) }
+    ensures told { apart (D.seen desk.new).told ≡ apart (D.seen desk.old).told }
+    ensures counts { CountsBy result (D.seen desk.old) (D.seen desk.new) }
 {
     let bytes = read_whole(alloc, name, LONGEST_PROGRAM, desk)?;
     match parse(alloc, &bytes) {
@@ -99,11 +99,11 @@ fn judge(alloc: Global, file: ProgramFile) -> Result<Loaded, Answer>
 
 /// Reads a program file and judges its program.
 pub fn accept<D: Desk>(alloc: Global, name: &str, desk: &mut D) -> Result<Loaded, Answer>
-    requires { IsAllowed name.now (D.told desk.old).may_open }
-    ensures accepts { IfOk result (λ loaded. OfInput name.now (D.told desk.old).inputs (λ bytes. Accepts (program_of bytes) loaded.accepted loaded.fill)) }
-    ensures stops { IfErr result (λ answer. StopsAt IsBadProgram name.now answer (seen_by D.told D.read_faults D.write_faults desk.old) (seen_by D.told D.read_faults D.write_faults desk.new)) }
-    ensures told { apart (D.told desk.new) ≡ apart (D.told desk.old) }
-    ensures counts { CountsBy result (seen_by D.told D.read_faults D.write_faults desk.old) (seen_by D.told D.read_faults D.write_faults desk.new) }
+    requires { IsAllowed name.now (D.seen desk.old).told.may_open }
+    ensures accepts { IfOk result (λ loaded. OfInput name.now (D.seen desk.old).told.inputs (λ bytes. Accepts (program_of bytes) loaded.accepted loaded.fill)) }
+    ensures stops { IfErr result (λ answer. StopsAt IsBadProgram name.now answer (D.seen desk.old) (D.seen desk.new)) }
+    ensures told { apart (D.seen desk.new).told ≡ apart (D.seen desk.old).told }
+    ensures counts { CountsBy result (D.seen desk.old) (D.seen desk.new) }
 {
     let file = match read_file(alloc, name, desk) {
         Ok(file) => file,

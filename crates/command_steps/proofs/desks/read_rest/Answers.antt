@@ -23,6 +23,5 @@ loop-at-preserved g c =
       filled = e.few.1;
       told = e.told ∙ ap (λ t. after_read c.in_ok-count.count t) i.told ∙ after_read-after_read c.loop-at.at c.in_ok-count.count _;
       taken = grown _ _ _ _ _ i.taken (subst (λ (t : Told). OfRest t.rest (λ rest. Grows c.loop-at.at c.in_ok-count.count rest c.loop-at.bytes.items c.read_piece.new.bytes.items)) i.told e.grows);
-      reads = e.counts.0 ∙ i.reads;
-      writes = e.counts.1 ∙ i.writes;
+      counts = (e.counts.0 ∙ i.counts.0, e.counts.1 ∙ i.counts.1);
     }

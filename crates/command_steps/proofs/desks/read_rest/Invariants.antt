@@ -1,6 +1,6 @@
 use Rattle.std.proofs.Common.{length, ◌+◌, ◌-◌, ◌≡◌, ◌≤◌, take, vec_len}
 use Rattle.capture_desk.specs.Desks.{after_read}
-use Rattle.command_steps.specs.Desks.{OfRest}
+use Rattle.command_steps.specs.Desks.{OfRest, SameCounts}
 use Rattle.command_steps.proofs.desks.read_rest.Given as goal
 
 abbrev pub invariant-loop-at : goal.invariant-loop-at
@@ -8,10 +8,9 @@ invariant-loop-at g l =
     record {
       within : l.at ≤ l.most + 1;
       filled : l.at ≤ vec_len l.bytes;
-      told : g.D.Desk.told l.desk ≡ after_read l.at (g.D.Desk.told l.fn.desk);
-      taken : OfRest (g.D.Desk.told l.fn.desk).rest (λ rest. (l.at ≤ length rest) × (take l.at l.bytes.items ≡ take l.at rest));
-      reads : g.D.Desk.read_faults l.desk ≡ g.D.Desk.read_faults l.fn.desk;
-      writes : g.D.Desk.write_faults l.desk ≡ g.D.Desk.write_faults l.fn.desk;
+      told : (g.D.Desk.seen l.desk).told ≡ after_read l.at (g.D.Desk.seen l.fn.desk).told;
+      taken : OfRest (g.D.Desk.seen l.fn.desk).told.rest (λ rest. (l.at ≤ length rest) × (take l.at l.bytes.items ≡ take l.at rest));
+      counts : SameCounts (g.D.Desk.seen l.fn.desk) (g.D.Desk.seen l.desk);
     }
 
 abbrev pub decreases-loop-at : goal.decreases-loop-at

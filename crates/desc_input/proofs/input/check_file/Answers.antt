@@ -4,9 +4,10 @@ use Rattle.std.proofs.lemmas.Bool.{lt-ltb}
 use Rattle.std.proofs.lemmas.List.{take_all}
 use Rattle.capture_desc.specs.Description.{described}
 use Rattle.capture_file.specs.declared.Input.TheVariants.{Desc as DescFile}
+use Rattle.capture_desk.specs.Desks.{Seen}
 use Rattle.command_steps.specs.declared.answer.Answer.{Answer}
 use Rattle.command_steps.specs.declared.answer.Answer.TheVariants.{BadDesc, BadGeometry, Malformed, NoMemory}
-use Rattle.command_steps.specs.Desks.{OfInput, Seen, StopsAt, seen_by}
+use Rattle.command_steps.specs.Desks.{OfInput, StopsAt}
 use Rattle.command_steps.proofs.Inputs.{OfInput-map}
 use Rattle.desc_input.specs.Descriptions.{Describes, IsBadDesc, IsRefused, description_of, judged_reading, longest_description, too_long}
 use Rattle.desc_input.proofs.input.check_file.Goals as goal
@@ -40,20 +41,20 @@ module _ (name : List ℕ) (old new : Seen) (bytes : List ℕ) (read : OfInput n
 
 pub returns-then-len-gt-LONGEST_DESCRIPTION-clause-stops : goal.returns-then-len-gt-LONGEST_DESCRIPTION-clause-stops
 returns-then-len-gt-LONGEST_DESCRIPTION-clause-stops g c =
-    OfInput-map c.args.name.now (g.D.Desk.told c.args.desk.now).inputs (λ content. c.in_ok-bytes.bytes.items ≡ take (longest_description + 1) content)
+    OfInput-map c.args.name.now (g.D.Desk.seen c.args.desk.now).told.inputs (λ content. c.in_ok-bytes.bytes.items ≡ take (longest_description + 1) content)
     (λ content. description_of content ≡ Err (Malformed DescFile too_long))
     (λ content e. is_too_long c.in_ok-bytes.bytes.items content e (omega (arith, c.len.ensures, c.if-len-gt-LONGEST_DESCRIPTION.true))) c.in_ok-bytes.ensures.bytes
 
 pub returns-in-Ok-clause-describes : goal.returns-in-Ok-clause-describes
 returns-in-Ok-clause-describes g c =
-    let see = seen_by g.D.Desk.told g.D.Desk.read_faults g.D.Desk.write_faults in
+    let see = g.D.Desk.seen in
     of_whole c.args.name.now (see c.args.desk.now) (see c.args.desk.now) c.in_ok-bytes.bytes.items c.in_ok-bytes.ensures.bytes
     (omega (arith, c.len.ensures, c.if-len-gt-LONGEST_DESCRIPTION.false)) (λ bytes. Describes bytes c.in-Ok.checked)
     (subst (λ bytes. Describes bytes c.in-Ok.checked) c.deref.ensures.value c.in-Ok.ensures.describes)
 
 pub returns-clause-stops : goal.returns-clause-stops
 returns-clause-stops g c =
-    let see = seen_by g.D.Desk.told g.D.Desk.read_faults g.D.Desk.write_faults in
+    let see = g.D.Desk.seen in
     refused c.args.name.now (see c.args.desk.now) (see c.read_whole.new.desk) c.in_ok-bytes.bytes.items c.in_ok-bytes.ensures.bytes
     (omega (arith, c.len.ensures, c.if-len-gt-LONGEST_DESCRIPTION.false)) c.in-Err.answer
     (subst (λ bytes. IsRefused bytes c.in-Err.answer) c.deref.ensures.value c.in-Err.ensures.refuses)

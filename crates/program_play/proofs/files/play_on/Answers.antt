@@ -6,5 +6,5 @@ use Rattle.program_play.proofs.files.play_on.Goals as goal
 
 pub returns-in-Ok-play_input-clause-played : goal.returns-in-Ok-play_input-clause-played
 returns-in-Ok-play_input-clause-played g c =
-    subst (λ (m : State). OfInput c.args.stream.now (g.D.Desk.told c.args.desk.now).inputs (λ bytes. HasPlayed bytes m c.play_input.new.machine))
+    subst (λ (m : State). OfInput c.args.stream.now (g.D.Desk.seen c.args.desk.now).told.inputs (λ bytes. HasPlayed bytes m c.play_input.new.machine))
     c.in-Ok.ensures c.in-Ok-play_input.ensures.played

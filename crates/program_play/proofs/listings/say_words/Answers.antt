@@ -24,8 +24,7 @@ loop-next-preserved g c =
       said = piece_said before.0 c.as_bytes.result.now _ _ _ _ _ _
           (split program.base c.loop-next.next c.push_words-next.result program.words _ _ _ _ c.as_bytes.ensures.value c.as_str.ensures.value c.clear.ensures c.push_words-next.ensures.lines)
           before.1 before.2 c.in_ok-say_all.ensures.says;
-      reads = c.in_ok-say_all.ensures.counts.0 ∙ c.loop-next.invariant.reads;
-      writes = c.in_ok-say_all.ensures.counts.1 ∙ c.loop-next.invariant.writes;
+      counts = (c.in_ok-say_all.ensures.counts.0 ∙ c.loop-next.invariant.counts.0, c.in_ok-say_all.ensures.counts.1 ∙ c.loop-next.invariant.counts.1, c.in_ok-say_all.ensures.counts.2 ∙ c.loop-next.invariant.counts.2);
     }
 
 pub returns-in_err-say_all-clause-says : goal.returns-in_err-say_all-clause-says
@@ -41,5 +40,5 @@ pub returns-clause-says : goal.returns-clause-says
 returns-clause-says g c =
     let before = c.loop-next.invariant.said in
     before.2
-    ∙ ap (λ (text : List ℕ). after_say text (g.D.Desk.told c.args.desk.now))
+    ∙ ap (λ (text : List ℕ). after_say text (g.D.Desk.seen c.args.desk.now).told)
     (lines_end _ c.loop-next.next c.args.program.now.words _ _ (let same : length c.words.result.now ≡ length c.args.program.now.words = ap length c.words.ensures.value in omega (arith, same)) before.1)

@@ -16,23 +16,23 @@ loop-place-preserved g c =
       told = e.told ∙ ap (λ t. after_read n t) i.told ∙ after_read-after_read c.loop-place.place n _;
       at = omega (arith, size, e.few, c.min-end.ensures, c.in_default.ensures.place, i.at, c.requires.room, c.loop-place.auto.buffer, c.read_into.auto.bytes);
       handed =
-          handed_more _ _ _ _ _ _ c.loop-place.buffer _ _ _ i.handed
+          handed_more _ _ _ _ _ _ _ _ c.loop-place.buffer _ _ _ i.handed
           (subst (λ (t : Told). OfRest t.rest (λ rest. Grows 0 n rest c.loop-place.buffer c.read_into.new.bytes)) i.told e.grows)
           c.in_default.ensures.handed;
-      reads = e.counts.0 ∙ i.reads;
-      writes = e.counts.1 ∙ i.writes;
+      form = c.in_default.ensures.form;
+      counts = (e.counts.0 ∙ i.counts.0, e.counts.1 ∙ i.counts.1);
     }
 
 pub returns-in-Err-hand_piece-clause-stops : goal.returns-in-Err-hand_piece-clause-stops
 returns-in-Err-hand_piece-clause-stops g c =
     let i = c.loop-place.invariant in
-    fault_found _ _ _ _ _ _ c.loop-place.buffer _ _ i.handed
+    fault_found _ _ _ _ _ _ _ _ c.loop-place.buffer _ _ i.handed
     (subst (λ (t : Told). OfRest t.rest (λ rest. Grows 0 c.in-Ok.count rest c.loop-place.buffer c.read_into.new.bytes)) i.told c.in-Ok.ensures.grows)
     c.in-Err-hand_piece.ensures.fault
 
 pub returns-then-count-eq0-clause-handed : goal.returns-then-count-eq0-clause-handed
 returns-then-count-eq0-clause-handed g c =
     let i = c.loop-place.invariant in
-    ended _ _ _ _ _ _ c.loop-place.buffer _ i.handed
+    ended _ _ _ _ _ _ _ _ c.loop-place.buffer _ i.handed
     (subst (λ (t : Told). OfRest t.rest (λ rest. Grows 0 c.in-Ok.count rest c.loop-place.buffer c.read_into.new.bytes)) i.told c.in-Ok.ensures.grows)
     c.if-count-eq0.true i.at

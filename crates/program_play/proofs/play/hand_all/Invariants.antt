@@ -1,19 +1,19 @@
-use Rattle.std.proofs.Common.{◌≡◌, ◌+◌, ◌-◌, ◌≤◌, length, take, false}
+use Rattle.std.proofs.Common.{◌≡◌, ◌+◌, ◌-◌, ◌≤◌, length, take}
 use Rattle.capture_desk.specs.Desks.{after_read}
 use Rattle.capture_file.specs.Readers.{fresh}
-use Rattle.command_steps.specs.Desks.{OfRest}
-use Rattle.program_play.specs.Plays.{Handed, longest_stream}
+use Rattle.command_steps.specs.Desks.{OfRest, SameCounts}
+use Rattle.program_play.specs.Plays.{Handed, ReadsForm, longest_stream}
 use Rattle.program_play.proofs.play.hand_all.Given as goal
 
 abbrev pub invariant-loop-place : goal.invariant-loop-place
 invariant-loop-place g l =
     record {
       within : l.place ≤ longest_stream + 1;
-      told : g.D.Desk.told l.desk ≡ after_read l.place (g.D.Desk.told l.fn.desk);
+      told : (g.D.Desk.seen l.desk).told ≡ after_read l.place (g.D.Desk.seen l.fn.desk).told;
       at : l.reader.place ≡ l.place;
-      handed : OfRest (g.D.Desk.told l.fn.desk).rest (λ bytes. (l.place ≤ length bytes) × Handed l.fn.machine (fresh longest_stream false) (take l.place bytes) l.machine l.reader);
-      reads : g.D.Desk.read_faults l.desk ≡ g.D.Desk.read_faults l.fn.desk;
-      writes : g.D.Desk.write_faults l.desk ≡ g.D.Desk.write_faults l.fn.desk;
+      handed : OfRest (g.D.Desk.seen l.fn.desk).told.rest (λ bytes. (l.place ≤ length bytes) × Handed g.P.Player.act l.fn.player (fresh longest_stream g.P.Player.has_slots) (take l.place bytes) l.player l.reader);
+      form : ReadsForm g.P.Player.has_slots l.reader;
+      counts : SameCounts (g.D.Desk.seen l.fn.desk) (g.D.Desk.seen l.desk);
     }
 
 abbrev pub decreases-loop-place : goal.decreases-loop-place

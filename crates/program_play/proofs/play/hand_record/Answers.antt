@@ -1,6 +1,8 @@
 use Rattle.std.proofs.Common.{◌+◌, ◌++◌, ◌∙◌, ap, length, drop, subst}
 use Rattle.capture_file.specs.Readers.{Uses, Counts, after_answer, resumed}
+use Rattle.program_play.proofs.Forms.{form_after}
 use Rattle.program_play.proofs.Playing.{GoesOn-after}
+use Rattle.program_play.specs.Plays.{MayGive}
 use Rattle.program_play.proofs.play.hand_record.Goals as goal
 
 pub returns-in-Step-clause-handed : goal.returns-in-Step-clause-handed
@@ -13,9 +15,30 @@ returns-in-Step-clause-handed g c =
         used.1,
         place,
         λ more.
-            GoesOn-after _ _ _ _ _
+            GoesOn-after _ _ _ _ _ _
             (e.whole more
             ∙ ap (λ a. after_answer a (resumed c.take-used.new.self (drop c.take-used.result.0 c.args.piece.now ++ more))) c.in-Step.is)
             c.hand.ensures,
       ),
     )
+
+pub hand-requires-clause-stands : goal.hand-requires-clause-stands
+hand-requires-clause-stands g c =
+    subst (MayGive g.P.Player.has_slots) c.in-Step.is
+    (form_after g.P.Player.has_slots c.args.reader.now c.args.piece.now c.take-used.result.0 c.take-used.result.1 c.take-used.new.self c.take-used.ensures.exact c.requires.form).1
+
+pub returns-in-Step-clause-form : goal.returns-in-Step-clause-form
+returns-in-Step-clause-form g c =
+    (form_after g.P.Player.has_slots c.args.reader.now c.args.piece.now c.take-used.result.0 c.take-used.result.1 c.take-used.new.self c.take-used.ensures.exact c.requires.form).0
+
+pub returns-in-End-clause-form : goal.returns-in-End-clause-form
+returns-in-End-clause-form g c =
+    (form_after g.P.Player.has_slots c.args.reader.now c.args.piece.now c.take-used.result.0 c.take-used.result.1 c.take-used.new.self c.take-used.ensures.exact c.requires.form).0
+
+pub returns-in-More-clause-form : goal.returns-in-More-clause-form
+returns-in-More-clause-form g c =
+    (form_after g.P.Player.has_slots c.args.reader.now c.args.piece.now c.take-used.result.0 c.take-used.result.1 c.take-used.new.self c.take-used.ensures.exact c.requires.form).0
+
+pub returns-in-Bad-clause-form : goal.returns-in-Bad-clause-form
+returns-in-Bad-clause-form g c =
+    (form_after g.P.Player.has_slots c.args.reader.now c.args.piece.now c.take-used.result.0 c.take-used.result.1 c.take-used.new.self c.take-used.ensures.exact c.requires.form).0

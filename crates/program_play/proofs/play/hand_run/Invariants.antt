@@ -1,13 +1,14 @@
 use Rattle.std.proofs.Common.{◌≡◌, ◌+◌, ◌-◌, ◌≤◌, ◌++◌, List, ℕ, length, drop}
 use Rattle.capture_file.specs.Readers.{resumed}
-use Rattle.program_play.specs.Plays.{GoesOn}
+use Rattle.program_play.specs.Plays.{GoesOn, ReadsForm}
 use Rattle.program_play.proofs.play.hand_run.Given as goal
 
 abbrev pub invariant-loop-used : goal.invariant-loop-used
 invariant-loop-used g l =
     record {
       within : l.at ≤ length l.piece;
-      handed : (more : List ℕ) → GoesOn l.fn.machine (resumed l.fn.reader (l.piece ++ more)) l.machine (resumed l.own (drop l.at l.piece ++ more));
+      handed : (more : List ℕ) → GoesOn g.P.Player.act l.fn.player (resumed l.fn.reader (l.piece ++ more)) l.player (resumed l.own (drop l.at l.piece ++ more));
+      form : ReadsForm g.P.Player.has_slots l.own;
       place : l.own.place ≡ l.fn.reader.place + l.at;
     }
 

@@ -2,9 +2,10 @@
 use Rattle.std.proofs.Common.{◌≡◌, ◌+◌, ◌∙◌, List, ℕ, take, Ok, Err, ap, sym, subst}
 use Rattle.capture_file.specs.declared.Input.TheVariants.{Program}
 use Rattle.capture_file.specs.Programs.{program_of}
+use Rattle.capture_desk.specs.Desks.{Seen}
 use Rattle.command_steps.specs.declared.answer.Answer.{Answer}
 use Rattle.command_steps.specs.declared.answer.Answer.TheVariants.{Malformed, NoMemory, ReadFault}
-use Rattle.command_steps.specs.Desks.{OfInput, Seen, StopsAt, seen_by}
+use Rattle.command_steps.specs.Desks.{OfInput, StopsAt}
 use Rattle.program_play.specs.Programs.{IsBadFile, Misreads, longest_program}
 use Rattle.command_steps.proofs.Inputs.{OfInput-map}
 use Rattle.program_play.proofs.Whole.{read_is_whole}
@@ -21,12 +22,12 @@ misread name answer old new bytes read h = h
 
 pub returns-in-Ok-clause-reads : goal.returns-in-Ok-clause-reads
 returns-in-Ok-clause-reads g c =
-    OfInput-map c.args.name.now (g.D.Desk.told c.args.desk.now).inputs (λ content. c.in_ok-bytes.bytes.items ≡ take (longest_program + 1) content)
+    OfInput-map c.args.name.now (g.D.Desk.seen c.args.desk.now).told.inputs (λ content. c.in_ok-bytes.bytes.items ≡ take (longest_program + 1) content)
     (λ content. program_of content ≡ Ok c.in-Ok.file)
     (λ content e. sym (read_is_whole content) ∙ ap program_of (sym e) ∙ ap program_of (sym c.deref.ensures.value) ∙ c.in-Ok.ensures.reads) c.in_ok-bytes.ensures.bytes
 
 pub returns-clause-stops : goal.returns-clause-stops
 returns-clause-stops g c =
-    let see = seen_by g.D.Desk.told g.D.Desk.read_faults g.D.Desk.write_faults in
+    let see = g.D.Desk.seen in
     misread c.args.name.now c.in-Err.answer (see c.args.desk.now) _ c.in_ok-bytes.bytes.items c.in_ok-bytes.ensures.bytes
     (subst (λ bytes. Misreads (program_of bytes) c.in-Err.answer) c.deref.ensures.value c.in-Err.ensures.misreads)
