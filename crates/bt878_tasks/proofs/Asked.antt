@@ -1,20 +1,15 @@
 -- What words without a fault ask for: a task, whose names are those that the words give.
-use Rattle.std.proofs.Common.{◌≡◌, ◌≢◌, ℕ, List, [], ◌∷◌, Ok, refl, ap, ◌∙◌}
+use Rattle.std.proofs.Common.{◌≡◌, ◌≢◌, ℕ, List, [], ◌∷◌, map, Ok, refl, ap, ◌∙◌}
 use Rattle.bt878_words.specs.declared.Command.{Command}
 use Rattle.bt878_words.specs.declared.Command.TheVariants as command
 use Rattle.bt878_words.specs.Words.{command_of, inputs_of, outputs_of}
 use Rattle.bt878_words.proofs.Asked.{Asks, asked}
-use Rattle.bt878_tasks.specs.Tasks.{Task, Lists, Verifies, Runs, Compiles, Captures, Generates, creates, task_of, task_with}
+use Rattle.bt878_tasks.specs.Tasks.{Input, Task, Lists, Verifies, Runs, Compiles, Captures, Generates, creates, meaning, task_of, task_with}
 use Rattle.bt878_tasks.proofs.Outputs.{AreApart, not_among}
 
 -- the inputs, in the order in which they are read
 abbrev pub opens : Task → List (List ℕ)
-opens (Lists program) = program ∷ []
-opens (Verifies program) = program ∷ []
-opens (Runs program stream image) = program ∷ stream ∷ []
-opens (Compiles desc program) = desc ∷ []
-opens (Captures desc stream program image) = desc ∷ stream ∷ []
-opens (Generates desc seed frames stream) = desc ∷ []
+opens task = map (λ (input : Input). input.name) (meaning task).inputs
 
 pub record IsAsked (words : List (List ℕ)) : Type 0 where
   pub task : Task

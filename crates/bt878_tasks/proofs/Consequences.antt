@@ -1,16 +1,16 @@
 -- What the top call promises, said one by one, follows from its one exact clause.
-use Rattle.std.proofs.Common.{◌≡◌, ℕ, ◌⊎◌, inl, inr, true, false, List, [], ◌∷◌, Option, Result, Ok, Err, All, refl, sym, ap, subst, ◌∙◌}
+use Rattle.std.proofs.Common.{◌≡◌, ℕ, ◌⊎◌, inl, inr, false, List, [], ◌∷◌, Option, Result, Ok, Err, All, refl, sym, ap, subst, ◌∙◌}
 use Rattle.bt878_words.specs.declared.Command.{Command}
 use Rattle.bt878_words.specs.declared.UsageFault.{UsageFault}
 use Rattle.bt878_words.specs.Words.{command_of, inputs_of, outputs_of}
-use Rattle.capture_desk.specs.Desks.{Inputs, is_among}
+use Rattle.capture_desk.specs.Desks.{Inputs, Seen, is_among}
 use Rattle.capture_desc.specs.declared.desc.Desc.{Desc}
 use Rattle.machine_model.specs.Paths.{RiscProgram, IsSound}
 use Rattle.machine_model.specs.Safety.{IsStep}
 use Rattle.machine_model.specs.States.{State, first_state}
 use Rattle.machine_model.specs.Steps as machine
 use Rattle.capture_file.specs.declared.program.ProgramFile.{ProgramFile}
-use Rattle.capture_file.specs.Programs.{program_of, spelled}
+use Rattle.capture_file.specs.Programs.{program_of}
 use Rattle.capture_file.specs.Streams.{steps_of, steps_run}
 use Rattle.picture_model.specs.Programs.{compiled}
 use Rattle.field_stream.specs.Made.{made, made_entries, made_fields}
@@ -18,19 +18,19 @@ use Rattle.dma_machine.specs.Facts.{report_of}
 use Rattle.risc_listing.specs.Listings.{listing}
 use Rattle.command_steps.specs.declared.answer.Answer.{Answer}
 use Rattle.command_steps.specs.declared.answer.Answer.TheVariants.{Done, Usage, ReadFault, WriteFault, NoMemory}
-use Rattle.command_steps.specs.Desks.{Seen, Product, OfInput, SameCounts, ReadsRose, WritesRose, StopsAt, apart, delivered}
+use Rattle.command_steps.specs.Desks.{EndsAtFault, Product, OfInput, SameCounts, ReadsRose, Says, WritesRose, apart, delivered}
 use Rattle.command_steps.specs.Texts.{answer_text, made_text, report_text}
 use Rattle.program_play.specs.Plays.{longest_stream}
-use Rattle.program_play.specs.Programs.{GivesSound, HoldsProgram, HoldsSound, IsBadFile, IsBadProgram, IsListed, Ran, last_of}
+use Rattle.program_play.specs.Programs.{GivesSound, HoldsProgram, HoldsSound, IsListed, OfRun, Ran, last_of}
 use Rattle.program_play.proofs.Fitting.{steps_fit}
 use Rattle.command_steps.proofs.Inputs.{OfInput-map}
-use Rattle.desc_input.specs.Descriptions.{GivesCompiled, HoldsValid, IsBadDesc}
-use Rattle.bt878_tasks.specs.Tasks.{Task, Lists, Verifies, Runs, Compiles, Captures, Generates, Answers, DescMakes, Ends, IsDone, IsPartDone, Makes, RunMakes, Stops, StopsAtRun, compiled_text, creates, image_file, program_file, task_of, task_with}
-use Rattle.bt878_tasks.specs.Clauses.{AreTold, CreatesNone, ImageAndReport, IsBadInput, IsCompiled, IsCut, IsGenerated, IsGood, IsOutput, IsRefusal, IsSoundAt, IsUnreadOf, IsUsage, OfDesc, OfRan, OfSteps, OnlyOutputs, OnlySays, SameNames, SameOutput, SaysAccepted, SaysAll, SaysListing, ShowsLast, StandsAt, StaysInside, TellsInput, UnlessCut, WritesProgram}
-use Rattle.bt878_tasks.proofs.Asked.{IsAsked, is_asked, opens}
+use Rattle.desc_input.specs.Descriptions.{GivesCompiled, HoldsValid}
+use Rattle.bt878_tasks.specs.Tasks.{Task, Lists, Verifies, Runs, Compiles, Captures, Generates, Answers, DescMakes, Ends, IsDone, IsPartDone, Makes, RunMakes, Stops, compiled_text, creates, image_file, meaning, program_file, task_of, task_with}
+use Rattle.bt878_tasks.specs.Clauses.{AreTold, CreatesNone, IsBadInput, IsCompiled, IsCut, IsGenerated, IsGood, IsOutput, IsRefusal, IsUnreadOf, IsUsage, OfDesc, OfRan, OfSteps, OnlyOutputs, OnlySays, SameNames, SameOutput, SaysAccepted, SaysAll, SaysListing, ShowsLast, ShowsProgram, StandsAt, StaysInside, TellsInput, UnlessCut}
+use Rattle.bt878_tasks.proofs.Asked.{IsAsked, is_asked}
 use Rattle.bt878_tasks.proofs.Inputs.{OfRun-map, run_file, run_stream}
-use Rattle.bt878_tasks.proofs.Judges.{bad_at, bad_stops, bad_run_stops, desc_judge, file_judge, good_cuts, good_or_bad, good_or_bad_run, good_run_cuts, program_judge, run_bad_at}
-use Rattle.bt878_tasks.proofs.Outputs.{AreApart, AreOutputs, all_said, all_written, cut_off, done_names, done_other, first_among, later_among, no_files, only_says, part_done_other, part_names, said_names, same_outputs, says_only}
+use Rattle.bt878_tasks.proofs.Judges.{bad_in, bad_leads, good_leads, good_not_bad, unread_in}
+use Rattle.bt878_tasks.proofs.Outputs.{AreApart, AreOutputs, all_said, all_written, cut_off, done_names, done_other, no_files, only_says, part_done_other, part_names, rises, said_names, same_outputs, says_only}
 
 -- ---- the words
 
@@ -50,6 +50,17 @@ module _ (words : List (List ℕ)) (answer : Answer) (old new : Seen) (h : Answe
       by_command (Err fault) e = (subst (λ r. Answers r answer old new) (ap (λ c. task_with c words) e) h).0
       by_command (Ok c) e = λ fault is. let a = is_asked words c e in subst (λ x. Ends a.task x old new) is (subst (λ r. Answers r answer old new) a.is h)
 
+is_task : Task → Result Task UsageFault → Task
+is_task task (Ok found) = found
+is_task task (Err fault) = task
+
+abbrev task_ok : Task → Result Task UsageFault
+task_ok task = Ok task
+
+one_task : (a b : Task) → task_ok a ≡ task_ok b → a ≡ b
+unfolding is_task
+one_task a b e = ap (is_task a) e
+
 -- ---- at Done
 
 at_answer : (task : Task) (answer wanted : Answer) (old new : Seen) → Ends task answer old new → answer ≡ wanted → Ends task wanted old new
@@ -68,13 +79,17 @@ module _ (Q : Ran → Type 0) (f : (files : List (List ℕ × List ℕ)) (produc
   ran_by (Ok (Runs program stream image)) answer old new h e =
       let d = done_by (Runs program stream image) answer old new h e in
       OfRun-map GivesSound program stream old.told.inputs (λ r. RunMakes (image_file image r ∷ []) d.product r) Q
-      (λ a b r is m. f (image_file image r ∷ []) d.product b r is.reads m) d.made
+      (λ a b r is m. f (image_file image r ∷ []) d.product b r is.reads m) d.made.0
   ran_by (Ok (Captures desc stream program image)) answer old new h e =
       let d = done_by (Captures desc stream program image) answer old new h e in
       OfRun-map GivesCompiled desc stream old.told.inputs
       (λ r. RunMakes (program_file program r.program r.fill ∷ image_file image r ∷ []) d.product r) Q
-      (λ a b r is m. f (program_file program r.program r.fill ∷ image_file image r ∷ []) d.product b r is.reads m) d.made
-  ran_by r answer old new h e = tt
+      (λ a b r is m. f (program_file program r.program r.fill ∷ image_file image r ∷ []) d.product b r is.reads m) d.made.0
+  ran_by (Ok (Lists program)) answer old new h e = tt
+  ran_by (Ok (Verifies program)) answer old new h e = tt
+  ran_by (Ok (Compiles desc program)) answer old new h e = tt
+  ran_by (Ok (Generates desc seed frames stream)) answer old new h e = tt
+  ran_by (Err fault) answer old new h e = let usage = h.0 in absurd (cc)
 
 module _ (P : Ran → Type 0) (always : (files : List (List ℕ × List ℕ)) (product : Product) (r : Ran) → RunMakes files product r → P r) where
   pub done_ran : (r : Result Task UsageFault) (answer : Answer) (old new : Seen) → Answers r answer old new → answer ≡ Done → OfRan r old.told.inputs P
@@ -88,9 +103,8 @@ module _ (P : State → List machine.Step → Type 0) (always : (program : RiscP
   pub done_captured : (r : Result Task UsageFault) (answer : Answer) (old new : Seen) → Answers r answer old new → answer ≡ Done → OfRan r old.told.inputs (OfSteps P)
   done_captured = ran_by (OfSteps P) (λ files product stream r reads m. always r.program r.fill (steps_run r.steps) (steps_fit stream r.steps reads))
 
-pub done_sound : (r : Result Task UsageFault) (answer : Answer) (old new : Seen) → Answers r answer old new → answer ≡ Done → IsSoundAt r old.told.inputs
-done_sound (Ok (Verifies program)) answer old new h e = (done_by (Verifies program) answer old new h e).made.0
-done_sound r answer old new h e = done_ran (λ ran. IsSound ran.program) (λ files product ran m. m.sound) r answer old new h e
+pub done_sound : (r : Result Task UsageFault) (answer : Answer) (old new : Seen) → Answers r answer old new → answer ≡ Done → OfRan r old.told.inputs (λ ran. IsSound ran.program)
+done_sound = done_ran (λ ran. IsSound ran.program) (λ files product ran m. m.sound)
 
 -- its files and its text are there, and nothing else is created
 module _ (task : Task) (old new : Seen) (d : IsDone task old new) where
@@ -122,124 +136,90 @@ module _ (task : Task) (old new : Seen) (d : IsDone task old new) where
       ))
       made
 
--- what follows of words at Done, whose outputs have different names
-at_done : (P : Result Task UsageFault → Type 0) (words : List (List ℕ)) (answer : Answer) (old new : Seen) → Answers (task_of words) answer old new → answer ≡ Done →
-    ((task : Task) → AreApart (creates task) → IsDone task old new → P (Ok task)) → P (task_of words)
-at_done P words answer old new h e f =
-    by_words words answer old new h (P (task_of words)) (λ fault usage. absurd (cc))
-    (λ a ends. subst P (sym a.is) (f a.task a.distinct (done_by a.task answer old new ends e)))
+-- ---- each command, at Done
 
-image_and_report : (task : Task) (old new : Seen) → AreApart (creates task) → IsDone task old new → ImageAndReport (Ok task) old.told new.told
-image_and_report (Runs program stream image) old new h d =
-    OfRun-map GivesSound program stream old.told.inputs (λ r. RunMakes (image_file image r ∷ []) d.product r) (ShowsLast image old.told new.told)
-    (λ a b r is m. let shown = its_run (Runs program stream image) old new d (image_file image r ∷ []) r h m in (shown.0.0, shown.1)) d.made
-image_and_report (Captures desc stream program image) old new h d =
-    OfRun-map GivesCompiled desc stream old.told.inputs
-    (λ r. RunMakes (program_file program r.program r.fill ∷ image_file image r ∷ []) d.product r) (ShowsLast image old.told new.told)
-    (λ a b r is m.
-    let shown = its_run (Captures desc stream program image) old new d (program_file program r.program r.fill ∷ image_file image r ∷ []) r h m in
-    (shown.0.1.0, shown.1))
-    d.made
-image_and_report task old new h d = tt
+module _ (words : List (List ℕ)) (answer : Answer) (old new : Seen) (h : Answers (task_of words) answer old new) (e : answer ≡ Done) where
+  -- what words for a task come to
+  task_done : (task : Task) → task_of words ≡ Ok task → IsDone task old new
+  task_done task is = done_by task answer old new (subst (λ r. Answers r answer old new) is h) e
 
-pub done_image_and_report : (words : List (List ℕ)) (answer : Answer) (old new : Seen) → Answers (task_of words) answer old new → answer ≡ Done → ImageAndReport (task_of words) old.told new.told
-done_image_and_report words answer old new h e =
-    at_done (λ r. ImageAndReport r old.told new.told) words answer old new h e (λ task distinct d. image_and_report task old new distinct d)
+  -- their outputs have different names
+  distinct : (task : Task) → task_of words ≡ Ok task → AreApart (creates task)
+  distinct task is =
+      by_words words answer old new h (AreApart (creates task)) (λ fault usage. absurd (cc))
+      (λ a ends. subst (λ t. AreApart (creates t)) (one_task a.task task (sym a.is ∙ is)) a.distinct)
 
-writes_program : (task : Task) (old new : Seen) → AreApart (creates task) → IsDone task old new → WritesProgram (Ok task) old.told new.told
-writes_program (Captures desc stream program image) old new h d =
-    OfRun-map GivesCompiled desc stream old.told.inputs
-    (λ r. RunMakes (program_file program r.program r.fill ∷ image_file image r ∷ []) d.product r) (λ r. IsOutput program (spelled r.program r.fill) new.told.outputs)
-    (λ a b r is m. (its_run (Captures desc stream program image) old new d (program_file program r.program r.fill ∷ image_file image r ∷ []) r h m).0.0)
-    d.made
-writes_program task old new h d = tt
+  pub done_run : (program stream image : List ℕ) → task_of words ≡ Ok (Runs program stream image) → OfRun GivesSound program stream old.told.inputs (ShowsLast image old.told new.told)
+  done_run program stream image is =
+      let d = task_done (Runs program stream image) is in
+      OfRun-map GivesSound program stream old.told.inputs (λ r. RunMakes (image_file image r ∷ []) d.product r) (ShowsLast image old.told new.told)
+      (λ a b r runs m. let shown = its_run (Runs program stream image) old new d (image_file image r ∷ []) r (distinct (Runs program stream image) is) m in (shown.0.0, shown.1)) d.made.0
 
-pub done_program : (words : List (List ℕ)) (answer : Answer) (old new : Seen) → Answers (task_of words) answer old new → answer ≡ Done → WritesProgram (task_of words) old.told new.told
-done_program words answer old new h e =
-    at_done (λ r. WritesProgram r old.told new.told) words answer old new h e (λ task distinct d. writes_program task old new distinct d)
+  pub done_capture : (desc stream program image : List ℕ) → task_of words ≡ Ok (Captures desc stream program image) →
+      OfRun GivesCompiled desc stream old.told.inputs (λ r. ShowsProgram program new.told r × ShowsLast image old.told new.told r)
+  done_capture desc stream program image is =
+      let d = task_done (Captures desc stream program image) is in
+      OfRun-map GivesCompiled desc stream old.told.inputs
+      (λ r. RunMakes (program_file program r.program r.fill ∷ image_file image r ∷ []) d.product r) (λ r. ShowsProgram program new.told r × ShowsLast image old.told new.told r)
+      (λ a b r runs m.
+      let shown = its_run (Captures desc stream program image) old new d (program_file program r.program r.fill ∷ image_file image r ∷ []) r (distinct (Captures desc stream program image) is) m in
+      (shown.0.0, (shown.0.1.0, shown.1)))
+      d.made.0
 
-is_compiled : (task : Task) (old new : Seen) → AreApart (creates task) → IsDone task old new → IsCompiled (Ok task) old.told new.told
-is_compiled (Compiles desc program) old new h d =
-    its_desc (Compiles desc program) old new d (λ c. program_file program (compiled c) c.fill) compiled_text desc h d.made
-is_compiled task old new h d = tt
+  pub done_compile : (desc program : List ℕ) → task_of words ≡ Ok (Compiles desc program) → IsCompiled desc program old.told new.told
+  done_compile desc program is =
+      let d = task_done (Compiles desc program) is in
+      its_desc (Compiles desc program) old new d (λ c. program_file program (compiled c) c.fill) compiled_text desc (distinct (Compiles desc program) is) d.made.0
 
-pub done_compiled : (words : List (List ℕ)) (answer : Answer) (old new : Seen) → Answers (task_of words) answer old new → answer ≡ Done → IsCompiled (task_of words) old.told new.told
-done_compiled words answer old new h e =
-    at_done (λ r. IsCompiled r old.told new.told) words answer old new h e (λ task distinct d. is_compiled task old new distinct d)
+  pub done_make : (desc : List ℕ) (seed frames : ℕ) (stream : List ℕ) → task_of words ≡ Ok (Generates desc seed frames stream) → IsGenerated desc seed frames stream old.told new.told
+  done_make desc seed frames stream is =
+      let d = task_done (Generates desc seed frames stream) is in
+      its_desc (Generates desc seed frames stream) old new d (λ c. (stream, made c seed frames)) (λ c. made_text (made_fields c frames) (made_entries c frames)) desc
+      (distinct (Generates desc seed frames stream) is) d.made.0
 
-is_generated : (task : Task) (old new : Seen) → AreApart (creates task) → IsDone task old new → IsGenerated (Ok task) old.told new.told
-is_generated (Generates desc seed frames stream) old new h d =
-    its_desc (Generates desc seed frames stream) old new d (λ c. (stream, made c seed frames)) (λ c. made_text (made_fields c frames) (made_entries c frames)) desc h d.made
-is_generated task old new h d = tt
+  pub done_verify : (program : List ℕ) → task_of words ≡ Ok (Verifies program) → SaysAccepted program old.told new.told
+  done_verify program is =
+      let d = task_done (Verifies program) is in (
+        d.made.0,
+        subst (λ text. SaysAll text old.told new.told) d.made.1 (its_text (Verifies program) old new d),
+        its_text_alone (Verifies program) old new d refl,
+      )
 
-pub done_generated : (words : List (List ℕ)) (answer : Answer) (old new : Seen) → Answers (task_of words) answer old new → answer ≡ Done → IsGenerated (task_of words) old.told new.told
-done_generated words answer old new h e =
-    at_done (λ r. IsGenerated r old.told new.told) words answer old new h e (λ task distinct d. is_generated task old new distinct d)
-
-pub done_accepted : (r : Result Task UsageFault) (answer : Answer) (old new : Seen) → Answers r answer old new → answer ≡ Done → SaysAccepted r old.told new.told
-done_accepted (Ok (Verifies program)) answer old new h e =
-    let d = done_by (Verifies program) answer old new h e in (
-      subst (λ text. SaysAll text old.told new.told) d.made.1 (its_text (Verifies program) old new d),
-      its_text_alone (Verifies program) old new d refl,
-    )
-done_accepted r answer old new h e = tt
-
-pub done_listed : (r : Result Task UsageFault) (answer : Answer) (old new : Seen) → Answers r answer old new → answer ≡ Done → SaysListing r old.told new.told
-done_listed (Ok (Lists program)) answer old new h e =
-    let d = done_by (Lists program) answer old new h e in (
-      OfInput-map program old.told.inputs (λ bytes. IsListed bytes d.product.text)
-          (λ bytes. (file : ProgramFile) × (program_of bytes ≡ Ok file) × SaysAll (listing file.program file.fill) old.told new.told)
-          (λ bytes is. (is.0, is.1, subst (λ text. SaysAll text old.told new.told) is.2 (its_text (Lists program) old new d))) d.made,
-      its_text_alone (Lists program) old new d refl,
-    )
-done_listed r answer old new h e = tt
+  pub done_list : (program : List ℕ) → task_of words ≡ Ok (Lists program) → SaysListing program old.told new.told
+  done_list program is =
+      let d = task_done (Lists program) is in (
+        OfInput-map program old.told.inputs (λ bytes. IsListed bytes d.product.text)
+            (λ bytes. (file : ProgramFile) × (program_of bytes ≡ Ok file) × SaysAll (listing file.program file.fill) old.told new.told)
+            (λ bytes lists. (lists.0, lists.1, subst (λ text. SaysAll text old.told new.told) lists.2 (its_text (Lists program) old new d))) d.made.0,
+        its_text_alone (Lists program) old new d refl,
+      )
 
 -- ---- why it is refused
 
-module _ (old new : Seen) where
-  unread_at : (IsBad : List ℕ → Answer → Option Inputs → Type 0) (name : List ℕ) (names : List (List ℕ)) → is_among name names ≡ true → StopsAt IsBad name ReadFault old new → IsUnreadOf names old new
-  unread_at IsBad name names among (inl rose) = inl rose
-  unread_at IsBad name names among (inr missing) = inr (name, among, missing)
-
-  run_unread : (IsBad : List ℕ → Answer → Option Inputs → Type 0) (IsGood : List ℕ → Type 0) (file stream : List ℕ) → StopsAtRun IsBad IsGood file stream ReadFault old new →
-      IsUnreadOf (file ∷ stream ∷ []) old new
-  run_unread IsBad IsGood file stream (inl h) = unread_at IsBad file (file ∷ stream ∷ []) (first_among file (stream ∷ [])) h
-  run_unread IsBad IsGood file stream (inr h) = unread_at IsBadFile stream (file ∷ stream ∷ []) (later_among stream file (stream ∷ []) (first_among stream [])) h.1
-
-  unread_of : (task : Task) → Stops task ReadFault old new → IsUnreadOf (opens task) old new
-  unread_of (Lists program) h = unread_at IsBadFile program (program ∷ []) (first_among program []) h
-  unread_of (Verifies program) h = unread_at IsBadProgram program (program ∷ []) (first_among program []) h
-  unread_of (Runs program stream image) h = run_unread IsBadProgram HoldsSound program stream h
-  unread_of (Compiles desc program) h = unread_at IsBadDesc desc (desc ∷ []) (first_among desc []) h
-  unread_of (Captures desc stream program image) h = run_unread IsBadDesc HoldsValid desc stream h
-  unread_of (Generates desc seed frames stream) h = unread_at IsBadDesc desc (desc ∷ []) (first_among desc []) h
+-- a refusal stopped at an input
+stopped : (task : Task) (answer : Answer) (old new : Seen) → IsRefusal answer → Ends task answer old new → Stops task answer old new
+stopped task Done old new refuses h = absurd refuses
+stopped task WriteFault old new refuses h = absurd refuses
+stopped task (Usage fault) old new refuses h = absurd h
+stopped task answer old new refuses h = h.why
 
 pub read_fault_comes : (words : List (List ℕ)) (answer : Answer) (old new : Seen) → Answers (task_of words) answer old new → answer ≡ ReadFault → IsUnreadOf (inputs_of words) old new
 read_fault_comes words answer old new h e =
     by_words words answer old new h (IsUnreadOf (inputs_of words) old new) (λ fault usage. absurd (cc))
-    (λ a ends. subst (λ names. IsUnreadOf names old new) (sym a.inputs) (unread_of old new a.task (at_answer a.task answer ReadFault old new ends e).why))
+    (λ a ends. subst (λ names. IsUnreadOf names old new) (sym a.inputs) (unread_in (meaning a.task).inputs old new (at_answer a.task answer ReadFault old new ends e).why))
 
 pub write_fault_comes : (r : Result Task UsageFault) (answer : Answer) (old new : Seen) → Answers r answer old new → answer ≡ WriteFault → WritesRose old new
 write_fault_comes (Err fault) answer old new h e = let usage = h.0 in absurd (cc)
-write_fault_comes (Ok task) answer old new h e = (at_answer task answer WriteFault old new h e).rose
+write_fault_comes (Ok task) answer old new h e = rises old.writes new.writes (at_answer task answer WriteFault old new h e).fault.1
 
-bad_comes : (task : Task) (answer : Answer) (old new : Seen) → TellsInput answer → Stops task answer old new → IsBadInput (Ok task) answer old.told.inputs
-bad_comes (Lists program) answer old new tells h = bad_at IsBadFile program answer old new tells h
-bad_comes (Verifies program) answer old new tells h = bad_at IsBadProgram program answer old new tells h
-bad_comes (Runs program stream image) answer old new tells h = run_bad_at IsBadProgram HoldsSound program stream answer old new tells h
-bad_comes (Compiles desc program) answer old new tells h = bad_at IsBadDesc desc answer old new tells h
-bad_comes (Captures desc stream program image) answer old new tells h = run_bad_at IsBadDesc HoldsValid desc stream answer old new tells h
-bad_comes (Generates desc seed frames stream) answer old new tells h = bad_at IsBadDesc desc answer old new tells h
-
-stops : (task : Task) (answer : Answer) (old new : Seen) → TellsInput answer → Ends task answer old new → Stops task answer old new
-stops task Done old new tells h = absurd tells
-stops task WriteFault old new tells h = absurd tells
-stops task (Usage fault) old new tells h = absurd tells
-stops task answer old new tells h = h.why
+refuses : (answer : Answer) → TellsInput answer → IsRefusal answer
+refuses Done tells = absurd tells
+refuses WriteFault tells = absurd tells
+refuses answer tells = tt
 
 pub bad_input_comes : (r : Result Task UsageFault) (answer : Answer) (old new : Seen) → Answers r answer old new → TellsInput answer → IsBadInput r answer old.told.inputs
 bad_input_comes (Err fault) answer old new h tells = subst TellsInput h.0 tells
-bad_input_comes (Ok task) answer old new h tells = bad_comes task answer old new tells (stops task answer old new tells h)
+bad_input_comes (Ok task) answer old new h tells = bad_in (meaning task).inputs answer old new tells (stopped task answer old new (refuses answer tells) h)
 
 -- ---- what an input leads to, where it is told
 
@@ -256,57 +236,30 @@ valid_of file text product desc inputs h = OfInput-map desc inputs (DescMakes fi
 
 -- what is made is made of good inputs
 makes_good : (task : Task) (inputs : Option Inputs) (product : Product) → AreTold inputs → Makes task inputs product → IsGood (Ok task) inputs
-makes_good (Lists program) inputs product told h = OfInput-map program inputs (λ bytes. IsListed bytes product.text) HoldsProgram (λ bytes is. (is.0, is.1)) h
+makes_good (Lists program) inputs product told h = OfInput-map program inputs (λ bytes. IsListed bytes product.text) HoldsProgram (λ bytes is. (is.0, is.1)) h.0
 makes_good (Verifies program) inputs product told h = h.0
 makes_good (Runs program stream image) inputs product told h =
     let P : Ran → Type 0 = λ r. RunMakes (image_file image r ∷ []) product r in (
-      run_file GivesSound program stream inputs P HoldsSound (λ bytes p fill is. (p, fill, is)) told h,
-      run_stream GivesSound program stream inputs P told h,
+      run_file GivesSound program stream inputs P HoldsSound (λ bytes p fill is. (p, fill, is)) told h.0,
+      run_stream GivesSound program stream inputs P told h.0,
     )
-makes_good (Compiles desc program) inputs product told h = valid_of (λ d. program_file program (compiled d) d.fill) compiled_text product desc inputs h
+makes_good (Compiles desc program) inputs product told h = valid_of (λ d. program_file program (compiled d) d.fill) compiled_text product desc inputs h.0
 makes_good (Captures desc stream program image) inputs product told h =
     let P : Ran → Type 0 = λ r. RunMakes (program_file program r.program r.fill ∷ image_file image r ∷ []) product r in (
-      run_file GivesCompiled desc stream inputs P HoldsValid (λ bytes p fill is. (is.description, is.describes)) told h,
-      run_stream GivesCompiled desc stream inputs P told h,
+      run_file GivesCompiled desc stream inputs P HoldsValid (λ bytes p fill is. (is.description, is.describes)) told h.0,
+      run_stream GivesCompiled desc stream inputs P told h.0,
     )
 makes_good (Generates desc seed frames stream) inputs product told h =
-    valid_of (λ d. (stream, made d seed frames)) (λ d. made_text (made_fields d frames) (made_entries d frames)) product desc inputs h
-
--- good inputs aren't bad
-good_not_bad : (task : Task) (wanted : Answer) (inputs : Option Inputs) → AreTold inputs → IsGood (Ok task) inputs → IsBadInput (Ok task) wanted inputs → ⊥
-good_not_bad (Lists program) wanted inputs told good bad = good_or_bad file_judge program wanted inputs told good bad
-good_not_bad (Verifies program) wanted inputs told good bad = good_or_bad program_judge program wanted inputs told good bad
-good_not_bad (Runs program stream image) wanted inputs told good bad = good_or_bad_run program_judge program stream wanted inputs told good.0 good.1 bad
-good_not_bad (Compiles desc program) wanted inputs told good bad = good_or_bad desc_judge desc wanted inputs told good bad
-good_not_bad (Captures desc stream program image) wanted inputs told good bad = good_or_bad_run desc_judge desc stream wanted inputs told good.0 good.1 bad
-good_not_bad (Generates desc seed frames stream) wanted inputs told good bad = good_or_bad desc_judge desc wanted inputs told good bad
-
--- where an input is bad, it stops for this reason or is cut off
-bad_leads : (task : Task) (wanted answer : Answer) (old new : Seen) → AreTold old.told.inputs → IsBadInput (Ok task) wanted old.told.inputs → Stops task answer old new → UnlessCut wanted answer old new
-bad_leads (Lists program) wanted answer old new told bad h = bad_stops file_judge program wanted answer old new told bad h
-bad_leads (Verifies program) wanted answer old new told bad h = bad_stops program_judge program wanted answer old new told bad h
-bad_leads (Runs program stream image) wanted answer old new told bad h = bad_run_stops program_judge program stream wanted answer old new told bad h
-bad_leads (Compiles desc program) wanted answer old new told bad h = bad_stops desc_judge desc wanted answer old new told bad h
-bad_leads (Captures desc stream program image) wanted answer old new told bad h = bad_run_stops desc_judge desc stream wanted answer old new told bad h
-bad_leads (Generates desc seed frames stream) wanted answer old new told bad h = bad_stops desc_judge desc wanted answer old new told bad h
+    valid_of (λ d. (stream, made d seed frames)) (λ d. made_text (made_fields d frames) (made_entries d frames)) product desc inputs h.0
 
 pub bad_input_must : (r : Result Task UsageFault) (answer : Answer) (old new : Seen) → Answers r answer old new → AreTold old.told.inputs → (wanted : Answer) →
     IsBadInput r wanted old.told.inputs → UnlessCut wanted answer old new
 bad_input_must (Err fault) answer old new h told wanted bad = absurd bad
 bad_input_must (Ok task) answer old new h told wanted bad =
     elim (ended task answer old new h) [
-      | inl m ↦ absurd (good_not_bad task wanted old.told.inputs told (makes_good task old.told.inputs m.0 told m.1) bad)
-      | inr s ↦ bad_leads task wanted answer old new told bad s
+      | inl m ↦ absurd (good_not_bad (meaning task).inputs wanted old.told.inputs told (makes_good task old.told.inputs m.0 told m.1) bad)
+      | inr s ↦ bad_leads (meaning task).inputs wanted answer old new told bad s
     ]
-
--- where all inputs are good, it stops only where it is cut off
-good_leads : (task : Task) (answer : Answer) (old new : Seen) → AreTold old.told.inputs → IsGood (Ok task) old.told.inputs → Stops task answer old new → IsCut answer old new
-good_leads (Lists program) answer old new told good h = good_cuts file_judge program answer old new told good h
-good_leads (Verifies program) answer old new told good h = good_cuts program_judge program answer old new told good h
-good_leads (Runs program stream image) answer old new told good h = good_run_cuts program_judge program stream answer old new told good.0 good.1 h
-good_leads (Compiles desc program) answer old new told good h = good_cuts desc_judge desc answer old new told good h
-good_leads (Captures desc stream program image) answer old new told good h = good_run_cuts desc_judge desc stream answer old new told good.0 good.1 h
-good_leads (Generates desc seed frames stream) answer old new told good h = good_cuts desc_judge desc answer old new told good h
 
 uncut : (answer : Answer) (old new : Seen) → (ReadsRose old new → ⊥) → IsCut answer old new → (answer ≡ Done) ⊎ (answer ≡ NoMemory)
 uncut answer old new quiet (inl e) = inr e
@@ -315,9 +268,9 @@ uncut answer old new quiet (inr h) = absurd (quiet h.1)
 good_ends : (task : Task) (answer : Answer) (old new : Seen) → AreTold old.told.inputs → IsGood (Ok task) old.told.inputs → (ReadsRose old new → ⊥) → (WritesRose old new → ⊥) →
     Ends task answer old new → (answer ≡ Done) ⊎ (answer ≡ NoMemory)
 good_ends task Done old new told good reads writes h = inl refl
-good_ends task WriteFault old new told good reads writes h = absurd (writes h.rose)
+good_ends task WriteFault old new told good reads writes h = absurd (writes (rises old.writes new.writes h.fault.1))
 good_ends task (Usage fault) old new told good reads writes h = absurd h
-good_ends task answer old new told good reads writes h = uncut answer old new reads (good_leads task answer old new told good h.why)
+good_ends task answer old new told good reads writes h = uncut answer old new reads (good_leads (meaning task).inputs answer old new told good h.why)
 
 pub completes : (r : Result Task UsageFault) (answer : Answer) (old new : Seen) → Answers r answer old new → AreTold old.told.inputs → IsGood r old.told.inputs →
     (ReadsRose old new → ⊥) → (WritesRose old new → ⊥) → (answer ≡ Done) ⊎ (answer ≡ NoMemory)
@@ -349,6 +302,21 @@ pub write_fault_stands : (words : List (List ℕ)) (answer : Answer) (old new : 
 write_fault_stands words answer old new h e =
     by_words words answer old new h (StandsAt (task_of words) old.told new.told) (λ fault usage. absurd (cc))
     (λ a ends. subst (λ r. StandsAt r old.told new.told) (sym a.is) (stands_at a.task old new a.distinct (at_answer a.task answer WriteFault old new ends e)))
+
+-- no call follows one that fails at writing
+says_last : (text : List ℕ) (old new : Seen) → Says text old new → EndsAtFault old new
+says_last text old new (n, few, left, inl all) = inl all.1
+says_last text old new (n, few, left, inr fault) = inr fault
+
+last_by : (task : Task) (answer : Answer) (old new : Seen) → Ends task answer old new → EndsAtFault old new
+last_by task Done old new h = inl h.counts.1
+last_by task WriteFault old new h = inr (h.fault.1, h.fault.2)
+last_by task (Usage fault) old new h = absurd h
+last_by task answer old new h = says_last (answer_text answer) old new h.said
+
+pub ends_at_fault : (r : Result Task UsageFault) (answer : Answer) (old new : Seen) → Answers r answer old new → EndsAtFault old new
+ends_at_fault (Err fault) answer old new h = says_last (answer_text (Usage fault)) old new h.1
+ends_at_fault (Ok task) answer old new h = last_by task answer old new h
 
 -- the other outputs
 other_by : (task : Task) (answer : Answer) (name : List ℕ) (old new : Seen) → is_among name (creates task) ≡ false → Ends task answer old new → SameOutput name old.told.outputs new.told.outputs

@@ -1,9 +1,9 @@
 -- What follows of an input that the desk tells, and of a run over two.
 use Rattle.std.proofs.Common.{◌≡◌, ℕ, inl, inr, true, false, Bool, List, Option, Some, None, refl}
-use Rattle.capture_desk.specs.Desks.{Inputs, is_missing, named}
+use Rattle.capture_desk.specs.Desks.{Seen, Inputs, is_missing, named}
 use Rattle.machine_model.specs.Paths.{RiscProgram}
 use Rattle.command_steps.specs.declared.answer.Answer.TheVariants.{ReadFault}
-use Rattle.command_steps.specs.Desks.{Seen, OfFile, OfInput, IsUnread}
+use Rattle.command_steps.specs.Desks.{OfFile, OfInput, IsUnread}
 use Rattle.program_play.specs.Programs.{HoldsSteps, IsRun, OfRun, Ran}
 use Rattle.command_steps.proofs.Inputs.{OfInput-map}
 use Rattle.bt878_tasks.specs.Clauses.{AreTold, IsCut}

@@ -1,25 +1,27 @@
 -- Why an input isn't taken: a told input is bad in one way only, and a good one isn't bad.
-use Rattle.std.proofs.Common.{◌≡◌, ℕ, ◌<◌, ◌⊎◌, inl, inr, false, List, Option, Result, Ok, Err, refl, sym, subst, ◌∙◌, arith}
-use Rattle.capture_desk.specs.Desks.{Inputs}
+use Rattle.std.proofs.Common.{◌≡◌, ℕ, ◌<◌, ◌⊎◌, inl, inr, false, List, [], ◌∷◌, map, Option, Result, Ok, Err, refl, sym, subst, ◌∙◌, arith}
+use Rattle.std.specs.Prelude.{⊤}
+use Rattle.capture_desk.specs.Desks.{HasRisen, Inputs, Seen}
 use Rattle.machine_model.specs.declared.Cause.{Cause}
 use Rattle.machine_model.specs.Paths.{RiscProgram, IsSound, IsFirstBad}
 use Rattle.capture_file.specs.declared.FileFault.{FileFault}
-use Rattle.capture_file.specs.declared.Input.{Input}
+use Rattle.capture_file.specs.declared.Input.{Input as FileInput}
 use Rattle.capture_file.specs.declared.Input.TheVariants.{Program, Stream, Desc as DescFile}
 use Rattle.capture_file.specs.declared.program.ProgramFile.{ProgramFile}
 use Rattle.capture_file.specs.declared.Step.{Step}
 use Rattle.capture_file.specs.Programs.{program_of}
 use Rattle.capture_file.specs.Streams.{steps_of}
 use Rattle.command_steps.specs.declared.answer.Answer.{Answer}
-use Rattle.command_steps.specs.declared.answer.Answer.TheVariants.{ReadFault, Malformed, BadDesc, BadGeometry, Rejected, NoMemory}
-use Rattle.command_steps.specs.Desks.{Seen, OfInput, StopsAt}
+use Rattle.command_steps.specs.declared.answer.Answer.TheVariants.{Done, Usage, ReadFault, WriteFault, Malformed, BadDesc, BadGeometry, Rejected, NoMemory}
+use Rattle.command_steps.specs.Desks.{OfInput, StopsAt}
 use Rattle.program_play.specs.Plays.{longest_stream}
 use Rattle.program_play.specs.Programs.{HoldsProgram, HoldsSound, HoldsSteps, IsBadFile, IsBadProgram, IsBadStream, Rejects}
 use Rattle.command_steps.proofs.Inputs.{OfInput-map}
 use Rattle.desc_input.specs.Descriptions.{HoldsValid, IsBadDesc, description_of}
-use Rattle.bt878_tasks.specs.Tasks.{StopsAtRun}
-use Rattle.bt878_tasks.specs.Clauses.{AreTold, IsBadRun, IsCut, TellsInput, UnlessCut}
+use Rattle.bt878_tasks.specs.Tasks.{AnyProgram, AreGood, Description, Input, IsBadAs, IsFirstBadOf, IsGoodAs, Kind, SoundProgram, StopsIn, StreamFile}
+use Rattle.bt878_tasks.specs.Clauses.{AreTold, IsCut, IsUnreadOf, TellsInput, UnlessCut}
 use Rattle.bt878_tasks.proofs.Inputs.{both_of, cut_unread}
+use Rattle.bt878_tasks.proofs.Outputs.{first_among, later_among}
 
 -- Why is what an answer says of the bytes
 pub record IsJudge (IsBad : List ℕ → Answer → Option Inputs → Type 0) (IsGood : List ℕ → Type 0) (Why : Answer → List ℕ → Type 0) : Type 0 where
@@ -34,11 +36,6 @@ pub bad_at : (IsBad : List ℕ → Answer → Option Inputs → Type 0) (name : 
 bad_at IsBad name ReadFault old new tells h = absurd tells
 bad_at IsBad name NoMemory old new tells h = absurd tells
 bad_at IsBad name answer old new tells h = h
-
-pub run_bad_at : (IsBad : List ℕ → Answer → Option Inputs → Type 0) (IsGood : List ℕ → Type 0) (file stream : List ℕ) (answer : Answer) (old new : Seen) → TellsInput answer →
-    StopsAtRun IsBad IsGood file stream answer old new → IsBadRun IsBad IsGood file stream answer old.told.inputs
-run_bad_at IsBad IsGood file stream answer old new tells (inl h) = inl (bad_at IsBad file answer old new tells h)
-run_bad_at IsBad IsGood file stream answer old new tells (inr h) = inr (h.0, bad_at IsBadStream stream answer old new tells h.1)
 
 module _ {IsBad : List ℕ → Answer → Option Inputs → Type 0} {IsGood : List ℕ → Type 0} {Why : Answer → List ℕ → Type 0} (judge : IsJudge IsBad IsGood Why) where
   pub good_or_bad : (name : List ℕ) (answer : Answer) (inputs : Option Inputs) → AreTold inputs → OfInput name inputs IsGood → IsBad name answer inputs → ⊥
@@ -62,7 +59,7 @@ module _ {IsBad : List ℕ → Answer → Option Inputs → Type 0} {IsGood : Li
 -- ---- the four judges
 
 -- a file that its reader gives a fault of
-module _ {X : Type 0} (read : List ℕ → Result X FileFault) (file : Input) where
+module _ {X : Type 0} (read : List ℕ → Result X FileFault) (file : FileInput) where
   abbrev IsFaulty : Answer → List ℕ → Type 0
   IsFaulty answer bytes = (fault : FileFault) × (answer ≡ Malformed file fault) × (read bytes ≡ Err fault)
 
@@ -195,22 +192,116 @@ desc_once a b bytes one two = cc
 pub desc_judge : IsJudge IsBadDesc HoldsValid WhyDesc
 desc_judge = record { tells = desc_tells; excludes = desc_excludes; once = desc_once }
 
--- ---- a run, whose first input has a judge
+-- ---- the judge of each kind
 
-module _ {IsBad : List ℕ → Answer → Option Inputs → Type 0} {IsGood : List ℕ → Type 0} {Why : Answer → List ℕ → Type 0} (judge : IsJudge IsBad IsGood Why) (file stream : List ℕ) where
-  pub good_or_bad_run : (answer : Answer) (inputs : Option Inputs) → AreTold inputs → OfInput file inputs IsGood → OfInput stream inputs HoldsSteps →
-      IsBadRun IsBad IsGood file stream answer inputs → ⊥
-  good_or_bad_run answer inputs told good steps (inl bad) = good_or_bad judge file answer inputs told good bad
-  good_or_bad_run answer inputs told good steps (inr bad) = good_or_bad stream_judge stream answer inputs told steps bad.1
+abbrev pub why : Kind → Answer → List ℕ → Type 0
+why AnyProgram = WhyFile
+why SoundProgram = WhyProgram
+why Description = WhyDesc
+why StreamFile = WhyStream
 
-  pub good_run_cuts : (answer : Answer) (old new : Seen) → AreTold old.told.inputs → OfInput file old.told.inputs IsGood → OfInput stream old.told.inputs HoldsSteps →
-      StopsAtRun IsBad IsGood file stream answer old new → IsCut answer old new
-  good_run_cuts answer old new told good steps (inl h) = good_cuts judge file answer old new told good h
-  good_run_cuts answer old new told good steps (inr h) = good_cuts stream_judge stream answer old new told steps h.1
+pub judge_of : (kind : Kind) → IsJudge (IsBadAs kind) (IsGoodAs kind) (why kind)
+judge_of AnyProgram = file_judge
+judge_of SoundProgram = program_judge
+judge_of Description = desc_judge
+judge_of StreamFile = stream_judge
 
-  pub bad_run_stops : (wanted answer : Answer) (old new : Seen) → AreTold old.told.inputs → IsBadRun IsBad IsGood file stream wanted old.told.inputs →
-      StopsAtRun IsBad IsGood file stream answer old new → UnlessCut wanted answer old new
-  bad_run_stops wanted answer old new told (inl bad) (inl h) = bad_stops judge file wanted answer old new told bad h
-  bad_run_stops wanted answer old new told (inl bad) (inr h) = absurd (good_or_bad judge file wanted old.told.inputs told h.0 bad)
-  bad_run_stops wanted answer old new told (inr bad) (inl h) = inr (good_cuts judge file answer old new told bad.0 h)
-  bad_run_stops wanted answer old new told (inr bad) (inr h) = bad_stops stream_judge stream wanted answer old new told bad.1 h.1
+-- no judge tells of an answer that is none of a refused input
+abbrev pub IsOutcome : Answer → Type 0
+IsOutcome Done = ⊤
+IsOutcome WriteFault = ⊤
+IsOutcome (Usage fault) = ⊤
+IsOutcome _ = ⊥
+
+never_at : (kind : Kind) (name : List ℕ) (answer : Answer) (old new : Seen) → IsOutcome answer → StopsAt (IsBadAs kind) name answer old new → ⊥
+never_at AnyProgram name Done old new is h = h
+never_at AnyProgram name WriteFault old new is h = h
+never_at AnyProgram name (Usage fault) old new is h = h
+never_at AnyProgram name answer old new is h = is
+never_at SoundProgram name Done old new is h = h
+never_at SoundProgram name WriteFault old new is h = h
+never_at SoundProgram name (Usage fault) old new is h = h
+never_at SoundProgram name answer old new is h = is
+never_at Description name Done old new is h = h
+never_at Description name WriteFault old new is h = h
+never_at Description name (Usage fault) old new is h = h
+never_at Description name answer old new is h = is
+never_at StreamFile name Done old new is h = h
+never_at StreamFile name WriteFault old new is h = h
+never_at StreamFile name (Usage fault) old new is h = h
+never_at StreamFile name answer old new is h = is
+
+-- ---- a list of inputs
+
+pub never_in : (inputs : List Input) (answer : Answer) (old new : Seen) → IsOutcome answer → StopsIn inputs answer old new → ⊥
+never_in [] answer old new is h = subst IsOutcome h is
+never_in (input ∷ []) answer old new is h = never_at input.kind input.name answer old new is h
+never_in (input ∷ next ∷ inputs) answer old new is (inl h) = never_at input.kind input.name answer old new is h
+never_in (input ∷ next ∷ inputs) answer old new is (inr h) = never_in (next ∷ inputs) answer old new is h.1
+
+pub no_memory : (inputs : List Input) (old new : Seen) → StopsIn inputs NoMemory old new
+no_memory [] old new = refl
+no_memory (input ∷ []) old new = tt
+no_memory (input ∷ next ∷ inputs) old new = inl tt
+
+-- the desk may meet more faults of reading later
+stops_at_later : (IsBad : List ℕ → Answer → Option Inputs → Type 0) (name : List ℕ) (answer : Answer) (old mid new : Seen) → new.reads ≡ mid.reads →
+    StopsAt IsBad name answer old mid → StopsAt IsBad name answer old new
+stops_at_later IsBad name ReadFault old mid new same (inl rose) = inl (subst (λ n. HasRisen old.reads n) (sym same) rose)
+stops_at_later IsBad name ReadFault old mid new same (inr missing) = inr missing
+stops_at_later IsBad name answer old mid new same h = h
+
+pub stops_later : (inputs : List Input) (answer : Answer) (old mid new : Seen) → new.reads ≡ mid.reads → StopsIn inputs answer old mid → StopsIn inputs answer old new
+stops_later [] answer old mid new same h = h
+stops_later (input ∷ []) answer old mid new same h = stops_at_later (IsBadAs input.kind) input.name answer old mid new same h
+stops_later (input ∷ next ∷ inputs) answer old mid new same (inl h) = inl (stops_at_later (IsBadAs input.kind) input.name answer old mid new same h)
+stops_later (input ∷ next ∷ inputs) answer old mid new same (inr h) = inr (h.0, stops_later (next ∷ inputs) answer old mid new same h.1)
+
+-- what an answer tells is so of the first input that is not good
+pub bad_in : (inputs : List Input) (answer : Answer) (old new : Seen) → TellsInput answer → StopsIn inputs answer old new → IsFirstBadOf inputs answer old.told.inputs
+bad_in [] answer old new tells h = subst TellsInput h tells
+bad_in (input ∷ []) answer old new tells h = bad_at (IsBadAs input.kind) input.name answer old new tells h
+bad_in (input ∷ next ∷ inputs) answer old new tells (inl h) = inl (bad_at (IsBadAs input.kind) input.name answer old new tells h)
+bad_in (input ∷ next ∷ inputs) answer old new tells (inr h) = inr (h.0, bad_in (next ∷ inputs) answer old new tells h.1)
+
+-- good inputs aren't bad
+pub good_not_bad : (inputs : List Input) (answer : Answer) (told : Option Inputs) → AreTold told → AreGood inputs told → IsFirstBadOf inputs answer told → ⊥
+good_not_bad [] answer told is good bad = bad
+good_not_bad (input ∷ []) answer told is good bad = good_or_bad (judge_of input.kind) input.name answer told is good bad
+good_not_bad (input ∷ next ∷ inputs) answer told is good (inl bad) = good_or_bad (judge_of input.kind) input.name answer told is good.0 bad
+good_not_bad (input ∷ next ∷ inputs) answer told is good (inr bad) = good_not_bad (next ∷ inputs) answer told is good.1 bad.1
+
+-- where an input is bad, it stops for this reason or is cut off
+pub bad_leads : (inputs : List Input) (wanted answer : Answer) (old new : Seen) → AreTold old.told.inputs → IsFirstBadOf inputs wanted old.told.inputs → StopsIn inputs answer old new →
+    UnlessCut wanted answer old new
+bad_leads [] wanted answer old new told bad h = absurd bad
+bad_leads (input ∷ []) wanted answer old new told bad h = bad_stops (judge_of input.kind) input.name wanted answer old new told bad h
+bad_leads (input ∷ next ∷ inputs) wanted answer old new told (inl bad) (inl h) = bad_stops (judge_of input.kind) input.name wanted answer old new told bad h
+bad_leads (input ∷ next ∷ inputs) wanted answer old new told (inl bad) (inr h) = absurd (good_or_bad (judge_of input.kind) input.name wanted old.told.inputs told h.0 bad)
+bad_leads (input ∷ next ∷ inputs) wanted answer old new told (inr bad) (inl h) = inr (good_cuts (judge_of input.kind) input.name answer old new told bad.0 h)
+bad_leads (input ∷ next ∷ inputs) wanted answer old new told (inr bad) (inr h) = bad_leads (next ∷ inputs) wanted answer old new told bad.1 h.1
+
+-- where all inputs are good, it stops only where it is cut off
+pub good_leads : (inputs : List Input) (answer : Answer) (old new : Seen) → AreTold old.told.inputs → AreGood inputs old.told.inputs → StopsIn inputs answer old new → IsCut answer old new
+good_leads [] answer old new told good h = inl h
+good_leads (input ∷ []) answer old new told good h = good_cuts (judge_of input.kind) input.name answer old new told good h
+good_leads (input ∷ next ∷ inputs) answer old new told good (inl h) = good_cuts (judge_of input.kind) input.name answer old new told good.0 h
+good_leads (input ∷ next ∷ inputs) answer old new told good (inr h) = good_leads (next ∷ inputs) answer old new told good.1 h.1
+
+-- an input could not be read
+abbrev pub input_names : List Input → List (List ℕ)
+input_names inputs = map (λ (input : Input). input.name) inputs
+
+unread_at : (IsBad : List ℕ → Answer → Option Inputs → Type 0) (name : List ℕ) (names : List (List ℕ)) (old new : Seen) → StopsAt IsBad name ReadFault old new → IsUnreadOf (name ∷ names) old new
+unread_at IsBad name names old new (inl rose) = inl rose
+unread_at IsBad name names old new (inr missing) = inr (name, first_among name names, missing)
+
+unread_later : (name : List ℕ) (names : List (List ℕ)) (old new : Seen) → IsUnreadOf names old new → IsUnreadOf (name ∷ names) old new
+unread_later name names old new (inl rose) = inl rose
+unread_later name names old new (inr (other, among, missing)) = inr (other, later_among other name names among, missing)
+
+pub unread_in : (inputs : List Input) (old new : Seen) → StopsIn inputs ReadFault old new → IsUnreadOf (input_names inputs) old new
+unread_in [] old new h = absurd (cc)
+unread_in (input ∷ []) old new h = unread_at (IsBadAs input.kind) input.name [] old new h
+unread_in (input ∷ next ∷ inputs) old new (inl h) = unread_at (IsBadAs input.kind) input.name (input_names (next ∷ inputs)) old new h
+unread_in (input ∷ next ∷ inputs) old new (inr h) = unread_later input.name (input_names (next ∷ inputs)) old new (unread_in (next ∷ inputs) old new h.1)

@@ -1,12 +1,12 @@
 -- Files that are written and a text that is said, whole or in part, and what is left as it was.
-use Rattle.std.proofs.Common.{◌≡◌, ◌≢◌, ℕ, inl, inr, true, false, Bool, ◌||◌, List, [], ◌∷◌, ◌++◌, take, Option, Some, None, option_map, refl, sym, ap, subst, ◌∙◌}
+use Rattle.std.proofs.Common.{◌≡◌, ◌≢◌, ℕ, ◌⊎◌, length, arith, inl, inr, true, false, Bool, ◌||◌, List, [], ◌∷◌, ◌++◌, take, Option, Some, None, option_map, refl, sym, ap, subst, ◌∙◌}
 use Rattle.std.specs.Prelude.{⊤}
 use Rattle.std.specs.Str.{bytes_eq}
 use Rattle.std.proofs.lemmas.Slice.Eq.{bytes_eq-Decides}
-use Rattle.capture_desk.specs.Desks.{Outputs, Told, is_among, output_named, created, written, after_say}
+use Rattle.capture_desk.specs.Desks.{HasRisen, Seen, Outputs, Told, counted, is_among, output_named, created, written, after_say}
 use Rattle.capture_desk.proofs.Outputs.{output_created, output_created_other, output_appended, output_appended_other}
 use Rattle.bt878_words.proofs.Asked.{or_false, same_name}
-use Rattle.command_steps.specs.Desks.{Seen, Says, IsPart, after_file, apart, delivered}
+use Rattle.command_steps.specs.Desks.{LastWriteFailed, Says, WritesRose, IsPart, after_file, apart, delivered}
 use Rattle.bt878_tasks.specs.Tasks.{names_of}
 use Rattle.bt878_tasks.specs.Clauses.{CreatesNone, IsCutOff, IsOutput, OnlySays, SameNames, SameOutput, SameOutputs, SaysAll}
 
@@ -156,8 +156,16 @@ says_only text old new e = (
   ap (λ (t : Told). t.said) e,
 )
 
+-- a count that has one more has risen
+pub rises : (old new : ℕ) → new ≡ counted old → HasRisen old new
+rises old new e = omega (arith, e)
+
 pub only_says : (text : List ℕ) (old new : Seen) → Says text old new → OnlySays text old new
-only_says text old new (n, few, e, whole) = let s = says_only (take n text) old.told new.told e in (s.0, (n, few, s.1, whole))
+only_says text old new (n, few, e, whole) = let s = says_only (take n text) old.told new.told e in (s.0, (n, few, s.1, said whole))
+  where
+    said : ((n ≡ length text) × (new.writes ≡ old.writes)) ⊎ LastWriteFailed old new → (n ≡ length text) ⊎ WritesRose old new
+    said (inl all) = inl all.0
+    said (inr fault) = inr (rises old.writes new.writes fault.0)
 
 pub same_outputs : (name : List ℕ) (old new : Told) → CreatesNone old new → SameOutput name old.outputs new.outputs
 same_outputs name old new h = ap (option_map (output_named name)) h.0

@@ -2,9 +2,8 @@
 use Rattle.std.specs.Prelude.{◌≡◌, ℕ, ◌≤◌, ◌⊎◌, ⊤, false, true, List, [], ◌∷◌, ◌++◌, length, take, Option, Some, None, option_map, Result, Ok, Err}
 use Rattle.bt878_words.specs.declared.Command.{Command}
 use Rattle.bt878_words.specs.declared.UsageFault.{UsageFault}
-use Rattle.capture_desk.specs.Desks.{Inputs, Outputs, Told, is_among, is_missing, output_named}
+use Rattle.capture_desk.specs.Desks.{Seen, Inputs, Outputs, Told, is_among, is_missing, output_named}
 use Rattle.capture_desc.specs.declared.desc.Desc.{Desc}
-use Rattle.machine_model.specs.Paths.{IsSound}
 use Rattle.machine_model.specs.States.{State}
 use Rattle.machine_model.specs.Steps.{state_at}
 use Rattle.machine_model.specs.Steps as machine
@@ -19,11 +18,11 @@ use Rattle.dma_machine.specs.Facts.{report_of}
 use Rattle.risc_listing.specs.Listings.{listing}
 use Rattle.command_steps.specs.declared.answer.Answer.{Answer}
 use Rattle.command_steps.specs.declared.answer.Answer.TheVariants.{Done, Usage, ReadFault, WriteFault, NoMemory}
-use Rattle.command_steps.specs.Desks.{Seen, Product, OfInput, ReadsRose, WritesRose}
+use Rattle.command_steps.specs.Desks.{Product, OfInput, ReadsRose, WritesRose}
 use Rattle.command_steps.specs.Texts.{accepted_text, made_text, report_text}
-use Rattle.program_play.specs.Programs.{HoldsProgram, HoldsSound, HoldsSteps, IsBadFile, IsBadProgram, IsBadStream, Ran, first_of, last_of, OfRun, GivesSound}
-use Rattle.desc_input.specs.Descriptions.{Describes, HoldsValid, IsBadDesc, GivesCompiled}
-use Rattle.bt878_tasks.specs.Tasks.{Task, Lists, Verifies, Runs, Compiles, Captures, Generates, Makes, compiled_text, creates, names_of}
+use Rattle.program_play.specs.Programs.{HoldsSound, Ran, first_of, last_of, OfRun, GivesSound}
+use Rattle.desc_input.specs.Descriptions.{Describes, GivesCompiled}
+use Rattle.bt878_tasks.specs.Tasks.{Task, Lists, Verifies, Runs, Compiles, Captures, Generates, AreGood, IsFirstBadOf, Makes, compiled_text, creates, meaning, names_of}
 
 -- ---- the words
 
@@ -40,11 +39,15 @@ AreTold None = ⊥
 AreTold (Some inputs) = ⊤
 
 -- P of what `run` or `capture` ran: the program of the program file or of the description, with its fill, over the steps
--- of the whole stream
+-- of the whole stream; the others run nothing
 abbrev pub OfRan : Result Task UsageFault → Option Inputs → (Ran → Type 0) → Type 0
 OfRan (Ok (Runs program stream image)) inputs P = OfRun GivesSound program stream inputs P
 OfRan (Ok (Captures desc stream program image)) inputs P = OfRun GivesCompiled desc stream inputs P
-OfRan _ inputs P = ⊤
+OfRan (Ok (Lists program)) inputs P = ⊤
+OfRan (Ok (Verifies program)) inputs P = ⊤
+OfRan (Ok (Compiles desc program)) inputs P = ⊤
+OfRan (Ok (Generates desc seed frames stream)) inputs P = ⊤
+OfRan (Err fault) inputs P = ⊥
 
 -- P of the description that `compile` or `make` read
 abbrev pub OfDesc : List ℕ → Option Inputs → (Desc → Type 0) → Type 0
@@ -75,26 +78,14 @@ CreatesNone old new = (new.outputs ≡ old.outputs) × (new.writing ≡ old.writ
 
 -- ---- at Done
 
--- the program that was accepted, and the one that ran, is sound
-abbrev pub IsSoundAt : Result Task UsageFault → Option Inputs → Type 0
-IsSoundAt (Ok (Verifies program)) inputs = OfInput program inputs HoldsSound
-IsSoundAt task inputs = OfRan task inputs (λ r. IsSound r.program)
-
 -- the image is that of the memory after all steps, and the report that of the same state
 abbrev pub ShowsLast : List ℕ → Told → Told → Ran → Type 0
 ShowsLast image old new r =
     IsOutput image (image_of (last_of r).memory) new.outputs × SaysAll (report_text (report_of (last_of r))) old new
 
-abbrev pub ImageAndReport : Result Task UsageFault → Told → Told → Type 0
-ImageAndReport (Ok (Runs program stream image)) old new = OfRun GivesSound program stream old.inputs (ShowsLast image old new)
-ImageAndReport (Ok (Captures desc stream program image)) old new = OfRun GivesCompiled desc stream old.inputs (ShowsLast image old new)
-ImageAndReport _ old new = ⊤
-
 -- the program file of `capture` is the one spelling of the program that ran and of its fill
-abbrev pub WritesProgram : Result Task UsageFault → Told → Told → Type 0
-WritesProgram (Ok (Captures desc stream program image)) old new =
-    OfRun GivesCompiled desc stream old.inputs (λ r. IsOutput program (spelled r.program r.fill) new.outputs)
-WritesProgram _ old new = ⊤
+abbrev pub ShowsProgram : List ℕ → Told → Ran → Type 0
+ShowsProgram program new r = IsOutput program (spelled r.program r.fill) new.outputs
 
 -- at every place of the steps, what the turn there writes is granted, what it fetches is a word of the program, and
 -- OCERR is 0
@@ -105,31 +96,27 @@ StaysInside r = (place : ℕ) → IsInside r.program (state_at (first_of r) (ste
 abbrev pub OfSteps : (State → List machine.Step → Type 0) → Ran → Type 0
 OfSteps P r = P (first_of r) (steps_run r.steps)
 
--- `accepted` is said of the program
-abbrev pub SaysAccepted : Result Task UsageFault → Told → Told → Type 0
-SaysAccepted (Ok (Verifies program)) old new = SaysAll accepted_text old new × CreatesNone old new
-SaysAccepted _ old new = ⊤
+-- the program of the file is sound, `accepted` is said of it, and nothing is created
+abbrev pub SaysAccepted : List ℕ → Told → Told → Type 0
+SaysAccepted program old new = OfInput program old.inputs HoldsSound × SaysAll accepted_text old new × CreatesNone old new
 
--- the listing of the whole file's program is said
-abbrev pub SaysListing : Result Task UsageFault → Told → Told → Type 0
-SaysListing (Ok (Lists program)) old new =
+-- the listing of the whole file's program is said, and nothing is created
+abbrev pub SaysListing : List ℕ → Told → Told → Type 0
+SaysListing program old new =
     OfInput program old.inputs (λ bytes. (file : ProgramFile) × (program_of bytes ≡ Ok file)
     × SaysAll (listing file.program file.fill) old new) × CreatesNone old new
-SaysListing _ old new = ⊤
 
 -- the one spelling of the description's program and of its fill is written, and the numbers of its words and chunks are
 -- said
-abbrev pub IsCompiled : Result Task UsageFault → Told → Told → Type 0
-IsCompiled (Ok (Compiles desc program)) old new =
+abbrev pub IsCompiled : List ℕ → List ℕ → Told → Told → Type 0
+IsCompiled desc program old new =
     OfDesc desc old.inputs (λ d. IsOutput program (spelled (compiled d) d.fill) new.outputs × SaysAll (compiled_text d) old new)
-IsCompiled _ old new = ⊤
 
 -- the generated stream is written, and its numbers of fields and data entries are said
-abbrev pub IsGenerated : Result Task UsageFault → Told → Told → Type 0
-IsGenerated (Ok (Generates desc seed frames stream)) old new =
+abbrev pub IsGenerated : List ℕ → ℕ → ℕ → List ℕ → Told → Told → Type 0
+IsGenerated desc seed frames stream old new =
     OfDesc desc old.inputs (λ d. IsOutput stream (made d seed frames) new.outputs
     × SaysAll (made_text (made_fields d frames) (made_entries d frames)) old new)
-IsGenerated _ old new = ⊤
 
 -- ---- why it is refused
 
@@ -139,19 +126,9 @@ IsUnreadOf names old new =
     ReadsRose old new
     ⊎ ((name : List ℕ) × (is_among name names ≡ true) × (is_missing name old.told.inputs ≡ true))
 
--- the first input is bad in the way that an answer tells; or it is good, and the stream is bad
-abbrev pub IsBadRun : (List ℕ → Answer → Option Inputs → Type 0) → (List ℕ → Type 0) → List ℕ → List ℕ → Answer → Option Inputs → Type 0
-IsBadRun IsBad IsGood file stream answer inputs =
-    IsBad file answer inputs ⊎ (OfInput file inputs IsGood × IsBadStream stream answer inputs)
-
 -- the cause of an answer that tells what is bad about an input: `Malformed`, `Rejected`, `BadDesc` or `BadGeometry`
 abbrev pub IsBadInput : Result Task UsageFault → Answer → Option Inputs → Type 0
-IsBadInput (Ok (Lists program)) answer inputs = IsBadFile program answer inputs
-IsBadInput (Ok (Verifies program)) answer inputs = IsBadProgram program answer inputs
-IsBadInput (Ok (Runs program stream image)) answer inputs = IsBadRun IsBadProgram HoldsSound program stream answer inputs
-IsBadInput (Ok (Compiles desc program)) answer inputs = IsBadDesc desc answer inputs
-IsBadInput (Ok (Captures desc stream program image)) answer inputs = IsBadRun IsBadDesc HoldsValid desc stream answer inputs
-IsBadInput (Ok (Generates desc seed frames stream)) answer inputs = IsBadDesc desc answer inputs
+IsBadInput (Ok task) answer inputs = IsFirstBadOf (meaning task).inputs answer inputs
 IsBadInput (Err fault) answer inputs = ⊥
 
 -- the answers that have such a cause
@@ -165,12 +142,7 @@ TellsInput _ = ⊤
 
 -- every input is there and good
 abbrev pub IsGood : Result Task UsageFault → Option Inputs → Type 0
-IsGood (Ok (Lists program)) inputs = OfInput program inputs HoldsProgram
-IsGood (Ok (Verifies program)) inputs = OfInput program inputs HoldsSound
-IsGood (Ok (Runs program stream image)) inputs = OfInput program inputs HoldsSound × OfInput stream inputs HoldsSteps
-IsGood (Ok (Compiles desc program)) inputs = OfInput desc inputs HoldsValid
-IsGood (Ok (Captures desc stream program image)) inputs = OfInput desc inputs HoldsValid × OfInput stream inputs HoldsSteps
-IsGood (Ok (Generates desc seed frames stream)) inputs = OfInput desc inputs HoldsValid
+IsGood (Ok task) inputs = AreGood (meaning task).inputs inputs
 IsGood (Err fault) inputs = ⊥
 
 -- want of memory, or a fault of reading

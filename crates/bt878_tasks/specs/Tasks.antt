@@ -1,11 +1,12 @@
--- What the words ask for, what comes of it, and why it is refused.
-use Rattle.std.specs.Prelude.{◌≡◌, ℕ, ⊤, ◌⊎◌, List, [], ◌∷◌, map, length, Option, MatchOption, Result, Ok, Err}
+-- What the words ask for, what each command means, what comes of it, and why it is refused.
+use Rattle.std.specs.Prelude.{◌≡◌, ℕ, ⊤, ◌⊎◌, List, [], ◌∷◌, map, length, Option, Some, None, MatchOption, Result, Ok, Err}
+use Rattle.std.specs.Borrow.{Bor}
 use Rattle.bt878_words.specs.declared.Command.{Command}
 use Rattle.bt878_words.specs.declared.Command.TheVariants as command
 use Rattle.bt878_words.specs.declared.UsageFault.{UsageFault}
 use Rattle.bt878_words.specs.declared.UsageFault.TheVariants.{UnknownCommand}
 use Rattle.bt878_words.specs.Words.{command_of}
-use Rattle.capture_desk.specs.Desks.{Inputs, is_among}
+use Rattle.capture_desk.specs.Desks.{Inputs, IsWriteFault, Seen, is_among}
 use Rattle.capture_desc.specs.declared.desc.Desc.{Desc}
 use Rattle.machine_model.specs.Paths.{RiscProgram, IsSound}
 use Rattle.machine_model.specs.Safety.{IsInside}
@@ -17,10 +18,10 @@ use Rattle.picture_model.specs.Programs.{compiled}
 use Rattle.field_stream.specs.Made.{made, made_entries, made_fields}
 use Rattle.dma_machine.specs.Facts.{report_of}
 use Rattle.command_steps.specs.declared.answer.Answer.{Answer}
-use Rattle.command_steps.specs.declared.answer.Answer.TheVariants.{Done, Usage, WriteFault}
-use Rattle.command_steps.specs.Desks.{Seen, Product, OfInput, SameCounts, StopsAt, WritesRose, Says, apart, delivered, IsPart}
+use Rattle.command_steps.specs.declared.answer.Answer.TheVariants.{Done, NoMemory, Usage, WriteFault}
+use Rattle.command_steps.specs.Desks.{Product, OfInput, SameCounts, StopsAt, Says, apart, delivered, IsPart}
 use Rattle.command_steps.specs.Texts.{accepted_text, answer_text, built_text, made_text, report_text}
-use Rattle.program_play.specs.Programs.{IsListed, IsBadFile, IsBadProgram, IsBadStream, HoldsSound, Ran, first_of, last_of, OfRun, GivesSound}
+use Rattle.program_play.specs.Programs.{IsListed, IsBadFile, IsBadProgram, IsBadStream, IsRun, HoldsProgram, HoldsSound, HoldsSteps, Ran, first_of, last_of, GivesSound}
 use Rattle.desc_input.specs.Descriptions.{Describes, IsBadDesc, HoldsValid, GivesCompiled}
 
 -- ---- the words
@@ -48,18 +49,13 @@ task_with (Ok _) words = Err UnknownCommand
 abbrev pub task_of : List (List ℕ) → Result Task UsageFault
 task_of words = task_with (command_of words) words
 
+-- the words, as they are passed
+abbrev pub texts : List (Bor (List ℕ)) → List (List ℕ)
+texts words = map (λ (word : Bor (List ℕ)). word.now) words
+
 -- the names that are told are these
 abbrev pub AreNames : List (List ℕ) → Option (List (List ℕ)) → Type 0
 AreNames names told = MatchOption told ⊤ (λ known. (name : List ℕ) → is_among name known ≡ is_among name names)
-
--- the outputs, in the order in which they are written
-abbrev pub creates : Task → List (List ℕ)
-creates (Lists program) = []
-creates (Verifies program) = []
-creates (Runs program stream image) = image ∷ []
-creates (Compiles desc program) = program ∷ []
-creates (Captures desc stream program image) = program ∷ image ∷ []
-creates (Generates desc seed frames stream) = stream ∷ []
 
 -- ---- what a task makes of its inputs
 
@@ -91,34 +87,157 @@ pub record DescMakes (file : Desc → List ℕ × List ℕ) (text : Desc → Lis
 abbrev pub compiled_text : Desc → List ℕ
 compiled_text d = built_text (length (compiled d).words) (length (compiled d).grants)
 
+-- ---- inputs
+
+-- what an input must be
+pub data Kind : Type 0 where
+  AnyProgram : Kind
+  SoundProgram : Kind
+  Description : Kind
+  StreamFile : Kind
+
+pub record Input : Type 0 where
+  pub name : List ℕ
+  pub kind : Kind
+
+abbrev pub a_program : List ℕ → Input
+a_program name = record { name = name; kind = AnyProgram }
+
+abbrev pub a_sound_program : List ℕ → Input
+a_sound_program name = record { name = name; kind = SoundProgram }
+
+abbrev pub a_description : List ℕ → Input
+a_description name = record { name = name; kind = Description }
+
+abbrev pub a_stream : List ℕ → Input
+a_stream name = record { name = name; kind = StreamFile }
+
+-- the judge of an input: its bytes are good
+abbrev pub IsGoodAs : Kind → List ℕ → Type 0
+IsGoodAs AnyProgram = HoldsProgram
+IsGoodAs SoundProgram = HoldsSound
+IsGoodAs Description = HoldsValid
+IsGoodAs StreamFile = HoldsSteps
+
+-- or they are bad in the way that an answer tells
+abbrev pub IsBadAs : Kind → List ℕ → Answer → Option Inputs → Type 0
+IsBadAs AnyProgram = IsBadFile
+IsBadAs SoundProgram = IsBadProgram
+IsBadAs Description = IsBadDesc
+IsBadAs StreamFile = IsBadStream
+
+-- P of the contents of all inputs, in their order, where they are told
+abbrev pub OfInputs : List Input → Option Inputs → (List (List ℕ) → Type 0) → Type 0
+OfInputs [] told P = P []
+OfInputs (input ∷ inputs) told P = OfInput input.name told (λ bytes. OfInputs inputs told (λ later. P (bytes ∷ later)))
+
+-- every input is there and good
+abbrev pub AreGood : List Input → Option Inputs → Type 0
+AreGood [] told = ⊤
+AreGood (input ∷ []) told = OfInput input.name told (IsGoodAs input.kind)
+AreGood (input ∷ next ∷ inputs) told = OfInput input.name told (IsGoodAs input.kind) × AreGood (next ∷ inputs) told
+
+-- the first input that is not good is bad in the way that an answer tells
+abbrev pub IsFirstBadOf : List Input → Answer → Option Inputs → Type 0
+IsFirstBadOf [] answer told = ⊥
+IsFirstBadOf (input ∷ []) answer told = IsBadAs input.kind input.name answer told
+IsFirstBadOf (input ∷ next ∷ inputs) answer told =
+    IsBadAs input.kind input.name answer told
+    ⊎ (OfInput input.name told (IsGoodAs input.kind) × IsFirstBadOf (next ∷ inputs) answer told)
+
+-- the inputs are taken one after the other, and the first that is not taken gives the answer; behind all of them only
+-- memory may be short
+abbrev pub StopsIn : List Input → Answer → Seen → Seen → Type 0
+StopsIn [] answer old new = answer ≡ NoMemory
+StopsIn (input ∷ []) answer old new = StopsAt (IsBadAs input.kind) input.name answer old new
+StopsIn (input ∷ next ∷ inputs) answer old new =
+    StopsAt (IsBadAs input.kind) input.name answer old new
+    ⊎ (OfInput input.name old.told.inputs (IsGoodAs input.kind) × StopsIn (next ∷ inputs) answer old new)
+
+-- ---- the meaning of each command
+
+-- its inputs and its outputs, in the order in which they are read and written, what it makes of the contents of its
+-- inputs, and its text, where that is the same whatever the contents
+pub record Meaning : Type 1 where
+  pub inputs : List Input
+  pub outputs : List (List ℕ)
+  pub makes : List (List ℕ) → Product → Type 0
+  pub text : Option (List ℕ)
+
+abbrev pub ListingOf : List (List ℕ) → Product → Type 0
+ListingOf (program ∷ []) product = IsListed program product.text
+ListingOf _ product = ⊥
+
+abbrev pub VerdictOf : List (List ℕ) → Product → Type 0
+VerdictOf (program ∷ []) product = HoldsSound program
+VerdictOf _ product = ⊥
+
+-- what a run over a stream makes, by the files of what ran
+abbrev pub RunOf : (List ℕ → RiscProgram → ℕ → Type 0) → (Ran → List (List ℕ × List ℕ)) → List (List ℕ) → Product → Type 0
+RunOf Gives files (file ∷ stream ∷ []) product = (r : Ran) × IsRun Gives file stream r × RunMakes (files r) product r
+RunOf Gives files _ product = ⊥
+
+-- what is made of a description, by the file and the text for it
+abbrev pub MadeOf : (Desc → List ℕ × List ℕ) → (Desc → List ℕ) → List (List ℕ) → Product → Type 0
+MadeOf file text (desc ∷ []) product = DescMakes file text product desc
+MadeOf file text _ product = ⊥
+
+abbrev pub meaning : Task → Meaning
+meaning (Lists program) =
+    record {
+      inputs = a_program program ∷ [];
+      outputs = [];
+      makes = ListingOf;
+      text = None;
+    }
+meaning (Verifies program) =
+    record {
+      inputs = a_sound_program program ∷ [];
+      outputs = [];
+      makes = VerdictOf;
+      text = Some accepted_text;
+    }
+meaning (Runs program stream image) =
+    record {
+      inputs = a_sound_program program ∷ a_stream stream ∷ [];
+      outputs = image ∷ [];
+      makes = RunOf GivesSound (λ r. image_file image r ∷ []);
+      text = None;
+    }
+meaning (Compiles desc program) =
+    record {
+      inputs = a_description desc ∷ [];
+      outputs = program ∷ [];
+      makes = MadeOf (λ d. program_file program (compiled d) d.fill) compiled_text;
+      text = None;
+    }
+meaning (Captures desc stream program image) =
+    record {
+      inputs = a_description desc ∷ a_stream stream ∷ [];
+      outputs = program ∷ image ∷ [];
+      makes = RunOf GivesCompiled (λ r. program_file program r.program r.fill ∷ image_file image r ∷ []);
+      text = None;
+    }
+meaning (Generates desc seed frames stream) =
+    record {
+      inputs = a_description desc ∷ [];
+      outputs = stream ∷ [];
+      makes = MadeOf (λ d. (stream, made d seed frames)) (λ d. made_text (made_fields d frames) (made_entries d frames));
+      text = None;
+    }
+
+-- the outputs, in the order in which they are written
+abbrev pub creates : Task → List (List ℕ)
+creates task = (meaning task).outputs
+
 abbrev pub Makes : Task → Option Inputs → Product → Type 0
-Makes (Lists program) inputs product = OfInput program inputs (λ bytes. IsListed bytes product.text)
-Makes (Verifies program) inputs product = OfInput program inputs HoldsSound × (product.text ≡ accepted_text)
-Makes (Runs program stream image) inputs product =
-    OfRun GivesSound program stream inputs (λ r. RunMakes (image_file image r ∷ []) product r)
-Makes (Compiles desc program) inputs product =
-    OfInput desc inputs (DescMakes (λ d. program_file program (compiled d) d.fill) compiled_text product)
-Makes (Captures desc stream program image) inputs product =
-    OfRun GivesCompiled desc stream inputs
-    (λ r. RunMakes (program_file program r.program r.fill ∷ image_file image r ∷ []) product r)
-Makes (Generates desc seed frames stream) inputs product =
-    OfInput desc inputs
-    (DescMakes (λ d. (stream, made d seed frames)) (λ d. made_text (made_fields d frames) (made_entries d frames)) product)
+Makes task inputs product =
+    OfInputs (meaning task).inputs inputs (λ contents. (meaning task).makes contents product)
+    × MatchOption (meaning task).text ⊤ (λ text. product.text ≡ text)
 
--- ---- why it is refused
-
--- at its first input, or this is good and it is refused at its stream
-abbrev pub StopsAtRun : (List ℕ → Answer → Option Inputs → Type 0) → (List ℕ → Type 0) → List ℕ → List ℕ → Answer → Seen → Seen → Type 0
-StopsAtRun IsBad IsGood file stream answer old new =
-    StopsAt IsBad file answer old new ⊎ (OfInput file old.told.inputs IsGood × StopsAt IsBadStream stream answer old new)
-
+-- why it is refused
 abbrev pub Stops : Task → Answer → Seen → Seen → Type 0
-Stops (Lists program) answer old new = StopsAt IsBadFile program answer old new
-Stops (Verifies program) answer old new = StopsAt IsBadProgram program answer old new
-Stops (Runs program stream image) answer old new = StopsAtRun IsBadProgram HoldsSound program stream answer old new
-Stops (Compiles desc program) answer old new = StopsAt IsBadDesc desc answer old new
-Stops (Captures desc stream program image) answer old new = StopsAtRun IsBadDesc HoldsValid desc stream answer old new
-Stops (Generates desc seed frames stream) answer old new = StopsAt IsBadDesc desc answer old new
+Stops task answer old new = StopsIn (meaning task).inputs answer old new
 
 -- ---- what comes of it
 
@@ -133,13 +252,13 @@ pub record IsDone (task : Task) (old new : Seen) : Type 0 where
   pub left : apart new.told ≡ delivered product.files product.text (apart old.told)
   pub counts : SameCounts old new
 
--- it was done in part, and the desk met a fault at a write
+-- it was done in part, up to a fault of the desk at a write, which was the last call
 pub record IsPartDone (task : Task) (old new : Seen) : Type 0 where
   pub product : Product
   pub made : Makes task old.told.inputs product
   pub names : names_of product.files ≡ creates task
   pub left : IsPart product.files product.text (apart old.told) (apart new.told)
-  pub rose : WritesRose old new
+  pub fault : IsWriteFault old new
 
 -- it was refused: nothing changed but that the answer's text was said
 pub record IsRefused (task : Task) (answer : Answer) (old new : Seen) : Type 0 where

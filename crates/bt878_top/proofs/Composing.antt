@@ -1,6 +1,6 @@
 -- How the parts of a command make the whole.
-use Rattle.std.proofs.Common.{◌≡◌, ℕ, ◌≤◌, ◌⊎◌, inl, inr, List, [], ◌∷◌, length, take, Option, refl, sym, ap, subst, ◌∙◌, arith}
-use Rattle.capture_desk.specs.Desks.{HasRisen, Inputs, after_say}
+use Rattle.std.proofs.Common.{◌≡◌, ℕ, ◌⊎◌, inl, inr, List, [], ◌∷◌, length, take, Option, refl, sym, ap, subst, ◌∙◌}
+use Rattle.capture_desk.specs.Desks.{Inputs, IsWriteFault, Seen, after_say, counted}
 use Rattle.capture_file.specs.Images.{image_of}
 use Rattle.capture_file.specs.Programs.{spelled}
 use Rattle.capture_file.specs.Streams.{steps_run}
@@ -12,91 +12,32 @@ use Rattle.dma_machine.specs.Facts.{report_of}
 use Rattle.picture_model.specs.Programs.{compiled}
 use Rattle.field_stream.specs.Made.{made, made_entries, made_fields}
 use Rattle.program_build.proofs.Checking.{checked_sound}
-use Rattle.bt878_words.specs.declared.UsageFault.{UsageFault}
 use Rattle.command_steps.specs.declared.answer.Answer.{Answer}
 use Rattle.command_steps.specs.declared.answer.Answer.TheVariants.{Done, Usage, ReadFault, WriteFault, Malformed, BadDesc, BadGeometry, Rejected, NoMemory}
-use Rattle.command_steps.specs.Desks.{Seen, Product, OfInput, NeedsMemory, Refused, Says, SameCounts, StopsAt, WritesRose, IsPart, apart, delivered}
+use Rattle.command_steps.specs.Desks.{LastWriteFailed, Product, OfInput, NeedsMemory, Refused, Says, SameCounts, IsPart, apart, delivered}
 use Rattle.command_steps.specs.Texts.{answer_text, built_text, made_text, report_text}
 use Rattle.command_steps.proofs.Parts.{apart_part, apart_delivered}
-use Rattle.program_play.specs.Programs.{GivesSound, HoldsSound, IsBadFile, IsBadProgram, IsBadStream, IsRun, OfRun, Ran, first_of, last_of}
+use Rattle.program_play.specs.Programs.{GivesSound, IsRun, OfRun, Ran, first_of, last_of}
 use Rattle.program_play.proofs.Fitting.{steps_fit}
 use Rattle.command_steps.proofs.Inputs.{OfInput-map}
-use Rattle.desc_input.specs.Descriptions.{Describes, GivesCompiled, HoldsValid, IsBadDesc}
-use Rattle.bt878_tasks.specs.Tasks.{Task, Lists, Verifies, Runs, Compiles, Captures, Generates, DescMakes, Ends, IsDone, IsPartDone, Makes, RunMakes, Stops, StopsAtRun, compiled_text, creates, image_file, names_of, program_file}
+use Rattle.desc_input.specs.Descriptions.{Describes, GivesCompiled}
+use Rattle.bt878_tasks.specs.Tasks.{Task, Runs, Compiles, Captures, Generates, DescMakes, Ends, IsDone, IsPartDone, Makes, RunMakes, Stops, compiled_text, creates, image_file, meaning, names_of, program_file}
+use Rattle.bt878_tasks.proofs.Judges.{never_in, no_memory, stops_later}
 use Rattle.bt878_tasks.proofs.Inputs.{OfRun-map}
 
 -- ---- refusals
 
--- the desk may meet more faults of reading later
-stops_at_later : (IsBad : List ℕ → Answer → Option Inputs → Type 0) (name : List ℕ) (answer : Answer) (old mid new : Seen) → mid.reads ≤ new.reads →
-    StopsAt IsBad name answer old mid → StopsAt IsBad name answer old new
-stops_at_later IsBad name ReadFault old mid new more (inl rose) = inl (omega arith)
-stops_at_later IsBad name ReadFault old mid new more (inr missing) = inr missing
-stops_at_later IsBad name answer old mid new more h = h
-
-stops_run_later : (IsBad : List ℕ → Answer → Option Inputs → Type 0) (IsGood : List ℕ → Type 0) (file stream : List ℕ) (answer : Answer) (old mid new : Seen) → mid.reads ≤ new.reads →
-    StopsAtRun IsBad IsGood file stream answer old mid → StopsAtRun IsBad IsGood file stream answer old new
-stops_run_later IsBad IsGood file stream answer old mid new more (inl h) = inl (stops_at_later IsBad file answer old mid new more h)
-stops_run_later IsBad IsGood file stream answer old mid new more (inr h) = inr (h.0, stops_at_later IsBadStream stream answer old mid new more h.1)
-
-stops_later : (task : Task) (answer : Answer) (old mid new : Seen) → mid.reads ≤ new.reads → Stops task answer old mid → Stops task answer old new
-stops_later (Lists program) answer old mid new more h = stops_at_later IsBadFile program answer old mid new more h
-stops_later (Verifies program) answer old mid new more h = stops_at_later IsBadProgram program answer old mid new more h
-stops_later (Runs program stream image) answer old mid new more h = stops_run_later IsBadProgram HoldsSound program stream answer old mid new more h
-stops_later (Compiles desc program) answer old mid new more h = stops_at_later IsBadDesc desc answer old mid new more h
-stops_later (Captures desc stream program image) answer old mid new more h = stops_run_later IsBadDesc HoldsValid desc stream answer old mid new more h
-stops_later (Generates desc seed frames stream) answer old mid new more h = stops_at_later IsBadDesc desc answer old mid new more h
-
-said_from : (text : List ℕ) (old mid new : Seen) → old.writes ≤ mid.writes → apart mid.told ≡ apart old.told → Says text mid new → Says text old new
+said_from : (text : List ℕ) (old mid new : Seen) → mid.writes ≡ old.writes → apart mid.told ≡ apart old.told → Says text mid new → Says text old new
 said_from text old mid new more same (n, few, e, whole) = (n, few, e ∙ ap (after_say (take n text)) same, from whole)
   where
-    from : (n ≡ length text) ⊎ WritesRose mid new → (n ≡ length text) ⊎ WritesRose old new
-    from (inl all) = inl all
-    from (inr rose) = inr (omega arith)
-
--- no input tells of an answer that is none of a refused input
-never_done : (task : Task) (old new : Seen) → Stops task Done old new → ⊥
-never_done (Lists program) old new h = h
-never_done (Verifies program) old new h = h
-never_done (Runs program stream image) old new (inl h) = h
-never_done (Runs program stream image) old new (inr h) = h.1
-never_done (Compiles desc program) old new h = h
-never_done (Captures desc stream program image) old new (inl h) = h
-never_done (Captures desc stream program image) old new (inr h) = h.1
-never_done (Generates desc seed frames stream) old new h = h
-
-never_write_fault : (task : Task) (old new : Seen) → Stops task WriteFault old new → ⊥
-never_write_fault (Lists program) old new h = h
-never_write_fault (Verifies program) old new h = h
-never_write_fault (Runs program stream image) old new (inl h) = h
-never_write_fault (Runs program stream image) old new (inr h) = h.1
-never_write_fault (Compiles desc program) old new h = h
-never_write_fault (Captures desc stream program image) old new (inl h) = h
-never_write_fault (Captures desc stream program image) old new (inr h) = h.1
-never_write_fault (Generates desc seed frames stream) old new h = h
-
-never_usage : (task : Task) (fault : UsageFault) (old new : Seen) → Stops task (Usage fault) old new → ⊥
-never_usage (Lists program) fault old new h = h
-never_usage (Verifies program) fault old new h = h
-never_usage (Runs program stream image) fault old new (inl h) = h
-never_usage (Runs program stream image) fault old new (inr h) = h.1
-never_usage (Compiles desc program) fault old new h = h
-never_usage (Captures desc stream program image) fault old new (inl h) = h
-never_usage (Captures desc stream program image) fault old new (inr h) = h.1
-never_usage (Generates desc seed frames stream) fault old new h = h
-
-no_memory : (task : Task) (old new : Seen) → Stops task NoMemory old new
-no_memory (Lists program) old new = tt
-no_memory (Verifies program) old new = tt
-no_memory (Runs program stream image) old new = inl tt
-no_memory (Compiles desc program) old new = tt
-no_memory (Captures desc stream program image) old new = inl tt
-no_memory (Generates desc seed frames stream) old new = tt
+    from : ((n ≡ length text) × (new.writes ≡ mid.writes)) ⊎ LastWriteFailed mid new → ((n ≡ length text) × (new.writes ≡ old.writes)) ⊎ LastWriteFailed old new
+    from (inl all) = inl (all.0, all.1 ∙ more)
+    from (inr fault) = inr (fault.0 ∙ ap counted more, fault.1)
 
 ends_by : (task : Task) (answer : Answer) (old new : Seen) → Stops task answer old new → Says (answer_text answer) old new → Ends task answer old new
-ends_by task Done old new why said = absurd (never_done task old new why)
-ends_by task (Usage fault) old new why said = absurd (never_usage task fault old new why)
-ends_by task WriteFault old new why said = absurd (never_write_fault task old new why)
+ends_by task Done old new why said = absurd (never_in (meaning task).inputs Done old new tt why)
+ends_by task (Usage fault) old new why said = absurd (never_in (meaning task).inputs (Usage fault) old new tt why)
+ends_by task WriteFault old new why said = absurd (never_in (meaning task).inputs WriteFault old new tt why)
 ends_by task ReadFault old new why said = record { why = why; said = said }
 ends_by task (Malformed file fault) old new why said = record { why = why; said = said }
 ends_by task (BadDesc fault) old new why said = record { why = why; said = said }
@@ -104,14 +45,14 @@ ends_by task (BadGeometry fault) old new why said = record { why = why; said = s
 ends_by task (Rejected at nth cause) old new why said = record { why = why; said = said }
 ends_by task NoMemory old new why said = record { why = why; said = said }
 
-pub ends_refused : (task : Task) (wanted answer : Answer) (old mid new : Seen) → old.writes ≤ mid.writes → mid.reads ≤ new.reads → apart mid.told ≡ apart old.told →
+pub ends_refused : (task : Task) (wanted answer : Answer) (old mid new : Seen) → mid.writes ≡ old.writes → new.reads ≡ mid.reads → apart mid.told ≡ apart old.told →
     Stops task wanted old mid → Refused wanted answer mid new → Ends task answer old new
 ends_refused task wanted answer old mid new writes reads same why refused =
     ends_by task answer old new (cause refused.0) (said_from (answer_text answer) old mid new writes same refused.1)
   where
     cause : (answer ≡ wanted) ⊎ ((answer ≡ NoMemory) × NeedsMemory wanted) → Stops task answer old new
-    cause (inl e) = subst (λ a. Stops task a old new) (sym e) (stops_later task wanted old mid new reads why)
-    cause (inr e) = subst (λ a. Stops task a old new) (sym e.0) (no_memory task old new)
+    cause (inl e) = subst (λ a. Stops task a old new) (sym e) (stops_later (meaning task).inputs wanted old mid new reads why)
+    cause (inr e) = subst (λ a. Stops task a old new) (sym e.0) (no_memory (meaning task).inputs old new)
 
 -- ---- what is done
 
@@ -129,14 +70,14 @@ module _ (task : Task) (files : List (List ℕ × List ℕ)) (text : List ℕ) (
         counts = (more.0 ∙ counts.0, more.1 ∙ counts.1);
       }
 
-  pub task_part : Makes task old.told.inputs product_of → names_of files ≡ creates task → IsPart files text mid.told new.told → WritesRose mid new → IsPartDone task old new
-  task_part made names left rose =
+  pub task_part : Makes task old.told.inputs product_of → names_of files ≡ creates task → IsPart files text mid.told new.told → IsWriteFault mid new → IsPartDone task old new
+  task_part made names left fault =
       record {
         product = product_of;
         made = made;
         names = names;
         left = subst (λ t. IsPart files text t (apart new.told)) same (apart_part files text mid.told new.told left);
-        rose = subst (λ w. HasRisen w new.writes) counts.1 rose;
+        fault = (fault.0 ∙ counts.0, fault.1 ∙ ap counted counts.1, fault.2);
       }
 
 -- ---- what a run makes
@@ -168,44 +109,52 @@ module _ (file stream program image : List ℕ) (inputs : Option Inputs) (m : St
 
   pub run_product : OfRun GivesSound file stream inputs Shows →
       Makes (Runs file stream image) inputs (record { files = (image, image_of m.memory) ∷ []; text = report_text (report_of m) })
-  run_product h =
-      OfRun-map GivesSound file stream inputs Shows (λ r. RunMakes (image_file image r ∷ []) (record { files = (image, image_of m.memory) ∷ []; text = report_text (report_of m) }) r)
-      (λ a b r is k.
-      let sound = is.gives.sound in
-      run_makes r m fill sound k.0 GivesSound a b is (image_file image r ∷ []) ((image, image_of m.memory) ∷ []) (same_image r m fill sound k.0 image)) h
+  run_product h = (
+    OfRun-map GivesSound file stream inputs Shows (λ r. RunMakes (image_file image r ∷ []) (record { files = (image, image_of m.memory) ∷ []; text = report_text (report_of m) }) r)
+        (λ a b r is k.
+        let sound = is.gives.sound in
+        run_makes r m fill sound k.0 GivesSound a b is (image_file image r ∷ []) ((image, image_of m.memory) ∷ []) (same_image r m fill sound k.0 image)) h,
+    tt,
+  )
 
   compiled_is_sound : (bytes : List ℕ) (p : RiscProgram) (f : ℕ) → GivesCompiled bytes p f → IsSound p
   compiled_is_sound bytes p f g = subst IsSound (sym g.compiles) (checked_sound g.description g.describes.checked)
 
   pub capture_product : OfRun GivesCompiled file stream inputs Shows →
       Makes (Captures file stream program image) inputs (record { files = (program, spelled m.program fill) ∷ (image, image_of m.memory) ∷ []; text = report_text (report_of m) })
-  capture_product h =
-      OfRun-map GivesCompiled file stream inputs Shows
-      (λ r. RunMakes (program_file program r.program r.fill ∷ image_file image r ∷ []) (record { files = (program, spelled m.program fill) ∷ (image, image_of m.memory) ∷ []; text = report_text (report_of m) }) r)
-      (λ a b r is k.
-      let sound = compiled_is_sound a r.program r.fill is.gives in
-      run_makes r m fill sound k.0 GivesCompiled a b is (program_file program r.program r.fill ∷ image_file image r ∷ []) ((program, spelled m.program fill) ∷ (image, image_of m.memory) ∷ [])
-      (same_both r m fill sound k.0 k.1 program image)) h
+  capture_product h = (
+    OfRun-map GivesCompiled file stream inputs Shows
+        (λ r. RunMakes (program_file program r.program r.fill ∷ image_file image r ∷ []) (record { files = (program, spelled m.program fill) ∷ (image, image_of m.memory) ∷ []; text = report_text (report_of m) }) r)
+        (λ a b r is k.
+        let sound = compiled_is_sound a r.program r.fill is.gives in
+        run_makes r m fill sound k.0 GivesCompiled a b is (program_file program r.program r.fill ∷ image_file image r ∷ []) ((program, spelled m.program fill) ∷ (image, image_of m.memory) ∷ [])
+        (same_both r m fill sound k.0 k.1 program image)) h,
+    tt,
+  )
 
 -- ---- what a description makes
 
 pub compile_product : (desc program : List ℕ) (inputs : Option Inputs) (p : RiscProgram) (fill : ℕ) → OfInput desc inputs (λ bytes. GivesCompiled bytes p fill) →
     Makes (Compiles desc program) inputs (record { files = (program, spelled p fill) ∷ []; text = built_text (length p.words) (length p.grants) })
-compile_product desc program inputs p fill h =
-    OfInput-map desc inputs (λ bytes. GivesCompiled bytes p fill)
-    (DescMakes (λ d. program_file program (compiled d) d.fill) compiled_text (record { files = (program, spelled p fill) ∷ []; text = built_text (length p.words) (length p.grants) }))
-    (λ bytes g.
-    record {
-      description = g.description;
-      describes = g.describes;
-      writes =
-          ap (λ x. (program, spelled x fill) ∷ []) g.compiles ∙ ap (λ x. (program, spelled (compiled g.description) x) ∷ []) g.fills;
-      says = ap (λ (x : RiscProgram). built_text (length x.words) (length x.grants)) g.compiles;
-    }) h
+compile_product desc program inputs p fill h = (
+  OfInput-map desc inputs (λ bytes. GivesCompiled bytes p fill)
+      (DescMakes (λ d. program_file program (compiled d) d.fill) compiled_text (record { files = (program, spelled p fill) ∷ []; text = built_text (length p.words) (length p.grants) }))
+      (λ bytes g.
+      record {
+        description = g.description;
+        describes = g.describes;
+        writes =
+            ap (λ x. (program, spelled x fill) ∷ []) g.compiles ∙ ap (λ x. (program, spelled (compiled g.description) x) ∷ []) g.fills;
+        says = ap (λ (x : RiscProgram). built_text (length x.words) (length x.grants)) g.compiles;
+      }) h,
+  tt,
+)
 
 pub make_product : (desc stream : List ℕ) (seed frames : ℕ) (inputs : Option Inputs) (d : Desc) → OfInput desc inputs (λ bytes. Describes bytes d) →
     Makes (Generates desc seed frames stream) inputs (record { files = (stream, made d seed frames) ∷ []; text = made_text (made_fields d frames) (made_entries d frames) })
-make_product desc stream seed frames inputs d h =
-    OfInput-map desc inputs (λ bytes. Describes bytes d)
-    (DescMakes (λ x. (stream, made x seed frames)) (λ x. made_text (made_fields x frames) (made_entries x frames)) (record { files = (stream, made d seed frames) ∷ []; text = made_text (made_fields d frames) (made_entries d frames) }))
-    (λ bytes g. record { description = d; describes = g; writes = refl; says = refl }) h
+make_product desc stream seed frames inputs d h = (
+  OfInput-map desc inputs (λ bytes. Describes bytes d)
+      (DescMakes (λ x. (stream, made x seed frames)) (λ x. made_text (made_fields x frames) (made_entries x frames)) (record { files = (stream, made d seed frames) ∷ []; text = made_text (made_fields d frames) (made_entries d frames) }))
+      (λ bytes g. record { description = d; describes = g; writes = refl; says = refl }) h,
+  tt,
+)

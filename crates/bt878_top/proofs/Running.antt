@@ -1,15 +1,15 @@
 -- A stream that is played after a file gave the program.
-use Rattle.std.proofs.Common.{◌≡◌, ℕ, inl, inr, List, Option, Some, None, sym, ap, subst, ◌∙◌}
-use Rattle.capture_desk.specs.Desks.{Inputs, Told, named, is_missing}
+use Rattle.std.proofs.Common.{◌≡◌, ℕ, inl, inr, List, [], ◌∷◌, Option, Some, None, sym, ap, subst, ◌∙◌}
+use Rattle.capture_desk.specs.Desks.{Seen, Inputs, Told, named, is_missing}
 use Rattle.machine_model.specs.Paths.{RiscProgram}
 use Rattle.machine_model.specs.States.{State, first_state}
 use Rattle.command_steps.specs.declared.answer.Answer.{Answer}
 use Rattle.command_steps.specs.declared.answer.Answer.TheVariants.{NoMemory, ReadFault}
-use Rattle.command_steps.specs.Desks.{OfFile, OfInput, SameCounts, Seen, StopsAt, apart}
+use Rattle.command_steps.specs.Desks.{OfFile, OfInput, SameCounts, StopsAt, apart}
 use Rattle.program_play.specs.Plays.{HasPlayed}
 use Rattle.program_play.specs.Programs.{IsBadStream, IsRun, OfRun, Ran, last_of}
 use Rattle.program_play.proofs.Loading.{rose_from, same_inputs}
-use Rattle.bt878_tasks.specs.Tasks.{StopsAtRun}
+use Rattle.bt878_tasks.specs.Tasks.{Input, IsGoodAs, StopsIn, a_stream}
 
 -- two inputs
 both_inputs : (name other : List ℕ) (inputs : Option Inputs) (P Q : List ℕ → Type 0) (R : List ℕ → List ℕ → Type 0) →
@@ -41,7 +41,7 @@ stops_before ReadFault name old mid new same counts (inr h) = inr (ap (is_missin
 stops_before NoMemory name old mid new same counts h = tt
 stops_before answer name old mid new same counts h = subst (IsBadStream name answer) (same_inputs mid.told old.told same) h
 
-pub stops_at_stream : (IsBad : List ℕ → Answer → Option Inputs → Type 0) (IsGood : List ℕ → Type 0) (file stream : List ℕ) (answer : Answer) (old mid new : Seen) →
-    apart mid.told ≡ apart old.told → SameCounts old mid → OfInput file old.told.inputs IsGood → StopsAt IsBadStream stream answer mid new →
-    StopsAtRun IsBad IsGood file stream answer old new
-stops_at_stream IsBad IsGood file stream answer old mid new same counts good h = inr (good, stops_before answer stream old mid new same counts h)
+pub stops_at_stream : (file : Input) (stream : List ℕ) (answer : Answer) (old mid new : Seen) →
+    apart mid.told ≡ apart old.told → SameCounts old mid → OfInput file.name old.told.inputs (IsGoodAs file.kind) → StopsAt IsBadStream stream answer mid new →
+    StopsIn (file ∷ a_stream stream ∷ []) answer old new
+stops_at_stream file stream answer old mid new same counts good h = inr (good, stops_before answer stream old mid new same counts h)

@@ -1,13 +1,16 @@
 //! The one call.
 
-ghost use Rattle.std.specs.Prelude.{◌≡◌, ℕ, ◌⊎◌, map};
+ghost use Rattle.std.specs.Prelude.{◌≡◌, ℕ, ◌⊎◌, List, Ok};
 ghost use Rattle.bt878_words.specs.Words.{command_of, inputs_of, outputs_of};
-ghost use Rattle.bt878_tasks.specs.Clauses.{AreTold, ImageAndReport, IsBadInput, IsCompiled, IsGenerated, IsGood, IsRefusal, IsSoundAt, IsUnreadOf, IsUsage, OfRan, OfSteps, OnlyOutputs, OnlySays, SameNames, SaysAccepted, SaysListing, StandsAt, StaysInside, TellsInput, UnlessCut, WritesProgram};
+ghost use Rattle.bt878_tasks.specs.Clauses.{AreTold, IsBadInput, IsCompiled, IsGenerated, IsGood, IsRefusal, IsUnreadOf, IsUsage, OfRan, OfSteps, OnlyOutputs, OnlySays, SameNames, SaysAccepted, SaysListing, ShowsLast, ShowsProgram, StandsAt, StaysInside, TellsInput, UnlessCut};
 ghost use Rattle.bt878_tasks.specs.Pictures.{ShowsNoFault, ShowsPictures, SignalsInTime};
-ghost use Rattle.bt878_tasks.specs.Tasks.{Answers, AreNames, task_of};
+ghost use Rattle.bt878_tasks.specs.Tasks.{Answers, AreNames, Captures, Compiles, Generates, Lists, Runs, Verifies, task_of, texts};
 ghost use Rattle.command_steps.specs.declared.answer.Answer.{Answer as Answered};
-ghost use Rattle.command_steps.specs.Desks.{ReadsRose, SameCounts, WritesRose, seen_by};
+ghost use Rattle.command_steps.specs.Desks.{EndsAtFault, ReadsRose, SameCounts, WritesRose};
 ghost use Rattle.command_steps.specs.Texts.{answer_text};
+ghost use Rattle.desc_input.specs.Descriptions.{GivesCompiled};
+ghost use Rattle.machine_model.specs.Paths.{IsSound};
+ghost use Rattle.program_play.specs.Programs.{GivesSound, OfRun};
 
 use crate::commands::{list, run, verify};
 use crate::descriptions::{capture, compile, make};
@@ -18,9 +21,9 @@ use std::alloc::Global;
 
 /// Does what the words ask for.
 fn answer_words<D: Desk>(alloc: Global, words: &[&str], desk: &mut D) -> Answer
-    requires opens { AreNames (inputs_of (map (λ w. w.now) words.now)) (D.told desk.old).may_open }
-    requires creates { AreNames (outputs_of (map (λ w. w.now) words.now)) (D.told desk.old).may_create }
-    ensures { Answers (task_of (map (λ w. w.now) words.now)) result (seen_by D.told D.read_faults D.write_faults desk.old) (seen_by D.told D.read_faults D.write_faults desk.new) }
+    requires opens { AreNames (inputs_of (texts words.now)) (D.seen desk.old).told.may_open }
+    requires creates { AreNames (outputs_of (texts words.now)) (D.seen desk.old).told.may_create }
+    ensures { Answers (task_of (texts words.now)) result (D.seen desk.old) (D.seen desk.new) }
 {
     let command = match read_words(words) {
         Ok(command) => command,
@@ -46,37 +49,42 @@ fn answer_words<D: Desk>(alloc: Global, words: &[&str], desk: &mut D) -> Answer
 /// a content holds where the desk tells it. (The commands, their texts and their order of work are this
 /// project's own rules.)
 pub fn bt878<D: Desk>(alloc: Global, words: &[&str], desk: &mut D) -> Answer
-    requires opens { AreNames (inputs_of (map (λ w. w.now) words.now)) (D.told desk.old).may_open }
-    requires creates { AreNames (outputs_of (map (λ w. w.now) words.now)) (D.told desk.old).may_create }
+    requires opens { AreNames (inputs_of (texts words.now)) (D.seen desk.old).told.may_open }
+    requires creates { AreNames (outputs_of (texts words.now)) (D.seen desk.old).told.may_create }
 
     // All that is promised, by cases on the words and the answer. What follows says its parts.
-    ensures answers { Answers (task_of (map (λ w. w.now) words.now)) result
-        (seen_by D.told D.read_faults D.write_faults desk.old)
-        (seen_by D.told D.read_faults D.write_faults desk.new) }
+    ensures answers { Answers (task_of (texts words.now)) result
+        (D.seen desk.old)
+        (D.seen desk.new) }
 
     // The words: Usage comes exactly where they have a fault, and is the first; so NoMemory never
     // comes there.
-    ensures usage { IsUsage (command_of (map (λ w. w.now) words.now)) result }
+    ensures usage { IsUsage (command_of (texts words.now)) result }
 
-    // At Done of `verify`, `run` and `capture` the program that was accepted, and that ran, is sound.
+    // At Done of `run` and `capture` the program that ran is sound.
     ensures sound { (result ≡ Answer.Done) →
-        IsSoundAt (task_of (map (λ w. w.now) words.now)) (D.told desk.old).inputs }
+        OfRan (task_of (texts words.now)) (D.seen desk.old).told.inputs (λ r. IsSound r.program) }
 
-    // At Done of `run` and `capture` the image is that of the memory after exactly the steps of the whole
-    // stream, from the first state, in which every granted byte is the fill, and the text is the report of
-    // that same state. Program and fill are those of the whole program file, or of the description.
-    ensures image_and_report { (result ≡ Answer.Done) →
-        ImageAndReport (task_of (map (λ w. w.now) words.now)) (D.told desk.old) (D.told desk.new) }
+    // At Done of `run` the image is that of the memory after exactly the steps of the whole stream, from
+    // the first state, in which every granted byte is the fill, and the text is the report of that same
+    // state. Program and fill are those of the whole program file.
+    ensures image_and_report { (result ≡ Answer.Done) → (program stream image : List ℕ) →
+        task_of (texts words.now) ≡ Ok (Runs program stream image) →
+        OfRun GivesSound program stream (D.seen desk.old).told.inputs
+        (ShowsLast image (D.seen desk.old).told (D.seen desk.new).told) }
 
-    // At Done of `capture` the program file is the one spelling of the program that ran, which is that of
-    // the description, and of its fill.
-    ensures program { (result ≡ Answer.Done) →
-        WritesProgram (task_of (map (λ w. w.now) words.now)) (D.told desk.old) (D.told desk.new) }
+    // The same at Done of `capture`, with the program and the fill of the description; and the program
+    // file is the one spelling of the program that ran and of its fill.
+    ensures captured { (result ≡ Answer.Done) → (desc stream program image : List ℕ) →
+        task_of (texts words.now) ≡ Ok (Captures desc stream program image) →
+        OfRun GivesCompiled desc stream (D.seen desk.old).told.inputs
+        (λ r. ShowsProgram program (D.seen desk.new).told r
+        × ShowsLast image (D.seen desk.old).told (D.seen desk.new).told r) }
 
     // At Done of `run` and `capture`: at every place of those steps, what the turn there writes is granted,
     // what it fetches is a word of the program, and OCERR is 0.
     ensures inside { (result ≡ Answer.Done) →
-        OfRan (task_of (map (λ w. w.now) words.now)) (D.told desk.old).inputs StaysInside }
+        OfRan (task_of (texts words.now)) (D.seen desk.old).told.inputs StaysInside }
 
     // At Done of `run` and `capture`, for every valid description whose program is the one that ran (for
     // `capture` the description that was read), every field of it, every picture and all places of those
@@ -85,71 +93,77 @@ pub fn bt878<D: Desk>(alloc: Global, words: &[&str], desk: &mut D) -> Answer
     // the signal sets FDSR, and the RISC status tells the field; and once all entries were pushed the
     // signal comes within a bound of turns.
     ensures pictures { (result ≡ Answer.Done) →
-        OfRan (task_of (map (λ w. w.now) words.now)) (D.told desk.old).inputs (OfSteps ShowsPictures) }
+        OfRan (task_of (texts words.now)) (D.seen desk.old).told.inputs (OfSteps ShowsPictures) }
     ensures no_fault_shown { (result ≡ Answer.Done) →
-        OfRan (task_of (map (λ w. w.now) words.now)) (D.told desk.old).inputs (OfSteps ShowsNoFault) }
+        OfRan (task_of (texts words.now)) (D.seen desk.old).told.inputs (OfSteps ShowsNoFault) }
     ensures in_time { (result ≡ Answer.Done) →
-        OfRan (task_of (map (λ w. w.now) words.now)) (D.told desk.old).inputs (OfSteps SignalsInTime) }
+        OfRan (task_of (texts words.now)) (D.seen desk.old).told.inputs (OfSteps SignalsInTime) }
 
-    // At Done of the other commands: what was written and said. At Done both counts of faults are as they
-    // were.
-    ensures accepted { (result ≡ Answer.Done) →
-        SaysAccepted (task_of (map (λ w. w.now) words.now)) (D.told desk.old) (D.told desk.new) }
-    ensures listed { (result ≡ Answer.Done) →
-        SaysListing (task_of (map (λ w. w.now) words.now)) (D.told desk.old) (D.told desk.new) }
-    ensures compiled { (result ≡ Answer.Done) →
-        IsCompiled (task_of (map (λ w. w.now) words.now)) (D.told desk.old) (D.told desk.new) }
-    ensures generated { (result ≡ Answer.Done) →
-        IsGenerated (task_of (map (λ w. w.now) words.now)) (D.told desk.old) (D.told desk.new) }
-    ensures done { (result ≡ Answer.Done) →
-        SameCounts
-        (seen_by D.told D.read_faults D.write_faults desk.old)
-        (seen_by D.told D.read_faults D.write_faults desk.new) }
+    // At Done of the other commands: what was written and said.
+    ensures accepted { (result ≡ Answer.Done) → (program : List ℕ) →
+        task_of (texts words.now) ≡ Ok (Verifies program) →
+        SaysAccepted program (D.seen desk.old).told (D.seen desk.new).told }
+    ensures listed { (result ≡ Answer.Done) → (program : List ℕ) →
+        task_of (texts words.now) ≡ Ok (Lists program) →
+        SaysListing program (D.seen desk.old).told (D.seen desk.new).told }
+    ensures compiled { (result ≡ Answer.Done) → (desc program : List ℕ) →
+        task_of (texts words.now) ≡ Ok (Compiles desc program) →
+        IsCompiled desc program (D.seen desk.old).told (D.seen desk.new).told }
+    ensures generated { (result ≡ Answer.Done) → (desc : List ℕ) → (seed frames : ℕ) → (stream : List ℕ) →
+        task_of (texts words.now) ≡ Ok (Generates desc seed frames stream) →
+        IsGenerated desc seed frames stream (D.seen desk.old).told (D.seen desk.new).told }
+
+    // At Done both counts of faults are as they were.
+    ensures done { (result ≡ Answer.Done) → SameCounts (D.seen desk.old) (D.seen desk.new) }
 
     // When each refusal comes, and, but for want of memory and faults of reading, that it must come:
     // `Malformed`, `Rejected`, `BadDesc` and `BadGeometry` exactly where the first bad input is so.
     ensures read_fault { (result ≡ Answer.ReadFault) →
-        IsUnreadOf (inputs_of (map (λ w. w.now) words.now))
-        (seen_by D.told D.read_faults D.write_faults desk.old)
-        (seen_by D.told D.read_faults D.write_faults desk.new) }
+        IsUnreadOf (inputs_of (texts words.now))
+        (D.seen desk.old)
+        (D.seen desk.new) }
     ensures bad_input { TellsInput result →
-        IsBadInput (task_of (map (λ w. w.now) words.now)) result (D.told desk.old).inputs }
-    ensures bad_input_must { AreTold (D.told desk.old).inputs → (wanted : Answered) →
-        IsBadInput (task_of (map (λ w. w.now) words.now)) wanted (D.told desk.old).inputs →
+        IsBadInput (task_of (texts words.now)) result (D.seen desk.old).told.inputs }
+    ensures bad_input_must { AreTold (D.seen desk.old).told.inputs → (wanted : Answered) →
+        IsBadInput (task_of (texts words.now)) wanted (D.seen desk.old).told.inputs →
         UnlessCut wanted result
-        (seen_by D.told D.read_faults D.write_faults desk.old)
-        (seen_by D.told D.read_faults D.write_faults desk.new) }
+        (D.seen desk.old)
+        (D.seen desk.new) }
 
     // Good inputs and no fault of the desk give Done, or want of memory.
-    ensures complete { AreTold (D.told desk.old).inputs →
-        IsGood (task_of (map (λ w. w.now) words.now)) (D.told desk.old).inputs →
+    ensures complete { AreTold (D.seen desk.old).told.inputs →
+        IsGood (task_of (texts words.now)) (D.seen desk.old).told.inputs →
         ¬ (ReadsRose
-        (seen_by D.told D.read_faults D.write_faults desk.old)
-        (seen_by D.told D.read_faults D.write_faults desk.new)) →
+        (D.seen desk.old)
+        (D.seen desk.new)) →
         ¬ (WritesRose
-        (seen_by D.told D.read_faults D.write_faults desk.old)
-        (seen_by D.told D.read_faults D.write_faults desk.new)) →
+        (D.seen desk.old)
+        (D.seen desk.new)) →
         ((result ≡ Answer.Done) ⊎ (result ≡ Answer.NoMemory)) }
 
     // A refusal creates nothing and says its text, or a part of it where the desk met a fault of
     // writing.
     ensures refused { IsRefusal result →
         OnlySays (answer_text result)
-        (seen_by D.told D.read_faults D.write_faults desk.old)
-        (seen_by D.told D.read_faults D.write_faults desk.new) }
+        (D.seen desk.old)
+        (D.seen desk.new) }
 
     // A fault of writing: when it comes, and what stands after it.
     ensures write_fault { (result ≡ Answer.WriteFault) →
         WritesRose
-        (seen_by D.told D.read_faults D.write_faults desk.old)
-        (seen_by D.told D.read_faults D.write_faults desk.new) }
+        (D.seen desk.old)
+        (D.seen desk.new) }
     ensures stands { (result ≡ Answer.WriteFault) →
-        StandsAt (task_of (map (λ w. w.now) words.now)) (D.told desk.old) (D.told desk.new) }
+        StandsAt (task_of (texts words.now)) (D.seen desk.old).told (D.seen desk.new).told }
+
+    // Whatever the answer, no call of the desk follows one that fails at writing: at most one does, and it
+    // is the last of all.
+    ensures last { EndsAtFault (D.seen desk.old) (D.seen desk.new) }
 
     // Whatever the answer: an output whose name isn't the command's is as it was, and so are the
     // inputs and the names that may be opened and created.
-    ensures untouched { OnlyOutputs (outputs_of (map (λ w. w.now) words.now)) (D.told desk.old) (D.told desk.new) }
-    ensures names { SameNames (D.told desk.old) (D.told desk.new) }
+    ensures untouched { OnlyOutputs (outputs_of (texts words.now)) (D.seen desk.old).told (D.seen desk.new).told }
+    ensures names { SameNames (D.seen desk.old).told (D.seen desk.new).told }
 {
     answer_words(alloc, words, desk)
 }

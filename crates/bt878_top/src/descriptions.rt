@@ -2,19 +2,17 @@
 
 ghost use Rattle.std.specs.Prelude.{◌≡◌, ◌≤◌, [], ◌∷◌, length, string_bytes, IfErr, IfOk, MatchResult};
 ghost use Rattle.bt878_tasks.specs.Tasks.{Captures, Compiles, Ends, Generates};
-ghost use Rattle.capture_desk.specs.Desks.{IsAllowed, WriteCounts};
+ghost use Rattle.capture_desk.specs.Desks.{IsAllowed};
 ghost use Rattle.capture_file.specs.Images.{image_of};
 ghost use Rattle.capture_file.specs.Programs.{spelled};
-ghost use Rattle.command_steps.specs.Desks.{CountsBy, IsFilePart, IsPart, OfInput, StopsAt, after_file, apart, delivered, seen_by};
+ghost use Rattle.command_steps.specs.Desks.{CountsBy, DeliveryCounts, IsFilePart, IsPart, OfInput, StopsAt, after_file, apart, delivered};
 ghost use Rattle.command_steps.specs.Texts.{built_text, made_text};
 ghost use Rattle.desc_input.specs.Descriptions.{Describes, GivesCompiled, IsBadDesc};
 ghost use Rattle.field_stream.specs.Made.{made, made_entries, made_fields};
 
 use crate::runs::run_description;
-use capture_desk::{Desk, Failed};
-use command_steps::{
-    Answer, built_text, made_text, refuse, say_all, write_image_file, write_program_file,
-};
+use capture_desk::{Desk, Failed, say_all};
+use command_steps::{Answer, built_text, made_text, refuse, write_image_file, write_program_file};
 use desc_input::check_file;
 use field_stream::{Made, make as put_stream};
 use planar_plan::Frame;
@@ -33,12 +31,12 @@ struct Built {
 
 /// Reads a description file and builds its program.
 fn build_file<D: Desk>(alloc: Global, desc: &str, desk: &mut D) -> Result<Built, Answer>
-    requires { IsAllowed desc.now (D.told desk.old).may_open }
-    ensures built { IfOk result (λ built. OfInput desc.now (D.told desk.old).inputs (λ bytes. GivesCompiled bytes built.program built.fill)) }
+    requires { IsAllowed desc.now (D.seen desk.old).told.may_open }
+    ensures built { IfOk result (λ built. OfInput desc.now (D.seen desk.old).told.inputs (λ bytes. GivesCompiled bytes built.program built.fill)) }
     ensures text { IfOk result (λ built. string_bytes built.text ≡ built_text (length built.program.words) (length built.program.grants)) }
-    ensures stops { IfErr result (λ answer. StopsAt IsBadDesc desc.now answer (seen_by D.told D.read_faults D.write_faults desk.old) (seen_by D.told D.read_faults D.write_faults desk.new)) }
-    ensures told { apart (D.told desk.new) ≡ apart (D.told desk.old) }
-    ensures counts { CountsBy result (seen_by D.told D.read_faults D.write_faults desk.old) (seen_by D.told D.read_faults D.write_faults desk.new) }
+    ensures stops { IfErr result (λ answer. StopsAt IsBadDesc desc.now answer (D.seen desk.old) (D.seen desk.new)) }
+    ensures told { apart (D.seen desk.new).told ≡ apart (D.seen desk.old).told }
+    ensures counts { CountsBy result (D.seen desk.old) (D.seen desk.new) }
 {
     let checked = check_file(alloc, desc, desk)?;
     let words = checked.words();
@@ -65,15 +63,14 @@ fn deliver_program<D: Desk>(
     text: &str,
     desk: &mut D,
 ) -> Result<(), Failed>
-    requires { IsAllowed name.now (D.told desk.old).may_create }
+    requires { IsAllowed name.now (D.seen desk.old).told.may_create }
     ensures left { MatchResult result
-        (λ _. D.told desk.new ≡ delivered ((name.now, spelled program.now fill) ∷ []) text.now (D.told desk.old))
-        (λ _. IsPart ((name.now, spelled program.now fill) ∷ []) text.now (D.told desk.old) (D.told desk.new)) }
-    ensures counts { WriteCounts result (D.read_faults desk.old) (D.read_faults desk.new)
-        (D.write_faults desk.old) (D.write_faults desk.new) }
+        (λ _. (D.seen desk.new).told ≡ delivered ((name.now, spelled program.now fill) ∷ []) text.now (D.seen desk.old).told)
+        (λ _. IsPart ((name.now, spelled program.now fill) ∷ []) text.now (D.seen desk.old).told (D.seen desk.new).told) }
+    ensures counts { DeliveryCounts result (D.seen desk.old) (D.seen desk.new) }
 {
     write_program_file(name, program, fill, desk)?;
-    match say_all(text.as_bytes(), desk) {
+    match say_all(desk, text.as_bytes()) {
         Ok(()) => Ok(()),
         Err(failed) => Err(failed),
     }
@@ -81,9 +78,9 @@ fn deliver_program<D: Desk>(
 
 /// `compile DESC PROG`: writes the program of the description and says how many words and chunks it has.
 pub fn compile<D: Desk>(alloc: Global, desc: &str, program: &str, desk: &mut D) -> Answer
-    requires desc { IsAllowed desc.now (D.told desk.old).may_open }
-    requires program { IsAllowed program.now (D.told desk.old).may_create }
-    ensures { Ends (Compiles desc.now program.now) result (seen_by D.told D.read_faults D.write_faults desk.old) (seen_by D.told D.read_faults D.write_faults desk.new) }
+    requires desc { IsAllowed desc.now (D.seen desk.old).told.may_open }
+    requires program { IsAllowed program.now (D.seen desk.old).told.may_create }
+    ensures { Ends (Compiles desc.now program.now) result (D.seen desk.old) (D.seen desk.new) }
 {
     let built = match build_file(alloc, desc, desk) {
         Ok(built) => built,
@@ -102,19 +99,18 @@ fn deliver_run<D: Desk>(
     played: &Played,
     desk: &mut D,
 ) -> Result<(), Failed>
-    requires program { IsAllowed program.now (D.told desk.old).may_create }
-    requires image { IsAllowed image.now (D.told desk.old).may_create }
+    requires program { IsAllowed program.now (D.seen desk.old).told.may_create }
+    requires image { IsAllowed image.now (D.seen desk.old).told.may_create }
     ensures left { MatchResult result
-        (λ _. D.told desk.new ≡ delivered ((program.now, spelled played.now.machine.program played.now.fill) ∷ (image.now, image_of played.now.machine.memory) ∷ []) (string_bytes played.now.report) (D.told desk.old))
-        (λ _. IsPart ((program.now, spelled played.now.machine.program played.now.fill) ∷ (image.now, image_of played.now.machine.memory) ∷ []) (string_bytes played.now.report) (D.told desk.old) (D.told desk.new)) }
-    ensures counts { WriteCounts result (D.read_faults desk.old) (D.read_faults desk.new)
-        (D.write_faults desk.old) (D.write_faults desk.new) }
+        (λ _. (D.seen desk.new).told ≡ delivered ((program.now, spelled played.now.machine.program played.now.fill) ∷ (image.now, image_of played.now.machine.memory) ∷ []) (string_bytes played.now.report) (D.seen desk.old).told)
+        (λ _. IsPart ((program.now, spelled played.now.machine.program played.now.fill) ∷ (image.now, image_of played.now.machine.memory) ∷ []) (string_bytes played.now.report) (D.seen desk.old).told (D.seen desk.new).told) }
+    ensures counts { DeliveryCounts result (D.seen desk.old) (D.seen desk.new) }
 {
     write_program_file(program, played.machine.program(), played.fill, desk)?;
     if let Err(failed) = write_image_file(image, played.machine.ram(), desk) {
         return Err(failed);
     }
-    match say_all(played.report.as_bytes(), desk) {
+    match say_all(desk, played.report.as_bytes()) {
         Ok(()) => Ok(()),
         Err(failed) => Err(failed),
     }
@@ -130,11 +126,11 @@ pub fn capture<D: Desk>(
     image: &str,
     desk: &mut D,
 ) -> Answer
-    requires desc { IsAllowed desc.now (D.told desk.old).may_open }
-    requires stream { IsAllowed stream.now (D.told desk.old).may_open }
-    requires program { IsAllowed program.now (D.told desk.old).may_create }
-    requires image { IsAllowed image.now (D.told desk.old).may_create }
-    ensures { Ends (Captures desc.now stream.now program.now image.now) result (seen_by D.told D.read_faults D.write_faults desk.old) (seen_by D.told D.read_faults D.write_faults desk.new) }
+    requires desc { IsAllowed desc.now (D.seen desk.old).told.may_open }
+    requires stream { IsAllowed stream.now (D.seen desk.old).told.may_open }
+    requires program { IsAllowed program.now (D.seen desk.old).told.may_create }
+    requires image { IsAllowed image.now (D.seen desk.old).told.may_create }
+    ensures { Ends (Captures desc.now stream.now program.now image.now) result (D.seen desk.old) (D.seen desk.new) }
 {
     let played = match run_description(alloc, desc, stream, desk) {
         Ok(played) => played,
@@ -160,13 +156,13 @@ fn count_file<D: Desk>(
     frames: u8,
     desk: &mut D,
 ) -> Result<Counted, Answer>
-    requires allowed { IsAllowed desc.now (D.told desk.old).may_open }
+    requires allowed { IsAllowed desc.now (D.seen desk.old).told.may_open }
     requires frames { (1 ≤ frames) × (frames ≤ 16) }
-    ensures described { IfOk result (λ counted. OfInput desc.now (D.told desk.old).inputs (λ bytes. Describes bytes counted.checked)) }
+    ensures described { IfOk result (λ counted. OfInput desc.now (D.seen desk.old).told.inputs (λ bytes. Describes bytes counted.checked)) }
     ensures text { IfOk result (λ counted. string_bytes counted.text ≡ made_text (made_fields counted.checked frames) (made_entries counted.checked frames)) }
-    ensures stops { IfErr result (λ answer. StopsAt IsBadDesc desc.now answer (seen_by D.told D.read_faults D.write_faults desk.old) (seen_by D.told D.read_faults D.write_faults desk.new)) }
-    ensures told { apart (D.told desk.new) ≡ apart (D.told desk.old) }
-    ensures counts { CountsBy result (seen_by D.told D.read_faults D.write_faults desk.old) (seen_by D.told D.read_faults D.write_faults desk.new) }
+    ensures stops { IfErr result (λ answer. StopsAt IsBadDesc desc.now answer (D.seen desk.old) (D.seen desk.new)) }
+    ensures told { apart (D.seen desk.new).told ≡ apart (D.seen desk.old).told }
+    ensures counts { CountsBy result (D.seen desk.old) (D.seen desk.new) }
 {
     let checked = check_file(alloc, desc, desk)?;
     let counts = Made::of(checked.frame(), frames);
@@ -184,13 +180,12 @@ fn write_stream<D: Desk>(
     frames: u8,
     desk: &mut D,
 ) -> Result<(), Failed>
-    requires allowed { IsAllowed name.now (D.told desk.old).may_create }
+    requires allowed { IsAllowed name.now (D.seen desk.old).told.may_create }
     requires frames { (1 ≤ frames) × (frames ≤ 16) }
     ensures left { MatchResult result
-        (λ _. D.told desk.new ≡ after_file (name.now, made frame.now seed frames) (D.told desk.old))
-        (λ _. IsFilePart name.now (made frame.now seed frames) (D.told desk.old) (D.told desk.new)) }
-    ensures counts { WriteCounts result (D.read_faults desk.old) (D.read_faults desk.new)
-        (D.write_faults desk.old) (D.write_faults desk.new) }
+        (λ _. (D.seen desk.new).told ≡ after_file (name.now, made frame.now seed frames) (D.seen desk.old).told)
+        (λ _. IsFilePart name.now (made frame.now seed frames) (D.seen desk.old).told (D.seen desk.new).told) }
+    ensures counts { DeliveryCounts result (D.seen desk.old) (D.seen desk.new) }
 {
     desk.create_out(name)?;
     put_stream(frame, seed, frames, desk)?;
@@ -208,18 +203,17 @@ fn deliver_stream<D: Desk>(
     frames: u8,
     desk: &mut D,
 ) -> Result<(), Failed>
-    requires allowed { IsAllowed name.now (D.told desk.old).may_create }
+    requires allowed { IsAllowed name.now (D.seen desk.old).told.may_create }
     requires frames { (1 ≤ frames) × (frames ≤ 16) }
     ensures left { MatchResult result
-        (λ _. D.told desk.new ≡ delivered ((name.now, made counted.now.checked seed frames) ∷ []) (string_bytes counted.now.text) (D.told desk.old))
-        (λ _. IsPart ((name.now, made counted.now.checked seed frames) ∷ []) (string_bytes counted.now.text) (D.told desk.old) (D.told desk.new)) }
-    ensures counts { WriteCounts result (D.read_faults desk.old) (D.read_faults desk.new)
-        (D.write_faults desk.old) (D.write_faults desk.new) }
+        (λ _. (D.seen desk.new).told ≡ delivered ((name.now, made counted.now.checked seed frames) ∷ []) (string_bytes counted.now.text) (D.seen desk.old).told)
+        (λ _. IsPart ((name.now, made counted.now.checked seed frames) ∷ []) (string_bytes counted.now.text) (D.seen desk.old).told (D.seen desk.new).told) }
+    ensures counts { DeliveryCounts result (D.seen desk.old) (D.seen desk.new) }
 {
     if let Err(failed) = write_stream(name, counted.checked.frame(), seed, frames, desk) {
         return Err(failed);
     }
-    match say_all(counted.text.as_bytes(), desk) {
+    match say_all(desk, counted.text.as_bytes()) {
         Ok(()) => Ok(()),
         Err(failed) => Err(failed),
     }
@@ -235,10 +229,10 @@ pub fn make<D: Desk>(
     stream: &str,
     desk: &mut D,
 ) -> Answer
-    requires desc { IsAllowed desc.now (D.told desk.old).may_open }
-    requires stream { IsAllowed stream.now (D.told desk.old).may_create }
+    requires desc { IsAllowed desc.now (D.seen desk.old).told.may_open }
+    requires stream { IsAllowed stream.now (D.seen desk.old).told.may_create }
     requires frames { (1 ≤ frames) × (frames ≤ 16) }
-    ensures { Ends (Generates desc.now seed frames stream.now) result (seen_by D.told D.read_faults D.write_faults desk.old) (seen_by D.told D.read_faults D.write_faults desk.new) }
+    ensures { Ends (Generates desc.now seed frames stream.now) result (D.seen desk.old) (D.seen desk.new) }
 {
     let counted = match count_file(alloc, desc, frames, desk) {
         Ok(counted) => counted,

@@ -1,15 +1,15 @@
 //! The runs of a program file's program and of a description's program over a stream file.
 
-ghost use Rattle.std.specs.Prelude.{◌≡◌, string_bytes, IfErr, IfOk};
-ghost use Rattle.bt878_tasks.specs.Tasks.{StopsAtRun};
+ghost use Rattle.std.specs.Prelude.{◌≡◌, [], ◌∷◌, string_bytes, IfErr, IfOk};
+ghost use Rattle.bt878_tasks.specs.Tasks.{StopsIn, a_description, a_sound_program, a_stream};
 ghost use Rattle.capture_desk.specs.Desks.{IsAllowed};
-ghost use Rattle.command_steps.specs.Desks.{CountsBy, apart, seen_by};
+ghost use Rattle.command_steps.specs.Desks.{CountsBy, apart};
 ghost use Rattle.command_steps.specs.Texts.{report_text};
-ghost use Rattle.desc_input.specs.Descriptions.{GivesCompiled, HoldsValid, IsBadDesc};
+ghost use Rattle.desc_input.specs.Descriptions.{GivesCompiled};
 ghost use Rattle.dma_machine.specs.Facts.{report_of};
 ghost use Rattle.picture_model.specs.Programs.{compiled};
 ghost use Rattle.program_build.specs.Checks.{IsChecked};
-ghost use Rattle.program_play.specs.Programs.{GivesSound, HoldsSound, IsBadProgram, OfRun, last_of};
+ghost use Rattle.program_play.specs.Programs.{GivesSound, OfRun, last_of};
 
 use capture_desk::Desk;
 use command_steps::Answer;
@@ -26,13 +26,13 @@ pub fn run_program<D: Desk>(
     stream: &str,
     desk: &mut D,
 ) -> Result<Played, Answer>
-    requires program { IsAllowed program.now (D.told desk.old).may_open }
-    requires stream { IsAllowed stream.now (D.told desk.old).may_open }
-    ensures ran { IfOk result (λ played. OfRun GivesSound program.now stream.now (D.told desk.old).inputs (λ r. (played.machine ≡ last_of r) × (played.fill ≡ r.fill))) }
+    requires program { IsAllowed program.now (D.seen desk.old).told.may_open }
+    requires stream { IsAllowed stream.now (D.seen desk.old).told.may_open }
+    ensures ran { IfOk result (λ played. OfRun GivesSound program.now stream.now (D.seen desk.old).told.inputs (λ r. (played.machine ≡ last_of r) × (played.fill ≡ r.fill))) }
     ensures report { IfOk result (λ played. string_bytes played.report ≡ report_text (report_of played.machine)) }
-    ensures stops { IfErr result (λ answer. StopsAtRun IsBadProgram HoldsSound program.now stream.now answer (seen_by D.told D.read_faults D.write_faults desk.old) (seen_by D.told D.read_faults D.write_faults desk.new)) }
-    ensures told { apart (D.told desk.new) ≡ apart (D.told desk.old) }
-    ensures counts { CountsBy result (seen_by D.told D.read_faults D.write_faults desk.old) (seen_by D.told D.read_faults D.write_faults desk.new) }
+    ensures stops { IfErr result (λ answer. StopsIn (a_sound_program program.now ∷ a_stream stream.now ∷ []) answer (D.seen desk.old) (D.seen desk.new)) }
+    ensures told { apart (D.seen desk.new).told ≡ apart (D.seen desk.old).told }
+    ensures counts { CountsBy result (D.seen desk.old) (D.seen desk.new) }
 {
     let Loaded { accepted, fill } = accept(alloc, program, desk)?;
     match play_file(alloc, accepted, fill, stream, desk) {
@@ -60,13 +60,13 @@ pub fn run_description<D: Desk>(
     stream: &str,
     desk: &mut D,
 ) -> Result<Played, Answer>
-    requires desc { IsAllowed desc.now (D.told desk.old).may_open }
-    requires stream { IsAllowed stream.now (D.told desk.old).may_open }
-    ensures ran { IfOk result (λ played. OfRun GivesCompiled desc.now stream.now (D.told desk.old).inputs (λ r. (played.machine ≡ last_of r) × (played.fill ≡ r.fill))) }
+    requires desc { IsAllowed desc.now (D.seen desk.old).told.may_open }
+    requires stream { IsAllowed stream.now (D.seen desk.old).told.may_open }
+    ensures ran { IfOk result (λ played. OfRun GivesCompiled desc.now stream.now (D.seen desk.old).told.inputs (λ r. (played.machine ≡ last_of r) × (played.fill ≡ r.fill))) }
     ensures report { IfOk result (λ played. string_bytes played.report ≡ report_text (report_of played.machine)) }
-    ensures stops { IfErr result (λ answer. StopsAtRun IsBadDesc HoldsValid desc.now stream.now answer (seen_by D.told D.read_faults D.write_faults desk.old) (seen_by D.told D.read_faults D.write_faults desk.new)) }
-    ensures told { apart (D.told desk.new) ≡ apart (D.told desk.old) }
-    ensures counts { CountsBy result (seen_by D.told D.read_faults D.write_faults desk.old) (seen_by D.told D.read_faults D.write_faults desk.new) }
+    ensures stops { IfErr result (λ answer. StopsIn (a_description desc.now ∷ a_stream stream.now ∷ []) answer (D.seen desk.old) (D.seen desk.new)) }
+    ensures told { apart (D.seen desk.new).told ≡ apart (D.seen desk.old).told }
+    ensures counts { CountsBy result (D.seen desk.old) (D.seen desk.new) }
 {
     let checked = check_file(alloc, desc, desk)?;
     let fill = checked.fill();

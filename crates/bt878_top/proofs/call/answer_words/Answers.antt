@@ -1,6 +1,5 @@
 use Rattle.std.proofs.Common.{◌∙◌, ap, map, sym, subst, Bor, List, ℕ, Ok}
 use Rattle.bt878_words.proofs.Asked.{few_frames}
-use Rattle.command_steps.specs.Desks.{seen_by}
 use Rattle.bt878_tasks.specs.Tasks.{Answers}
 use Rattle.bt878_top.proofs.Asking.{capture_desc_allowed, capture_image_allowed, capture_program_allowed, capture_stream_allowed, capture_task, compile_desc_allowed, compile_program_allowed, compile_task, list_allowed, list_task, make_desc_allowed, make_stream_allowed, make_task, run_image_allowed, run_program_allowed, run_stream_allowed, run_task, verify_allowed, verify_task}
 use Rattle.bt878_top.proofs.call.answer_words.Goals as goal
@@ -66,36 +65,36 @@ make-requires-clause-frames g c =
 
 pub returns-in-List : goal.returns-in-List
 returns-in-List g c =
-    let see = seen_by g.D.Desk.told g.D.Desk.read_faults g.D.Desk.write_faults in
+    let see = g.D.Desk.seen in
     subst (λ task. Answers task c.list.result (see c.args.desk.now) (see c.list.new.desk))
     (sym (list_task text c.args.words.now _ (sym c.read_words.ensures ∙ c.in-Ok.is ∙ ap Ok c.in-List.is))) c.list.ensures
 
 pub returns-in-Verify : goal.returns-in-Verify
 returns-in-Verify g c =
-    let see = seen_by g.D.Desk.told g.D.Desk.read_faults g.D.Desk.write_faults in
+    let see = g.D.Desk.seen in
     subst (λ task. Answers task c.verify.result (see c.args.desk.now) (see c.verify.new.desk))
     (sym (verify_task text c.args.words.now _ (sym c.read_words.ensures ∙ c.in-Ok.is ∙ ap Ok c.in-Verify.is))) c.verify.ensures
 
 pub returns-in-Run : goal.returns-in-Run
 returns-in-Run g c =
-    let see = seen_by g.D.Desk.told g.D.Desk.read_faults g.D.Desk.write_faults in
+    let see = g.D.Desk.seen in
     subst (λ task. Answers task c.run.result (see c.args.desk.now) (see c.run.new.desk))
     (sym (run_task text c.args.words.now _ (sym c.read_words.ensures ∙ c.in-Ok.is ∙ ap Ok c.in-Run.is))) c.run.ensures
 
 pub returns-in-Compile : goal.returns-in-Compile
 returns-in-Compile g c =
-    let see = seen_by g.D.Desk.told g.D.Desk.read_faults g.D.Desk.write_faults in
+    let see = g.D.Desk.seen in
     subst (λ task. Answers task c.compile.result (see c.args.desk.now) (see c.compile.new.desk))
     (sym (compile_task text c.args.words.now _ (sym c.read_words.ensures ∙ c.in-Ok.is ∙ ap Ok c.in-Compile.is))) c.compile.ensures
 
 pub returns-in-Capture : goal.returns-in-Capture
 returns-in-Capture g c =
-    let see = seen_by g.D.Desk.told g.D.Desk.read_faults g.D.Desk.write_faults in
+    let see = g.D.Desk.seen in
     subst (λ task. Answers task c.capture.result (see c.args.desk.now) (see c.capture.new.desk))
     (sym (capture_task text c.args.words.now _ (sym c.read_words.ensures ∙ c.in-Ok.is ∙ ap Ok c.in-Capture.is))) c.capture.ensures
 
 pub returns-in-Make : goal.returns-in-Make
 returns-in-Make g c =
-    let see = seen_by g.D.Desk.told g.D.Desk.read_faults g.D.Desk.write_faults in
+    let see = g.D.Desk.seen in
     subst (λ task. Answers task c.make.result (see c.args.desk.now) (see c.make.new.desk))
     (sym (make_task text c.args.words.now _ c.in-Make.seed c.in-Make.frames (sym c.read_words.ensures ∙ c.in-Ok.is ∙ ap Ok c.in-Make.is))) c.make.ensures

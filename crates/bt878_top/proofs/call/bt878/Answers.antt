@@ -1,10 +1,9 @@
 -- Each clause follows from the one exact clause.
 use Rattle.std.proofs.Common.{Bor, List, ℕ, map}
-use Rattle.command_steps.specs.Desks.{seen_by}
 use Rattle.bt878_tasks.specs.Tasks.{task_of}
 use Rattle.bt878_tasks.specs.Pictures.{ShowsPictures, ShowsNoFault, SignalsInTime}
 use Rattle.bt878_tasks.proofs.Pictures.{pictures_shown, no_fault_shown, signals_come}
-use Rattle.bt878_tasks.proofs.Consequences.{bad_input_comes, bad_input_must, completes, done_accepted, done_captured, done_compiled, done_counts, done_generated, done_image_and_report, done_inside, done_listed, done_program, done_sound, names_kept, others_untouched, read_fault_comes, refused_only_says, usage_comes, write_fault_comes, write_fault_stands}
+use Rattle.bt878_tasks.proofs.Consequences.{bad_input_comes, bad_input_must, completes, done_capture, done_captured, done_compile, done_counts, done_inside, done_list, done_make, done_run, done_sound, done_verify, ends_at_fault, names_kept, others_untouched, read_fault_comes, refused_only_says, usage_comes, write_fault_comes, write_fault_stands}
 use Rattle.bt878_top.proofs.call.bt878.Goals as goal
 
 abbrev text : Bor (List ℕ) → List ℕ
@@ -12,110 +11,115 @@ text word = word.now
 
 pub returns-clause-sound : goal.returns-clause-sound
 returns-clause-sound g c =
-    let see = seen_by g.D.Desk.told g.D.Desk.read_faults g.D.Desk.write_faults in
+    let see = g.D.Desk.seen in
     done_sound (task_of (map text c.args.words.now)) c.answer_words.result (see c.args.desk.now) (see c.answer_words.new.desk) c.answer_words.ensures
-
-pub returns-clause-image_and_report : goal.returns-clause-image_and_report
-returns-clause-image_and_report g c =
-    let see = seen_by g.D.Desk.told g.D.Desk.read_faults g.D.Desk.write_faults in
-    done_image_and_report (map text c.args.words.now) c.answer_words.result (see c.args.desk.now) (see c.answer_words.new.desk) c.answer_words.ensures
-
-pub returns-clause-program : goal.returns-clause-program
-returns-clause-program g c =
-    let see = seen_by g.D.Desk.told g.D.Desk.read_faults g.D.Desk.write_faults in
-    done_program (map text c.args.words.now) c.answer_words.result (see c.args.desk.now) (see c.answer_words.new.desk) c.answer_words.ensures
 
 pub returns-clause-inside : goal.returns-clause-inside
 returns-clause-inside g c =
-    let see = seen_by g.D.Desk.told g.D.Desk.read_faults g.D.Desk.write_faults in
+    let see = g.D.Desk.seen in
     done_inside (task_of (map text c.args.words.now)) c.answer_words.result (see c.args.desk.now) (see c.answer_words.new.desk) c.answer_words.ensures
 
 pub returns-clause-pictures : goal.returns-clause-pictures
 returns-clause-pictures g c =
-    let see = seen_by g.D.Desk.told g.D.Desk.read_faults g.D.Desk.write_faults in
+    let see = g.D.Desk.seen in
     done_captured ShowsPictures pictures_shown (task_of (map text c.args.words.now)) c.answer_words.result (see c.args.desk.now) (see c.answer_words.new.desk) c.answer_words.ensures
 
 pub returns-clause-no_fault_shown : goal.returns-clause-no_fault_shown
 returns-clause-no_fault_shown g c =
-    let see = seen_by g.D.Desk.told g.D.Desk.read_faults g.D.Desk.write_faults in
+    let see = g.D.Desk.seen in
     done_captured ShowsNoFault no_fault_shown (task_of (map text c.args.words.now)) c.answer_words.result (see c.args.desk.now) (see c.answer_words.new.desk) c.answer_words.ensures
 
 pub returns-clause-in_time : goal.returns-clause-in_time
 returns-clause-in_time g c =
-    let see = seen_by g.D.Desk.told g.D.Desk.read_faults g.D.Desk.write_faults in
+    let see = g.D.Desk.seen in
     done_captured SignalsInTime signals_come (task_of (map text c.args.words.now)) c.answer_words.result (see c.args.desk.now) (see c.answer_words.new.desk) c.answer_words.ensures
-
-pub returns-clause-accepted : goal.returns-clause-accepted
-returns-clause-accepted g c =
-    let see = seen_by g.D.Desk.told g.D.Desk.read_faults g.D.Desk.write_faults in
-    done_accepted (task_of (map text c.args.words.now)) c.answer_words.result (see c.args.desk.now) (see c.answer_words.new.desk) c.answer_words.ensures
-
-pub returns-clause-listed : goal.returns-clause-listed
-returns-clause-listed g c =
-    let see = seen_by g.D.Desk.told g.D.Desk.read_faults g.D.Desk.write_faults in
-    done_listed (task_of (map text c.args.words.now)) c.answer_words.result (see c.args.desk.now) (see c.answer_words.new.desk) c.answer_words.ensures
-
-pub returns-clause-compiled : goal.returns-clause-compiled
-returns-clause-compiled g c =
-    let see = seen_by g.D.Desk.told g.D.Desk.read_faults g.D.Desk.write_faults in
-    done_compiled (map text c.args.words.now) c.answer_words.result (see c.args.desk.now) (see c.answer_words.new.desk) c.answer_words.ensures
-
-pub returns-clause-generated : goal.returns-clause-generated
-returns-clause-generated g c =
-    let see = seen_by g.D.Desk.told g.D.Desk.read_faults g.D.Desk.write_faults in
-    done_generated (map text c.args.words.now) c.answer_words.result (see c.args.desk.now) (see c.answer_words.new.desk) c.answer_words.ensures
 
 pub returns-clause-done : goal.returns-clause-done
 returns-clause-done g c =
-    let see = seen_by g.D.Desk.told g.D.Desk.read_faults g.D.Desk.write_faults in
+    let see = g.D.Desk.seen in
     done_counts (task_of (map text c.args.words.now)) c.answer_words.result (see c.args.desk.now) (see c.answer_words.new.desk) c.answer_words.ensures
 
 pub returns-clause-read_fault : goal.returns-clause-read_fault
 returns-clause-read_fault g c =
-    let see = seen_by g.D.Desk.told g.D.Desk.read_faults g.D.Desk.write_faults in
+    let see = g.D.Desk.seen in
     read_fault_comes (map text c.args.words.now) c.answer_words.result (see c.args.desk.now) (see c.answer_words.new.desk) c.answer_words.ensures
 
 pub returns-clause-bad_input : goal.returns-clause-bad_input
 returns-clause-bad_input g c =
-    let see = seen_by g.D.Desk.told g.D.Desk.read_faults g.D.Desk.write_faults in
+    let see = g.D.Desk.seen in
     bad_input_comes (task_of (map text c.args.words.now)) c.answer_words.result (see c.args.desk.now) (see c.answer_words.new.desk) c.answer_words.ensures
 
 pub returns-clause-bad_input_must : goal.returns-clause-bad_input_must
 returns-clause-bad_input_must g c =
-    let see = seen_by g.D.Desk.told g.D.Desk.read_faults g.D.Desk.write_faults in
+    let see = g.D.Desk.seen in
     bad_input_must (task_of (map text c.args.words.now)) c.answer_words.result (see c.args.desk.now) (see c.answer_words.new.desk) c.answer_words.ensures
 
 pub returns-clause-complete : goal.returns-clause-complete
 returns-clause-complete g c =
-    let see = seen_by g.D.Desk.told g.D.Desk.read_faults g.D.Desk.write_faults in
+    let see = g.D.Desk.seen in
     completes (task_of (map text c.args.words.now)) c.answer_words.result (see c.args.desk.now) (see c.answer_words.new.desk) c.answer_words.ensures
 
 pub returns-clause-refused : goal.returns-clause-refused
 returns-clause-refused g c =
-    let see = seen_by g.D.Desk.told g.D.Desk.read_faults g.D.Desk.write_faults in
+    let see = g.D.Desk.seen in
     refused_only_says (task_of (map text c.args.words.now)) c.answer_words.result (see c.args.desk.now) (see c.answer_words.new.desk) c.answer_words.ensures
 
 pub returns-clause-write_fault : goal.returns-clause-write_fault
 returns-clause-write_fault g c =
-    let see = seen_by g.D.Desk.told g.D.Desk.read_faults g.D.Desk.write_faults in
+    let see = g.D.Desk.seen in
     write_fault_comes (task_of (map text c.args.words.now)) c.answer_words.result (see c.args.desk.now) (see c.answer_words.new.desk) c.answer_words.ensures
 
 pub returns-clause-stands : goal.returns-clause-stands
 returns-clause-stands g c =
-    let see = seen_by g.D.Desk.told g.D.Desk.read_faults g.D.Desk.write_faults in
+    let see = g.D.Desk.seen in
     write_fault_stands (map text c.args.words.now) c.answer_words.result (see c.args.desk.now) (see c.answer_words.new.desk) c.answer_words.ensures
 
 pub returns-clause-untouched : goal.returns-clause-untouched
 returns-clause-untouched g c =
-    let see = seen_by g.D.Desk.told g.D.Desk.read_faults g.D.Desk.write_faults in
+    let see = g.D.Desk.seen in
     others_untouched (map text c.args.words.now) c.answer_words.result (see c.args.desk.now) (see c.answer_words.new.desk) c.answer_words.ensures
 
 pub returns-clause-names : goal.returns-clause-names
 returns-clause-names g c =
-    let see = seen_by g.D.Desk.told g.D.Desk.read_faults g.D.Desk.write_faults in
+    let see = g.D.Desk.seen in
     names_kept (task_of (map text c.args.words.now)) c.answer_words.result (see c.args.desk.now) (see c.answer_words.new.desk) c.answer_words.ensures
 
 pub returns-clause-usage : goal.returns-clause-usage
 returns-clause-usage g c =
-    let see = seen_by g.D.Desk.told g.D.Desk.read_faults g.D.Desk.write_faults in
+    let see = g.D.Desk.seen in
     usage_comes (map text c.args.words.now) c.answer_words.result (see c.args.desk.now) (see c.answer_words.new.desk) c.answer_words.ensures
+
+pub returns-clause-image_and_report : goal.returns-clause-image_and_report
+returns-clause-image_and_report g c =
+    let see = g.D.Desk.seen in
+    done_run (map text c.args.words.now) c.answer_words.result (see c.args.desk.now) (see c.answer_words.new.desk) c.answer_words.ensures
+
+pub returns-clause-captured : goal.returns-clause-captured
+returns-clause-captured g c =
+    let see = g.D.Desk.seen in
+    done_capture (map text c.args.words.now) c.answer_words.result (see c.args.desk.now) (see c.answer_words.new.desk) c.answer_words.ensures
+
+pub returns-clause-accepted : goal.returns-clause-accepted
+returns-clause-accepted g c =
+    let see = g.D.Desk.seen in
+    done_verify (map text c.args.words.now) c.answer_words.result (see c.args.desk.now) (see c.answer_words.new.desk) c.answer_words.ensures
+
+pub returns-clause-listed : goal.returns-clause-listed
+returns-clause-listed g c =
+    let see = g.D.Desk.seen in
+    done_list (map text c.args.words.now) c.answer_words.result (see c.args.desk.now) (see c.answer_words.new.desk) c.answer_words.ensures
+
+pub returns-clause-compiled : goal.returns-clause-compiled
+returns-clause-compiled g c =
+    let see = g.D.Desk.seen in
+    done_compile (map text c.args.words.now) c.answer_words.result (see c.args.desk.now) (see c.answer_words.new.desk) c.answer_words.ensures
+
+pub returns-clause-generated : goal.returns-clause-generated
+returns-clause-generated g c =
+    let see = g.D.Desk.seen in
+    done_make (map text c.args.words.now) c.answer_words.result (see c.args.desk.now) (see c.answer_words.new.desk) c.answer_words.ensures
+
+pub returns-clause-last : goal.returns-clause-last
+returns-clause-last g c =
+    let see = g.D.Desk.seen in
+    ends_at_fault (task_of (map text c.args.words.now)) c.answer_words.result (see c.args.desk.now) (see c.answer_words.new.desk) c.answer_words.ensures

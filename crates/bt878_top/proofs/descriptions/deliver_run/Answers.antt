@@ -9,10 +9,10 @@ use Rattle.bt878_top.proofs.descriptions.deliver_run.Goals as goal
 pub returns-in-Err-clause-left : goal.returns-in-Err-clause-left
 returns-in-Err-clause-left g c =
     let played = c.args.played.now in
-    let mid = g.D.Desk.told c.write_program_file.new.desk in
-    let new = g.D.Desk.told c.write_image_file.new.desk in
+    let mid = (g.D.Desk.seen c.write_program_file.new.desk).told in
+    let new = (g.D.Desk.seen c.write_image_file.new.desk).told in
     later_part (c.args.program.now, spelled played.machine.program played.fill) ((c.args.image.now, image_of played.machine.memory) ∷ []) (string_bytes played.report)
-    (g.D.Desk.told c.args.desk.now) mid new
-    (subst (λ (p : RiscProgram). mid ≡ after_file (c.args.program.now, spelled p played.fill) (g.D.Desk.told c.args.desk.now)) c.program.ensures.program c.in_ok-write_program_file.ensures.left)
+    (g.D.Desk.seen c.args.desk.now).told mid new
+    (subst (λ (p : RiscProgram). mid ≡ after_file (c.args.program.now, spelled p played.fill) (g.D.Desk.seen c.args.desk.now).told) c.program.ensures.program c.in_ok-write_program_file.ensures.left)
     (file_part c.args.image.now (image_of played.machine.memory) [] (string_bytes played.report) mid new
     (subst (λ memory. IsFilePart c.args.image.now (image_of memory) mid new) c.ram.ensures.memory c.in-Err.ensures.left))

@@ -6,6 +6,6 @@ use Rattle.capture_desk.specs.Desks.{after_write}
 
 pub returns-in-Err-clause-left : goal.returns-in-Err-clause-left
 returns-in-Err-clause-left g c =
-    finished_part c.args.name.now (made c.args.frame.now c.args.seed c.args.frames) (g.D.Desk.told c.args.desk.now) (g.D.Desk.told c.make.new.desk) (g.D.Desk.told c.finish.new.self)
+    finished_part c.args.name.now (made c.args.frame.now c.args.seed c.args.frames) (g.D.Desk.seen c.args.desk.now).told (g.D.Desk.seen c.make.new.desk).told (g.D.Desk.seen c.finish.new.self).told
     (c.in_ok-make.ensures.puts ∙ ap (after_write (made c.args.frame.now c.args.seed c.args.frames)) c.in_ok-create_out.ensures.creates)
     c.in-Err.ensures.closes
