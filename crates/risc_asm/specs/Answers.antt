@@ -40,3 +40,14 @@ pub record IsBetween (lines : List ℕ) (low high : ℕ) : Type 0 where
   pub high_whole : are_lines (take high lines) ≡ true
   pub begun : BeginsListing (take low lines)
   pub wrong : BeginsListing (take high lines) → ⊥
+
+-- what a text alone tells: any answer but want of memory
+abbrev pub IsTold : Result ProgramFile AsmError → Type 0
+IsTold (Ok file) = Unit {0}
+IsTold (Err (Bad fault)) = Unit {0}
+IsTold (Err Memory) = ⊥
+
+-- no two such answers fit one text
+abbrev pub OneAnswerFits : Type 0
+OneAnswerFits = (text : List ℕ) (first second : Result ProgramFile AsmError) → Answers text first → Answers text second → IsTold first → IsTold second →
+    first ≡ second

@@ -1,7 +1,7 @@
 //! The assembler: the text of a listing is read back to its program.
 #![tactic(auto)]
 
-ghost use Rattle.risc_asm.specs.Answers.{Answers};
+ghost use Rattle.risc_asm.specs.Answers.{Answers, OneAnswerFits};
 ghost use Rattle.risc_asm.specs.declared.AsmError.TheVariants.{Memory};
 ghost use Rattle.std.specs.Prelude.{◌≡◌};
 
@@ -72,6 +72,12 @@ pub fn assemble(alloc: Global, text: &[u8]) -> Result<ProgramFile, AsmError>
     };
     Err(AsmError::Bad(fault))
 }
+
+/// At most one answer but want of memory fits a text, so each of them comes exactly where its rule says. The function does
+/// nothing; its contract is the law.
+pub fn one_answer_fits_a_text()
+    ensures { OneAnswerFits }
+{}
 
 #[cfg(test)]
 mod tests;

@@ -57,7 +57,7 @@ cut_front (first ∷ front) tail (byte ∷ second ∷ lines) rest plain same who
       | inr past ↦ inr (record { more = past.more; lines_are = (λ i. byte_is i ∷ past.lines_are i); tail_is = past.tail_is; whole = past.whole })
     ]
 
-cut_line : (line tail lines rest : List ℕ) → IsLine line → line ++ tail ≡ lines ++ rest → are_lines lines ≡ true → Cut line tail lines rest
+pub cut_line : (line tail lines rest : List ℕ) → IsLine line → line ++ tail ≡ lines ++ rest → are_lines lines ≡ true → Cut line tail lines rest
 cut_line line tail lines rest is same whole =
     subst (λ (shown : List ℕ). Cut shown tail lines rest) (sym is.is)
     (cut_front is.front tail lines rest is.plain (ap (λ (shown : List ℕ). shown ++ tail) (sym is.is) ∙ same) whole)
