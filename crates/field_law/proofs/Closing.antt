@@ -20,8 +20,8 @@ use Rattle.machine_model.specs.Steps.{Turn}
 use Rattle.field_law.specs.Sections.{Section, IsPlain, Holds, HoldsFrom, words_in, closing_at, is_stored}
 use Rattle.field_law.specs.Arrivals.{is_idle, is_signal}
 use Rattle.field_law.proofs.Asked.{outlook_at_end}
-use Rattle.field_law.proofs.Within.{IsWithin}
-use Rattle.field_law.proofs.Fetching.{Fetches, idle-Fetches}
+use Rattle.field_law.proofs.Fetching.{idle-Fetches}
+use Rattle.field_law.proofs.InSection.{StandsIn, Settling, IsInSection, FetchesIn}
 
 -- the closing stands behind the body
 holds_closing : (program : RiscProgram) (at : ℕ) (body : List Instr) (closing : Ctl) (target : ℕ) → HoldsFrom program at body closing target →
@@ -61,16 +61,16 @@ module _ (s : Section) (given : Type 0) (chunks : List Chunk) (final : ℕ → �
     pub interrupts : (turn m).interrupts ≡ applied s.closing m.interrupts
     pub settled : given → (address : ℕ) → byte_at m.memory address ≡ final address
 
-  closes : (bound : ℕ) (body : List Instr) (m : State) → Fetches s given chunks final later bound body m → Holds s m.program → Signals s m → Closes m
+  closes : (bound : ℕ) (body : List Instr) (m : State) → FetchesIn s given chunks final later bound body m → Holds s m.program → Signals s m → Closes m
   closes bound (instr ∷ rest) m h held signal =
-      let there = h.there in
+      let there = h.stands.there in
       let here = signal.there in
-      let stands = h.holds m.program held in
+      let stands = h.stands.holds m.program held in
       let same : m.pc ≡ m.pc + 4 * words_in (instr ∷ rest) = omega arith in
       absurd (no_jump instr (length (encoded instr)) s.closing s.target (fetch m.program m.pc) stands.0
       (ap (fetch m.program) same ∙ holds_closing m.program m.pc (instr ∷ rest) s.closing s.target stands) stands.1)
   closes bound [] m h held signal =
-      let stands = h.holds m.program held in
+      let stands = h.stands.holds m.program held in
       let turns : turn m ≡ jumped true s.closing s.target (counted m) =
       ap (λ (on : Bool). turn_if on (counted m)) signal.on ∙ ap (λ (job : Job). worked job (counted m)) signal.idle
       ∙ ap (λ (reading : Reading). fetched reading (counted m)) stands.0 ∙ ap (λ (inside : Bool). jumped inside s.closing s.target (counted m)) stands.1 in
@@ -79,13 +79,13 @@ module _ (s : Section) (given : Type 0) (chunks : List Chunk) (final : ℕ → �
         interrupts = ap (λ (m' : State). m'.interrupts) turns;
         settled =
             λ known address.
-            (h.painted known).settled address
+            (h.comes known).settled address
             (λ q.
             ap (is_stored address) (outlook_at_end (h.stores q) (h.left q) (queue_state q m.queues).taken ((queue_state q m.queues).entries ++ later q) (h.outlook q)));
       }
 
-  pub signal-Closes : (bound : ℕ) (m : State) → IsWithin s given chunks final later bound m → Holds s m.program → is_signal s m Turn ≡ true → Closes m
+  pub signal-Closes : (bound : ℕ) (m : State) → IsInSection s given chunks final later bound m → Holds s m.program → is_signal s m Turn ≡ true → Closes m
   signal-Closes bound m h held signals =
       let signal = signal-Signals s m signals in
-      let f = idle-Fetches s given chunks final later bound m signal.idle h in
+      let f = idle-Fetches (StandsIn s) (Settling given chunks final) later bound m signal.idle h in
       closes bound f.0 m f.1 held signal

@@ -7,6 +7,7 @@ pub mod Within
 pub mod Running
 pub mod Fetching
 pub mod Waiting
+pub mod InSection
 pub mod Before
 pub mod Opening
 pub mod Turns

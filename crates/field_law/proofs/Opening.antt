@@ -24,7 +24,7 @@ use Rattle.field_law.proofs.Changed.{changed, each_queue}
 use Rattle.field_law.proofs.Painting.{Settles}
 use Rattle.field_law.proofs.Served.{Outlook}
 use Rattle.field_law.proofs.Asked.{outlook_at_start}
-use Rattle.field_law.proofs.Within.{IsWithin}
+use Rattle.field_law.proofs.InSection.{IsInSection}
 use Rattle.field_law.proofs.Running.{lowest_some, lowest_none}
 use Rattle.field_law.proofs.Waiting.{each_removed}
 use Rattle.field_law.proofs.Before.{IsUnmarked, stray-HasFront, code-HasFront, held_code, same_code, Common, code-Common, Dropped, drops, Opened, opens}
@@ -72,7 +72,7 @@ module _ (s : Section) (field : Queue → List Token) (uses : Uses s field) (giv
   IsOpening bound m = Opening s field given chunks final later bound m.risc_on m.pc m.skipping m.job m.queues m.memory
 
   abbrev pub IsReached : ℕ → State → Type 0
-  IsReached bound m = IsOpening bound m ⊎ IsWithin s given chunks final later bound m
+  IsReached bound m = IsOpening bound m ⊎ IsInSection s given chunks final later bound m
 
   -- what a turn leaves: the opening or the section, by less once all entries are there, and FDSR as it was
   pub record Reaches (bound interrupts : ℕ) (m : State) : Type 0 where
@@ -159,8 +159,7 @@ module _ (s : Section) (field : Queue → List Token) (uses : Uses s field) (giv
                 on = h.on;
                 unskipped = h.unskipped;
                 body = s.body;
-                holds = λ program held. subst (λ (at : ℕ). HoldsFrom program at s.body s.closing s.target) (sym h.there) held;
-                there = omega arith;
+                stands = record { holds = λ program held. subst (λ (at : ℕ). HoldsFrom program at s.body s.closing s.target) (sym h.there) held; there = omega arith };
                 plain = tt;
                 stores = section_stores s field;
                 left = λ q. length (o q).field;
@@ -169,7 +168,7 @@ module _ (s : Section) (field : Queue → List Token) (uses : Uses s field) (giv
                     (λ q.
                     subst (λ (ahead : List Entry). Outlook (asks q s.body) (section_stores s field q) (length (o q).field) 0 ahead) (sym (o q).order)
                     (outlook_at_start (asks q s.body) (field q) (o q).field (h.rest q) (uses q) (o q).brings));
-                painted = h.painted;
+                comes = h.painted;
                 bounded = omega arith;
               });
           most = omega arith;

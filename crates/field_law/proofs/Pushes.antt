@@ -1,6 +1,7 @@
 -- Steps other than turns: they add entries at the ends of the queues, or change neither queues nor job.
 use Rattle.std.proofs.Common.{◌≡◌, ℕ, Bool, true, false, if◌then◌else◌, List, [], ◌∷◌, ◌++◌, refl, sym, ap, subst, ◌∙◌, arith, ◌⊎◌, inl, inr, append_assoc, append-nil}
 use Rattle.risc_word.specs.declared.Code.{Code}
+use Rattle.risc_word.specs.declared.Instr.{Instr}
 use Rattle.fifo_model.specs.declared.Entry.{Entry}
 use Rattle.fifo_model.specs.declared.Queue.{Queue}
 use Rattle.fifo_model.specs.declared.Queue.TheVariants.{One, Two, Three}
@@ -12,6 +13,7 @@ use Rattle.page_table.specs.Blocks.{Block}
 use Rattle.machine_model.specs.declared.Job.{Job}
 use Rattle.machine_model.specs.declared.Skipping.{Skipping}
 use Rattle.machine_model.specs.States.{State}
+use Rattle.machine_model.specs.Turns.{Store}
 use Rattle.machine_model.specs.Steps.{Step, Push, Control, Turn, Host, answer_if, pushed_as, control_pushed_as, with_fbus_if, push_if, push, push_control_if, push_control, step}
 use Rattle.field_law.specs.Fields.{Token}
 use Rattle.field_law.specs.Sections.{Section, Uses, asks}
@@ -19,6 +21,7 @@ use Rattle.field_law.specs.Arrivals.{pushed_by, IsKept, turn_count}
 use Rattle.field_law.proofs.Served.{Outlook}
 use Rattle.field_law.proofs.Asked.{outlook_with}
 use Rattle.field_law.proofs.Within.{Within, job_asks}
+use Rattle.field_law.proofs.InSection.{StandsIn, Settling}
 use Rattle.field_law.proofs.Opening.{Opening, IsReached}
 
 -- ---- entries are added at the ends
@@ -99,6 +102,31 @@ push_control-is code m h =
     let parts = push_full (some_full m.queues) m.fifo_on One (control_entry code) m h in
     ap (λ (on : Bool). push_control_if on code m) parts.0 ∙ code_held_is (some_full m.queues) code m parts.1
 
+-- ---- half way through instructions, with other queues
+
+module _ (Stands : ℕ → List Instr → Type 0) (Comes : List Block → (Queue → List Store) → Type 0) (later later' more : Queue → List Entry) (queues queues' : Queues)
+    (taken : (q : Queue) → (queue_state q queues').taken ≡ (queue_state q queues).taken)
+    (ahead : (q : Queue) → (queue_state q queues').entries ++ later' q ≡ ((queue_state q queues).entries ++ later q) ++ more q)
+    (bound : ℕ) (risc_on : Bool) (pc : ℕ) (skipping : Skipping) (job : Job) (memory : List Block) where
+  pub within_moved : Within Stands Comes later bound risc_on pc skipping job queues memory → Within Stands Comes later' bound risc_on pc skipping job queues' memory
+  within_moved h =
+      record {
+        on = h.on;
+        unskipped = h.unskipped;
+        body = h.body;
+        stands = h.stands;
+        plain = h.plain;
+        stores = h.stores;
+        left = h.left;
+        outlook =
+            λ q.
+            subst (λ (taken : ℕ). Outlook (job_asks q job (asks q h.body)) (h.stores q) (h.left q) taken ((queue_state q queues').entries ++ later' q)) (sym (taken q))
+            (subst (λ (ahead : List Entry). Outlook (job_asks q job (asks q h.body)) (h.stores q) (h.left q) (queue_state q queues).taken ahead) (sym (ahead q))
+            (outlook_with (job_asks q job (asks q h.body)) (h.stores q) (h.left q) (queue_state q queues).taken ((queue_state q queues).entries ++ later q) (more q) (h.outlook q)));
+        comes = h.comes;
+        bounded = h.bounded;
+      }
+
 -- ---- what is reached stays so, with other queues
 
 module _ (s : Section) (field : Queue → List Token) (uses : Uses s field) (given : Type 0) (chunks : List Chunk) (final : ℕ → ℕ) where
@@ -125,30 +153,11 @@ module _ (s : Section) (field : Queue → List Token) (uses : Uses s field) (giv
           bounded = h.bounded;
         }
 
-    within_moved : Within s given chunks final later bound risc_on pc skipping job queues memory → Within s given chunks final later' bound risc_on pc skipping job queues' memory
-    within_moved h =
-        record {
-          on = h.on;
-          unskipped = h.unskipped;
-          body = h.body;
-          holds = h.holds;
-          there = h.there;
-          plain = h.plain;
-          stores = h.stores;
-          left = h.left;
-          outlook =
-              λ q.
-              subst (λ (taken : ℕ). Outlook (job_asks q job (asks q h.body)) (h.stores q) (h.left q) taken ((queue_state q queues').entries ++ later' q)) (sym (taken q))
-              (subst (λ (ahead : List Entry). Outlook (job_asks q job (asks q h.body)) (h.stores q) (h.left q) (queue_state q queues).taken ahead) (sym (ahead q))
-              (outlook_with (job_asks q job (asks q h.body)) (h.stores q) (h.left q) (queue_state q queues).taken ((queue_state q queues).entries ++ later q) (more q) (h.outlook q)));
-          painted = h.painted;
-          bounded = h.bounded;
-        }
-
-    reached_moved : Opening s field given chunks final later bound risc_on pc skipping job queues memory ⊎ Within s given chunks final later bound risc_on pc skipping job queues memory →
-        Opening s field given chunks final later' bound risc_on pc skipping job queues' memory ⊎ Within s given chunks final later' bound risc_on pc skipping job queues' memory
+    reached_moved : Opening s field given chunks final later bound risc_on pc skipping job queues memory ⊎ Within (StandsIn s) (Settling given chunks final) later bound risc_on pc skipping job queues memory →
+        Opening s field given chunks final later' bound risc_on pc skipping job queues' memory ⊎ Within (StandsIn s) (Settling given chunks final) later' bound risc_on pc skipping job queues' memory
     reached_moved (inl h) = inl (opening_moved h)
-    reached_moved (inr h) = inr (within_moved h)
+    reached_moved (inr h) =
+        inr (within_moved (StandsIn s) (Settling given chunks final) later later' more queues queues' taken ahead bound risc_on pc skipping job memory h)
 
   -- a step that is no turn
   pub step-moved : (later later' more : Queue → List Entry) (bound : ℕ) (st : Step) (m : State) → IsKept m st → turn_count st ≡ 0 →

@@ -12,28 +12,26 @@ use Rattle.machine_model.specs.Safety.{IsOrderly}
 use Rattle.field_law.specs.Fields.{Token}
 use Rattle.field_law.specs.Sections.{Section, Uses, Holds}
 use Rattle.field_law.specs.Arrivals.{is_signal}
-use Rattle.field_law.proofs.Within.{IsWithin}
-use Rattle.field_law.proofs.Running.{Turned, ran-Turned}
-use Rattle.field_law.proofs.Fetching.{fetched-Turned}
 use Rattle.field_law.proofs.Waiting.{waited-Turned}
+use Rattle.field_law.proofs.InSection.{StandsIn, Settling, IsInSection, TurnedIn, ran-TurnedIn, fetched-TurnedIn}
 use Rattle.field_law.proofs.Opening.{IsOpening, IsReached, Reaches, opening-Reaches}
 
 module _ (s : Section) (field : Queue → List Token) (uses : Uses s field) (given : Type 0) (chunks : List Chunk) (final : ℕ → ℕ) (later : Queue → List Entry) where
   -- ---- a turn within the section
 
-  works : (bound : ℕ) (job : Job) (m : State) → m.job ≡ job → IsOrderly m → Holds s m.program → IsWithin s given chunks final later bound m → is_signal s m Turn ≡ false →
-      Turned s given chunks final later bound m.interrupts (worked job m)
-  works bound Idle m j orderly held h silent = fetched-Turned s given chunks final later bound m j h held silent
-  works bound (Waiting ctl resync code) m j orderly held h silent = waited-Turned s given chunks final later bound ctl resync code m j h
-  works bound (Running instr ds) m j orderly held h silent = ran-Turned s given chunks final later bound instr ds m orderly.triggered j h (is_done ds) refl
+  works : (bound : ℕ) (job : Job) (m : State) → m.job ≡ job → IsOrderly m → Holds s m.program → IsInSection s given chunks final later bound m → is_signal s m Turn ≡ false →
+      TurnedIn s given chunks final later bound m.interrupts (worked job m)
+  works bound Idle m j orderly held h silent = fetched-TurnedIn s given chunks final later bound m j h held silent
+  works bound (Waiting ctl resync code) m j orderly held h silent = waited-Turned (StandsIn s) (Settling given chunks final) later bound ctl resync code m j h
+  works bound (Running instr ds) m j orderly held h silent = ran-TurnedIn s given chunks final later bound instr ds m (is_done ds) orderly.triggered j h refl
 
-  within_turn : (bound : ℕ) (m : State) → IsOrderly m → Holds s m.program → IsWithin s given chunks final later bound m → is_signal s m Turn ≡ false →
-      Turned s given chunks final later bound m.interrupts (turn m)
+  within_turn : (bound : ℕ) (m : State) → IsOrderly m → Holds s m.program → IsInSection s given chunks final later bound m → is_signal s m Turn ≡ false →
+      TurnedIn s given chunks final later bound m.interrupts (turn m)
   within_turn bound m orderly held h silent =
-      subst (λ (on : Bool). Turned s given chunks final later bound m.interrupts (turn_if on (counted m))) (sym h.on)
+      subst (λ (on : Bool). TurnedIn s given chunks final later bound m.interrupts (turn_if on (counted m))) (sym h.on)
       (works bound m.job (counted m) refl (record { job = orderly.job; queues = orderly.queues; triggered = orderly.triggered }) held h silent)
 
-  reaches : (bound interrupts : ℕ) (m : State) → Turned s given chunks final later bound interrupts m → Reaches s field uses given chunks final later bound interrupts m
+  reaches : (bound interrupts : ℕ) (m : State) → TurnedIn s given chunks final later bound interrupts m → Reaches s field uses given chunks final later bound interrupts m
   reaches bound interrupts m t = record { next = t.next; reached = inr t.within; most = t.most; less = t.less; quiet = t.quiet }
 
   opening_turn : (bound : ℕ) (m : State) → IsOrderly m → IsOpening s field uses given chunks final later bound m → Reaches s field uses given chunks final later bound m.interrupts (turn m)

@@ -1,7 +1,8 @@
--- Turns of the machine within a section that waits in a SYNC.
+-- Turns of the machine while a SYNC waits for its code.
 use Rattle.std.proofs.Common.{◌≡◌, ℕ, suc, ◌+◌, ◌*◌, Bool, true, false, not, if◌then◌else◌, List, [], ◌∷◌, ◌++◌, length, Option, Some, None, refl, sym, ap, subst, ◌∙◌, arith, ◌⊎◌, inl, inr, eq-eqb}
 use Rattle.risc_word.specs.declared.Code.{Code}
 use Rattle.risc_word.specs.declared.Ctl.{Ctl}
+use Rattle.risc_word.specs.declared.Instr.{Instr}
 use Rattle.risc_word.specs.Words.{code_number}
 use Rattle.sync_status.specs.declared.StatusKind.{StatusKind}
 use Rattle.sync_status.specs.declared.StatusKind.TheVariants.{Control, Start, Pixels, End, Reserved}
@@ -11,12 +12,12 @@ use Rattle.fifo_model.specs.declared.Queue.{Queue}
 use Rattle.fifo_model.specs.declared.Queue.TheVariants.{One, Two, Three}
 use Rattle.fifo_model.specs.Queues.{QueueState, Queues, first, front, queue_state, removed, all_removed, code_of_kind, front_code_of, front_code}
 use Rattle.irq_status.proofs.Laws.{fdsr-applied}
-use Rattle.page_table.specs.Grants.{Chunk}
+use Rattle.page_table.specs.Blocks.{Block}
 use Rattle.machine_model.specs.declared.Job.{Job}
 use Rattle.machine_model.specs.declared.Job.TheVariants.{Waiting}
 use Rattle.machine_model.specs.States.{State}
-use Rattle.machine_model.specs.Turns.{no_code, is_stray, lowest_stray, code_if, common_code, met, code_seen, stray_seen, waited}
-use Rattle.field_law.specs.Sections.{Section, asks}
+use Rattle.machine_model.specs.Turns.{Store, no_code, is_stray, lowest_stray, code_if, common_code, met, code_seen, stray_seen, waited}
+use Rattle.field_law.specs.Sections.{asks}
 use Rattle.field_law.specs.Arrivals.{over_queues}
 use Rattle.field_law.proofs.Served.{Outlook}
 use Rattle.field_law.proofs.Asked.{Shows, outlook_shows, outlook_awaits}
@@ -91,10 +92,10 @@ nothing_ahead (other ∷ held) later rest entry a b e = cc
 
 -- ---- a turn
 
-module _ (s : Section) (given : Type 0) (chunks : List Chunk) (final : ℕ → ℕ) (later : Queue → List Entry) (bound : ℕ) (ctl : Ctl) (resync : Bool) (code : Code) (m : State)
-    (j : m.job ≡ Waiting ctl resync code) (h : IsWithin s given chunks final later bound m) where
-  waits : WithinJob s given chunks final later bound (Waiting ctl resync code) m
-  waits = subst (λ (job : Job). WithinJob s given chunks final later bound job m) j h
+module _ (Stands : ℕ → List Instr → Type 0) (Comes : List Block → (Queue → List Store) → Type 0) (later : Queue → List Entry) (bound : ℕ) (ctl : Ctl) (resync : Bool) (code : Code)
+    (m : State) (j : m.job ≡ Waiting ctl resync code) (h : IsWithin Stands Comes later bound m) where
+  waits : WithinJob Stands Comes later bound (Waiting ctl resync code) m
+  waits = subst (λ (job : Job). WithinJob Stands Comes later bound job m) j h
 
   abbrev ShowsAt : Queue → Type 0
   ShowsAt q = Shows code (asks q waits.body) (waits.stores q) (waits.left q) (queue_state q m.queues) (later q)
@@ -109,10 +110,10 @@ module _ (s : Section) (given : Type 0) (chunks : List Chunk) (final : ℕ → �
   goes_by : waited ctl resync code m ≡ code_seen (common_code m.queues) ctl resync code m
   goes_by = ap (λ (stray : Option Queue). stray_seen stray ctl resync code m) (none_stray m.queues not_stray)
 
-  stays : (q : Queue) → (queue_state q m.queues).entries ≡ [] → Turned s given chunks final later bound m.interrupts (waited ctl resync code m)
+  stays : (q : Queue) → (queue_state q m.queues).entries ≡ [] → Turned Stands Comes later bound m.interrupts (waited ctl resync code m)
   stays q none =
       let still : waited ctl resync code m ≡ m = goes_by ∙ ap (λ (seen : Option Code). code_seen seen ctl resync code m) (without m.queues q none) in
-      subst (λ (m' : State). Turned s given chunks final later bound m.interrupts m') (sym still)
+      subst (λ (m' : State). Turned Stands Comes later bound m.interrupts m') (sym still)
       (record {
         next = bound;
         within = h;
@@ -125,7 +126,7 @@ module _ (s : Section) (given : Type 0) (chunks : List Chunk) (final : ℕ → �
         quiet = refl;
       })
 
-  goes_on : ((q : Queue) → ShowsAt q) → Turned s given chunks final later bound m.interrupts (waited ctl resync code m)
+  goes_on : ((q : Queue) → ShowsAt q) → Turned Stands Comes later bound m.interrupts (waited ctl resync code m)
   goes_on show =
       let bounded = waits.bounded in
       let one = (show One).less in
@@ -135,7 +136,7 @@ module _ (s : Section) (given : Type 0) (chunks : List Chunk) (final : ℕ → �
       all_with (front_code m.queues.one) (front_code m.queues.two) (front_code m.queues.three) code (show One).is_code (show Two).is_code (show Three).is_code in
       let goes : waited ctl resync code m ≡ met true ctl resync m =
       goes_by ∙ ap (λ (seen : Option Code). code_seen seen ctl resync code m) seen ∙ ap (λ (same : Bool). met same ctl resync m) (eq-eqb (code_number code) (code_number code) refl) in
-      subst (λ (m' : State). Turned s given chunks final later bound m.interrupts m') (sym goes)
+      subst (λ (m' : State). Turned Stands Comes later bound m.interrupts m') (sym goes)
       (record {
         next = 5 * suc (length waits.body) + 0 + over_queues (λ q. (show q).entries_left);
         within =
@@ -143,14 +144,13 @@ module _ (s : Section) (given : Type 0) (chunks : List Chunk) (final : ℕ → �
               on = waits.on;
               unskipped = waits.unskipped;
               body = waits.body;
-              holds = waits.holds;
-              there = waits.there;
+              stands = waits.stands;
               plain = tt;
               stores = waits.stores;
               left = λ q. (show q).entries_left;
               outlook =
                   each_removed (λ q held. Outlook (asks q waits.body) (waits.stores q) (show q).entries_left held.taken (held.entries ++ later q)) m.queues (λ q. (show q).next);
-              painted = waits.painted;
+              comes = waits.comes;
               bounded = omega arith;
             };
         most = omega arith;
@@ -158,7 +158,7 @@ module _ (s : Section) (given : Type 0) (chunks : List Chunk) (final : ℕ → �
         quiet = fdsr-applied ctl m.interrupts;
       })
 
-  pub waited-Turned : Turned s given chunks final later bound m.interrupts (waited ctl resync code m)
+  pub waited-Turned : Turned Stands Comes later bound m.interrupts (waited ctl resync code m)
   waited-Turned =
       elim (shows One) [
         | inl none ↦ stays One none

@@ -1,4 +1,5 @@
--- The machine within a section: what is still to come, never what was done.
+-- The machine half way through instructions: what is still to come, never what was done. Where the machine stands in its
+-- instructions, and what its stores must come to, are for the user of the relation to say.
 use Rattle.std.proofs.Common.{◌≡◌, ℕ, suc, ◌+◌, ◌*◌, ◌<◌, ◌≤◌, Bool, true, List, [], ◌∷◌, ◌++◌, length, Some, min, refl, sym, ap, subst, ◌∙◌, arith}
 use Rattle.risc_word.specs.declared.Instr.{Instr}
 use Rattle.sync_status.specs.declared.Verdict.{Verdict}
@@ -6,7 +7,6 @@ use Rattle.fifo_model.specs.declared.Entry.{Entry}
 use Rattle.fifo_model.specs.declared.Queue.{Queue}
 use Rattle.fifo_model.specs.declared.Queue.TheVariants.{One, Two, Three}
 use Rattle.fifo_model.specs.Queues.{Queues, first, front, queue_state, taken_from, bytes_taken}
-use Rattle.page_table.specs.Grants.{Chunk}
 use Rattle.page_table.specs.Blocks.{Block}
 use Rattle.machine_model.specs.declared.Demand.{Demand}
 use Rattle.machine_model.specs.declared.Demands.{Demands}
@@ -14,13 +14,12 @@ use Rattle.machine_model.specs.declared.Job.{Job}
 use Rattle.machine_model.specs.declared.Job.TheVariants.{Idle, Waiting, Running}
 use Rattle.machine_model.specs.declared.Skipping.{Skipping}
 use Rattle.machine_model.specs.declared.Skipping.TheVariants.{Nothing}
-use Rattle.machine_model.specs.Paths.{RiscProgram, instr_off}
+use Rattle.machine_model.specs.Paths.{instr_off}
 use Rattle.machine_model.specs.States.{State}
-use Rattle.machine_model.specs.Turns.{Store, stores_at, stores_of, demand_on, with_demand, demand_less, took, ended, judged, verdict_at}
-use Rattle.field_law.specs.Sections.{Section, Ask, Await, ask_of, asks, Holds, HoldsFrom, words_in, closing_at}
+use Rattle.machine_model.specs.Turns.{Store, stored_all, stores_at, stores_of, demand_on, with_demand, demand_less, took, ended, judged, verdict_at}
+use Rattle.field_law.specs.Sections.{Ask, Await, ask_of, asks}
 use Rattle.field_law.specs.Arrivals.{over_queues}
 use Rattle.field_law.proofs.Changed.{changed, each_served}
-use Rattle.field_law.proofs.Painting.{Settles, settles_made}
 use Rattle.field_law.proofs.Served.{Outlook, Takes, application}
 
 -- what a job asks of a queue, before what the instructions ask that are not fetched yet
@@ -42,22 +41,27 @@ abbrev pub IsPlainJob : Job → Type 0
 IsPlainJob (Running instr ds) = instr_off instr ≡ 0
 IsPlainJob _ = Unit {0}
 
--- `given` is what is known of the stores, if anything is; `later` is what steps to come push; `bound` is a number of
--- turns within which the section signals once all entries are there
-pub record Within (s : Section) (given : Type 0) (chunks : List Chunk) (final : ℕ → ℕ) (later : Queue → List Entry) (bound : ℕ)
+-- `later` is what steps to come push; `bound` is a number of turns within which the instructions are executed and one
+-- turn more comes, once all entries are there
+pub record Within (Stands : ℕ → List Instr → Type 0) (Comes : List Block → (Queue → List Store) → Type 0) (later : Queue → List Entry) (bound : ℕ)
     (risc_on : Bool) (pc : ℕ) (skipping : Skipping) (job : Job) (queues : Queues) (memory : List Block) : Type 0 where
   pub on : risc_on ≡ true
   pub unskipped : skipping ≡ Nothing
   -- the instructions that are not fetched yet
   pub body : List Instr
-  pub holds : (program : RiscProgram) → Holds s program → HoldsFrom program pc body s.closing s.target
-  pub there : pc + 4 * words_in body ≡ closing_at s
+  pub stands : Stands pc body
   pub plain : IsPlainJob job
   pub stores : Queue → List Store
   pub left : Queue → ℕ
   pub outlook : (q : Queue) → Outlook (job_asks q job (asks q body)) (stores q) (left q) (queue_state q queues).taken ((queue_state q queues).entries ++ later q)
-  pub painted : given → Settles chunks final memory stores
+  pub comes : Comes memory stores
   pub bounded : 5 * suc (length body) + job_turns job + over_queues left ≤ bound
+
+-- when some of the stores of a queue are made, what they must come to is the same
+abbrev pub IsMade : (List Block → (Queue → List Store) → Type 0) → Type 0
+IsMade Comes =
+    (memory : List Block) (stores : Queue → List Store) (q : Queue) (made rest : List Store) → stores q ≡ made ++ rest → Comes memory stores →
+    Comes (stored_all memory made) (changed q rest stores)
 
 -- the measure falls with that of one queue
 less_over : (q : Queue) (d : Demand) (left : ℕ) (ds : Demands) (all_left : Queue → ℕ) → left + min d.rest 1 < all_left q + min (demand_on q ds).rest 1 →
@@ -70,9 +74,9 @@ front_entries : (entries : List Entry) (entry : Entry) → first entries ≡ Som
 front_entries [] entry h = cc
 front_entries (top ∷ es) entry h = (es, cc)
 
-module _ (s : Section) (given : Type 0) (chunks : List Chunk) (final : ℕ → ℕ) (later : Queue → List Entry) where
+module _ (Stands : ℕ → List Instr → Type 0) (Comes : List Block → (Queue → List Store) → Type 0) (later : Queue → List Entry) where
   abbrev pub WithinJob : ℕ → Job → State → Type 0
-  WithinJob bound job m = Within s given chunks final later bound m.risc_on m.pc m.skipping job m.queues m.memory
+  WithinJob bound job m = Within Stands Comes later bound m.risc_on m.pc m.skipping job m.queues m.memory
 
   abbrev pub IsWithin : ℕ → State → Type 0
   IsWithin bound m = WithinJob bound m.job m
@@ -84,7 +88,7 @@ module _ (s : Section) (given : Type 0) (chunks : List Chunk) (final : ℕ → �
     pub less : next < bound
     pub same : m.interrupts ≡ interrupts
 
-  module _ (bound : ℕ) (q : Queue) (instr : Instr) (ds : Demands) (entry : Entry) (m : State) (h : WithinJob bound (Running instr ds) m)
+  module _ (comes_made : IsMade Comes) (bound : ℕ) (q : Queue) (instr : Instr) (ds : Demands) (entry : Entry) (m : State) (h : WithinJob bound (Running instr ds) m)
       (t : Takes (demand_on q ds) (asks q h.body) (h.stores q) (h.left q) (queue_state q m.queues) entry (later q)) where
     split : h.stores q ≡ stores_of instr (demand_on q ds) entry (queue_state q m.queues).taken t.count ++ t.stores_left
     split =
@@ -102,16 +106,14 @@ module _ (s : Section) (given : Type 0) (chunks : List Chunk) (final : ℕ → �
                 on = h.on;
                 unskipped = h.unskipped;
                 body = h.body;
-                holds = h.holds;
-                there = h.there;
+                stands = h.stands;
                 plain = h.plain;
                 stores = changed q t.stores_left h.stores;
                 left = all_left;
                 outlook =
                     each_served (λ p held d stores left. Outlook (ask_of d ∷ asks p h.body) stores left held.taken (held.entries ++ later p)) q
                     (taken_from t.count (queue_state q m.queues)) (demand_less t.count (demand_on q ds)) t.stores_left t.entries_left m.queues ds h.stores h.left h.outlook t.next;
-                painted =
-                    λ known. settles_made chunks final m.memory h.stores q (stores_of instr (demand_on q ds) entry (queue_state q m.queues).taken t.count) t.stores_left split (h.painted known);
+                comes = comes_made m.memory h.stores q (stores_of instr (demand_on q ds) entry (queue_state q m.queues).taken t.count) t.stores_left split h.comes;
                 bounded = omega arith;
               };
           less = omega (arith, less_over q (demand_less t.count (demand_on q ds)) t.entries_left ds h.left t.less);
@@ -124,9 +126,9 @@ module _ (s : Section) (given : Type 0) (chunks : List Chunk) (final : ℕ → �
         ∙ ap (λ (cut : Bool). ended cut instr (took q t.count instr ds entry m)) t.whole
 
   -- an application stays within
-  pub judged-Within : (bound : ℕ) (q : Queue) (instr : Instr) (ds : Demands) (entry : Entry) (m : State) → WithinJob bound (Running instr ds) m →
+  pub judged-Within : IsMade Comes → (bound : ℕ) (q : Queue) (instr : Instr) (ds : Demands) (entry : Entry) (m : State) → WithinJob bound (Running instr ds) m →
       front (queue_state q m.queues) ≡ Some entry → 0 < (demand_on q ds).rest → Fewer bound m.interrupts (judged (verdict_at q ds entry m) q instr ds entry m)
-  judged-Within bound q instr ds entry m h there some =
+  judged-Within comes_made bound q instr ds entry m h there some =
       let es = front_entries (queue_state q m.queues).entries entry there in
       let t = application (demand_on q ds) (asks q h.body) (h.stores q) (h.left q) (queue_state q m.queues) entry (later q) es.0 es.1 some (h.outlook q) in
-      subst (λ (m' : State). Fewer bound m.interrupts m') (sym (judged_is bound q instr ds entry m h t)) (took_within bound q instr ds entry m h t)
+      subst (λ (m' : State). Fewer bound m.interrupts m') (sym (judged_is comes_made bound q instr ds entry m h t)) (took_within comes_made bound q instr ds entry m h t)
