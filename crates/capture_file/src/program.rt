@@ -424,7 +424,7 @@ fn are_pages(chunks: &[(u32, u32)]) -> bool
 {
     chunks
         .iter()
-        .all(|pair| pair.0 % 4096 == 0 && pair.1 == 4096)
+        .all(|pair| pair.0 % PAGE_SIZE == 0 && pair.1 == PAGE_SIZE)
 }
 
 fn fill_wrong(layout: Layout, chunks: &[(u32, u32)]) -> Option<FileKind>
@@ -469,7 +469,7 @@ fn read_fill(
 // The grants of chunks that rise.
 fn grants_of(alloc: Global, chunks: &[(u32, u32)]) -> Result<PageSet, ProgramError>
     requires rising { AreRising 0 (listed chunks.now) }
-    requires few { length chunks.now ≤ 4096 }
+    requires few { length chunks.now ≤ max_chunks }
     requires small { total (listed chunks.now) ≤ max_bytes }
     ensures value { IfOk result (λ grants. grants ≡ listed chunks.now) }
     ensures memory { IfErr result (λ e. e ≡ Memory) }

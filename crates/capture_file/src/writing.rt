@@ -4,14 +4,14 @@ ghost use Rattle.machine_model.specs.Paths.{max_words};
 ghost use Rattle.byteorder.specs.Endian.{little_bytes};
 ghost use Rattle.capture_desk.specs.Desks.{Puts, WriteCounts, after_write};
 ghost use Rattle.capture_file.specs.Programs.{chunk_in, chunk_numbers, grants_spelled, head_spelled, layout_for, name_of, numbers_spelled, spelled, spelled_as};
-ghost use Rattle.page_table.specs.Grants.{chunk_at, is_page};
+ghost use Rattle.page_table.specs.Grants.{chunk_at, is_page, max_chunks};
 ghost use Rattle.std.specs.List.{flat_map, list_all};
 ghost use Rattle.std.specs.Prelude.{◌≡◌, ◌+◌, ◌*◌, ◌≤◌, ◌++◌, List, ℕ, [], drop, length, map, take, IsTrue};
 
 use super::program::Layout;
 use byteorder::{ByteOrder, LittleEndian};
 use capture_desk::{Desk, Failed, put};
-use page_table::PageSet;
+use page_table::{PAGE_SIZE, PageSet};
 use risc_verify::Program;
 
 // How many bytes are put at once where there are few, and where there are many.
@@ -101,7 +101,7 @@ fn layout_of_grants(grants: &PageSet) -> Layout
     ensures { result ≡ layout_for grants.now }
 {
     for i in 0..grants.len() {
-        if grants.get(i) % 4096 != 0 || grants.size(i) != 4096 {
+        if grants.get(i) % PAGE_SIZE != 0 || grants.size(i) != PAGE_SIZE {
             return Layout::Chunked;
         }
     }
@@ -111,7 +111,7 @@ fn layout_of_grants(grants: &PageSet) -> Layout
 // Puts the addresses of so many chunks, from one on, into a buffer.
 fn list_addresses(grants: &PageSet, from: usize, count: usize, out: &mut [u32])
     requires inside { from + count ≤ length grants.now }
-    requires few { length grants.now ≤ 4096 }
+    requires few { length grants.now ≤ max_chunks }
     requires room { count ≤ length out.old }
     ensures { take count out.new ≡ map (λ c. c.at) (take count (drop from grants.now)) }
 {
@@ -123,7 +123,7 @@ fn list_addresses(grants: &PageSet, from: usize, count: usize, out: &mut [u32])
 // Puts the addresses and lengths of so many chunks, from one on, into a buffer.
 fn list_pairs(grants: &PageSet, from: usize, count: usize, out: &mut [u32])
     requires inside { from + count ≤ length grants.now }
-    requires few { length grants.now ≤ 4096 }
+    requires few { length grants.now ≤ max_chunks }
     requires room { 2 * count ≤ length out.old }
     ensures { take (2 * count) out.new ≡ flat_map chunk_numbers (take count (drop from grants.now)) }
 {
@@ -142,7 +142,7 @@ fn list_chunks(
     out: &mut [u32],
 ) -> usize
     requires inside { from + count ≤ length grants.now }
-    requires few { length grants.now ≤ 4096 }
+    requires few { length grants.now ≤ max_chunks }
     requires room { 2 * count ≤ length out.old }
     ensures within { result ≤ length out.new }
     ensures numbers { numbers_spelled (take result out.new) ≡ flat_map (chunk_in layout) (take count (drop from grants.now)) }

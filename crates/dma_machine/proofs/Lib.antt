@@ -3,7 +3,7 @@ pub mod Asked
 pub mod Bursts
 pub mod Counting
 pub mod Machines
-pub mod Plains
+pub mod WholeTakes
 pub mod Standing
 pub mod Stills
 pub mod Turns

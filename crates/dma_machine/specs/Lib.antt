@@ -1,6 +1,6 @@
 pub mod Facts
 pub mod Needs
-pub mod Plain
+pub mod WholeTakes
 pub mod Stills
 pub mod Views
 pub mod Counts

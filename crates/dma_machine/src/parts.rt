@@ -3,7 +3,7 @@
 ghost use Rattle.dma_machine.specs.Needs.{IsAddress};
 ghost use Rattle.machine_model.specs.Paths.{demand, demands_of, first_demand, instr_ctl, instr_ends, instr_off, no_demand, target_after, target_before, target_moved, three_demands};
 ghost use Rattle.machine_model.specs.Turns.{demand_less, demand_on, is_cut_short, is_done, rest_of_line, skipping_after, with_demand};
-ghost use Rattle.dma_machine.specs.Plain.{is_plain};
+ghost use Rattle.dma_machine.specs.WholeTakes.{takes_whole};
 ghost use Rattle.risc_word.specs.Words.{encoded};
 ghost use Rattle.std.specs.Prelude.{◌≡◌, ◌+◌, ◌≤◌, length};
 ghost use Rattle.sync_status.specs.Statuses.{kind_of};
@@ -307,8 +307,8 @@ pub fn is_cut_short(entry: Entry, taken: u8, count: u8, rest: u16) -> bool
 
 /// Whether a front is a DWORD of pixels that a line under way takes whole, as most are.
 #[inline(always)]
-pub fn is_plain(front: Status, need_sol: bool, part: u8, rest: u16) -> bool
-    ensures { result ≡ is_plain (kind_of front) need_sol part rest }
+pub fn takes_whole(front: Status, need_sol: bool, part: u8, rest: u16) -> bool
+    ensures { result ≡ takes_whole (kind_of front) need_sol part rest }
 {
     match kind(front) {
         StatusKind::Pixels => !need_sol && part == 0 && rest >= 4,

@@ -1,7 +1,7 @@
 //! Turns of a machine that runs a data instruction.
 
 use crate::engine::{Engine, Phase};
-use crate::parts::{demand_on, is_cut_short, is_done, is_plain, lessen, rest_of_line};
+use crate::parts::{demand_on, is_cut_short, is_done, lessen, rest_of_line, takes_whole};
 use crate::stores::store_at;
 use fifo_model::{Entry, Queue};
 use irq_status::FDSR;
@@ -105,7 +105,7 @@ impl<R: Ram> Engine<R> {
 
     /// The same, quick where the front is taken whole.
     #[inline(always)]
-    #[tactic(auto, using(crate::proofs::Plains::plain_whole))]
+    #[tactic(auto, using(crate::proofs::WholeTakes::plain_whole))]
     fn meet_front(&mut self, q: Queue, entry: Entry)
         requires running { self.old.phase ≡ Phase.Running }
         requires front { front (queue_state q self.old.queues) ≡ Some entry }
@@ -116,7 +116,7 @@ impl<R: Ram> Engine<R> {
     {
         let demand = demand_on(&self.demands, q);
         let part = self.queues.part(q);
-        if is_plain(entry.status, demand.needs_sol, part, demand.rest) {
+        if takes_whole(entry.status, demand.needs_sol, part, demand.rest) {
             self.take(q, 4, entry);
         } else {
             self.judge_front(q, entry);

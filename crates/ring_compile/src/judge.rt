@@ -1,4 +1,5 @@
 //! The faults of a ring's place in memory.
+ghost use Rattle.page_table.specs.Grants.{max_chunks};
 ghost use Rattle.std.specs.Prelude.{◌≡◌, ◌∷◌, ◌^◌, ◌<◌, ◌≤◌, length, IfOk};
 ghost use Rattle.std.specs.List.{All, list_any};
 ghost use Rattle.page_table.specs.Scattered.{ArePages, IsScatterList};
@@ -14,10 +15,8 @@ use crate::fault::{RingError, RingFault};
 use crate::ring::{Ring, Values};
 use crate::words::{closing, front_words};
 use field_compile::push_instr;
-use page_table::{PageFault, PageSet, Scatter, ScatterFault};
+use page_table::{PAGE_SIZE, PageFault, PageSet, Scatter, ScatterFault};
 use std::alloc::Global;
-
-const PAGE: u32 = 4096;
 
 fn taken(alloc: Global, pages: &[u32]) -> Result<PageSet, PageFault>
     ensures answer { Answers (taken_pages pages.now) result }
@@ -28,7 +27,7 @@ fn taken(alloc: Global, pages: &[u32]) -> Result<PageSet, PageFault>
 
 /// The pages as grants, each judged for itself and against those before it.
 pub(crate) fn page_grants(alloc: Global, values: &Values) -> Result<PageSet, RingError>
-    requires { length values.now.pages ≤ 4096 }
+    requires { length values.now.pages ≤ max_chunks }
     ensures answer { Judges (page_unaligned values.now or page_twice values.now) result }
     ensures grants { IfOk result (λ grants. grants ≡ in_order (memory_of values.now)) }
     ensures pages { IfOk result (λ _. ArePages values.now.pages) }
@@ -97,7 +96,7 @@ fn meets_pages(base: u32, end: u64, pages: &[u32]) -> bool
     ensures { result ≡ list_any (λ page. is_met base end (page_at page)) pages.now }
 {
     pages.iter().any(|page| u64::from(base.max(*page))
-        < end.min(u64::from(*page) + u64::from(PAGE)))
+        < end.min(u64::from(*page) + u64::from(PAGE_SIZE)))
 }
 
 // Judges a program against the pages.

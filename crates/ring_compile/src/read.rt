@@ -1,4 +1,5 @@
 //! Reading a ring file.
+ghost use Rattle.page_table.specs.Grants.{max_chunks};
 ghost use Rattle.std.specs.Prelude.{◌≡◌, ◌≤◌, length, Ok, IfOk};
 ghost use Rattle.toml.specs.View.{table_view};
 ghost use Rattle.toml_keys.specs.Values.{u32_max};
@@ -10,11 +11,10 @@ use crate::fault::{RingError, RingFault, RingKey};
 use crate::judge::judged;
 use crate::ring::{Ring, Values};
 use capture_desc::{KeyText, Numbers};
+use page_table::MAX_CHUNKS;
 use std::alloc::Global;
 use toml::Table;
 use toml_keys::{KeyError, KeyFault, TableError};
-
-const MOST_PAGES: usize = 4096;
 
 // A fault of a key.
 fn fault_of(key: RingKey, fault: KeyFault) -> RingFault
@@ -58,12 +58,12 @@ fn number_or(table: &Table, key: RingKey, default: u32, most: u32) -> Result<u32
 
 fn pages(alloc: Global, table: &Table) -> Result<Numbers, RingError>
     ensures value { Answers (pages (table_view table.now)) result }
-    ensures few { IfOk result (λ pages. length pages ≤ 4096) }
+    ensures few { IfOk result (λ pages. length pages ≤ max_chunks) }
 {
     let key = RingKey::Pages;
     match toml_keys::list::<u32>(alloc, table, key.name()) {
         Ok(Some(pages)) => {
-            if pages.len() > MOST_PAGES {
+            if pages.len() > MAX_CHUNKS {
                 return Err(RingError::Bad(RingFault::OutOfRange(key)));
             }
             Ok(Numbers::from_vec(pages))

@@ -7,7 +7,7 @@ use Rattle.std.proofs.lemmas.List.{append_assoc, append-nil}
 use Rattle.std.proofs.lemmas.List.Sums.{sum_by-cons}
 use Rattle.machine_model.specs.Paths.{RiscProgram}
 use Rattle.risc_listing.specs.Listings.{fill_line, listing}
-use Rattle.risc_text.specs.Assembly.{Assembles, BeginsListing, EndsShort, IsListing, IsRestAtFault, IsWrongLine, LineAtFault, are_lines, is_plain, line_count}
+use Rattle.risc_text.specs.Assembly.{Assembles, BeginsListing, EndsShort, IsListing, IsRestAtFault, IsWrongLine, LineAtFault, are_lines, has_no_newline, line_count}
 use Rattle.risc_text.proofs.Cutting.{Past, cut_line, listing_begins}
 use Rattle.risc_text.proofs.Gathering.{one_program}
 use Rattle.risc_text.proofs.Plain.{IsLine, fill_line-is}
@@ -68,31 +68,31 @@ no_newline : (byte : ℕ) → not (byte == 10) ≡ true → (byte == 10) ≡ tru
 no_newline byte other is = cc
 
 -- a text without a newline that is whole lines is empty
-plain_lines : (text : List ℕ) → is_plain text ≡ true → are_lines text ≡ true → text ≡ []
+plain_lines : (text : List ℕ) → has_no_newline text ≡ true → are_lines text ≡ true → text ≡ []
 plain_lines [] plain whole = refl
 plain_lines (byte ∷ []) plain whole =
-    let parts = and_parts (not (byte == 10)) (is_plain []) plain in absurd (no_newline byte parts.0 whole)
+    let parts = and_parts (not (byte == 10)) (has_no_newline []) plain in absurd (no_newline byte parts.0 whole)
 plain_lines (byte ∷ second ∷ rest) plain whole =
-    let parts = and_parts (not (byte == 10)) (is_plain (second ∷ rest)) plain in
+    let parts = and_parts (not (byte == 10)) (has_no_newline (second ∷ rest)) plain in
     let none = plain_lines (second ∷ rest) parts.1 whole in
     absurd (let no : length (second ∷ rest) ≡ 0 = ap (λ (list : List ℕ). length list) none in omega arith)
 
-plain_front : (front rest : List ℕ) → is_plain (front ++ rest) ≡ true → is_plain front ≡ true
+plain_front : (front rest : List ℕ) → has_no_newline (front ++ rest) ≡ true → has_no_newline front ≡ true
 plain_front [] rest plain = refl
 plain_front (byte ∷ front) rest plain =
-    let parts = and_parts (not (byte == 10)) (is_plain (front ++ rest)) plain in
-    ap (λ (test : Bool). test && is_plain front) parts.0 ∙ plain_front front rest parts.1
+    let parts = and_parts (not (byte == 10)) (has_no_newline (front ++ rest)) plain in
+    ap (λ (test : Bool). test && has_no_newline front) parts.0 ∙ plain_front front rest parts.1
 
-plain_rest : (front rest : List ℕ) → is_plain (front ++ rest) ≡ true → is_plain rest ≡ true
+plain_rest : (front rest : List ℕ) → has_no_newline (front ++ rest) ≡ true → has_no_newline rest ≡ true
 plain_rest [] rest plain = plain
 plain_rest (byte ∷ front) rest plain =
-    let parts = and_parts (not (byte == 10)) (is_plain (front ++ rest)) plain in plain_rest front rest parts.1
+    let parts = and_parts (not (byte == 10)) (has_no_newline (front ++ rest)) plain in plain_rest front rest parts.1
 
 -- a line is not without a newline
-line_not_plain : (line : List ℕ) → IsLine line → is_plain line ≡ true → ⊥
+line_not_plain : (line : List ℕ) → IsLine line → has_no_newline line ≡ true → ⊥
 line_not_plain line is plain =
-    let shown : is_plain (is.front ++ 10 ∷ []) ≡ true = ap is_plain (sym is.is) ∙ plain in
-    let last : is_plain (10 ∷ []) ≡ true = plain_rest is.front (10 ∷ []) shown in
+    let shown : has_no_newline (is.front ++ 10 ∷ []) ≡ true = ap has_no_newline (sym is.is) ∙ plain in
+    let last : has_no_newline (10 ∷ []) ≡ true = plain_rest is.front (10 ∷ []) shown in
     cc
 
 -- a newline counts
@@ -135,7 +135,7 @@ line_is (byte ∷ second ∷ rest) whole one =
     record {
       front = byte ∷ later.front;
       is = ap (λ (list : List ℕ). byte ∷ list) later.is;
-      plain = ap (λ (test : Bool). not test && is_plain later.front) parts.0 ∙ later.plain;
+      plain = ap (λ (test : Bool). not test && has_no_newline later.front) parts.0 ∙ later.plain;
     }
 
 -- ---- the lines of a text
@@ -145,17 +145,17 @@ record SameLines (lines other rest left : List ℕ) : Type 0 where
   lines_same : lines ≡ other
   rest_same : rest ≡ left
 
-longer_same : (lines rest other left : List ℕ) → Goes lines rest other left → are_lines other ≡ true → is_plain rest ≡ true → SameLines lines other rest left
+longer_same : (lines rest other left : List ℕ) → Goes lines rest other left → are_lines other ≡ true → has_no_newline rest ≡ true → SameLines lines other rest left
 longer_same lines rest other left goes whole plain =
     let more_whole : are_lines goes.more ≡ true = last_lines lines goes.more (ap are_lines (sym goes.other_is) ∙ whole) in
-    let more_plain : is_plain goes.more ≡ true = plain_front goes.more left (ap is_plain (sym goes.rest_is) ∙ plain) in
+    let more_plain : has_no_newline goes.more ≡ true = plain_front goes.more left (ap has_no_newline (sym goes.rest_is) ∙ plain) in
     let none = plain_lines goes.more more_plain more_whole in
     record {
       lines_same = sym (append-nil lines) ∙ ap (λ (list : List ℕ). lines ++ list) (sym none) ∙ sym goes.other_is;
       rest_same = goes.rest_is ∙ ap (λ (list : List ℕ). list ++ left) none;
     }
 
-same_lines : (lines rest other left : List ℕ) → lines ++ rest ≡ other ++ left → are_lines lines ≡ true → are_lines other ≡ true → is_plain rest ≡ true → is_plain left ≡ true →
+same_lines : (lines rest other left : List ℕ) → lines ++ rest ≡ other ++ left → are_lines lines ≡ true → are_lines other ≡ true → has_no_newline rest ≡ true → has_no_newline left ≡ true →
     SameLines lines other rest left
 same_lines lines rest other left e whole other_whole plain other_plain =
     elim (two_fronts lines rest other left e) as (λ _. SameLines lines other rest left) [
@@ -175,24 +175,24 @@ past_within before line after lines rest more is past =
       lines_are = is ∙ ap (λ (list : List ℕ). before ++ list) past.lines_are ∙ sym (append_assoc before line past.more);
     }
 
-line_within : (before line after lines rest : List ℕ) → before ++ (line ++ after) ≡ lines ++ rest → IsLine line → are_lines lines ≡ true → is_plain rest ≡ true → IsWithin before line lines
+line_within : (before line after lines rest : List ℕ) → before ++ (line ++ after) ≡ lines ++ rest → IsLine line → are_lines lines ≡ true → has_no_newline rest ≡ true → IsWithin before line lines
 line_within before line after lines rest e is whole plain =
     elim (two_fronts before (line ++ after) lines rest e) as (λ _. IsWithin before line lines) [
       | inl goes ↦
           elim (cut_line line after goes.more rest is goes.rest_is (last_lines before goes.more (ap are_lines (sym goes.other_is) ∙ whole))) as (λ _. IsWithin before line lines) [
             | inl none ↦
-                absurd (line_not_plain line is (plain_front line after (ap is_plain (goes.rest_is ∙ ap (λ (list : List ℕ). list ++ rest) none) ∙ plain)))
+                absurd (line_not_plain line is (plain_front line after (ap has_no_newline (goes.rest_is ∙ ap (λ (list : List ℕ). list ++ rest) none) ∙ plain)))
             | inr past ↦ past_within before line after lines rest goes.more goes.other_is past
           ]
       | inr goes ↦
-          absurd (line_not_plain line is (plain_front line after (plain_rest goes.more (line ++ after) (ap is_plain (sym goes.rest_is) ∙ plain))))
+          absurd (line_not_plain line is (plain_front line after (plain_rest goes.more (line ++ after) (ap has_no_newline (sym goes.rest_is) ∙ plain))))
     ]
 
 begins_front : (front more : List ℕ) → BeginsListing (front ++ more) → BeginsListing front
 begins_front front more begins = (more ++ begins.0, subst IsListing (append_assoc front more begins.0) begins.1)
 
 -- a wrong line is not among lines that begin a listing
-never_begun : (before line after lines rest : List ℕ) → before ++ (line ++ after) ≡ lines ++ rest → IsWrongLine before line → are_lines lines ≡ true → is_plain rest ≡ true →
+never_begun : (before line after lines rest : List ℕ) → before ++ (line ++ after) ≡ lines ++ rest → IsWrongLine before line → are_lines lines ≡ true → has_no_newline rest ≡ true →
     BeginsListing lines → ⊥
 never_begun before line after lines rest e wrong whole plain begun =
     let within = line_within before line after lines rest e (line_is line wrong.whole wrong.one) whole plain in

@@ -5,7 +5,7 @@ use Rattle.std.proofs.lemmas.Bool.{eq-eqb, ne_eqb}
 use Rattle.std.proofs.lemmas.List.{get_or-drop, get_or-take, length-take, take-append-drop, append-nil}
 use Rattle.std.proofs.lemmas.List.Sums.{sum_by-cons}
 use Rattle.std.proofs.Math.Seq.{take-length}
-use Rattle.risc_text.specs.Assembly.{Assembles, BeginsListing, EndsShort, LineAtFault, are_lines, is_plain, line_count}
+use Rattle.risc_text.specs.Assembly.{Assembles, BeginsListing, EndsShort, LineAtFault, are_lines, has_no_newline, line_count}
 use Rattle.risc_text.proofs.Cutting.{listing_begins, starts_begun}
 use Rattle.capture_file.specs.declared.program.ProgramFile.{ProgramFile}
 use Rattle.risc_asm.specs.Answers.{HasWrongLine, IsBetween}
@@ -23,13 +23,13 @@ lines_to (suc at) (byte ∷ second ∷ rest) within is = lines_to at (second ∷
 pub lines_up_to : (at : ℕ) (text : List ℕ) → at < length text → slice_index text at ≡ 10 → are_lines (take (at + 1) text) ≡ true
 lines_up_to at text within is = ap (λ (n : ℕ). are_lines (take n text)) (let e : at + 1 ≡ suc at = omega arith in e) ∙ lines_to at text within is
 
-pub plain_all : (text : List ℕ) → ((k : ℕ) → k < length text → slice_index text k ≢ 10) → is_plain text ≡ true
+pub plain_all : (text : List ℕ) → ((k : ℕ) → k < length text → slice_index text k ≢ 10) → has_no_newline text ≡ true
 plain_all [] none = refl
 plain_all (byte ∷ rest) none =
     let first : (byte == 10) ≡ false = ne_eqb byte 10 (none 0 (omega arith)) in
     rw first (plain_all rest (λ k within. none (suc k) (omega arith)))
 
-pub plain_from : (n : ℕ) (text : List ℕ) → ((k : ℕ) → n ≤ k → k < length text → slice_index text k ≢ 10) → is_plain (drop n text) ≡ true
+pub plain_from : (n : ℕ) (text : List ℕ) → ((k : ℕ) → n ≤ k → k < length text → slice_index text k ≢ 10) → has_no_newline (drop n text) ≡ true
 plain_from n text none =
     let long = length-drop n text in
     plain_all (drop n text) (λ k within. subst (λ (byte : ℕ). byte ≢ 10) (sym (get_or-drop n text k 0)) (none (n + k) (omega arith) (omega arith)))
@@ -129,12 +129,12 @@ none_wrong text verdict is told = rw is at told
 
 -- ---- the answer
 
-pub ends_short : (text : List ℕ) (end k : ℕ) (verdict : Verdict) → are_lines (take end text) ≡ true → is_plain (drop end text) ≡ true → k ≡ line_count (take end text) → verdict ≡ Begun → Judges (take end text) verdict → EndsShort text k
+pub ends_short : (text : List ℕ) (end k : ℕ) (verdict : Verdict) → are_lines (take end text) ≡ true → has_no_newline (drop end text) ≡ true → k ≡ line_count (take end text) → verdict ≡ Begun → Judges (take end text) verdict → EndsShort text k
 ends_short text end k verdict whole plain number is told =
     let begun = rw is at told in
     record { lines = take end text; rest = drop end text; parts = sym (take-append-drop end text); whole = whole; plain = plain; number = number; begun = begun.0; unfinished = begun.1 }
 
-pub rest_at_fault : (text : List ℕ) (end k : ℕ) (verdict : Verdict) (file : ProgramFile) → end < length text → are_lines (take end text) ≡ true → is_plain (drop end text) ≡ true → k ≡ line_count (take end text) + 1 → verdict ≡ Whole file → Judges (take end text) verdict → LineAtFault text k
+pub rest_at_fault : (text : List ℕ) (end k : ℕ) (verdict : Verdict) (file : ProgramFile) → end < length text → are_lines (take end text) ≡ true → has_no_newline (drop end text) ≡ true → k ≡ line_count (take end text) + 1 → verdict ≡ Whole file → Judges (take end text) verdict → LineAtFault text k
 rest_at_fault text end k verdict file more whole plain number is told =
     let long = length-drop end text in
     record {

@@ -1,6 +1,6 @@
 //! Whether a text begins a listing, or is one: what was read of it is listed again.
 
-ghost use Rattle.machine_model.specs.Paths.{IsProgram, RiscProgram, shares_byte};
+ghost use Rattle.machine_model.specs.Paths.{IsProgram, RiscProgram, shares_byte, max_words};
 ghost use Rattle.page_table.specs.Grants.{AreGrants, Chunk};
 ghost use Rattle.page_table.specs.Taken.{listed};
 ghost use Rattle.risc_asm.specs.Drafts.{seen};
@@ -11,12 +11,11 @@ ghost use Rattle.std.specs.Prelude.{◌≡◌, ◌≤◌, ◌<◌, ◌^◌, ◌�
 
 use super::draft::{Draft, read_draft};
 use capture_file::ProgramFile;
+use machine_model::MAX_WORDS;
 use page_table::{PageFault, PageSet};
 use risc_listing::{Lines, memory_lines, push_base, push_words};
 use risc_verify::Program;
 use std::alloc::{AllocError, Global};
-
-const MOST_WORDS: usize = 1_048_576;
 
 const ADDRESSES: u64 = 0x1_0000_0000;
 
@@ -45,7 +44,7 @@ enum Agreement {
 
 // Whether no chunk shares a byte with a program of so many words.
 fn is_apart(base: u32, words: &[u32], grants: &PageSet) -> bool
-    requires { length words.now ≤ 1048576 }
+    requires { length words.now ≤ max_words }
     ensures { IsTrue result ↔ All (λ c. shares_byte (record { base = base; words = words.now; grants = [] }) c ≡ false) grants.now }
 {
     let end = u64::from(base) + 4 * words.len() as u64;
@@ -83,7 +82,7 @@ fn program_of(
     ensures { IfOk result (λ found. (program : RiscProgram) → IsProgram program → program.base ≡ base → program.words ≡ words.items → program.grants ≡ listed chunks.now → found ≡ Some program) }
 {
     if base % 4 != 0
-        || words.len() > MOST_WORDS
+        || words.len() > MAX_WORDS as usize
         || u64::from(base) + 4 * words.len() as u64 > ADDRESSES
     {
         return Ok(None);

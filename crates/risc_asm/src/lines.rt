@@ -9,10 +9,9 @@ use super::readers::{
     read_skip_123, read_sync, read_two_digits, read_write, read_write_1_s_23, read_write_123,
     read_write_c,
 };
+use page_table::PAGE_SIZE;
 use risc_text::{Line, Name};
 use risc_word::Instr;
-
-const PAGE: u32 = 4_096;
 
 // The line of an instruction, where its fields fit their bits.
 #[inline(always)]
@@ -92,7 +91,7 @@ fn read_page_line(text: &[u8]) -> Option<(Line, &[u8])>
     ensures fits { IfSome result (λ x. LineFits x.0) }
 {
     let (at, text) = read_address(text)?;
-    Some((Line::Chunk(at, PAGE), text))
+    Some((Line::Chunk(at, PAGE_SIZE), text))
 }
 
 #[inline(always)]

@@ -1,7 +1,7 @@
 //! The first line at fault.
 
 ghost use Rattle.risc_asm.specs.Answers.{HasWrongLine, IsBetween};
-ghost use Rattle.risc_text.specs.Assembly.{BeginsListing, are_lines, is_plain, line_count};
+ghost use Rattle.risc_text.specs.Assembly.{BeginsListing, are_lines, has_no_newline, line_count};
 ghost use Rattle.std.specs.Prelude.{◌≡◌, ◌≢◌, ◌+◌, ◌-◌, ◌≤◌, ◌<◌, IfOk, IfSome, IsTrue, None, drop, length, slice_index, take, true, ℕ};
 
 use super::judge::{Verdict, judge};
@@ -56,7 +56,7 @@ fn last_newline(text: &[u8], from: usize, to: usize) -> Option<usize>
 pub fn whole_lines(text: &[u8]) -> usize
     ensures within { result ≤ length text.now }
     ensures whole { are_lines (take result text.now) ≡ true }
-    ensures plain { is_plain (drop result text.now) ≡ true }
+    ensures plain { has_no_newline (drop result text.now) ≡ true }
 {
     match last_newline(text, 0, text.len()) {
         Some(at) => at + 1,

@@ -14,14 +14,12 @@ mod unnamed;
 use arrayvec::ArrayString;
 pub use lines::InstrLine;
 use lines::{LONGEST_LINE, push_at, push_instr_line, push_word_line};
-use page_table::PageSet;
+use page_table::{PAGE_SIZE, PageSet};
 use risc_verify::Program;
 use risc_word::{Instr, decode};
 use std::alloc::{AllocError, Global};
 use std::fmt::Write;
 use unnamed::are_unnamed_zero;
-
-const PAGE: u32 = 4096;
 
 /// How many bytes of lines are made at once, at most.
 pub const ROOM: usize = 65_536;
@@ -99,7 +97,7 @@ pub fn push_base(text: &mut Lines, base: u32)
 fn put_chunk(text: &mut String, at: u32, len: u32) -> Result<(), AllocError>
     ensures { IfOk result (λ _. string_bytes text.new ≡ string_bytes text.old ++ chunk_line (record { at = at; len = len })) }
 {
-    if at % PAGE == 0 && len == PAGE {
+    if at % PAGE_SIZE == 0 && len == PAGE_SIZE {
         writeln!(text, "page {at:08x}")
     } else {
         writeln!(text, "chunk {at:08x} {len}")

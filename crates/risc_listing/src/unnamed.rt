@@ -83,8 +83,11 @@ pub fn are_unnamed_zero(instr: &Instr, words: &[u32]) -> bool
         Instr::WriteC { .. } => are_unnamed_zero_in_data(first),
         Instr::Jump { .. } => are_unnamed_zero_in_jump(first),
         Instr::Sync { .. } => are_unnamed_zero_in_sync(first) && second == 0,
-        Instr::Write123 { .. } => are_unnamed_zero_in_data(first) && are_unnamed_zero_in_counts(second),
-        Instr::Skip123 { .. } => are_unnamed_zero_in_skip(first) && are_unnamed_zero_in_counts(second),
-        Instr::Write1S23 { .. } => are_unnamed_zero_in_data(first) && are_unnamed_zero_in_counts(second),
+        Instr::Write123 { .. } => are_unnamed_zero_in_data(first)
+            && are_unnamed_zero_in_counts(second),
+        Instr::Skip123 { .. } => are_unnamed_zero_in_skip(first)
+            && are_unnamed_zero_in_counts(second),
+        Instr::Write1S23 { .. } => are_unnamed_zero_in_data(first)
+            && are_unnamed_zero_in_counts(second),
     }
 }

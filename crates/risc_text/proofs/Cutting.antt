@@ -11,7 +11,7 @@ use Rattle.page_table.specs.Grants.{Chunk, AreRising, total}
 use Rattle.page_table.proofs.Placing.{total-cons}
 use Rattle.machine_model.specs.Paths.{RiscProgram, IsProgram, shares_byte}
 use Rattle.risc_listing.specs.Listings.{base_line, chunk_line, fill_line, line_of, listing, spelled, word_lines, words_of}
-use Rattle.risc_text.specs.Assembly.{BeginsListing, IsListed, IsListing, OneLineMissing, are_lines, is_plain}
+use Rattle.risc_text.specs.Assembly.{BeginsListing, IsListed, IsListing, OneLineMissing, are_lines, has_no_newline}
 use Rattle.risc_text.proofs.Gathering.{Fit, fit_all, trunk}
 use Rattle.risc_text.proofs.Plain.{IsLine, Plain, base_line-is, chunk_line-is, fill_line-is, instr_line-is, word_line-is}
 use Rattle.risc_text.proofs.Spelling.{addresses_fit, spelled_is, spelled_less, unspelled_less}
@@ -46,11 +46,11 @@ cut_front [] tail (byte ∷ lines) rest plain same whole =
     inr (record { more = lines; lines_are = ap (λ (b : ℕ). b ∷ lines) (sym parts.0); tail_is = parts.1; whole = later_lines byte lines whole })
 cut_front (first ∷ front) tail (byte ∷ []) rest plain same whole =
     let parts = cons_parts first byte ((front ++ 10 ∷ []) ++ tail) rest same in
-    let apart = and_parts (not (first == 10)) (is_plain front) plain in
+    let apart = and_parts (not (first == 10)) (has_no_newline front) plain in
     absurd (not_newline byte (rw parts.0 at apart.0) whole)
 cut_front (first ∷ front) tail (byte ∷ second ∷ lines) rest plain same whole =
     let parts = cons_parts first byte ((front ++ 10 ∷ []) ++ tail) (second ∷ lines ++ rest) same in
-    let apart = and_parts (not (first == 10)) (is_plain front) plain in
+    let apart = and_parts (not (first == 10)) (has_no_newline front) plain in
     let byte_is = sym parts.0 in
     elim (cut_front front tail (second ∷ lines) rest apart.1 parts.1 whole) as (λ _. Cut (first ∷ front ++ 10 ∷ []) tail (byte ∷ second ∷ lines) rest) [
       | inl none ↦ absurd (no_cons second lines (sym none))

@@ -17,17 +17,17 @@ use Rattle.page_table.specs.Grants.{Chunk, is_page}
 use Rattle.risc_listing.specs.Lines.{address_text, addresses_text, at_text, code_name, control_text, count_text, counts_text, data_text, flag_text, hex, instr_line, instr_text, line_end, nibble_text, word_line}
 use Rattle.risc_listing.specs.Listings.{base_line, chunk_line, fill_line}
 use Rattle.risc_listing.proofs.Hexadecimal.{address_digits}
-use Rattle.risc_text.specs.Assembly.{is_plain}
+use Rattle.risc_text.specs.Assembly.{has_no_newline}
 use Rattle.risc_text.proofs.Digits.{glyph-large}
 use Rattle.risc_text.proofs.Lines.{AddressesFit, fitted_parts}
 
 abbrev pub Plain : List ℕ → Type 0
-Plain text = is_plain text ≡ true
+Plain text = has_no_newline text ≡ true
 
 both : (front back : List ℕ) → Plain front → Plain back → Plain (front ++ back)
 both [] back one two = two
 both (byte ∷ front) back one two =
-    let parts = and_parts (not (byte == 10)) (is_plain front) one in
+    let parts = and_parts (not (byte == 10)) (has_no_newline front) one in
     rw parts.0 (both front back parts.1 two)
 
 byte_then : (byte : ℕ) (rest : List ℕ) → 10 < byte → Plain rest → Plain (byte ∷ rest)

@@ -32,8 +32,8 @@ are_lines (byte ∷ []) = byte == 10
 are_lines (_ ∷ byte ∷ rest) = are_lines (byte ∷ rest)
 
 -- no newline
-abbrev pub is_plain : List ℕ → Bool
-is_plain text = list_all (λ byte. not (byte == 10)) text
+abbrev pub has_no_newline : List ℕ → Bool
+has_no_newline text = list_all (λ byte. not (byte == 10)) text
 
 -- how many whole lines a text has
 abbrev pub line_count : List ℕ → ℕ
@@ -50,7 +50,7 @@ pub record IsWrongLine (before line : List ℕ) : Type 0 where
 -- What stands after the last newline is a line, and at fault, where the lines before it are a listing.
 pub record IsRestAtFault (before rest : List ℕ) : Type 0 where
   pub some : 1 ≤ length rest
-  pub plain : is_plain rest ≡ true
+  pub plain : has_no_newline rest ≡ true
   pub all : IsListing before
 
 pub record LineAtFault (text : List ℕ) (k : ℕ) : Type 0 where
@@ -68,7 +68,7 @@ pub record EndsShort (text : List ℕ) (k : ℕ) : Type 0 where
   pub rest : List ℕ
   pub parts : text ≡ lines ++ rest
   pub whole : are_lines lines ≡ true
-  pub plain : is_plain rest ≡ true
+  pub plain : has_no_newline rest ≡ true
   pub number : k ≡ line_count lines
   pub begun : BeginsListing lines
   pub unfinished : IsListing lines → ⊥

@@ -4,6 +4,6 @@ use Rattle.sync_status.specs.declared.StatusKind.{StatusKind}
 use Rattle.sync_status.specs.declared.StatusKind.TheVariants.{Pixels}
 
 -- a front of pixels, none of which is taken, where the line is under way and four bytes or more are asked for
-abbrev pub is_plain : StatusKind → Bool → ℕ → ℕ → Bool
-is_plain Pixels false taken rest = (taken == 0) && nat_le 4 rest
-is_plain kind sol taken rest = false
+abbrev pub takes_whole : StatusKind → Bool → ℕ → ℕ → Bool
+takes_whole Pixels false taken rest = (taken == 0) && nat_le 4 rest
+takes_whole kind sol taken rest = false

@@ -6,7 +6,7 @@ use Rattle.sync_status.specs.declared.StatusKind.{StatusKind}
 use Rattle.sync_status.specs.declared.StatusKind.TheVariants.{Pixels, Start, End, Control, Reserved}
 use Rattle.sync_status.specs.declared.Verdict.TheVariants.{Take}
 use Rattle.sync_status.specs.Statuses.{valid_lanes, verdict_on}
-use Rattle.dma_machine.specs.Plain.{is_plain}
+use Rattle.dma_machine.specs.WholeTakes.{takes_whole}
 
 -- it has four bytes, none of which is taken, and they are asked for
 pub record IsWhole (kind : StatusKind) (sol : Bool) (taken rest : ℕ) : Type 0 where
@@ -15,7 +15,7 @@ pub record IsWhole (kind : StatusKind) (sol : Bool) (taken rest : ℕ) : Type 0 
   pub valid : valid_lanes kind ≡ 4
   pub asked : 4 ≤ rest
 
-pub plain_whole : (kind : StatusKind) (sol : Bool) (taken rest : ℕ) → is_plain kind sol taken rest ≡ true → IsWhole kind sol taken rest
+pub plain_whole : (kind : StatusKind) (sol : Bool) (taken rest : ℕ) → takes_whole kind sol taken rest ≡ true → IsWhole kind sol taken rest
 plain_whole Pixels false taken rest e =
     let parts = and_parts (taken == 0) (nat_le 4 rest) e in
     let none : taken ≡ 0 = grind (arith, parts.0) in
