@@ -8,7 +8,7 @@ use Rattle.risc_word.specs.declared.Instr.{Instr}
 use Rattle.fifo_model.specs.declared.Queue.{Queue}
 use Rattle.machine_model.specs.Turns.{Store}
 use Rattle.field_law.specs.Fields.{Token, Row}
-use Rattle.field_law.specs.Sections.{Ask, GoOn, asked, asks, UsesUp, laid_from, laid, planned, is_stored}
+use Rattle.field_law.specs.Sections.{Ask, GoOn, asked, asks, UsesTo, laid_from, laid, planned, is_stored}
 use Rattle.field_law.specs.CutLines.{Stretch, CutLine, HasFirst, bytes_of, IsCovered, go_on, line_asks, line_stores, lines_asks, lines_rows, lines_stores, address_in, EachByte}
 
 -- ---- asks one after another
@@ -19,11 +19,11 @@ asks-append q (x ∷ xs) ys = ap (λ (rest : List Ask). asked q x ∷ rest) (ask
 
 -- ---- a line is used up
 
-goes_on : (stretches : List Stretch) (rest : List Ask) (line : List ℕ) (tokens : List Token) → bytes_of stretches ≡ length line → UsesUp rest [] tokens →
-    UsesUp (map go_on stretches ++ rest) line tokens
-goes_on [] rest line tokens whole uses = subst (λ (line : List ℕ). UsesUp rest line tokens) (sym (nil_from_length line (sym whole))) uses
-goes_on (first ∷ stretches) rest line tokens whole uses =
-    (omega arith, goes_on stretches rest (drop first.count line) tokens (omega (arith, length-drop first.count line)) uses)
+goes_on : (Ends : List ℕ → List Token → Type 0) (stretches : List Stretch) (rest : List Ask) (line : List ℕ) (tokens : List Token) → bytes_of stretches ≡ length line → UsesTo Ends rest [] tokens →
+    UsesTo Ends (map go_on stretches ++ rest) line tokens
+goes_on Ends [] rest line tokens whole uses = subst (λ (line : List ℕ). UsesTo Ends rest line tokens) (sym (nil_from_length line (sym whole))) uses
+goes_on Ends (first ∷ stretches) rest line tokens whole uses =
+    (omega arith, goes_on Ends stretches rest (drop first.count line) tokens (omega (arith, length-drop first.count line)) uses)
 
 goes_on_stores : (stretches : List Stretch) (rest : List Ask) (line : List ℕ) (tokens : List Token) → bytes_of stretches ≡ length line →
     planned (map go_on stretches ++ rest) line tokens ≡ line_stores stretches line ++ planned rest [] tokens
@@ -33,11 +33,11 @@ goes_on_stores (first ∷ stretches) rest line tokens whole =
     (goes_on_stores stretches rest (drop first.count line) tokens (omega (arith, length-drop first.count line)))
     ∙ sym (append_assoc (laid first.address (take first.count line)) (line_stores stretches (drop first.count line)) (planned rest [] tokens))
 
-line_used : (stretches : List Stretch) (bytes : List ℕ) (rest : List Ask) (tokens : List Token) → 0 < length bytes → HasFirst stretches → bytes_of stretches ≡ length bytes →
-    UsesUp rest [] tokens → UsesUp (line_asks stretches ++ rest) [] (Row bytes ∷ tokens)
-line_used [] bytes rest tokens some first whole uses = absurd (omega arith)
-line_used (top ∷ stretches) bytes rest tokens some first whole uses =
-    (refl, first, omega arith, goes_on stretches rest (drop top.count bytes) tokens (omega (arith, length-drop top.count bytes)) uses)
+line_used : (Ends : List ℕ → List Token → Type 0) (stretches : List Stretch) (bytes : List ℕ) (rest : List Ask) (tokens : List Token) → 0 < length bytes → HasFirst stretches → bytes_of stretches ≡ length bytes →
+    UsesTo Ends rest [] tokens → UsesTo Ends (line_asks stretches ++ rest) [] (Row bytes ∷ tokens)
+line_used Ends [] bytes rest tokens some first whole uses = absurd (omega arith)
+line_used Ends (top ∷ stretches) bytes rest tokens some first whole uses =
+    (refl, first, omega arith, goes_on Ends stretches rest (drop top.count bytes) tokens (omega (arith, length-drop top.count bytes)) uses)
 
 line_planned : (stretches : List Stretch) (bytes : List ℕ) (rest : List Ask) (tokens : List Token) → 0 < length bytes → bytes_of stretches ≡ length bytes →
     planned (line_asks stretches ++ rest) [] (Row bytes ∷ tokens) ≡ line_stores stretches bytes ++ planned rest [] tokens
@@ -49,14 +49,14 @@ line_planned (top ∷ stretches) bytes rest tokens some whole =
 
 -- ---- lines one after another
 
-pub lines_used : (lines : List CutLine) (rest : List Ask) (tokens : List Token) → All IsCovered lines → UsesUp rest [] tokens →
-    UsesUp (lines_asks lines ++ rest) [] (lines_rows lines ++ tokens)
-lines_used [] rest tokens covered uses = uses
-lines_used (line ∷ lines) rest tokens covered uses =
+pub lines_used : (Ends : List ℕ → List Token → Type 0) (lines : List CutLine) (rest : List Ask) (tokens : List Token) → All IsCovered lines → UsesTo Ends rest [] tokens →
+    UsesTo Ends (lines_asks lines ++ rest) [] (lines_rows lines ++ tokens)
+lines_used Ends [] rest tokens covered uses = uses
+lines_used Ends (line ∷ lines) rest tokens covered uses =
     let c = All-head IsCovered line lines covered in
-    subst (λ (asks : List Ask). UsesUp asks [] (Row line.bytes ∷ (lines_rows lines ++ tokens))) (sym (append_assoc (line_asks line.stretches) (lines_asks lines) rest))
-    (line_used line.stretches line.bytes (lines_asks lines ++ rest) (lines_rows lines ++ tokens) c.some c.first c.whole
-    (lines_used lines rest tokens (All-tail IsCovered line lines covered) uses))
+    subst (λ (asks : List Ask). UsesTo Ends asks [] (Row line.bytes ∷ (lines_rows lines ++ tokens))) (sym (append_assoc (line_asks line.stretches) (lines_asks lines) rest))
+    (line_used Ends line.stretches line.bytes (lines_asks lines ++ rest) (lines_rows lines ++ tokens) c.some c.first c.whole
+    (lines_used Ends lines rest tokens (All-tail IsCovered line lines covered) uses))
 
 pub lines_planned : (lines : List CutLine) (rest : List Ask) (tokens : List Token) → All IsCovered lines →
     planned (lines_asks lines ++ rest) [] (lines_rows lines ++ tokens) ≡ lines_stores lines ++ planned rest [] tokens
@@ -69,9 +69,9 @@ lines_planned (line ∷ lines) rest tokens covered =
     ∙ sym (append_assoc (line_stores line.stretches line.bytes) (lines_stores lines) (planned rest [] tokens))
 
 -- instructions that ask nothing of a queue
-pub idle_used : (count : ℕ) (rest : List Ask) (line : List ℕ) (tokens : List Token) → UsesUp rest line tokens → UsesUp (replicate count (GoOn 0 None) ++ rest) line tokens
-idle_used zero rest line tokens uses = uses
-idle_used (suc count) rest line tokens uses = (omega arith, idle_used count rest line tokens uses)
+pub idle_used : (Ends : List ℕ → List Token → Type 0) (count : ℕ) (rest : List Ask) (line : List ℕ) (tokens : List Token) → UsesTo Ends rest line tokens → UsesTo Ends (replicate count (GoOn 0 None) ++ rest) line tokens
+idle_used Ends zero rest line tokens uses = uses
+idle_used Ends (suc count) rest line tokens uses = (omega arith, idle_used Ends count rest line tokens uses)
 
 pub idle_planned : (count : ℕ) (rest : List Ask) (line : List ℕ) (tokens : List Token) → planned (replicate count (GoOn 0 None) ++ rest) line tokens ≡ planned rest line tokens
 idle_planned zero rest line tokens = refl

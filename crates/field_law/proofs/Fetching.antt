@@ -18,6 +18,7 @@ use Rattle.machine_model.specs.declared.Skipping.TheVariants.{Nothing}
 use Rattle.machine_model.specs.Paths.{instr_off, demands_of, demands_cause, data_cause, target_before}
 use Rattle.machine_model.specs.States.{State}
 use Rattle.machine_model.specs.Turns.{Store, demand_on, synced, begun_with, data_fetched, instr_fetched}
+use Rattle.field_law.specs.Fields.{Token}
 use Rattle.field_law.specs.Sections.{ask_of, asked, asks, IsPlain}
 use Rattle.field_law.specs.Arrivals.{over_queues}
 use Rattle.field_law.proofs.Served.{Outlook}
@@ -27,7 +28,7 @@ use Rattle.field_law.proofs.Running.{Turned}
 few_asked : (ds : Demands) → asked_turns ds ≤ 3
 few_asked ds = omega arith
 
-module _ (Stands : ℕ → List Instr → Type 0) (Comes : List Block → (Queue → List Store) → Type 0) (later : Queue → List Entry) where
+module _ (Ends : List ℕ → List Token → Type 0) (Stands : ℕ → List Instr → Type 0) (Comes : List Block → (Queue → List Store) → Type 0) (later : Queue → List Entry) where
   -- the machine about to fetch the first of these instructions
   pub record Fetches (bound : ℕ) (body : List Instr) (m : State) : Type 0 where
     pub idle : m.job ≡ Idle
@@ -36,7 +37,7 @@ module _ (Stands : ℕ → List Instr → Type 0) (Comes : List Block → (Queue
     pub stands : Stands m.pc body
     pub stores : Queue → List Store
     pub left : Queue → ℕ
-    pub outlook : (q : Queue) → Outlook (asks q body) (stores q) (left q) (queue_state q m.queues).taken ((queue_state q m.queues).entries ++ later q)
+    pub outlook : (q : Queue) → Outlook Ends (asks q body) (stores q) (left q) (queue_state q m.queues).taken ((queue_state q m.queues).entries ++ later q)
     pub comes : Comes m.memory stores
     pub bounded : 5 * suc (length body) + over_queues left ≤ bound
 
@@ -45,7 +46,7 @@ module _ (Stands : ℕ → List Instr → Type 0) (Comes : List Block → (Queue
     -- a data instruction begins
     begins : (cause : Option Cause) (target : Option ℕ) → cause ≡ None → instr_off instr ≡ 0 →
         ((q : Queue) → ask_of (demand_on q (demands_of instr target)) ≡ asked q instr) →
-        Turned Stands Comes later bound m.interrupts (begun_with cause instr (length (encoded instr)) target m)
+        Turned Ends Stands Comes later bound m.interrupts (begun_with cause instr (length (encoded instr)) target m)
     begins (Some cause) target fine off same = cc
     begins None target fine off same =
         let bounded = h.bounded in
@@ -63,7 +64,7 @@ module _ (Stands : ℕ → List Instr → Type 0) (Comes : List Block → (Queue
                 left = h.left;
                 outlook =
                     λ q.
-                    subst (λ ask. Outlook (ask ∷ asks q rest) (h.stores q) (h.left q) (queue_state q m.queues).taken ((queue_state q m.queues).entries ++ later q)) (sym (same q)) (h.outlook q);
+                    subst (λ ask. Outlook Ends (ask ∷ asks q rest) (h.stores q) (h.left q) (queue_state q m.queues).taken ((queue_state q m.queues).entries ++ later q)) (sym (same q)) (h.outlook q);
                 comes = h.comes;
                 bounded = omega arith;
               };
@@ -74,14 +75,14 @@ module _ (Stands : ℕ → List Instr → Type 0) (Comes : List Block → (Queue
 
     data_begins : (skipping : Skipping) → m.skipping ≡ skipping → data_cause m.program.grants instr (target_before instr m.target) ≡ None → instr_off instr ≡ 0 →
         ((q : Queue) → ask_of (demand_on q (demands_of instr (target_before instr m.target))) ≡ asked q instr) →
-        Turned Stands Comes later bound m.interrupts (data_fetched m.skipping instr (length (encoded instr)) m)
+        Turned Ends Stands Comes later bound m.interrupts (data_fetched m.skipping instr (length (encoded instr)) m)
     data_begins skipping e fine off same =
-        subst (λ (skipping : Skipping). Turned Stands Comes later bound m.interrupts (data_fetched skipping instr (length (encoded instr)) m)) (sym h.unskipped)
+        subst (λ (skipping : Skipping). Turned Ends Stands Comes later bound m.interrupts (data_fetched skipping instr (length (encoded instr)) m)) (sym h.unskipped)
         (begins (data_cause m.program.grants instr (target_before instr m.target)) (target_before instr m.target) fine off same)
 
     -- a SYNC begins to wait
     syncs : (ctl : Ctl) (resync : Bool) (code : Code) → instr ≡ Sync ctl resync code →
-        Turned Stands Comes later bound m.interrupts (synced ctl resync code (length (encoded instr)) m)
+        Turned Ends Stands Comes later bound m.interrupts (synced ctl resync code (length (encoded instr)) m)
     syncs ctl resync code e =
         let bounded = h.bounded in
         record {
@@ -97,7 +98,7 @@ module _ (Stands : ℕ → List Instr → Type 0) (Comes : List Block → (Queue
                 left = h.left;
                 outlook =
                     λ q.
-                    subst (λ (instr : Instr). Outlook (asked q instr ∷ asks q rest) (h.stores q) (h.left q) (queue_state q m.queues).taken ((queue_state q m.queues).entries ++ later q)) e (h.outlook q);
+                    subst (λ (instr : Instr). Outlook Ends (asked q instr ∷ asks q rest) (h.stores q) (h.left q) (queue_state q m.queues).taken ((queue_state q m.queues).entries ++ later q)) e (h.outlook q);
                 comes = h.comes;
                 bounded = omega arith;
               };
@@ -109,7 +110,7 @@ module _ (Stands : ℕ → List Instr → Type 0) (Comes : List Block → (Queue
   -- one that plainly follows the one before it; where the machine stands behind it is for the user to say
   pub executes-Turned : (bound : ℕ) (instr : Instr) (rest : List Instr) (m : State) → Fetches bound (instr ∷ rest) m → Stands (m.pc + 4 * length (encoded instr)) rest →
       IsPlain instr → demands_cause m.program.grants (demands_of instr None) ≡ None →
-      Turned Stands Comes later bound m.interrupts (instr_fetched instr (length (encoded instr)) m)
+      Turned Ends Stands Comes later bound m.interrupts (instr_fetched instr (length (encoded instr)) m)
   executes-Turned bound (Sync ctl resync code) rest m h stands plain fine = syncs bound (Sync ctl resync code) rest m h stands ctl resync code refl
   executes-Turned bound (Jump ctl addr) rest m h stands plain fine = absurd plain
   executes-Turned bound (WriteC ctl ends off count) rest m h stands plain fine = absurd plain
@@ -119,9 +120,9 @@ module _ (Stands : ℕ → List Instr → Type 0) (Comes : List Block → (Queue
   executes-Turned bound (Skip123 ctl ends counts) rest m h stands plain fine = data_begins bound (Skip123 ctl ends counts) rest m h stands m.skipping refl fine refl (λ q. refl)
   executes-Turned bound (Write1S23 ctl ends off counts addr) rest m h stands plain fine = data_begins bound (Write1S23 ctl ends off counts addr) rest m h stands m.skipping refl fine plain (λ q. refl)
 
-  pub idle-Fetches : (bound : ℕ) (m : State) → m.job ≡ Idle → IsWithin Stands Comes later bound m → (body : List Instr) × Fetches bound body m
+  pub idle-Fetches : (bound : ℕ) (m : State) → m.job ≡ Idle → IsWithin Ends Stands Comes later bound m → (body : List Instr) × Fetches bound body m
   idle-Fetches bound m j h =
-      let idle : WithinJob Stands Comes later bound Idle m = subst (λ (job : Job). WithinJob Stands Comes later bound job m) j h in
+      let idle : WithinJob Ends Stands Comes later bound Idle m = subst (λ (job : Job). WithinJob Ends Stands Comes later bound job m) j h in
       let bounded = idle.bounded in (
         idle.body,
         record {

@@ -19,6 +19,7 @@ use Rattle.machine_model.specs.States.{State}
 use Rattle.machine_model.specs.Turns.{turn, with_interrupts, sets_fdsr}
 use Rattle.machine_model.specs.Steps.{Turn, with_program, run_in}
 use Rattle.machine_model.specs.Safety.{JobFits, IsOrderly}
+use Rattle.machine_model.proofs.Runs.{run_in-append}
 use Rattle.field_law.specs.Fields.{Token}
 use Rattle.field_law.specs.Sections.{Section, Holds, Paints, section_stores}
 use Rattle.field_law.specs.Arrivals.{Met, after, coming, pushed_by, entries_of, over_queues, is_signal, has_signal, turns_in}
@@ -26,7 +27,7 @@ use Rattle.field_law.specs.Laws.{ShowsBits, Receives, ShowsPicture, ShowsNoFault
 use Rattle.field_law.proofs.Painting.{Settles}
 use Rattle.field_law.proofs.Opening.{IsReached}
 use Rattle.field_law.proofs.Turns.{turn-Reaches}
-use Rattle.field_law.proofs.Runs.{Ran, runs, counted_runs, run_in-append}
+use Rattle.field_law.proofs.Runs.{Ran, runs, counted_runs}
 use Rattle.field_law.proofs.Closing.{signal-Signals, Closes, signal-Closes}
 
 -- ---- lists of steps

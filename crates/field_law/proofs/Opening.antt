@@ -18,7 +18,7 @@ use Rattle.machine_model.specs.declared.Skipping.TheVariants.{Nothing}
 use Rattle.machine_model.specs.States.{State}
 use Rattle.machine_model.specs.Turns.{is_stray, lowest_stray, code_if, common_code, dropped, met, code_seen, stray_seen, waited}
 use Rattle.field_law.specs.Fields.{Token, Mark, Brings}
-use Rattle.field_law.specs.Sections.{Section, HoldsFrom, Uses, asks, section_stores}
+use Rattle.field_law.specs.Sections.{Section, HoldsFrom, Uses, IsUsedUp, asks, section_stores}
 use Rattle.field_law.specs.Arrivals.{over_queues}
 use Rattle.field_law.proofs.Changed.{changed, each_queue}
 use Rattle.field_law.proofs.Painting.{Settles}
@@ -164,10 +164,10 @@ module _ (s : Section) (field : Queue → List Token) (uses : Uses s field) (giv
                 stores = section_stores s field;
                 left = λ q. length (o q).field;
                 outlook =
-                    each_removed (λ q held. Outlook (asks q s.body) (section_stores s field q) (length (o q).field) held.taken (held.entries ++ later q)) m.queues
+                    each_removed (λ q held. Outlook IsUsedUp (asks q s.body) (section_stores s field q) (length (o q).field) held.taken (held.entries ++ later q)) m.queues
                     (λ q.
-                    subst (λ (ahead : List Entry). Outlook (asks q s.body) (section_stores s field q) (length (o q).field) 0 ahead) (sym (o q).order)
-                    (outlook_at_start (asks q s.body) (field q) (o q).field (h.rest q) (uses q) (o q).brings));
+                    subst (λ (ahead : List Entry). Outlook IsUsedUp (asks q s.body) (section_stores s field q) (length (o q).field) 0 ahead) (sym (o q).order)
+                    (outlook_at_start IsUsedUp (asks q s.body) (field q) (o q).field (h.rest q) (uses q) (o q).brings));
                 comes = h.painted;
                 bounded = omega arith;
               });

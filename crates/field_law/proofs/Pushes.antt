@@ -16,7 +16,7 @@ use Rattle.machine_model.specs.States.{State}
 use Rattle.machine_model.specs.Turns.{Store}
 use Rattle.machine_model.specs.Steps.{Step, Push, Control, Turn, Host, answer_if, pushed_as, control_pushed_as, with_fbus_if, push_if, push, push_control_if, push_control, step}
 use Rattle.field_law.specs.Fields.{Token}
-use Rattle.field_law.specs.Sections.{Section, Uses, asks}
+use Rattle.field_law.specs.Sections.{Section, Uses, IsUsedUp, asks}
 use Rattle.field_law.specs.Arrivals.{pushed_by, IsKept, turn_count}
 use Rattle.field_law.proofs.Served.{Outlook}
 use Rattle.field_law.proofs.Asked.{outlook_with}
@@ -104,11 +104,11 @@ push_control-is code m h =
 
 -- ---- half way through instructions, with other queues
 
-module _ (Stands : ℕ → List Instr → Type 0) (Comes : List Block → (Queue → List Store) → Type 0) (later later' more : Queue → List Entry) (queues queues' : Queues)
+module _ (Ends : List ℕ → List Token → Type 0) (Stands : ℕ → List Instr → Type 0) (Comes : List Block → (Queue → List Store) → Type 0) (later later' more : Queue → List Entry) (queues queues' : Queues)
     (taken : (q : Queue) → (queue_state q queues').taken ≡ (queue_state q queues).taken)
     (ahead : (q : Queue) → (queue_state q queues').entries ++ later' q ≡ ((queue_state q queues).entries ++ later q) ++ more q)
     (bound : ℕ) (risc_on : Bool) (pc : ℕ) (skipping : Skipping) (job : Job) (memory : List Block) where
-  pub within_moved : Within Stands Comes later bound risc_on pc skipping job queues memory → Within Stands Comes later' bound risc_on pc skipping job queues' memory
+  pub within_moved : Within Ends Stands Comes later bound risc_on pc skipping job queues memory → Within Ends Stands Comes later' bound risc_on pc skipping job queues' memory
   within_moved h =
       record {
         on = h.on;
@@ -120,9 +120,9 @@ module _ (Stands : ℕ → List Instr → Type 0) (Comes : List Block → (Queue
         left = h.left;
         outlook =
             λ q.
-            subst (λ (taken : ℕ). Outlook (job_asks q job (asks q h.body)) (h.stores q) (h.left q) taken ((queue_state q queues').entries ++ later' q)) (sym (taken q))
-            (subst (λ (ahead : List Entry). Outlook (job_asks q job (asks q h.body)) (h.stores q) (h.left q) (queue_state q queues).taken ahead) (sym (ahead q))
-            (outlook_with (job_asks q job (asks q h.body)) (h.stores q) (h.left q) (queue_state q queues).taken ((queue_state q queues).entries ++ later q) (more q) (h.outlook q)));
+            subst (λ (taken : ℕ). Outlook Ends (job_asks q job (asks q h.body)) (h.stores q) (h.left q) taken ((queue_state q queues').entries ++ later' q)) (sym (taken q))
+            (subst (λ (ahead : List Entry). Outlook Ends (job_asks q job (asks q h.body)) (h.stores q) (h.left q) (queue_state q queues).taken ahead) (sym (ahead q))
+            (outlook_with Ends (job_asks q job (asks q h.body)) (h.stores q) (h.left q) (queue_state q queues).taken ((queue_state q queues).entries ++ later q) (more q) (h.outlook q)));
         comes = h.comes;
         bounded = h.bounded;
       }
@@ -153,11 +153,11 @@ module _ (s : Section) (field : Queue → List Token) (uses : Uses s field) (giv
           bounded = h.bounded;
         }
 
-    reached_moved : Opening s field given chunks final later bound risc_on pc skipping job queues memory ⊎ Within (StandsIn s) (Settling given chunks final) later bound risc_on pc skipping job queues memory →
-        Opening s field given chunks final later' bound risc_on pc skipping job queues' memory ⊎ Within (StandsIn s) (Settling given chunks final) later' bound risc_on pc skipping job queues' memory
+    reached_moved : Opening s field given chunks final later bound risc_on pc skipping job queues memory ⊎ Within IsUsedUp (StandsIn s) (Settling given chunks final) later bound risc_on pc skipping job queues memory →
+        Opening s field given chunks final later' bound risc_on pc skipping job queues' memory ⊎ Within IsUsedUp (StandsIn s) (Settling given chunks final) later' bound risc_on pc skipping job queues' memory
     reached_moved (inl h) = inl (opening_moved h)
     reached_moved (inr h) =
-        inr (within_moved (StandsIn s) (Settling given chunks final) later later' more queues queues' taken ahead bound risc_on pc skipping job memory h)
+        inr (within_moved IsUsedUp (StandsIn s) (Settling given chunks final) later later' more queues queues' taken ahead bound risc_on pc skipping job memory h)
 
   -- a step that is no turn
   pub step-moved : (later later' more : Queue → List Entry) (bound : ℕ) (st : Step) (m : State) → IsKept m st → turn_count st ≡ 0 →

@@ -1,35 +1,23 @@
 -- Runs from the opening on, up to the signal.
-use Rattle.std.proofs.Common.{◌≡◌, ℕ, ◌+◌, ◌≤◌, false, All, List, [], ◌∷◌, ◌++◌, refl, ap, ◌∙◌, arith}
+use Rattle.std.proofs.Common.{◌≡◌, ℕ, ◌+◌, ◌≤◌, false, All, List, [], ◌∷◌, ◌++◌, refl, arith}
 use Rattle.std.proofs.lemmas.Bool.{or_parts}
 use Rattle.std.proofs.lemmas.List.Elements.{All-head, All-tail}
 use Rattle.fifo_model.specs.declared.Entry.{Entry}
 use Rattle.fifo_model.specs.declared.Queue.{Queue}
 use Rattle.page_table.specs.Grants.{Chunk}
-use Rattle.machine_model.specs.Paths.{RiscProgram}
 use Rattle.machine_model.specs.States.{State}
-use Rattle.machine_model.proofs.Fixed.{program-step}
-use Rattle.machine_model.specs.Steps.{Step, Turn, step, with_program, run, run_in}
+use Rattle.machine_model.specs.Steps.{Step, Turn, step, with_program, run_in}
 use Rattle.machine_model.specs.Safety.{IsStep, IsOrderly}
 use Rattle.machine_model.proofs.Orderly.{IsOrderly-step, IsOrderly-with_program}
 use Rattle.field_law.specs.Fields.{Token}
 use Rattle.field_law.specs.Sections.{Section, Uses, Holds}
-use Rattle.field_law.specs.Arrivals.{Met, after, meeting, pushed_by, coming, IsKept, AreKept, is_signal, has_signal, turn_count, turns_in}
+use Rattle.field_law.specs.Arrivals.{Met, after, pushed_by, coming, IsKept, AreKept, is_signal, has_signal, turn_count, turns_in}
 use Rattle.field_law.proofs.Opening.{IsReached}
 use Rattle.field_law.proofs.Turns.{turn-Reaches}
 use Rattle.field_law.proofs.Pushes.{step-moved, ahead_there, ahead_more}
 
 pub IsOrderly-after : (m : State) (met : Met) → IsStep met.1 → IsOrderly m → IsOrderly (after m met)
 IsOrderly-after m met made orderly = IsOrderly-step met.1 (with_program met.0 m) made (IsOrderly-with_program met.0 m orderly)
-
-pub run_in-append : (m : State) (early late : List Met) → run_in m (early ++ late) ≡ run_in (run_in m early) late
-run_in-append m [] late = refl
-run_in-append m (met ∷ early) late = run_in-append (after m met) early late
-
--- each step meets the machine's own program
-pub run-run_in : (m : State) (steps : List Step) → run m steps ≡ run_in m (meeting m.program steps)
-run-run_in m [] = refl
-run-run_in m (st ∷ steps) =
-    run-run_in (step st m) steps ∙ ap (λ (program : RiscProgram). run_in (step st m) (meeting program steps)) (program-step st m)
 
 module _ (s : Section) (field : Queue → List Token) (uses : Uses s field) (given : Type 0) (chunks : List Chunk) (final : ℕ → ℕ) where
   abbrev pub ReachedWith : (Queue → List Entry) → ℕ → State → Type 0

@@ -10,7 +10,7 @@ use Rattle.machine_model.specs.Turns.{counted, is_done, worked, turn_if, turn}
 use Rattle.machine_model.specs.Steps.{Turn}
 use Rattle.machine_model.specs.Safety.{IsOrderly}
 use Rattle.field_law.specs.Fields.{Token}
-use Rattle.field_law.specs.Sections.{Section, Uses, Holds}
+use Rattle.field_law.specs.Sections.{Section, Uses, IsUsedUp, Holds}
 use Rattle.field_law.specs.Arrivals.{is_signal}
 use Rattle.field_law.proofs.Waiting.{waited-Turned}
 use Rattle.field_law.proofs.InSection.{StandsIn, Settling, IsInSection, TurnedIn, ran-TurnedIn, fetched-TurnedIn}
@@ -22,7 +22,7 @@ module _ (s : Section) (field : Queue → List Token) (uses : Uses s field) (giv
   works : (bound : ℕ) (job : Job) (m : State) → m.job ≡ job → IsOrderly m → Holds s m.program → IsInSection s given chunks final later bound m → is_signal s m Turn ≡ false →
       TurnedIn s given chunks final later bound m.interrupts (worked job m)
   works bound Idle m j orderly held h silent = fetched-TurnedIn s given chunks final later bound m j h held silent
-  works bound (Waiting ctl resync code) m j orderly held h silent = waited-Turned (StandsIn s) (Settling given chunks final) later bound ctl resync code m j h
+  works bound (Waiting ctl resync code) m j orderly held h silent = waited-Turned IsUsedUp (StandsIn s) (Settling given chunks final) later bound ctl resync code m j h
   works bound (Running instr ds) m j orderly held h silent = ran-TurnedIn s given chunks final later bound instr ds m (is_done ds) orderly.triggered j h refl
 
   within_turn : (bound : ℕ) (m : State) → IsOrderly m → Holds s m.program → IsInSection s given chunks final later bound m → is_signal s m Turn ≡ false →

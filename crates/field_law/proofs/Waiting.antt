@@ -17,6 +17,7 @@ use Rattle.machine_model.specs.declared.Job.{Job}
 use Rattle.machine_model.specs.declared.Job.TheVariants.{Waiting}
 use Rattle.machine_model.specs.States.{State}
 use Rattle.machine_model.specs.Turns.{Store, no_code, is_stray, lowest_stray, code_if, common_code, met, code_seen, stray_seen, waited}
+use Rattle.field_law.specs.Fields.{Token}
 use Rattle.field_law.specs.Sections.{asks}
 use Rattle.field_law.specs.Arrivals.{over_queues}
 use Rattle.field_law.proofs.Served.{Outlook}
@@ -92,16 +93,16 @@ nothing_ahead (other ∷ held) later rest entry a b e = cc
 
 -- ---- a turn
 
-module _ (Stands : ℕ → List Instr → Type 0) (Comes : List Block → (Queue → List Store) → Type 0) (later : Queue → List Entry) (bound : ℕ) (ctl : Ctl) (resync : Bool) (code : Code)
-    (m : State) (j : m.job ≡ Waiting ctl resync code) (h : IsWithin Stands Comes later bound m) where
-  waits : WithinJob Stands Comes later bound (Waiting ctl resync code) m
-  waits = subst (λ (job : Job). WithinJob Stands Comes later bound job m) j h
+module _ (Ends : List ℕ → List Token → Type 0) (Stands : ℕ → List Instr → Type 0) (Comes : List Block → (Queue → List Store) → Type 0) (later : Queue → List Entry) (bound : ℕ) (ctl : Ctl) (resync : Bool) (code : Code)
+    (m : State) (j : m.job ≡ Waiting ctl resync code) (h : IsWithin Ends Stands Comes later bound m) where
+  waits : WithinJob Ends Stands Comes later bound (Waiting ctl resync code) m
+  waits = subst (λ (job : Job). WithinJob Ends Stands Comes later bound job m) j h
 
   abbrev ShowsAt : Queue → Type 0
-  ShowsAt q = Shows code (asks q waits.body) (waits.stores q) (waits.left q) (queue_state q m.queues) (later q)
+  ShowsAt q = Shows Ends code (asks q waits.body) (waits.stores q) (waits.left q) (queue_state q m.queues) (later q)
 
   shows : (q : Queue) → ((queue_state q m.queues).entries ≡ []) ⊎ ShowsAt q
-  shows q = outlook_shows code (asks q waits.body) (waits.stores q) (waits.left q) (queue_state q m.queues).taken (queue_state q m.queues) (later q) (waits.outlook q)
+  shows q = outlook_shows Ends code (asks q waits.body) (waits.stores q) (waits.left q) (queue_state q m.queues).taken (queue_state q m.queues) (later q) (waits.outlook q)
 
   not_stray : (q : Queue) → is_stray (queue_state q m.queues) ≡ false
   not_stray q = elim (shows q) [ inl none ↦ empty_no_stray (queue_state q m.queues).entries none | inr some ↦ code_no_stray (front (queue_state q m.queues)) code some.is_code ]
@@ -110,23 +111,23 @@ module _ (Stands : ℕ → List Instr → Type 0) (Comes : List Block → (Queue
   goes_by : waited ctl resync code m ≡ code_seen (common_code m.queues) ctl resync code m
   goes_by = ap (λ (stray : Option Queue). stray_seen stray ctl resync code m) (none_stray m.queues not_stray)
 
-  stays : (q : Queue) → (queue_state q m.queues).entries ≡ [] → Turned Stands Comes later bound m.interrupts (waited ctl resync code m)
+  stays : (q : Queue) → (queue_state q m.queues).entries ≡ [] → Turned Ends Stands Comes later bound m.interrupts (waited ctl resync code m)
   stays q none =
       let still : waited ctl resync code m ≡ m = goes_by ∙ ap (λ (seen : Option Code). code_seen seen ctl resync code m) (without m.queues q none) in
-      subst (λ (m' : State). Turned Stands Comes later bound m.interrupts m') (sym still)
+      subst (λ (m' : State). Turned Ends Stands Comes later bound m.interrupts m') (sym still)
       (record {
         next = bound;
         within = h;
         most = omega arith;
         less = λ empty.
-            let awaits = outlook_awaits code (asks q waits.body) (waits.stores q) (waits.left q) (queue_state q m.queues).taken ((queue_state q m.queues).entries ++ later q) (waits.outlook q) in
+            let awaits = outlook_awaits Ends code (asks q waits.body) (waits.stores q) (waits.left q) (queue_state q m.queues).taken ((queue_state q m.queues).entries ++ later q) (waits.outlook q) in
             let order = awaits.order in
             let none' = empty q in
             absurd (nothing_ahead (queue_state q m.queues).entries (later q) (awaits.entries ++ awaits.rest) awaits.entry none none' order);
         quiet = refl;
       })
 
-  goes_on : ((q : Queue) → ShowsAt q) → Turned Stands Comes later bound m.interrupts (waited ctl resync code m)
+  goes_on : ((q : Queue) → ShowsAt q) → Turned Ends Stands Comes later bound m.interrupts (waited ctl resync code m)
   goes_on show =
       let bounded = waits.bounded in
       let one = (show One).less in
@@ -136,7 +137,7 @@ module _ (Stands : ℕ → List Instr → Type 0) (Comes : List Block → (Queue
       all_with (front_code m.queues.one) (front_code m.queues.two) (front_code m.queues.three) code (show One).is_code (show Two).is_code (show Three).is_code in
       let goes : waited ctl resync code m ≡ met true ctl resync m =
       goes_by ∙ ap (λ (seen : Option Code). code_seen seen ctl resync code m) seen ∙ ap (λ (same : Bool). met same ctl resync m) (eq-eqb (code_number code) (code_number code) refl) in
-      subst (λ (m' : State). Turned Stands Comes later bound m.interrupts m') (sym goes)
+      subst (λ (m' : State). Turned Ends Stands Comes later bound m.interrupts m') (sym goes)
       (record {
         next = 5 * suc (length waits.body) + 0 + over_queues (λ q. (show q).entries_left);
         within =
@@ -149,7 +150,7 @@ module _ (Stands : ℕ → List Instr → Type 0) (Comes : List Block → (Queue
               stores = waits.stores;
               left = λ q. (show q).entries_left;
               outlook =
-                  each_removed (λ q held. Outlook (asks q waits.body) (waits.stores q) (show q).entries_left held.taken (held.entries ++ later q)) m.queues (λ q. (show q).next);
+                  each_removed (λ q held. Outlook Ends (asks q waits.body) (waits.stores q) (show q).entries_left held.taken (held.entries ++ later q)) m.queues (λ q. (show q).next);
               comes = waits.comes;
               bounded = omega arith;
             };
@@ -158,7 +159,7 @@ module _ (Stands : ℕ → List Instr → Type 0) (Comes : List Block → (Queue
         quiet = fdsr-applied ctl m.interrupts;
       })
 
-  pub waited-Turned : Turned Stands Comes later bound m.interrupts (waited ctl resync code m)
+  pub waited-Turned : Turned Ends Stands Comes later bound m.interrupts (waited ctl resync code m)
   waited-Turned =
       elim (shows One) [
         | inl none ↦ stays One none

@@ -1,5 +1,6 @@
--- The machine half way through instructions: what is still to come, never what was done. Where the machine stands in its
--- instructions, and what its stores must come to, are for the user of the relation to say.
+-- The machine half way through instructions: what is still to come, never what was done. What is left of each queue at
+-- the end, where the machine stands in its instructions, and what its stores must come to are for the user of the
+-- relation to say.
 use Rattle.std.proofs.Common.{◌≡◌, ℕ, suc, ◌+◌, ◌*◌, ◌<◌, ◌≤◌, Bool, true, List, [], ◌∷◌, ◌++◌, length, Some, min, refl, sym, ap, subst, ◌∙◌, arith}
 use Rattle.risc_word.specs.declared.Instr.{Instr}
 use Rattle.sync_status.specs.declared.Verdict.{Verdict}
@@ -17,6 +18,7 @@ use Rattle.machine_model.specs.declared.Skipping.TheVariants.{Nothing}
 use Rattle.machine_model.specs.Paths.{instr_off}
 use Rattle.machine_model.specs.States.{State}
 use Rattle.machine_model.specs.Turns.{Store, stored_all, stores_at, stores_of, demand_on, with_demand, demand_less, took, ended, judged, verdict_at}
+use Rattle.field_law.specs.Fields.{Token}
 use Rattle.field_law.specs.Sections.{Ask, Await, ask_of, asks}
 use Rattle.field_law.specs.Arrivals.{over_queues}
 use Rattle.field_law.proofs.Changed.{changed, each_served}
@@ -43,8 +45,8 @@ IsPlainJob _ = Unit {0}
 
 -- `later` is what steps to come push; `bound` is a number of turns within which the instructions are executed and one
 -- turn more comes, once all entries are there
-pub record Within (Stands : ℕ → List Instr → Type 0) (Comes : List Block → (Queue → List Store) → Type 0) (later : Queue → List Entry) (bound : ℕ)
-    (risc_on : Bool) (pc : ℕ) (skipping : Skipping) (job : Job) (queues : Queues) (memory : List Block) : Type 0 where
+pub record Within (Ends : List ℕ → List Token → Type 0) (Stands : ℕ → List Instr → Type 0) (Comes : List Block → (Queue → List Store) → Type 0) (later : Queue → List Entry)
+    (bound : ℕ) (risc_on : Bool) (pc : ℕ) (skipping : Skipping) (job : Job) (queues : Queues) (memory : List Block) : Type 0 where
   pub on : risc_on ≡ true
   pub unskipped : skipping ≡ Nothing
   -- the instructions that are not fetched yet
@@ -53,7 +55,7 @@ pub record Within (Stands : ℕ → List Instr → Type 0) (Comes : List Block �
   pub plain : IsPlainJob job
   pub stores : Queue → List Store
   pub left : Queue → ℕ
-  pub outlook : (q : Queue) → Outlook (job_asks q job (asks q body)) (stores q) (left q) (queue_state q queues).taken ((queue_state q queues).entries ++ later q)
+  pub outlook : (q : Queue) → Outlook Ends (job_asks q job (asks q body)) (stores q) (left q) (queue_state q queues).taken ((queue_state q queues).entries ++ later q)
   pub comes : Comes memory stores
   pub bounded : 5 * suc (length body) + job_turns job + over_queues left ≤ bound
 
@@ -74,9 +76,9 @@ front_entries : (entries : List Entry) (entry : Entry) → first entries ≡ Som
 front_entries [] entry h = cc
 front_entries (top ∷ es) entry h = (es, cc)
 
-module _ (Stands : ℕ → List Instr → Type 0) (Comes : List Block → (Queue → List Store) → Type 0) (later : Queue → List Entry) where
+module _ (Ends : List ℕ → List Token → Type 0) (Stands : ℕ → List Instr → Type 0) (Comes : List Block → (Queue → List Store) → Type 0) (later : Queue → List Entry) where
   abbrev pub WithinJob : ℕ → Job → State → Type 0
-  WithinJob bound job m = Within Stands Comes later bound m.risc_on m.pc m.skipping job m.queues m.memory
+  WithinJob bound job m = Within Ends Stands Comes later bound m.risc_on m.pc m.skipping job m.queues m.memory
 
   abbrev pub IsWithin : ℕ → State → Type 0
   IsWithin bound m = WithinJob bound m.job m
@@ -89,7 +91,7 @@ module _ (Stands : ℕ → List Instr → Type 0) (Comes : List Block → (Queue
     pub same : m.interrupts ≡ interrupts
 
   module _ (comes_made : IsMade Comes) (bound : ℕ) (q : Queue) (instr : Instr) (ds : Demands) (entry : Entry) (m : State) (h : WithinJob bound (Running instr ds) m)
-      (t : Takes (demand_on q ds) (asks q h.body) (h.stores q) (h.left q) (queue_state q m.queues) entry (later q)) where
+      (t : Takes Ends (demand_on q ds) (asks q h.body) (h.stores q) (h.left q) (queue_state q m.queues) entry (later q)) where
     split : h.stores q ≡ stores_of instr (demand_on q ds) entry (queue_state q m.queues).taken t.count ++ t.stores_left
     split =
         t.made ∙ ap (λ (off : ℕ). stores_at (demand_on q ds).address off (queue_state q m.queues).taken (bytes_taken entry (queue_state q m.queues).taken t.count) ++ t.stores_left) (sym h.plain)
@@ -111,7 +113,7 @@ module _ (Stands : ℕ → List Instr → Type 0) (Comes : List Block → (Queue
                 stores = changed q t.stores_left h.stores;
                 left = all_left;
                 outlook =
-                    each_served (λ p held d stores left. Outlook (ask_of d ∷ asks p h.body) stores left held.taken (held.entries ++ later p)) q
+                    each_served (λ p held d stores left. Outlook Ends (ask_of d ∷ asks p h.body) stores left held.taken (held.entries ++ later p)) q
                     (taken_from t.count (queue_state q m.queues)) (demand_less t.count (demand_on q ds)) t.stores_left t.entries_left m.queues ds h.stores h.left h.outlook t.next;
                 comes = comes_made m.memory h.stores q (stores_of instr (demand_on q ds) entry (queue_state q m.queues).taken t.count) t.stores_left split h.comes;
                 bounded = omega arith;
@@ -130,5 +132,5 @@ module _ (Stands : ℕ → List Instr → Type 0) (Comes : List Block → (Queue
       front (queue_state q m.queues) ≡ Some entry → 0 < (demand_on q ds).rest → Fewer bound m.interrupts (judged (verdict_at q ds entry m) q instr ds entry m)
   judged-Within comes_made bound q instr ds entry m h there some =
       let es = front_entries (queue_state q m.queues).entries entry there in
-      let t = application (demand_on q ds) (asks q h.body) (h.stores q) (h.left q) (queue_state q m.queues) entry (later q) es.0 es.1 some (h.outlook q) in
+      let t = application Ends (demand_on q ds) (asks q h.body) (h.stores q) (h.left q) (queue_state q m.queues) entry (later q) es.0 es.1 some (h.outlook q) in
       subst (λ (m' : State). Fewer bound m.interrupts m') (sym (judged_is comes_made bound q instr ds entry m h t)) (took_within comes_made bound q instr ds entry m h t)

@@ -88,15 +88,22 @@ abbrev pub asks : Queue → List Instr → List Ask
 asks q [] = []
 asks q (instr ∷ rest) = asked q instr ∷ asks q rest
 
--- asks use up exactly what comes: the bytes that are left of the line under way, then the tokens
+-- asks use up what comes, the bytes that are left of the line under way and then the tokens, to an end that is left
+abbrev pub UsesTo : (List ℕ → List Token → Type 0) → List Ask → List ℕ → List Token → Type 0
+UsesTo Ends [] line tokens = Ends line tokens
+UsesTo Ends (Await code ∷ rest) line (Mark seen ∷ tokens) = (line ≡ []) × (seen ≡ code) × UsesTo Ends rest [] tokens
+UsesTo Ends (Await code ∷ rest) line _ = ⊥
+UsesTo Ends (Begin count address ∷ rest) line (Row bytes ∷ tokens) =
+    (line ≡ []) × (0 < count) × (count ≤ length bytes) × UsesTo Ends rest (drop count bytes) tokens
+UsesTo Ends (Begin count address ∷ rest) line _ = ⊥
+UsesTo Ends (GoOn count address ∷ rest) line tokens = (count ≤ length line) × UsesTo Ends rest (drop count line) tokens
+
+-- exactly: nothing is left
+abbrev pub IsUsedUp : List ℕ → List Token → Type 0
+IsUsedUp line tokens = (line ≡ []) × (tokens ≡ [])
+
 abbrev pub UsesUp : List Ask → List ℕ → List Token → Type 0
-UsesUp [] line tokens = (line ≡ []) × (tokens ≡ [])
-UsesUp (Await code ∷ rest) line (Mark seen ∷ tokens) = (line ≡ []) × (seen ≡ code) × UsesUp rest [] tokens
-UsesUp (Await code ∷ rest) line _ = ⊥
-UsesUp (Begin count address ∷ rest) line (Row bytes ∷ tokens) =
-    (line ≡ []) × (0 < count) × (count ≤ length bytes) × UsesUp rest (drop count bytes) tokens
-UsesUp (Begin count address ∷ rest) line _ = ⊥
-UsesUp (GoOn count address ∷ rest) line tokens = (count ≤ length line) × UsesUp rest (drop count line) tokens
+UsesUp asks line tokens = UsesTo IsUsedUp asks line tokens
 
 -- bytes one after another from an address on, where there is one
 abbrev pub laid_from : ℕ → List ℕ → List Store

@@ -16,7 +16,7 @@ use Rattle.pixel_layout.specs.Layouts.{chroma_row}
 use Rattle.machine_model.specs.Turns.{Store}
 use Rattle.capture_desc.specs.declared.desc.Desc.{Desc}
 use Rattle.picture_model.specs.declared.PieceKind.TheVariants.{Skip}
-use Rattle.picture_model.specs.Described.{both, describes, field_height, layout_of, offset, picture_row, plane_row_bytes, rows_of, stride}
+use Rattle.picture_model.specs.Described.{both, describes, field_height, layout_of, memory_of, offset, picture_row, plane_row_bytes, rows_of, stride}
 use Rattle.picture_model.specs.Plans.{Strip, grain_bytes, grains_of, kind_by, row_strip, skipped_strip, vbi_strip}
 use Rattle.picture_model.specs.Programs.{body, data_code, field_instrs, line_instrs, lines_instrs, picture_strips, sync, vbi_from, vbi_instrs, vbi_strips}
 use Rattle.picture_model.proofs.Each.{each_All}
@@ -84,7 +84,7 @@ module _ (d : Desc) (right : IsRight d) (q : Queue) (has : has_plane d q ≡ tru
   moved = sym (plane_moves (layout_of d).planar q) ∙ has
 
   row_carries : (field : Parity) (k : ℕ) (bytes : List ℕ) → k < field_height d field → length bytes ≡ plane_row_bytes d (plane_of q) →
-      Carries d q (field_row_strip d field k) bytes
+      Carries (memory_of d) q (field_row_strip d field k) bytes
   row_carries field k bytes within long =
       let row = picture_row (both d) field k in
       let below = row_below d field k within in
@@ -100,7 +100,7 @@ module _ (d : Desc) (right : IsRight d) (q : Queue) (has : has_plane d q ≡ tru
         any = omega arith;
       }
 
-  skipped_carries : (k : ℕ) (bytes : List ℕ) → length bytes ≡ plane_row_bytes d (plane_of q) → Carries d q (skipped_strips d k) bytes
+  skipped_carries : (k : ℕ) (bytes : List ℕ) → length bytes ≡ plane_row_bytes d (plane_of q) → Carries (memory_of d) q (skipped_strips d k) bytes
   skipped_carries k bytes long =
       let plane = queue_plane d q has in
       let wide = right.wide (plane_of q) plane.low plane.high in
@@ -116,7 +116,7 @@ module _ (d : Desc) (right : IsRight d) (q : Queue) (has : has_plane d q ≡ tru
       }
 
 pub vbi_carries : (d : Desc) (right : IsRight d) (field : Parity) → describes d.fields field ≡ true → (k : ℕ) (bytes : List ℕ) → k < d.vbi_lines → length bytes ≡ d.vbi_bytes →
-    Carries d One (vbi_strip d field k) bytes
+    Carries (memory_of d) One (vbi_strip d field k) bytes
 vbi_carries d right field described k bytes within long =
     let some = (right.vbi_bytes (omega arith)).0 in
     record { fit = vbi-IsStrip d field k right described within; starts = tt; moved = refl; some = omega arith; long = omega arith; any = omega arith }
@@ -129,55 +129,55 @@ replicate_range strip from (suc count) = ap (λ (rest : List Strip). strip ∷ r
 
 module _ (d : Desc) (right : IsRight d) (q : Queue) (strips : ℕ → Strip) (count : ℕ) (lines : List (List ℕ)) (are : AreRows d q count lines) where
   abbrev made : List Store
-  made = lines_stores (cut_lines d q strips 0 lines)
+  made = lines_stores (cut_lines (memory_of d) q strips 0 lines)
 
   abbrev there : List Instr
   there = lines_instrs d (map strips (range_with_len 0 count))
 
-  rows_serve : ((k : ℕ) → (strips k).planar ≡ (layout_of d).planar) → (has_plane d q ≡ true → CarriesAll d q strips 0 lines) → Serves q there (lines_of lines) made
+  rows_serve : ((k : ℕ) → (strips k).planar ≡ (layout_of d).planar) → (has_plane d q ≡ true → CarriesAll (memory_of d) q strips 0 lines) → Serves q there (lines_of lines) made
   rows_serve same carries =
       ⊎_elim
-      (λ has. serves_lines d q strips count lines (are.many ∙ cond-true (has_plane d q) count 0 has) (carries has))
+      (λ has. serves_lines (memory_of d) q strips count lines (are.many ∙ cond-true (has_plane d q) count 0 has) (carries has))
       (λ none.
       let empty : lines ≡ [] = nil_from_length lines (are.many ∙ cond-false (has_plane d q) count 0 none) in
       let packed = unmoved_packed (layout_of d).planar q (sym (plane_moves (layout_of d).planar q) ∙ none) in
-      subst (λ (ls : List (List ℕ)). Serves q there (lines_of ls) (lines_stores (cut_lines d q strips 0 ls))) (sym empty)
-      (serves_idle_lines d q strips count (λ k. same k ∙ packed.0) packed.1))
+      subst (λ (ls : List (List ℕ)). Serves q there (lines_of ls) (lines_stores (cut_lines (memory_of d) q strips 0 ls))) (sym empty)
+      (serves_idle_lines (memory_of d) q strips count (λ k. same k ∙ packed.0) packed.1))
       (cases_Bool (has_plane d q))
 
 module _ (d : Desc) (right : IsRight d) (field : Parity) (described : describes d.fields field ≡ true) (picture : Picture) (is : IsPicture d field picture)
     (skipped : Queue → List (List ℕ)) (skips : (q : Queue) → AreRows d q d.skip_lines (skipped q)) where
   -- what each part stores
   abbrev pub vbi_stores : Queue → List Store
-  vbi_stores q = lines_stores (cut_lines d q (vbi_strip d field) 0 (vbi_on picture q))
+  vbi_stores q = lines_stores (cut_lines (memory_of d) q (vbi_strip d field) 0 (vbi_on picture q))
 
   abbrev pub skipped_stores : Queue → List Store
-  skipped_stores q = lines_stores (cut_lines d q (skipped_strips d) 0 (skipped q))
+  skipped_stores q = lines_stores (cut_lines (memory_of d) q (skipped_strips d) 0 (skipped q))
 
   abbrev pub row_stores : Queue → List Store
-  row_stores q = lines_stores (cut_lines d q (field_row_strip d field) 0 (rows_on picture q))
+  row_stores q = lines_stores (cut_lines (memory_of d) q (field_row_strip d field) 0 (rows_on picture q))
 
-  pub vbi_all : CarriesAll d One (vbi_strip d field) 0 picture.vbi
+  pub vbi_all : CarriesAll (memory_of d) One (vbi_strip d field) 0 picture.vbi
   vbi_all =
       let many = is.vbi.many in
-      carries_all d One (vbi_strip d field) d.vbi_lines d.vbi_bytes 0 picture.vbi (vbi_carries d right field described) (omega arith) is.vbi.long
+      carries_all (memory_of d) One (vbi_strip d field) d.vbi_lines d.vbi_bytes 0 picture.vbi (vbi_carries d right field described) (omega arith) is.vbi.long
 
-  pub skipped_all : (q : Queue) → has_plane d q ≡ true → CarriesAll d q (skipped_strips d) 0 (skipped q)
+  pub skipped_all : (q : Queue) → has_plane d q ≡ true → CarriesAll (memory_of d) q (skipped_strips d) 0 (skipped q)
   skipped_all q has =
-      carries_all d q (skipped_strips d) (length (skipped q)) (plane_row_bytes d (plane_of q)) 0 (skipped q) (λ k bytes within. skipped_carries d right q has k bytes) (omega arith) (skips q).long
+      carries_all (memory_of d) q (skipped_strips d) (length (skipped q)) (plane_row_bytes d (plane_of q)) 0 (skipped q) (λ k bytes within. skipped_carries d right q has k bytes) (omega arith) (skips q).long
 
   pub rows_many : (q : Queue) → has_plane d q ≡ true → length (rows_on picture q) ≡ field_height d field
   rows_many q has = (is.rows q).many ∙ cond-true (has_plane d q) (field_height d field) 0 has
 
-  pub rows_all : (q : Queue) → has_plane d q ≡ true → CarriesAll d q (field_row_strip d field) 0 (rows_on picture q)
+  pub rows_all : (q : Queue) → has_plane d q ≡ true → CarriesAll (memory_of d) q (field_row_strip d field) 0 (rows_on picture q)
   rows_all q has =
       let many = rows_many q has in
-      carries_all d q (field_row_strip d field) (field_height d field) (plane_row_bytes d (plane_of q)) 0 (rows_on picture q) (row_carries d right q has field) (omega arith) (is.rows q).long
+      carries_all (memory_of d) q (field_row_strip d field) (field_height d field) (plane_row_bytes d (plane_of q)) 0 (rows_on picture q) (row_carries d right q has field) (omega arith) (is.rows q).long
 
   vbi_lines_serve : (q : Queue) → Serves q (lines_instrs d (vbi_strips d field)) (lines_of (vbi_on picture q)) (vbi_stores q)
-  vbi_lines_serve One = serves_lines d One (vbi_strip d field) d.vbi_lines picture.vbi is.vbi.many vbi_all
-  vbi_lines_serve Two = serves_idle_lines d Two (vbi_strip d field) d.vbi_lines (λ k. refl) refl
-  vbi_lines_serve Three = serves_idle_lines d Three (vbi_strip d field) d.vbi_lines (λ k. refl) refl
+  vbi_lines_serve One = serves_lines (memory_of d) One (vbi_strip d field) d.vbi_lines picture.vbi is.vbi.many vbi_all
+  vbi_lines_serve Two = serves_idle_lines (memory_of d) Two (vbi_strip d field) d.vbi_lines (λ k. refl) refl
+  vbi_lines_serve Three = serves_idle_lines (memory_of d) Three (vbi_strip d field) d.vbi_lines (λ k. refl) refl
 
   no_vbi : (q : Queue) → 0 ≡ d.vbi_lines → vbi_on picture q ≡ []
   no_vbi One none = nil_from_length picture.vbi (is.vbi.many ∙ sym none)
@@ -186,7 +186,7 @@ module _ (d : Desc) (right : IsRight d) (field : Parity) (described : describes 
 
   vbi_serves : (q : Queue) (n : ℕ) → n ≡ d.vbi_lines → Serves q (vbi_from n d field) (vbi_tokens n (vbi_on picture q)) (vbi_stores q)
   vbi_serves q zero same =
-      subst (λ (lines : List (List ℕ)). Serves q [] [] (lines_stores (cut_lines d q (vbi_strip d field) 0 lines))) (sym (no_vbi q same)) (serves_none q)
+      subst (λ (lines : List (List ℕ)). Serves q [] [] (lines_stores (cut_lines (memory_of d) q (vbi_strip d field) 0 lines))) (sym (no_vbi q same)) (serves_none q)
   vbi_serves q (suc more) same =
       serves_both q (sync false Fm1 ∷ []) (lines_instrs d (vbi_strips d field)) (Mark Fm1 ∷ []) (lines_of (vbi_on picture q)) [] (vbi_stores q) (serves_sync q Fm1) (vbi_lines_serve q)
 

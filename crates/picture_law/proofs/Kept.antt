@@ -42,7 +42,7 @@ module _ (d : Desc) (right : IsRight d) (field : Parity) (described : describes 
   -- ---- each store is of a byte that is kept
 
   row_each : (q : Queue) → has_plane d q ≡ true → (k : ℕ) → k < length (rows_on picture q) →
-      EachByte IsStore (cut_line d q (field_row_strip d field k) (slice_index_or (rows_on picture q) k []))
+      EachByte IsStore (cut_line (memory_of d) q (field_row_strip d field k) (slice_index_or (rows_on picture q) k []))
   row_each q has k within x address inside goes =
       let many = rows_many d right field described picture is skipped skips q has in
       let long = (is.rows q).long k [] within in
@@ -53,14 +53,14 @@ module _ (d : Desc) (right : IsRight d) (field : Parity) (described : describes 
       (sym (queue_row_goes d right q row x has (row_below d field k number) byte) ∙ goes) in
       record { byte = of_row q k x; kept = ((has, number, byte, known.0), known.1); shown = refl }
 
-  skipped_each : (q : Queue) (k : ℕ) → k < length (skipped q) → EachByte IsStore (cut_line d q (skipped_strips d k) (slice_index_or (skipped q) k []))
+  skipped_each : (q : Queue) (k : ℕ) → k < length (skipped q) → EachByte IsStore (cut_line (memory_of d) q (skipped_strips d k) (slice_index_or (skipped q) k []))
   skipped_each q k within x address inside goes =
       let nowhere = skipped_goes d q x _ in absurd (none_some address (sym nowhere ∙ goes))
     where
       none_some : (address : ℕ) → None ≡ Some address → ⊥
       none_some address h = cc
 
-  vbi_each : (k : ℕ) → k < length picture.vbi → EachByte IsStore (cut_line d One (vbi_strip d field k) (slice_index_or picture.vbi k []))
+  vbi_each : (k : ℕ) → k < length picture.vbi → EachByte IsStore (cut_line (memory_of d) One (vbi_strip d field k) (slice_index_or picture.vbi k []))
   vbi_each k within x address inside goes =
       let many = is.vbi.many in
       let long = is.vbi.long k [] within in
@@ -71,23 +71,23 @@ module _ (d : Desc) (right : IsRight d) (field : Parity) (described : describes 
   all_rows_of : (q : Queue) → All IsStore (row_stores d right field described picture is skipped skips q)
   all_rows_of q =
       ⊎_elim
-      (λ has. all_stores d q (field_row_strip d field) IsStore (rows_on picture q) (rows_all d right field described picture is skipped skips q has) (row_each q has))
+      (λ has. all_stores (memory_of d) q (field_row_strip d field) IsStore (rows_on picture q) (rows_all d right field described picture is skipped skips q has) (row_each q has))
       (λ none.
       let empty : rows_on picture q ≡ [] = nil_from_length (rows_on picture q) ((is.rows q).many ∙ cond-false (has_plane d q) (field_height d field) 0 none) in
-      subst (λ (lines : List (List ℕ)). All IsStore (lines_stores (cut_lines d q (field_row_strip d field) 0 lines))) (sym empty) (All-nil IsStore))
+      subst (λ (lines : List (List ℕ)). All IsStore (lines_stores (cut_lines (memory_of d) q (field_row_strip d field) 0 lines))) (sym empty) (All-nil IsStore))
       (cases_Bool (has_plane d q))
 
   all_skipped_of : (q : Queue) → All IsStore (skipped_stores d right field described picture is skipped skips q)
   all_skipped_of q =
       ⊎_elim
-      (λ has. all_stores d q (skipped_strips d) IsStore (skipped q) (skipped_all d right field described picture is skipped skips q has) (skipped_each q))
+      (λ has. all_stores (memory_of d) q (skipped_strips d) IsStore (skipped q) (skipped_all d right field described picture is skipped skips q has) (skipped_each q))
       (λ none.
       let empty : skipped q ≡ [] = nil_from_length (skipped q) ((skips q).many ∙ cond-false (has_plane d q) d.skip_lines 0 none) in
-      subst (λ (lines : List (List ℕ)). All IsStore (lines_stores (cut_lines d q (skipped_strips d) 0 lines))) (sym empty) (All-nil IsStore))
+      subst (λ (lines : List (List ℕ)). All IsStore (lines_stores (cut_lines (memory_of d) q (skipped_strips d) 0 lines))) (sym empty) (All-nil IsStore))
       (cases_Bool (has_plane d q))
 
   all_vbi_of : (q : Queue) → All IsStore (vbi_stores d right field described picture is skipped skips q)
-  all_vbi_of One = all_stores d One (vbi_strip d field) IsStore picture.vbi (vbi_all d right field described picture is skipped skips) vbi_each
+  all_vbi_of One = all_stores (memory_of d) One (vbi_strip d field) IsStore picture.vbi (vbi_all d right field described picture is skipped skips) vbi_each
   all_vbi_of Two = All-nil IsStore
   all_vbi_of Three = All-nil IsStore
 
@@ -120,7 +120,7 @@ module _ (d : Desc) (right : IsRight d) (field : Parity) (described : describes 
       let rows = row_stores d right field described picture is skipped skips q in
       stored_second address (vbi_stores d right field described picture is skipped skips q) (skips_of ++ rows)
       (stored_second address skips_of rows
-      (stored_there d q (field_row_strip d field) (rows_on picture q) k x address (rows_all d right field described picture is skipped skips q has) within (omega arith) goes))
+      (stored_there (memory_of d) q (field_row_strip d field) (rows_on picture q) k x address (rows_all d right field described picture is skipped skips q has) within (omega arith) goes))
   kept_stored (of_vbi k x) address kept =
       let number = kept.0.0 in
       let inside = kept.0.1 in
@@ -129,7 +129,7 @@ module _ (d : Desc) (right : IsRight d) (field : Parity) (described : describes 
       let long = is.vbi.long k [] within in
       stored_first address (vbi_stores d right field described picture is skipped skips One)
       (skipped_stores d right field described picture is skipped skips One ++ row_stores d right field described picture is skipped skips One)
-      (stored_there d One (vbi_strip d field) picture.vbi k x address (vbi_all d right field described picture is skipped skips) within (omega arith)
+      (stored_there (memory_of d) One (vbi_strip d field) picture.vbi k x address (vbi_all d right field described picture is skipped skips) within (omega arith)
       (vbi_goes d right field k described number x inside ∙ kept.1))
 
 -- ---- each address has one byte at most

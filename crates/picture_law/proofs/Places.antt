@@ -8,13 +8,12 @@ use Rattle.machine_model.specs.States.{State, first_state}
 use Rattle.machine_model.specs.Turns.{sets_fdsr}
 use Rattle.machine_model.specs.Steps.{Step, Turn, run, run_in, with_program}
 use Rattle.machine_model.specs.Safety.{IsStep}
-use Rattle.machine_model.proofs.Runs.{program-run}
+use Rattle.machine_model.proofs.Runs.{program-run, run-run_in}
 use Rattle.machine_model.specs.Paths.{RiscProgram}
 use Rattle.capture_desc.specs.declared.desc.Desc.{Desc}
 use Rattle.picture_model.specs.Programs.{compiled, section_begin, section_next, size}
 use Rattle.field_law.specs.Arrivals.{Met, meeting, coming, entries_of, over_queues, has_signal, is_signal, turns_in}
 use Rattle.field_law.proofs.Meeting.{meeting-append}
-use Rattle.field_law.proofs.Runs.{run-run_in}
 use Rattle.picture_law.specs.Pictures.{Picture, After}
 use Rattle.picture_law.specs.Sections.{section_of}
 use Rattle.picture_law.specs.Laws.{Captures, TellsField}

@@ -6,22 +6,21 @@ use Rattle.risc_word.specs.declared.Code.{Code}
 use Rattle.risc_word.specs.declared.Instr.{Instr}
 use Rattle.fifo_model.specs.declared.Queue.{Queue}
 use Rattle.fifo_model.specs.declared.Queue.TheVariants.{One, Two, Three}
+use Rattle.page_table.specs.Grants.{Chunk}
 use Rattle.machine_model.specs.Turns.{Store}
-use Rattle.capture_desc.specs.declared.desc.Desc.{Desc}
 use Rattle.picture_model.specs.declared.PieceKind.{PieceKind}
 use Rattle.picture_model.specs.declared.PieceKind.TheVariants.{Write, WriteLuma, Skip}
 use Rattle.picture_model.specs.declared.Piece.{Piece}
-use Rattle.picture_model.specs.Described.{memory_of}
 use Rattle.picture_model.specs.Plans.{Strip, plan}
-use Rattle.picture_model.specs.Programs.{instr_by, instr_of, line_instrs, lines_instrs, sync}
+use Rattle.picture_model.specs.Programs.{instr_by, instr_of, sync}
 use Rattle.picture_model.proofs.Each.{Each, each_append}
 use Rattle.field_law.specs.Fields.{Token, Mark}
-use Rattle.field_law.specs.Sections.{Ask, GoOn, asked, asks, UsesUp, planned}
+use Rattle.field_law.specs.Sections.{Ask, GoOn, IsUsedUp, UsesUp, asked, asks, planned}
 use Rattle.field_law.specs.CutLines.{lines_asks, lines_stores}
 use Rattle.field_law.proofs.CutLines.{asks-append, lines_used, lines_planned, idle_used, idle_planned}
 use Rattle.picture_law.specs.Pictures.{lines_of}
 use Rattle.picture_law.proofs.Cuts.{moves}
-use Rattle.picture_law.proofs.Lines.{CarriesAll, cut_lines, strips_from, all_ask, all_rows, all_covered}
+use Rattle.picture_law.proofs.Lines.{CarriesAll, strip_instrs, strips_instrs, cut_lines, strips_from, all_ask, all_rows, all_covered}
 
 -- whatever comes later, these instructions use up these tokens and make these stores
 pub record Serves (q : Queue) (instrs : List Instr) (tokens : List Token) (stores : List Store) : Type 0 where
@@ -67,29 +66,29 @@ serves_made q instrs tokens stores serves =
 
 -- ---- lines that a queue brings
 
-serves_whole : (d : Desc) (q : Queue) (strips : ℕ → Strip) (lines : List (List ℕ)) → CarriesAll d q strips 0 lines →
-    Serves q (lines_instrs d (strips_from d q strips 0 (length lines))) (lines_of lines) (lines_stores (cut_lines d q strips 0 lines))
-serves_whole d q strips lines carries =
-    let cut = cut_lines d q strips 0 lines in
-    let instrs = lines_instrs d (strips_from d q strips 0 (length lines)) in
-    let covered = all_covered d q strips 0 lines carries in
-    let asked = all_ask d q strips 0 lines carries in
-    let rows = all_rows d q strips 0 lines in
+serves_whole : (memory : List Chunk) (q : Queue) (strips : ℕ → Strip) (lines : List (List ℕ)) → CarriesAll memory q strips 0 lines →
+    Serves q (strips_instrs memory (strips_from memory q strips 0 (length lines))) (lines_of lines) (lines_stores (cut_lines memory q strips 0 lines))
+serves_whole memory q strips lines carries =
+    let cut = cut_lines memory q strips 0 lines in
+    let instrs = strips_instrs memory (strips_from memory q strips 0 (length lines)) in
+    let covered = all_covered memory q strips 0 lines carries in
+    let asked = all_ask memory q strips 0 lines carries in
+    let rows = all_rows memory q strips 0 lines in
     record {
       used = λ later more uses.
           subst (λ (asking : List Ask). UsesUp (asking ++ later) [] (lines_of lines ++ more)) (sym asked)
-          (subst (λ (ts : List Token). UsesUp (lines_asks cut ++ later) [] (ts ++ more)) rows (lines_used cut later more covered uses));
+          (subst (λ (ts : List Token). UsesUp (lines_asks cut ++ later) [] (ts ++ more)) rows (lines_used IsUsedUp cut later more covered uses));
       makes = λ later more.
           ap (λ (asking : List Ask). planned (asking ++ later) [] (lines_of lines ++ more)) asked
           ∙ ap (λ (ts : List Token). planned (lines_asks cut ++ later) [] (ts ++ more)) (sym rows)
           ∙ lines_planned cut later more covered;
     }
 
-pub serves_lines : (d : Desc) (q : Queue) (strips : ℕ → Strip) (count : ℕ) (lines : List (List ℕ)) → length lines ≡ count → CarriesAll d q strips 0 lines →
-    Serves q (lines_instrs d (map strips (range_with_len 0 count))) (lines_of lines) (lines_stores (cut_lines d q strips 0 lines))
-serves_lines d q strips count lines many carries =
-    subst (λ (n : ℕ). Serves q (lines_instrs d (map strips (range_with_len 0 n))) (lines_of lines) (lines_stores (cut_lines d q strips 0 lines))) many
-    (serves_whole d q strips lines carries)
+pub serves_lines : (memory : List Chunk) (q : Queue) (strips : ℕ → Strip) (count : ℕ) (lines : List (List ℕ)) → length lines ≡ count → CarriesAll memory q strips 0 lines →
+    Serves q (strips_instrs memory (map strips (range_with_len 0 count))) (lines_of lines) (lines_stores (cut_lines memory q strips 0 lines))
+serves_lines memory q strips count lines many carries =
+    subst (λ (n : ℕ). Serves q (strips_instrs memory (map strips (range_with_len 0 n))) (lines_of lines) (lines_stores (cut_lines memory q strips 0 lines))) many
+    (serves_whole memory q strips lines carries)
 
 -- ---- lines of which a queue brings nothing
 
@@ -105,7 +104,7 @@ serves_idle : (q : Queue) (instrs : List Instr) → Each (IsIdle q) instrs → S
 serves_idle q instrs idle =
     let asked = idle_asks q instrs idle in
     record {
-      used = λ later more uses. subst (λ (asking : List Ask). UsesUp (asking ++ later) [] more) (sym asked) (idle_used (length instrs) later [] more uses);
+      used = λ later more uses. subst (λ (asking : List Ask). UsesUp (asking ++ later) [] more) (sym asked) (idle_used IsUsedUp (length instrs) later [] more uses);
       makes = λ later more. ap (λ (asking : List Ask). planned (asking ++ later) [] more) asked ∙ idle_planned (length instrs) later [] more;
     }
 
@@ -125,14 +124,14 @@ idle_pieces q planar (p ∷ pieces) packed unmoved = (
   idle_pieces q planar pieces packed unmoved,
 )
 
-idle_lines : (d : Desc) (q : Queue) (strips : ℕ → Strip) (from count : ℕ) → ((k : ℕ) → (strips k).planar ≡ false) → moves false q ≡ false →
-    Each (IsIdle q) (lines_instrs d (map strips (range_with_len from count)))
-idle_lines d q strips from zero packed unmoved = tt
-idle_lines d q strips from (suc count) packed unmoved =
-    each_append (IsIdle q) (line_instrs d (strips from)) (lines_instrs d (map strips (range_with_len (from + 1) count)))
-    (idle_pieces q (strips from).planar (plan (memory_of d) (strips from)) (packed from) unmoved) (idle_lines d q strips (from + 1) count packed unmoved)
+idle_lines : (memory : List Chunk) (q : Queue) (strips : ℕ → Strip) (from count : ℕ) → ((k : ℕ) → (strips k).planar ≡ false) → moves false q ≡ false →
+    Each (IsIdle q) (strips_instrs memory (map strips (range_with_len from count)))
+idle_lines memory q strips from zero packed unmoved = tt
+idle_lines memory q strips from (suc count) packed unmoved =
+    each_append (IsIdle q) (strip_instrs memory (strips from)) (strips_instrs memory (map strips (range_with_len (from + 1) count)))
+    (idle_pieces q (strips from).planar (plan memory (strips from)) (packed from) unmoved) (idle_lines memory q strips (from + 1) count packed unmoved)
 
-pub serves_idle_lines : (d : Desc) (q : Queue) (strips : ℕ → Strip) (count : ℕ) → ((k : ℕ) → (strips k).planar ≡ false) → moves false q ≡ false →
-    Serves q (lines_instrs d (map strips (range_with_len 0 count))) [] []
-serves_idle_lines d q strips count packed unmoved =
-    serves_idle q (lines_instrs d (map strips (range_with_len 0 count))) (idle_lines d q strips 0 count packed unmoved)
+pub serves_idle_lines : (memory : List Chunk) (q : Queue) (strips : ℕ → Strip) (count : ℕ) → ((k : ℕ) → (strips k).planar ≡ false) → moves false q ≡ false →
+    Serves q (strips_instrs memory (map strips (range_with_len 0 count))) [] []
+serves_idle_lines memory q strips count packed unmoved =
+    serves_idle q (strips_instrs memory (map strips (range_with_len 0 count))) (idle_lines memory q strips 0 count packed unmoved)
