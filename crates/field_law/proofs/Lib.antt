@@ -12,6 +12,7 @@ pub mod Before
 pub mod Opening
 pub mod Turns
 pub mod Pushes
+pub mod Moved
 pub mod Runs
 pub mod Closing
 pub mod GrantedStores

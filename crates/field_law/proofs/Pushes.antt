@@ -1,5 +1,5 @@
 -- Steps other than turns: they add entries at the ends of the queues, or change neither queues nor job.
-use Rattle.std.proofs.Common.{◌≡◌, ℕ, Bool, true, false, if◌then◌else◌, List, [], ◌∷◌, ◌++◌, refl, sym, ap, subst, ◌∙◌, arith, ◌⊎◌, inl, inr, append_assoc, append-nil}
+use Rattle.std.proofs.Common.{◌≡◌, ℕ, Bool, true, false, if◌then◌else◌, List, [], ◌∷◌, ◌++◌, refl, sym, ap, subst, ◌∙◌, arith, append_assoc, append-nil}
 use Rattle.risc_word.specs.declared.Code.{Code}
 use Rattle.risc_word.specs.declared.Instr.{Instr}
 use Rattle.fifo_model.specs.declared.Entry.{Entry}
@@ -8,7 +8,6 @@ use Rattle.fifo_model.specs.declared.Queue.TheVariants.{One, Two, Three}
 use Rattle.fifo_model.specs.declared.Pushed.TheVariants.{Held, Overrun}
 use Rattle.fifo_model.specs.Queues.{Queues, queue_state, with_queue_state, is_full, some_full, entered, overrun, all_entered, control_entry, more}
 use Rattle.irq_status.specs.declared.HostWrite.TheVariants.{Ack, Enable, Trigger}
-use Rattle.page_table.specs.Grants.{Chunk}
 use Rattle.page_table.specs.Blocks.{Block}
 use Rattle.machine_model.specs.declared.Job.{Job}
 use Rattle.machine_model.specs.declared.Skipping.{Skipping}
@@ -16,13 +15,11 @@ use Rattle.machine_model.specs.States.{State}
 use Rattle.machine_model.specs.Turns.{Store}
 use Rattle.machine_model.specs.Steps.{Step, Push, Control, Turn, Host, answer_if, pushed_as, control_pushed_as, with_fbus_if, push_if, push, push_control_if, push_control, step}
 use Rattle.field_law.specs.Fields.{Token}
-use Rattle.field_law.specs.Sections.{Section, Uses, IsUsedUp, asks}
+use Rattle.field_law.specs.Sections.{asks}
 use Rattle.field_law.specs.Arrivals.{pushed_by, IsKept, turn_count}
 use Rattle.field_law.proofs.Served.{Outlook}
 use Rattle.field_law.proofs.Asked.{outlook_with}
-use Rattle.field_law.proofs.Within.{Within, job_asks}
-use Rattle.field_law.proofs.InSection.{StandsIn, Settling}
-use Rattle.field_law.proofs.Opening.{Opening, IsReached}
+use Rattle.field_law.proofs.Within.{Within, IsWithin, job_asks}
 
 -- ---- entries are added at the ends
 
@@ -102,85 +99,57 @@ push_control-is code m h =
     let parts = push_full (some_full m.queues) m.fifo_on One (control_entry code) m h in
     ap (λ (on : Bool). push_control_if on code m) parts.0 ∙ code_held_is (some_full m.queues) code m parts.1
 
--- ---- half way through instructions, with other queues
+-- ---- a step that is no turn
 
-module _ (Ends : List ℕ → List Token → Type 0) (Stands : ℕ → List Instr → Type 0) (Comes : List Block → (Queue → List Store) → Type 0) (later later' more : Queue → List Entry) (queues queues' : Queues)
-    (taken : (q : Queue) → (queue_state q queues').taken ≡ (queue_state q queues).taken)
-    (ahead : (q : Queue) → (queue_state q queues').entries ++ later' q ≡ ((queue_state q queues).entries ++ later q) ++ more q)
-    (bound : ℕ) (risc_on : Bool) (pc : ℕ) (skipping : Skipping) (job : Job) (memory : List Block) where
-  pub within_moved : Within Ends Stands Comes later bound risc_on pc skipping job queues memory → Within Ends Stands Comes later' bound risc_on pc skipping job queues' memory
-  within_moved h =
-      record {
-        on = h.on;
-        unskipped = h.unskipped;
-        body = h.body;
-        stands = h.stands;
-        plain = h.plain;
-        stores = h.stores;
-        left = h.left;
-        outlook =
-            λ q.
-            subst (λ (taken : ℕ). Outlook Ends (job_asks q job (asks q h.body)) (h.stores q) (h.left q) taken ((queue_state q queues').entries ++ later' q)) (sym (taken q))
-            (subst (λ (ahead : List Entry). Outlook Ends (job_asks q job (asks q h.body)) (h.stores q) (h.left q) (queue_state q queues).taken ahead) (sym (ahead q))
-            (outlook_with Ends (job_asks q job (asks q h.body)) (h.stores q) (h.left q) (queue_state q queues).taken ((queue_state q queues).entries ++ later q) (more q) (h.outlook q)));
-        comes = h.comes;
-        bounded = h.bounded;
-      }
+-- what it says of the machine holds after such a step, where it holds with the entries added
+module _ (P : Bool → ℕ → Skipping → Job → Queues → List Block → Type 0) where
+  abbrev pub IsSaid : State → Type 0
+  IsSaid m = P m.risc_on m.pc m.skipping m.job m.queues m.memory
 
--- ---- what is reached stays so, with other queues
+  pub step-IsSaid : (st : Step) (m : State) → IsKept m st → turn_count st ≡ 0 →
+      ((after : Queues) → Adds m.queues after (pushed_by st) → P m.risc_on m.pc m.skipping m.job after m.memory) → IsSaid (step st m)
+  step-IsSaid (Push to entry) m kept no_turn moved =
+      subst IsSaid (sym (push-is to entry m kept)) (moved (with_queue_state to (entered entry (queue_state to m.queues)) m.queues) (adds_to to entry m.queues))
+  step-IsSaid (Control code) m kept no_turn moved =
+      subst IsSaid (sym (push_control-is code m kept)) (moved (all_entered (control_entry code) m.queues) (adds_all code m.queues))
+  step-IsSaid Turn m kept no_turn moved = absurd (omega arith)
+  step-IsSaid (Host (Ack mask)) m kept no_turn moved = moved m.queues (adds_none m.queues)
+  step-IsSaid (Host (Enable fifo risc)) m kept no_turn moved = absurd kept
+  step-IsSaid (Host (Trigger number)) m kept no_turn moved = moved m.queues (adds_none m.queues)
 
-module _ (s : Section) (field : Queue → List Token) (uses : Uses s field) (given : Type 0) (chunks : List Chunk) (final : ℕ → ℕ) where
-  module _ (later later' more : Queue → List Entry) (queues queues' : Queues) (taken : (q : Queue) → (queue_state q queues').taken ≡ (queue_state q queues).taken)
+-- ---- half way through instructions, after such a step
+
+module _ (Ends : List ℕ → List Token → Type 0) (Stands : ℕ → List Instr → Type 0) (Comes : List Block → (Queue → List Store) → Type 0) (later later' more : Queue → List Entry) where
+  module _ (queues queues' : Queues) (taken : (q : Queue) → (queue_state q queues').taken ≡ (queue_state q queues).taken)
       (ahead : (q : Queue) → (queue_state q queues').entries ++ later' q ≡ ((queue_state q queues).entries ++ later q) ++ more q)
       (bound : ℕ) (risc_on : Bool) (pc : ℕ) (skipping : Skipping) (job : Job) (memory : List Block) where
-    opening_moved : Opening s field given chunks final later bound risc_on pc skipping job queues memory → Opening s field given chunks final later' bound risc_on pc skipping job queues' memory
-    opening_moved h =
+    within_moved : Within Ends Stands Comes later bound risc_on pc skipping job queues memory → Within Ends Stands Comes later' bound risc_on pc skipping job queues' memory
+    within_moved h =
         record {
           on = h.on;
           unskipped = h.unskipped;
-          waits = h.waits;
-          there = h.there;
-          before = h.before;
-          entries = h.entries;
-          rest = λ q. h.rest q ++ more q;
-          order =
+          body = h.body;
+          stands = h.stands;
+          plain = h.plain;
+          stores = h.stores;
+          left = h.left;
+          outlook =
               λ q.
-              ahead q ∙ ap (λ (ahead : List Entry). ahead ++ more q) (h.order q) ∙ append_assoc (h.before q) (h.entries q ++ h.rest q) (more q)
-              ∙ ap (λ (entries : List Entry). h.before q ++ entries) (append_assoc (h.entries q) (h.rest q) (more q));
-          unmarked = h.unmarked;
-          brings = h.brings;
-          painted = h.painted;
+              subst (λ (taken : ℕ). Outlook Ends (job_asks q job (asks q h.body)) (h.stores q) (h.left q) taken ((queue_state q queues').entries ++ later' q)) (sym (taken q))
+              (subst (λ (ahead : List Entry). Outlook Ends (job_asks q job (asks q h.body)) (h.stores q) (h.left q) (queue_state q queues).taken ahead) (sym (ahead q))
+              (outlook_with Ends (job_asks q job (asks q h.body)) (h.stores q) (h.left q) (queue_state q queues).taken ((queue_state q queues).entries ++ later q) (more q) (h.outlook q)));
+          comes = h.comes;
           bounded = h.bounded;
         }
 
-    reached_moved : Opening s field given chunks final later bound risc_on pc skipping job queues memory ⊎ Within IsUsedUp (StandsIn s) (Settling given chunks final) later bound risc_on pc skipping job queues memory →
-        Opening s field given chunks final later' bound risc_on pc skipping job queues' memory ⊎ Within IsUsedUp (StandsIn s) (Settling given chunks final) later' bound risc_on pc skipping job queues' memory
-    reached_moved (inl h) = inl (opening_moved h)
-    reached_moved (inr h) =
-        inr (within_moved IsUsedUp (StandsIn s) (Settling given chunks final) later later' more queues queues' taken ahead bound risc_on pc skipping job memory h)
-
-  -- a step that is no turn
-  pub step-moved : (later later' more : Queue → List Entry) (bound : ℕ) (st : Step) (m : State) → IsKept m st → turn_count st ≡ 0 →
+  pub step-Within : (bound : ℕ) (st : Step) (m : State) → IsKept m st → turn_count st ≡ 0 →
       ((after : Queues) → Adds m.queues after (pushed_by st) → (q : Queue) → (queue_state q after).entries ++ later' q ≡ ((queue_state q m.queues).entries ++ later q) ++ more q) →
-      IsReached s field uses given chunks final later bound m → IsReached s field uses given chunks final later' bound (step st m)
-  step-moved later later' more bound (Push to entry) m kept no_turn ahead h =
-      let queues' : Queues = with_queue_state to (entered entry (queue_state to m.queues)) m.queues in
-      let adds = adds_to to entry m.queues in
-      subst (λ (m' : State). IsReached s field uses given chunks final later' bound m') (sym (push-is to entry m kept))
-      (reached_moved later later' more m.queues queues' adds.taken (ahead queues' adds) bound m.risc_on m.pc m.skipping m.job m.memory h)
-  step-moved later later' more bound (Control code) m kept no_turn ahead h =
-      let queues' : Queues = all_entered (control_entry code) m.queues in
-      let adds = adds_all code m.queues in
-      subst (λ (m' : State). IsReached s field uses given chunks final later' bound m') (sym (push_control-is code m kept))
-      (reached_moved later later' more m.queues queues' adds.taken (ahead queues' adds) bound m.risc_on m.pc m.skipping m.job m.memory h)
-  step-moved later later' more bound Turn m kept no_turn ahead h = absurd (omega arith)
-  step-moved later later' more bound (Host (Ack mask)) m kept no_turn ahead h =
-      let adds = adds_none m.queues in
-      reached_moved later later' more m.queues m.queues adds.taken (ahead m.queues adds) bound m.risc_on m.pc m.skipping m.job m.memory h
-  step-moved later later' more bound (Host (Enable fifo risc)) m kept no_turn ahead h = absurd kept
-  step-moved later later' more bound (Host (Trigger number)) m kept no_turn ahead h =
-      let adds = adds_none m.queues in
-      reached_moved later later' more m.queues m.queues adds.taken (ahead m.queues adds) bound m.risc_on m.pc m.skipping m.job m.memory h
+      IsWithin Ends Stands Comes later bound m → IsWithin Ends Stands Comes later' bound (step st m)
+  step-Within bound st m kept no_turn ahead h =
+      step-IsSaid (Within Ends Stands Comes later' bound) st m kept no_turn
+      (λ after adds. within_moved m.queues after adds.taken (ahead after adds) bound m.risc_on m.pc m.skipping m.job m.memory h)
+
+-- ---- what was to come, and more
 
 -- what was to come is there
 pub ahead_there : (queues after : Queues) (new later : Queue → List Entry) → Adds queues after new → (q : Queue) →

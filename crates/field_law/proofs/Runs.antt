@@ -14,7 +14,8 @@ use Rattle.field_law.specs.Sections.{Section, Uses, Holds}
 use Rattle.field_law.specs.Arrivals.{Met, after, pushed_by, coming, IsKept, AreKept, is_signal, has_signal, turn_count, turns_in}
 use Rattle.field_law.proofs.Opening.{IsReached}
 use Rattle.field_law.proofs.Turns.{turn-Reaches}
-use Rattle.field_law.proofs.Pushes.{step-moved, ahead_there, ahead_more}
+use Rattle.field_law.proofs.Pushes.{ahead_there, ahead_more}
+use Rattle.field_law.proofs.Moved.{step-IsReached}
 
 pub IsOrderly-after : (m : State) (met : Met) → IsStep met.1 → IsOrderly m → IsOrderly (after m met)
 IsOrderly-after m met made orderly = IsOrderly-step met.1 (with_program met.0 m) made (IsOrderly-with_program met.0 m orderly)
@@ -39,7 +40,7 @@ module _ (s : Section) (field : Queue → List Token) (uses : Uses s field) (giv
       record {
         next = bound;
         reached =
-            step-moved s field uses given chunks final (λ q. pushed_by st q ++ later q) later (λ q. []) bound st (with_program met.0 m) kept refl
+            step-IsReached s field uses given chunks final (λ q. pushed_by st q ++ later q) later (λ q. []) bound st (with_program met.0 m) kept refl
             (λ after adds. ahead_there m.queues after (pushed_by st) later adds) h;
         most = omega arith;
       }
@@ -64,7 +65,7 @@ module _ (s : Section) (field : Queue → List Token) (uses : Uses s field) (giv
       record {
         next = bound;
         reached =
-            step-moved s field uses given chunks final none none (pushed_by st) bound st (with_program met.0 m) kept refl
+            step-IsReached s field uses given chunks final none none (pushed_by st) bound st (with_program met.0 m) kept refl
             (λ after adds. ahead_more m.queues after (pushed_by st) adds) h;
         most = omega arith;
       }
