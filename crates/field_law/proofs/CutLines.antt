@@ -17,13 +17,36 @@ pub asks-append : (q : Queue) (xs ys : List Instr) → asks q (xs ++ ys) ≡ ask
 asks-append q [] ys = refl
 asks-append q (x ∷ xs) ys = ap (λ (rest : List Ask). asked q x ∷ rest) (asks-append q xs ys)
 
--- ---- a line is used up
+-- ---- lines are used up, to any end
 
-goes_on : (Ends : List ℕ → List Token → Type 0) (stretches : List Stretch) (rest : List Ask) (line : List ℕ) (tokens : List Token) → bytes_of stretches ≡ length line → UsesTo Ends rest [] tokens →
-    UsesTo Ends (map go_on stretches ++ rest) line tokens
-goes_on Ends [] rest line tokens whole uses = subst (λ (line : List ℕ). UsesTo Ends rest line tokens) (sym (nil_from_length line (sym whole))) uses
-goes_on Ends (first ∷ stretches) rest line tokens whole uses =
-    (omega arith, goes_on Ends stretches rest (drop first.count line) tokens (omega (arith, length-drop first.count line)) uses)
+module _ (Ends : List ℕ → List Token → Type 0) where
+  goes_on : (stretches : List Stretch) (rest : List Ask) (line : List ℕ) (tokens : List Token) → bytes_of stretches ≡ length line → UsesTo Ends rest [] tokens →
+      UsesTo Ends (map go_on stretches ++ rest) line tokens
+  goes_on [] rest line tokens whole uses = subst (λ (line : List ℕ). UsesTo Ends rest line tokens) (sym (nil_from_length line (sym whole))) uses
+  goes_on (first ∷ stretches) rest line tokens whole uses =
+      (omega arith, goes_on stretches rest (drop first.count line) tokens (omega (arith, length-drop first.count line)) uses)
+
+  line_used : (stretches : List Stretch) (bytes : List ℕ) (rest : List Ask) (tokens : List Token) → 0 < length bytes → HasFirst stretches → bytes_of stretches ≡ length bytes →
+      UsesTo Ends rest [] tokens → UsesTo Ends (line_asks stretches ++ rest) [] (Row bytes ∷ tokens)
+  line_used [] bytes rest tokens some first whole uses = absurd (omega arith)
+  line_used (top ∷ stretches) bytes rest tokens some first whole uses =
+      (refl, first, omega arith, goes_on stretches rest (drop top.count bytes) tokens (omega (arith, length-drop top.count bytes)) uses)
+
+  pub lines_used : (lines : List CutLine) (rest : List Ask) (tokens : List Token) → All IsCovered lines → UsesTo Ends rest [] tokens →
+      UsesTo Ends (lines_asks lines ++ rest) [] (lines_rows lines ++ tokens)
+  lines_used [] rest tokens covered uses = uses
+  lines_used (line ∷ lines) rest tokens covered uses =
+      let c = All-head IsCovered line lines covered in
+      subst (λ (asks : List Ask). UsesTo Ends asks [] (Row line.bytes ∷ (lines_rows lines ++ tokens))) (sym (append_assoc (line_asks line.stretches) (lines_asks lines) rest))
+      (line_used line.stretches line.bytes (lines_asks lines ++ rest) (lines_rows lines ++ tokens) c.some c.first c.whole
+      (lines_used lines rest tokens (All-tail IsCovered line lines covered) uses))
+
+  -- instructions that ask nothing of a queue
+  pub idle_used : (count : ℕ) (rest : List Ask) (line : List ℕ) (tokens : List Token) → UsesTo Ends rest line tokens → UsesTo Ends (replicate count (GoOn 0 None) ++ rest) line tokens
+  idle_used zero rest line tokens uses = uses
+  idle_used (suc count) rest line tokens uses = (omega arith, idle_used count rest line tokens uses)
+
+-- ---- what they store
 
 goes_on_stores : (stretches : List Stretch) (rest : List Ask) (line : List ℕ) (tokens : List Token) → bytes_of stretches ≡ length line →
     planned (map go_on stretches ++ rest) line tokens ≡ line_stores stretches line ++ planned rest [] tokens
@@ -33,12 +56,6 @@ goes_on_stores (first ∷ stretches) rest line tokens whole =
     (goes_on_stores stretches rest (drop first.count line) tokens (omega (arith, length-drop first.count line)))
     ∙ sym (append_assoc (laid first.address (take first.count line)) (line_stores stretches (drop first.count line)) (planned rest [] tokens))
 
-line_used : (Ends : List ℕ → List Token → Type 0) (stretches : List Stretch) (bytes : List ℕ) (rest : List Ask) (tokens : List Token) → 0 < length bytes → HasFirst stretches → bytes_of stretches ≡ length bytes →
-    UsesTo Ends rest [] tokens → UsesTo Ends (line_asks stretches ++ rest) [] (Row bytes ∷ tokens)
-line_used Ends [] bytes rest tokens some first whole uses = absurd (omega arith)
-line_used Ends (top ∷ stretches) bytes rest tokens some first whole uses =
-    (refl, first, omega arith, goes_on Ends stretches rest (drop top.count bytes) tokens (omega (arith, length-drop top.count bytes)) uses)
-
 line_planned : (stretches : List Stretch) (bytes : List ℕ) (rest : List Ask) (tokens : List Token) → 0 < length bytes → bytes_of stretches ≡ length bytes →
     planned (line_asks stretches ++ rest) [] (Row bytes ∷ tokens) ≡ line_stores stretches bytes ++ planned rest [] tokens
 line_planned [] bytes rest tokens some whole = absurd (omega arith)
@@ -46,17 +63,6 @@ line_planned (top ∷ stretches) bytes rest tokens some whole =
     ap (λ (stores : List Store). laid top.address (take top.count bytes) ++ stores)
     (goes_on_stores stretches rest (drop top.count bytes) tokens (omega (arith, length-drop top.count bytes)))
     ∙ sym (append_assoc (laid top.address (take top.count bytes)) (line_stores stretches (drop top.count bytes)) (planned rest [] tokens))
-
--- ---- lines one after another
-
-pub lines_used : (Ends : List ℕ → List Token → Type 0) (lines : List CutLine) (rest : List Ask) (tokens : List Token) → All IsCovered lines → UsesTo Ends rest [] tokens →
-    UsesTo Ends (lines_asks lines ++ rest) [] (lines_rows lines ++ tokens)
-lines_used Ends [] rest tokens covered uses = uses
-lines_used Ends (line ∷ lines) rest tokens covered uses =
-    let c = All-head IsCovered line lines covered in
-    subst (λ (asks : List Ask). UsesTo Ends asks [] (Row line.bytes ∷ (lines_rows lines ++ tokens))) (sym (append_assoc (line_asks line.stretches) (lines_asks lines) rest))
-    (line_used Ends line.stretches line.bytes (lines_asks lines ++ rest) (lines_rows lines ++ tokens) c.some c.first c.whole
-    (lines_used Ends lines rest tokens (All-tail IsCovered line lines covered) uses))
 
 pub lines_planned : (lines : List CutLine) (rest : List Ask) (tokens : List Token) → All IsCovered lines →
     planned (lines_asks lines ++ rest) [] (lines_rows lines ++ tokens) ≡ lines_stores lines ++ planned rest [] tokens
@@ -68,11 +74,7 @@ lines_planned (line ∷ lines) rest tokens covered =
     ∙ ap (λ (stores : List Store). line_stores line.stretches line.bytes ++ stores) (lines_planned lines rest tokens (All-tail IsCovered line lines covered))
     ∙ sym (append_assoc (line_stores line.stretches line.bytes) (lines_stores lines) (planned rest [] tokens))
 
--- instructions that ask nothing of a queue
-pub idle_used : (Ends : List ℕ → List Token → Type 0) (count : ℕ) (rest : List Ask) (line : List ℕ) (tokens : List Token) → UsesTo Ends rest line tokens → UsesTo Ends (replicate count (GoOn 0 None) ++ rest) line tokens
-idle_used Ends zero rest line tokens uses = uses
-idle_used Ends (suc count) rest line tokens uses = (omega arith, idle_used Ends count rest line tokens uses)
-
+-- instructions that ask nothing of a queue store nothing
 pub idle_planned : (count : ℕ) (rest : List Ask) (line : List ℕ) (tokens : List Token) → planned (replicate count (GoOn 0 None) ++ rest) line tokens ≡ planned rest line tokens
 idle_planned zero rest line tokens = refl
 idle_planned (suc count) rest line tokens = idle_planned count rest line tokens
@@ -98,11 +100,11 @@ laid_at address (byte ∷ bytes) (suc x) lt =
     (ap (λ (at : ℕ). is_stored at (laid_from (address + 1) bytes)) next ∙ laid_at (address + 1) bytes x (omega arith))
 
 -- an address in a stretch, and behind it
-address_here : (first : Stretch) (rest : List Stretch) (x : ℕ) → x < first.count → address_in (first ∷ rest) x ≡ option_map (λ at. at + x) first.address
+pub address_here : (first : Stretch) (rest : List Stretch) (x : ℕ) → x < first.count → address_in (first ∷ rest) x ≡ option_map (λ at. at + x) first.address
 address_here first rest x lt =
     cond-true (nat_lt x first.count) (option_map (λ at. at + x) first.address) (address_in rest (x - first.count)) (lt-ltb x first.count lt)
 
-address_behind : (first : Stretch) (rest : List Stretch) (x : ℕ) → first.count ≤ x → address_in (first ∷ rest) x ≡ address_in rest (x - first.count)
+pub address_behind : (first : Stretch) (rest : List Stretch) (x : ℕ) → first.count ≤ x → address_in (first ∷ rest) x ≡ address_in rest (x - first.count)
 address_behind first rest x le =
     cond-false (nat_lt x first.count) (option_map (λ at. at + x) first.address) (address_in rest (x - first.count)) (le-ltb x first.count le)
 

@@ -1,6 +1,6 @@
 -- The cuts of one line, as a queue sees them: what they ask, and where its bytes go.
-use Rattle.std.proofs.Common.{◌≡◌, ℕ, ◌+◌, ◌-◌, ◌*◌, ◌<◌, ◌≤◌, Bool, true, false, not, ◌&&◌, ◌==◌, List, [], ◌∷◌, map, Option, Some, None, option_map, nat_lt, refl, sym, ap, ◌∙◌, subst, arith, ⊎_elim}
-use Rattle.std.proofs.lemmas.Bool.{cases_lt, lt-ltb, le-ltb, eq-eqb, ne_eqb, cond-true, cond-false}
+use Rattle.std.proofs.Common.{◌≡◌, ℕ, ◌+◌, ◌-◌, ◌*◌, ◌<◌, ◌≤◌, Bool, true, false, not, ◌&&◌, ◌==◌, List, [], ◌∷◌, map, Option, Some, None, option_map, refl, sym, ap, ◌∙◌, subst, arith, ⊎_elim}
+use Rattle.std.proofs.lemmas.Bool.{cases_lt, eq-eqb, ne_eqb}
 use Rattle.std.proofs.Math.Nat.{mul-pos}
 use Rattle.risc_word.specs.declared.Ends.{Ends}
 use Rattle.fifo_model.specs.declared.Queue.{Queue}
@@ -14,6 +14,7 @@ use Rattle.picture_model.specs.Programs.{instr_by, instr_of}
 use Rattle.picture_model.proofs.Each.{Each}
 use Rattle.field_law.specs.Sections.{Ask, Begin, GoOn, ask, asked, asks}
 use Rattle.field_law.specs.CutLines.{Stretch, HasFirst, bytes_of, go_on, line_asks, address_in}
+use Rattle.field_law.proofs.CutLines.{address_here, address_behind}
 
 -- ---- what one piece asks
 
@@ -169,8 +170,6 @@ module _ (memory : List Chunk) (t : Track) where
       let product : (at + k.n) * t.size ≡ at * t.size + k.n * t.size = omega arith in
       let product' : (k.at + k.n) * t.size ≡ k.at * t.size + k.n * t.size = omega arith in
       let y = x - at * t.size in
-      let inside = option_map (λ address. address + y) (cut_address memory k.clipped t k.at) in
-      let behind = address_in (stretches_of memory t rest) (y - k.n * t.size) in
       ⊎_elim
       (λ less. record {
         k = k;
@@ -178,13 +177,13 @@ module _ (memory : List Chunk) (t : Track) where
         low = omega arith;
         high = omega arith;
         there =
-            cond-true (nat_lt y (k.n * t.size)) inside behind (lt-ltb y (k.n * t.size) less)
+            address_here (stretch_of memory t k) (stretches_of memory t rest) y less
             ∙ ap (λ (begin : ℕ). option_map (λ address. address + (x - begin)) (cut_address memory k.clipped t k.at)) (sym here);
       })
       (λ more.
       let left : y - k.n * t.size ≡ x - (at + k.n) * t.size = omega arith in
       subst (LiesIn Q x)
-      (sym (cond-false (nat_lt y (k.n * t.size)) inside behind (le-ltb y (k.n * t.size) more) ∙ ap (address_in (stretches_of memory t rest)) left))
+      (sym (address_behind (stretch_of memory t k) (stretches_of memory t rest) y more ∙ ap (address_in (stretches_of memory t rest)) left))
       (lies_from Q end (at + k.n) x rest each.1 follow.2 (omega arith) high))
       (cases_lt y (k.n * t.size))
 
@@ -198,10 +197,11 @@ module _ (memory : List Chunk) (t : Track) where
 pub unwritten : (memory : List Chunk) (size x : ℕ) (cuts : List Cut) → address_in (stretches_of memory (track size None) cuts) x ≡ None
 unwritten memory size x [] = refl
 unwritten memory size x (k ∷ rest) =
-    let first = λ (to : Option ℕ). option_map (λ address. address + x) to in
+    let first = stretch_of memory (track size None) k in
+    let later = stretches_of memory (track size None) rest in
     ⊎_elim
-    (λ less. cond-true (nat_lt x (k.n * size)) (first (cut_address memory k.clipped (track size None) k.at)) _ (lt-ltb x (k.n * size) less) ∙ ap first (nowhere k.clipped))
-    (λ more. cond-false (nat_lt x (k.n * size)) (first (cut_address memory k.clipped (track size None) k.at)) _ (le-ltb x (k.n * size) more) ∙ unwritten memory size (x - k.n * size) rest)
+    (λ less. address_here first later x less ∙ ap (λ (to : Option ℕ). option_map (λ address. address + x) to) (nowhere k.clipped))
+    (λ more. address_behind first later x more ∙ unwritten memory size (x - k.n * size) rest)
     (cases_lt x (k.n * size))
   where
     nowhere : (clipped : Bool) → cut_address memory clipped (track size None) k.at ≡ None
