@@ -193,6 +193,12 @@ module _ (memory : List Chunk) (t : Track) where
       let begin : x - 0 * t.size ≡ x = omega arith in
       subst (λ (y : ℕ). LiesIn Q x (address_in (stretches_of memory t cuts) y)) begin (lies_from Q end 0 x cuts each follow (omega arith) high)
 
+-- a byte of a cut that is not clipped goes to its place in it
+pub unclipped_goes : (memory : List Chunk) (clipped : Bool) (size start at j address : ℕ) → clipped ≡ false → address ≡ address_of memory clipped size (Some start) at + j →
+    option_map (λ a. a + j) (cut_address memory clipped (track size (Some start)) at) ≡ Some address
+unclipped_goes memory true size start at j address plain is = cc
+unclipped_goes memory false size start at j address plain is = ap (λ (a : ℕ). Some a) (sym is)
+
 -- a track that is not written sends nothing anywhere
 pub unwritten : (memory : List Chunk) (size x : ℕ) (cuts : List Cut) → address_in (stretches_of memory (track size None) cuts) x ≡ None
 unwritten memory size x [] = refl

@@ -24,7 +24,7 @@ use Rattle.picture_model.proofs.Spans.{byte_clipped-grain}
 use Rattle.picture_model.proofs.Strips.{row-IsStrip, vbi-IsStrip}
 use Rattle.field_law.specs.CutLines.{address_in}
 use Rattle.picture_law.specs.Pictures.{has_plane, plane_of}
-use Rattle.picture_law.proofs.Cuts.{cut_address, stretches_of, track_on, LiesIn, lies_in, unwritten}
+use Rattle.picture_law.proofs.Cuts.{cut_address, stretches_of, track_on, LiesIn, lies_in, unclipped_goes, unwritten}
 
 all_each : {A : Type 0} (P : A → Type 0) (xs : List A) → All P xs → Each P xs
 all_each P [] all = tt
@@ -44,11 +44,6 @@ shown_by memory false false None size at x same places = refl
 shown_by memory false false (Some from) size at x same places = ap (λ (a : ℕ). Some a) (sym (places (address_at memory (from + x)) refl refl))
 shown_by memory true false start size at x same places = cc
 shown_by memory false true start size at x same places = cc
-
-plain_by : (memory : List Chunk) (clipped : Bool) (size start at j address : ℕ) → clipped ≡ false → address ≡ address_of memory clipped size (Some start) at + j →
-    option_map (λ a. a + j) (cut_address memory clipped (track size (Some start)) at) ≡ Some address
-plain_by memory true size start at j address plain is = cc
-plain_by memory false size start at j address plain is = ap (λ (a : ℕ). Some a) (sym is)
 
 -- ---- rows
 
@@ -137,7 +132,7 @@ module _ (d : Desc) (right : IsRight d) (field : Parity) (line : ℕ) (described
       let high = lies.high in
       let there : k.at + (x - k.at * 1) ≡ x = omega arith in
       lies.there
-      ∙ plain_by (memory_of d) k.clipped 1 (vbi_line_offset d field line) k.at (x - k.at * 1) (vbi_place d field line x) lies.holds.plain
+      ∙ unclipped_goes (memory_of d) k.clipped 1 (vbi_line_offset d field line) k.at (x - k.at * 1) (vbi_place d field line x) lies.holds.plain
       (ap (vbi_place d field line) (sym there) ∙ lies.holds.places (x - k.at * 1) (omega arith))
 
   pub vbi_goes : (x : ℕ) → x < d.vbi_bytes → address_in (stretches_of (memory_of d) strip.one vbi_cuts) x ≡ Some (vbi_place d field line x)
