@@ -52,7 +52,7 @@ pub fn held_section_grants_its_stores()
         All (λ store. granted program.grants store.address ≡ true) (section_stores s field q) }
 {}
 
-/// Lines cut into stretches that cover them are used up, whatever comes after them; each byte that a stretch writes is
+/// Lines cut into parts that cover them are used up, whatever comes after them; each byte that a part writes is
 /// stored at its address, and the stores of the lines come first.
 pub fn cut_lines_are_used_up()
     ensures used { (lines : List CutLine) (later : List Ask) (tokens : List Token) → All IsCovered lines → UsesUp later [] tokens →
@@ -62,7 +62,7 @@ pub fn cut_lines_are_used_up()
     ensures each { (test : Store → Bool) (lines : List CutLine) → All IsCovered lines → All (EachByte (λ store. test store ≡ true)) lines →
         All (λ store. test store ≡ true) (lines_stores lines) }
     ensures stored { (lines : List CutLine) (line : CutLine) (number x address : ℕ) → All IsCovered lines → number < length lines → slice_index_or lines number line ≡ line →
-        x < length line.bytes → address_in line.stretches x ≡ Some address → is_stored address (lines_stores lines) ≡ true }
+        x < length line.bytes → address_in line.line_parts x ≡ Some address → is_stored address (lines_stores lines) ≡ true }
 {}
 
 /// The premises of these laws can be met: a field of one line does, behind an entry of an earlier field, and its section

@@ -13,7 +13,7 @@ use Rattle.picture_model.specs.Plans.{Cut, Follow, Strip, Track, address_of, end
 use Rattle.picture_model.specs.Programs.{instr_by, instr_of}
 use Rattle.picture_model.proofs.Each.{Each}
 use Rattle.field_law.specs.Sections.{Ask, Begin, GoOn, ask, asked, asks}
-use Rattle.field_law.specs.CutLines.{Stretch, HasFirst, bytes_of, go_on, line_asks, address_in}
+use Rattle.field_law.specs.CutLines.{LinePart, HasFirst, bytes_of, go_on, line_asks, address_in}
 use Rattle.field_law.proofs.CutLines.{address_here, address_behind}
 
 -- ---- what one piece asks
@@ -43,8 +43,8 @@ abbrev pub cut_address : List Chunk → Bool → Track → ℕ → Option ℕ
 cut_address memory true t at = None
 cut_address memory false t at = option_map (λ start. address_at memory (start + at * t.size)) t.start
 
-abbrev pub stretch_of : List Chunk → Track → Cut → Stretch
-stretch_of memory t k = record { count = k.n * t.size; address = cut_address memory k.clipped t k.at }
+abbrev pub line_part_of : List Chunk → Track → Cut → LinePart
+line_part_of memory t k = record { count = k.n * t.size; address = cut_address memory k.clipped t k.at }
 
 -- what a cut asks of a track
 abbrev pub cut_asks : List Chunk → Bool → Bool → ℕ → ℕ → Track → Ask
@@ -94,8 +94,8 @@ module _ (memory : List Chunk) (ends : Ends) (at n size size' size'' : ℕ) wher
 abbrev pub track_on : Queue → Strip → Track
 track_on q strip = on_queue q strip.one strip.two strip.three
 
-abbrev pub stretches_of : List Chunk → Track → List Cut → List Stretch
-stretches_of memory t cuts = map (stretch_of memory t) cuts
+abbrev pub line_parts_of : List Chunk → Track → List Cut → List LinePart
+line_parts_of memory t cuts = map (line_part_of memory t) cuts
 
 ask_later : (first some : Bool) (count : ℕ) (address : Option ℕ) → first ≡ false → ask (first && some) count address ≡ GoOn count address
 ask_later false some count address is = refl
@@ -121,7 +121,7 @@ module _ (memory : List Chunk) (strip : Strip) (q : Queue) (starts : Starts stri
   asked_cut k =
       piece_asks memory (ends_of strip k) k.at k.n strip.one.size strip.two.size strip.three.size q strip.planar k.clipped strip.kind strip.one.start strip.two.start strip.three.start starts moved
 
-  later_asks : (end at : ℕ) (cuts : List Cut) → 0 < at → Follow end at cuts → asks_of cuts ≡ map go_on (stretches_of memory t cuts)
+  later_asks : (end at : ℕ) (cuts : List Cut) → 0 < at → Follow end at cuts → asks_of cuts ≡ map go_on (line_parts_of memory t cuts)
   later_asks end at [] some follow = refl
   later_asks end at (k ∷ rest) some follow =
       let here = follow.0 in
@@ -129,7 +129,7 @@ module _ (memory : List Chunk) (strip : Strip) (q : Queue) (starts : Starts stri
       (asked_cut k ∙ ask_later (k.at == 0) (not (k.n * t.size == 0)) (k.n * t.size) (cut_address memory k.clipped t k.at) (ne_eqb k.at 0 (λ zero. omega arith)))
       (later_asks end (at + k.n) rest (omega arith) follow.2)
 
-  pub cuts_ask : (end : ℕ) (cuts : List Cut) → 0 < t.size → Follow end 0 cuts → asks_of cuts ≡ line_asks (stretches_of memory t cuts)
+  pub cuts_ask : (end : ℕ) (cuts : List Cut) → 0 < t.size → Follow end 0 cuts → asks_of cuts ≡ line_asks (line_parts_of memory t cuts)
   cuts_ask end [] some follow = refl
   cuts_ask end (k ∷ rest) some follow =
       let n = follow.1 in
@@ -140,18 +140,18 @@ module _ (memory : List Chunk) (strip : Strip) (q : Queue) (starts : Starts stri
 -- ---- they cover it, and each byte lies in one of them
 
 module _ (memory : List Chunk) (t : Track) where
-  pub first_some : (end : ℕ) (cuts : List Cut) → 0 < t.size → Follow end 0 cuts → HasFirst (stretches_of memory t cuts)
+  pub first_some : (end : ℕ) (cuts : List Cut) → 0 < t.size → Follow end 0 cuts → HasFirst (line_parts_of memory t cuts)
   first_some end [] some follow = tt
   first_some end (k ∷ rest) some follow = mul-pos follow.1 some
 
-  cuts_bytes : (end at : ℕ) (cuts : List Cut) → Follow end at cuts → at * t.size + bytes_of (stretches_of memory t cuts) ≡ end * t.size
+  cuts_bytes : (end at : ℕ) (cuts : List Cut) → Follow end at cuts → at * t.size + bytes_of (line_parts_of memory t cuts) ≡ end * t.size
   cuts_bytes end at [] follow = let product = ap (λ (n : ℕ). n * t.size) follow in omega arith
   cuts_bytes end at (k ∷ rest) follow =
       let later = cuts_bytes end (at + k.n) rest follow.2 in
       let product : (at + k.n) * t.size ≡ at * t.size + k.n * t.size = omega arith in
       omega arith
 
-  pub all_bytes : (end : ℕ) (cuts : List Cut) → Follow end 0 cuts → bytes_of (stretches_of memory t cuts) ≡ end * t.size
+  pub all_bytes : (end : ℕ) (cuts : List Cut) → Follow end 0 cuts → bytes_of (line_parts_of memory t cuts) ≡ end * t.size
   all_bytes end cuts follow = let all = cuts_bytes end 0 cuts follow in omega arith
 
   -- byte x lies in a cut, and goes where the cut has it go
@@ -163,7 +163,7 @@ module _ (memory : List Chunk) (t : Track) where
     pub there : to ≡ option_map (λ address. address + (x - k.at * t.size)) (cut_address memory k.clipped t k.at)
 
   lies_from : (Q : Cut → Type 0) (end at x : ℕ) (cuts : List Cut) → Each Q cuts → Follow end at cuts → at * t.size ≤ x → x < end * t.size →
-      LiesIn Q x (address_in (stretches_of memory t cuts) (x - at * t.size))
+      LiesIn Q x (address_in (line_parts_of memory t cuts) (x - at * t.size))
   lies_from Q end at x [] each follow low high = let product = ap (λ (n : ℕ). n * t.size) follow in absurd (omega arith)
   lies_from Q end at x (k ∷ rest) each follow low high =
       let here : k.at * t.size ≡ at * t.size = ap (λ (n : ℕ). n * t.size) follow.0 in
@@ -177,21 +177,21 @@ module _ (memory : List Chunk) (t : Track) where
         low = omega arith;
         high = omega arith;
         there =
-            address_here (stretch_of memory t k) (stretches_of memory t rest) y less
+            address_here (line_part_of memory t k) (line_parts_of memory t rest) y less
             ∙ ap (λ (begin : ℕ). option_map (λ address. address + (x - begin)) (cut_address memory k.clipped t k.at)) (sym here);
       })
       (λ more.
       let left : y - k.n * t.size ≡ x - (at + k.n) * t.size = omega arith in
       subst (LiesIn Q x)
-      (sym (address_behind (stretch_of memory t k) (stretches_of memory t rest) y more ∙ ap (address_in (stretches_of memory t rest)) left))
+      (sym (address_behind (line_part_of memory t k) (line_parts_of memory t rest) y more ∙ ap (address_in (line_parts_of memory t rest)) left))
       (lies_from Q end (at + k.n) x rest each.1 follow.2 (omega arith) high))
       (cases_lt y (k.n * t.size))
 
   pub lies_in : (Q : Cut → Type 0) (end x : ℕ) (cuts : List Cut) → Each Q cuts → Follow end 0 cuts → x < end * t.size →
-      LiesIn Q x (address_in (stretches_of memory t cuts) x)
+      LiesIn Q x (address_in (line_parts_of memory t cuts) x)
   lies_in Q end x cuts each follow high =
       let begin : x - 0 * t.size ≡ x = omega arith in
-      subst (λ (y : ℕ). LiesIn Q x (address_in (stretches_of memory t cuts) y)) begin (lies_from Q end 0 x cuts each follow (omega arith) high)
+      subst (λ (y : ℕ). LiesIn Q x (address_in (line_parts_of memory t cuts) y)) begin (lies_from Q end 0 x cuts each follow (omega arith) high)
 
 -- a byte of a cut that is not clipped goes to its place in it
 pub unclipped_goes : (memory : List Chunk) (clipped : Bool) (size start at j address : ℕ) → clipped ≡ false → address ≡ address_of memory clipped size (Some start) at + j →
@@ -200,11 +200,11 @@ unclipped_goes memory true size start at j address plain is = cc
 unclipped_goes memory false size start at j address plain is = ap (λ (a : ℕ). Some a) (sym is)
 
 -- a track that is not written sends nothing anywhere
-pub unwritten : (memory : List Chunk) (size x : ℕ) (cuts : List Cut) → address_in (stretches_of memory (track size None) cuts) x ≡ None
+pub unwritten : (memory : List Chunk) (size x : ℕ) (cuts : List Cut) → address_in (line_parts_of memory (track size None) cuts) x ≡ None
 unwritten memory size x [] = refl
 unwritten memory size x (k ∷ rest) =
-    let first = stretch_of memory (track size None) k in
-    let later = stretches_of memory (track size None) rest in
+    let first = line_part_of memory (track size None) k in
+    let later = line_parts_of memory (track size None) rest in
     ⊎_elim
     (λ less. address_here first later x less ∙ ap (λ (to : Option ℕ). option_map (λ address. address + x) to) (nowhere k.clipped))
     (λ more. address_behind first later x more ∙ unwritten memory size (x - k.n * size) rest)

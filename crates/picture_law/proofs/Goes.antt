@@ -24,7 +24,7 @@ use Rattle.picture_model.proofs.Spans.{byte_clipped-grain}
 use Rattle.picture_model.proofs.Strips.{row-IsStrip, vbi-IsStrip}
 use Rattle.field_law.specs.CutLines.{address_in}
 use Rattle.picture_law.specs.Pictures.{has_plane, plane_of}
-use Rattle.picture_law.proofs.Cuts.{cut_address, stretches_of, track_on, LiesIn, lies_in, unclipped_goes, unwritten}
+use Rattle.picture_law.proofs.Cuts.{cut_address, line_parts_of, track_on, LiesIn, lies_in, unclipped_goes, unwritten}
 
 all_each : {A : Type 0} (P : A → Type 0) (xs : List A) → All P xs → Each P xs
 all_each P [] all = tt
@@ -83,7 +83,7 @@ module _ (d : Desc) (right : IsRight d) (plane row : ℕ) (has : HasPlane d plan
       (λ a plain is. lies.holds.places plane (x - k.at * size) a has plain (omega arith) (ap (place d plane row) there ∙ is))
 
   pub row_goes : (x : ℕ) → x < plane_row_bytes d plane →
-      address_in (stretches_of (memory_of d) (row_track d plane row) cuts) x ≡ (if byte_clipped d plane row x then None else place d plane row x)
+      address_in (line_parts_of (memory_of d) (row_track d plane row) cuts) x ≡ (if byte_clipped d plane row x then None else place d plane row x)
   row_goes x inside =
       goes_by x _
       (lies_in (memory_of d) (row_track d plane row) (IsRowCut d row) (grains_of (layout_of d) d.width) x cuts (all_each (IsRowCut d row) cuts (row_cuts_are d row right below))
@@ -105,15 +105,15 @@ row_track_on d row Two = refl
 row_track_on d row Three = refl
 
 pub queue_row_goes : (d : Desc) (right : IsRight d) (q : Queue) (row x : ℕ) → has_plane d q ≡ true → row < d.height → x < plane_row_bytes d (plane_of q) →
-    address_in (stretches_of (memory_of d) (track_on q (row_strip d row)) (cuts_of (memory_of d) (row_strip d row) (row_strip d row).spans)) x
+    address_in (line_parts_of (memory_of d) (track_on q (row_strip d row)) (cuts_of (memory_of d) (row_strip d row) (row_strip d row).spans)) x
     ≡ (if byte_clipped d (plane_of q) row x then None else place d (plane_of q) row x)
 queue_row_goes d right q row x has below inside =
-    ap (λ (t : Track). address_in (stretches_of (memory_of d) t (cuts_of (memory_of d) (row_strip d row) (row_strip d row).spans)) x) (sym (row_track_on d row q))
+    ap (λ (t : Track). address_in (line_parts_of (memory_of d) t (cuts_of (memory_of d) (row_strip d row) (row_strip d row).spans)) x) (sym (row_track_on d row q))
     ∙ row_goes d right (plane_of q) row (queue_plane d q has) below x inside
 
 -- ---- skipped lines and VBI lines
 
-pub skipped_goes : (d : Desc) (q : Queue) (x : ℕ) (cuts : List Cut) → address_in (stretches_of (memory_of d) (track_on q (skipped_strip d)) cuts) x ≡ None
+pub skipped_goes : (d : Desc) (q : Queue) (x : ℕ) (cuts : List Cut) → address_in (line_parts_of (memory_of d) (track_on q (skipped_strip d)) cuts) x ≡ None
 skipped_goes d One x cuts = unwritten (memory_of d) (grain_bytes (layout_of d) 1) x cuts
 skipped_goes d Two x cuts = unwritten (memory_of d) (grain_bytes (layout_of d) 2) x cuts
 skipped_goes d Three x cuts = unwritten (memory_of d) (grain_bytes (layout_of d) 3) x cuts
@@ -135,7 +135,7 @@ module _ (d : Desc) (right : IsRight d) (field : Parity) (line : ℕ) (described
       ∙ unclipped_goes (memory_of d) k.clipped 1 (vbi_line_offset d field line) k.at (x - k.at * 1) (vbi_place d field line x) lies.holds.plain
       (ap (vbi_place d field line) (sym there) ∙ lies.holds.places (x - k.at * 1) (omega arith))
 
-  pub vbi_goes : (x : ℕ) → x < d.vbi_bytes → address_in (stretches_of (memory_of d) strip.one vbi_cuts) x ≡ Some (vbi_place d field line x)
+  pub vbi_goes : (x : ℕ) → x < d.vbi_bytes → address_in (line_parts_of (memory_of d) strip.one vbi_cuts) x ≡ Some (vbi_place d field line x)
   vbi_goes x inside =
       vbi_goes_by x _
       (lies_in (memory_of d) strip.one (IsVbiCut d field line) d.vbi_bytes x vbi_cuts (all_each (IsVbiCut d field line) vbi_cuts (vbi_cuts_are d field line right described below))

@@ -15,7 +15,7 @@ use Rattle.field_law.specs.Sections.{Ask, asks, is_stored}
 use Rattle.field_law.specs.CutLines.{CutLine, IsCovered, EachByte, line_asks, lines_asks, lines_rows, lines_stores, address_in}
 use Rattle.field_law.proofs.CutLines.{asks-append, lines_each, lines_stored}
 use Rattle.picture_law.specs.Pictures.{lines_of}
-use Rattle.picture_law.proofs.Cuts.{Starts, moves, stretches_of, track_on, cuts_ask, first_some, all_bytes}
+use Rattle.picture_law.proofs.Cuts.{Starts, moves, line_parts_of, track_on, cuts_ask, first_some, all_bytes}
 
 -- the instructions of strips, with memory scattered over these chunks
 abbrev pub strip_instrs : List Chunk → Strip → List Instr
@@ -27,7 +27,7 @@ strips_instrs memory strips = flat_map (strip_instrs memory) strips
 -- a strip as the line that a queue brings
 abbrev pub cut_line : List Chunk → Queue → Strip → List ℕ → CutLine
 cut_line memory q strip bytes =
-    record { stretches = stretches_of memory (track_on q strip) (cuts_of memory strip strip.spans); bytes = bytes }
+    record { line_parts = line_parts_of memory (track_on q strip) (cuts_of memory strip strip.spans); bytes = bytes }
 
 -- a queue brings the bytes of a line
 pub record Carries (memory : List Chunk) (q : Queue) (strip : Strip) (bytes : List ℕ) : Type 0 where
@@ -39,7 +39,7 @@ pub record Carries (memory : List Chunk) (q : Queue) (strip : Strip) (bytes : Li
   pub any : 0 < length bytes
 
 module _ (memory : List Chunk) (q : Queue) (strip : Strip) (bytes : List ℕ) (carries : Carries memory q strip bytes) where
-  line_ask : asks q (strip_instrs memory strip) ≡ line_asks (cut_line memory q strip bytes).stretches
+  line_ask : asks q (strip_instrs memory strip) ≡ line_asks (cut_line memory q strip bytes).line_parts
   line_ask = cuts_ask memory strip q carries.starts carries.moved strip.grains (cuts_of memory strip strip.spans) carries.some (cuts_follow memory strip carries.fit)
 
   line_covered : IsCovered (cut_line memory q strip bytes)
@@ -77,7 +77,7 @@ module _ (memory : List Chunk) (q : Queue) (strips : ℕ → Strip) where
       let later = strips_from (from + 1) (length lines) in
       asks-append q (strip_instrs memory (strips from)) (strips_instrs memory later)
       ∙ ap (λ (first : List Ask). first ++ asks q (strips_instrs memory later)) (line_ask memory q (strips from) bytes carries.0)
-      ∙ ap (λ (rest : List Ask). line_asks (cut_line memory q (strips from) bytes).stretches ++ rest) (all_ask (from + 1) lines carries.1)
+      ∙ ap (λ (rest : List Ask). line_asks (cut_line memory q (strips from) bytes).line_parts ++ rest) (all_ask (from + 1) lines carries.1)
 
   pub all_rows : (from : ℕ) (lines : List (List ℕ)) → lines_rows (cut_lines from lines) ≡ lines_of lines
   all_rows from [] = refl
@@ -117,7 +117,7 @@ module _ (memory : List Chunk) (q : Queue) (strips : ℕ → Strip) where
 
   -- each byte of a line that goes somewhere is stored there
   pub stored_there : (lines : List (List ℕ)) (k x address : ℕ) → CarriesAll 0 lines → k < length lines → x < length (slice_index_or lines k []) →
-      address_in (cut_line memory q (strips k) (slice_index_or lines k [])).stretches x ≡ Some address → is_stored address (lines_stores (cut_lines 0 lines)) ≡ true
+      address_in (cut_line memory q (strips k) (slice_index_or lines k [])).line_parts x ≡ Some address → is_stored address (lines_stores (cut_lines 0 lines)) ≡ true
   stored_there lines k x address carries within inside goes =
       let line = cut_line memory q (strips k) (slice_index_or lines k []) in
       lines_stored (cut_lines 0 lines) line k x address (all_covered 0 lines carries) (omega (arith, lines_long 0 lines)) (line_here lines k line within) inside goes
