@@ -1,4 +1,4 @@
-//! bt878: compiles, lists, verifies and runs the RISC capture programs of the Bt878 on recorded streams.
+//! bt878: compiles, lists, assembles, verifies and runs the RISC capture programs of the Bt878 on recorded streams.
 #![tactic(auto)]
 
 use bt878_top::bt878;

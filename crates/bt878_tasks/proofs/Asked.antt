@@ -4,7 +4,7 @@ use Rattle.bt878_words.specs.declared.Command.{Command}
 use Rattle.bt878_words.specs.declared.Command.TheVariants as command
 use Rattle.bt878_words.specs.Words.{command_of, inputs_of, outputs_of}
 use Rattle.bt878_words.proofs.Asked.{Asks, asked}
-use Rattle.bt878_tasks.specs.Tasks.{Input, Task, Lists, Verifies, Runs, Compiles, Captures, Generates, creates, meaning, task_of, task_with}
+use Rattle.bt878_tasks.specs.Tasks.{Input, Task, Lists, Verifies, Runs, Compiles, Captures, Generates, Assembles, creates, meaning, task_of, task_with}
 use Rattle.bt878_tasks.proofs.Outputs.{AreApart, not_among}
 
 -- the inputs, in the order in which they are read
@@ -55,8 +55,8 @@ asked_by command.Run words e h =
     }
 asked_by command.Compile words e h =
     record {
-      task = Compiles h.desc h.program;
-      is = asks_for words (h.word ∷ h.desc ∷ h.program ∷ []) command.Compile (Compiles h.desc h.program) e h.are refl;
+      task = Compiles h.source h.program;
+      is = asks_for words (h.word ∷ h.source ∷ h.program ∷ []) command.Compile (Compiles h.source h.program) e h.are refl;
       inputs = h.opens;
       outputs = h.creates;
       distinct = one_apart h.program;
@@ -81,10 +81,17 @@ asked_by (command.Make seed frames) words e h =
       outputs = h.creates;
       distinct = one_apart h.stream;
     }
+asked_by command.Assemble words e h =
+    record {
+      task = Assembles h.source h.program;
+      is = asks_for words (h.word ∷ h.source ∷ h.program ∷ []) command.Assemble (Assembles h.source h.program) e h.are refl;
+      inputs = h.opens;
+      outputs = h.creates;
+      distinct = one_apart h.program;
+    }
 asked_by command.Chain words e h = absurd h
 asked_by command.Damage words e h = absurd h
 asked_by command.Ring words e h = absurd h
-asked_by command.Assemble words e h = absurd h
 
 pub is_asked : (words : List (List ℕ)) (c : Command) → command_of words ≡ Ok c → IsAsked words
 is_asked words c e = asked_by c words e (asked words c e)

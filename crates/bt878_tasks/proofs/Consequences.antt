@@ -10,7 +10,7 @@ use Rattle.machine_model.specs.Safety.{IsStep}
 use Rattle.machine_model.specs.States.{State, first_state}
 use Rattle.machine_model.specs.Steps as machine
 use Rattle.capture_file.specs.declared.program.ProgramFile.{ProgramFile}
-use Rattle.capture_file.specs.Programs.{program_of}
+use Rattle.capture_file.specs.Programs.{program_of, spelled}
 use Rattle.capture_file.specs.Streams.{steps_of, steps_run}
 use Rattle.picture_model.specs.Programs.{compiled}
 use Rattle.field_stream.specs.Made.{made, made_entries, made_fields}
@@ -25,8 +25,9 @@ use Rattle.program_play.specs.Programs.{GivesSound, HoldsProgram, HoldsSound, Is
 use Rattle.program_play.proofs.Fitting.{steps_fit}
 use Rattle.command_steps.proofs.Inputs.{OfInput-map}
 use Rattle.desc_input.specs.Descriptions.{GivesCompiled, HoldsValid}
-use Rattle.bt878_tasks.specs.Tasks.{Task, Lists, Verifies, Runs, Compiles, Captures, Generates, Answers, DescMakes, Ends, IsDone, IsPartDone, Makes, RunMakes, Stops, compiled_text, creates, image_file, meaning, program_file, task_of, task_with}
-use Rattle.bt878_tasks.specs.Clauses.{AreTold, CreatesNone, IsBadInput, IsCompiled, IsCut, IsGenerated, IsGood, IsOutput, IsRefusal, IsUnreadOf, IsUsage, OfDesc, OfRan, OfSteps, OnlyOutputs, OnlySays, SameNames, SameOutput, SaysAccepted, SaysAll, SaysListing, ShowsLast, ShowsProgram, StandsAt, StaysInside, TellsInput, UnlessCut}
+use Rattle.text_input.specs.Texts.{GivesAssembled, HoldsListing}
+use Rattle.bt878_tasks.specs.Tasks.{Task, Lists, Verifies, Runs, Compiles, Captures, Generates, Assembles, Answers, DescMakes, Ends, IsDone, IsPartDone, ListingMakes, Makes, RunMakes, Stops, compiled_text, creates, image_file, meaning, program_file, program_text, task_of, task_with}
+use Rattle.bt878_tasks.specs.Clauses.{AreTold, CreatesNone, IsAssembled, IsBadInput, IsCompiled, IsCut, IsGenerated, IsGood, IsOutput, IsRefusal, IsUnreadOf, IsUsage, OfDesc, OfRan, OfSteps, OnlyOutputs, OnlySays, SameNames, SameOutput, SaysAccepted, SaysAll, SaysListing, ShowsLast, ShowsProgram, StandsAt, StaysInside, TellsInput, UnlessCut}
 use Rattle.bt878_tasks.proofs.Asked.{IsAsked, is_asked}
 use Rattle.bt878_tasks.proofs.Inputs.{OfRun-map, run_file, run_stream}
 use Rattle.bt878_tasks.proofs.Judges.{bad_in, bad_leads, good_leads, good_not_bad, unread_in}
@@ -89,6 +90,7 @@ module _ (Q : Ran → Type 0) (f : (files : List (List ℕ × List ℕ)) (produc
   ran_by (Ok (Verifies program)) answer old new h e = tt
   ran_by (Ok (Compiles desc program)) answer old new h e = tt
   ran_by (Ok (Generates desc seed frames stream)) answer old new h e = tt
+  ran_by (Ok (Assembles text program)) answer old new h e = tt
   ran_by (Err fault) answer old new h e = let usage = h.0 in absurd (cc)
 
 module _ (P : Ran → Type 0) (always : (files : List (List ℕ × List ℕ)) (product : Product) (r : Ran) → RunMakes files product r → P r) where
@@ -177,6 +179,20 @@ module _ (words : List (List ℕ)) (answer : Answer) (old new : Seen) (h : Answe
       its_desc (Generates desc seed frames stream) old new d (λ c. (stream, made c seed frames)) (λ c. made_text (made_fields c frames) (made_entries c frames)) desc
       (distinct (Generates desc seed frames stream) is) d.made.0
 
+  pub done_assemble : (text program : List ℕ) → task_of words ≡ Ok (Assembles text program) → IsAssembled text program old.told new.told
+  done_assemble text program is =
+      let d = task_done (Assembles text program) is in
+      OfInput-map text old.told.inputs (ListingMakes program d.product)
+      (λ bytes. (file : ProgramFile) × GivesAssembled bytes file
+      × IsOutput program (spelled file.program file.fill) new.told.outputs × SaysAll (program_text file.program) old.told new.told)
+      (λ bytes m. (
+        m.file,
+        m.assembles,
+        (subst (λ fs. AreOutputs fs new.told.outputs) m.writes (its_files (Assembles text program) old new d (distinct (Assembles text program) is))).0,
+        subst (λ t. SaysAll t old.told new.told) m.says (its_text (Assembles text program) old new d),
+      ))
+      d.made.0
+
   pub done_verify : (program : List ℕ) → task_of words ≡ Ok (Verifies program) → SaysAccepted program old.told new.told
   done_verify program is =
       let d = task_done (Verifies program) is in (
@@ -251,6 +267,7 @@ makes_good (Captures desc stream program image) inputs product told h =
     )
 makes_good (Generates desc seed frames stream) inputs product told h =
     valid_of (λ d. (stream, made d seed frames)) (λ d. made_text (made_fields d frames) (made_entries d frames)) product desc inputs h.0
+makes_good (Assembles text program) inputs product told h = OfInput-map text inputs (ListingMakes program product) HoldsListing (λ bytes m. (m.file, m.assembles)) h.0
 
 pub bad_input_must : (r : Result Task UsageFault) (answer : Answer) (old new : Seen) → Answers r answer old new → AreTold old.told.inputs → (wanted : Answer) →
     IsBadInput r wanted old.told.inputs → UnlessCut wanted answer old new

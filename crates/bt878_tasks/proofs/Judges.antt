@@ -1,5 +1,5 @@
 -- Why an input isn't taken: a told input is bad in one way only, and a good one isn't bad.
-use Rattle.std.proofs.Common.{◌≡◌, ℕ, ◌<◌, ◌⊎◌, inl, inr, false, List, [], ◌∷◌, map, Option, Result, Ok, Err, refl, sym, subst, ◌∙◌, arith}
+use Rattle.std.proofs.Common.{◌≡◌, ℕ, ◌<◌, ◌⊎◌, inl, inr, false, List, [], ◌∷◌, map, Option, Result, Ok, Err, refl, sym, ap, subst, ◌∙◌, arith}
 use Rattle.std.specs.Prelude.{⊤}
 use Rattle.capture_desk.specs.Desks.{HasRisen, Inputs, Seen}
 use Rattle.machine_model.specs.declared.Cause.{Cause}
@@ -12,13 +12,18 @@ use Rattle.capture_file.specs.declared.Step.{Step}
 use Rattle.capture_file.specs.Programs.{program_of}
 use Rattle.capture_file.specs.Streams.{steps_of}
 use Rattle.command_steps.specs.declared.answer.Answer.{Answer}
-use Rattle.command_steps.specs.declared.answer.Answer.TheVariants.{Done, Usage, ReadFault, WriteFault, Malformed, BadDesc, BadGeometry, Rejected, NoMemory}
+use Rattle.command_steps.specs.declared.answer.Answer.TheVariants.{Done, Usage, ReadFault, WriteFault, Malformed, BadDesc, BadGeometry, BadText, Rejected, NoMemory}
 use Rattle.command_steps.specs.Desks.{OfInput, StopsAt}
 use Rattle.program_play.specs.Plays.{longest_stream}
 use Rattle.program_play.specs.Programs.{HoldsProgram, HoldsSound, HoldsSteps, IsBadFile, IsBadProgram, IsBadStream, Rejects}
 use Rattle.command_steps.proofs.Inputs.{OfInput-map}
 use Rattle.desc_input.specs.Descriptions.{HoldsValid, IsBadDesc, description_of}
-use Rattle.bt878_tasks.specs.Tasks.{AnyProgram, AreGood, Description, Input, IsBadAs, IsFirstBadOf, IsGoodAs, Kind, SoundProgram, StopsIn, StreamFile}
+use Rattle.risc_asm.specs.declared.AsmFault.{AsmFault}
+use Rattle.risc_asm.specs.declared.AsmError.TheVariants.{Bad}
+use Rattle.risc_asm.specs.Answers.{IsFault}
+use Rattle.risc_asm.proofs.OneAnswer.{one_answer}
+use Rattle.text_input.specs.Texts.{HoldsListing, IsBadText}
+use Rattle.bt878_tasks.specs.Tasks.{AnyProgram, AreGood, Description, Input, IsBadAs, IsFirstBadOf, IsGoodAs, Kind, ListingText, SoundProgram, StopsIn, StreamFile}
 use Rattle.bt878_tasks.specs.Clauses.{AreTold, IsCut, IsUnreadOf, TellsInput, UnlessCut}
 use Rattle.bt878_tasks.proofs.Inputs.{both_of, cut_unread}
 use Rattle.bt878_tasks.proofs.Outputs.{first_among, later_among}
@@ -56,7 +61,7 @@ module _ {IsBad : List ℕ → Answer → Option Inputs → Type 0} {IsGood : Li
   bad_stops name wanted NoMemory old new told bad h = inr (inl refl)
   bad_stops name wanted answer old new told bad h = inl (bad_once name answer wanted old.told.inputs told h bad)
 
--- ---- the four judges
+-- ---- the five judges
 
 -- a file that its reader gives a fault of
 module _ {X : Type 0} (read : List ℕ → Result X FileFault) (file : FileInput) where
@@ -192,6 +197,30 @@ desc_once a b bytes one two = cc
 pub desc_judge : IsJudge IsBadDesc HoldsValid WhyDesc
 desc_judge = record { tells = desc_tells; excludes = desc_excludes; once = desc_once }
 
+-- a text
+pub record IsAtFault (answer : Answer) (bytes : List ℕ) : Type 0 where
+  fault : AsmFault
+  is : answer ≡ BadText fault
+  bad : IsFault bytes fault
+
+text_tells : (name : List ℕ) (answer : Answer) (inputs : Option Inputs) → IsBadText name answer inputs → OfInput name inputs (IsAtFault answer)
+text_tells name (BadText fault) inputs h =
+    OfInput-map name inputs (λ bytes. IsFault bytes fault) (IsAtFault (BadText fault)) (λ bytes bad. record { fault = fault; is = refl; bad = bad }) h
+text_tells name answer inputs h = absurd h
+
+text_excludes : (answer : Answer) (bytes : List ℕ) → HoldsListing bytes → IsAtFault answer bytes → ⊥
+text_excludes answer bytes (file, good) why =
+    let same = one_answer bytes (Ok file) (Err (Bad why.fault)) good why.bad tt tt in absurd (cc)
+
+text_once : (a b : Answer) (bytes : List ℕ) → IsAtFault a bytes → IsAtFault b bytes → a ≡ b
+text_once a b bytes one two =
+    let same = one_answer bytes (Err (Bad one.fault)) (Err (Bad two.fault)) one.bad two.bad tt tt in
+    let fault : one.fault ≡ two.fault = cc in
+    one.is ∙ ap BadText fault ∙ sym two.is
+
+pub text_judge : IsJudge IsBadText HoldsListing IsAtFault
+text_judge = record { tells = text_tells; excludes = text_excludes; once = text_once }
+
 -- ---- the judge of each kind
 
 abbrev pub why : Kind → Answer → List ℕ → Type 0
@@ -199,12 +228,14 @@ why AnyProgram = WhyFile
 why SoundProgram = WhyProgram
 why Description = WhyDesc
 why StreamFile = WhyStream
+why ListingText = IsAtFault
 
 pub judge_of : (kind : Kind) → IsJudge (IsBadAs kind) (IsGoodAs kind) (why kind)
 judge_of AnyProgram = file_judge
 judge_of SoundProgram = program_judge
 judge_of Description = desc_judge
 judge_of StreamFile = stream_judge
+judge_of ListingText = text_judge
 
 -- no judge tells of an answer that is none of a refused input
 abbrev pub IsOutcome : Answer → Type 0
@@ -230,6 +261,10 @@ never_at StreamFile name Done old new is h = h
 never_at StreamFile name WriteFault old new is h = h
 never_at StreamFile name (Usage fault) old new is h = h
 never_at StreamFile name answer old new is h = is
+never_at ListingText name Done old new is h = h
+never_at ListingText name WriteFault old new is h = h
+never_at ListingText name (Usage fault) old new is h = h
+never_at ListingText name answer old new is h = is
 
 -- ---- a list of inputs
 

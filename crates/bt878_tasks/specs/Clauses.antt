@@ -22,7 +22,8 @@ use Rattle.command_steps.specs.Desks.{Product, OfInput, ReadsRose, WritesRose}
 use Rattle.command_steps.specs.Texts.{accepted_text, made_text, report_text}
 use Rattle.program_play.specs.Programs.{HoldsSound, Ran, first_of, last_of, OfRun, GivesSound}
 use Rattle.desc_input.specs.Descriptions.{Describes, GivesCompiled}
-use Rattle.bt878_tasks.specs.Tasks.{Task, Lists, Verifies, Runs, Compiles, Captures, Generates, AreGood, IsFirstBadOf, Makes, compiled_text, creates, meaning, names_of}
+use Rattle.text_input.specs.Texts.{GivesAssembled}
+use Rattle.bt878_tasks.specs.Tasks.{Task, Lists, Verifies, Runs, Compiles, Captures, Generates, Assembles, AreGood, IsFirstBadOf, Makes, compiled_text, creates, meaning, names_of, program_text}
 
 -- ---- the words
 
@@ -47,6 +48,7 @@ OfRan (Ok (Lists program)) inputs P = ⊤
 OfRan (Ok (Verifies program)) inputs P = ⊤
 OfRan (Ok (Compiles desc program)) inputs P = ⊤
 OfRan (Ok (Generates desc seed frames stream)) inputs P = ⊤
+OfRan (Ok (Assembles text program)) inputs P = ⊤
 OfRan (Err fault) inputs P = ⊥
 
 -- P of the description that `compile` or `make` read
@@ -118,6 +120,13 @@ IsGenerated desc seed frames stream old new =
     OfDesc desc old.inputs (λ d. IsOutput stream (made d seed frames) new.outputs
     × SaysAll (made_text (made_fields d frames) (made_entries d frames)) old new)
 
+-- the one spelling of the program and the fill whose listing the text is, is written, and the numbers of the program's
+-- words and chunks are said
+abbrev pub IsAssembled : List ℕ → List ℕ → Told → Told → Type 0
+IsAssembled text program old new =
+    OfInput text old.inputs (λ bytes. (file : ProgramFile) × GivesAssembled bytes file
+    × IsOutput program (spelled file.program file.fill) new.outputs × SaysAll (program_text file.program) old new)
+
 -- ---- why it is refused
 
 -- the desk met a fault of reading, or tells that one of these inputs isn't there
@@ -126,7 +135,8 @@ IsUnreadOf names old new =
     ReadsRose old new
     ⊎ ((name : List ℕ) × (is_among name names ≡ true) × (is_missing name old.told.inputs ≡ true))
 
--- the cause of an answer that tells what is bad about an input: `Malformed`, `Rejected`, `BadDesc` or `BadGeometry`
+-- the cause of an answer that tells what is bad about an input: `Malformed`, `Rejected`, `BadDesc`, `BadGeometry` or
+-- `BadText`
 abbrev pub IsBadInput : Result Task UsageFault → Answer → Option Inputs → Type 0
 IsBadInput (Ok task) answer inputs = IsFirstBadOf (meaning task).inputs answer inputs
 IsBadInput (Err fault) answer inputs = ⊥

@@ -11,6 +11,7 @@ use Rattle.capture_desc.specs.declared.desc.Desc.{Desc}
 use Rattle.machine_model.specs.Paths.{RiscProgram, IsSound}
 use Rattle.machine_model.specs.Safety.{IsInside}
 use Rattle.machine_model.specs.Steps.{state_at}
+use Rattle.capture_file.specs.declared.program.ProgramFile.{ProgramFile}
 use Rattle.capture_file.specs.Images.{image_of}
 use Rattle.capture_file.specs.Programs.{spelled}
 use Rattle.capture_file.specs.Streams.{steps_run}
@@ -23,6 +24,7 @@ use Rattle.command_steps.specs.Desks.{Product, OfInput, SameCounts, StopsAt, Say
 use Rattle.command_steps.specs.Texts.{accepted_text, answer_text, built_text, made_text, report_text}
 use Rattle.program_play.specs.Programs.{IsListed, IsBadFile, IsBadProgram, IsBadStream, IsRun, HoldsProgram, HoldsSound, HoldsSteps, Ran, first_of, last_of, GivesSound}
 use Rattle.desc_input.specs.Descriptions.{Describes, IsBadDesc, HoldsValid, GivesCompiled}
+use Rattle.text_input.specs.Texts.{GivesAssembled, HoldsListing, IsBadText}
 
 -- ---- the words
 
@@ -34,6 +36,7 @@ pub data Task : Type 0 where
   Compiles : List ℕ → List ℕ → Task
   Captures : List ℕ → List ℕ → List ℕ → List ℕ → Task
   Generates : List ℕ → ℕ → ℕ → List ℕ → Task
+  Assembles : List ℕ → List ℕ → Task
 
 -- words without a fault are those of one of these commands
 abbrev pub task_with : Result Command UsageFault → List (List ℕ) → Result Task UsageFault
@@ -44,6 +47,7 @@ task_with (Ok command.Run) (_ ∷ program ∷ stream ∷ image ∷ _) = Ok (Runs
 task_with (Ok command.Compile) (_ ∷ desc ∷ program ∷ _) = Ok (Compiles desc program)
 task_with (Ok command.Capture) (_ ∷ desc ∷ stream ∷ program ∷ image ∷ _) = Ok (Captures desc stream program image)
 task_with (Ok (command.Make seed frames)) (_ ∷ desc ∷ _ ∷ _ ∷ stream ∷ _) = Ok (Generates desc seed frames stream)
+task_with (Ok command.Assemble) (_ ∷ text ∷ program ∷ _) = Ok (Assembles text program)
 task_with (Ok _) words = Err UnknownCommand
 
 abbrev pub task_of : List (List ℕ) → Result Task UsageFault
@@ -83,9 +87,19 @@ pub record DescMakes (file : Desc → List ℕ × List ℕ) (text : Desc → Lis
   pub writes : product.files ≡ file description ∷ []
   pub says : product.text ≡ text description
 
--- what `compile` says of the program of a description: its words and its chunks
+-- what `compile` and `assemble` say of a program: its words and its chunks
+abbrev pub program_text : RiscProgram → List ℕ
+program_text program = built_text (length program.words) (length program.grants)
+
 abbrev pub compiled_text : Desc → List ℕ
-compiled_text d = built_text (length (compiled d).words) (length (compiled d).grants)
+compiled_text d = program_text (compiled d)
+
+-- what a text makes: the file of the program and the fill whose listing it is
+pub record ListingMakes (program : List ℕ) (product : Product) (text : List ℕ) : Type 0 where
+  pub file : ProgramFile
+  pub assembles : GivesAssembled text file
+  pub writes : product.files ≡ program_file program file.program file.fill ∷ []
+  pub says : product.text ≡ program_text file.program
 
 -- ---- inputs
 
@@ -95,6 +109,7 @@ pub data Kind : Type 0 where
   SoundProgram : Kind
   Description : Kind
   StreamFile : Kind
+  ListingText : Kind
 
 pub record Input : Type 0 where
   pub name : List ℕ
@@ -112,12 +127,16 @@ a_description name = record { name = name; kind = Description }
 abbrev pub a_stream : List ℕ → Input
 a_stream name = record { name = name; kind = StreamFile }
 
+abbrev pub a_listing : List ℕ → Input
+a_listing name = record { name = name; kind = ListingText }
+
 -- the judge of an input: its bytes are good
 abbrev pub IsGoodAs : Kind → List ℕ → Type 0
 IsGoodAs AnyProgram = HoldsProgram
 IsGoodAs SoundProgram = HoldsSound
 IsGoodAs Description = HoldsValid
 IsGoodAs StreamFile = HoldsSteps
+IsGoodAs ListingText = HoldsListing
 
 -- or they are bad in the way that an answer tells
 abbrev pub IsBadAs : Kind → List ℕ → Answer → Option Inputs → Type 0
@@ -125,6 +144,7 @@ IsBadAs AnyProgram = IsBadFile
 IsBadAs SoundProgram = IsBadProgram
 IsBadAs Description = IsBadDesc
 IsBadAs StreamFile = IsBadStream
+IsBadAs ListingText = IsBadText
 
 -- P of the contents of all inputs, in their order, where they are told
 abbrev pub OfInputs : List Input → Option Inputs → (List (List ℕ) → Type 0) → Type 0
@@ -182,6 +202,10 @@ abbrev pub MadeOf : (Desc → List ℕ × List ℕ) → (Desc → List ℕ) → 
 MadeOf file text (desc ∷ []) product = DescMakes file text product desc
 MadeOf file text _ product = ⊥
 
+abbrev pub AssembledOf : List ℕ → List (List ℕ) → Product → Type 0
+AssembledOf program (text ∷ []) product = ListingMakes program product text
+AssembledOf program _ product = ⊥
+
 abbrev pub meaning : Task → Meaning
 meaning (Lists program) =
     record {
@@ -223,6 +247,13 @@ meaning (Generates desc seed frames stream) =
       inputs = a_description desc ∷ [];
       outputs = stream ∷ [];
       makes = MadeOf (λ d. (stream, made d seed frames)) (λ d. made_text (made_fields d frames) (made_entries d frames));
+      text = None;
+    }
+meaning (Assembles text program) =
+    record {
+      inputs = a_listing text ∷ [];
+      outputs = program ∷ [];
+      makes = AssembledOf program;
       text = None;
     }
 

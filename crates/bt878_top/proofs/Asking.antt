@@ -3,9 +3,9 @@ use Rattle.std.proofs.Common.{◌≡◌, ℕ, true, List, [], ◌∷◌, map, Op
 use Rattle.std.proofs.Math.ListN.{get_or-map}
 use Rattle.bt878_words.specs.declared.Command.TheVariants as command
 use Rattle.bt878_words.specs.Words.{command_of, inputs_of, outputs_of}
-use Rattle.bt878_words.proofs.Asked.{AsksProgram, AsksRun, AsksCompile, AsksCapture, AsksMake, asked}
+use Rattle.bt878_words.proofs.Asked.{AsksProgram, AsksRun, AsksBuilt, AsksCapture, AsksMake, asked}
 use Rattle.capture_desk.specs.Desks.{IsAllowed, is_among}
-use Rattle.bt878_tasks.specs.Tasks.{AreNames, Lists, Verifies, Runs, Compiles, Captures, Generates, task_of, task_with}
+use Rattle.bt878_tasks.specs.Tasks.{AreNames, Lists, Verifies, Runs, Compiles, Captures, Generates, Assembles, task_of, task_with}
 use Rattle.bt878_tasks.proofs.Outputs.{first_among, later_among}
 
 -- a name may be used where it is one of those that are told
@@ -60,15 +60,23 @@ module _ {X : Type 0} (f : X → List ℕ) (xs : List X) (d : X) where
       let h : AsksRun words = asked words command.Run e in
       creates 3 (h.image ∷ []) told h.creates (first (word_at 3) h.image [] (at 3 _ h.are)) are
 
+  source_allowed : (told : Option (List (List ℕ))) (h : AsksBuilt words) → AreNames (inputs_of words) told → IsAllowed (word_at 1) told
+  source_allowed told h are = opens 1 (h.source ∷ []) told h.opens (first (word_at 1) h.source [] (at 1 _ h.are)) are
+
+  built_allowed : (told : Option (List (List ℕ))) (h : AsksBuilt words) → AreNames (outputs_of words) told → IsAllowed (word_at 2) told
+  built_allowed told h are = creates 2 (h.program ∷ []) told h.creates (first (word_at 2) h.program [] (at 2 _ h.are)) are
+
   pub compile_desc_allowed : (told : Option (List (List ℕ))) → command_of words ≡ Ok command.Compile → AreNames (inputs_of words) told → IsAllowed (word_at 1) told
-  compile_desc_allowed told e are =
-      let h : AsksCompile words = asked words command.Compile e in
-      opens 1 (h.desc ∷ []) told h.opens (first (word_at 1) h.desc [] (at 1 _ h.are)) are
+  compile_desc_allowed told e are = source_allowed told (asked words command.Compile e) are
 
   pub compile_program_allowed : (told : Option (List (List ℕ))) → command_of words ≡ Ok command.Compile → AreNames (outputs_of words) told → IsAllowed (word_at 2) told
-  compile_program_allowed told e are =
-      let h : AsksCompile words = asked words command.Compile e in
-      creates 2 (h.program ∷ []) told h.creates (first (word_at 2) h.program [] (at 2 _ h.are)) are
+  compile_program_allowed told e are = built_allowed told (asked words command.Compile e) are
+
+  pub assemble_text_allowed : (told : Option (List (List ℕ))) → command_of words ≡ Ok command.Assemble → AreNames (inputs_of words) told → IsAllowed (word_at 1) told
+  assemble_text_allowed told e are = source_allowed told (asked words command.Assemble e) are
+
+  pub assemble_program_allowed : (told : Option (List (List ℕ))) → command_of words ≡ Ok command.Assemble → AreNames (outputs_of words) told → IsAllowed (word_at 2) told
+  assemble_program_allowed told e are = built_allowed told (asked words command.Assemble e) are
 
   pub capture_desc_allowed : (told : Option (List (List ℕ))) → command_of words ≡ Ok command.Capture → AreNames (inputs_of words) told → IsAllowed (word_at 1) told
   capture_desc_allowed told e are =
@@ -121,10 +129,17 @@ module _ {X : Type 0} (f : X → List ℕ) (xs : List X) (d : X) where
 
   pub compile_task : command_of words ≡ Ok command.Compile → task_of words ≡ Ok (Compiles (word_at 1) (word_at 2))
   compile_task e =
-      let h : AsksCompile words = asked words command.Compile e in
+      let h : AsksBuilt words = asked words command.Compile e in
       ap (λ c. task_with c words) e ∙ ap (task_with (Ok command.Compile)) h.are
       ∙ ap (λ desc. Ok (Compiles desc h.program)) (sym (at 1 _ h.are))
       ∙ ap (λ program. Ok (Compiles (word_at 1) program)) (sym (at 2 _ h.are))
+
+  pub assemble_task : command_of words ≡ Ok command.Assemble → task_of words ≡ Ok (Assembles (word_at 1) (word_at 2))
+  assemble_task e =
+      let h : AsksBuilt words = asked words command.Assemble e in
+      ap (λ c. task_with c words) e ∙ ap (task_with (Ok command.Assemble)) h.are
+      ∙ ap (λ text. Ok (Assembles text h.program)) (sym (at 1 _ h.are))
+      ∙ ap (λ program. Ok (Assembles (word_at 1) program)) (sym (at 2 _ h.are))
 
   pub capture_task : command_of words ≡ Ok command.Capture → task_of words ≡ Ok (Captures (word_at 1) (word_at 2) (word_at 3) (word_at 4))
   capture_task e =

@@ -13,15 +13,16 @@ use Rattle.picture_model.specs.Programs.{compiled}
 use Rattle.field_stream.specs.Made.{made, made_entries, made_fields}
 use Rattle.program_build.proofs.Checking.{checked_sound}
 use Rattle.command_steps.specs.declared.answer.Answer.{Answer}
-use Rattle.command_steps.specs.declared.answer.Answer.TheVariants.{Done, Usage, ReadFault, WriteFault, Malformed, BadDesc, BadGeometry, Rejected, NoMemory}
+use Rattle.command_steps.specs.declared.answer.Answer.TheVariants.{Done, Usage, ReadFault, WriteFault, Malformed, BadDesc, BadGeometry, BadText, Rejected, NoMemory}
 use Rattle.command_steps.specs.Desks.{LastWriteFailed, Product, OfInput, NeedsMemory, Refused, Says, SameCounts, IsPart, apart, delivered}
-use Rattle.command_steps.specs.Texts.{answer_text, built_text, made_text, report_text}
+use Rattle.command_steps.specs.Texts.{answer_text, made_text, report_text}
 use Rattle.command_steps.proofs.Parts.{apart_part, apart_delivered}
 use Rattle.program_play.specs.Programs.{GivesSound, IsRun, OfRun, Ran, first_of, last_of}
 use Rattle.program_play.proofs.Fitting.{steps_fit}
 use Rattle.command_steps.proofs.Inputs.{OfInput-map}
 use Rattle.desc_input.specs.Descriptions.{Describes, GivesCompiled}
-use Rattle.bt878_tasks.specs.Tasks.{Task, Runs, Compiles, Captures, Generates, DescMakes, Ends, IsDone, IsPartDone, Makes, RunMakes, Stops, compiled_text, creates, image_file, meaning, names_of, program_file}
+use Rattle.text_input.specs.Texts.{GivesAssembled}
+use Rattle.bt878_tasks.specs.Tasks.{Task, Runs, Compiles, Captures, Generates, Assembles, DescMakes, Ends, IsDone, IsPartDone, ListingMakes, Makes, RunMakes, Stops, compiled_text, creates, image_file, meaning, names_of, program_file, program_text}
 use Rattle.bt878_tasks.proofs.Judges.{never_in, no_memory, stops_later}
 use Rattle.bt878_tasks.proofs.Inputs.{OfRun-map}
 
@@ -42,6 +43,7 @@ ends_by task ReadFault old new why said = record { why = why; said = said }
 ends_by task (Malformed file fault) old new why said = record { why = why; said = said }
 ends_by task (BadDesc fault) old new why said = record { why = why; said = said }
 ends_by task (BadGeometry fault) old new why said = record { why = why; said = said }
+ends_by task (BadText fault) old new why said = record { why = why; said = said }
 ends_by task (Rejected at nth cause) old new why said = record { why = why; said = said }
 ends_by task NoMemory old new why said = record { why = why; said = said }
 
@@ -135,18 +137,28 @@ module _ (file stream program image : List ℕ) (inputs : Option Inputs) (m : St
 -- ---- what a description makes
 
 pub compile_product : (desc program : List ℕ) (inputs : Option Inputs) (p : RiscProgram) (fill : ℕ) → OfInput desc inputs (λ bytes. GivesCompiled bytes p fill) →
-    Makes (Compiles desc program) inputs (record { files = (program, spelled p fill) ∷ []; text = built_text (length p.words) (length p.grants) })
+    Makes (Compiles desc program) inputs (record { files = (program, spelled p fill) ∷ []; text = program_text p })
 compile_product desc program inputs p fill h = (
   OfInput-map desc inputs (λ bytes. GivesCompiled bytes p fill)
-      (DescMakes (λ d. program_file program (compiled d) d.fill) compiled_text (record { files = (program, spelled p fill) ∷ []; text = built_text (length p.words) (length p.grants) }))
+      (DescMakes (λ d. program_file program (compiled d) d.fill) compiled_text (record { files = (program, spelled p fill) ∷ []; text = program_text p }))
       (λ bytes g.
       record {
         description = g.description;
         describes = g.describes;
         writes =
             ap (λ x. (program, spelled x fill) ∷ []) g.compiles ∙ ap (λ x. (program, spelled (compiled g.description) x) ∷ []) g.fills;
-        says = ap (λ (x : RiscProgram). built_text (length x.words) (length x.grants)) g.compiles;
+        says = ap program_text g.compiles;
       }) h,
+  tt,
+)
+
+-- ---- what a text makes
+
+pub assemble_product : (text program : List ℕ) (inputs : Option Inputs) (p : RiscProgram) (fill : ℕ) → OfInput text inputs (λ bytes. GivesAssembled bytes (record { program = p; fill = fill })) →
+    Makes (Assembles text program) inputs (record { files = (program, spelled p fill) ∷ []; text = program_text p })
+assemble_product text program inputs p fill h = (
+  OfInput-map text inputs (λ bytes. GivesAssembled bytes (record { program = p; fill = fill })) (ListingMakes program (record { files = (program, spelled p fill) ∷ []; text = program_text p }))
+      (λ bytes is. record { file = record { program = p; fill = fill }; assembles = is; writes = refl; says = refl }) h,
   tt,
 )
 

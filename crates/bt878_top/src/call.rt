@@ -2,9 +2,9 @@
 
 ghost use Rattle.std.specs.Prelude.{◌≡◌, ℕ, ◌⊎◌, List, Ok};
 ghost use Rattle.bt878_words.specs.Words.{command_of, inputs_of, outputs_of};
-ghost use Rattle.bt878_tasks.specs.Clauses.{AreTold, IsBadInput, IsCompiled, IsGenerated, IsGood, IsRefusal, IsUnreadOf, IsUsage, OfRan, OfSteps, OnlyOutputs, OnlySays, SameNames, SaysAccepted, SaysListing, ShowsLast, ShowsProgram, StandsAt, StaysInside, TellsInput, UnlessCut};
+ghost use Rattle.bt878_tasks.specs.Clauses.{AreTold, IsAssembled, IsBadInput, IsCompiled, IsGenerated, IsGood, IsRefusal, IsUnreadOf, IsUsage, OfRan, OfSteps, OnlyOutputs, OnlySays, SameNames, SaysAccepted, SaysListing, ShowsLast, ShowsProgram, StandsAt, StaysInside, TellsInput, UnlessCut};
 ghost use Rattle.bt878_tasks.specs.Pictures.{ShowsNoFault, ShowsPictures, SignalsInTime};
-ghost use Rattle.bt878_tasks.specs.Tasks.{Answers, AreNames, Captures, Compiles, Generates, Lists, Runs, Verifies, task_of, texts};
+ghost use Rattle.bt878_tasks.specs.Tasks.{Answers, AreNames, Assembles, Captures, Compiles, Generates, Lists, Runs, Verifies, task_of, texts};
 ghost use Rattle.command_steps.specs.declared.answer.Answer.{Answer as Answered};
 ghost use Rattle.command_steps.specs.Desks.{EndsAtFault, ReadsRose, SameCounts, WritesRose};
 ghost use Rattle.command_steps.specs.Texts.{answer_text};
@@ -13,7 +13,8 @@ ghost use Rattle.machine_model.specs.Paths.{IsSound};
 ghost use Rattle.program_play.specs.Programs.{GivesSound, OfRun};
 
 use crate::commands::{list, run, verify};
-use crate::descriptions::{capture, compile, make};
+use crate::descriptions::{capture, make};
+use crate::programs::{assemble, compile};
 use bt878_words::{Command, read_words};
 use capture_desk::Desk;
 use command_steps::{Answer, refuse};
@@ -36,10 +37,10 @@ fn answer_words<D: Desk>(alloc: Global, words: &[&str], desk: &mut D) -> Answer
         Command::Compile => compile(alloc, words[1], words[2], desk),
         Command::Capture => capture(alloc, words[1], words[2], words[3], words[4], desk),
         Command::Make { seed, frames } => make(alloc, words[1], seed, frames, words[4], desk),
+        Command::Assemble => assemble(alloc, words[1], words[2], desk),
         Command::Chain => unreachable!(),
         Command::Damage => unreachable!(),
         Command::Ring => unreachable!(),
-        Command::Assemble => unreachable!(),
     }
 }
 
@@ -112,12 +113,16 @@ pub fn bt878<D: Desk>(alloc: Global, words: &[&str], desk: &mut D) -> Answer
     ensures generated { (result ≡ Answer.Done) → (desc : List ℕ) → (seed frames : ℕ) → (stream : List ℕ) →
         task_of (texts words.now) ≡ Ok (Generates desc seed frames stream) →
         IsGenerated desc seed frames stream (D.seen desk.old).told (D.seen desk.new).told }
+    ensures assembled { (result ≡ Answer.Done) → (text program : List ℕ) →
+        task_of (texts words.now) ≡ Ok (Assembles text program) →
+        IsAssembled text program (D.seen desk.old).told (D.seen desk.new).told }
 
     // At Done both counts of faults are as they were.
     ensures done { (result ≡ Answer.Done) → SameCounts (D.seen desk.old) (D.seen desk.new) }
 
     // When each refusal comes, and, but for want of memory and faults of reading, that it must come:
-    // `Malformed`, `Rejected`, `BadDesc` and `BadGeometry` exactly where the first bad input is so.
+    // `Malformed`, `Rejected`, `BadDesc`, `BadGeometry` and `BadText` exactly where the first bad input is
+    // so.
     ensures read_fault { (result ≡ Answer.ReadFault) →
         IsUnreadOf (inputs_of (texts words.now))
         (D.seen desk.old)

@@ -1,96 +1,24 @@
-//! The commands over description files.
+//! The commands that run a description's program or generate its stream.
 
-ghost use Rattle.std.specs.Prelude.{◌≡◌, ◌≤◌, [], ◌∷◌, length, string_bytes, IfErr, IfOk, MatchResult};
-ghost use Rattle.bt878_tasks.specs.Tasks.{Captures, Compiles, Ends, Generates};
+ghost use Rattle.std.specs.Prelude.{◌≡◌, ◌≤◌, [], ◌∷◌, string_bytes, IfErr, IfOk, MatchResult};
+ghost use Rattle.bt878_tasks.specs.Tasks.{Captures, Ends, Generates};
 ghost use Rattle.capture_desk.specs.Desks.{IsAllowed};
 ghost use Rattle.capture_file.specs.Images.{image_of};
 ghost use Rattle.capture_file.specs.Programs.{spelled};
 ghost use Rattle.command_steps.specs.Desks.{CountsBy, DeliveryCounts, IsFilePart, IsPart, OfInput, StopsAt, after_file, apart, delivered};
-ghost use Rattle.command_steps.specs.Texts.{built_text, made_text};
-ghost use Rattle.desc_input.specs.Descriptions.{Describes, GivesCompiled, IsBadDesc};
+ghost use Rattle.command_steps.specs.Texts.{made_text};
+ghost use Rattle.desc_input.specs.Descriptions.{Describes, IsBadDesc};
 ghost use Rattle.field_stream.specs.Made.{made, made_entries, made_fields};
 
 use crate::runs::run_description;
 use capture_desk::{Desk, Failed, say_all};
-use command_steps::{Answer, built_text, made_text, refuse, write_image_file, write_program_file};
+use command_steps::{Answer, made_text, refuse, write_image_file, write_program_file};
 use desc_input::check_file;
 use field_stream::{Made, make as put_stream};
 use planar_plan::Frame;
 use program_build::Checked;
 use program_play::Played;
-use risc_verify::Program;
 use std::alloc::Global;
-
-/// The program of a description, its fill, and what is said of it.
-#[derive(Drop)]
-struct Built {
-    program: Program,
-    fill: u8,
-    text: String,
-}
-
-/// Reads a description file and builds its program.
-fn build_file<D: Desk>(alloc: Global, desc: &str, desk: &mut D) -> Result<Built, Answer>
-    requires { IsAllowed desc.now (D.seen desk.old).told.may_open }
-    ensures built { IfOk result (λ built. OfInput desc.now (D.seen desk.old).told.inputs (λ bytes. GivesCompiled bytes built.program built.fill)) }
-    ensures text { IfOk result (λ built. string_bytes built.text ≡ built_text (length built.program.words) (length built.program.grants)) }
-    ensures stops { IfErr result (λ answer. StopsAt IsBadDesc desc.now answer (D.seen desk.old) (D.seen desk.new)) }
-    ensures told { apart (D.seen desk.new).told ≡ apart (D.seen desk.old).told }
-    ensures counts { CountsBy result (D.seen desk.old) (D.seen desk.new) }
-{
-    let checked = check_file(alloc, desc, desk)?;
-    let words = checked.words();
-    let fill = checked.fill();
-    let program = match checked.into_program(alloc) {
-        Ok(program) => program,
-        Err(_) => return Err(Answer::NoMemory),
-    };
-    match built_text(alloc, words, program.grants().len()) {
-        Ok(text) => Ok(Built {
-            program,
-            fill,
-            text,
-        }),
-        Err(_) => Err(Answer::NoMemory),
-    }
-}
-
-/// Writes the file of a program and then says a text.
-fn deliver_program<D: Desk>(
-    name: &str,
-    program: &Program,
-    fill: u8,
-    text: &str,
-    desk: &mut D,
-) -> Result<(), Failed>
-    requires { IsAllowed name.now (D.seen desk.old).told.may_create }
-    ensures left { MatchResult result
-        (λ _. (D.seen desk.new).told ≡ delivered ((name.now, spelled program.now fill) ∷ []) text.now (D.seen desk.old).told)
-        (λ _. IsPart ((name.now, spelled program.now fill) ∷ []) text.now (D.seen desk.old).told (D.seen desk.new).told) }
-    ensures counts { DeliveryCounts result (D.seen desk.old) (D.seen desk.new) }
-{
-    write_program_file(name, program, fill, desk)?;
-    match say_all(desk, text.as_bytes()) {
-        Ok(()) => Ok(()),
-        Err(failed) => Err(failed),
-    }
-}
-
-/// `compile DESC PROG`: writes the program of the description and says how many words and chunks it has.
-pub fn compile<D: Desk>(alloc: Global, desc: &str, program: &str, desk: &mut D) -> Answer
-    requires desc { IsAllowed desc.now (D.seen desk.old).told.may_open }
-    requires program { IsAllowed program.now (D.seen desk.old).told.may_create }
-    ensures { Ends (Compiles desc.now program.now) result (D.seen desk.old) (D.seen desk.new) }
-{
-    let built = match build_file(alloc, desc, desk) {
-        Ok(built) => built,
-        Err(answer) => return refuse(alloc, answer, desk),
-    };
-    match deliver_program(program, &built.program, built.fill, &built.text, desk) {
-        Ok(()) => Answer::Done,
-        Err(_) => Answer::WriteFault,
-    }
-}
 
 /// Writes the file of a program that ran and the image of its memory, and then says its report.
 fn deliver_run<D: Desk>(

@@ -4,6 +4,7 @@
 mod call;
 mod commands;
 mod descriptions;
+mod programs;
 mod runs;
 
 pub use call::bt878;

@@ -111,12 +111,13 @@ pub record AsksRun (words : List (List ℕ)) : Type 0 where
   pub opens : inputs_of words ≡ program ∷ stream ∷ []
   pub creates : outputs_of words ≡ image ∷ []
 
-pub record AsksCompile (words : List (List ℕ)) : Type 0 where
+-- what a program is made of, and the program
+pub record AsksBuilt (words : List (List ℕ)) : Type 0 where
   pub word : List ℕ
-  pub desc : List ℕ
+  pub source : List ℕ
   pub program : List ℕ
-  pub are : words ≡ word ∷ desc ∷ program ∷ []
-  pub opens : inputs_of words ≡ desc ∷ []
+  pub are : words ≡ word ∷ source ∷ program ∷ []
+  pub opens : inputs_of words ≡ source ∷ []
   pub creates : outputs_of words ≡ program ∷ []
 
 -- no output has the name of another
@@ -145,9 +146,10 @@ abbrev pub Asks : List (List ℕ) → Command → Type 0
 Asks words command.List = AsksProgram words
 Asks words command.Verify = AsksProgram words
 Asks words command.Run = AsksRun words
-Asks words command.Compile = AsksCompile words
+Asks words command.Compile = AsksBuilt words
 Asks words command.Capture = AsksCapture words
 Asks words (command.Make seed frames) = AsksMake words
+Asks words command.Assemble = AsksBuilt words
 Asks words _ = ⊥
 
 pub or_false : (a b : Bool) → (a || b) ≡ false → (a ≡ false) × (b ≡ false)
@@ -211,6 +213,19 @@ asks_by v words c h e = of_verb v e (subst (λ w. is_built w ≡ true) e h.built
           creates = creates_as v e (o.0 ∷ []) o.1 ∙ outs o.0;
         }
 
+    one_built : (v : Verb) → h.verb ≡ v → length h.others ≡ 2 → ((source program : List ℕ) → input_names v (source ∷ program ∷ []) ≡ source ∷ []) →
+        ((source program : List ℕ) → output_names v (source ∷ program ∷ []) ≡ program ∷ []) → AsksBuilt words
+    one_built v e many ins outs =
+        let o = two_of h.others many in
+        record {
+          word = h.word;
+          source = o.0;
+          program = o.1;
+          are = are_as (o.0 ∷ o.1 ∷ []) o.2;
+          opens = opens_as v e (o.0 ∷ o.1 ∷ []) o.2 ∙ ins o.0 o.1;
+          creates = creates_as v e (o.0 ∷ o.1 ∷ []) o.2 ∙ outs o.0 o.1;
+        }
+
     of_verb : (v : Verb) → h.verb ≡ v → is_built v ≡ true → length h.others ≡ operands v → command_with v h.others ≡ Ok c → Asks words c
     of_verb verb.List e built many asks = is_command words c command.List asks (one_program verb.List e many (λ name. refl) (λ name. refl))
     of_verb verb.Verify e built many asks = is_command words c command.Verify asks (one_program verb.Verify e many (λ name. refl) (λ name. refl))
@@ -227,18 +242,7 @@ asks_by v words c h e = of_verb v e (subst (λ w. is_built w ≡ true) e h.built
           opens = opens_as verb.Run e l o.3;
           creates = creates_as verb.Run e l o.3;
         })
-    of_verb verb.Compile e built many asks =
-        let o = two_of h.others many in
-        let l : List (List ℕ) = o.0 ∷ o.1 ∷ [] in
-        is_command words c command.Compile asks
-        (record {
-          word = h.word;
-          desc = o.0;
-          program = o.1;
-          are = are_as l o.2;
-          opens = opens_as verb.Compile e l o.2;
-          creates = creates_as verb.Compile e l o.2;
-        })
+    of_verb verb.Compile e built many asks = is_command words c command.Compile asks (one_built verb.Compile e many (λ source program. refl) (λ source program. refl))
     of_verb verb.Capture e built many asks =
         let o = four_of h.others many in
         let l : List (List ℕ) = o.0 ∷ o.1 ∷ o.2 ∷ o.3 ∷ [] in
@@ -274,7 +278,7 @@ asks_by v words c h e = of_verb v e (subst (λ w. is_built w ≡ true) e h.built
     of_verb verb.Chain e built many asks = absurd (cc)
     of_verb verb.Damage e built many asks = absurd (cc)
     of_verb verb.Ring e built many asks = absurd (cc)
-    of_verb verb.Assemble e built many asks = absurd (cc)
+    of_verb verb.Assemble e built many asks = is_command words c command.Assemble asks (one_built verb.Assemble e many (λ source program. refl) (λ source program. refl))
 
 -- a stream is made of 1 to 16 frames
 frames_of : Result Command UsageFault → ℕ

@@ -32,6 +32,7 @@ is_built verb.Run = true
 is_built verb.Compile = true
 is_built verb.Capture = true
 is_built verb.Make = true
+is_built verb.Assemble = true
 is_built _ = false
 
 -- how many words follow the first, how many of these, from the front, are inputs, and how many, at the end, are

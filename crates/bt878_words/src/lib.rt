@@ -83,8 +83,8 @@ impl Verb {
     {
         match self {
             Verb::List | Verb::Verify | Verb::Run => true,
-            Verb::Compile | Verb::Capture | Verb::Make => true,
-            Verb::Chain | Verb::Damage | Verb::Ring | Verb::Assemble => false,
+            Verb::Compile | Verb::Capture | Verb::Make | Verb::Assemble => true,
+            Verb::Chain | Verb::Damage | Verb::Ring => false,
         }
     }
 
@@ -252,6 +252,11 @@ mod tests {
         assert_eq!(rt; read_words(&["verify", "a"]), Ok(Command::Verify));
         assert_eq!(rt; read_words(&["list", "a"]), Ok(Command::List));
         assert_eq!(rt; read_words(&["compile", "d", "p"]), Ok(Command::Compile));
+        assert_eq!(rt; read_words(&["assemble", "t", "p"]), Ok(Command::Assemble));
+        assert_eq!(rt;
+            read_words(&["assemble", "t", "t"]),
+            Err(UsageFault::SameName)
+        );
         assert_eq!(rt;
             read_words(&["capture", "d", "s", "p", "p"]),
             Err(UsageFault::SameName)

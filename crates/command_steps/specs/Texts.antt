@@ -18,8 +18,10 @@ use Rattle.capture_desc.specs.declared.fault.DescFault.TheVariants.{NotToml, Unk
 use Rattle.capture_desc.specs.Keys.{name_of}
 use Rattle.picture_model.specs.declared.BuildFault.{BuildFault}
 use Rattle.picture_model.specs.declared.BuildFault.TheVariants as geometry
+use Rattle.risc_asm.specs.declared.AsmFault.{AsmFault}
+use Rattle.risc_asm.specs.declared.AsmFault.TheVariants as listing
 use Rattle.command_steps.specs.declared.answer.Answer.{Answer}
-use Rattle.command_steps.specs.declared.answer.Answer.TheVariants.{Done, Usage, ReadFault, WriteFault, Malformed, BadDesc, BadGeometry, Rejected, NoMemory}
+use Rattle.command_steps.specs.declared.answer.Answer.TheVariants.{Done, Usage, ReadFault, WriteFault, Malformed, BadDesc, BadGeometry, BadText, Rejected, NoMemory}
 
 abbrev pub byte_text : ℕ → List ℕ
 byte_text n = hex 2 n
@@ -102,6 +104,12 @@ geometry_words (geometry.TooFewBytes need have) = codes "too few bytes" ++ need_
 geometry_words geometry.ProgramBase = codes "program base"
 geometry_words geometry.ProgramOnPage = codes "program on page"
 
+-- a fault of a text that is assembled
+abbrev pub listing_words : AsmFault → List ℕ
+listing_words (listing.Line k) = codes "line " ++ decimal k
+listing_words (listing.Short k) = codes "short at " ++ decimal k
+listing_words listing.TooLong = codes "too long"
+
 -- what an answer says; Done has its command's text, and at WriteFault nothing more is said
 abbrev pub answer_text : Answer → List ℕ
 answer_text Done = []
@@ -112,6 +120,7 @@ answer_text (Malformed file fault) =
     input_words file ++ (codes ": " ++ (kind_words fault.kind ++ (codes " at " ++ (decimal fault.at ++ line_end))))
 answer_text (BadDesc fault) = desc_text fault
 answer_text (BadGeometry fault) = codes "geometry: " ++ (geometry_words fault ++ line_end)
+answer_text (BadText fault) = codes "listing: " ++ (listing_words fault ++ line_end)
 answer_text (Rejected at nth cause) =
     codes "rejected at " ++ (address_text at ++ (codes ", step " ++ (decimal nth
     ++ (codes ": " ++ (cause_words cause ++ line_end)))))
@@ -132,7 +141,7 @@ report_text r =
 abbrev pub accepted_text : List ℕ
 accepted_text = codes "accepted\n"
 
--- what `compile` says: the words of the program and its chunks, and what `make` says
+-- what `compile` and `assemble` say: the words of the program and its chunks, and what `make` says
 abbrev pub built_text : ℕ → ℕ → List ℕ
 built_text words pages = codes "words " ++ (decimal words ++ (codes " pages " ++ (decimal pages ++ line_end)))
 
@@ -144,5 +153,6 @@ abbrev pub IsPlain : Answer → Type 0
 IsPlain (Malformed file fault) = ⊥
 IsPlain (BadDesc fault) = ⊥
 IsPlain (BadGeometry fault) = ⊥
+IsPlain (BadText fault) = ⊥
 IsPlain (Rejected at nth cause) = ⊥
 IsPlain _ = Unit {0}

@@ -5,7 +5,9 @@ ghost use Rattle.capture_desk.specs.Desks.{IsAllowed, ReadCounts, after_read};
 ghost use Rattle.command_steps.specs.Desks.{CountsBy, Grows, OfInput, OfRest, Opened, Refused, Says, StopsAtRead, StopsReading, apart};
 
 use crate::answer::Answer;
-use crate::texts::{desc_text, geometry_text, malformed_text, plain_text, rejected_text};
+use crate::texts::{
+    desc_text, geometry_text, listing_text, malformed_text, plain_text, rejected_text,
+};
 use capture_desk::{Desk, Failed, OpenFault, say_all};
 use std::alloc::Global;
 
@@ -139,6 +141,7 @@ pub fn refuse<D: Desk>(alloc: Global, answer: Answer, desk: &mut D) -> Answer
         Answer::Malformed(input, fault) => malformed_text(alloc, *input, fault.at, fault.kind),
         Answer::BadDesc(fault) => desc_text(alloc, fault),
         Answer::BadGeometry(fault) => geometry_text(alloc, *fault),
+        Answer::BadText(fault) => listing_text(alloc, *fault),
         Answer::Rejected { at, nth, cause } => rejected_text(alloc, *at, *nth, *cause),
         plain => {
             say_last(plain_text(plain).as_bytes(), desk);

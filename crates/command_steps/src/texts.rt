@@ -2,7 +2,7 @@
 
 ghost use Rattle.std.specs.Prelude.{◌≡◌, IfOk, Some, string_bytes};
 ghost use Rattle.capture_desc.specs.declared.fault.DescFault.TheVariants as DescFault;
-ghost use Rattle.command_steps.specs.Texts.{IsPlain, answer_text, built_text, cause_words, geometry_words, input_words, key_text, kind_words, lost_words, made_text, need_words, report_text, usage_words};
+ghost use Rattle.command_steps.specs.Texts.{IsPlain, answer_text, built_text, cause_words, geometry_words, input_words, key_text, kind_words, listing_words, lost_words, made_text, need_words, report_text, usage_words};
 
 use crate::answer::Answer;
 use bt878_words::UsageFault;
@@ -11,6 +11,7 @@ use capture_file::{FileKind, Input};
 use dma_machine::Report;
 use machine_model::Cause;
 use picture_model::BuildFault;
+use risc_asm::AsmFault;
 use std::alloc::{AllocError, Global};
 use std::fmt;
 
@@ -120,6 +121,22 @@ impl fmt::Display for GeometryWords {
     }
 }
 
+/// A fault of a text that is assembled, in words.
+#[derive(Drop)]
+struct ListingWords(AsmFault);
+
+impl fmt::Display for ListingWords {
+    ghost output = { λ words. Some (listing_words words.0) };
+
+    fn fmt<W: fmt::Write>(&self, f: &mut fmt::Formatter<W>) -> fmt::Result {
+        match self.0 {
+            AsmFault::Line(number) => write!(f, "line {number}"),
+            AsmFault::Short(lines) => write!(f, "short at {lines}"),
+            AsmFault::TooLong => write!(f, "too long"),
+        }
+    }
+}
+
 /// Which file, in words.
 fn input_words(input: Input) -> &'static str
     ensures { result.now ≡ input_words input }
@@ -207,6 +224,15 @@ pub fn geometry_text(alloc: Global, fault: BuildFault) -> Result<Vec<u8>, AllocE
     Ok(text.into_bytes())
 }
 
+/// What is said of a text that is no listing of a program.
+pub fn listing_text(alloc: Global, fault: AsmFault) -> Result<Vec<u8>, AllocError>
+    ensures { IfOk result (λ text. text.items ≡ answer_text (Answer.BadText fault)) }
+{
+    let fault = ListingWords(fault);
+    let text = format!(in alloc; "listing: {fault}\n")?;
+    Ok(text.into_bytes())
+}
+
 /// The text of a fault of a file.
 pub fn malformed_text(
     alloc: Global,
@@ -246,8 +272,8 @@ pub fn report_text(alloc: Global, report: &Report) -> Result<String, AllocError>
     format!(in alloc; "turns {turns}\nmoved {moved}\noverruns {lost}\nstatus {status:08x}\n")
 }
 
-/// What `compile` says of a program of so many words and chunks. The error is want of memory.
-pub fn built_text(alloc: Global, words: u32, pages: usize) -> Result<String, AllocError>
+/// What `compile` and `assemble` say of a program of so many words and chunks. The error is want of memory.
+pub fn built_text(alloc: Global, words: usize, pages: usize) -> Result<String, AllocError>
     ensures { IfOk result (λ text. string_bytes text ≡ built_text words pages) }
 {
     format!(in alloc; "words {words} pages {pages}\n")

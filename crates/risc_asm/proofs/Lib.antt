@@ -3,4 +3,4 @@ pub mod Matching
 pub mod Making
 pub mod Judging
 pub mod Searching
-mod OneAnswer
+pub mod OneAnswer

@@ -1,7 +1,7 @@
 use Rattle.std.proofs.Common.{◌∙◌, ap, map, sym, subst, Bor, List, ℕ, Ok}
 use Rattle.bt878_words.proofs.Asked.{few_frames}
 use Rattle.bt878_tasks.specs.Tasks.{Answers}
-use Rattle.bt878_top.proofs.Asking.{capture_desc_allowed, capture_image_allowed, capture_program_allowed, capture_stream_allowed, capture_task, compile_desc_allowed, compile_program_allowed, compile_task, list_allowed, list_task, make_desc_allowed, make_stream_allowed, make_task, run_image_allowed, run_program_allowed, run_stream_allowed, run_task, verify_allowed, verify_task}
+use Rattle.bt878_top.proofs.Asking.{assemble_program_allowed, assemble_task, assemble_text_allowed, capture_desc_allowed, capture_image_allowed, capture_program_allowed, capture_stream_allowed, capture_task, compile_desc_allowed, compile_program_allowed, compile_task, list_allowed, list_task, make_desc_allowed, make_stream_allowed, make_task, run_image_allowed, run_program_allowed, run_stream_allowed, run_task, verify_allowed, verify_task}
 use Rattle.bt878_top.proofs.call.answer_words.Goals as goal
 
 abbrev text : Bor (List ℕ) → List ℕ
@@ -34,6 +34,14 @@ compile-requires-clause-desc g c =
 pub compile-requires-clause-program : goal.compile-requires-clause-program
 compile-requires-clause-program g c =
     compile_program_allowed text c.args.words.now _ _ (sym c.read_words.ensures ∙ c.in-Ok.is ∙ ap Ok c.in-Compile.is) c.requires.creates
+
+pub assemble-requires-clause-text : goal.assemble-requires-clause-text
+assemble-requires-clause-text g c =
+    assemble_text_allowed text c.args.words.now _ _ (sym c.read_words.ensures ∙ c.in-Ok.is ∙ ap Ok c.in-Assemble.is) c.requires.opens
+
+pub assemble-requires-clause-program : goal.assemble-requires-clause-program
+assemble-requires-clause-program g c =
+    assemble_program_allowed text c.args.words.now _ _ (sym c.read_words.ensures ∙ c.in-Ok.is ∙ ap Ok c.in-Assemble.is) c.requires.creates
 
 pub capture-requires-clause-desc : goal.capture-requires-clause-desc
 capture-requires-clause-desc g c =
@@ -86,6 +94,12 @@ returns-in-Compile g c =
     let see = g.D.Desk.seen in
     subst (λ task. Answers task c.compile.result (see c.args.desk.now) (see c.compile.new.desk))
     (sym (compile_task text c.args.words.now _ (sym c.read_words.ensures ∙ c.in-Ok.is ∙ ap Ok c.in-Compile.is))) c.compile.ensures
+
+pub returns-in-Assemble : goal.returns-in-Assemble
+returns-in-Assemble g c =
+    let see = g.D.Desk.seen in
+    subst (λ task. Answers task c.assemble.result (see c.args.desk.now) (see c.assemble.new.desk))
+    (sym (assemble_task text c.args.words.now _ (sym c.read_words.ensures ∙ c.in-Ok.is ∙ ap Ok c.in-Assemble.is))) c.assemble.ensures
 
 pub returns-in-Capture : goal.returns-in-Capture
 returns-in-Capture g c =

@@ -2,7 +2,7 @@ use Rattle.std.proofs.Common.{[], ◌∷◌, ◌∙◌, refl, sym, subst}
 use Rattle.capture_file.specs.Programs.{spelled}
 use Rattle.bt878_tasks.specs.Tasks.{Compiles, Makes}
 use Rattle.bt878_top.proofs.Composing.{ends_refused, compile_product, task_done, task_part}
-use Rattle.bt878_top.proofs.descriptions.compile.Goals as goal
+use Rattle.bt878_top.proofs.programs.compile.Goals as goal
 
 pub returns-in-Ok-deliver_program : goal.returns-in-Ok-deliver_program
 returns-in-Ok-deliver_program g c =
