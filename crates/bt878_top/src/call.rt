@@ -83,7 +83,8 @@ pub fn bt878<D: Desk>(alloc: Global, words: &[&str], desk: &mut D) -> Answer
         × ShowsLast image (D.seen desk.old).told (D.seen desk.new).told r) }
 
     // At Done of `run` and `capture`: at every place of those steps, what the turn there writes is granted,
-    // what it fetches is a word of the program, and OCERR is 0.
+    // what it fetches is a word of the program, and OCERR is 0. That a turn stores nowhere else and reads no
+    // other word are the laws `turns_store_what_is_listed` and `turns_read_what_is_listed` of machine_model.
     ensures inside { (result ≡ Answer.Done) →
         OfRan (task_of (texts words.now)) (D.seen desk.old).told.inputs StaysInside }
 

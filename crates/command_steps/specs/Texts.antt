@@ -149,10 +149,10 @@ abbrev pub made_text : ℕ → ℕ → List ℕ
 made_text fields entries = codes "fields " ++ (decimal fields ++ (codes " entries " ++ (decimal entries ++ line_end)))
 
 -- the text of an answer that has no number and no name in it
-abbrev pub IsPlain : Answer → Type 0
-IsPlain (Malformed file fault) = ⊥
-IsPlain (BadDesc fault) = ⊥
-IsPlain (BadGeometry fault) = ⊥
-IsPlain (BadText fault) = ⊥
-IsPlain (Rejected at nth cause) = ⊥
-IsPlain _ = Unit {0}
+abbrev pub HasFixedText : Answer → Type 0
+HasFixedText (Malformed file fault) = ⊥
+HasFixedText (BadDesc fault) = ⊥
+HasFixedText (BadGeometry fault) = ⊥
+HasFixedText (BadText fault) = ⊥
+HasFixedText (Rejected at nth cause) = ⊥
+HasFixedText _ = Unit {0}

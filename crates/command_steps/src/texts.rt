@@ -2,7 +2,7 @@
 
 ghost use Rattle.std.specs.Prelude.{◌≡◌, IfOk, Some, string_bytes};
 ghost use Rattle.capture_desc.specs.declared.fault.DescFault.TheVariants as DescFault;
-ghost use Rattle.command_steps.specs.Texts.{IsPlain, answer_text, built_text, cause_words, geometry_words, input_words, key_text, kind_words, listing_words, lost_words, made_text, need_words, report_text, usage_words};
+ghost use Rattle.command_steps.specs.Texts.{HasFixedText, answer_text, built_text, cause_words, geometry_words, input_words, key_text, kind_words, listing_words, lost_words, made_text, need_words, report_text, usage_words};
 
 use crate::answer::Answer;
 use bt878_words::UsageFault;
@@ -164,7 +164,7 @@ fn usage_text(fault: UsageFault) -> &'static str
 
 /// The text of an answer whose text takes no memory.
 pub fn plain_text(answer: &Answer) -> &'static str
-    ensures { IsPlain answer.now → result.now ≡ answer_text answer.now }
+    ensures { HasFixedText answer.now → result.now ≡ answer_text answer.now }
 {
     match answer {
         Answer::Usage(fault) => usage_text(*fault),

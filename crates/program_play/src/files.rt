@@ -13,7 +13,7 @@ use crate::play::play;
 use capture_desk::Desk;
 use command_steps::{Answer, PIECE, open, report_text};
 use dma_machine::Machine;
-use fifo_model::Fifo;
+use fifo_model::{CHROMA_CAPACITY, Fifo, LUMA_CAPACITY};
 use page_ram::{PageRam, Ram};
 use risc_verify::Accepted;
 use std::alloc::{AllocError, Global};
@@ -33,7 +33,7 @@ fn machine_of(alloc: Global, accepted: Accepted, fill: u8) -> Result<Machine<Pag
     ensures { IfOk result (λ machine. machine ≡ first_state accepted fill) }
 {
     let ram = PageRam::new(alloc, accepted.program().grants(), fill)?;
-    let fifo = Fifo::new(alloc, [70, 35, 35])?;
+    let fifo = Fifo::new(alloc, [LUMA_CAPACITY, CHROMA_CAPACITY, CHROMA_CAPACITY])?;
     Ok(Machine::new(accepted, ram, fifo))
 }
 
