@@ -61,6 +61,29 @@ pub static LISTED: [Judged; 5] = [
     },
 ];
 
+/// Texts that are no listings, and what `assemble` says of them.
+pub static UNASSEMBLED: [(&[u8], &[u8]); 5] = [
+    // the fields of a JUMP in another order
+    (
+        b"base 00001000\n00001000 sync vre resync\n00001008 sync fm1\n00001010 write sol eol 8 00020000\n00001018 jump irq reset=e set=1 00001000\npage 00020000\nfill 00\n",
+        b"listing: line 5\n",
+    ),
+    // without its last line
+    (
+        b"base 00001000\n00001000 sync vre resync\n00001008 sync fm1\n00001010 write sol eol 8 00020000\n00001018 jump irq set=1 reset=e 00001000\npage 00020000\n",
+        b"listing: short at 6\n",
+    ),
+    // two words that are a JUMP
+    (
+        b"base 00001000\n00001000 word 70000000\n00001004 word 00001000\n",
+        b"listing: line 3\n",
+    ),
+    // a line more
+    (b"base 00001000\nfill 00\nfill 00\n", b"listing: line 3\n"),
+    // nothing
+    (b"", b"listing: short at 0\n"),
+];
+
 /// What `verify` says.
 pub static JUDGED: [Judged; 13] = [
     // a JUMP into an operand is followed

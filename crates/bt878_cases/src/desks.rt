@@ -88,6 +88,22 @@ pub fn program_desk(alloc: Global, program: &[u8]) -> Result<MemDesk, AllocError
     )
 }
 
+/// The desk of `assemble text program`.
+pub fn text_desk(alloc: Global, text: &[u8]) -> Result<MemDesk, AllocError>
+    ensures opens { IfOk result (λ desk. (all_told desk).may_open ≡ Some (codes "text" ∷ [])) }
+    ensures creates { IfOk result (λ desk. (all_told desk).may_create ≡ Some (codes "program" ∷ [])) }
+{
+    let inputs = vec![in alloc;
+        (
+            Octets::from_list(alloc, b"text")?,
+            Octets::from_list(alloc, text)?
+        ),
+    ]?;
+    let opens = vec![in alloc; Octets::from_list(alloc, b"text")?]?;
+    let creates = vec![in alloc; Octets::from_list(alloc, b"program")?]?;
+    MemDesk::new(alloc, inputs, opens, creates, Vec::new(alloc), 65536, 1000)
+}
+
 /// The desk of `run a a b`.
 pub fn twice_desk(alloc: Global, file: &[u8]) -> Result<MemDesk, AllocError>
     ensures opens { IfOk result (λ desk. (all_told desk).may_open ≡ Some (codes "a" ∷ codes "a" ∷ [])) }

@@ -1,5 +1,7 @@
-use crate::cases::{JUDGED, LISTED, ONE_LINE, ONE_LINE_STREAM, PLAYED, Parts};
-use crate::desks::{are_parts, bare_desk, empty_desk, joined, program_desk, run_desk, twice_desk};
+use crate::cases::{JUDGED, LISTED, ONE_LINE, ONE_LINE_STREAM, PLAYED, Parts, UNASSEMBLED};
+use crate::desks::{
+    are_parts, bare_desk, empty_desk, joined, program_desk, run_desk, text_desk, twice_desk,
+};
 use crate::left::Left;
 use bt878_top::bt878;
 use capture_desk::OsDesk;
@@ -20,6 +22,15 @@ fn listed(alloc: Global, program: &[u8]) -> Result<Left, AllocError> {
 fn judged(alloc: Global, program: &[u8]) -> Result<Left, AllocError> {
     let mut desk = program_desk(alloc, program)?;
     let answer = bt878(alloc, &["verify", "program"], &mut desk);
+    Ok(Left {
+        status: answer.status(),
+        desk,
+    })
+}
+
+fn assembled(alloc: Global, text: &[u8]) -> Result<Left, AllocError> {
+    let mut desk = text_desk(alloc, text)?;
+    let answer = bt878(alloc, &["assemble", "text", "program"], &mut desk);
     Ok(Left {
         status: answer.status(),
         desk,
@@ -56,6 +67,32 @@ fn programs_are_listed(rt: HostRuntime) -> Result<(), Fail> {
     for case in &LISTED {
         let left = listed(rt.alloc(), case.program)?;
         assert!(rt; left.has(case.status, case.said, &[]));
+    }
+    Ok(())
+}
+
+/// What `list` says is assembled to the program that it was said of.
+#[test]
+fn listings_are_assembled(rt: HostRuntime) -> Result<(), Fail> {
+    let words: [&[u8]; 3] = [
+        b"words 8 pages 1\n",
+        b"words 4 pages 1\n",
+        b"words 8 pages 1\n",
+    ];
+    for (case, said) in LISTED.iter().zip(words) {
+        let left = assembled(rt.alloc(), case.said)?;
+        assert!(rt; left.says(0, said));
+        assert!(rt; left.wrote("program", case.program));
+    }
+    Ok(())
+}
+
+#[test]
+fn other_texts_are_refused(rt: HostRuntime) -> Result<(), Fail> {
+    for (text, said) in &UNASSEMBLED {
+        let left = assembled(rt.alloc(), text)?;
+        assert!(rt; left.says(3, said));
+        assert!(rt; left.lacks("program"));
     }
     Ok(())
 }
