@@ -1,6 +1,6 @@
 //! What takes the steps of a stream.
 
-ghost use Rattle.std.specs.Prelude.{◌≡◌, Bool, false, true};
+ghost use Rattle.std.specs.Prelude.{◌≡◌, Bool, false};
 ghost use Rattle.capture_file.specs.declared.Step.TheVariants as Step;
 ghost use Rattle.capture_file.specs.declared.Step.{Step as StepOf};
 ghost use Rattle.capture_file.specs.Readers.{fresh};
@@ -45,8 +45,7 @@ pub trait Player {
 
     /// Takes the patch of a slot: it shows a buffer from then on, 0 or 1, or none, 255.
     fn patch(&mut self, slot: u8, buffer: u8)
-        requires slots { has_slots ≡ true }
-        requires fits { StepFits (Step.Patch slot buffer) }
+        requires { StepFits (Step.Patch slot buffer) }
         ensures { self.new ≡ act (Step.Patch slot buffer) self.old };
 }
 
@@ -79,7 +78,6 @@ impl<R: Ram> Player for Machine<R> {
         Machine::host(self, write);
     }
 
-    fn patch(&mut self, _slot: u8, _buffer: u8) {
-        unreachable!()
-    }
+    // A machine has no slots, and a stream that its reader takes has no patches: `act` makes nothing of one.
+    fn patch(&mut self, _slot: u8, _buffer: u8) {}
 }
