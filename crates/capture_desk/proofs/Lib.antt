@@ -4,3 +4,4 @@ mod Slots
 mod Told
 pub mod Outputs
 pub mod Pieces
+pub mod Telling

@@ -1,7 +1,9 @@
 -- What a desk tells, and what each of its calls changes. A name is the list of its bytes.
-use Rattle.std.specs.Prelude.{ℕ, length, ◌+◌, ◌-◌, ◌^◌, ◌<◌, ◌≤◌, min, Bool, true, false, IsTrue, List, [], ◌∷◌, ◌++◌, take, drop, Option, Some, None, option_map, MatchOption, Result, Ok, Err, ⊤, ◌≡◌, if◌then◌else◌}
+use Rattle.std.specs.Prelude.{ℕ, length, ◌+◌, ◌-◌, ◌^◌, ◌<◌, ◌≤◌, min, Bool, true, false, IsTrue, List, [], ◌∷◌, ◌++◌, take, drop, Option, Some, None, option_map, MatchOption, ◌⊎◌, Result, Ok, Err, ⊤, ◌≡◌, if◌then◌else◌}
 use Rattle.std.specs.List.{list_any}
 use Rattle.std.specs.Str.{bytes_eq}
+use Rattle.capture_desk.specs.declared.calls.Call.{Call}
+use Rattle.capture_desk.specs.declared.calls.Call.TheVariants.{Say}
 use Rattle.capture_desk.specs.declared.desk.OpenFault.{OpenFault}
 use Rattle.capture_desk.specs.declared.desk.OpenFault.TheVariants.{Missing, Failed}
 
@@ -26,16 +28,8 @@ pub record Told : Type 0 where
   pub input_open : Bool
   pub output_open : Bool
 
--- A call that opens an input, reads, creates an output or finishes one, and whether it did. A read has the bytes that it
--- asked for and, where it did not fail, those that it moved. What is written and said is told by the outputs and the text.
-pub data Call : Type 0 where
-  OpenIn : List ℕ → Bool → Call
-  Read : ℕ → Option ℕ → Call
-  CreateOut : List ℕ → Bool → Call
-  Finish : Bool → Call
-
 -- All that is seen of a desk: what it tells, how many calls that read and that write failed, whether the last call
--- failed, and the calls so far, where it tells them.
+-- failed, and the calls so far, where it tells them, the last one first.
 pub record Seen : Type 0 where
   pub told : Told
   pub reads : ℕ
@@ -156,9 +150,28 @@ counted n = min (n + 1) (2 ^ 64 - 1)
 abbrev pub HasRisen : ℕ → ℕ → Type 0
 HasRisen old new = counted old ≤ new
 
--- one more call is told, where calls are told
+-- one more call, before which others were made: calls that say one after the other are one run
+abbrev pub joined : Call → List Call → List Call
+joined Say (Say ∷ before) = Say ∷ before
+joined call before = call ∷ before
+
+-- it is told, where calls are told
 abbrev pub recorded : Call → Option (List Call) → Option (List Call)
-recorded call calls = option_map (λ before. before ++ call ∷ []) calls
+recorded call calls = option_map (joined call) calls
+
+-- and so are calls that follow one another, in their order
+abbrev pub all_recorded : List Call → Option (List Call) → Option (List Call)
+all_recorded [] calls = calls
+all_recorded (call ∷ later) calls = all_recorded later (recorded call calls)
+
+-- these calls were made, in their order, where calls are told; a desk may cease to tell them
+abbrev pub Tells : List Call → Option (List Call) → Option (List Call) → Type 0
+Tells made old new = (new ≡ None) ⊎ (new ≡ all_recorded made old)
+
+-- the calls that say a text: none where there is nothing to say
+abbrev pub said_by : List ℕ → List Call
+said_by [] = []
+said_by (_ ∷ _) = Say ∷ []
 
 -- a call did not fail
 abbrev pub IsQuiet : Seen → Seen → Type 0
@@ -188,10 +201,19 @@ CallCounts (Err _) = IsWriteFault
 abbrev pub OnlyWrites : Seen → Seen → Type 0
 OnlyWrites old new = (new.reads ≡ old.reads) × (new.writes ≡ old.writes) × (new.calls ≡ old.calls)
 
--- what is left by calls that write, or say, one after the other up to the first that fails
+-- what is left by calls that write, one after the other up to the first that fails
 abbrev pub WriteCounts : {A E : Type 0} → Result A E → Seen → Seen → Type 0
 WriteCounts (Ok _) old new = OnlyWrites old new
 WriteCounts (Err _) old new = IsWriteFault old new × (new.calls ≡ old.calls)
+
+-- no count rose, and nothing was done but that these bytes were said
+abbrev pub OnlySaid : List ℕ → Seen → Seen → Type 0
+OnlySaid bytes old new = (new.reads ≡ old.reads) × (new.writes ≡ old.writes) × Tells (said_by bytes) old.calls new.calls
+
+-- what is left by calls that say these bytes, one after the other up to the first that fails
+abbrev pub SayCounts : {A E : Type 0} → List ℕ → Result A E → Seen → Seen → Type 0
+SayCounts bytes (Ok _) old new = OnlySaid bytes old new
+SayCounts bytes (Err _) old new = IsWriteFault old new × Tells (Say ∷ []) old.calls new.calls
 
 abbrev pub was_done : {A E : Type 0} → Result A E → Bool
 was_done (Ok _) = true

@@ -1,7 +1,7 @@
 // Whole pieces, written to the open output or said.
 ghost use Rattle.std.specs.Prelude.{◌≡◌, ◌<◌, length, IsTrue};
-ghost use Rattle.capture_desk.specs.Desks.{Appends, CallCounts, Puts, WriteCounts, after_say, after_write};
-ghost use Rattle.capture_desk.specs.Sinks.{IsReady, after_append};
+ghost use Rattle.capture_desk.specs.Desks.{Appends, CallCounts, Puts, SayCounts, WriteCounts, after_say, after_write};
+ghost use Rattle.capture_desk.specs.Sinks.{AppendCalls, AppendCounts, IsReady, after_append};
 
 use crate::desk::{Desk, Failed};
 
@@ -18,7 +18,7 @@ fn append<D: Desk>(sink: Sink, desk: &mut D, bytes: &[u8]) -> Result<usize, Fail
     requires some { 0 < length bytes.now }
     ensures appends { Appends bytes.now result (after_append sink) (D.seen desk.old).told (D.seen desk.new).told }
     ensures counts { CallCounts result (D.seen desk.old) (D.seen desk.new) }
-    ensures calls { (D.seen desk.new).calls ≡ (D.seen desk.old).calls }
+    ensures calls { AppendCalls sink (D.seen desk.old).calls (D.seen desk.new).calls }
 {
     match sink {
         Sink::Output => desk.write(bytes),
@@ -30,7 +30,7 @@ fn append<D: Desk>(sink: Sink, desk: &mut D, bytes: &[u8]) -> Result<usize, Fail
 fn append_all<D: Desk>(sink: Sink, desk: &mut D, bytes: &[u8]) -> Result<(), Failed>
     requires open { IsReady sink (D.seen desk.old).told }
     ensures puts { Puts bytes.now result (after_append sink) (D.seen desk.old).told (D.seen desk.new).told }
-    ensures counts { WriteCounts result (D.seen desk.old) (D.seen desk.new) }
+    ensures counts { AppendCounts sink bytes.now result (D.seen desk.old) (D.seen desk.new) }
 {
     let mut at = 0;
     while at < bytes.len() {
@@ -52,7 +52,7 @@ pub fn put<D: Desk>(desk: &mut D, bytes: &[u8]) -> Result<(), Failed>
 /// Says a whole text. Where a `say` fails, it is the last call, and the bytes before it were said.
 pub fn say_all<D: Desk>(desk: &mut D, text: &[u8]) -> Result<(), Failed>
     ensures says { Puts text.now result after_say (D.seen desk.old).told (D.seen desk.new).told }
-    ensures counts { WriteCounts result (D.seen desk.old) (D.seen desk.new) }
+    ensures counts { SayCounts text.now result (D.seen desk.old) (D.seen desk.new) }
 {
     append_all(Sink::Text, desk, text)
 }

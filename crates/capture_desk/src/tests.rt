@@ -3,7 +3,7 @@ ghost use Rattle.std.specs.Prelude.{[], IfOk, codes, ◌∷◌, ◌≡◌};
 ghost use Rattle.capture_desk.specs.Desks.{IsAllowed};
 ghost use Rattle.capture_desk.specs.Memory.{names_of};
 
-use crate::{Desk, Failed, MemDesk, Octets, OpenFault, OsDesk, put};
+use crate::{Call, Desk, Failed, LoggedDesk, MemDesk, Octets, OpenFault, OsDesk, put};
 use std::alloc::{AllocError, Global};
 
 // One input and one output; the sixth call fails, and no call moves more than 4 bytes.
@@ -46,6 +46,33 @@ fn a_desk_over_memory(rt: HostRuntime) -> Result<(), AllocError> {
     assert!(rt; copy(&mut desk).is_err());
     assert!(rt; desk.output("out") == Some(b"abcd".as_slice()));
     assert!(rt; desk.said().is_empty() && desk.faults() == [0, 1]);
+    Ok(())
+}
+
+// Whether a call is the one of this number of those that `copy` makes, counted from the last.
+fn is_kept(call: &Call, number: usize) -> bool {
+    match (number, call) {
+        (0, Call::Say) => true,
+        (1, Call::Finish(done)) => *done,
+        (2, Call::CreateOut(name, done)) => name.as_slice() == b"out".as_slice() && *done,
+        (3, Call::Read(size, moved)) => *size == 8 && *moved == Some(4),
+        (4, Call::OpenIn(name, done)) => name.as_slice() == b"in".as_slice() && *done,
+        _ => false,
+    }
+}
+
+#[test]
+fn a_desk_that_keeps_its_calls(rt: HostRuntime) -> Result<(), AllocError> {
+    let mut desk = LoggedDesk::new(rt.alloc(), desk(rt.alloc())?);
+    assert!(rt; copy(&mut desk).is_err());
+    assert!(rt; desk.desk().faults() == [0, 1]);
+    let Some(calls) = desk.calls() else {
+        return Err(AllocError);
+    };
+    assert!(rt; calls.len() == 5);
+    for (number, call) in calls.iter().enumerate() {
+        assert!(rt; is_kept(call, number));
+    }
     Ok(())
 }
 
