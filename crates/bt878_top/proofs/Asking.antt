@@ -5,8 +5,8 @@ use Rattle.bt878_words.specs.declared.Command.TheVariants as command
 use Rattle.bt878_words.specs.Words.{command_of, inputs_of, outputs_of}
 use Rattle.bt878_words.proofs.Asked.{AsksProgram, AsksRun, AsksBuilt, AsksCapture, AsksMake, asked}
 use Rattle.capture_desk.specs.Desks.{IsAllowed, is_among}
-use Rattle.bt878_tasks.specs.Tasks.{AreNames, Lists, Verifies, Runs, Compiles, Captures, Generates, Assembles, task_of, task_with}
-use Rattle.bt878_tasks.proofs.Outputs.{first_among, later_among}
+use Rattle.bt878_contract.specs.Tasks.{AreNames, Lists, Verifies, Runs, Compiles, Captures, Generates, Assembles, task_of, task_with}
+use Rattle.bt878_contract.proofs.Outputs.{first_among, later_among}
 
 -- a name may be used where it is one of those that are told
 allowed : (names : List (List ℕ)) (told : Option (List (List ℕ))) (name : List ℕ) → AreNames names told → is_among name names ≡ true → IsAllowed name told

@@ -1,6 +1,7 @@
 -- How the parts of a command make the whole.
-use Rattle.std.proofs.Common.{◌≡◌, ℕ, ◌⊎◌, inl, inr, List, [], ◌∷◌, length, take, Option, refl, sym, ap, subst, ◌∙◌}
-use Rattle.capture_desk.specs.Desks.{Inputs, IsWriteFault, Seen, after_say, counted}
+use Rattle.std.proofs.Common.{◌≡◌, ℕ, zero, suc, ◌<◌, ◌⊎◌, inl, inr, All, List, [], ◌∷◌, ◌++◌, length, take, slice_index_or, Option, refl, sym, ap, subst, ◌∙◌, arith}
+use Rattle.capture_desk.specs.Desks.{Inputs, IsAllowed, Seen, Tells, Told, after_say, counted, said_by}
+use Rattle.capture_desk.proofs.Telling.{tells_both}
 use Rattle.capture_file.specs.Images.{image_of}
 use Rattle.capture_file.specs.Programs.{spelled}
 use Rattle.capture_file.specs.Streams.{steps_run}
@@ -12,19 +13,26 @@ use Rattle.dma_machine.specs.Facts.{report_of}
 use Rattle.picture_model.specs.Programs.{compiled}
 use Rattle.field_stream.specs.Made.{made, made_entries, made_fields}
 use Rattle.program_build.proofs.Checking.{checked_sound}
-use Rattle.command_steps.specs.declared.answer.Answer.{Answer}
-use Rattle.command_steps.specs.declared.answer.Answer.TheVariants.{Done, Usage, ReadFault, WriteFault, Malformed, BadDesc, BadGeometry, BadText, Rejected, NoMemory}
-use Rattle.command_steps.specs.Desks.{LastWriteFailed, Product, OfInput, NeedsMemory, Refused, Says, SameCounts, IsPart, apart, delivered}
-use Rattle.command_steps.specs.Texts.{answer_text, made_text, report_text}
-use Rattle.command_steps.proofs.Parts.{apart_part, apart_delivered}
-use Rattle.program_play.specs.Programs.{GivesSound, IsRun, OfRun, Ran, first_of, last_of}
-use Rattle.program_play.proofs.Fitting.{steps_fit}
+use Rattle.command_texts.specs.declared.answer.Answer.{Answer}
+use Rattle.command_texts.specs.declared.answer.Answer.TheVariants.{Done, NoMemory, Usage, WriteFault}
+use Rattle.command_texts.specs.declared.refusal.Refusal.{Refusal}
+use Rattle.command_texts.specs.declared.refusal.Refusal.TheVariants as refusal
+use Rattle.command_texts.specs.Answers.{answer_of}
+use Rattle.command_texts.specs.Texts.{answer_text, made_text, report_text}
+use Rattle.command_steps.specs.declared.outputs.Output.{Output}
+use Rattle.command_steps.specs.Inputs.{Input, OfInput, StopsIn, apart}
+use Rattle.command_steps.specs.Reading.{Stopped, Took}
+use Rattle.command_steps.specs.Outputs.{AreCutOff, AreDelivered, Finishes, IsDeliveryPart, IsPart, LastWriteFailed, Product, Refused, Says, delivered, delivery, names_of}
 use Rattle.command_steps.proofs.Inputs.{OfInput-map}
-use Rattle.desc_input.specs.Descriptions.{Describes, GivesCompiled}
-use Rattle.text_input.specs.Texts.{GivesAssembled}
-use Rattle.bt878_tasks.specs.Tasks.{Task, Runs, Compiles, Captures, Generates, Assembles, DescMakes, Ends, IsDone, IsPartDone, ListingMakes, Makes, RunMakes, Stops, compiled_text, creates, image_file, meaning, names_of, program_file, program_text}
-use Rattle.bt878_tasks.proofs.Judges.{never_in, no_memory, stops_later}
-use Rattle.bt878_tasks.proofs.Inputs.{OfRun-map}
+use Rattle.command_steps.proofs.Parts.{apart_part, apart_delivered}
+use Rattle.command_inputs.specs.Programs.{GivesSound}
+use Rattle.command_inputs.specs.Descriptions.{Describes, GivesCompiled}
+use Rattle.command_inputs.specs.Listings.{GivesAssembled}
+use Rattle.stream_play.specs.Runs.{IsRun, OfRun, Ran, first_of, last_of}
+use Rattle.stream_play.proofs.Fitting.{steps_fit}
+use Rattle.bt878_contract.specs.Tasks.{Task, Runs, Compiles, Captures, Generates, Assembles, DescMakes, Ends, IsDone, IsPartDone, IsRefused, ListingMakes, Makes, RunMakes, Stops, compiled_text, creates, image_file, meaning, program_file, program_text}
+use Rattle.bt878_contract.proofs.Judges.{stops_later}
+use Rattle.bt878_contract.proofs.Inputs.{OfRun-map}
 
 -- ---- refusals
 
@@ -35,52 +43,106 @@ said_from text old mid new more same (n, few, e, whole) = (n, few, e ∙ ap (aft
     from (inl all) = inl (all.0, all.1 ∙ more)
     from (inr fault) = inr (fault.0 ∙ ap counted more, fault.1)
 
-ends_by : (task : Task) (answer : Answer) (old new : Seen) → Stops task answer old new → Says (answer_text answer) old new → Ends task answer old new
-ends_by task Done old new why said = absurd (never_in (meaning task).inputs Done old new tt why)
-ends_by task (Usage fault) old new why said = absurd (never_in (meaning task).inputs (Usage fault) old new tt why)
-ends_by task WriteFault old new why said = absurd (never_in (meaning task).inputs WriteFault old new tt why)
-ends_by task ReadFault old new why said = record { why = why; said = said }
-ends_by task (Malformed file fault) old new why said = record { why = why; said = said }
-ends_by task (BadDesc fault) old new why said = record { why = why; said = said }
-ends_by task (BadGeometry fault) old new why said = record { why = why; said = said }
-ends_by task (BadText fault) old new why said = record { why = why; said = said }
-ends_by task (Rejected at nth cause) old new why said = record { why = why; said = said }
-ends_by task NoMemory old new why said = record { why = why; said = said }
+ends_by : (task : Task) (r : Refusal) (old new : Seen) → IsRefused task r old new → Ends task (answer_of r) old new
+ends_by task refusal.ReadFault old new h = (refusal.ReadFault, refl, h)
+ends_by task (refusal.Malformed file fault) old new h = (refusal.Malformed file fault, refl, h)
+ends_by task (refusal.BadDesc fault) old new h = (refusal.BadDesc fault, refl, h)
+ends_by task (refusal.BadGeometry fault) old new h = (refusal.BadGeometry fault, refl, h)
+ends_by task (refusal.BadText fault) old new h = (refusal.BadText fault, refl, h)
+ends_by task (refusal.Rejected at nth cause) old new h = (refusal.Rejected at nth cause, refl, h)
+ends_by task refusal.NoMemory old new h = (refusal.NoMemory, refl, h)
 
-pub ends_refused : (task : Task) (wanted answer : Answer) (old mid new : Seen) → mid.writes ≡ old.writes → new.reads ≡ mid.reads → apart mid.told ≡ apart old.told →
-    Stops task wanted old mid → Refused wanted answer mid new → Ends task answer old new
-ends_refused task wanted answer old mid new writes reads same why refused =
-    ends_by task answer old new (cause refused.0) (said_from (answer_text answer) old mid new writes same refused.1)
+no_memory : (inputs : List Input) (old new : Seen) → StopsIn inputs refusal.NoMemory old new
+no_memory [] old new = refl
+no_memory (input ∷ inputs) old new = inl tt
+
+pub ends_refused : (task : Task) (r : Refusal) (answer : Answer) (old mid new : Seen) → Stopped (meaning task).inputs r old mid → Refused r answer mid new → Ends task answer old new
+ends_refused task r answer old mid new stopped refused = by_answer refused.0
   where
-    cause : (answer ≡ wanted) ⊎ ((answer ≡ NoMemory) × NeedsMemory wanted) → Stops task answer old new
-    cause (inl e) = subst (λ a. Stops task a old new) (sym e) (stops_later (meaning task).inputs wanted old mid new reads why)
-    cause (inr e) = subst (λ a. Stops task a old new) (sym e.0) (no_memory (meaning task).inputs old new)
+    refused_as : (other : Refusal) → answer ≡ answer_of other → Stops task other old new → IsRefused task other old new
+    refused_as other e why =
+        record {
+          why = why;
+          said = subst (λ a. Says (answer_text a) old new) e (said_from (answer_text answer) old mid new stopped.writes stopped.told refused.1.0);
+          calls = (
+            stopped.calls.0 ++ said_by (answer_text (answer_of other)),
+            (stopped.calls.0, stopped.calls.1, refl),
+            tells_both stopped.calls.0 (said_by (answer_text (answer_of other))) old.calls mid.calls new.calls stopped.calls.2
+                (subst (λ a. Tells (said_by (answer_text a)) mid.calls new.calls) e refused.1.1),
+          );
+        }
+
+    by_answer : (answer ≡ answer_of r) ⊎ (answer ≡ NoMemory) → Ends task answer old new
+    by_answer (inl e) = subst (λ a. Ends task a old new) (sym e) (ends_by task r old new (refused_as r e (stops_later (meaning task).inputs r old mid new refused.2 stopped.why)))
+    by_answer (inr e) = subst (λ a. Ends task a old new) (sym e) (ends_by task refusal.NoMemory old new (refused_as refusal.NoMemory e (no_memory (meaning task).inputs old new)))
 
 -- ---- what is done
 
-module _ (task : Task) (files : List (List ℕ × List ℕ)) (text : List ℕ) (old mid new : Seen) (counts : SameCounts old mid) (same : apart mid.told ≡ apart old.told) where
+module _ (task : Task) (files : List (List ℕ × List ℕ)) (text : List ℕ) (old mid new : Seen) (took : Took (meaning task).inputs old mid) where
   abbrev product_of : Product
   product_of = record { files = files; text = text }
 
-  pub task_done : Makes task old.told.inputs product_of → names_of files ≡ creates task → new.told ≡ delivered files text mid.told → SameCounts mid new → IsDone task old new
-  task_done made names left more =
+  task_done : Makes task old.told.inputs product_of → names_of files ≡ creates task → AreDelivered files text mid new → IsDone task old new
+  task_done made names h =
       record {
         product = product_of;
         made = made;
         names = names;
-        left = ap apart left ∙ apart_delivered files text mid.told ∙ ap (delivered files text) same;
-        counts = (more.0 ∙ counts.0, more.1 ∙ counts.1);
+        left = ap apart h.left ∙ apart_delivered files text mid.told ∙ ap (delivered files text) took.told;
+        counts = (h.counts.0 ∙ took.reads, h.counts.1 ∙ took.writes);
+        calls = (
+          took.calls.0 ++ delivery (creates task) text,
+          (took.calls.0, took.calls.1, refl),
+          tells_both took.calls.0 (delivery (creates task) text) old.calls mid.calls new.calls took.calls.2 (subst (λ names. Tells (delivery names text) mid.calls new.calls) names h.calls),
+        );
       }
 
-  pub task_part : Makes task old.told.inputs product_of → names_of files ≡ creates task → IsPart files text mid.told new.told → IsWriteFault mid new → IsPartDone task old new
-  task_part made names left fault =
+  task_part : Makes task old.told.inputs product_of → names_of files ≡ creates task → AreCutOff files text mid new → IsPartDone task old new
+  task_part made names h =
       record {
         product = product_of;
         made = made;
         names = names;
-        left = subst (λ t. IsPart files text t (apart new.told)) same (apart_part files text mid.told new.told left);
-        fault = (fault.0 ∙ counts.0, fault.1 ∙ ap counted counts.1, fault.2);
+        left = subst (λ t. IsPart files text t (apart new.told)) took.told (apart_part files text mid.told new.told h.left);
+        fault = (h.fault.0 ∙ took.reads, h.fault.1 ∙ ap counted took.writes, h.fault.2);
+        calls = (
+          took.calls.0 ++ h.calls.0,
+          (took.calls.0, h.calls.0, took.calls.1, subst (λ names. IsDeliveryPart names h.calls.0) names h.calls.1, refl),
+          tells_both took.calls.0 h.calls.0 old.calls mid.calls new.calls took.calls.2 h.calls.2,
+        );
       }
+
+  pub ends_finished : (answer : Answer) → Makes task old.told.inputs product_of → names_of files ≡ creates task → Finishes files text answer mid new → Ends task answer old new
+  ends_finished Done made names h = task_done made names h
+  ends_finished WriteFault made names h = task_part made names h
+  ends_finished (Usage fault) made names h = absurd h
+  ends_finished answer made names h = absurd h
+
+-- an output whose name may be created may still be once the inputs are taken
+pub one_allowed : {C : Type 0} (output : Output C) (told : Option (List (List ℕ))) → IsAllowed output.name.now told → All (λ (output : Output C). IsAllowed output.name.now told) (output ∷ [])
+one_allowed output told h = λ k d less. first_of_one k d less
+  where
+    first_of_one : (k : ℕ) (d : Output _) → k < 1 → IsAllowed (slice_index_or (output ∷ []) k d).name.now told
+    first_of_one zero d less = h
+    first_of_one (suc k) d less = absurd (omega (arith, less))
+
+pub two_allowed : {C : Type 0} (one two : Output C) (told : Option (List (List ℕ))) → IsAllowed one.name.now told → IsAllowed two.name.now told → All (λ (output : Output C). IsAllowed output.name.now told) (one ∷ two ∷ [])
+two_allowed one two told h k = λ i d less. first_of_two i d less
+  where
+    first_of_two : (i : ℕ) (d : Output _) → i < 2 → IsAllowed (slice_index_or (one ∷ two ∷ []) i d).name.now told
+    first_of_two zero d less = h
+    first_of_two (suc zero) d less = k
+    first_of_two (suc (suc i)) d less = absurd (omega (arith, less))
+
+-- one file, by its parts
+abbrev one : List ℕ → List ℕ → List (List ℕ × List ℕ)
+one name bytes = (name, bytes) ∷ []
+
+pub one_file : (a b name bytes : List ℕ) → a ≡ name → b ≡ bytes → one a b ≡ one name bytes
+one_file a b name bytes e f = ap (λ n. one n b) e ∙ ap (one name) f
+
+pub still_allowed : (name : List ℕ) (old mid : Told) → apart mid ≡ apart old → IsAllowed name old.may_create → IsAllowed name mid.may_create
+still_allowed name old mid same h = subst (IsAllowed name) (sym (ap (λ (t : Told). t.may_create) same)) h
 
 -- ---- what a run makes
 

@@ -1,3 +1,4 @@
 pub mod Asking
 pub mod Composing
 pub mod Running
+mod Saying

@@ -1,15 +1,15 @@
 -- A stream that is played after a file gave the program.
-use Rattle.std.proofs.Common.{◌≡◌, ℕ, inl, inr, List, [], ◌∷◌, Option, Some, None, sym, ap, subst, ◌∙◌}
-use Rattle.capture_desk.specs.Desks.{Seen, Inputs, Told, named, is_missing}
+use Rattle.std.proofs.Common.{◌≡◌, ℕ, List, false, [], ◌∷◌, Option, Some, None, subst}
+use Rattle.capture_desk.specs.Desks.{Seen, Inputs, Told, named}
 use Rattle.machine_model.specs.Paths.{RiscProgram}
 use Rattle.machine_model.specs.States.{State, first_state}
-use Rattle.command_steps.specs.declared.answer.Answer.{Answer}
-use Rattle.command_steps.specs.declared.answer.Answer.TheVariants.{NoMemory, ReadFault}
-use Rattle.command_steps.specs.Desks.{OfFile, OfInput, SameCounts, StopsAt, apart}
-use Rattle.program_play.specs.Plays.{HasPlayed}
-use Rattle.program_play.specs.Programs.{IsBadStream, IsRun, OfRun, Ran, last_of}
-use Rattle.program_play.proofs.Loading.{rose_from, same_inputs}
-use Rattle.bt878_tasks.specs.Tasks.{Input, IsGoodAs, StopsIn, a_stream}
+use Rattle.command_texts.specs.declared.refusal.Refusal.{Refusal}
+use Rattle.command_steps.specs.Inputs.{Input, IsThereAndGood, OfFile, OfInput, StopsAt, apart}
+use Rattle.command_steps.specs.Reading.{OnlyReads, Stopped, Took}
+use Rattle.command_steps.proofs.Inputs.{OfInput-map, same_inputs}
+use Rattle.command_steps.proofs.Sequence.{stopped_first, stopped_later, took_first, took_one}
+use Rattle.stream_play.specs.Plays.{HasPlayed, longest_stream}
+use Rattle.stream_play.specs.Runs.{HoldsNoFault, HoldsSteps, IsBadStream, IsRun, OfRun, Ran, a_stream, last_of}
 
 -- two inputs
 both_inputs : (name other : List ℕ) (inputs : Option Inputs) (P Q : List ℕ → Type 0) (R : List ℕ → List ℕ → Type 0) →
@@ -33,15 +33,15 @@ module _ (Gives : List ℕ → RiscProgram → ℕ → Type 0) (file stream : Li
       (λ a b g p. (record { program = program; fill = fill; steps = p.0 }, record { gives = g; reads = p.1 }, (p.2, is))) gives
       (subst (λ inputs. OfInput stream inputs (λ b. HasPlayed b (first_state program fill) m)) (same_inputs mid old same) played)
 
--- a stop at the stream, seen from before the program was read
-stops_before : (answer : Answer) (name : List ℕ) (old mid new : Seen) → apart mid.told ≡ apart old.told → SameCounts old mid →
-    StopsAt IsBadStream name answer mid new → StopsAt IsBadStream name answer old new
-stops_before ReadFault name old mid new same counts (inl h) = inl (rose_from old.reads mid.reads new.reads counts.0 h)
-stops_before ReadFault name old mid new same counts (inr h) = inr (ap (is_missing name) (sym (same_inputs mid.told old.told same)) ∙ h)
-stops_before NoMemory name old mid new same counts h = tt
-stops_before answer name old mid new same counts h = subst (IsBadStream name answer) (same_inputs mid.told old.told same) h
+-- both inputs are taken
+module _ (input : Input) (stream : List ℕ) (old mid new : Seen) (reads : OnlyReads input.name input.judge.most input.judge.MayGoOn old mid) (quiet : mid.reads ≡ old.reads) (good : IsThereAndGood input old.told.inputs)
+    (plays : OnlyReads stream longest_stream (HoldsNoFault false) mid new) where
+  pub took_both : (first now : State) → new.reads ≡ mid.reads → OfInput stream mid.told.inputs (λ bytes. HasPlayed bytes first now) → Took (input ∷ a_stream stream ∷ []) old new
+  took_both first now still played =
+      took_first input old mid reads (a_stream stream ∷ []) new quiet good
+      (took_one (a_stream stream) mid new plays still
+      (OfInput-map stream mid.told.inputs (λ bytes. HasPlayed bytes first now) HoldsSteps (λ bytes p. (p.0, p.1)) played))
 
-pub stops_at_stream : (file : Input) (stream : List ℕ) (answer : Answer) (old mid new : Seen) →
-    apart mid.told ≡ apart old.told → SameCounts old mid → OfInput file.name old.told.inputs (IsGoodAs file.kind) → StopsAt IsBadStream stream answer mid new →
-    StopsIn (file ∷ a_stream stream ∷ []) answer old new
-stops_at_stream file stream answer old mid new same counts good h = inr (good, stops_before answer stream old mid new same counts h)
+  pub stopped_at_stream : (refusal : Refusal) → StopsAt IsBadStream stream refusal mid new → Stopped (input ∷ a_stream stream ∷ []) refusal old new
+  stopped_at_stream refusal why =
+      stopped_later input old mid reads (a_stream stream ∷ []) refusal new quiet good (stopped_first (a_stream stream) mid new plays [] refusal why)

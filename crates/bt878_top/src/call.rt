@@ -2,22 +2,26 @@
 
 ghost use Rattle.std.specs.Prelude.{◌≡◌, ℕ, ◌⊎◌, List, Ok};
 ghost use Rattle.bt878_words.specs.Words.{command_of, inputs_of, outputs_of};
-ghost use Rattle.bt878_tasks.specs.Clauses.{AreTold, IsAssembled, IsBadInput, IsCompiled, IsGenerated, IsGood, IsRefusal, IsUnreadOf, IsUsage, OfRan, OfSteps, OnlyOutputs, OnlySays, SameNames, SaysAccepted, SaysListing, ShowsLast, ShowsProgram, StandsAt, StaysInside, TellsInput, UnlessCut};
-ghost use Rattle.bt878_tasks.specs.Pictures.{ShowsNoFault, ShowsPictures, SignalsInTime};
-ghost use Rattle.bt878_tasks.specs.Tasks.{Answers, AreNames, Assembles, Captures, Compiles, Generates, Lists, Runs, Verifies, task_of, texts};
-ghost use Rattle.command_steps.specs.declared.answer.Answer.{Answer as Answered};
-ghost use Rattle.command_steps.specs.Desks.{EndsAtFault, ReadsRose, SameCounts, WritesRose};
-ghost use Rattle.command_steps.specs.Texts.{answer_text};
-ghost use Rattle.desc_input.specs.Descriptions.{GivesCompiled};
+ghost use Rattle.bt878_contract.specs.Clauses.{AreTold, IsAssembled, IsBadInput, IsCompiled, IsGenerated, IsGood, IsInOrder, IsRefusal, IsUnreadOf, IsUsage, OfRan, OfSteps, OnlyOutputs, OnlySays, SameNames, SaysAccepted, SaysListing, ShowsLast, ShowsProgram, StandsAt, StaysInside, TellsInput, UnlessCut};
+ghost use Rattle.bt878_contract.specs.Pictures.{ShowsNoFault, ShowsPictures, SignalsInTime};
+ghost use Rattle.bt878_contract.specs.Tasks.{Answers, AreNames, Assembles, Captures, Compiles, Generates, Lists, Runs, Verifies, task_of, texts};
+ghost use Rattle.command_texts.specs.declared.refusal.Refusal.{Refusal};
+ghost use Rattle.command_texts.specs.Answers.{answer_of};
+ghost use Rattle.command_steps.specs.Outputs.{EndsAtFault};
+ghost use Rattle.command_steps.specs.Inputs.{ReadsRose, SameCounts, WritesRose};
+ghost use Rattle.command_texts.specs.Texts.{answer_text};
+ghost use Rattle.command_inputs.specs.Descriptions.{GivesCompiled};
 ghost use Rattle.machine_model.specs.Paths.{IsSound};
-ghost use Rattle.program_play.specs.Programs.{GivesSound, OfRun};
+ghost use Rattle.command_inputs.specs.Programs.{GivesSound};
+ghost use Rattle.stream_play.specs.Runs.{OfRun};
 
 use crate::commands::{list, run, verify};
 use crate::descriptions::{capture, make};
 use crate::programs::{assemble, compile};
 use bt878_words::{Command, read_words};
 use capture_desk::Desk;
-use command_steps::{Answer, refuse};
+use command_steps::refuse_words;
+use command_texts::Answer;
 use std::alloc::Global;
 
 /// Does what the words ask for.
@@ -28,7 +32,7 @@ fn answer_words<D: Desk>(alloc: Global, words: &[&str], desk: &mut D) -> Answer
 {
     let command = match read_words(words) {
         Ok(command) => command,
-        Err(fault) => return refuse(alloc, Answer::Usage(fault), desk),
+        Err(fault) => return refuse_words(fault, desk),
     };
     match command {
         Command::List => list(alloc, words[1], desk),
@@ -128,9 +132,9 @@ pub fn bt878<D: Desk>(alloc: Global, words: &[&str], desk: &mut D) -> Answer
         IsUnreadOf (inputs_of (texts words.now))
         (D.seen desk.old)
         (D.seen desk.new) }
-    ensures bad_input { TellsInput result →
-        IsBadInput (task_of (texts words.now)) result (D.seen desk.old).told.inputs }
-    ensures bad_input_must { AreTold (D.seen desk.old).told.inputs → (wanted : Answered) →
+    ensures bad_input { (refusal : Refusal) → result ≡ answer_of refusal → TellsInput refusal →
+        IsBadInput (task_of (texts words.now)) refusal (D.seen desk.old).told.inputs }
+    ensures bad_input_must { AreTold (D.seen desk.old).told.inputs → (wanted : Refusal) →
         IsBadInput (task_of (texts words.now)) wanted (D.seen desk.old).told.inputs →
         UnlessCut wanted result
         (D.seen desk.old)
@@ -161,6 +165,13 @@ pub fn bt878<D: Desk>(alloc: Global, words: &[&str], desk: &mut D) -> Answer
         (D.seen desk.new) }
     ensures stands { (result ≡ Answer.WriteFault) →
         StandsAt (task_of (texts words.now)) (D.seen desk.old).told (D.seen desk.new).told }
+
+    // The order of work, where the desk tells its calls. Each input is opened once, in the order of the
+    // words, after the one before it was found good. It is read by 65,536 bytes, or by what is left up to
+    // one byte beyond its limit; each piece of a stream only where those before it hold no fault. The outputs
+    // are created in their order, each once and each finished before the next, after all inputs were found
+    // good. The text is said last, that of a refusal by one run of calls.
+    ensures order { IsInOrder (task_of (texts words.now)) result (D.seen desk.old) (D.seen desk.new) }
 
     // Whatever the answer, no call of the desk follows one that fails at writing: at most one does, and it
     // is the last of all.

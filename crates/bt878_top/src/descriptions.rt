@@ -1,48 +1,23 @@
 //! The commands that run a description's program or generate its stream.
 
-ghost use Rattle.std.specs.Prelude.{◌≡◌, ◌≤◌, [], ◌∷◌, string_bytes, IfErr, IfOk, MatchResult};
-ghost use Rattle.bt878_tasks.specs.Tasks.{Captures, Ends, Generates};
+ghost use Rattle.std.specs.Prelude.{◌≡◌, ◌≤◌, string_bytes, IfErr, IfOk};
+ghost use Rattle.bt878_contract.specs.Tasks.{Captures, Ends, Generates};
 ghost use Rattle.capture_desk.specs.Desks.{IsAllowed};
-ghost use Rattle.capture_file.specs.Images.{image_of};
-ghost use Rattle.capture_file.specs.Programs.{spelled};
-ghost use Rattle.command_steps.specs.Desks.{CountsBy, DeliveryCounts, IsFilePart, IsPart, OfInput, StopsAt, after_file, apart, delivered};
-ghost use Rattle.command_steps.specs.Texts.{made_text};
-ghost use Rattle.desc_input.specs.Descriptions.{Describes, IsBadDesc};
-ghost use Rattle.field_stream.specs.Made.{made, made_entries, made_fields};
+ghost use Rattle.command_inputs.specs.Descriptions.{Describes, IsBadDesc, longest_description};
+ghost use Rattle.command_steps.specs.Inputs.{Always, OfInput, StopsAt};
+ghost use Rattle.command_steps.specs.Reading.{OnlyReads};
+ghost use Rattle.command_texts.specs.Texts.{made_text};
+ghost use Rattle.field_stream.specs.Made.{made_entries, made_fields};
 
+use crate::contents::{Contents, Frames};
 use crate::runs::run_description;
-use capture_desk::{Desk, Failed, say_all};
-use command_steps::{Answer, made_text, refuse, write_image_file, write_program_file};
-use desc_input::check_file;
-use field_stream::{Made, make as put_stream};
-use planar_plan::Frame;
+use capture_desk::Desk;
+use command_inputs::check_file;
+use command_steps::{Output, finish, refuse};
+use command_texts::{Answer, Refusal, made_text};
+use field_stream::Made;
 use program_build::Checked;
-use program_play::Played;
 use std::alloc::Global;
-
-/// Writes the file of a program that ran and the image of its memory, and then says its report.
-fn deliver_run<D: Desk>(
-    program: &str,
-    image: &str,
-    played: &Played,
-    desk: &mut D,
-) -> Result<(), Failed>
-    requires program { IsAllowed program.now (D.seen desk.old).told.may_create }
-    requires image { IsAllowed image.now (D.seen desk.old).told.may_create }
-    ensures left { MatchResult result
-        (λ _. (D.seen desk.new).told ≡ delivered ((program.now, spelled played.now.machine.program played.now.fill) ∷ (image.now, image_of played.now.machine.memory) ∷ []) (string_bytes played.now.report) (D.seen desk.old).told)
-        (λ _. IsPart ((program.now, spelled played.now.machine.program played.now.fill) ∷ (image.now, image_of played.now.machine.memory) ∷ []) (string_bytes played.now.report) (D.seen desk.old).told (D.seen desk.new).told) }
-    ensures counts { DeliveryCounts result (D.seen desk.old) (D.seen desk.new) }
-{
-    write_program_file(program, played.machine.program(), played.fill, desk)?;
-    if let Err(failed) = write_image_file(image, played.machine.ram(), desk) {
-        return Err(failed);
-    }
-    match say_all(desk, played.report.as_bytes()) {
-        Ok(()) => Ok(()),
-        Err(failed) => Err(failed),
-    }
-}
 
 /// `capture DESC STREAM PROG IMAGE`: runs the program of the description over the stream, writes the program
 /// and the image of its memory, and says its report.
@@ -62,12 +37,19 @@ pub fn capture<D: Desk>(
 {
     let played = match run_description(alloc, desc, stream, desk) {
         Ok(played) => played,
-        Err(answer) => return refuse(alloc, answer, desk),
+        Err(refusal) => return refuse(alloc, refusal, desk),
     };
-    match deliver_run(program, image, &played, desk) {
-        Ok(()) => Answer::Done,
-        Err(_) => Answer::WriteFault,
-    }
+    let outputs = [
+        Output {
+            name: program,
+            content: Contents::Program(played.machine.program(), played.fill),
+        },
+        Output {
+            name: image,
+            content: Contents::Image(played.machine.ram()),
+        },
+    ];
+    finish(&outputs, &played.report, desk)
 }
 
 /// A description, and what is said of a stream that is made for it.
@@ -80,70 +62,23 @@ struct Counted {
 /// Reads a description file and counts what a stream of so many frames has.
 fn count_file<D: Desk>(
     alloc: Global,
-    desc: &str,
+    name: &str,
     frames: u8,
     desk: &mut D,
-) -> Result<Counted, Answer>
-    requires allowed { IsAllowed desc.now (D.seen desk.old).told.may_open }
+) -> Result<Counted, Refusal>
+    requires allowed { IsAllowed name.now (D.seen desk.old).told.may_open }
     requires frames { (1 ≤ frames) × (frames ≤ 16) }
-    ensures described { IfOk result (λ counted. OfInput desc.now (D.seen desk.old).told.inputs (λ bytes. Describes bytes counted.checked)) }
+    ensures described { IfOk result (λ counted. OfInput name.now (D.seen desk.old).told.inputs (λ bytes. Describes bytes counted.checked)) }
     ensures text { IfOk result (λ counted. string_bytes counted.text ≡ made_text (made_fields counted.checked frames) (made_entries counted.checked frames)) }
-    ensures stops { IfErr result (λ answer. StopsAt IsBadDesc desc.now answer (D.seen desk.old) (D.seen desk.new)) }
-    ensures told { apart (D.seen desk.new).told ≡ apart (D.seen desk.old).told }
-    ensures counts { CountsBy result (D.seen desk.old) (D.seen desk.new) }
+    ensures stops { IfErr result (λ refusal. StopsAt IsBadDesc name.now refusal (D.seen desk.old) (D.seen desk.new)) }
+    ensures reads { OnlyReads name.now longest_description Always (D.seen desk.old) (D.seen desk.new) }
+    ensures quiet { IfOk result (λ _. (D.seen desk.new).reads ≡ (D.seen desk.old).reads) }
 {
-    let checked = check_file(alloc, desc, desk)?;
+    let checked = check_file(alloc, name, desk)?;
     let counts = Made::of(checked.frame(), frames);
     match made_text(alloc, counts.fields, counts.entries) {
         Ok(text) => Ok(Counted { checked, text }),
-        Err(_) => Err(Answer::NoMemory),
-    }
-}
-
-/// Writes a generated stream.
-fn write_stream<D: Desk>(
-    name: &str,
-    frame: &Frame,
-    seed: u64,
-    frames: u8,
-    desk: &mut D,
-) -> Result<(), Failed>
-    requires allowed { IsAllowed name.now (D.seen desk.old).told.may_create }
-    requires frames { (1 ≤ frames) × (frames ≤ 16) }
-    ensures left { MatchResult result
-        (λ _. (D.seen desk.new).told ≡ after_file (name.now, made frame.now seed frames) (D.seen desk.old).told)
-        (λ _. IsFilePart name.now (made frame.now seed frames) (D.seen desk.old).told (D.seen desk.new).told) }
-    ensures counts { DeliveryCounts result (D.seen desk.old) (D.seen desk.new) }
-{
-    desk.create_out(name)?;
-    put_stream(frame, seed, frames, desk)?;
-    match desk.finish() {
-        Ok(()) => Ok(()),
-        Err(failed) => Err(failed),
-    }
-}
-
-/// Writes a generated stream and then says what it has.
-fn deliver_stream<D: Desk>(
-    name: &str,
-    counted: &Counted,
-    seed: u64,
-    frames: u8,
-    desk: &mut D,
-) -> Result<(), Failed>
-    requires allowed { IsAllowed name.now (D.seen desk.old).told.may_create }
-    requires frames { (1 ≤ frames) × (frames ≤ 16) }
-    ensures left { MatchResult result
-        (λ _. (D.seen desk.new).told ≡ delivered ((name.now, made counted.now.checked seed frames) ∷ []) (string_bytes counted.now.text) (D.seen desk.old).told)
-        (λ _. IsPart ((name.now, made counted.now.checked seed frames) ∷ []) (string_bytes counted.now.text) (D.seen desk.old).told (D.seen desk.new).told) }
-    ensures counts { DeliveryCounts result (D.seen desk.old) (D.seen desk.new) }
-{
-    if let Err(failed) = write_stream(name, counted.checked.frame(), seed, frames, desk) {
-        return Err(failed);
-    }
-    match say_all(desk, counted.text.as_bytes()) {
-        Ok(()) => Ok(()),
-        Err(failed) => Err(failed),
+        Err(_) => Err(Refusal::NoMemory),
     }
 }
 
@@ -164,10 +99,11 @@ pub fn make<D: Desk>(
 {
     let counted = match count_file(alloc, desc, frames, desk) {
         Ok(counted) => counted,
-        Err(answer) => return refuse(alloc, answer, desk),
+        Err(refusal) => return refuse(alloc, refusal, desk),
     };
-    match deliver_stream(stream, &counted, seed, frames, desk) {
-        Ok(()) => Answer::Done,
-        Err(_) => Answer::WriteFault,
-    }
+    let outputs = [Output {
+        name: stream,
+        content: Contents::Stream(counted.checked.frame(), seed, Frames::new(frames)),
+    }];
+    finish(&outputs, &counted.text, desk)
 }

@@ -3,9 +3,11 @@
 
 mod call;
 mod commands;
+mod contents;
 mod descriptions;
+mod listings;
 mod programs;
 mod runs;
 
 pub use call::bt878;
-pub use command_steps::Answer;
+pub use command_texts::Answer;

@@ -1,20 +1,24 @@
 //! The commands that make a program file.
 
-ghost use Rattle.std.specs.Prelude.{◌≡◌, [], ◌∷◌, string_bytes, IfErr, IfOk, MatchResult};
-ghost use Rattle.bt878_tasks.specs.Tasks.{Assembles, Compiles, Ends, program_text};
+ghost use Rattle.std.specs.Prelude.{◌≡◌, string_bytes, IfErr, IfOk};
+ghost use Rattle.bt878_contract.specs.Tasks.{Assembles, Compiles, Ends, program_text};
+ghost use Rattle.bt878_top.specs.Contents.{bytes_of};
 ghost use Rattle.capture_desk.specs.Desks.{IsAllowed};
 ghost use Rattle.capture_file.specs.Programs.{spelled};
-ghost use Rattle.command_steps.specs.Desks.{CountsBy, DeliveryCounts, IsPart, OfInput, StopsAt, apart, delivered};
-ghost use Rattle.desc_input.specs.Descriptions.{GivesCompiled, IsBadDesc};
-ghost use Rattle.text_input.specs.Texts.{GivesAssembled, IsBadText};
+ghost use Rattle.command_inputs.specs.Descriptions.{GivesCompiled, IsBadDesc, longest_description};
+ghost use Rattle.command_inputs.specs.Listings.{GivesAssembled, IsBadText};
+ghost use Rattle.command_steps.specs.Inputs.{Always, OfInput, StopsAt};
+ghost use Rattle.command_steps.specs.Reading.{OnlyReads};
+ghost use Rattle.risc_asm.specs.Answers.{most_bytes};
 
-use capture_desk::{Desk, Failed, say_all};
+use crate::contents::Contents;
+use capture_desk::Desk;
 use capture_file::ProgramFile;
-use command_steps::{Answer, built_text, refuse, write_program_file};
-use desc_input::check_file;
+use command_inputs::{assemble_file, check_file};
+use command_steps::{Output, finish, refuse};
+use command_texts::{Answer, Refusal, built_text};
 use risc_verify::Program;
 use std::alloc::Global;
-use text_input::assemble_file;
 
 /// A program, its fill, and what is said of it.
 #[derive(Drop)]
@@ -26,10 +30,10 @@ struct Built {
 
 impl Built {
     /// Makes what is said of a program.
-    fn new(alloc: Global, program: Program, fill: u8) -> Result<Built, Answer>
+    fn new(alloc: Global, program: Program, fill: u8) -> Result<Built, Refusal>
         ensures program { IfOk result (λ built. (built.program ≡ program) × (built.fill ≡ fill)) }
         ensures text { IfOk result (λ built. string_bytes built.text ≡ program_text built.program) }
-        ensures memory { IfErr result (λ answer. answer ≡ Answer.NoMemory) }
+        ensures memory { IfErr result (λ refusal. refusal ≡ Refusal.NoMemory) }
     {
         let text = built_text(alloc, program.words().len(), program.grants().len())?;
         Ok(Built {
@@ -38,57 +42,47 @@ impl Built {
             text,
         })
     }
+
+    /// Its program file, under a name.
+    fn output<'a>(&'a self, name: &'a str) -> Output<'a, Contents<'a>>
+        ensures name { result.name.now ≡ name.now }
+        ensures bytes { bytes_of result.content ≡ spelled self.now.program self.now.fill }
+    {
+        Output {
+            name,
+            content: Contents::Program(&self.program, self.fill),
+        }
+    }
 }
 
 /// Reads a description file and builds its program.
-fn build_file<D: Desk>(alloc: Global, desc: &str, desk: &mut D) -> Result<Built, Answer>
+fn build_file<D: Desk>(alloc: Global, desc: &str, desk: &mut D) -> Result<Built, Refusal>
     requires { IsAllowed desc.now (D.seen desk.old).told.may_open }
     ensures built { IfOk result (λ built. OfInput desc.now (D.seen desk.old).told.inputs (λ bytes. GivesCompiled bytes built.program built.fill)) }
     ensures text { IfOk result (λ built. string_bytes built.text ≡ program_text built.program) }
-    ensures stops { IfErr result (λ answer. StopsAt IsBadDesc desc.now answer (D.seen desk.old) (D.seen desk.new)) }
-    ensures told { apart (D.seen desk.new).told ≡ apart (D.seen desk.old).told }
-    ensures counts { CountsBy result (D.seen desk.old) (D.seen desk.new) }
+    ensures stops { IfErr result (λ refusal. StopsAt IsBadDesc desc.now refusal (D.seen desk.old) (D.seen desk.new)) }
+    ensures reads { OnlyReads desc.now longest_description Always (D.seen desk.old) (D.seen desk.new) }
+    ensures quiet { IfOk result (λ _. (D.seen desk.new).reads ≡ (D.seen desk.old).reads) }
 {
     let checked = check_file(alloc, desc, desk)?;
     let fill = checked.fill();
     match checked.into_program(alloc) {
         Ok(program) => Built::new(alloc, program, fill),
-        Err(_) => Err(Answer::NoMemory),
+        Err(_) => Err(Refusal::NoMemory),
     }
 }
 
 /// Reads a text and assembles it.
-fn build_text<D: Desk>(alloc: Global, text: &str, desk: &mut D) -> Result<Built, Answer>
+fn build_text<D: Desk>(alloc: Global, text: &str, desk: &mut D) -> Result<Built, Refusal>
     requires { IsAllowed text.now (D.seen desk.old).told.may_open }
     ensures built { IfOk result (λ built. OfInput text.now (D.seen desk.old).told.inputs (λ bytes. GivesAssembled bytes (record { program = built.program; fill = built.fill }))) }
     ensures text { IfOk result (λ built. string_bytes built.text ≡ program_text built.program) }
-    ensures stops { IfErr result (λ answer. StopsAt IsBadText text.now answer (D.seen desk.old) (D.seen desk.new)) }
-    ensures told { apart (D.seen desk.new).told ≡ apart (D.seen desk.old).told }
-    ensures counts { CountsBy result (D.seen desk.old) (D.seen desk.new) }
+    ensures stops { IfErr result (λ refusal. StopsAt IsBadText text.now refusal (D.seen desk.old) (D.seen desk.new)) }
+    ensures reads { OnlyReads text.now most_bytes Always (D.seen desk.old) (D.seen desk.new) }
+    ensures quiet { IfOk result (λ _. (D.seen desk.new).reads ≡ (D.seen desk.old).reads) }
 {
     let ProgramFile { program, fill } = assemble_file(alloc, text, desk)?;
     Built::new(alloc, program, fill)
-}
-
-/// Writes the file of a program and then says a text.
-fn deliver_program<D: Desk>(
-    name: &str,
-    program: &Program,
-    fill: u8,
-    text: &str,
-    desk: &mut D,
-) -> Result<(), Failed>
-    requires { IsAllowed name.now (D.seen desk.old).told.may_create }
-    ensures left { MatchResult result
-        (λ _. (D.seen desk.new).told ≡ delivered ((name.now, spelled program.now fill) ∷ []) text.now (D.seen desk.old).told)
-        (λ _. IsPart ((name.now, spelled program.now fill) ∷ []) text.now (D.seen desk.old).told (D.seen desk.new).told) }
-    ensures counts { DeliveryCounts result (D.seen desk.old) (D.seen desk.new) }
-{
-    write_program_file(name, program, fill, desk)?;
-    match say_all(desk, text.as_bytes()) {
-        Ok(()) => Ok(()),
-        Err(failed) => Err(failed),
-    }
 }
 
 /// `compile DESC PROG`: writes the program of the description and says how many words and chunks it has.
@@ -99,12 +93,10 @@ pub fn compile<D: Desk>(alloc: Global, desc: &str, program: &str, desk: &mut D) 
 {
     let built = match build_file(alloc, desc, desk) {
         Ok(built) => built,
-        Err(answer) => return refuse(alloc, answer, desk),
+        Err(refusal) => return refuse(alloc, refusal, desk),
     };
-    match deliver_program(program, &built.program, built.fill, &built.text, desk) {
-        Ok(()) => Answer::Done,
-        Err(_) => Answer::WriteFault,
-    }
+    let outputs = [built.output(program)];
+    finish(&outputs, &built.text, desk)
 }
 
 /// `assemble TEXT PROG`: writes the program and the fill whose listing the text is, and says how many words
@@ -116,10 +108,8 @@ pub fn assemble<D: Desk>(alloc: Global, text: &str, program: &str, desk: &mut D)
 {
     let built = match build_text(alloc, text, desk) {
         Ok(built) => built,
-        Err(answer) => return refuse(alloc, answer, desk),
+        Err(refusal) => return refuse(alloc, refusal, desk),
     };
-    match deliver_program(program, &built.program, built.fill, &built.text, desk) {
-        Ok(()) => Answer::Done,
-        Err(_) => Answer::WriteFault,
-    }
+    let outputs = [built.output(program)];
+    finish(&outputs, &built.text, desk)
 }

@@ -1,23 +1,23 @@
 //! The runs of a program file's program and of a description's program over a stream file.
 
-ghost use Rattle.std.specs.Prelude.{◌≡◌, [], ◌∷◌, string_bytes, IfErr, IfOk};
-ghost use Rattle.bt878_tasks.specs.Tasks.{StopsIn, a_description, a_sound_program, a_stream};
+ghost use Rattle.std.specs.Prelude.{◌≡◌, [], ◌∷◌, string_bytes, IfOk};
 ghost use Rattle.capture_desk.specs.Desks.{IsAllowed};
-ghost use Rattle.command_steps.specs.Desks.{CountsBy, apart};
-ghost use Rattle.command_steps.specs.Texts.{report_text};
-ghost use Rattle.desc_input.specs.Descriptions.{GivesCompiled};
+ghost use Rattle.command_inputs.specs.Descriptions.{GivesCompiled, a_description};
+ghost use Rattle.command_inputs.specs.Programs.{GivesSound, a_sound_program};
+ghost use Rattle.command_steps.specs.Reading.{Takes};
+ghost use Rattle.command_texts.specs.Texts.{report_text};
 ghost use Rattle.dma_machine.specs.Facts.{report_of};
 ghost use Rattle.picture_model.specs.Programs.{compiled};
 ghost use Rattle.program_build.specs.Checks.{IsChecked};
-ghost use Rattle.program_play.specs.Programs.{GivesSound, OfRun, last_of};
+ghost use Rattle.stream_play.specs.Runs.{OfRun, a_stream, last_of};
 
 use capture_desk::Desk;
-use command_steps::Answer;
-use desc_input::check_file;
+use command_inputs::{Loaded, accept, check_file, verify_program};
+use command_texts::Refusal;
 use program_build::Checked;
-use program_play::{Loaded, Played, accept, play_file, verify_program};
 use risc_verify::{Accepted, Why};
 use std::alloc::{AllocError, Global};
+use stream_play::{Played, play_file};
 
 /// Runs the program of a program file over a stream file.
 pub fn run_program<D: Desk>(
@@ -25,19 +25,17 @@ pub fn run_program<D: Desk>(
     program: &str,
     stream: &str,
     desk: &mut D,
-) -> Result<Played, Answer>
+) -> Result<Played, Refusal>
     requires program { IsAllowed program.now (D.seen desk.old).told.may_open }
     requires stream { IsAllowed stream.now (D.seen desk.old).told.may_open }
     ensures ran { IfOk result (λ played. OfRun GivesSound program.now stream.now (D.seen desk.old).told.inputs (λ r. (played.machine ≡ last_of r) × (played.fill ≡ r.fill))) }
     ensures report { IfOk result (λ played. string_bytes played.report ≡ report_text (report_of played.machine)) }
-    ensures stops { IfErr result (λ answer. StopsIn (a_sound_program program.now ∷ a_stream stream.now ∷ []) answer (D.seen desk.old) (D.seen desk.new)) }
-    ensures told { apart (D.seen desk.new).told ≡ apart (D.seen desk.old).told }
-    ensures counts { CountsBy result (D.seen desk.old) (D.seen desk.new) }
+    ensures takes { Takes (a_sound_program program.now ∷ a_stream stream.now ∷ []) result (D.seen desk.old) (D.seen desk.new) }
 {
     let Loaded { accepted, fill } = accept(alloc, program, desk)?;
     match play_file(alloc, accepted, fill, stream, desk) {
         Ok(played) => Ok(played),
-        Err(answer) => Err(answer),
+        Err(refusal) => Err(refusal),
     }
 }
 
@@ -59,23 +57,21 @@ pub fn run_description<D: Desk>(
     desc: &str,
     stream: &str,
     desk: &mut D,
-) -> Result<Played, Answer>
+) -> Result<Played, Refusal>
     requires desc { IsAllowed desc.now (D.seen desk.old).told.may_open }
     requires stream { IsAllowed stream.now (D.seen desk.old).told.may_open }
     ensures ran { IfOk result (λ played. OfRun GivesCompiled desc.now stream.now (D.seen desk.old).told.inputs (λ r. (played.machine ≡ last_of r) × (played.fill ≡ r.fill))) }
     ensures report { IfOk result (λ played. string_bytes played.report ≡ report_text (report_of played.machine)) }
-    ensures stops { IfErr result (λ answer. StopsIn (a_description desc.now ∷ a_stream stream.now ∷ []) answer (D.seen desk.old) (D.seen desk.new)) }
-    ensures told { apart (D.seen desk.new).told ≡ apart (D.seen desk.old).told }
-    ensures counts { CountsBy result (D.seen desk.old) (D.seen desk.new) }
+    ensures takes { Takes (a_description desc.now ∷ a_stream stream.now ∷ []) result (D.seen desk.old) (D.seen desk.new) }
 {
     let checked = check_file(alloc, desc, desk)?;
     let fill = checked.fill();
     let accepted = match accepted_program(alloc, checked) {
         Ok(accepted) => accepted,
-        Err(_) => return Err(Answer::NoMemory),
+        Err(_) => return Err(Refusal::NoMemory),
     };
     match play_file(alloc, accepted, fill, stream, desk) {
         Ok(played) => Ok(played),
-        Err(answer) => Err(answer),
+        Err(refusal) => Err(refusal),
     }
 }

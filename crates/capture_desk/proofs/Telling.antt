@@ -28,6 +28,11 @@ pub tells_both : (first later : List Call) (old mid new : Option (List Call)) �
 tells_both first later old mid new h (inl f) = inl f
 tells_both first later old mid new h (inr f) = tells_later first later old mid new h f
 
+-- a step that is not told
+pub tells_same_after : (made : List Call) (old mid new : Option (List Call)) → Tells made old mid → new ≡ mid → Tells made old new
+tells_same_after made old mid new (inl e) f = inl (f ∙ e)
+tells_same_after made old mid new (inr e) f = inr (f ∙ e)
+
 -- ---- runs of what is said
 
 joined_twice : (before : List Call) → joined Say (joined Say before) ≡ joined Say before

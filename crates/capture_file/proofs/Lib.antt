@@ -3,6 +3,7 @@ pub mod Readings
 pub mod Resumed
 pub mod Across
 pub mod Answered
+mod Wanting
 pub mod Fronts
 pub mod Programs
 pub mod Chunks

@@ -4,7 +4,7 @@ ghost use Rattle.capture_file.specs.Readers.{AnswerFits, Closed, Failed, Opening
 ghost use Rattle.capture_file.specs.Records.{FoundFits, HasFour, Passes, Spans, StepFits, Sums, push_in, turns_in};
 ghost use Rattle.capture_file.specs.declared.FileFault.{FileFault};
 ghost use Rattle.capture_file.specs.declared.records.Found.TheVariants.{Cut};
-ghost use Rattle.capture_file.specs.Streams.{fault_at, most_turns, number_at, reading, record_at, stream_of, turns_of};
+ghost use Rattle.capture_file.specs.Streams.{Bad, fault_at, most_turns, number_at, reading, record_at, stream_of, turns_of};
 ghost use Rattle.std.specs.Prelude.{◌≡◌, ◌≤◌, ◌<◌, ◌+◌, ◌-◌, ◌^◌, ◌++◌, List, ℕ, [], None, IfSome, IfNone, take, drop, length, true, false};
 
 use super::records::{Form, Found, find, find_push, find_turns, form_named, number};
@@ -412,6 +412,7 @@ impl StepReader {
         ensures stays { Stays result.1 self.new.phase }
         ensures again { (fault : FileFault) → self.old.phase ≡ Failed fault
             → (result.0 ≡ 0) × (result.1 ≡ Got.Bad fault) × (self.new ≡ self.old) }
+        ensures sound { result.1 ≡ Got.More → (fault : FileFault) → (resumed self.old piece.now).ending ≡ Bad fault → ⊥ }
         ensures fits { AnswerFits result.1 }
     {
         self.advance(piece)

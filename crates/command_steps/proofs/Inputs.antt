@@ -1,7 +1,7 @@
 -- What holds of an input that is told.
-use Rattle.std.proofs.Common.{ℕ, List, Option, Some, None}
-use Rattle.capture_desk.specs.Desks.{Inputs, named}
-use Rattle.command_steps.specs.Desks.{OfFile, OfInput, OfRest}
+use Rattle.std.proofs.Common.{◌≡◌, ℕ, true, false, Bool, List, Option, Some, None, sym, ap, subst}
+use Rattle.capture_desk.specs.Desks.{HasRisen, Inputs, Told, after_open, first_rest, is_missing, named}
+use Rattle.command_steps.specs.Inputs.{OfFile, OfInput, OfRest, apart}
 
 -- what holds of bytes, holds where they are told
 pub OfInput-map : (name : List ℕ) (inputs : Option Inputs) (P Q : List ℕ → Type 0) → ((bytes : List ℕ) → P bytes → Q bytes) → OfInput name inputs P → OfInput name inputs Q
@@ -15,3 +15,27 @@ OfInput-map name (Some inputs) P Q f h = of_file (named name inputs) h
 pub OfRest-map : (rest : Option (List ℕ)) (P Q : List ℕ → Type 0) → ((bytes : List ℕ) → P bytes → Q bytes) → OfRest rest P → OfRest rest Q
 OfRest-map None P Q f h = tt
 OfRest-map (Some bytes) P Q f h = f bytes h
+
+-- the inputs stay through what only reads
+pub same_inputs : (a b : Told) → apart a ≡ apart b → a.inputs ≡ b.inputs
+same_inputs a b e = ap (λ (t : Told). t.inputs) e
+
+-- an input that was opened is the rest that is read
+pub opened_input : (name : List ℕ) (old opened : Told) (P : List ℕ → Type 0) → is_missing name old.inputs ≡ false → opened ≡ after_open name old →
+    OfRest opened.rest P → OfInput name old.inputs P
+opened_input name old opened P there e h = of_inputs old.inputs there (subst (λ (t : Told). OfRest t.rest P) e h)
+  where
+    IsThere : Bool → Type 0
+    IsThere true = ⊥
+    IsThere false = Unit {0}
+
+    of_named : (file : Option (List ℕ)) → elim file as (λ _. Bool) [ None ↦ true | Some _ ↦ false ] ≡ false → OfRest file P → OfFile file P
+    of_named None there h = absurd (subst IsThere (sym there) tt)
+    of_named (Some bytes) there h = h
+
+    of_inputs : (inputs : Option Inputs) → is_missing name inputs ≡ false → OfRest (first_rest name inputs) P → OfInput name inputs P
+    of_inputs None there h = tt
+    of_inputs (Some inputs) there h = of_named (named name inputs) there h
+
+pub rose_from : (old mid new : ℕ) → mid ≡ old → HasRisen mid new → HasRisen old new
+rose_from old mid new e h = subst (λ n. HasRisen n new) e h

@@ -2,7 +2,8 @@
 use Rattle.std.proofs.Common.{◌≡◌, ℕ, ◌<◌, inl, inr, List, [], ◌∷◌, length, take, refl, sym, ap, ◌∙◌, arith, subst}
 use Rattle.std.proofs.lemmas.List.{take_all}
 use Rattle.capture_desk.specs.Desks.{Told, after_create, after_say, after_write}
-use Rattle.command_steps.specs.Desks.{IsFilePart, IsPart, after_file, apart, delivered}
+use Rattle.command_steps.specs.Inputs.{apart}
+use Rattle.command_steps.specs.Outputs.{IsFilePart, IsPart, after_file, delivered}
 
 -- ---- one file
 

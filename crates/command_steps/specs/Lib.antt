@@ -1,3 +1,3 @@
-pub mod Texts
-pub mod Answers
-pub mod Desks
+pub mod Inputs
+pub mod Reading
+pub mod Outputs

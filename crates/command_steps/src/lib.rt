@@ -1,13 +1,11 @@
-//! What all commands share: what a call of the program comes to, its text, and the steps at a desk that
-//! read an input whole, write an output and say a text.
+//! The steps at a desk that all commands share: to read an input whole, to write outputs and say a text, and
+//! to say a refusal.
 #![tactic(auto)]
 
-mod answer;
-mod desks;
 mod outputs;
-mod texts;
+mod read;
+mod refusals;
 
-pub use answer::Answer;
-pub use desks::{PIECE, open, read_into, read_whole, refuse};
-pub use outputs::{write_image_file, write_program_file};
-pub use texts::{ACCEPTED, built_text, made_text, report_text};
+pub use read::{PIECE, open, read_into, read_whole};
+pub use outputs::{Content, Output, finish};
+pub use refusals::{refuse, refuse_words};

@@ -1,51 +1,83 @@
-//! Whole outputs: each is created, written and finished.
+//! Outputs, written one after the other, and a text that is said last.
 
-ghost use Rattle.std.specs.Prelude.{◌≡◌, MatchResult};
-ghost use Rattle.capture_desk.specs.Desks.{IsAllowed, after_create, after_finish, after_write};
-ghost use Rattle.capture_file.specs.Images.{image_of};
-ghost use Rattle.capture_file.specs.Programs.{spelled};
-ghost use Rattle.command_steps.specs.Desks.{DeliveryCounts, FileCalls, IsFilePart, after_file};
+ghost use Rattle.std.specs.Prelude.{All, IsTrue, List, MatchResult, ℕ, ◌≡◌};
+ghost use Rattle.capture_desk.specs.Desks.{IsAllowed, Puts, WriteCounts, after_write};
+ghost use Rattle.command_steps.specs.Outputs.{DeliveryCounts, Finishes, IsDeliveryOf, IsFileOf, IsFilePart, IsPart, after_file, delivered, files_of, names_of};
+ghost use Rattle.command_steps.specs.Reading.{Calls};
 
-use capture_desk::{Desk, Failed};
-use capture_file::{write_image, write_program};
-use page_ram::Ram;
-use risc_verify::Program;
+use capture_desk::{Desk, Failed, say_all};
+use command_texts::Answer;
 
-/// Writes the image of a memory.
-pub fn write_image_file<R: Ram, D: Desk>(name: &str, ram: &R, desk: &mut D) -> Result<(), Failed>
+/// What an output holds, which is put to it piece by piece.
+pub trait Content {
+    ghost bytes: { Self → List ℕ };
+
+    /// Puts all bytes to the open output, up to a write that fails.
+    fn put<D: Desk>(&self, desk: &mut D) -> Result<(), Failed>
+        requires open { IsTrue (D.seen desk.old).told.output_open }
+        ensures puts { Puts (bytes self.now) result after_write (D.seen desk.old).told (D.seen desk.new).told }
+        ensures counts { WriteCounts result (D.seen desk.old) (D.seen desk.new) };
+}
+
+/// An output: its name, and what it holds.
+#[derive(Drop)]
+pub struct Output<'a, C> {
+    pub name: &'a str,
+    pub content: C,
+}
+
+/// Writes an output: it is created, written and finished.
+fn write_output<C: Content, D: Desk>(
+    name: &str,
+    content: &C,
+    desk: &mut D,
+) -> Result<(), Failed>
     requires { IsAllowed name.now (D.seen desk.old).told.may_create }
     ensures left { MatchResult result
-        (λ _. (D.seen desk.new).told ≡ after_file (name.now, image_of (R.memory ram.now)) (D.seen desk.old).told)
-        (λ _. IsFilePart name.now (image_of (R.memory ram.now)) (D.seen desk.old).told (D.seen desk.new).told) }
+        (λ _. (D.seen desk.new).told ≡ after_file (name.now, C.bytes content.now) (D.seen desk.old).told)
+        (λ _. IsFilePart name.now (C.bytes content.now) (D.seen desk.old).told (D.seen desk.new).told) }
     ensures counts { DeliveryCounts result (D.seen desk.old) (D.seen desk.new) }
-    ensures calls { FileCalls name.now result (D.seen desk.old).calls (D.seen desk.new).calls }
+    ensures calls { Calls (IsFileOf name.now result) (D.seen desk.old) (D.seen desk.new) }
 {
     desk.create_out(name)?;
-    write_image(ram, desk)?;
+    content.put(desk)?;
     match desk.finish() {
         Ok(()) => Ok(()),
         Err(failed) => Err(failed),
     }
 }
 
-/// Writes the one program file of a program and the byte that fills its memory.
-pub fn write_program_file<D: Desk>(
-    name: &str,
-    program: &Program,
-    fill: u8,
+/// Writes outputs, one after the other, and then says a text. Where a call fails, it is the last.
+fn deliver<C: Content, D: Desk>(
+    outputs: &[Output<'_, C>],
+    text: &str,
     desk: &mut D,
 ) -> Result<(), Failed>
-    requires { IsAllowed name.now (D.seen desk.old).told.may_create }
+    requires { All (λ output. IsAllowed output.name.now (D.seen desk.old).told.may_create) outputs.now }
     ensures left { MatchResult result
-        (λ _. (D.seen desk.new).told ≡ after_file (name.now, spelled program.now fill) (D.seen desk.old).told)
-        (λ _. IsFilePart name.now (spelled program.now fill) (D.seen desk.old).told (D.seen desk.new).told) }
+        (λ _. (D.seen desk.new).told ≡ delivered (files_of C.bytes outputs.now) text.now (D.seen desk.old).told)
+        (λ _. IsPart (files_of C.bytes outputs.now) text.now (D.seen desk.old).told (D.seen desk.new).told) }
     ensures counts { DeliveryCounts result (D.seen desk.old) (D.seen desk.new) }
-    ensures calls { FileCalls name.now result (D.seen desk.old).calls (D.seen desk.new).calls }
+    ensures calls { Calls (IsDeliveryOf (names_of (files_of C.bytes outputs.now)) text.now result) (D.seen desk.old) (D.seen desk.new) }
 {
-    desk.create_out(name)?;
-    write_program(program, fill, desk)?;
-    match desk.finish() {
-        Ok(()) => Ok(()),
-        Err(failed) => Err(failed),
+    for output in outputs {
+        write_output(output.name, &output.content, desk)?;
+    }
+    say_all(desk, text.as_bytes())
+}
+
+/// Writes the outputs of a command, one after the other, says its text, and answers `Done`; `WriteFault` up to
+/// the first call that fails, after which none follows.
+pub fn finish<C: Content, D: Desk>(
+    outputs: &[Output<'_, C>],
+    text: &str,
+    desk: &mut D,
+) -> Answer
+    requires { All (λ output. IsAllowed output.name.now (D.seen desk.old).told.may_create) outputs.now }
+    ensures { Finishes (files_of C.bytes outputs.now) text.now result (D.seen desk.old) (D.seen desk.new) }
+{
+    match deliver(outputs, text, desk) {
+        Ok(()) => Answer::Done,
+        Err(_) => Answer::WriteFault,
     }
 }

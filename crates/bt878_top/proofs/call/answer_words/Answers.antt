@@ -1,6 +1,6 @@
 use Rattle.std.proofs.Common.{◌∙◌, ap, map, sym, subst, Bor, List, ℕ, Ok}
 use Rattle.bt878_words.proofs.Asked.{few_frames}
-use Rattle.bt878_tasks.specs.Tasks.{Answers}
+use Rattle.bt878_contract.specs.Tasks.{Answers}
 use Rattle.bt878_top.proofs.Asking.{assemble_program_allowed, assemble_task, assemble_text_allowed, capture_desc_allowed, capture_image_allowed, capture_program_allowed, capture_stream_allowed, capture_task, compile_desc_allowed, compile_program_allowed, compile_task, list_allowed, list_task, make_desc_allowed, make_stream_allowed, make_task, run_image_allowed, run_program_allowed, run_stream_allowed, run_task, verify_allowed, verify_task}
 use Rattle.bt878_top.proofs.call.answer_words.Goals as goal
 

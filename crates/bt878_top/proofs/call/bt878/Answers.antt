@@ -1,9 +1,9 @@
 -- Each clause follows from the one exact clause.
 use Rattle.std.proofs.Common.{Bor, List, ℕ, map}
-use Rattle.bt878_tasks.specs.Tasks.{task_of}
-use Rattle.bt878_tasks.specs.Pictures.{ShowsPictures, ShowsNoFault, SignalsInTime}
-use Rattle.bt878_tasks.proofs.Pictures.{pictures_shown, no_fault_shown, signals_come}
-use Rattle.bt878_tasks.proofs.Consequences.{bad_input_comes, bad_input_must, completes, done_assemble, done_capture, done_captured, done_compile, done_counts, done_inside, done_list, done_make, done_run, done_sound, done_verify, ends_at_fault, names_kept, others_untouched, read_fault_comes, refused_only_says, usage_comes, write_fault_comes, write_fault_stands}
+use Rattle.bt878_contract.specs.Tasks.{task_of}
+use Rattle.bt878_contract.specs.Pictures.{ShowsPictures, ShowsNoFault, SignalsInTime}
+use Rattle.bt878_contract.proofs.Pictures.{pictures_shown, no_fault_shown, signals_come}
+use Rattle.bt878_contract.proofs.Consequences.{bad_input_comes, bad_input_must, completes, done_assemble, done_capture, done_captured, done_compile, done_counts, done_inside, done_list, done_make, done_run, done_sound, done_verify, ends_at_fault, in_order, names_kept, others_untouched, read_fault_comes, refused_only_says, usage_comes, write_fault_comes, write_fault_stands}
 use Rattle.bt878_top.proofs.call.bt878.Goals as goal
 
 abbrev text : Bor (List ℕ) → List ℕ
@@ -128,3 +128,8 @@ pub returns-clause-last : goal.returns-clause-last
 returns-clause-last g c =
     let see = g.D.Desk.seen in
     ends_at_fault (task_of (map text c.args.words.now)) c.answer_words.result (see c.args.desk.now) (see c.answer_words.new.desk) c.answer_words.ensures
+
+pub returns-clause-order : goal.returns-clause-order
+returns-clause-order g c =
+    let see = g.D.Desk.seen in
+    in_order (task_of (map text c.args.words.now)) c.answer_words.result (see c.args.desk.now) (see c.answer_words.new.desk) c.answer_words.ensures

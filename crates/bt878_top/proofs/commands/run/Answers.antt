@@ -1,47 +1,31 @@
-use Rattle.std.proofs.Common.{◌≡◌, [], ◌∷◌, ◌∙◌, ap, refl, sym, subst}
-use Rattle.capture_desk.specs.Desks.{IsAllowed, Told}
+use Rattle.std.proofs.Common.{[], ◌∷◌, ◌∙◌, refl, sym, subst}
 use Rattle.capture_file.specs.Images.{image_of}
-use Rattle.command_steps.specs.Desks.{IsPart, delivered}
-use Rattle.bt878_tasks.specs.Tasks.{Makes, Runs}
-use Rattle.bt878_top.proofs.Composing.{ends_refused, run_product, task_done, task_part}
+use Rattle.command_steps.specs.Outputs.{Finishes}
+use Rattle.bt878_contract.specs.Tasks.{Makes, Runs}
+use Rattle.bt878_top.proofs.Composing.{ends_finished, ends_refused, one_allowed, run_product, still_allowed}
 use Rattle.bt878_top.proofs.commands.run.Goals as goal
 
 pub returns-in-Err : goal.returns-in-Err
 returns-in-Err g c =
     let see = g.D.Desk.seen in
-    let e = c.in-Err.ensures in
-    ends_refused (Runs c.args.program.now c.args.stream.now c.args.image.now) c.in-Err.answer c.refuse.result
-    (see c.args.desk.now) (see c.run_program.new.desk) (see c.refuse.new.desk)
-    e.counts c.refuse.ensures.reads e.told e.stops c.refuse.ensures.refused
+    ends_refused (Runs c.args.program.now c.args.stream.now c.args.image.now) c.in-Err.refusal c.refuse.result (see c.args.desk.now) (see c.run_program.new.desk) (see c.refuse.new.desk)
+    c.in-Err.ensures.takes c.refuse.ensures
 
-pub deliver-requires : goal.deliver-requires
-deliver-requires g c =
-    subst (IsAllowed c.args.image.now) (sym (ap (λ (t : Told). t.may_create) c.in-Ok.ensures.told)) c.requires.image
-
-pub returns-in-Ok-deliver : goal.returns-in-Ok-deliver
-returns-in-Ok-deliver g c =
+pub finish-requires : goal.finish-requires
+finish-requires g c =
     let see = g.D.Desk.seen in
-    let e = c.in-Ok.ensures in
-    let m = c.in-Ok.played.machine in
-    task_done (Runs c.args.program.now c.args.stream.now c.args.image.now) ((c.args.image.now, image_of m.memory) ∷ []) c.deref.result.now
-    (see c.args.desk.now) (see c.run_program.new.desk) (see c.deliver.new.desk) e.counts e.told
-    (subst (λ text. Makes (Runs c.args.program.now c.args.stream.now c.args.image.now) (g.D.Desk.seen c.args.desk.now).told.inputs (record { files = (c.args.image.now, image_of m.memory) ∷ []; text = text })) (sym (c.deref.ensures ∙ e.report))
-    (run_product c.args.program.now c.args.stream.now c.args.image.now c.args.image.now (g.D.Desk.seen c.args.desk.now).told.inputs m c.in-Ok.played.fill e.ran))
-    refl
-    (subst (λ memory. (g.D.Desk.seen c.deliver.new.desk).told ≡ delivered ((c.args.image.now, image_of memory) ∷ []) c.deref.result.now (g.D.Desk.seen c.run_program.new.desk).told)
-    c.ram.ensures.memory c.in-Ok-deliver.ensures.left)
-    c.in-Ok-deliver.ensures.counts
+    one_allowed _ (see c.run_program.new.desk).told.may_create
+    (still_allowed c.args.image.now (see c.args.desk.now).told (see c.run_program.new.desk).told c.in-Ok.ensures.takes.told c.requires.image)
 
 pub returns : goal.returns
 returns g c =
     let see = g.D.Desk.seen in
     let e = c.in-Ok.ensures in
     let m = c.in-Ok.played.machine in
-    task_part (Runs c.args.program.now c.args.stream.now c.args.image.now) ((c.args.image.now, image_of m.memory) ∷ []) c.deref.result.now
-    (see c.args.desk.now) (see c.run_program.new.desk) (see c.deliver.new.desk) e.counts e.told
-    (subst (λ text. Makes (Runs c.args.program.now c.args.stream.now c.args.image.now) (g.D.Desk.seen c.args.desk.now).told.inputs (record { files = (c.args.image.now, image_of m.memory) ∷ []; text = text })) (sym (c.deref.ensures ∙ e.report))
-    (run_product c.args.program.now c.args.stream.now c.args.image.now c.args.image.now (g.D.Desk.seen c.args.desk.now).told.inputs m c.in-Ok.played.fill e.ran))
+    let task = Runs c.args.program.now c.args.stream.now c.args.image.now in
+    ends_finished task ((c.args.image.now, image_of m.memory) ∷ []) c.deref.result.now (see c.args.desk.now) (see c.run_program.new.desk) (see c.finish.new.desk) e.takes
+    c.finish.result
+    (subst (λ text. Makes task (see c.args.desk.now).told.inputs (record { files = (c.args.image.now, image_of m.memory) ∷ []; text = text })) (sym (c.deref.ensures ∙ e.report))
+    (run_product c.args.program.now c.args.stream.now c.args.image.now c.args.image.now (see c.args.desk.now).told.inputs m c.in-Ok.played.fill e.ran))
     refl
-    (subst (λ memory. IsPart ((c.args.image.now, image_of memory) ∷ []) c.deref.result.now (g.D.Desk.seen c.run_program.new.desk).told (g.D.Desk.seen c.deliver.new.desk).told)
-    c.ram.ensures.memory c.in-Err-deliver.ensures.left)
-    c.in-Err-deliver.ensures.counts
+    (subst (λ memory. Finishes ((c.args.image.now, image_of memory) ∷ []) c.deref.result.now c.finish.result (see c.run_program.new.desk) (see c.finish.new.desk)) c.ram.ensures.memory c.finish.ensures)

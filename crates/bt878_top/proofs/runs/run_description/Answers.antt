@@ -1,11 +1,14 @@
-use Rattle.std.proofs.Common.{◌≡◌, List, ℕ}
+use Rattle.std.proofs.Common.{◌≡◌, [], ◌∷◌, List, ℕ}
 use Rattle.machine_model.specs.Paths.{RiscProgram}
 use Rattle.capture_desc.specs.declared.desc.Desc.{Desc}
 use Rattle.picture_model.specs.Programs.{compiled}
 use Rattle.command_steps.proofs.Inputs.{OfInput-map}
-use Rattle.desc_input.specs.Descriptions.{Describes, GivesCompiled, HoldsValid}
-use Rattle.bt878_tasks.specs.Tasks.{a_description}
-use Rattle.bt878_top.proofs.Running.{ran_over, stops_at_stream}
+use Rattle.command_inputs.specs.Descriptions.{Describes, GivesCompiled, HoldsValid, a_description}
+use Rattle.machine_model.specs.States.{first_state}
+use Rattle.command_texts.specs.declared.refusal.Refusal.TheVariants.{NoMemory}
+use Rattle.command_steps.proofs.Sequence.{stopped_first}
+use Rattle.stream_play.specs.Runs.{a_stream}
+use Rattle.bt878_top.proofs.Running.{ran_over, stopped_at_stream, took_both}
 use Rattle.bt878_top.proofs.runs.run_description.Goals as goal
 
 gives : (d : Desc) (p : RiscProgram) (f : ℕ) → p ≡ compiled d → f ≡ d.fill → (bytes : List ℕ) → Describes bytes d → GivesCompiled bytes p f
@@ -16,17 +19,31 @@ returns-in-Ok-play_file-clause-ran g c =
     let e = c.in_ok-checked.ensures in
     let d = c.in_ok-checked.checked in
     ran_over GivesCompiled c.args.desc.now c.args.stream.now (g.D.Desk.seen c.args.desk.now).told (g.D.Desk.seen c.check_file.new.desk).told
-    c.in-Ok.accepted c.fill-fill.result c.in-Ok-play_file.played.machine c.in-Ok-play_file.played.fill e.told c.in-Ok-play_file.ensures.fill
+    c.in-Ok.accepted c.fill-fill.result c.in-Ok-play_file.played.machine c.in-Ok-play_file.played.fill e.reads.told c.in-Ok-play_file.ensures.fill
     (OfInput-map c.args.desc.now (g.D.Desk.seen c.args.desk.now).told.inputs (λ bytes. Describes bytes d) (λ bytes. GivesCompiled bytes c.in-Ok.accepted c.fill-fill.result)
     (gives d c.in-Ok.accepted c.fill-fill.result c.in-Ok.ensures c.fill-fill.ensures.value) e.describes)
     c.in-Ok-play_file.ensures.played
 
-pub returns-in-Err-play_file-clause-stops : goal.returns-in-Err-play_file-clause-stops
-returns-in-Err-play_file-clause-stops g c =
+pub returns-in-Ok-play_file-clause-takes : goal.returns-in-Ok-play_file-clause-takes
+returns-in-Ok-play_file-clause-takes g c =
     let see = g.D.Desk.seen in
     let e = c.in_ok-checked.ensures in
     let d = c.in_ok-checked.checked in
-    stops_at_stream (a_description c.args.desc.now) c.args.stream.now c.in-Err-play_file.answer (see c.args.desk.now) (see c.check_file.new.desk) (see c.play_file.new.desk)
-    e.told e.counts
-    (OfInput-map c.args.desc.now (g.D.Desk.seen c.args.desk.now).told.inputs (λ bytes. Describes bytes d) HoldsValid (λ bytes h. (d, h)) e.describes)
-    c.in-Err-play_file.ensures.stops
+    took_both (a_description c.args.desc.now) c.args.stream.now (see c.args.desk.now) (see c.check_file.new.desk) (see c.play_file.new.desk) e.reads e.quiet
+    (OfInput-map c.args.desc.now (see c.args.desk.now).told.inputs (λ bytes. Describes bytes d) HoldsValid (λ bytes h. (d, h)) e.describes) c.in-Ok-play_file.ensures.reads
+    (first_state c.in-Ok.accepted c.fill-fill.result) c.in-Ok-play_file.played.machine c.in-Ok-play_file.ensures.quiet c.in-Ok-play_file.ensures.played
+
+pub returns-in-Err-play_file-clause-takes : goal.returns-in-Err-play_file-clause-takes
+returns-in-Err-play_file-clause-takes g c =
+    let see = g.D.Desk.seen in
+    let e = c.in_ok-checked.ensures in
+    let d = c.in_ok-checked.checked in
+    stopped_at_stream (a_description c.args.desc.now) c.args.stream.now (see c.args.desk.now) (see c.check_file.new.desk) (see c.play_file.new.desk) e.reads e.quiet
+    (OfInput-map c.args.desc.now (see c.args.desk.now).told.inputs (λ bytes. Describes bytes d) HoldsValid (λ bytes h. (d, h)) e.describes) c.in-Err-play_file.ensures.reads
+    c.in-Err-play_file.refusal c.in-Err-play_file.ensures.stops
+
+-- want of memory behind the description
+pub returns-in-Err-clause-takes : goal.returns-in-Err-clause-takes
+returns-in-Err-clause-takes g c =
+    let see = g.D.Desk.seen in
+    stopped_first (a_description c.args.desc.now) (see c.args.desk.now) (see c.check_file.new.desk) c.in_ok-checked.ensures.reads (a_stream c.args.stream.now ∷ []) NoMemory tt

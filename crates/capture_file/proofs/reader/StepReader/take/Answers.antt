@@ -2,6 +2,7 @@ use Rattle.std.proofs.Common.{◌+◌, ◌++◌, length, drop, sym, ◌∙◌, a
 use Rattle.capture_file.specs.Readers.{Taken, resumed, after_answer, Uses, Counts, Stays, PlacedAt}
 use Rattle.capture_file.proofs.Resumed.{taken-goes}
 use Rattle.capture_file.proofs.Answered.{taken-moves, taken-stays, taken-placed, taken-again}
+use Rattle.capture_file.proofs.Wanting.{wants-more}
 use Rattle.capture_file.proofs.reader.StepReader.take.Goals as goal
 
 pub returns-clause-whole : goal.returns-clause-whole
@@ -33,3 +34,6 @@ pub returns-clause-again : goal.returns-clause-again
 returns-clause-again c fault is =
     let same = c.advance.ensures.exact ∙ taken-again c.args.self.now c.args.piece.now fault is in
     (ap (λ (t : Taken). t.used) same, ap (λ (t : Taken). t.answer) same, ap (λ (t : Taken). t.reader) same)
+
+pub returns-clause-sound : goal.returns-clause-sound
+returns-clause-sound c more fault bad = wants-more c.args.self.now c.args.piece.now _ c.advance.ensures.valid c.advance.ensures.exact more fault bad

@@ -1,0 +1,407 @@
+-- What the top call promises, said one by one, follows from its one exact clause.
+use Rattle.std.specs.Prelude.{⊤}
+use Rattle.std.proofs.Common.{◌≡◌, ℕ, ◌⊎◌, inl, inr, false, List, [], ◌∷◌, Option, Result, Ok, Err, All, refl, sym, ap, subst, ◌∙◌}
+use Rattle.bt878_words.specs.declared.Command.{Command}
+use Rattle.bt878_words.specs.declared.UsageFault.{UsageFault}
+use Rattle.bt878_words.specs.Words.{command_of, inputs_of, outputs_of}
+use Rattle.capture_desk.specs.Desks.{Inputs, Seen, Tells, is_among, said_by}
+use Rattle.capture_desc.specs.declared.desc.Desc.{Desc}
+use Rattle.machine_model.specs.Paths.{RiscProgram, IsSound}
+use Rattle.machine_model.specs.Safety.{IsStep}
+use Rattle.machine_model.specs.States.{State, first_state}
+use Rattle.machine_model.specs.Steps as machine
+use Rattle.capture_file.specs.declared.program.ProgramFile.{ProgramFile}
+use Rattle.capture_file.specs.Programs.{program_of, spelled}
+use Rattle.capture_file.specs.Streams.{steps_of, steps_run}
+use Rattle.picture_model.specs.Programs.{compiled}
+use Rattle.field_stream.specs.Made.{made, made_entries, made_fields}
+use Rattle.dma_machine.specs.Facts.{report_of}
+use Rattle.risc_listing.specs.Listings.{listing}
+use Rattle.command_texts.specs.declared.answer.Answer.{Answer}
+use Rattle.command_texts.specs.declared.answer.Answer.TheVariants.{Done, Usage, ReadFault, WriteFault, Malformed, BadDesc, BadGeometry, BadText, Rejected, NoMemory}
+use Rattle.command_texts.specs.declared.refusal.Refusal.{Refusal}
+use Rattle.command_texts.specs.declared.refusal.Refusal.TheVariants as refusal
+use Rattle.command_texts.specs.Answers.{answer_of}
+use Rattle.command_steps.specs.Outputs.{EndsAtFault, Product, Says, delivered}
+use Rattle.command_steps.specs.Inputs.{OfInput, SameCounts, ReadsRose, WritesRose, apart}
+use Rattle.command_texts.specs.Texts.{answer_text, made_text, report_text}
+use Rattle.stream_play.specs.Plays.{longest_stream}
+use Rattle.command_inputs.specs.Programs.{GivesSound, HoldsProgram, HoldsSound}
+use Rattle.bt878_contract.specs.Tasks.{IsListed}
+use Rattle.stream_play.specs.Runs.{OfRun, Ran, last_of}
+use Rattle.stream_play.proofs.Fitting.{steps_fit}
+use Rattle.command_steps.proofs.Inputs.{OfInput-map}
+use Rattle.command_inputs.specs.Descriptions.{GivesCompiled, HoldsValid}
+use Rattle.command_inputs.specs.Listings.{GivesAssembled, HoldsListing}
+use Rattle.bt878_contract.specs.Tasks.{Task, Lists, Verifies, Runs, Compiles, Captures, Generates, Assembles, Answers, DescMakes, Ends, IsDone, IsPartDone, IsRefused, ListingMakes, Makes, RunMakes, compiled_text, creates, image_file, meaning, program_file, program_text, task_of, task_with}
+use Rattle.bt878_contract.specs.Clauses.{AreTold, CreatesNone, IsAssembled, IsBadInput, IsCompiled, IsCut, IsInOrder, IsGenerated, IsGood, IsOutput, IsRefusal, IsUnreadOf, IsUsage, OfDesc, OfRan, OfSteps, OnlyOutputs, OnlySays, SameNames, SameOutput, SaysAccepted, SaysAll, SaysListing, ShowsLast, ShowsProgram, StandsAt, StaysInside, TellsInput, UnlessCut}
+use Rattle.bt878_contract.proofs.Asked.{IsAsked, is_asked}
+use Rattle.bt878_contract.proofs.Inputs.{OfRun-map, run_file, run_stream}
+use Rattle.bt878_contract.proofs.Judges.{bad_in, bad_leads, good_leads, good_not_bad, judged, unread_in}
+use Rattle.bt878_contract.proofs.Outputs.{AreApart, AreOutputs, all_said, all_written, cut_off, done_names, done_other, no_files, only_says, part_done_other, part_names, rises, said_names, same_outputs, says_only}
+
+-- ---- the words
+
+module _ (words : List (List ℕ)) (answer : Answer) (old new : Seen) (h : Answers (task_of words) answer old new) where
+  -- what the words are, and what came of it
+  by_words : (P : Type 0) → ((fault : UsageFault) → answer ≡ Usage fault → P) → ((a : IsAsked words) → Ends a.task answer old new → P) → P
+  by_words P faulty fine = by_command (command_of words) refl
+    where
+      by_command : (c : Result Command UsageFault) → command_of words ≡ c → P
+      by_command (Err fault) e = faulty fault (subst (λ r. Answers r answer old new) (ap (λ c. task_with c words) e) h).0
+      by_command (Ok c) e = let a = is_asked words c e in fine a (subst (λ r. Answers r answer old new) a.is h)
+
+  pub usage_comes : IsUsage (command_of words) answer
+  usage_comes = by_command (command_of words) refl
+    where
+      by_command : (c : Result Command UsageFault) → command_of words ≡ c → IsUsage c answer
+      by_command (Err fault) e = (subst (λ r. Answers r answer old new) (ap (λ c. task_with c words) e) h).0
+      by_command (Ok c) e = λ fault is. let a = is_asked words c e in subst (λ x. Ends a.task x old new) is (subst (λ r. Answers r answer old new) a.is h)
+
+is_task : Task → Result Task UsageFault → Task
+is_task task (Ok found) = found
+is_task task (Err fault) = task
+
+abbrev task_ok : Task → Result Task UsageFault
+task_ok task = Ok task
+
+one_task : (a b : Task) → task_ok a ≡ task_ok b → a ≡ b
+unfolding is_task
+one_task a b e = ap (is_task a) e
+
+-- ---- at Done
+
+at_answer : (task : Task) (answer wanted : Answer) (old new : Seen) → Ends task answer old new → answer ≡ wanted → Ends task wanted old new
+at_answer task answer wanted old new h e = subst (λ a. Ends task a old new) e h
+
+done_by : (task : Task) (answer : Answer) (old new : Seen) → Ends task answer old new → answer ≡ Done → IsDone task old new
+done_by task answer old new h e = at_answer task answer Done old new h e
+
+pub done_counts : (r : Result Task UsageFault) (answer : Answer) (old new : Seen) → Answers r answer old new → answer ≡ Done → SameCounts old new
+done_counts (Err fault) answer old new h e = let usage = h.0 in absurd (cc)
+done_counts (Ok task) answer old new h e = (done_by task answer old new h e).counts
+
+-- what follows of what `run` and `capture` make, over the stream's steps
+module _ (Q : Ran → Type 0) (f : (files : List (List ℕ × List ℕ)) (product : Product) (stream : List ℕ) (r : Ran) → steps_of longest_stream false stream ≡ Ok r.steps → RunMakes files product r → Q r) where
+  ran_by : (r : Result Task UsageFault) (answer : Answer) (old new : Seen) → Answers r answer old new → answer ≡ Done → OfRan r old.told.inputs Q
+  ran_by (Ok (Runs program stream image)) answer old new h e =
+      let d = done_by (Runs program stream image) answer old new h e in
+      OfRun-map GivesSound program stream old.told.inputs (λ r. RunMakes (image_file image r ∷ []) d.product r) Q
+      (λ a b r is m. f (image_file image r ∷ []) d.product b r is.reads m) d.made.0
+  ran_by (Ok (Captures desc stream program image)) answer old new h e =
+      let d = done_by (Captures desc stream program image) answer old new h e in
+      OfRun-map GivesCompiled desc stream old.told.inputs
+      (λ r. RunMakes (program_file program r.program r.fill ∷ image_file image r ∷ []) d.product r) Q
+      (λ a b r is m. f (program_file program r.program r.fill ∷ image_file image r ∷ []) d.product b r is.reads m) d.made.0
+  ran_by (Ok (Lists program)) answer old new h e = tt
+  ran_by (Ok (Verifies program)) answer old new h e = tt
+  ran_by (Ok (Compiles desc program)) answer old new h e = tt
+  ran_by (Ok (Generates desc seed frames stream)) answer old new h e = tt
+  ran_by (Ok (Assembles text program)) answer old new h e = tt
+  ran_by (Err fault) answer old new h e = let usage = h.0 in absurd (cc)
+
+module _ (P : Ran → Type 0) (always : (files : List (List ℕ × List ℕ)) (product : Product) (r : Ran) → RunMakes files product r → P r) where
+  pub done_ran : (r : Result Task UsageFault) (answer : Answer) (old new : Seen) → Answers r answer old new → answer ≡ Done → OfRan r old.told.inputs P
+  done_ran = ran_by P (λ files product stream r reads m. always files product r m)
+
+pub done_inside : (r : Result Task UsageFault) (answer : Answer) (old new : Seen) → Answers r answer old new → answer ≡ Done → OfRan r old.told.inputs StaysInside
+done_inside = done_ran StaysInside (λ files product r m. m.inside)
+
+-- what is so of every first state and all steps that a decoder makes
+module _ (P : State → List machine.Step → Type 0) (always : (program : RiscProgram) (fill : ℕ) (steps : List machine.Step) → All IsStep steps → P (first_state program fill) steps) where
+  pub done_captured : (r : Result Task UsageFault) (answer : Answer) (old new : Seen) → Answers r answer old new → answer ≡ Done → OfRan r old.told.inputs (OfSteps P)
+  done_captured = ran_by (OfSteps P) (λ files product stream r reads m. always r.program r.fill (steps_run r.steps) (steps_fit stream r.steps reads))
+
+pub done_sound : (r : Result Task UsageFault) (answer : Answer) (old new : Seen) → Answers r answer old new → answer ≡ Done → OfRan r old.told.inputs (λ ran. IsSound ran.program)
+done_sound = done_ran (λ ran. IsSound ran.program) (λ files product ran m. m.sound)
+
+-- its files and its text are there, and nothing else is created
+module _ (task : Task) (old new : Seen) (d : IsDone task old new) where
+  its_text : SaysAll d.product.text old.told new.told
+  its_text = all_said d.product.files d.product.text old.told new.told d.left
+
+  its_files : AreApart (creates task) → AreOutputs d.product.files new.told.outputs
+  its_files h = all_written d.product.files d.product.text old.told new.told d.left (subst AreApart (sym d.names) h)
+
+  its_text_alone : creates task ≡ [] → CreatesNone old.told new.told
+  its_text_alone none =
+      (says_only d.product.text old.told new.told (d.left ∙ ap (λ files. delivered files d.product.text (apart old.told)) (no_files d.product.files (d.names ∙ none)))).0
+
+  its_run : (files : List (List ℕ × List ℕ)) (r : Ran) → AreApart (creates task) → RunMakes files d.product r →
+      AreOutputs files new.told.outputs × SaysAll (report_text (report_of (last_of r))) old.told new.told
+  its_run files r h m = (
+    subst (λ fs. AreOutputs fs new.told.outputs) m.writes (its_files h),
+    subst (λ text. SaysAll text old.told new.told) m.reports its_text,
+  )
+
+  its_desc : (file : Desc → List ℕ × List ℕ) (text : Desc → List ℕ) (desc : List ℕ) → AreApart (creates task) → OfInput desc old.told.inputs (DescMakes file text d.product) →
+      OfDesc desc old.told.inputs (λ c. IsOutput (file c).0 (file c).1 new.told.outputs × SaysAll (text c) old.told new.told)
+  its_desc file text desc h made =
+      OfInput-map desc old.told.inputs (DescMakes file text d.product) _
+      (λ bytes m. (
+        m.description,
+        m.describes,
+        ((subst (λ fs. AreOutputs fs new.told.outputs) m.writes (its_files h)).0, subst (λ t. SaysAll t old.told new.told) m.says its_text),
+      ))
+      made
+
+-- ---- each command, at Done
+
+module _ (words : List (List ℕ)) (answer : Answer) (old new : Seen) (h : Answers (task_of words) answer old new) (e : answer ≡ Done) where
+  -- what words for a task come to
+  task_done : (task : Task) → task_of words ≡ Ok task → IsDone task old new
+  task_done task is = done_by task answer old new (subst (λ r. Answers r answer old new) is h) e
+
+  -- their outputs have different names
+  distinct : (task : Task) → task_of words ≡ Ok task → AreApart (creates task)
+  distinct task is =
+      by_words words answer old new h (AreApart (creates task)) (λ fault usage. absurd (cc))
+      (λ a ends. subst (λ t. AreApart (creates t)) (one_task a.task task (sym a.is ∙ is)) a.distinct)
+
+  pub done_run : (program stream image : List ℕ) → task_of words ≡ Ok (Runs program stream image) → OfRun GivesSound program stream old.told.inputs (ShowsLast image old.told new.told)
+  done_run program stream image is =
+      let d = task_done (Runs program stream image) is in
+      OfRun-map GivesSound program stream old.told.inputs (λ r. RunMakes (image_file image r ∷ []) d.product r) (ShowsLast image old.told new.told)
+      (λ a b r runs m. let shown = its_run (Runs program stream image) old new d (image_file image r ∷ []) r (distinct (Runs program stream image) is) m in (shown.0.0, shown.1)) d.made.0
+
+  pub done_capture : (desc stream program image : List ℕ) → task_of words ≡ Ok (Captures desc stream program image) →
+      OfRun GivesCompiled desc stream old.told.inputs (λ r. ShowsProgram program new.told r × ShowsLast image old.told new.told r)
+  done_capture desc stream program image is =
+      let d = task_done (Captures desc stream program image) is in
+      OfRun-map GivesCompiled desc stream old.told.inputs
+      (λ r. RunMakes (program_file program r.program r.fill ∷ image_file image r ∷ []) d.product r) (λ r. ShowsProgram program new.told r × ShowsLast image old.told new.told r)
+      (λ a b r runs m.
+      let shown = its_run (Captures desc stream program image) old new d (program_file program r.program r.fill ∷ image_file image r ∷ []) r (distinct (Captures desc stream program image) is) m in
+      (shown.0.0, (shown.0.1.0, shown.1)))
+      d.made.0
+
+  pub done_compile : (desc program : List ℕ) → task_of words ≡ Ok (Compiles desc program) → IsCompiled desc program old.told new.told
+  done_compile desc program is =
+      let d = task_done (Compiles desc program) is in
+      its_desc (Compiles desc program) old new d (λ c. program_file program (compiled c) c.fill) compiled_text desc (distinct (Compiles desc program) is) d.made.0
+
+  pub done_make : (desc : List ℕ) (seed frames : ℕ) (stream : List ℕ) → task_of words ≡ Ok (Generates desc seed frames stream) → IsGenerated desc seed frames stream old.told new.told
+  done_make desc seed frames stream is =
+      let d = task_done (Generates desc seed frames stream) is in
+      its_desc (Generates desc seed frames stream) old new d (λ c. (stream, made c seed frames)) (λ c. made_text (made_fields c frames) (made_entries c frames)) desc
+      (distinct (Generates desc seed frames stream) is) d.made.0
+
+  pub done_assemble : (text program : List ℕ) → task_of words ≡ Ok (Assembles text program) → IsAssembled text program old.told new.told
+  done_assemble text program is =
+      let d = task_done (Assembles text program) is in
+      OfInput-map text old.told.inputs (ListingMakes program d.product)
+      (λ bytes. (file : ProgramFile) × GivesAssembled bytes file
+      × IsOutput program (spelled file.program file.fill) new.told.outputs × SaysAll (program_text file.program) old.told new.told)
+      (λ bytes m. (
+        m.file,
+        m.assembles,
+        (subst (λ fs. AreOutputs fs new.told.outputs) m.writes (its_files (Assembles text program) old new d (distinct (Assembles text program) is))).0,
+        subst (λ t. SaysAll t old.told new.told) m.says (its_text (Assembles text program) old new d),
+      ))
+      d.made.0
+
+  pub done_verify : (program : List ℕ) → task_of words ≡ Ok (Verifies program) → SaysAccepted program old.told new.told
+  done_verify program is =
+      let d = task_done (Verifies program) is in (
+        d.made.0,
+        subst (λ text. SaysAll text old.told new.told) d.made.1 (its_text (Verifies program) old new d),
+        its_text_alone (Verifies program) old new d refl,
+      )
+
+  pub done_list : (program : List ℕ) → task_of words ≡ Ok (Lists program) → SaysListing program old.told new.told
+  done_list program is =
+      let d = task_done (Lists program) is in (
+        OfInput-map program old.told.inputs (λ bytes. IsListed bytes d.product.text)
+            (λ bytes. (file : ProgramFile) × (program_of bytes ≡ Ok file) × SaysAll (listing file.program file.fill) old.told new.told)
+            (λ bytes lists. (lists.0, lists.1, subst (λ text. SaysAll text old.told new.told) lists.2 (its_text (Lists program) old new d))) d.made.0,
+        its_text_alone (Lists program) old new d refl,
+      )
+
+-- ---- why it is refused
+
+-- it was done, in whole or in part, or it was refused
+by_end : (task : Task) (answer : Answer) (old new : Seen) (P : Answer → Type 0) → (IsDone task old new → P Done) → (IsPartDone task old new → P WriteFault) →
+    ((refusal : Refusal) → IsRefused task refusal old new → P (answer_of refusal)) → Ends task answer old new → P answer
+by_end task Done old new P done part refused h = done h
+by_end task WriteFault old new P done part refused h = part h
+by_end task (Usage fault) old new P done part refused h = absurd h
+by_end task answer old new P done part refused h = subst P (sym h.1) (refused h.0 h.2)
+
+-- no two refusals have one answer
+refusal_in : Answer → Refusal
+refusal_in ReadFault = refusal.ReadFault
+refusal_in (Malformed file fault) = refusal.Malformed file fault
+refusal_in (BadDesc fault) = refusal.BadDesc fault
+refusal_in (BadGeometry fault) = refusal.BadGeometry fault
+refusal_in (BadText fault) = refusal.BadText fault
+refusal_in (Rejected at nth cause) = refusal.Rejected at nth cause
+refusal_in answer = refusal.NoMemory
+
+refusal_back : (r : Refusal) → refusal_in (answer_of r) ≡ r
+unfolding refusal_in
+refusal_back refusal.ReadFault = refl
+refusal_back (refusal.Malformed file fault) = refl
+refusal_back (refusal.BadDesc fault) = refl
+refusal_back (refusal.BadGeometry fault) = refl
+refusal_back (refusal.BadText fault) = refl
+refusal_back (refusal.Rejected at nth cause) = refl
+refusal_back refusal.NoMemory = refl
+
+one_refusal : (a b : Refusal) → answer_of a ≡ answer_of b → a ≡ b
+one_refusal a b e = sym (refusal_back a) ∙ ap refusal_in e ∙ refusal_back b
+
+-- and neither Done nor WriteFault is one's
+abbrev IsOther : Answer → Type 0
+IsOther Done = ⊥
+IsOther WriteFault = ⊥
+IsOther (Usage fault) = ⊥
+IsOther _ = ⊤
+
+is_other : (r : Refusal) → IsOther (answer_of r)
+is_other refusal.ReadFault = tt
+is_other (refusal.Malformed file fault) = tt
+is_other (refusal.BadDesc fault) = tt
+is_other (refusal.BadGeometry fault) = tt
+is_other (refusal.BadText fault) = tt
+is_other (refusal.Rejected at nth cause) = tt
+is_other refusal.NoMemory = tt
+
+-- a refusal's answer comes of that refusal
+refused_by : (task : Task) (answer : Answer) (old new : Seen) → Ends task answer old new → (r : Refusal) → answer ≡ answer_of r → IsRefused task r old new
+refused_by task answer old new h r =
+    by_end task answer old new (λ a. a ≡ answer_of r → IsRefused task r old new)
+    (λ d e. absurd (subst IsOther (sym e) (is_other r)))
+    (λ p e. absurd (subst IsOther (sym e) (is_other r)))
+    (λ other refused e. subst (λ x. IsRefused task x old new) (one_refusal other r e) refused) h
+
+pub read_fault_comes : (words : List (List ℕ)) (answer : Answer) (old new : Seen) → Answers (task_of words) answer old new → answer ≡ ReadFault → IsUnreadOf (inputs_of words) old new
+read_fault_comes words answer old new h e =
+    by_words words answer old new h (IsUnreadOf (inputs_of words) old new) (λ fault usage. absurd (cc))
+    (λ a ends. subst (λ names. IsUnreadOf names old new) (sym a.inputs) (unread_in (meaning a.task).inputs old new (refused_by a.task answer old new ends refusal.ReadFault e).why))
+
+pub write_fault_comes : (r : Result Task UsageFault) (answer : Answer) (old new : Seen) → Answers r answer old new → answer ≡ WriteFault → WritesRose old new
+write_fault_comes (Err fault) answer old new h e = let usage = h.0 in absurd (cc)
+write_fault_comes (Ok task) answer old new h e = rises old.writes new.writes (at_answer task answer WriteFault old new h e).fault.1
+
+pub bad_input_comes : (r : Result Task UsageFault) (answer : Answer) (old new : Seen) → Answers r answer old new → (why : Refusal) → answer ≡ answer_of why → TellsInput why →
+    IsBadInput r why old.told.inputs
+bad_input_comes (Err fault) answer old new h why e tells = absurd (subst IsOther (sym (sym h.0 ∙ e)) (is_other why))
+bad_input_comes (Ok task) answer old new h why e tells = bad_in (meaning task).inputs why old new tells (refused_by task answer old new h why e).why
+
+-- ---- what an input leads to, where it is told
+
+valid_of : (file : Desc → List ℕ × List ℕ) (text : Desc → List ℕ) (product : Product) (desc : List ℕ) (inputs : Option Inputs) → OfInput desc inputs (DescMakes file text product) →
+    OfInput desc inputs HoldsValid
+valid_of file text product desc inputs h = OfInput-map desc inputs (DescMakes file text product) HoldsValid (λ bytes m. (m.description, m.describes)) h
+
+-- what is made is made of good inputs
+makes_good : (task : Task) (inputs : Option Inputs) (product : Product) → AreTold inputs → Makes task inputs product → IsGood (Ok task) inputs
+makes_good (Lists program) inputs product told h = (OfInput-map program inputs (λ bytes. IsListed bytes product.text) HoldsProgram (λ bytes is. (is.0, is.1)) h.0, tt)
+makes_good (Verifies program) inputs product told h = (h.0, tt)
+makes_good (Runs program stream image) inputs product told h =
+    let P : Ran → Type 0 = λ r. RunMakes (image_file image r ∷ []) product r in (
+      run_file GivesSound program stream inputs P HoldsSound (λ bytes p fill is. (p, fill, is)) told h.0,
+      (run_stream GivesSound program stream inputs P told h.0, tt),
+    )
+makes_good (Compiles desc program) inputs product told h = (valid_of (λ d. program_file program (compiled d) d.fill) compiled_text product desc inputs h.0, tt)
+makes_good (Captures desc stream program image) inputs product told h =
+    let P : Ran → Type 0 = λ r. RunMakes (program_file program r.program r.fill ∷ image_file image r ∷ []) product r in (
+      run_file GivesCompiled desc stream inputs P HoldsValid (λ bytes p fill is. (is.description, is.describes)) told h.0,
+      (run_stream GivesCompiled desc stream inputs P told h.0, tt),
+    )
+makes_good (Generates desc seed frames stream) inputs product told h =
+    (valid_of (λ d. (stream, made d seed frames)) (λ d. made_text (made_fields d frames) (made_entries d frames)) product desc inputs h.0, tt)
+makes_good (Assembles text program) inputs product told h = (OfInput-map text inputs (ListingMakes program product) HoldsListing (λ bytes m. (m.file, m.assembles)) h.0, tt)
+
+pub bad_input_must : (r : Result Task UsageFault) (answer : Answer) (old new : Seen) → Answers r answer old new → AreTold old.told.inputs → (wanted : Refusal) →
+    IsBadInput r wanted old.told.inputs → UnlessCut wanted answer old new
+bad_input_must (Err fault) answer old new h told wanted bad = absurd bad
+bad_input_must (Ok task) answer old new h told wanted bad =
+    by_end task answer old new (λ a. UnlessCut wanted a old new)
+    (λ d. absurd (good_not_bad (meaning task).inputs (judged task) wanted old.told.inputs told (makes_good task old.told.inputs d.product told d.made) bad))
+    (λ p. absurd (good_not_bad (meaning task).inputs (judged task) wanted old.told.inputs told (makes_good task old.told.inputs p.product told p.made) bad))
+    (λ r refused. bad_leads (meaning task).inputs (judged task) wanted r old new told bad refused.why) h
+
+uncut : (answer : Answer) (old new : Seen) → (ReadsRose old new → ⊥) → IsCut answer old new → (answer ≡ Done) ⊎ (answer ≡ NoMemory)
+uncut answer old new quiet (inl e) = inr e
+uncut answer old new quiet (inr h) = absurd (quiet h.1)
+
+pub completes : (r : Result Task UsageFault) (answer : Answer) (old new : Seen) → Answers r answer old new → AreTold old.told.inputs → IsGood r old.told.inputs →
+    (ReadsRose old new → ⊥) → (WritesRose old new → ⊥) → (answer ≡ Done) ⊎ (answer ≡ NoMemory)
+completes (Err fault) answer old new h told good reads writes = absurd good
+completes (Ok task) answer old new h told good reads writes =
+    by_end task answer old new (λ a. (a ≡ Done) ⊎ (a ≡ NoMemory))
+    (λ d. inl refl)
+    (λ p. absurd (writes (rises old.writes new.writes p.fault.1)))
+    (λ r refused. uncut (answer_of r) old new reads (good_leads (meaning task).inputs (judged task) r old new told good refused.why)) h
+
+-- ---- the order of work
+
+pub in_order : (r : Result Task UsageFault) (answer : Answer) (old new : Seen) → Answers r answer old new → IsInOrder r answer old new
+in_order (Err fault) answer old new h = subst (λ a. Tells (said_by (answer_text a)) old.calls new.calls) (sym h.0) h.1.1
+in_order (Ok task) answer old new h =
+    by_end task answer old new (λ a. IsInOrder (Ok task) a old new) (λ d. (d.product.text, d.calls)) (λ p. p.calls) (λ r refused. refused_order r refused) h
+  where
+    refused_order : (r : Refusal) → IsRefused task r old new → IsInOrder (Ok task) (answer_of r) old new
+    refused_order refusal.ReadFault refused = refused.calls
+    refused_order (refusal.Malformed file fault) refused = refused.calls
+    refused_order (refusal.BadDesc fault) refused = refused.calls
+    refused_order (refusal.BadGeometry fault) refused = refused.calls
+    refused_order (refusal.BadText fault) refused = refused.calls
+    refused_order (refusal.Rejected at nth cause) refused = refused.calls
+    refused_order refusal.NoMemory refused = refused.calls
+
+-- ---- what an answer leaves
+
+pub refused_only_says : (r : Result Task UsageFault) (answer : Answer) (old new : Seen) → Answers r answer old new → IsRefusal answer → OnlySays (answer_text answer) old new
+refused_only_says (Err fault) answer old new h is =
+    subst (λ a. OnlySays (answer_text a) old new) (sym h.0) (only_says (answer_text (Usage fault)) old new h.1.0)
+refused_only_says (Ok task) answer old new h is =
+    by_end task answer old new (λ a. IsRefusal a → OnlySays (answer_text a) old new) (λ d none. absurd none) (λ p none. absurd none)
+    (λ r refused some. only_says (answer_text (answer_of r)) old new refused.said) h is
+
+stands_at : (task : Task) (old new : Seen) → AreApart (creates task) → IsPartDone task old new → StandsAt (Ok task) old.told new.told
+stands_at task old new h p = (
+  p.product,
+  p.made,
+  p.names,
+  cut_off p.product.files p.product.text old.told new.told p.left (subst AreApart (sym p.names) h),
+)
+
+pub write_fault_stands : (words : List (List ℕ)) (answer : Answer) (old new : Seen) → Answers (task_of words) answer old new → answer ≡ WriteFault → StandsAt (task_of words) old.told new.told
+write_fault_stands words answer old new h e =
+    by_words words answer old new h (StandsAt (task_of words) old.told new.told) (λ fault usage. absurd (cc))
+    (λ a ends. subst (λ r. StandsAt r old.told new.told) (sym a.is) (stands_at a.task old new a.distinct (at_answer a.task answer WriteFault old new ends e)))
+
+-- no call follows one that fails at writing
+says_last : (text : List ℕ) (old new : Seen) → Says text old new → EndsAtFault old new
+says_last text old new (n, few, left, inl all) = inl all.1
+says_last text old new (n, few, left, inr fault) = inr fault
+
+pub ends_at_fault : (r : Result Task UsageFault) (answer : Answer) (old new : Seen) → Answers r answer old new → EndsAtFault old new
+ends_at_fault (Err fault) answer old new h = says_last (answer_text (Usage fault)) old new h.1.0
+ends_at_fault (Ok task) answer old new h =
+    by_end task answer old new (λ a. EndsAtFault old new) (λ d. inl d.counts.1) (λ p. inr (p.fault.1, p.fault.2)) (λ r refused. says_last (answer_text (answer_of r)) old new refused.said) h
+
+-- the other outputs
+other_by : (task : Task) (answer : Answer) (name : List ℕ) (old new : Seen) → is_among name (creates task) ≡ false → Ends task answer old new → SameOutput name old.told.outputs new.told.outputs
+other_by task answer name old new absent h =
+    by_end task answer old new (λ a. SameOutput name old.told.outputs new.told.outputs)
+    (λ d. done_other d.product.files d.product.text old.told new.told d.left name (subst (λ names. is_among name names ≡ false) (sym d.names) absent))
+    (λ p. part_done_other p.product.files p.product.text old.told new.told p.left name (subst (λ names. is_among name names ≡ false) (sym p.names) absent))
+    (λ r refused. same_outputs name old.told new.told (only_says (answer_text (answer_of r)) old new refused.said).0) h
+
+pub others_untouched : (words : List (List ℕ)) (answer : Answer) (old new : Seen) → Answers (task_of words) answer old new → OnlyOutputs (outputs_of words) old.told new.told
+others_untouched words answer old new h = λ name absent.
+    by_words words answer old new h (SameOutput name old.told.outputs new.told.outputs)
+    (λ fault usage. same_outputs name old.told new.told (refused_only_says (task_of words) answer old new h (subst IsRefusal (sym usage) tt)).0)
+    (λ a ends. other_by a.task answer name old new (subst (λ names. is_among name names ≡ false) a.outputs absent) ends)
+
+-- the names
+pub names_kept : (r : Result Task UsageFault) (answer : Answer) (old new : Seen) → Answers r answer old new → SameNames old.told new.told
+names_kept (Err fault) answer old new h = said_names (answer_text (Usage fault)) old new h.1.0
+names_kept (Ok task) answer old new h =
+    by_end task answer old new (λ a. SameNames old.told new.told)
+    (λ d. done_names d.product.files d.product.text old.told new.told d.left)
+    (λ p. part_names p.product.files p.product.text (apart old.told) (apart new.told) p.left)
+    (λ r refused. said_names (answer_text (answer_of r)) old new refused.said) h

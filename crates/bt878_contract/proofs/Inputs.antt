@@ -1,0 +1,66 @@
+-- What follows of an input that the desk tells, and of a run over two.
+use Rattle.std.proofs.Common.{◌≡◌, ℕ, inl, inr, true, false, Bool, List, Option, Some, None, refl}
+use Rattle.capture_desk.specs.Desks.{Seen, Inputs, is_missing, named}
+use Rattle.machine_model.specs.Paths.{RiscProgram}
+use Rattle.command_texts.specs.declared.refusal.Refusal.TheVariants.{ReadFault}
+use Rattle.command_texts.specs.Answers.{answer_of}
+use Rattle.command_steps.specs.Inputs.{OfFile, OfInput, IsUnread}
+use Rattle.stream_play.specs.Runs.{HoldsSteps, IsRun, OfRun, Ran}
+use Rattle.command_steps.proofs.Inputs.{OfInput-map}
+use Rattle.bt878_contract.specs.Clauses.{AreTold, IsCut}
+
+-- two facts of one input
+pub both_of : (name : List ℕ) (inputs : Option Inputs) (P Q : List ℕ → Type 0) (R : Type 0) → AreTold inputs → ((bytes : List ℕ) → P bytes → Q bytes → R) →
+    OfInput name inputs P → OfInput name inputs Q → R
+both_of name None P Q R told f h k = absurd told
+both_of name (Some inputs) P Q R told f h k = of_file (named name inputs) h k
+  where
+    of_file : (file : Option (List ℕ)) → OfFile file P → OfFile file Q → R
+    of_file None h k = absurd h
+    of_file (Some bytes) h k = f bytes h k
+
+-- its bytes
+pub told_some : (name : List ℕ) (inputs : Option Inputs) (P : List ℕ → Type 0) → AreTold inputs → OfInput name inputs P → (bytes : List ℕ) × P bytes
+told_some name None P told h = absurd told
+told_some name (Some inputs) P told h = of_file (named name inputs) h
+  where
+    of_file : (file : Option (List ℕ)) → OfFile file P → (bytes : List ℕ) × P bytes
+    of_file None h = absurd h
+    of_file (Some bytes) h = (bytes, h)
+
+-- it isn't missing
+not_missing : (name : List ℕ) (inputs : Option Inputs) (P : List ℕ → Type 0) → AreTold inputs → OfInput name inputs P → is_missing name inputs ≡ true → ⊥
+not_missing name None P told h missing = told
+not_missing name (Some inputs) P told h missing = of_file (named name inputs) h missing
+  where
+    of_file : (file : Option (List ℕ)) → OfFile file P → elim file as (λ _. Bool) [ None ↦ true | Some _ ↦ false ] ≡ true → ⊥
+    of_file None h missing = h
+    of_file (Some bytes) h missing = absurd (cc)
+
+-- so only a fault of the desk keeps it from being read
+pub cut_unread : (name : List ℕ) (old new : Seen) (P : List ℕ → Type 0) → AreTold old.told.inputs → OfInput name old.told.inputs P → IsUnread name old new → IsCut (answer_of ReadFault) old new
+cut_unread name old new P told there (inl rose) = inr (refl, rose)
+cut_unread name old new P told there (inr missing) = absurd (not_missing name old.told.inputs P told there missing)
+
+-- ---- a run
+
+module _ (Gives : List ℕ → RiscProgram → ℕ → Type 0) (file stream : List ℕ) (inputs : Option Inputs) where
+  abbrev RunOf : (Ran → Type 0) → List ℕ → List ℕ → Type 0
+  RunOf P a b = (r : Ran) × IsRun Gives a b r × P r
+
+  pub OfRun-map : (P Q : Ran → Type 0) → ((a b : List ℕ) (r : Ran) → IsRun Gives a b r → P r → Q r) → OfRun Gives file stream inputs P → OfRun Gives file stream inputs Q
+  OfRun-map P Q f h =
+      OfInput-map file inputs (λ a. OfInput stream inputs (RunOf P a)) (λ a. OfInput stream inputs (RunOf Q a))
+      (λ a k. OfInput-map stream inputs (RunOf P a) (RunOf Q a) (λ b m. (m.0, m.1, f a b m.0 m.1 m.2)) k) h
+
+  -- both inputs of a run are good
+  pub run_file : (P : Ran → Type 0) (IsGood : List ℕ → Type 0) → ((bytes : List ℕ) (program : RiscProgram) (fill : ℕ) → Gives bytes program fill → IsGood bytes) → AreTold inputs →
+      OfRun Gives file stream inputs P → OfInput file inputs IsGood
+  run_file P IsGood f told h =
+      OfInput-map file inputs (λ a. OfInput stream inputs (RunOf P a)) IsGood
+      (λ a k. let some = told_some stream inputs (RunOf P a) told k in f a some.1.0.program some.1.0.fill some.1.1.gives) h
+
+  pub run_stream : (P : Ran → Type 0) → AreTold inputs → OfRun Gives file stream inputs P → OfInput stream inputs HoldsSteps
+  run_stream P told h =
+      let some = told_some file inputs (λ a. OfInput stream inputs (RunOf P a)) told h in
+      OfInput-map stream inputs (RunOf P some.0) HoldsSteps (λ b m. (m.0.steps, m.1.reads)) some.1

@@ -1,0 +1,316 @@
+-- Why an input is not taken: a told input is bad in one way only, and a good one isn't bad.
+use Rattle.std.proofs.Common.{◌≡◌, ℕ, ◌<◌, ◌⊎◌, inl, inr, false, List, [], ◌∷◌, map, Option, Result, Ok, Err, refl, sym, ap, subst, ◌∙◌, arith}
+use Rattle.capture_desk.specs.Desks.{HasRisen, Inputs, Seen}
+use Rattle.machine_model.specs.declared.Cause.{Cause}
+use Rattle.machine_model.specs.Paths.{RiscProgram, IsSound, IsFirstBad}
+use Rattle.capture_file.specs.declared.FileFault.{FileFault}
+use Rattle.capture_file.specs.declared.Input.{Input as FileInput}
+use Rattle.capture_file.specs.declared.Input.TheVariants.{Program, Stream, Desc as DescFile}
+use Rattle.capture_file.specs.declared.program.ProgramFile.{ProgramFile}
+use Rattle.capture_file.specs.declared.Step.{Step}
+use Rattle.capture_file.specs.Programs.{program_of}
+use Rattle.capture_file.specs.Streams.{steps_of}
+use Rattle.command_texts.specs.declared.refusal.Refusal.{Refusal}
+use Rattle.command_texts.specs.declared.refusal.Refusal.TheVariants.{ReadFault, Malformed, BadDesc, BadGeometry, BadText, Rejected, NoMemory}
+use Rattle.command_texts.specs.Answers.{answer_of}
+use Rattle.command_steps.specs.Inputs.{AreGood, Input, IsFirstBadOf, OfInput, StopsAt, StopsIn}
+use Rattle.stream_play.specs.Plays.{longest_stream}
+use Rattle.command_inputs.specs.Programs.{HoldsProgram, HoldsSound, IsBadFile, IsBadProgram, Rejects, a_program, a_sound_program}
+use Rattle.stream_play.specs.Runs.{HoldsSteps, IsBadStream, a_stream}
+use Rattle.command_steps.proofs.Inputs.{OfInput-map}
+use Rattle.command_inputs.specs.Descriptions.{HoldsValid, IsBadDesc, a_description, description_of}
+use Rattle.risc_asm.specs.declared.AsmFault.{AsmFault}
+use Rattle.risc_asm.specs.declared.AsmError.TheVariants.{Bad}
+use Rattle.risc_asm.specs.Answers.{IsFault}
+use Rattle.risc_asm.proofs.OneAnswer.{one_answer}
+use Rattle.command_inputs.specs.Listings.{HoldsListing, IsBadText, a_listing}
+use Rattle.bt878_contract.specs.Tasks.{Task, Lists, Verifies, Runs, Compiles, Captures, Generates, Assembles, meaning}
+use Rattle.bt878_contract.specs.Clauses.{AreTold, IsCut, IsUnreadOf, TellsInput, UnlessCut}
+use Rattle.bt878_contract.proofs.Inputs.{both_of, cut_unread}
+use Rattle.bt878_contract.proofs.Outputs.{first_among, later_among}
+
+-- Why is what an refusal says of the bytes
+pub record IsJudge (IsBad : List ℕ → Refusal → Option Inputs → Type 0) (IsGood : List ℕ → Type 0) (Why : Refusal → List ℕ → Type 0) : Type 0 where
+  pub tells : (name : List ℕ) (refusal : Refusal) (inputs : Option Inputs) → IsBad name refusal inputs → OfInput name inputs (Why refusal)
+  pub excludes : (refusal : Refusal) (bytes : List ℕ) → IsGood bytes → Why refusal bytes → ⊥
+  pub once : (a b : Refusal) (bytes : List ℕ) → Why a bytes → Why b bytes → a ≡ b
+
+-- ---- what follows for every judge
+
+pub bad_at : (IsBad : List ℕ → Refusal → Option Inputs → Type 0) (name : List ℕ) (refusal : Refusal) (old new : Seen) → TellsInput refusal → StopsAt IsBad name refusal old new →
+    IsBad name refusal old.told.inputs
+bad_at IsBad name ReadFault old new tells h = absurd tells
+bad_at IsBad name NoMemory old new tells h = absurd tells
+bad_at IsBad name refusal old new tells h = h
+
+module _ {IsBad : List ℕ → Refusal → Option Inputs → Type 0} {IsGood : List ℕ → Type 0} {Why : Refusal → List ℕ → Type 0} (judge : IsJudge IsBad IsGood Why) where
+  pub good_or_bad : (name : List ℕ) (refusal : Refusal) (inputs : Option Inputs) → AreTold inputs → OfInput name inputs IsGood → IsBad name refusal inputs → ⊥
+  good_or_bad name refusal inputs told good bad =
+      both_of name inputs IsGood (Why refusal) ⊥ told (λ bytes. judge.excludes refusal bytes) good (judge.tells name refusal inputs bad)
+
+  bad_once : (name : List ℕ) (a b : Refusal) (inputs : Option Inputs) → AreTold inputs → IsBad name a inputs → IsBad name b inputs → a ≡ b
+  bad_once name a b inputs told one two =
+      both_of name inputs (Why a) (Why b) (a ≡ b) told (λ bytes. judge.once a b bytes) (judge.tells name a inputs one) (judge.tells name b inputs two)
+
+  pub good_cuts : (name : List ℕ) (refusal : Refusal) (old new : Seen) → AreTold old.told.inputs → OfInput name old.told.inputs IsGood → StopsAt IsBad name refusal old new → IsCut (answer_of refusal) old new
+  good_cuts name ReadFault old new told good h = cut_unread name old new IsGood told good h
+  good_cuts name NoMemory old new told good h = inl refl
+  good_cuts name refusal old new told good h = absurd (good_or_bad name refusal old.told.inputs told good h)
+
+  pub bad_stops : (name : List ℕ) (wanted refusal : Refusal) (old new : Seen) → AreTold old.told.inputs → IsBad name wanted old.told.inputs → StopsAt IsBad name refusal old new → UnlessCut wanted (answer_of refusal) old new
+  bad_stops name wanted ReadFault old new told bad h = inr (cut_unread name old new (Why wanted) told (judge.tells name wanted old.told.inputs bad) h)
+  bad_stops name wanted NoMemory old new told bad h = inr (inl refl)
+  bad_stops name wanted refusal old new told bad h = inl (ap answer_of (bad_once name refusal wanted old.told.inputs told h bad))
+
+-- ---- the five judges
+
+-- a file that its reader gives a fault of
+module _ {X : Type 0} (read : List ℕ → Result X FileFault) (file : FileInput) where
+  abbrev IsFaulty : Refusal → List ℕ → Type 0
+  IsFaulty refusal bytes = (fault : FileFault) × (refusal ≡ Malformed file fault) × (read bytes ≡ Err fault)
+
+  faulty : (fault : FileFault) (name : List ℕ) (inputs : Option Inputs) → OfInput name inputs (λ bytes. read bytes ≡ Err fault) → OfInput name inputs (IsFaulty (Malformed file fault))
+  faulty fault name inputs h = OfInput-map name inputs (λ bytes. read bytes ≡ Err fault) (IsFaulty (Malformed file fault)) (λ bytes e. (fault, refl, e)) h
+
+  not_faulty : (refusal : Refusal) (bytes : List ℕ) (x : X) → read bytes ≡ Ok x → IsFaulty refusal bytes → ⊥
+  not_faulty refusal bytes x e (fault, is, wrong) = absurd (cc)
+
+  faulty_once : (a b : Refusal) (bytes : List ℕ) → IsFaulty a bytes → IsFaulty b bytes → a ≡ b
+  faulty_once a b bytes (f, one, e) (g, two, d) = cc
+
+-- a program file
+abbrev WhyFile : Refusal → List ℕ → Type 0
+WhyFile refusal bytes = IsFaulty program_of Program refusal bytes
+
+file_tells : (name : List ℕ) (refusal : Refusal) (inputs : Option Inputs) → IsBadFile name refusal inputs → OfInput name inputs (WhyFile refusal)
+file_tells name (Malformed Program fault) inputs h = faulty program_of Program fault name inputs h
+file_tells name refusal inputs h = absurd h
+
+pub file_judge : IsJudge IsBadFile HoldsProgram WhyFile
+file_judge =
+    record {
+      tells = file_tells;
+      excludes = λ refusal bytes good why. not_faulty program_of Program refusal bytes good.0 good.1 why;
+      once = faulty_once program_of Program;
+    }
+
+-- and a sound program
+pub record IsRejected (refusal : Refusal) (bytes : List ℕ) : Type 0 where
+  place : ℕ
+  step : ℕ
+  cause : Cause
+  is : refusal ≡ Rejected place step cause
+  rejects : Rejects (program_of bytes) place step cause
+
+abbrev WhyProgram : Refusal → List ℕ → Type 0
+WhyProgram refusal bytes = WhyFile refusal bytes ⊎ IsRejected refusal bytes
+
+program_tells : (name : List ℕ) (refusal : Refusal) (inputs : Option Inputs) → IsBadProgram name refusal inputs → OfInput name inputs (WhyProgram refusal)
+program_tells name (Rejected at nth cause) inputs h =
+    OfInput-map name inputs (λ bytes. Rejects (program_of bytes) at nth cause) (WhyProgram (Rejected at nth cause))
+    (λ bytes rejects. inr (record { place = at; step = nth; cause = cause; is = refl; rejects = rejects })) h
+program_tells name refusal inputs h = OfInput-map name inputs (WhyFile refusal) (WhyProgram refusal) (λ bytes. inl) (file_tells name refusal inputs h)
+
+same_file : (bytes : List ℕ) (a b : ProgramFile) → program_of bytes ≡ Ok a → program_of bytes ≡ Ok b → a ≡ b
+same_file bytes a b e f = cc
+
+not_bad : (program : RiscProgram) (at nth : ℕ) (cause : Cause) → IsSound program → IsFirstBad program at nth cause → ⊥
+not_bad program at nth cause sound bad = let fine = sound nth in let other = bad.bad in absurd (cc)
+
+not_earlier : (program : RiscProgram) (a b n k : ℕ) (c d : Cause) → IsFirstBad program a n c → IsFirstBad program b k d → n < k → ⊥
+not_earlier program a b n k c d one two less = let fine = two.fine n less in let other = one.bad in absurd (cc)
+
+one_number : (program : RiscProgram) (a b n k : ℕ) (c d : Cause) → IsFirstBad program a n c → IsFirstBad program b k d → n ≡ k
+one_number program a b n k c d one two =
+    let less : n < k → ⊥ = not_earlier program a b n k c d one two in
+    let more : k < n → ⊥ = not_earlier program b a k n d c two one in
+    omega (arith, less, more)
+
+one_bad : (program : RiscProgram) (a b n k : ℕ) (c d : Cause) → IsFirstBad program a n c → IsFirstBad program b k d → Rejected a n c ≡ Rejected b k d
+one_bad program a b n k c d one two =
+    let same = one_number program a b n k c d one two in
+    let there = one.there in
+    let bad = one.bad in
+    let other_there = two.there in
+    let other_bad = two.bad in
+    cc
+
+one_rejection : (a b n k : ℕ) (c d : Cause) (bytes : List ℕ) → Rejects (program_of bytes) a n c → Rejects (program_of bytes) b k d → Rejected a n c ≡ Rejected b k d
+one_rejection a b n k c d bytes h other =
+    one_bad other.file.program a b n k c d
+    (subst (λ (f : ProgramFile). IsFirstBad f.program a n c) (same_file bytes h.file other.file h.reads other.reads) h.bad) other.bad
+
+not_rejected : (refusal : Refusal) (bytes : List ℕ) → HoldsSound bytes → IsRejected refusal bytes → ⊥
+not_rejected refusal bytes (program, fill, a) r =
+    not_bad r.rejects.file.program r.place r.step r.cause
+    (subst (λ (f : ProgramFile). IsSound f.program) (same_file bytes (record { program = program; fill = fill }) r.rejects.file a.reads r.rejects.reads) a.sound)
+    r.rejects.bad
+
+program_excludes : (refusal : Refusal) (bytes : List ℕ) → HoldsSound bytes → WhyProgram refusal bytes → ⊥
+program_excludes refusal bytes (program, fill, a) (inl why) = not_faulty program_of Program refusal bytes (record { program = program; fill = fill }) a.reads why
+program_excludes refusal bytes good (inr why) = not_rejected refusal bytes good why
+
+program_once : (a b : Refusal) (bytes : List ℕ) → WhyProgram a bytes → WhyProgram b bytes → a ≡ b
+program_once a b bytes (inl one) (inl two) = faulty_once program_of Program a b bytes one two
+program_once a b bytes (inl one) (inr two) = absurd (not_faulty program_of Program a bytes two.rejects.file two.rejects.reads one)
+program_once a b bytes (inr one) (inl two) = absurd (not_faulty program_of Program b bytes one.rejects.file one.rejects.reads two)
+program_once a b bytes (inr one) (inr two) =
+    one.is ∙ one_rejection one.place two.place one.step two.step one.cause two.cause bytes one.rejects two.rejects ∙ sym two.is
+
+pub program_judge : IsJudge IsBadProgram HoldsSound WhyProgram
+program_judge = record { tells = program_tells; excludes = program_excludes; once = program_once }
+
+-- a stream file
+abbrev stream_steps : List ℕ → Result (List Step) FileFault
+stream_steps bytes = steps_of longest_stream false bytes
+
+abbrev WhyStream : Refusal → List ℕ → Type 0
+WhyStream refusal bytes = IsFaulty stream_steps Stream refusal bytes
+
+stream_tells : (name : List ℕ) (refusal : Refusal) (inputs : Option Inputs) → IsBadStream name refusal inputs → OfInput name inputs (WhyStream refusal)
+stream_tells name (Malformed Stream fault) inputs h = faulty stream_steps Stream fault name inputs h
+stream_tells name refusal inputs h = absurd h
+
+pub stream_judge : IsJudge IsBadStream HoldsSteps WhyStream
+stream_judge =
+    record {
+      tells = stream_tells;
+      excludes = λ refusal bytes good why. not_faulty stream_steps Stream refusal bytes good.0 good.1 why;
+      once = faulty_once stream_steps Stream;
+    }
+
+-- a description
+abbrev WhyDesc : Refusal → List ℕ → Type 0
+WhyDesc refusal bytes = description_of bytes ≡ Err refusal
+
+desc_tells : (name : List ℕ) (refusal : Refusal) (inputs : Option Inputs) → IsBadDesc name refusal inputs → OfInput name inputs (WhyDesc refusal)
+desc_tells name (Malformed DescFile fault) inputs h = h
+desc_tells name (BadDesc fault) inputs h = h
+desc_tells name (BadGeometry fault) inputs h = h
+desc_tells name refusal inputs h = absurd h
+
+desc_excludes : (refusal : Refusal) (bytes : List ℕ) → HoldsValid bytes → WhyDesc refusal bytes → ⊥
+desc_excludes refusal bytes (d, is) why = let right = is.reads in absurd (cc)
+
+desc_once : (a b : Refusal) (bytes : List ℕ) → WhyDesc a bytes → WhyDesc b bytes → a ≡ b
+desc_once a b bytes one two = cc
+
+pub desc_judge : IsJudge IsBadDesc HoldsValid WhyDesc
+desc_judge = record { tells = desc_tells; excludes = desc_excludes; once = desc_once }
+
+-- a text
+pub record IsAtFault (refusal : Refusal) (bytes : List ℕ) : Type 0 where
+  fault : AsmFault
+  is : refusal ≡ BadText fault
+  bad : IsFault bytes fault
+
+text_tells : (name : List ℕ) (refusal : Refusal) (inputs : Option Inputs) → IsBadText name refusal inputs → OfInput name inputs (IsAtFault refusal)
+text_tells name (BadText fault) inputs h =
+    OfInput-map name inputs (λ bytes. IsFault bytes fault) (IsAtFault (BadText fault)) (λ bytes bad. record { fault = fault; is = refl; bad = bad }) h
+text_tells name refusal inputs h = absurd h
+
+text_excludes : (refusal : Refusal) (bytes : List ℕ) → HoldsListing bytes → IsAtFault refusal bytes → ⊥
+text_excludes refusal bytes (file, good) why =
+    let same = one_answer bytes (Ok file) (Err (Bad why.fault)) good why.bad tt tt in absurd (cc)
+
+text_once : (a b : Refusal) (bytes : List ℕ) → IsAtFault a bytes → IsAtFault b bytes → a ≡ b
+text_once a b bytes one two =
+    let same = one_answer bytes (Err (Bad one.fault)) (Err (Bad two.fault)) one.bad two.bad tt tt in
+    let fault : one.fault ≡ two.fault = cc in
+    one.is ∙ ap BadText fault ∙ sym two.is
+
+pub text_judge : IsJudge IsBadText HoldsListing IsAtFault
+text_judge = record { tells = text_tells; excludes = text_excludes; once = text_once }
+
+-- ---- inputs whose judges are so
+
+pub record IsJudged (input : Input) : Type 1 where
+  pub Why : Refusal → List ℕ → Type 0
+  pub judges : IsJudge input.judge.IsBad input.judge.IsGood Why
+
+abbrev pub AreJudged : List Input → Type 1
+AreJudged [] = Unit {1}
+AreJudged (input ∷ inputs) = IsJudged input × AreJudged inputs
+
+pub program_judged : (name : List ℕ) → IsJudged (a_program name)
+program_judged name = record { Why = WhyFile; judges = file_judge }
+
+pub sound_program_judged : (name : List ℕ) → IsJudged (a_sound_program name)
+sound_program_judged name = record { Why = WhyProgram; judges = program_judge }
+
+pub description_judged : (name : List ℕ) → IsJudged (a_description name)
+description_judged name = record { Why = WhyDesc; judges = desc_judge }
+
+pub stream_judged : (name : List ℕ) → IsJudged (a_stream name)
+stream_judged name = record { Why = WhyStream; judges = stream_judge }
+
+pub listing_judged : (name : List ℕ) → IsJudged (a_listing name)
+listing_judged name = record { Why = IsAtFault; judges = text_judge }
+
+pub judged : (task : Task) → AreJudged (meaning task).inputs
+judged (Lists program) = (program_judged program, tt)
+judged (Verifies program) = (sound_program_judged program, tt)
+judged (Runs program stream image) = (sound_program_judged program, (stream_judged stream, tt))
+judged (Compiles desc program) = (description_judged desc, tt)
+judged (Captures desc stream program image) = (description_judged desc, (stream_judged stream, tt))
+judged (Generates desc seed frames stream) = (description_judged desc, tt)
+judged (Assembles text program) = (listing_judged text, tt)
+
+-- ---- a list of inputs
+
+-- the desk may meet more faults of reading later
+stops_at_later : (IsBad : List ℕ → Refusal → Option Inputs → Type 0) (name : List ℕ) (refusal : Refusal) (old mid new : Seen) → new.reads ≡ mid.reads →
+    StopsAt IsBad name refusal old mid → StopsAt IsBad name refusal old new
+stops_at_later IsBad name ReadFault old mid new same (inl rose) = inl (subst (λ n. HasRisen old.reads n) (sym same) rose)
+stops_at_later IsBad name ReadFault old mid new same (inr missing) = inr missing
+stops_at_later IsBad name refusal old mid new same h = h
+
+pub stops_later : (inputs : List Input) (refusal : Refusal) (old mid new : Seen) → new.reads ≡ mid.reads → StopsIn inputs refusal old mid → StopsIn inputs refusal old new
+stops_later [] refusal old mid new same h = h
+stops_later (input ∷ inputs) refusal old mid new same (inl h) = inl (stops_at_later input.judge.IsBad input.name refusal old mid new same h)
+stops_later (input ∷ inputs) refusal old mid new same (inr h) = inr (h.0, stops_later inputs refusal old mid new same h.1)
+
+-- what a refusal tells is so of the first input that is not good
+pub bad_in : (inputs : List Input) (refusal : Refusal) (old new : Seen) → TellsInput refusal → StopsIn inputs refusal old new → IsFirstBadOf inputs refusal old.told.inputs
+bad_in [] refusal old new tells h = subst TellsInput h tells
+bad_in (input ∷ inputs) refusal old new tells (inl h) = inl (bad_at input.judge.IsBad input.name refusal old new tells h)
+bad_in (input ∷ inputs) refusal old new tells (inr h) = inr (h.0, bad_in inputs refusal old new tells h.1)
+
+-- good inputs aren't bad
+pub good_not_bad : (inputs : List Input) → AreJudged inputs → (refusal : Refusal) (told : Option Inputs) → AreTold told → AreGood inputs told → IsFirstBadOf inputs refusal told → ⊥
+good_not_bad [] are refusal told is good bad = bad
+good_not_bad (input ∷ inputs) are refusal told is good (inl bad) = good_or_bad are.0.judges input.name refusal told is good.0 bad
+good_not_bad (input ∷ inputs) are refusal told is good (inr bad) = good_not_bad inputs are.1 refusal told is good.1 bad.1
+
+-- where an input is bad, it stops for this reason or is cut off
+pub bad_leads : (inputs : List Input) → AreJudged inputs → (wanted refusal : Refusal) (old new : Seen) → AreTold old.told.inputs → IsFirstBadOf inputs wanted old.told.inputs →
+    StopsIn inputs refusal old new → UnlessCut wanted (answer_of refusal) old new
+bad_leads [] are wanted refusal old new told bad h = absurd bad
+bad_leads (input ∷ inputs) are wanted refusal old new told (inl bad) (inl h) = bad_stops are.0.judges input.name wanted refusal old new told bad h
+bad_leads (input ∷ inputs) are wanted refusal old new told (inl bad) (inr h) = absurd (good_or_bad are.0.judges input.name wanted old.told.inputs told h.0 bad)
+bad_leads (input ∷ inputs) are wanted refusal old new told (inr bad) (inl h) = inr (good_cuts are.0.judges input.name refusal old new told bad.0 h)
+bad_leads (input ∷ inputs) are wanted refusal old new told (inr bad) (inr h) = bad_leads inputs are.1 wanted refusal old new told bad.1 h.1
+
+-- where all inputs are good, it stops only where it is cut off
+pub good_leads : (inputs : List Input) → AreJudged inputs → (refusal : Refusal) (old new : Seen) → AreTold old.told.inputs → AreGood inputs old.told.inputs → StopsIn inputs refusal old new →
+    IsCut (answer_of refusal) old new
+good_leads [] are refusal old new told good h = inl (ap answer_of h)
+good_leads (input ∷ inputs) are refusal old new told good (inl h) = good_cuts are.0.judges input.name refusal old new told good.0 h
+good_leads (input ∷ inputs) are refusal old new told good (inr h) = good_leads inputs are.1 refusal old new told good.1 h.1
+
+-- an input could not be read
+abbrev pub input_names : List Input → List (List ℕ)
+input_names inputs = map (λ (input : Input). input.name) inputs
+
+unread_at : (IsBad : List ℕ → Refusal → Option Inputs → Type 0) (name : List ℕ) (names : List (List ℕ)) (old new : Seen) → StopsAt IsBad name ReadFault old new → IsUnreadOf (name ∷ names) old new
+unread_at IsBad name names old new (inl rose) = inl rose
+unread_at IsBad name names old new (inr missing) = inr (name, first_among name names, missing)
+
+unread_later : (name : List ℕ) (names : List (List ℕ)) (old new : Seen) → IsUnreadOf names old new → IsUnreadOf (name ∷ names) old new
+unread_later name names old new (inl rose) = inl rose
+unread_later name names old new (inr (other, among, missing)) = inr (other, later_among other name names among, missing)
+
+pub unread_in : (inputs : List Input) (old new : Seen) → StopsIn inputs ReadFault old new → IsUnreadOf (input_names inputs) old new
+unread_in [] old new h = absurd (cc)
+unread_in (input ∷ inputs) old new (inl h) = unread_at input.judge.IsBad input.name (input_names inputs) old new h
+unread_in (input ∷ inputs) old new (inr h) = unread_later input.name (input_names inputs) old new (unread_in inputs old new h.1)

@@ -1,0 +1,220 @@
+-- What the top call promises, said one by one. What is said of a content holds where the desk tells it.
+use Rattle.std.specs.Prelude.{◌≡◌, ℕ, ◌≤◌, ◌⊎◌, ⊤, false, true, List, [], ◌∷◌, ◌++◌, length, take, Option, Some, None, option_map, Result, Ok, Err}
+use Rattle.bt878_words.specs.declared.Command.{Command}
+use Rattle.bt878_words.specs.declared.UsageFault.{UsageFault}
+use Rattle.capture_desk.specs.Desks.{Seen, Inputs, Outputs, Tells, Told, said_by, is_among, is_missing, output_named}
+use Rattle.capture_desc.specs.declared.desc.Desc.{Desc}
+use Rattle.machine_model.specs.States.{State}
+use Rattle.machine_model.specs.Steps.{state_at}
+use Rattle.machine_model.specs.Steps as machine
+use Rattle.machine_model.specs.Safety.{IsInside}
+use Rattle.capture_file.specs.declared.program.ProgramFile.{ProgramFile}
+use Rattle.capture_file.specs.Programs.{program_of, spelled}
+use Rattle.capture_file.specs.Streams.{steps_run}
+use Rattle.capture_file.specs.Images.{image_of}
+use Rattle.picture_model.specs.Programs.{compiled}
+use Rattle.field_stream.specs.Made.{made, made_entries, made_fields}
+use Rattle.dma_machine.specs.Facts.{report_of}
+use Rattle.risc_listing.specs.Listings.{listing}
+use Rattle.command_texts.specs.declared.answer.Answer.{Answer}
+use Rattle.command_texts.specs.declared.answer.Answer.TheVariants.{Done, Usage, WriteFault}
+use Rattle.command_texts.specs.declared.refusal.Refusal.{Refusal}
+use Rattle.command_texts.specs.declared.refusal.Refusal.TheVariants.{ReadFault, NoMemory}
+use Rattle.command_texts.specs.Answers.{answer_of}
+use Rattle.command_steps.specs.Outputs.{Product, names_of}
+use Rattle.command_steps.specs.Reading.{Calls}
+use Rattle.command_steps.specs.Inputs.{AreGood, IsFirstBadOf, OfInput, ReadsRose, WritesRose}
+use Rattle.command_texts.specs.Texts.{accepted_text, answer_text, made_text, report_text}
+use Rattle.command_inputs.specs.Programs.{HoldsSound, GivesSound}
+use Rattle.stream_play.specs.Runs.{Ran, first_of, last_of, OfRun}
+use Rattle.command_inputs.specs.Descriptions.{Describes, GivesCompiled}
+use Rattle.command_inputs.specs.Listings.{GivesAssembled}
+use Rattle.bt878_contract.specs.Tasks.{Task, Lists, Verifies, Runs, Compiles, Captures, Generates, Assembles, IsPartOfWork, IsRefusedWork, IsWholeWork, Makes, compiled_text, creates, meaning, program_text}
+
+-- ---- the words
+
+-- `Usage` is the first fault of the words, and comes only where they have one
+abbrev pub IsUsage : Result Command UsageFault → Answer → Type 0
+IsUsage (Err fault) answer = answer ≡ Usage fault
+IsUsage (Ok command) answer = (fault : UsageFault) → answer ≡ Usage fault → ⊥
+
+-- ---- what is read
+
+-- the inputs are told
+abbrev pub AreTold : Option Inputs → Type 0
+AreTold None = ⊥
+AreTold (Some inputs) = ⊤
+
+-- P of what `run` or `capture` ran: the program of the program file or of the description, with its fill, over the steps
+-- of the whole stream; the others run nothing
+abbrev pub OfRan : Result Task UsageFault → Option Inputs → (Ran → Type 0) → Type 0
+OfRan (Ok (Runs program stream image)) inputs P = OfRun GivesSound program stream inputs P
+OfRan (Ok (Captures desc stream program image)) inputs P = OfRun GivesCompiled desc stream inputs P
+OfRan (Ok (Lists program)) inputs P = ⊤
+OfRan (Ok (Verifies program)) inputs P = ⊤
+OfRan (Ok (Compiles desc program)) inputs P = ⊤
+OfRan (Ok (Generates desc seed frames stream)) inputs P = ⊤
+OfRan (Ok (Assembles text program)) inputs P = ⊤
+OfRan (Err fault) inputs P = ⊥
+
+-- P of the description that `compile` or `make` read
+abbrev pub OfDesc : List ℕ → Option Inputs → (Desc → Type 0) → Type 0
+OfDesc desc inputs P = OfInput desc inputs (λ bytes. (d : Desc) × Describes bytes d × P d)
+
+-- ---- what is written and said
+
+-- the output of a name is there, with these bytes
+abbrev pub IsOutput : List ℕ → List ℕ → Option Outputs → Type 0
+IsOutput name bytes None = ⊤
+IsOutput name bytes (Some outputs) = output_named name outputs ≡ Some bytes
+
+-- the output of a name is as it was
+abbrev pub SameOutput : List ℕ → Option Outputs → Option Outputs → Type 0
+SameOutput name old new = option_map (output_named name) new ≡ option_map (output_named name) old
+
+-- this text was said, and nothing else
+abbrev pub SaysAll : List ℕ → Told → Told → Type 0
+SaysAll text old new = new.said ≡ option_map (λ said. said ++ text) old.said
+
+-- some first bytes of this text were said, and nothing else
+abbrev pub SaysPart : List ℕ → Told → Told → Type 0
+SaysPart text old new = (n : ℕ) × (n ≤ length text) × SaysAll (take n text) old new
+
+-- no output was created or changed
+abbrev pub CreatesNone : Told → Told → Type 0
+CreatesNone old new = (new.outputs ≡ old.outputs) × (new.writing ≡ old.writing) × (new.output_open ≡ old.output_open)
+
+-- ---- at Done
+
+-- the image is that of the memory after all steps, and the report that of the same state
+abbrev pub ShowsLast : List ℕ → Told → Told → Ran → Type 0
+ShowsLast image old new r =
+    IsOutput image (image_of (last_of r).memory) new.outputs × SaysAll (report_text (report_of (last_of r))) old new
+
+-- the program file of `capture` is the one spelling of the program that ran and of its fill
+abbrev pub ShowsProgram : List ℕ → Told → Ran → Type 0
+ShowsProgram program new r = IsOutput program (spelled r.program r.fill) new.outputs
+
+-- at every place of the steps, what the turn there writes is granted, what it fetches is a word of the program, and
+-- OCERR is 0
+abbrev pub StaysInside : Ran → Type 0
+StaysInside r = (place : ℕ) → IsInside r.program (state_at (first_of r) (steps_run r.steps) place)
+
+-- P of the machine before its first step, and of the steps of the whole stream
+abbrev pub OfSteps : (State → List machine.Step → Type 0) → Ran → Type 0
+OfSteps P r = P (first_of r) (steps_run r.steps)
+
+-- the program of the file is sound, `accepted` is said of it, and nothing is created
+abbrev pub SaysAccepted : List ℕ → Told → Told → Type 0
+SaysAccepted program old new = OfInput program old.inputs HoldsSound × SaysAll accepted_text old new × CreatesNone old new
+
+-- the listing of the whole file's program is said, and nothing is created
+abbrev pub SaysListing : List ℕ → Told → Told → Type 0
+SaysListing program old new =
+    OfInput program old.inputs (λ bytes. (file : ProgramFile) × (program_of bytes ≡ Ok file)
+    × SaysAll (listing file.program file.fill) old new) × CreatesNone old new
+
+-- the one spelling of the description's program and of its fill is written, and the numbers of its words and chunks are
+-- said
+abbrev pub IsCompiled : List ℕ → List ℕ → Told → Told → Type 0
+IsCompiled desc program old new =
+    OfDesc desc old.inputs (λ d. IsOutput program (spelled (compiled d) d.fill) new.outputs × SaysAll (compiled_text d) old new)
+
+-- the generated stream is written, and its numbers of fields and data entries are said
+abbrev pub IsGenerated : List ℕ → ℕ → ℕ → List ℕ → Told → Told → Type 0
+IsGenerated desc seed frames stream old new =
+    OfDesc desc old.inputs (λ d. IsOutput stream (made d seed frames) new.outputs
+    × SaysAll (made_text (made_fields d frames) (made_entries d frames)) old new)
+
+-- the one spelling of the program and the fill whose listing the text is, is written, and the numbers of the program's
+-- words and chunks are said
+abbrev pub IsAssembled : List ℕ → List ℕ → Told → Told → Type 0
+IsAssembled text program old new =
+    OfInput text old.inputs (λ bytes. (file : ProgramFile) × GivesAssembled bytes file
+    × IsOutput program (spelled file.program file.fill) new.outputs × SaysAll (program_text file.program) old new)
+
+-- ---- why it is refused
+
+-- the desk met a fault of reading, or tells that one of these inputs isn't there
+abbrev pub IsUnreadOf : List (List ℕ) → Seen → Seen → Type 0
+IsUnreadOf names old new =
+    ReadsRose old new
+    ⊎ ((name : List ℕ) × (is_among name names ≡ true) × (is_missing name old.told.inputs ≡ true))
+
+-- the cause of a refusal that tells what is bad about an input: `Malformed`, `Rejected`, `BadDesc`, `BadGeometry` or
+-- `BadText`
+abbrev pub IsBadInput : Result Task UsageFault → Refusal → Option Inputs → Type 0
+IsBadInput (Ok task) refusal inputs = IsFirstBadOf (meaning task).inputs refusal inputs
+IsBadInput (Err fault) refusal inputs = ⊥
+
+-- the refusals that have such a cause
+abbrev pub TellsInput : Refusal → Type 0
+TellsInput ReadFault = ⊥
+TellsInput NoMemory = ⊥
+TellsInput _ = ⊤
+
+-- every input is there and good
+abbrev pub IsGood : Result Task UsageFault → Option Inputs → Type 0
+IsGood (Ok task) inputs = AreGood (meaning task).inputs inputs
+IsGood (Err fault) inputs = ⊥
+
+-- want of memory, or a fault of reading
+abbrev pub IsCut : Answer → Seen → Seen → Type 0
+IsCut answer old new = (answer ≡ answer_of NoMemory) ⊎ ((answer ≡ answer_of ReadFault) × ReadsRose old new)
+
+-- the answer is that of this refusal, or was cut off
+abbrev pub UnlessCut : Refusal → Answer → Seen → Seen → Type 0
+UnlessCut wanted answer old new = (answer ≡ answer_of wanted) ⊎ IsCut answer old new
+
+-- ---- the order of work
+
+-- the calls of the desk come in the order of the task's work
+abbrev pub IsInOrder : Result Task UsageFault → Answer → Seen → Seen → Type 0
+IsInOrder (Err fault) answer old new = Tells (said_by (answer_text answer)) old.calls new.calls
+IsInOrder (Ok task) Done old new = (text : List ℕ) × Calls (IsWholeWork task old.told.inputs text) old new
+IsInOrder (Ok task) WriteFault old new = Calls (IsPartOfWork task old.told.inputs) old new
+IsInOrder (Ok task) answer old new = Calls (IsRefusedWork task old.told.inputs (answer_text answer)) old new
+
+-- ---- what an answer leaves
+
+-- an answer that is neither Done nor WriteFault
+abbrev pub IsRefusal : Answer → Type 0
+IsRefusal Done = ⊥
+IsRefusal WriteFault = ⊥
+IsRefusal _ = ⊤
+
+-- nothing was created, and a text was said, whole or in part where the desk met a fault of writing
+abbrev pub OnlySays : List ℕ → Seen → Seen → Type 0
+OnlySays text old new =
+    CreatesNone old.told new.told
+    × ((n : ℕ) × (n ≤ length text) × SaysAll (take n text) old.told new.told × ((n ≡ length text) ⊎ WritesRose old new))
+
+-- the outputs of these names are as they were
+abbrev pub SameOutputs : List (List ℕ × List ℕ) → Option Outputs → Option Outputs → Type 0
+SameOutputs [] old new = ⊤
+SameOutputs (file ∷ files) old new = SameOutput file.0 old new × SameOutputs files old new
+
+-- Files and a text, cut off. Some first files are whole; then one was not created, or has some of its first bytes, with
+-- none after it and nothing said; or all are whole, and a part of the text was said.
+abbrev pub IsCutOff : List (List ℕ × List ℕ) → List ℕ → Told → Told → Type 0
+IsCutOff [] text old new = SaysPart text old new
+IsCutOff (file ∷ files) text old new =
+    (SameOutputs (file ∷ files) old.outputs new.outputs × (new.said ≡ old.said))
+    ⊎ (((n : ℕ) × (n ≤ length file.1) × IsOutput file.0 (take n file.1) new.outputs
+    × SameOutputs files old.outputs new.outputs × (new.said ≡ old.said))
+    ⊎ (IsOutput file.0 file.1 new.outputs × IsCutOff files text old new))
+
+-- what stands after a fault of writing: what the command makes of its inputs, cut off
+abbrev pub StandsAt : Result Task UsageFault → Told → Told → Type 0
+StandsAt (Ok task) old new =
+    (product : Product) × Makes task old.inputs product × (names_of product.files ≡ creates task)
+    × IsCutOff product.files product.text old new
+StandsAt (Err fault) old new = ⊥
+
+-- an output whose name isn't one of these is as it was
+abbrev pub OnlyOutputs : List (List ℕ) → Told → Told → Type 0
+OnlyOutputs names old new = (name : List ℕ) → is_among name names ≡ false → SameOutput name old.outputs new.outputs
+
+-- the inputs by name, and the names that may be opened and created, are as they were
+abbrev pub SameNames : Told → Told → Type 0
+SameNames old new = (new.inputs ≡ old.inputs) × (new.may_open ≡ old.may_open) × (new.may_create ≡ old.may_create)

@@ -1,0 +1,270 @@
+-- What the words ask for, what each command means, what comes of it, and why it is refused.
+use Rattle.std.specs.Prelude.{◌≡◌, ℕ, ⊤, List, [], ◌∷◌, ◌++◌, map, length, Option, Some, None, MatchOption, Result, Ok, Err}
+use Rattle.std.specs.Borrow.{Bor}
+use Rattle.bt878_words.specs.declared.Command.{Command}
+use Rattle.bt878_words.specs.declared.Command.TheVariants as command
+use Rattle.bt878_words.specs.declared.UsageFault.{UsageFault}
+use Rattle.bt878_words.specs.declared.UsageFault.TheVariants.{UnknownCommand}
+use Rattle.bt878_words.specs.Words.{command_of}
+use Rattle.capture_desk.specs.declared.calls.Call.{Call}
+use Rattle.capture_desk.specs.Desks.{Inputs, IsWriteFault, Seen, is_among, said_by}
+use Rattle.capture_desc.specs.declared.desc.Desc.{Desc}
+use Rattle.machine_model.specs.Paths.{RiscProgram, IsSound}
+use Rattle.machine_model.specs.Safety.{IsInside}
+use Rattle.machine_model.specs.Steps.{state_at}
+use Rattle.capture_file.specs.declared.program.ProgramFile.{ProgramFile}
+use Rattle.capture_file.specs.Images.{image_of}
+use Rattle.capture_file.specs.Programs.{program_of, spelled}
+use Rattle.capture_file.specs.Streams.{steps_run}
+use Rattle.picture_model.specs.Programs.{compiled}
+use Rattle.field_stream.specs.Made.{made, made_entries, made_fields}
+use Rattle.dma_machine.specs.Facts.{report_of}
+use Rattle.risc_listing.specs.Listings.{listing}
+use Rattle.command_texts.specs.declared.answer.Answer.{Answer}
+use Rattle.command_texts.specs.declared.answer.Answer.TheVariants.{Done, Usage, WriteFault}
+use Rattle.command_texts.specs.declared.refusal.Refusal.{Refusal}
+use Rattle.command_texts.specs.Answers.{answer_of}
+use Rattle.command_texts.specs.Texts.{accepted_text, answer_text, built_text, made_text, report_text}
+use Rattle.command_steps.specs.Inputs.{Input, OfInput, SameCounts, StopsIn, apart}
+use Rattle.command_steps.specs.Reading.{AreTaken, AreTakenUpTo, Calls}
+use Rattle.command_steps.specs.Outputs.{IsDeliveryPart, IsPart, Product, Says, SaysAtOnce, delivered, delivery, names_of}
+use Rattle.command_inputs.specs.Programs.{GivesSound, HoldsSound, a_program, a_sound_program}
+use Rattle.command_inputs.specs.Descriptions.{Describes, GivesCompiled, a_description}
+use Rattle.command_inputs.specs.Listings.{GivesAssembled, a_listing}
+use Rattle.stream_play.specs.Runs.{IsRun, Ran, a_stream, first_of, last_of}
+
+-- ---- the words
+
+-- what is asked for, with the names of the files
+pub data Task : Type 0 where
+  Lists : List ℕ → Task
+  Verifies : List ℕ → Task
+  Runs : List ℕ → List ℕ → List ℕ → Task
+  Compiles : List ℕ → List ℕ → Task
+  Captures : List ℕ → List ℕ → List ℕ → List ℕ → Task
+  Generates : List ℕ → ℕ → ℕ → List ℕ → Task
+  Assembles : List ℕ → List ℕ → Task
+
+-- words without a fault are those of one of these commands
+abbrev pub task_with : Result Command UsageFault → List (List ℕ) → Result Task UsageFault
+task_with (Err fault) words = Err fault
+task_with (Ok command.List) (_ ∷ program ∷ _) = Ok (Lists program)
+task_with (Ok command.Verify) (_ ∷ program ∷ _) = Ok (Verifies program)
+task_with (Ok command.Run) (_ ∷ program ∷ stream ∷ image ∷ _) = Ok (Runs program stream image)
+task_with (Ok command.Compile) (_ ∷ desc ∷ program ∷ _) = Ok (Compiles desc program)
+task_with (Ok command.Capture) (_ ∷ desc ∷ stream ∷ program ∷ image ∷ _) = Ok (Captures desc stream program image)
+task_with (Ok (command.Make seed frames)) (_ ∷ desc ∷ _ ∷ _ ∷ stream ∷ _) = Ok (Generates desc seed frames stream)
+task_with (Ok command.Assemble) (_ ∷ text ∷ program ∷ _) = Ok (Assembles text program)
+task_with (Ok _) words = Err UnknownCommand
+
+abbrev pub task_of : List (List ℕ) → Result Task UsageFault
+task_of words = task_with (command_of words) words
+
+-- the words, as they are passed
+abbrev pub texts : List (Bor (List ℕ)) → List (List ℕ)
+texts words = map (λ (word : Bor (List ℕ)). word.now) words
+
+-- the names that are told are these
+abbrev pub AreNames : List (List ℕ) → Option (List (List ℕ)) → Type 0
+AreNames names told = MatchOption told ⊤ (λ known. (name : List ℕ) → is_among name known ≡ is_among name names)
+
+-- ---- what a task makes of its inputs
+
+-- the image of the memory after all steps
+abbrev pub image_file : List ℕ → Ran → List ℕ × List ℕ
+image_file name r = (name, image_of (last_of r).memory)
+
+-- the one spelling of a program
+abbrev pub program_file : List ℕ → RiscProgram → ℕ → List ℕ × List ℕ
+program_file name program fill = (name, spelled program fill)
+
+-- What a run makes: the program is sound; the files; the report of the machine after all steps; and at every place of
+-- the steps the machine is inside: what a turn there writes is granted, what it fetches is a word of the program, and
+-- OCERR is 0.
+pub record RunMakes (files : List (List ℕ × List ℕ)) (product : Product) (r : Ran) : Type 0 where
+  pub sound : IsSound r.program
+  pub writes : product.files ≡ files
+  pub reports : product.text ≡ report_text (report_of (last_of r))
+  pub inside : (place : ℕ) → IsInside r.program (state_at (first_of r) (steps_run r.steps) place)
+
+-- a text is the listing of a file's program
+abbrev pub IsListed : List ℕ → List ℕ → Type 0
+IsListed bytes text = (file : ProgramFile) × (program_of bytes ≡ Ok file) × (text ≡ listing file.program file.fill)
+
+-- what a description makes: a file and a text
+pub record DescMakes (file : Desc → List ℕ × List ℕ) (text : Desc → List ℕ) (product : Product) (bytes : List ℕ) : Type 0 where
+  pub description : Desc
+  pub describes : Describes bytes description
+  pub writes : product.files ≡ file description ∷ []
+  pub says : product.text ≡ text description
+
+-- what `compile` and `assemble` say of a program: its words and its chunks
+abbrev pub program_text : RiscProgram → List ℕ
+program_text program = built_text (length program.words) (length program.grants)
+
+abbrev pub compiled_text : Desc → List ℕ
+compiled_text d = program_text (compiled d)
+
+-- what a text makes: the file of the program and the fill whose listing it is
+pub record ListingMakes (program : List ℕ) (product : Product) (text : List ℕ) : Type 0 where
+  pub file : ProgramFile
+  pub assembles : GivesAssembled text file
+  pub writes : product.files ≡ program_file program file.program file.fill ∷ []
+  pub says : product.text ≡ program_text file.program
+
+-- P of the contents of all inputs, in their order, where they are told
+abbrev pub OfInputs : List Input → Option Inputs → (List (List ℕ) → Type 0) → Type 0
+OfInputs [] told P = P []
+OfInputs (input ∷ inputs) told P = OfInput input.name told (λ bytes. OfInputs inputs told (λ later. P (bytes ∷ later)))
+
+-- ---- the meaning of each command
+
+-- its inputs and its outputs, in the order in which they are read and written, what it makes of the contents of its
+-- inputs, and its text, where that is the same whatever the contents
+pub record Meaning : Type 1 where
+  pub inputs : List Input
+  pub outputs : List (List ℕ)
+  pub makes : List (List ℕ) → Product → Type 0
+  pub text : Option (List ℕ)
+
+abbrev pub ListingOf : List (List ℕ) → Product → Type 0
+ListingOf (program ∷ []) product = IsListed program product.text
+ListingOf _ product = ⊥
+
+abbrev pub VerdictOf : List (List ℕ) → Product → Type 0
+VerdictOf (program ∷ []) product = HoldsSound program
+VerdictOf _ product = ⊥
+
+-- what a run over a stream makes, by the files of what ran
+abbrev pub RunOf : (List ℕ → RiscProgram → ℕ → Type 0) → (Ran → List (List ℕ × List ℕ)) → List (List ℕ) → Product → Type 0
+RunOf Gives files (file ∷ stream ∷ []) product = (r : Ran) × IsRun Gives file stream r × RunMakes (files r) product r
+RunOf Gives files _ product = ⊥
+
+-- what is made of a description, by the file and the text for it
+abbrev pub MadeOf : (Desc → List ℕ × List ℕ) → (Desc → List ℕ) → List (List ℕ) → Product → Type 0
+MadeOf file text (desc ∷ []) product = DescMakes file text product desc
+MadeOf file text _ product = ⊥
+
+abbrev pub AssembledOf : List ℕ → List (List ℕ) → Product → Type 0
+AssembledOf program (text ∷ []) product = ListingMakes program product text
+AssembledOf program _ product = ⊥
+
+abbrev pub meaning : Task → Meaning
+meaning (Lists program) =
+    record {
+      inputs = a_program program ∷ [];
+      outputs = [];
+      makes = ListingOf;
+      text = None;
+    }
+meaning (Verifies program) =
+    record {
+      inputs = a_sound_program program ∷ [];
+      outputs = [];
+      makes = VerdictOf;
+      text = Some accepted_text;
+    }
+meaning (Runs program stream image) =
+    record {
+      inputs = a_sound_program program ∷ a_stream stream ∷ [];
+      outputs = image ∷ [];
+      makes = RunOf GivesSound (λ r. image_file image r ∷ []);
+      text = None;
+    }
+meaning (Compiles desc program) =
+    record {
+      inputs = a_description desc ∷ [];
+      outputs = program ∷ [];
+      makes = MadeOf (λ d. program_file program (compiled d) d.fill) compiled_text;
+      text = None;
+    }
+meaning (Captures desc stream program image) =
+    record {
+      inputs = a_description desc ∷ a_stream stream ∷ [];
+      outputs = program ∷ image ∷ [];
+      makes = RunOf GivesCompiled (λ r. program_file program r.program r.fill ∷ image_file image r ∷ []);
+      text = None;
+    }
+meaning (Generates desc seed frames stream) =
+    record {
+      inputs = a_description desc ∷ [];
+      outputs = stream ∷ [];
+      makes = MadeOf (λ d. (stream, made d seed frames)) (λ d. made_text (made_fields d frames) (made_entries d frames));
+      text = None;
+    }
+meaning (Assembles text program) =
+    record {
+      inputs = a_listing text ∷ [];
+      outputs = program ∷ [];
+      makes = AssembledOf program;
+      text = None;
+    }
+
+-- the outputs, in the order in which they are written
+abbrev pub creates : Task → List (List ℕ)
+creates task = (meaning task).outputs
+
+abbrev pub Makes : Task → Option Inputs → Product → Type 0
+Makes task inputs product =
+    OfInputs (meaning task).inputs inputs (λ contents. (meaning task).makes contents product)
+    × MatchOption (meaning task).text ⊤ (λ text. product.text ≡ text)
+
+-- why it is refused
+abbrev pub Stops : Task → Refusal → Seen → Seen → Type 0
+Stops task refusal old new = StopsIn (meaning task).inputs refusal old new
+
+-- ---- the order of work
+
+-- all inputs were opened and read, one after the other, each found good before the next was opened; then the outputs were
+-- written, one after the other, and a text was said
+abbrev pub IsWholeWork : Task → Option Inputs → List ℕ → List Call → Type 0
+IsWholeWork task told text calls =
+    (taking : List Call) × AreTaken (meaning task).inputs told taking × (calls ≡ taking ++ delivery (creates task) text)
+
+-- the same, but that a write, a call that says, or the creation or finish of an output failed; no call follows
+abbrev pub IsPartOfWork : Task → Option Inputs → List Call → Type 0
+IsPartOfWork task told calls =
+    (taking writing : List Call) × AreTaken (meaning task).inputs told taking × IsDeliveryPart (creates task) writing
+    × (calls ≡ taking ++ writing)
+
+-- some inputs were opened and read, up to the one that stopped; then a text was said, by one run of calls
+abbrev pub IsRefusedWork : Task → Option Inputs → List ℕ → List Call → Type 0
+IsRefusedWork task told text calls =
+    (taking : List Call) × AreTakenUpTo (meaning task).inputs told taking × (calls ≡ taking ++ said_by text)
+
+-- ---- what comes of it
+
+-- it was done: its outputs were written and its text was said, and nothing else changed
+pub record IsDone (task : Task) (old new : Seen) : Type 0 where
+  pub product : Product
+  pub made : Makes task old.told.inputs product
+  pub names : names_of product.files ≡ creates task
+  pub left : apart new.told ≡ delivered product.files product.text (apart old.told)
+  pub counts : SameCounts old new
+  pub calls : Calls (IsWholeWork task old.told.inputs product.text) old new
+
+-- it was done in part, up to a fault of the desk at a write, which was the last call
+pub record IsPartDone (task : Task) (old new : Seen) : Type 0 where
+  pub product : Product
+  pub made : Makes task old.told.inputs product
+  pub names : names_of product.files ≡ creates task
+  pub left : IsPart product.files product.text (apart old.told) (apart new.told)
+  pub fault : IsWriteFault old new
+  pub calls : Calls (IsPartOfWork task old.told.inputs) old new
+
+-- it was refused: nothing changed but that the refusal's text was said
+pub record IsRefused (task : Task) (refusal : Refusal) (old new : Seen) : Type 0 where
+  pub why : Stops task refusal old new
+  pub said : Says (answer_text (answer_of refusal)) old new
+  pub calls : Calls (IsRefusedWork task old.told.inputs (answer_text (answer_of refusal))) old new
+
+abbrev pub Ends : Task → Answer → Seen → Seen → Type 0
+Ends task Done old new = IsDone task old new
+Ends task WriteFault old new = IsPartDone task old new
+Ends task (Usage fault) old new = ⊥
+Ends task answer old new = (refusal : Refusal) × (answer ≡ answer_of refusal) × IsRefused task refusal old new
+
+-- what comes of the words: of a fault of theirs only its text
+abbrev pub Answers : Result Task UsageFault → Answer → Seen → Seen → Type 0
+Answers (Err fault) answer old new = (answer ≡ Usage fault) × SaysAtOnce (answer_text (Usage fault)) old new
+Answers (Ok task) answer old new = Ends task answer old new

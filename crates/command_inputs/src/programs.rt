@@ -1,0 +1,118 @@
+//! A program file, read and judged.
+
+ghost use Rattle.std.specs.Prelude.{◌≡◌, ◌<◌, IfErr, IfOk, Ok};
+ghost use Rattle.capture_desk.specs.Desks.{IsAllowed};
+ghost use Rattle.capture_file.specs.Programs.{program_of};
+ghost use Rattle.command_steps.specs.Inputs.{Always, OfInput, StopsAt};
+ghost use Rattle.command_steps.specs.Reading.{OnlyReads};
+ghost use Rattle.machine_model.specs.Paths.{IsSound};
+ghost use Rattle.command_inputs.specs.Programs.{Accepts, IsBadFile, IsBadProgram, IsRefused, Misreads, longest_program};
+ghost use Rattle.risc_verify.specs.Verdicts.{Refuses};
+
+use capture_desk::Desk;
+use capture_file::{Input, ProgramError, ProgramFile, read_program};
+use command_steps::read_whole;
+use command_texts::Refusal;
+use risc_verify::{Accepted, Program, Steps, Why, verify};
+use std::alloc::{AllocError, Global};
+use std::marker::Brand;
+use std::sync::ledger::{Blank, Ledger};
+
+/// The most bytes of a program file.
+const LONGEST_PROGRAM: usize = 4_227_089;
+
+/// The sound program and the fill that a program file holds.
+#[derive(Drop)]
+pub struct Loaded {
+    pub accepted: Accepted,
+    /// The byte that fills the memory at first.
+    pub fill: u8,
+}
+
+/// Reads the bytes of a program file.
+fn parse(alloc: Global, bytes: &[u8]) -> Result<ProgramFile, Refusal>
+    ensures reads { IfOk result (λ file. program_of bytes.now ≡ Ok file) }
+    ensures misreads { IfErr result (λ refusal. Misreads (program_of bytes.now) refusal) }
+{
+    match read_program(alloc, bytes) {
+        Ok(file) => Ok(file),
+        Err(ProgramError::File(fault)) => Err(Refusal::Malformed(Input::Program, fault)),
+        Err(ProgramError::Memory) => Err(Refusal::NoMemory),
+    }
+}
+
+/// Reads a program file, whose program need not be sound.
+pub fn read_file<D: Desk>(alloc: Global, name: &str, desk: &mut D) -> Result<ProgramFile, Refusal>
+    requires { IsAllowed name.now (D.seen desk.old).told.may_open }
+    ensures file { IfOk result (λ file. OfInput name.now (D.seen desk.old).told.inputs (λ bytes. program_of bytes ≡ Ok file)) }
+    ensures stops { IfErr result (λ refusal. StopsAt IsBadFile name.now refusal (D.seen desk.old) (D.seen desk.new)) }
+    ensures reads { OnlyReads name.now longest_program Always (D.seen desk.old) (D.seen desk.new) }
+    ensures quiet { IfOk result (λ _. (D.seen desk.new).reads ≡ (D.seen desk.old).reads) }
+{
+    let bytes = read_whole(alloc, name, LONGEST_PROGRAM, desk)?;
+    match parse(alloc, &bytes) {
+        Ok(file) => Ok(file),
+        Err(refusal) => Err(refusal),
+    }
+}
+
+/// Verifies a program. The verifier's steps are counted in the ledger of `blank`.
+fn verify_over<L: Ledger>(alloc: Global, program: Program, blank: Blank) -> Result<Accepted, Why>
+    requires name { blank.name ≡ L.name }
+    requires parts { blank.parts ≡ L.parts }
+    requires some { 0 < blank.parts }
+    ensures accepted { IfOk result (λ accepted. accepted ≡ program) }
+    ensures refused { IfErr result (λ why. Refuses program why) }
+    ensures sound { IfOk result IsSound }
+{
+    let mut steps = Steps::<L>::new(blank);
+    match verify(alloc, program, &mut steps) {
+        Ok(accepted) => Ok(accepted),
+        Err(rejected) => Err(rejected.why),
+    }
+}
+
+/// Verifies a program. The verifier's steps are counted in a ledger of their own. Errors: `Bad` with the
+/// first place of the program's path that isn't fine, only where the program isn't sound; `Memory` for want
+/// of memory (what a fault is, and their order, is this project's own rule).
+pub fn verify_program(alloc: Global, program: Program) -> Result<Accepted, Why>
+    ensures accepted { IfOk result (λ accepted. accepted ≡ program) }
+    ensures refused { IfErr result (λ why. Refuses program why) }
+    ensures sound { IfOk result IsSound }
+{
+    match verify_over::<Brand>(alloc, program, Blank::new(1)) {
+        Ok(accepted) => Ok(accepted),
+        Err(why) => Err(why),
+    }
+}
+
+/// Judges the program of a program file.
+fn judge(alloc: Global, file: ProgramFile) -> Result<Loaded, Refusal>
+    ensures accepts { IfOk result (λ loaded. Accepts (Ok file) loaded.accepted loaded.fill) }
+    ensures refuses { IfErr result (λ refusal. IsRefused file refusal) }
+{
+    let ProgramFile { program, fill } = file;
+    match verify_program(alloc, program) {
+        Ok(accepted) => Ok(Loaded { accepted, fill }),
+        Err(Why::Bad { at, nth, cause }) => Err(Refusal::Rejected { at, nth, cause }),
+        Err(Why::Memory) => Err(Refusal::NoMemory),
+    }
+}
+
+/// Reads a program file and judges its program.
+pub fn accept<D: Desk>(alloc: Global, name: &str, desk: &mut D) -> Result<Loaded, Refusal>
+    requires { IsAllowed name.now (D.seen desk.old).told.may_open }
+    ensures accepts { IfOk result (λ loaded. OfInput name.now (D.seen desk.old).told.inputs (λ bytes. Accepts (program_of bytes) loaded.accepted loaded.fill)) }
+    ensures stops { IfErr result (λ refusal. StopsAt IsBadProgram name.now refusal (D.seen desk.old) (D.seen desk.new)) }
+    ensures reads { OnlyReads name.now longest_program Always (D.seen desk.old) (D.seen desk.new) }
+    ensures quiet { IfOk result (λ _. (D.seen desk.new).reads ≡ (D.seen desk.old).reads) }
+{
+    let file = match read_file(alloc, name, desk) {
+        Ok(file) => file,
+        Err(refusal) => return Err(refusal),
+    };
+    match judge(alloc, file) {
+        Ok(loaded) => Ok(loaded),
+        Err(refusal) => Err(refusal),
+    }
+}

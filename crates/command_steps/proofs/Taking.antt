@@ -1,0 +1,106 @@
+-- The calls by which an input is taken.
+use Rattle.std.proofs.Common.{◌≡◌, ℕ, ◌+◌, inl, inr, true, false, List, [], ◌∷◌, ◌++◌, take, Option, Some, None, Ok, Err, refl, sym, ap, subst, append_assoc}
+use Rattle.capture_desk.specs.declared.calls.Call.{Call}
+use Rattle.capture_desk.specs.declared.calls.Call.TheVariants.{OpenIn, Read, CreateOut, Finish, Say}
+use Rattle.capture_desk.specs.Desks.{Seen, Tells, is_missing, after_open}
+use Rattle.capture_desk.proofs.Telling.{tells_both, tells_none}
+use Rattle.command_steps.specs.Inputs.{Always, OfInput, OfRest}
+use Rattle.command_steps.specs.Reading.{AreReads, Calls, IsNextRead, IsTaking, OpensBy, ReadsBy}
+use Rattle.command_steps.proofs.Inputs.{opened_input}
+
+-- reads that may come so far, whatever reads come later
+pub record ReadSoFar (MayGoOn : ℕ → Type 0) (most at : ℕ) (old new : Seen) : Type 0 where
+  pub made : List Call
+  pub tells : Tells made old.calls new.calls
+  pub goes_on : (later : List Call) → AreReads MayGoOn most at later → AreReads MayGoOn most 0 (made ++ later)
+
+pub nothing_read : (MayGoOn : ℕ → Type 0) (most : ℕ) (s : Seen) → ReadSoFar MayGoOn most 0 s s
+nothing_read MayGoOn most s = record { made = []; tells = tells_none s.calls; goes_on = λ later h. h }
+
+-- the calls that were made so far are reads
+append_nil : (calls : List Call) → calls ++ [] ≡ calls
+append_nil [] = refl
+append_nil (call ∷ calls) = ap (λ rest. call ∷ rest) (append_nil calls)
+
+pub reads_end : (MayGoOn : ℕ → Type 0) (most at : ℕ) (old new : Seen) → ReadSoFar MayGoOn most at old new → Calls (AreReads MayGoOn most 0) old new
+reads_end MayGoOn most at old new h = (h.made, subst (AreReads MayGoOn most 0) (append_nil h.made) (h.goes_on [] tt), h.tells)
+
+-- a piece was read
+pub read_by : (E : Type 0) (size n : ℕ) (old new : Seen) → Calls (ReadsBy {E = E} size (Ok n)) old new → Tells (Read size (Some n) ∷ []) old.calls new.calls
+read_by E size n old new (calls, is, tells) = subst (λ made. Tells made old.calls new.calls) is tells
+
+-- one more read
+pub read_more : (MayGoOn : ℕ → Type 0) (most at size n : ℕ) (old mid new : Seen) → ReadSoFar MayGoOn most at old mid → IsNextRead MayGoOn most at size → (n ≡ 0 → ⊥) →
+    Tells (Read size (Some n) ∷ []) mid.calls new.calls → ReadSoFar MayGoOn most (at + n) old new
+read_more MayGoOn most at size n old mid new h next some tells =
+    record {
+      made = h.made ++ (Read size (Some n) ∷ []);
+      tells = tells_both h.made (Read size (Some n) ∷ []) old.calls mid.calls new.calls h.tells tells;
+      goes_on = λ later more.
+          subst (AreReads MayGoOn most 0) (sym (append_assoc h.made (Read size (Some n) ∷ []) later))
+          (h.goes_on (Read size (Some n) ∷ later) (next, (λ none. absurd (some none)), more));
+    }
+
+-- and it is the last, since it found the end
+pub read_end : (MayGoOn : ℕ → Type 0) (most at size n : ℕ) (old mid new : Seen) → ReadSoFar MayGoOn most at old mid → IsNextRead MayGoOn most at size →
+    Tells (Read size (Some n) ∷ []) mid.calls new.calls → Calls (AreReads MayGoOn most 0) old new
+read_end MayGoOn most at size n old mid new h next tells = (
+  h.made ++ (Read size (Some n) ∷ []),
+  h.goes_on (Read size (Some n) ∷ []) (next, (λ none. refl), tt),
+  tells_both h.made (Read size (Some n) ∷ []) old.calls mid.calls new.calls h.tells tells,
+)
+
+-- or it failed
+pub read_failed : (MayGoOn : ℕ → Type 0) (most at size : ℕ) (old mid new : Seen) → ReadSoFar MayGoOn most at old mid → IsNextRead MayGoOn most at size →
+    Tells (Read size None ∷ []) mid.calls new.calls → Calls (AreReads MayGoOn most 0) old new
+read_failed MayGoOn most at size old mid new h next tells = (
+  h.made ++ (Read size None ∷ []),
+  h.goes_on (Read size None ∷ []) (next, refl),
+  tells_both h.made (Read size None ∷ []) old.calls mid.calls new.calls h.tells tells,
+)
+
+-- or nothing was read, for want of memory, or it failed
+pub read_stops : (E : Type 0) (e : E) (MayGoOn : ℕ → Type 0) (most at size : ℕ) (old mid new : Seen) → ReadSoFar MayGoOn most at old mid → IsNextRead MayGoOn most at size →
+    Calls (ReadsBy {E = E} size (Err e)) mid new → Calls (AreReads MayGoOn most 0) old new
+read_stops E e MayGoOn most at size old mid new h next (calls, inl none, tells) = (
+  h.made,
+  subst (AreReads MayGoOn most 0) (append_nil h.made) (h.goes_on [] tt),
+  subst (λ made. Tells made old.calls new.calls) (append_nil h.made)
+      (tells_both h.made [] old.calls mid.calls new.calls h.tells (subst (λ made. Tells made mid.calls new.calls) none tells)),
+)
+read_stops E e MayGoOn most at size old mid new h next (calls, inr one, tells) =
+    read_failed MayGoOn most at size old mid new h next (subst (λ made. Tells made mid.calls new.calls) one tells)
+
+-- ---- what is so of the rest of an input that was opened is so of the input
+
+reads_of : (P Q : ℕ → Type 0) → ((at : ℕ) → P at → Q at) → (most at : ℕ) (calls : List Call) → AreReads P most at calls → AreReads Q most at calls
+reads_of P Q f most at [] h = tt
+reads_of P Q f most at (Read size None ∷ calls) h = ((h.0.0, f at h.0.1, h.0.2), h.1)
+reads_of P Q f most at (Read size (Some n) ∷ calls) h = ((h.0.0, f at h.0.1, h.0.2), h.1, reads_of P Q f most (at + n) calls h.2)
+reads_of P Q f most at (OpenIn name done ∷ calls) h = absurd h
+reads_of P Q f most at (CreateOut name done ∷ calls) h = absurd h
+reads_of P Q f most at (Finish done ∷ calls) h = absurd h
+reads_of P Q f most at (Say ∷ calls) h = absurd h
+
+pub always_read : (rest : Option (List ℕ)) (at : ℕ) → OfRest rest (λ bytes. Always (take at bytes))
+always_read None at = tt
+always_read (Some bytes) at = tt
+
+module _ (name : List ℕ) (most : ℕ) (MayGoOn : List ℕ → Type 0) where
+  -- an input was opened, and its rest read
+  pub taken : (A E : Type 0) (done : A) (old mid new : Seen) (P : ℕ → Type 0) → is_missing name old.told.inputs ≡ false → mid.told ≡ after_open name old.told →
+      ((at : ℕ) → P at → OfRest mid.told.rest (λ bytes. MayGoOn (take at bytes))) →
+      Calls (OpensBy {A = A} {E = E} name (Ok done)) old mid → Calls (AreReads P most 0) mid new → Calls (IsTaking name most MayGoOn old.told.inputs) old new
+  taken A E done old mid new P there opened f (opening, is, one) (reads, h, two) = (
+    OpenIn name true ∷ reads,
+    (refl, reads_of P (λ at. OfInput name old.told.inputs (λ bytes. MayGoOn (take at bytes))) (λ at p. opened_input name old.told mid.told (λ bytes. MayGoOn (take at bytes)) there opened (f at p)) most 0 reads h),
+    tells_both (OpenIn name true ∷ []) reads old.calls mid.calls new.calls (subst (λ calls. Tells calls old.calls mid.calls) is one) two,
+  )
+
+  -- it was not opened
+  pub not_taken : (A E : Type 0) (failed : E) (old new : Seen) → Calls (OpensBy {A = A} {E = E} name (Err failed)) old new → Calls (IsTaking name most MayGoOn old.told.inputs) old new
+  not_taken A E failed old new (opening, is, one) = (OpenIn name false ∷ [], (refl, refl), subst (λ calls. Tells calls old.calls new.calls) is one)
+
+  -- nothing was done
+  pub nothing_taken : (old new : Seen) → new ≡ old → Calls (IsTaking name most MayGoOn old.told.inputs) old new
+  nothing_taken old new e = ([], tt, subst (λ (s : Seen). Tells [] old.calls s.calls) (sym e) (tells_none old.calls))

@@ -1,0 +1,98 @@
+-- Inputs: what is told of one, how it is judged, and why it is not taken.
+use Rattle.std.specs.Prelude.{◌≡◌, ℕ, ◌⊎◌, ⊤, true, false, List, [], ◌∷◌, Option, Some, None}
+use Rattle.capture_desk.specs.Desks.{Inputs, Seen, Told, HasRisen, named, is_missing}
+use Rattle.command_texts.specs.declared.refusal.Refusal.{Refusal}
+use Rattle.command_texts.specs.declared.refusal.Refusal.TheVariants.{ReadFault, NoMemory}
+
+-- what is told, apart from the input that is open
+abbrev pub apart : Told → Told
+apart t = record t { rest = None; input_open = false }
+
+-- ---- counts of faults
+
+abbrev pub ReadsRose : Seen → Seen → Type 0
+ReadsRose old new = HasRisen old.reads new.reads
+
+abbrev pub WritesRose : Seen → Seen → Type 0
+WritesRose old new = HasRisen old.writes new.writes
+
+abbrev pub SameCounts : Seen → Seen → Type 0
+SameCounts old new = (new.reads ≡ old.reads) × (new.writes ≡ old.writes)
+
+-- ---- what is told of an input
+
+abbrev pub OfFile : Option (List ℕ) → (List ℕ → Type 0) → Type 0
+OfFile None P = ⊥
+OfFile (Some bytes) P = P bytes
+
+-- where the inputs are told, one has this name, and P holds of its bytes
+abbrev pub OfInput : List ℕ → Option Inputs → (List ℕ → Type 0) → Type 0
+OfInput name None P = ⊤
+OfInput name (Some inputs) P = OfFile (named name inputs) P
+
+-- where the rest of the open input is told, P holds of it
+abbrev pub OfRest : Option (List ℕ) → (List ℕ → Type 0) → Type 0
+OfRest None P = ⊤
+OfRest (Some rest) P = P rest
+
+-- ---- why an input is not taken
+
+-- it could not be read: the desk met a fault, or it tells that there is none of that name
+abbrev pub IsUnread : List ℕ → Seen → Seen → Type 0
+IsUnread name old new = ReadsRose old new ⊎ (is_missing name old.told.inputs ≡ true)
+
+abbrev pub StopsAtRead : Refusal → Seen → Seen → Type 0
+StopsAtRead ReadFault old new = ReadsRose old new
+StopsAtRead NoMemory old new = ⊤
+StopsAtRead _ old new = ⊥
+
+abbrev pub StopsReading : List ℕ → Refusal → Seen → Seen → Type 0
+StopsReading name ReadFault old new = IsUnread name old new
+StopsReading name NoMemory old new = ⊤
+StopsReading name _ old new = ⊥
+
+-- it could not be read, or it is bad in a way that this refusal tells; want of memory is free
+abbrev pub StopsAt : (List ℕ → Refusal → Option Inputs → Type 0) → List ℕ → Refusal → Seen → Seen → Type 0
+StopsAt IsBad name ReadFault old new = IsUnread name old new
+StopsAt IsBad name NoMemory old new = ⊤
+StopsAt IsBad name refusal old new = IsBad name refusal old.told.inputs
+
+-- ---- judges
+
+-- How an input of some kind is judged. It is read to one byte beyond `most`; behind its first bytes it may be read on
+-- where they are as `MayGoOn` says; it is good by its bytes, or bad in the way that a refusal says.
+pub record Judge : Type 1 where
+  pub most : ℕ
+  pub MayGoOn : List ℕ → Type 0
+  pub IsGood : List ℕ → Type 0
+  pub IsBad : List ℕ → Refusal → Option Inputs → Type 0
+
+pub record Input : Type 1 where
+  pub name : List ℕ
+  pub judge : Judge
+
+-- an input that is judged whole is read on whatever its first bytes are
+abbrev pub Always : List ℕ → Type 0
+Always bytes = ⊤
+
+abbrev pub IsThereAndGood : Input → Option Inputs → Type 0
+IsThereAndGood input told = OfInput input.name told input.judge.IsGood
+
+-- every input is there and good
+abbrev pub AreGood : List Input → Option Inputs → Type 0
+AreGood [] told = ⊤
+AreGood (input ∷ inputs) told = IsThereAndGood input told × AreGood inputs told
+
+-- the first input that is not good is bad in the way that a refusal tells
+abbrev pub IsFirstBadOf : List Input → Refusal → Option Inputs → Type 0
+IsFirstBadOf [] refusal told = ⊥
+IsFirstBadOf (input ∷ inputs) refusal told =
+    input.judge.IsBad input.name refusal told ⊎ (IsThereAndGood input told × IsFirstBadOf inputs refusal told)
+
+-- the inputs are taken one after the other, and the first that is not taken gives the refusal; behind all of them only
+-- memory may be short
+abbrev pub StopsIn : List Input → Refusal → Seen → Seen → Type 0
+StopsIn [] refusal old new = refusal ≡ NoMemory
+StopsIn (input ∷ inputs) refusal old new =
+    StopsAt input.judge.IsBad input.name refusal old new
+    ⊎ (IsThereAndGood input old.told.inputs × StopsIn inputs refusal old new)

@@ -1,0 +1,101 @@
+-- The calls by which inputs are taken, and their order.
+use Rattle.std.specs.Prelude.{◌≡◌, ℕ, ◌+◌, ◌-◌, ◌≤◌, min, ◌⊎◌, ⊤, true, false, List, [], ◌∷◌, ◌++◌, length, take, Option, Some, None, Result, Ok, Err}
+use Rattle.capture_desk.specs.declared.calls.Call.{Call}
+use Rattle.capture_desk.specs.declared.calls.Call.TheVariants.{OpenIn, Read}
+use Rattle.capture_desk.specs.Desks.{Inputs, Seen, Tells, is_missing, after_open}
+use Rattle.command_texts.specs.declared.refusal.Refusal.{Refusal}
+use Rattle.command_steps.specs.Inputs.{Input, OfInput, IsThereAndGood, StopsIn, StopsReading, apart}
+
+-- the most bytes that one read asks for
+abbrev pub piece : ℕ
+piece = 65536
+
+-- the calls that were made are as P says
+abbrev pub Calls : (List Call → Type 0) → Seen → Seen → Type 0
+Calls P old new = (calls : List Call) × P calls × Tells calls old.calls new.calls
+
+-- ---- one input
+
+-- a read behind the first `at` bytes asks for a piece, or for what is left to one byte beyond the most; and only where
+-- these first bytes may be read on
+abbrev pub IsNextRead : (ℕ → Type 0) → ℕ → ℕ → ℕ → Type 0
+IsNextRead MayGoOn most at size = (at ≤ most) × MayGoOn at × (size ≡ min piece (most + 1 - at))
+
+-- reads behind the first `at` bytes, one behind the other, up to one that fails or finds the end
+abbrev pub AreReads : (ℕ → Type 0) → ℕ → ℕ → List Call → Type 0
+AreReads MayGoOn most at [] = ⊤
+AreReads MayGoOn most at (Read size None ∷ calls) = IsNextRead MayGoOn most at size × (calls ≡ [])
+AreReads MayGoOn most at (Read size (Some n) ∷ calls) =
+    IsNextRead MayGoOn most at size × (n ≡ 0 → calls ≡ []) × AreReads MayGoOn most (at + n) calls
+AreReads MayGoOn most at (_ ∷ calls) = ⊥
+
+-- an input is opened and then read, or it is not opened
+abbrev pub IsTaking : List ℕ → ℕ → (List ℕ → Type 0) → Option Inputs → List Call → Type 0
+IsTaking name most MayGoOn told [] = ⊤
+IsTaking name most MayGoOn told (OpenIn other false ∷ calls) = (other ≡ name) × (calls ≡ [])
+IsTaking name most MayGoOn told (OpenIn other true ∷ calls) =
+    (other ≡ name) × AreReads (λ at. OfInput name told (λ bytes. MayGoOn (take at bytes))) most 0 calls
+IsTaking name most MayGoOn told (_ ∷ calls) = ⊥
+
+abbrev pub IsTakingOf : Input → Option Inputs → List Call → Type 0
+IsTakingOf input told calls = IsTaking input.name input.judge.most input.judge.MayGoOn told calls
+
+-- nothing was done but that an input was opened and read
+pub record OnlyReads (name : List ℕ) (most : ℕ) (MayGoOn : List ℕ → Type 0) (old new : Seen) : Type 0 where
+  pub told : apart new.told ≡ apart old.told
+  pub writes : new.writes ≡ old.writes
+  pub calls : Calls (IsTaking name most MayGoOn old.told.inputs) old new
+
+-- ---- several inputs
+
+-- all inputs were taken, one after the other, each found good before the next
+abbrev pub AreTaken : List Input → Option Inputs → List Call → Type 0
+AreTaken [] told calls = calls ≡ []
+AreTaken (input ∷ inputs) told calls =
+    (first later : List Call) × (calls ≡ first ++ later) × IsTakingOf input told first × IsThereAndGood input told
+    × AreTaken inputs told later
+
+-- or some of them, up to the one that stopped
+abbrev pub AreTakenUpTo : List Input → Option Inputs → List Call → Type 0
+AreTakenUpTo [] told calls = calls ≡ []
+AreTakenUpTo (input ∷ inputs) told calls =
+    (first later : List Call) × (calls ≡ first ++ later) × IsTakingOf input told first
+    × ((later ≡ []) ⊎ (IsThereAndGood input told × AreTakenUpTo inputs told later))
+
+-- what a step leaves that takes inputs and nothing else: all of them, or up to one that is refused
+pub record Took (inputs : List Input) (old new : Seen) : Type 0 where
+  pub told : apart new.told ≡ apart old.told
+  pub reads : new.reads ≡ old.reads
+  pub writes : new.writes ≡ old.writes
+  pub calls : Calls (AreTaken inputs old.told.inputs) old new
+
+pub record Stopped (inputs : List Input) (refusal : Refusal) (old new : Seen) : Type 0 where
+  pub told : apart new.told ≡ apart old.told
+  pub writes : new.writes ≡ old.writes
+  pub why : StopsIn inputs refusal old new
+  pub calls : Calls (AreTakenUpTo inputs old.told.inputs) old new
+
+abbrev pub Takes : {A : Type 0} → List Input → Result A Refusal → Seen → Seen → Type 0
+Takes inputs (Ok _) old new = Took inputs old new
+Takes inputs (Err refusal) old new = Stopped inputs refusal old new
+
+-- ---- steps at an open input
+
+abbrev pub Opened : {A : Type 0} → List ℕ → Result A Refusal → Seen → Seen → Type 0
+Opened name (Ok _) old new = (is_missing name old.told.inputs ≡ false) × (new.told ≡ after_open name old.told)
+Opened name (Err refusal) old new = StopsReading name refusal old new × (new.told ≡ old.told)
+
+-- the call by which an input was opened
+abbrev pub OpensBy : {A E : Type 0} → List ℕ → Result A E → List Call → Type 0
+OpensBy name (Ok _) calls = calls ≡ OpenIn name true ∷ []
+OpensBy name (Err _) calls = calls ≡ OpenIn name false ∷ []
+
+-- a read of so many bytes, or none for want of memory
+abbrev pub ReadsBy : {E : Type 0} → ℕ → Result ℕ E → List Call → Type 0
+ReadsBy size (Ok n) calls = calls ≡ Read size (Some n) ∷ []
+ReadsBy size (Err _) calls = (calls ≡ []) ⊎ (calls ≡ Read size None ∷ [])
+
+-- what a piece that was read added to the bytes before it
+abbrev pub Grows : ℕ → ℕ → List ℕ → List ℕ → List ℕ → Type 0
+Grows at n rest bytes new_bytes =
+    (n ≤ length rest) × (n ≡ 0 → rest ≡ []) × (take (at + n) new_bytes ≡ take at bytes ++ take n rest)

@@ -1,0 +1,149 @@
+-- What is said: the text of each answer, and the report. Numbers and places are decimal; bytes have two hexadecimal
+-- digits, nibbles one and addresses eight, or nine for 2^32.
+use Rattle.std.specs.Prelude.{ℕ, false, List, [], ◌++◌, codes, slice_index}
+use Rattle.std.specs.Fmt.{decimal, digits}
+use Rattle.risc_listing.specs.Lines.{hex, address_text, line_end}
+use Rattle.bt878_words.specs.declared.UsageFault.{UsageFault}
+use Rattle.bt878_words.specs.declared.UsageFault.TheVariants.{NoCommand, UnknownCommand, WordCount, Number, SameName}
+use Rattle.machine_model.specs.declared.Cause.{Cause}
+use Rattle.machine_model.specs.declared.Cause.TheVariants.{Cut, Reserved, SyncCode, JumpOut, NoTarget, Wrap, Ungranted}
+use Rattle.dma_machine.specs.declared.Report.{Report}
+use Rattle.capture_file.specs.declared.Input.{Input}
+use Rattle.capture_file.specs.declared.Input.TheVariants as input
+use Rattle.capture_file.specs.declared.FileKind.{FileKind}
+use Rattle.capture_file.specs.declared.FileKind.TheVariants as kind
+use Rattle.capture_desc.specs.declared.fault.Key.{Key}
+use Rattle.capture_desc.specs.declared.fault.DescFault.{DescFault}
+use Rattle.capture_desc.specs.declared.fault.DescFault.TheVariants.{NotToml, Unknown, Missing, WrongKind, OutOfRange}
+use Rattle.capture_desc.specs.Keys.{name_of}
+use Rattle.picture_model.specs.declared.BuildFault.{BuildFault}
+use Rattle.picture_model.specs.declared.BuildFault.TheVariants as geometry
+use Rattle.risc_asm.specs.declared.AsmFault.{AsmFault}
+use Rattle.risc_asm.specs.declared.AsmFault.TheVariants as listing
+use Rattle.command_texts.specs.declared.answer.Answer.{Answer}
+use Rattle.command_texts.specs.declared.answer.Answer.TheVariants.{Done, Usage, ReadFault, WriteFault, Malformed, BadDesc, BadGeometry, BadText, Rejected, NoMemory}
+
+abbrev pub byte_text : ℕ → List ℕ
+byte_text n = hex 2 n
+
+abbrev pub nibble_text : ℕ → List ℕ
+nibble_text n = digits 16 false n
+
+abbrev pub usage_words : UsageFault → List ℕ
+usage_words NoCommand = codes "no command"
+usage_words UnknownCommand = codes "unknown command"
+usage_words WordCount = codes "wrong number of words"
+usage_words Number = codes "bad number"
+usage_words SameName = codes "same name"
+
+abbrev pub input_words : Input → List ℕ
+input_words input.Program = codes "program file"
+input_words input.Stream = codes "stream file"
+input_words input.Desc = codes "description"
+input_words input.Ring = codes "ring file"
+
+abbrev pub kind_words : FileKind → List ℕ
+kind_words kind.Magic = codes "magic"
+kind_words kind.Short = codes "short"
+kind_words kind.Count = codes "count"
+kind_words kind.Base = codes "base"
+kind_words kind.Page = codes "page"
+kind_words kind.Order = codes "order"
+kind_words kind.Overlap = codes "overlap"
+kind_words (kind.Tag byte) = codes "tag " ++ byte_text byte
+kind_words (kind.Status byte) = codes "status " ++ byte_text byte
+kind_words (kind.Code byte) = codes "code " ++ byte_text byte
+kind_words (kind.Enable byte) = codes "enable " ++ byte_text byte
+kind_words kind.AfterEnd = codes "after end"
+kind_words kind.TooLong = codes "too long"
+kind_words kind.TooManyTurns = codes "too many turns"
+kind_words (kind.Trigger byte) = codes "trigger " ++ byte_text byte
+kind_words kind.Length = codes "length"
+kind_words kind.Pages = codes "pages"
+kind_words (kind.Slot byte) = codes "slot " ++ byte_text byte
+kind_words (kind.Buffer byte) = codes "buffer " ++ byte_text byte
+
+abbrev pub cause_words : Cause → List ℕ
+cause_words Cut = codes "cut"
+cause_words (Reserved opcode) = codes "reserved " ++ nibble_text opcode
+cause_words (SyncCode code) = codes "sync code " ++ nibble_text code
+cause_words (JumpOut address) = codes "jump out " ++ address_text address
+cause_words NoTarget = codes "no target"
+cause_words Wrap = codes "wrap"
+cause_words (Ungranted address) = codes "ungranted " ++ address_text address
+
+-- a fault of a description; a key is said as it stands in the file
+abbrev pub key_text : List ℕ → Key → List ℕ
+key_text fault key = codes "description: " ++ (fault ++ (codes " key " ++ (name_of key ++ line_end)))
+
+abbrev pub desc_text : DescFault → List ℕ
+desc_text NotToml = codes "description: not toml\n"
+desc_text (Unknown name) = codes "description: unknown key " ++ (name ++ line_end)
+desc_text (Missing key) = key_text (codes "missing") key
+desc_text (WrongKind key) = key_text (codes "wrong kind of") key
+desc_text (OutOfRange key) = key_text (codes "out of range") key
+
+-- what is needed, and what is there
+abbrev pub need_words : ℕ → ℕ → List ℕ
+need_words need have = codes ", need " ++ (decimal need ++ (codes ", have " ++ decimal have))
+
+abbrev pub geometry_words : BuildFault → List ℕ
+geometry_words geometry.WidthRange = codes "width range"
+geometry_words geometry.HeightRange = codes "height range"
+geometry_words geometry.WidthOffUnit = codes "width off unit"
+geometry_words geometry.OddHeight = codes "odd height"
+geometry_words geometry.TooNarrow = codes "too narrow"
+geometry_words geometry.StrideShort = codes "stride short"
+geometry_words geometry.OffUnit = codes "off unit"
+geometry_words geometry.Overlap = codes "overlap"
+geometry_words geometry.VbiRange = codes "vbi range"
+geometry_words (geometry.PageUnaligned number) = codes "page unaligned " ++ decimal number
+geometry_words (geometry.PageTwice number) = codes "page twice " ++ decimal number
+geometry_words (geometry.TooFewPages need have) = codes "too few pages" ++ need_words need have
+geometry_words (geometry.TooFewBytes need have) = codes "too few bytes" ++ need_words need have
+geometry_words geometry.ProgramBase = codes "program base"
+geometry_words geometry.ProgramOnPage = codes "program on page"
+
+-- a fault of a text that is assembled
+abbrev pub listing_words : AsmFault → List ℕ
+listing_words (listing.Line k) = codes "line " ++ decimal k
+listing_words (listing.Short k) = codes "short at " ++ decimal k
+listing_words listing.TooLong = codes "too long"
+
+-- what an answer says; Done has its command's text, and at WriteFault nothing more is said
+abbrev pub answer_text : Answer → List ℕ
+answer_text Done = []
+answer_text (Usage fault) = codes "usage: " ++ (usage_words fault ++ line_end)
+answer_text ReadFault = codes "read fault\n"
+answer_text WriteFault = []
+answer_text (Malformed file fault) =
+    input_words file ++ (codes ": " ++ (kind_words fault.kind ++ (codes " at " ++ (decimal fault.at ++ line_end))))
+answer_text (BadDesc fault) = desc_text fault
+answer_text (BadGeometry fault) = codes "geometry: " ++ (geometry_words fault ++ line_end)
+answer_text (BadText fault) = codes "listing: " ++ (listing_words fault ++ line_end)
+answer_text (Rejected at nth cause) =
+    codes "rejected at " ++ (address_text at ++ (codes ", step " ++ (decimal nth
+    ++ (codes ": " ++ (cause_words cause ++ line_end)))))
+answer_text NoMemory = codes "no memory\n"
+
+-- a report: the turns taken, the bytes stored, the pushes lost and INT_STAT
+abbrev pub lost_words : List ℕ → List ℕ
+lost_words lost =
+    decimal (slice_index lost 0) ++ (codes " " ++ (decimal (slice_index lost 1) ++ (codes " "
+    ++ (decimal (slice_index lost 2) ++ (codes " " ++ decimal (slice_index lost 3))))))
+
+abbrev pub report_text : Report → List ℕ
+report_text r =
+    codes "turns " ++ (decimal r.turns ++ (codes "\nmoved " ++ (decimal r.moved
+    ++ (codes "\noverruns " ++ (lost_words r.overruns ++ (codes "\nstatus " ++ (hex 8 r.int_stat ++ line_end)))))))
+
+-- what `verify` says of a sound program
+abbrev pub accepted_text : List ℕ
+accepted_text = codes "accepted\n"
+
+-- what `compile` and `assemble` say: the words of the program and its chunks, and what `make` says
+abbrev pub built_text : ℕ → ℕ → List ℕ
+built_text words pages = codes "words " ++ (decimal words ++ (codes " pages " ++ (decimal pages ++ line_end)))
+
+abbrev pub made_text : ℕ → ℕ → List ℕ
+made_text fields entries = codes "fields " ++ (decimal fields ++ (codes " entries " ++ (decimal entries ++ line_end)))

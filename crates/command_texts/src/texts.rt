@@ -1,0 +1,281 @@
+//! The texts that are said.
+
+ghost use Rattle.std.specs.Prelude.{◌≡◌, IfOk, Some, string_bytes};
+ghost use Rattle.capture_desc.specs.declared.fault.DescFault.TheVariants as DescFault;
+ghost use Rattle.command_texts.specs.Texts.{answer_text, built_text, cause_words, geometry_words, input_words, key_text, kind_words, listing_words, lost_words, made_text, need_words, report_text, usage_words};
+
+use crate::answer::Answer;
+use bt878_words::UsageFault;
+use capture_desc::{DescFault, Key};
+use capture_file::{FileKind, Input};
+use dma_machine::Report;
+use machine_model::Cause;
+use picture_model::BuildFault;
+use risc_asm::AsmFault;
+use std::alloc::{AllocError, Global};
+use std::fmt;
+
+/// What is said where an input could not be read.
+pub const READ_FAULT: &str = "read fault\n";
+
+/// What is said for want of memory.
+pub const NO_MEMORY: &str = "no memory\n";
+
+/// What `verify` says of a sound program.
+pub const ACCEPTED: &str = "accepted\n";
+
+/// A cause in words.
+#[derive(Drop)]
+struct CauseWords(Cause);
+
+impl fmt::Display for CauseWords {
+    ghost output = { λ words. Some (cause_words words.0) };
+
+    fn fmt<W: fmt::Write>(&self, f: &mut fmt::Formatter<W>) -> fmt::Result {
+        match self.0 {
+            Cause::Cut => write!(f, "cut"),
+            Cause::Reserved(opcode) => write!(f, "reserved {opcode:x}"),
+            Cause::SyncCode(code) => write!(f, "sync code {code:x}"),
+            Cause::JumpOut(address) => write!(f, "jump out {address:08x}"),
+            Cause::NoTarget => write!(f, "no target"),
+            Cause::Wrap => write!(f, "wrap"),
+            Cause::Ungranted(address) => write!(f, "ungranted {address:08x}"),
+        }
+    }
+}
+
+/// A fault of a file in words.
+#[derive(Drop)]
+struct KindWords(FileKind);
+
+impl fmt::Display for KindWords {
+    ghost output = { λ words. Some (kind_words words.0) };
+
+    fn fmt<W: fmt::Write>(&self, f: &mut fmt::Formatter<W>) -> fmt::Result {
+        match self.0 {
+            FileKind::Magic => write!(f, "magic"),
+            FileKind::Short => write!(f, "short"),
+            FileKind::Count => write!(f, "count"),
+            FileKind::Base => write!(f, "base"),
+            FileKind::Page => write!(f, "page"),
+            FileKind::Order => write!(f, "order"),
+            FileKind::Overlap => write!(f, "overlap"),
+            FileKind::Tag(byte) => write!(f, "tag {byte:02x}"),
+            FileKind::Status(byte) => write!(f, "status {byte:02x}"),
+            FileKind::Code(byte) => write!(f, "code {byte:02x}"),
+            FileKind::Enable(byte) => write!(f, "enable {byte:02x}"),
+            FileKind::AfterEnd => write!(f, "after end"),
+            FileKind::TooLong => write!(f, "too long"),
+            FileKind::TooManyTurns => write!(f, "too many turns"),
+            FileKind::Trigger(byte) => write!(f, "trigger {byte:02x}"),
+            FileKind::Length => write!(f, "length"),
+            FileKind::Pages => write!(f, "pages"),
+            FileKind::Slot(byte) => write!(f, "slot {byte:02x}"),
+            FileKind::Buffer(byte) => write!(f, "buffer {byte:02x}"),
+        }
+    }
+}
+
+/// What a picture needs and what is there, in words.
+#[derive(Drop)]
+struct NeedWords {
+    need: u64,
+    have: u64,
+}
+
+impl fmt::Display for NeedWords {
+    ghost output = { λ words. Some (need_words words.need words.have) };
+
+    fn fmt<W: fmt::Write>(&self, f: &mut fmt::Formatter<W>) -> fmt::Result {
+        let need = self.need;
+        let have = self.have;
+        write!(f, ", need {need}, have {have}")
+    }
+}
+
+/// A fault of a geometry in words.
+#[derive(Drop)]
+struct GeometryWords(BuildFault);
+
+impl fmt::Display for GeometryWords {
+    ghost output = { λ words. Some (geometry_words words.0) };
+
+    fn fmt<W: fmt::Write>(&self, f: &mut fmt::Formatter<W>) -> fmt::Result {
+        match self.0 {
+            BuildFault::WidthRange => write!(f, "width range"),
+            BuildFault::HeightRange => write!(f, "height range"),
+            BuildFault::WidthOffUnit => write!(f, "width off unit"),
+            BuildFault::OddHeight => write!(f, "odd height"),
+            BuildFault::TooNarrow => write!(f, "too narrow"),
+            BuildFault::StrideShort => write!(f, "stride short"),
+            BuildFault::OffUnit => write!(f, "off unit"),
+            BuildFault::Overlap => write!(f, "overlap"),
+            BuildFault::VbiRange => write!(f, "vbi range"),
+            BuildFault::PageUnaligned(number) => write!(f, "page unaligned {number}"),
+            BuildFault::PageTwice(number) => write!(f, "page twice {number}"),
+            BuildFault::TooFewPages { need, have } => {
+                let missing = NeedWords { need, have };
+                write!(f, "too few pages{missing}")
+            }
+            BuildFault::TooFewBytes { need, have } => {
+                let missing = NeedWords { need, have };
+                write!(f, "too few bytes{missing}")
+            }
+            BuildFault::ProgramBase => write!(f, "program base"),
+            BuildFault::ProgramOnPage => write!(f, "program on page"),
+        }
+    }
+}
+
+/// A fault of a text that is assembled, in words.
+#[derive(Drop)]
+struct ListingWords(AsmFault);
+
+impl fmt::Display for ListingWords {
+    ghost output = { λ words. Some (listing_words words.0) };
+
+    fn fmt<W: fmt::Write>(&self, f: &mut fmt::Formatter<W>) -> fmt::Result {
+        match self.0 {
+            AsmFault::Line(number) => write!(f, "line {number}"),
+            AsmFault::Short(lines) => write!(f, "short at {lines}"),
+            AsmFault::TooLong => write!(f, "too long"),
+        }
+    }
+}
+
+/// Which file, in words.
+fn input_words(input: Input) -> &'static str
+    ensures { result.now ≡ input_words input }
+{
+    match input {
+        Input::Program => "program file",
+        Input::Stream => "stream file",
+        Input::Desc => "description",
+        Input::Ring => "ring file",
+    }
+}
+
+/// The text of a fault of the words. It takes no memory.
+pub fn usage_text(fault: UsageFault) -> &'static str
+    ensures { result.now ≡ answer_text (Answer.Usage fault) }
+{
+    match fault {
+        UsageFault::NoCommand => "usage: no command\n",
+        UsageFault::UnknownCommand => "usage: unknown command\n",
+        UsageFault::WordCount => "usage: wrong number of words\n",
+        UsageFault::Number => "usage: bad number\n",
+        UsageFault::SameName => "usage: same name\n",
+    }
+}
+
+/// The text of a program that isn't sound.
+pub fn rejected_text(alloc: Global, at: u64, nth: u64, cause: Cause) -> Result<Vec<u8>, AllocError>
+    ensures { IfOk result (λ text. text.items ≡ answer_text (Answer.Rejected at nth cause)) }
+{
+    let cause = CauseWords(cause);
+    let text = format!(in alloc; "rejected at {at:08x}, step {nth}: {cause}\n")?;
+    Ok(text.into_bytes())
+}
+
+/// The text of a key that no description has. The key is said as it stands in the file.
+fn unknown_text(alloc: Global, key: &[u8]) -> Result<Vec<u8>, AllocError>
+    ensures { IfOk result (λ text. text.items ≡ answer_text (Answer.BadDesc (DescFault.Unknown key.now))) }
+{
+    let mut text = Vec::from_slice(alloc, b"description: unknown key ")?;
+    text.extend_from_slice(key)?;
+    text.push(b'\n')?;
+    Ok(text)
+}
+
+/// The text of a fault of a key of descriptions.
+fn key_text(alloc: Global, fault: &str, key: Key) -> Result<Vec<u8>, AllocError>
+    ensures { IfOk result (λ text. text.items ≡ key_text fault.now key) }
+{
+    let key = key.name();
+    let text = format!(in alloc; "description: {fault} key {key}\n")?;
+    Ok(text.into_bytes())
+}
+
+/// The text of a file that holds no description.
+pub fn desc_text(alloc: Global, fault: &DescFault) -> Result<Vec<u8>, AllocError>
+    ensures { IfOk result (λ text. text.items ≡ answer_text (Answer.BadDesc fault.now)) }
+{
+    match fault {
+        DescFault::NotToml => Vec::from_slice(alloc, b"description: not toml\n"),
+        DescFault::Unknown(key) => unknown_text(alloc, key.as_slice()),
+        DescFault::Missing(key) => key_text(alloc, "missing", *key),
+        DescFault::WrongKind(key) => key_text(alloc, "wrong kind of", *key),
+        DescFault::OutOfRange(key) => key_text(alloc, "out of range", *key),
+    }
+}
+
+/// The text of a geometry that has a fault.
+pub fn geometry_text(alloc: Global, fault: BuildFault) -> Result<Vec<u8>, AllocError>
+    ensures { IfOk result (λ text. text.items ≡ answer_text (Answer.BadGeometry fault)) }
+{
+    let fault = GeometryWords(fault);
+    let text = format!(in alloc; "geometry: {fault}\n")?;
+    Ok(text.into_bytes())
+}
+
+/// What is said of a text that is no listing of a program.
+pub fn listing_text(alloc: Global, fault: AsmFault) -> Result<Vec<u8>, AllocError>
+    ensures { IfOk result (λ text. text.items ≡ answer_text (Answer.BadText fault)) }
+{
+    let fault = ListingWords(fault);
+    let text = format!(in alloc; "listing: {fault}\n")?;
+    Ok(text.into_bytes())
+}
+
+/// The text of a fault of a file.
+pub fn malformed_text(
+    alloc: Global,
+    input: Input,
+    at: u64,
+    kind: FileKind,
+) -> Result<Vec<u8>, AllocError>
+    ensures { IfOk result (λ text. text.items ≡ answer_text (Answer.Malformed input (record { at = at; kind = kind }))) }
+{
+    let input = input_words(input);
+    let kind = KindWords(kind);
+    let text = format!(in alloc; "{input}: {kind} at {at}\n")?;
+    Ok(text.into_bytes())
+}
+
+/// The pushes lost, in words.
+#[derive(Drop)]
+struct LostWords([u64; 4]);
+
+impl fmt::Display for LostWords {
+    ghost output = { λ words. Some (lost_words words.0) };
+
+    fn fmt<W: fmt::Write>(&self, f: &mut fmt::Formatter<W>) -> fmt::Result {
+        let [one, two, three, control] = self.0;
+        write!(f, "{one} {two} {three} {control}")
+    }
+}
+
+/// The report of a machine. The error is want of memory.
+pub fn report_text(alloc: Global, report: &Report) -> Result<String, AllocError>
+    ensures { IfOk result (λ text. string_bytes text ≡ report_text report.now) }
+{
+    let turns = report.turns;
+    let moved = report.moved;
+    let lost = LostWords(report.overruns);
+    let status = report.int_stat;
+    format!(in alloc; "turns {turns}\nmoved {moved}\noverruns {lost}\nstatus {status:08x}\n")
+}
+
+/// What `compile` and `assemble` say of a program of so many words and chunks. The error is want of memory.
+pub fn built_text(alloc: Global, words: usize, pages: usize) -> Result<String, AllocError>
+    ensures { IfOk result (λ text. string_bytes text ≡ built_text words pages) }
+{
+    format!(in alloc; "words {words} pages {pages}\n")
+}
+
+/// What `make` says of a stream of so many fields and data entries. The error is want of memory.
+pub fn made_text(alloc: Global, fields: u32, entries: u64) -> Result<String, AllocError>
+    ensures { IfOk result (λ text. string_bytes text ≡ made_text fields entries) }
+{
+    format!(in alloc; "fields {fields} entries {entries}\n")
+}

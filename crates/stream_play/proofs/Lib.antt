@@ -1,0 +1,5 @@
+pub mod Playing
+mod Forms
+pub mod Sound
+mod Loading
+pub mod Fitting

@@ -1,0 +1,22 @@
+use Rattle.std.proofs.Common.{arith}
+use Rattle.capture_file.specs.declared.reader.Got.TheVariants as got
+use Rattle.capture_file.specs.declared.Step.TheVariants.{Push, Turns}
+use Rattle.stream_play.proofs.Forms.{form_after}
+use Rattle.stream_play.proofs.Playing.{GoesOn-after}
+use Rattle.stream_play.proofs.play.hand_plain.Goals as goal
+
+pub returns-in-Some-take_turns-clause-handed : goal.returns-in-Some-take_turns-clause-handed
+returns-in-Some-take_turns-clause-handed g c =
+    let same = c.in_default.ensures.none in
+    let taken = rw same at c.in-Some-take_turns.ensures.some in
+    (omega arith, (taken.within, taken.place, λ more. GoesOn-after _ _ _ _ _ _ (taken.whole more) c.turns.ensures))
+
+pub returns-in-Some-clause-form : goal.returns-in-Some-clause-form
+returns-in-Some-clause-form g c =
+    (form_after g.P.Player.has_slots c.args.reader.now c.args.piece.now 6 (got.Step (Push c.in-Some.q c.in-Some.e)) c.take_push.new.self c.in-Some.ensures.some.exact c.requires.form).0
+
+pub returns-in-Some-take_turns-clause-form : goal.returns-in-Some-take_turns-clause-form
+returns-in-Some-take_turns-clause-form g c =
+    let same = c.in_default.ensures.none in
+    let taken = rw same at c.in-Some-take_turns.ensures.some in
+    (form_after g.P.Player.has_slots c.args.reader.now c.args.piece.now 5 (got.Step (Turns c.in-Some-take_turns.count)) c.take_turns.new.self taken.exact c.requires.form).0

@@ -1,0 +1,9 @@
+//! Streams, played on anything that takes their steps, and stream files on the machines of programs.
+#![tactic(auto)]
+
+mod files;
+mod play;
+mod player;
+
+pub use files::{Played, play_file};
+pub use player::Player;

@@ -1,0 +1,83 @@
+//! What takes the steps of a stream.
+
+ghost use Rattle.std.specs.Prelude.{◌≡◌, Bool, false};
+ghost use Rattle.capture_file.specs.declared.Step.TheVariants as Step;
+ghost use Rattle.capture_file.specs.declared.Step.{Step as StepOf};
+ghost use Rattle.capture_file.specs.Readers.{fresh};
+ghost use Rattle.capture_file.specs.Records.{StepFits};
+ghost use Rattle.stream_play.specs.Plays.{machine_act};
+
+use capture_file::StepReader;
+use dma_machine::Machine;
+use fifo_model::{Entry, Queue};
+use irq_status::HostWrite;
+use page_ram::Ram;
+use risc_word::Code;
+
+/// What takes the steps of a stream, one after the other. Proofs see what a step makes of it, and whether
+/// it has slots, which patches change; streams with patches are played by one with slots alone.
+pub trait Player {
+    ghost act: { StepOf → Self → Self };
+
+    ghost has_slots: { Bool };
+
+    /// A reader of its streams: with patches where it has slots, else of the other forms.
+    fn reader(limit: u64) -> StepReader
+        ensures { result ≡ fresh limit has_slots };
+
+    /// Takes a data entry for one of the three queues.
+    fn push(&mut self, queue: Queue, entry: Entry)
+        requires { StepFits (Step.Push queue entry) }
+        ensures { self.new ≡ act (Step.Push queue entry) self.old };
+
+    /// Takes a control code for all queues.
+    fn push_control(&mut self, code: Code)
+        ensures { self.new ≡ act (Step.Control code) self.old };
+
+    /// Takes so many turns.
+    fn turns(&mut self, count: u32)
+        ensures { self.new ≡ act (Step.Turns count) self.old };
+
+    /// Takes a write of the host to a register of the interrupts or of the trigger point.
+    fn host(&mut self, write: HostWrite)
+        requires { StepFits (Step.Host write) }
+        ensures { self.new ≡ act (Step.Host write) self.old };
+
+    /// Takes the patch of a slot: it shows a buffer from then on, 0 or 1, or none, 255.
+    fn patch(&mut self, slot: u8, buffer: u8)
+        requires { StepFits (Step.Patch slot buffer) }
+        ensures { self.new ≡ act (Step.Patch slot buffer) self.old };
+}
+
+impl<R: Ram> Player for Machine<R> {
+    ghost act = { machine_act };
+
+    ghost has_slots = { false };
+
+    fn reader(limit: u64) -> StepReader {
+        StepReader::new(limit)
+    }
+
+    #[inline(always)]
+    fn push(&mut self, queue: Queue, entry: Entry) {
+        let _ = Machine::push(self, queue, entry);
+    }
+
+    #[inline(always)]
+    fn push_control(&mut self, code: Code) {
+        let _ = Machine::push_control(self, code);
+    }
+
+    #[inline(always)]
+    fn turns(&mut self, count: u32) {
+        Machine::turns(self, count);
+    }
+
+    #[inline(always)]
+    fn host(&mut self, write: HostWrite) {
+        Machine::host(self, write);
+    }
+
+    // A machine has no slots, and a stream that its reader takes has no patches: `act` makes nothing of one.
+    fn patch(&mut self, _slot: u8, _buffer: u8) {}
+}
