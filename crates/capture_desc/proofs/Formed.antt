@@ -1,34 +1,26 @@
 -- A description that is read meets what every description meets.
-use Rattle.std.proofs.Common.{◌≡◌, ℕ, ◌≤◌, Bool, true, false, not, ◌&&◌, ◌==◌, nat_le, List, [], length, Option, Some, None, is_some, Result, Ok, Err, refl, inl, inr, ◌⊎◌, arith}
+use Rattle.std.proofs.Common.{◌≡◌, ℕ, ◌≤◌, Bool, true, false, not, ◌&&◌, ◌==◌, nat_le, List, [], length, Option, Some, None, Result, Ok, Err, refl, inl, inr, ◌⊎◌, arith}
 use Rattle.std.specs.Prelude.{IfSome, IfOk}
-use Rattle.std.proofs.lemmas.Bool.{and_parts, cases_Bool, false≢true}
+use Rattle.std.proofs.lemmas.Bool.{and_parts, false≢true}
 use Rattle.std.proofs.lemmas.Bool.Decides.{nat_tests}
-use Rattle.toml.specs.Data.{Data, Members, get_member}
+use Rattle.toml.specs.Data.{Members, get_member}
+use Rattle.toml_keys.specs.Keys.{document_of, is_there, least, unknown_names}
+use Rattle.toml_keys.specs.Values as keys
+use Rattle.toml_keys.specs.Values.{each, is_integer, is_row, list, list_typed, two_of, u32_of}
+use Rattle.toml_keys.proofs.Chains.{told-ok}
+use Rattle.toml_keys.proofs.Fitting.{absent_list, list_fits}
 use Rattle.pixel_layout.specs.Layouts.{layout, planes_of}
+use Rattle.page_table.specs.Grants.{max_bytes, max_chunks, total}
+use Rattle.page_table.specs.Taken.{listed}
 use Rattle.capture_desc.specs.declared.desc.Desc.{Desc}
-use Rattle.page_table.specs.Grants.{max_bytes, max_chunks}
 use Rattle.capture_desc.specs.declared.fault.Key.{Key}
 use Rattle.capture_desc.specs.declared.fault.DescError.{DescError}
 use Rattle.capture_desc.specs.declared.fault.Key.TheVariants as key
-use Rattle.capture_desc.specs.Keys.{name_of, least, unknown_names}
-use Rattle.capture_desc.specs.Values.{Reading, ◌>>=◌, at, judged, fitting, each, list, list_typed, is_integer, is_row, u32_of, chunk_of}
-use Rattle.capture_desc.specs.WellFormed.{IsWellFormed, bytes_of_chunks}
-use Rattle.capture_desc.specs.Description.{Answers, values, plane_numbers, pages, pages_beside, chunks, chunks_fit, is_there, described, described_in, document_of, unless_unknown}
-use Rattle.capture_desc.proofs.Parts.{HasLists, gone_on, values-lists}
-
-fitting_fits : {A : Type 0} (k : Key) (fits : List A → Bool) (found read : Option (List A)) → fitting k fits found ≡ Ok read → IfSome read (λ members. fits members ≡ true)
-fitting_fits k fits None None h = tt
-fitting_fits k fits None (Some members) h = absurd (cc)
-fitting_fits k fits (Some list) None h = tt
-fitting_fits k fits (Some list) (Some members) h =
-    elim (cases_Bool (fits list)) [
-      | inl good ↦ (let now = rw good at h in let same : list ≡ members = cc in rw (← same) good)
-      | inr bad ↦ (let now = rw bad at h in absurd (cc))
-    ]
-
-list_fits : {A : Type 0} (typed : Data → Bool) (value : Data → Option A) (fits : List A → Bool) (k : Key) (ms : Members) (read : Option (List A)) → list typed value fits k ms ≡ Ok read → IfSome read (λ members. fits members ≡ true)
-list_fits typed value fits k ms read h =
-    gone_on (at k (list_typed typed) (each value) ms) (fitting k fits) read h (λ found _ rest. fitting_fits k fits found read rest)
+use Rattle.capture_desc.specs.Keys.{is_known, name_of}
+use Rattle.capture_desc.specs.Values.{Reading, fault_of}
+use Rattle.capture_desc.specs.WellFormed.{IsWellFormed}
+use Rattle.capture_desc.specs.Description.{Answers, values, plane_numbers, pages, pages_beside, chunks, chunks_fit, described, described_in, unless_unknown}
+use Rattle.capture_desc.proofs.Parts.{HasLists, values-lists}
 
 some_map : {A : Type 0} (P Q : A → Type 0) (o : Option A) → ((a : A) → P a → Q a) → IfSome o P → IfSome o Q
 some_map P Q None f h = tt
@@ -40,10 +32,10 @@ equal_from_test a b h = grind (arith, nat_tests)
 pub HasPlanes-read : (ms : Members) (d : Desc) (k : Key) (read : Option (List ℕ)) → plane_numbers d.format k ms ≡ Ok read → IfSome read (λ ns. length ns ≡ planes_of (layout d.format))
 HasPlanes-read ms d k read h =
     some_map _ _ read (λ ns fits. equal_from_test _ _ fits)
-    (list_fits is_integer u32_of (λ ns. length ns == planes_of (layout d.format)) k ms read h)
+    (list_fits is_integer u32_of (λ ns. length ns == planes_of (layout d.format)) (name_of k) ms read (told-ok (fault_of k) _ read h))
 
 -- pages that are read are those of the key, or none beside chunks
-pages_read : (has_chunks : Bool) (reading : Reading (Option (List ℕ))) (read : List ℕ) → pages_beside has_chunks reading ≡ Ok read → (reading ≡ Ok (Some read)) ⊎ (read ≡ [])
+pages_read : (has_chunks : Bool) (reading : keys.Reading (Option (List ℕ))) (read : List ℕ) → pages_beside has_chunks reading ≡ Ok read → (reading ≡ Ok (Some read)) ⊎ (read ≡ [])
 pages_read true (Ok (Some ns)) read h = inl (cc)
 pages_read true (Ok None) read h = inr (cc)
 pages_read true (Err fault) read h = absurd (cc)
@@ -51,27 +43,22 @@ pages_read false (Ok (Some ns)) read h = inl (cc)
 pages_read false (Ok None) read h = absurd (cc)
 pages_read false (Err fault) read h = absurd (cc)
 
-page_list : Members → Reading (Option (List ℕ))
-page_list ms = list is_integer u32_of (λ ns. nat_le (length ns) max_chunks) key.Pages ms
+page_list : Members → keys.Reading (Option (List ℕ))
+page_list ms = list is_integer u32_of (λ ns. nat_le (length ns) max_chunks) (name_of key.Pages) ms
 
 few_pages : (ms : Members) (read : List ℕ) → pages ms ≡ Ok read → length read ≤ max_chunks
 unfolding page_list
 few_pages ms read h =
-    elim (pages_read (is_there key.Chunks ms) (page_list ms) read h) [
-      | inl there ↦ (let fits : nat_le (length read) max_chunks ≡ true = list_fits is_integer u32_of (λ ns. nat_le (length ns) max_chunks) key.Pages ms (Some read) there in grind (arith, nat_tests))
+    elim (pages_read (is_there (name_of key.Chunks) ms) (page_list ms) read (told-ok (fault_of key.Pages) _ read h)) [
+      | inl there ↦ (let fits : nat_le (length read) max_chunks ≡ true = list_fits is_integer u32_of (λ ns. nat_le (length ns) max_chunks) (name_of key.Pages) ms (Some read) there in grind (arith, nat_tests))
       | inr none ↦ rw none (omega arith)
     ]
 
--- an absent key has no list
-absent_list : {A B : Type 0} (k : Key) (typed : Data → Option B) (ranged : B → Option (List A)) (fits : List A → Bool) (found : Option Data) → is_some found ≡ false → judged k typed ranged found >>= fitting k fits ≡ Ok None
-absent_list k typed ranged fits None absent = refl
-absent_list k typed ranged fits (Some d) absent = absurd (cc)
-
-no_pages : (ms : Members) (read : List ℕ) → is_there key.Pages ms ≡ false → pages ms ≡ Ok read → read ≡ []
+no_pages : (ms : Members) (read : List ℕ) → is_there (name_of key.Pages) ms ≡ false → pages ms ≡ Ok read → read ≡ []
 unfolding page_list
 no_pages ms read absent h =
-    elim (pages_read (is_there key.Chunks ms) (page_list ms) read h) [
-      | inl there ↦ (let none : page_list ms ≡ Ok None = absent_list key.Pages (list_typed is_integer) (each u32_of) (λ ns. nat_le (length ns) max_chunks) (get_member (name_of key.Pages) ms) absent in absurd (cc))
+    elim (pages_read (is_there (name_of key.Chunks) ms) (page_list ms) read (told-ok (fault_of key.Pages) _ read h)) [
+      | inl there ↦ (let none : page_list ms ≡ Ok None = absent_list (list_typed is_integer) (each u32_of) (λ ns. nat_le (length ns) max_chunks) (get_member (name_of key.Pages) ms) absent in absurd (cc))
       | inr none ↦ none
     ]
 
@@ -82,19 +69,19 @@ not_true false h = refl
 -- chunks that fit
 record Fit (has_pages : Bool) (list : List (ℕ × ℕ)) : Type 0 where
   few : length list ≤ max_chunks
-  small : bytes_of_chunks list ≤ max_bytes
+  small : total (listed list) ≤ max_bytes
   alone : has_pages ≡ false
 
 fit : (has_pages : Bool) (list : List (ℕ × ℕ)) → chunks_fit has_pages list ≡ true → Fit has_pages list
 fit has_pages list h =
-    let (sizes, alone) = and_parts (nat_le (length list) max_chunks && nat_le (bytes_of_chunks list) max_bytes) (not has_pages) h in
-    let (few, small) = and_parts (nat_le (length list) max_chunks) (nat_le (bytes_of_chunks list) max_bytes) sizes in
+    let (sizes, alone) = and_parts (nat_le (length list) max_chunks && nat_le (total (listed list)) max_bytes) (not has_pages) h in
+    let (few, small) = and_parts (nat_le (length list) max_chunks) (nat_le (total (listed list)) max_bytes) sizes in
     record { few = grind (arith, nat_tests); small = grind (arith, nat_tests); alone = not_true has_pages alone }
 
-chunks_read : (ms : Members) (read : Option (List (ℕ × ℕ))) → chunks ms ≡ Ok read → IfSome read (Fit (is_there key.Pages ms))
+chunks_read : (ms : Members) (read : Option (List (ℕ × ℕ))) → chunks ms ≡ Ok read → IfSome read (Fit (is_there (name_of key.Pages) ms))
 chunks_read ms read h =
-    some_map _ _ read (λ cs fits. fit (is_there key.Pages ms) cs fits)
-    (list_fits is_row chunk_of (chunks_fit (is_there key.Pages ms)) key.Chunks ms read h)
+    some_map _ _ read (λ cs fits. fit (is_there (name_of key.Pages) ms) cs fits)
+    (list_fits is_row two_of (chunks_fit (is_there (name_of key.Pages) ms)) (name_of key.Chunks) ms read (told-ok (fault_of key.Chunks) _ read h))
 
 pub HasLists-IsWellFormed : (ms : Members) (d : Desc) → HasLists ms d → IsWellFormed d
 HasLists-IsWellFormed ms d has =
@@ -115,7 +102,7 @@ unless_known (Some name) reading d is = absurd (cc)
 document-IsWellFormed : (document : Option Members) (d : Desc) → described_in document ≡ Ok d → IsWellFormed d
 document-IsWellFormed None d is = absurd (cc)
 document-IsWellFormed (Some ms) d is =
-    HasLists-IsWellFormed ms d (values-lists ms d (unless_known (least (unknown_names ms)) (values ms) d is))
+    HasLists-IsWellFormed ms d (values-lists ms d (unless_known (least (unknown_names is_known ms)) (values ms) d is))
 
 pub described-IsWellFormed : (text : List ℕ) (d : Desc) → described text ≡ Ok d → IsWellFormed d
 described-IsWellFormed text d is = document-IsWellFormed (document_of text) d is

@@ -1,43 +1,40 @@
 -- A description that is read has what its keys say, and so it meets what every description meets.
-use Rattle.std.proofs.Common.{◌≡◌, [], Ok, Err, refl}
+use Rattle.std.proofs.Common.{◌≡◌, Ok}
 use Rattle.toml.specs.Data.{Members}
 use Rattle.pixel_layout.specs.Layouts.{format_named}
 use Rattle.capture_desc.specs.declared.desc.Desc.{Desc}
 use Rattle.capture_desc.specs.declared.desc.Fields.TheVariants.{Both}
 use Rattle.capture_desc.specs.declared.fault.Key.TheVariants as key
-use Rattle.capture_desc.specs.Values.{Reading, ◌>>=◌, required, otherwise, word, number, u32_max}
+use Rattle.toml_keys.specs.Values.{u32_max}
+use Rattle.capture_desc.specs.Values.{number_or, optional_number, required_number, required_word, word_or}
 use Rattle.capture_desc.specs.Description.{values, fields_named, plane_numbers, clips, pages, chunks}
+use Rattle.toml_keys.proofs.Chains.{gone_on}
 
 -- the lists of a description are those of its keys
 pub record HasLists (ms : Members) (d : Desc) : Type 0 where
   pub stride : plane_numbers d.format key.Stride ms ≡ Ok d.stride
   pub offset : plane_numbers d.format key.Offset ms ≡ Ok d.offset
-  pub clip : otherwise [] (clips ms) ≡ Ok d.clip
+  pub clip : clips ms ≡ Ok d.clip
   pub pages : pages ms ≡ Ok d.pages
   pub chunks : chunks ms ≡ Ok d.chunks
 
--- a chain that ends well went on at its first reading
-pub gone_on : {A B C : Type 0} (r : Reading A) (next : A → Reading B) (end : B) → r >>= next ≡ Ok end → ((value : A) → r ≡ Ok value → next value ≡ Ok end → C) → C
-gone_on (Ok value) next end h then = then value refl h
-gone_on (Err fault) next end h then = absurd (cc)
-
 pub values-lists : (ms : Members) (d : Desc) → values ms ≡ Ok d → HasLists ms d
 values-lists ms d h =
-    gone_on (required key.Format (word format_named key.Format ms)) _ d h (λ format _ h.
-    gone_on (required key.Width (number u32_max key.Width ms)) _ d h (λ width _ h.
-    gone_on (required key.Height (number u32_max key.Height ms)) _ d h (λ height _ h.
-    gone_on (otherwise Both (word fields_named key.Fields ms)) _ d h (λ fields _ h.
+    gone_on (required_word format_named key.Format ms) _ d h (λ format _ h.
+    gone_on (required_number key.Width ms) _ d h (λ width _ h.
+    gone_on (required_number key.Height ms) _ d h (λ height _ h.
+    gone_on (word_or Both fields_named key.Fields ms) _ d h (λ fields _ h.
     gone_on (plane_numbers format key.Stride ms) _ d h (λ stride is_stride h.
     gone_on (plane_numbers format key.Offset ms) _ d h (λ offset is_offset h.
-    gone_on (otherwise 0 (number 255 key.SkipLines ms)) _ d h (λ skip_lines _ h.
-    gone_on (otherwise 0 (number u32_max key.VbiLines ms)) _ d h (λ vbi_lines _ h.
-    gone_on (otherwise 2044 (number u32_max key.VbiBytes ms)) _ d h (λ vbi_bytes _ h.
-    gone_on (number u32_max key.VbiOffset ms) _ d h (λ vbi_offset _ h.
-    gone_on (otherwise [] (clips ms)) _ d h (λ clip is_clip h.
-    gone_on (otherwise 4096 (number u32_max key.Base ms)) _ d h (λ base _ h.
+    gone_on (number_or 0 255 key.SkipLines ms) _ d h (λ skip_lines _ h.
+    gone_on (number_or 0 u32_max key.VbiLines ms) _ d h (λ vbi_lines _ h.
+    gone_on (number_or 2044 u32_max key.VbiBytes ms) _ d h (λ vbi_bytes _ h.
+    gone_on (optional_number key.VbiOffset ms) _ d h (λ vbi_offset _ h.
+    gone_on (clips ms) _ d h (λ clip is_clip h.
+    gone_on (number_or 4096 u32_max key.Base ms) _ d h (λ base _ h.
     gone_on (pages ms) _ d h (λ all_pages is_pages h.
     gone_on (chunks ms) _ d h (λ all_chunks is_chunks h.
-    gone_on (otherwise 0 (number 255 key.Fill ms)) _ d h (λ fill _ h.
+    gone_on (number_or 0 255 key.Fill ms) _ d h (λ fill _ h.
     let same : record {
       format = format;
       width = width;

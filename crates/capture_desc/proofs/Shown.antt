@@ -1,8 +1,14 @@
 -- What a fault of the keys says of the table.
-use Rattle.std.proofs.Common.{◌≡◌, ℕ, Bool, true, false, List, [], Option, Some, None, is_some, Result, Ok, Err, length, nat_le, ◌==◌, inl, inr, refl, ap, sym, ◌∙◌}
-use Rattle.std.specs.Prelude.{IfErr, ok_or}
-use Rattle.std.proofs.lemmas.Bool.{cases_Bool}
-use Rattle.toml.specs.Data.{Data, Members, get_member, as_integer, as_str}
+use Rattle.std.proofs.Common.{◌≡◌, ℕ, Bool, true, false, List, [], Option, Some, None, Result, Ok, Err, length, nat_le, ◌==◌, refl, sym}
+use Rattle.std.specs.Prelude.{IfErr}
+use Rattle.toml.specs.Data.{Members, as_str}
+use Rattle.toml_keys.specs.declared.KeyFault.TheVariants as key_fault
+use Rattle.toml_keys.specs.Keys.{document_of, is_there, least, unknown_names}
+use Rattle.toml_keys.specs.Values as keys
+use Rattle.toml_keys.specs.Values.{◌>>=◌, four_of, is_integer, is_row, list, number, otherwise, required, told, two_of, u32_max, u32_of, word}
+use Rattle.toml_keys.proofs.Chains.{chain}
+use Rattle.toml_keys.proofs.Least.{least-IsLeastUnknown}
+use Rattle.toml_keys.proofs.Shown as keys_shown
 use Rattle.pixel_layout.specs.declared.Format.{Format}
 use Rattle.pixel_layout.specs.Layouts.{format_named, layout, planes_of}
 use Rattle.capture_desc.specs.declared.desc.Desc.{Desc}
@@ -12,144 +18,105 @@ use Rattle.capture_desc.specs.declared.fault.Key.TheVariants as key
 use Rattle.capture_desc.specs.declared.fault.DescError.{DescError}
 use Rattle.capture_desc.specs.declared.fault.DescError.TheVariants.{Bad, Memory}
 use Rattle.capture_desc.specs.declared.fault.DescFault.{DescFault}
-use Rattle.capture_desc.specs.declared.fault.DescFault.TheVariants.{Missing, WrongKind, OutOfRange}
-use Rattle.capture_desc.specs.Keys.{name_of, least, unknown_names}
-use Rattle.capture_desc.specs.Values.{Reading, ◌>>=◌, judged, at, fitting, list, required, otherwise, or_else, word, number, u32_max, up_to, list_typed, each, is_integer, u32_of, is_row, rect_of, chunk_of}
-use Rattle.capture_desc.specs.Description.{Answers, values, fields_named, plane_numbers, clips, pages, pages_beside, chunks, chunks_fit, is_there, described, described_in, document_of, unless_unknown}
+use Rattle.capture_desc.specs.Keys.{is_known, name_of}
+use Rattle.capture_desc.specs.Values.{Reading, fault_of, number_or, optional_number, required_number, required_word, word_or}
+use Rattle.capture_desc.specs.Description.{Answers, values, fields_named, plane_numbers, clips, pages, pages_beside, chunks, chunks_fit, described, described_in, unless_unknown}
 use Rattle.capture_desc.specs.Faults.{Explains, Shows}
-use Rattle.capture_desc.proofs.Parts.{gone_on}
-use Rattle.capture_desc.proofs.Least.{least-IsLeastUnknown}
 
--- a fault of a reading says this
-abbrev pub Says : {A : Type 0} → Members → Reading A → Type 0
-Says ms reading = IfErr reading (Shows (Some ms))
+module _ (ms : Members) where
+  -- a fault of a reading says this
+  abbrev pub Says : {A : Type 0} → Reading A → Type 0
+  Says reading = IfErr reading (Shows (Some ms))
 
--- a fault of a chain is one of its readings'
-chain : {A B : Type 0} (ms : Members) (r : Reading A) (next : A → Reading B) → Says ms r → ((a : A) → r ≡ Ok a → Says ms (next a)) → Says ms (r >>= next)
-chain ms (Ok a) next says then = then a refl
-chain ms (Err fault) next says then = says
+  then : {A B : Type 0} (r : Reading A) (next : A → Reading B) → Says r → ((a : A) → r ≡ Ok a → Says (next a)) → Says (r >>= next)
+  then r next = chain (Shows (Some ms)) r next
 
-there : (ms : Members) (k : Key) (d : Data) → Some d ≡ get_member (name_of k) ms → is_there k ms ≡ true
-there ms k d is = ap is_some (sym is)
+  module _ (k : Key) where
+    told_says : {A : Type 0} (r : keys.Reading A) → keys_shown.Says (name_of k) ms r → Says (told (fault_of k) r)
+    told_says (Ok a) says = tt
+    told_says (Err key_fault.Missing) says = says
+    told_says (Err key_fault.WrongKind) says = says
+    told_says (Err key_fault.OutOfRange) says = says
 
-ok_or_says : {A : Type 0} (ms : Members) (o : Option A) (fault : DescFault) → Shows (Some ms) fault → Says ms (ok_or o fault)
-ok_or_says ms (Some a) fault shows = tt
-ok_or_says ms None fault shows = shows
+    required_word_says : {A : Type 0} (named : List ℕ → Option A) → Says (required_word named k ms)
+    required_word_says named =
+        told_says (required (word named (name_of k) ms))
+        (keys_shown.required_says (name_of k) ms (word named (name_of k) ms) (keys_shown.at_none (name_of k) ms as_str named) (keys_shown.at_says (name_of k) ms as_str named))
 
-module _ {A B : Type 0} (ms : Members) (k : Key) (typed : Data → Option A) (ranged : A → Option B) where
-  -- what is absent has no fault, and the faults of what is there say so
-  judged_says : (found : Option Data) → found ≡ get_member (name_of k) ms → Says ms (judged k typed ranged found)
-  judged_says None is = tt
-  judged_says (Some d) is =
-      chain ms (ok_or (typed d) (WrongKind k)) _ (ok_or_says ms (typed d) (WrongKind k) (there ms k d is)) (λ a _.
-      chain ms (ok_or (ranged a) (OutOfRange k)) _ (ok_or_says ms (ranged a) (OutOfRange k) (there ms k d is)) (λ b _. tt))
+    word_or_says : {A : Type 0} (default : A) (named : List ℕ → Option A) → Says (word_or default named k ms)
+    word_or_says default named =
+        told_says (otherwise default (word named (name_of k) ms))
+        (keys_shown.otherwise_says (name_of k) ms default (word named (name_of k) ms) (keys_shown.at_says (name_of k) ms as_str named))
 
-  judged_none : (found : Option Data) → judged k typed ranged found ≡ Ok None → is_some found ≡ false
-  judged_none None is = refl
-  judged_none (Some d) is =
-      gone_on (ok_or (typed d) (WrongKind k)) _ None is (λ a _ on.
-      gone_on (ok_or (ranged a) (OutOfRange k)) _ None on (λ b _ end. absurd (cc)))
+    required_number_says : Says (required_number k ms)
+    required_number_says =
+        told_says (required (number 0 u32_max (name_of k) ms)) (keys_shown.required_number_says (name_of k) ms 0 u32_max)
 
-  judged_some : (found : Option Data) (b : B) → judged k typed ranged found ≡ Ok (Some b) → is_some found ≡ true
-  judged_some None b is = absurd (cc)
-  judged_some (Some d) b is = refl
+    optional_number_says : Says (optional_number k ms)
+    optional_number_says =
+        told_says (number 0 u32_max (name_of k) ms) (keys_shown.number_says (name_of k) ms 0 u32_max)
 
-  at_says : Says ms (at k typed ranged ms)
-  at_says = judged_says (get_member (name_of k) ms) refl
+    number_or_says : (default most : ℕ) → Says (number_or default most k ms)
+    number_or_says default most =
+        told_says (otherwise default (number 0 most (name_of k) ms)) (keys_shown.number_or_says (name_of k) ms default most)
 
-  at_none : at k typed ranged ms ≡ Ok None → is_there k ms ≡ false
-  at_none is = judged_none (get_member (name_of k) ms) is
+    plane_numbers_says : (format : Format) → Says (plane_numbers format k ms)
+    plane_numbers_says format =
+        let fits : List ℕ → Bool = λ ns. length ns == planes_of (layout format) in
+        told_says (list is_integer u32_of fits (name_of k) ms) (keys_shown.list_says (name_of k) ms is_integer u32_of fits)
 
-  at_some : (b : B) → at k typed ranged ms ≡ Ok (Some b) → is_there k ms ≡ true
-  at_some b is = judged_some (get_member (name_of k) ms) b is
+  clips_says : Says (clips ms)
+  clips_says =
+      let few : List (ℕ × ℕ × ℕ × ℕ) → Bool = λ rows. nat_le (length rows) 64 in
+      let name = name_of key.Clip in
+      let read = otherwise [] (list is_row four_of few name ms) in
+      let says = told_says key.Clip read (keys_shown.otherwise_says name ms [] (list is_row four_of few name ms) (keys_shown.list_says name ms is_row four_of few)) in
+      then (told (fault_of key.Clip) read) _ says (λ rows _. tt)
 
-missing_says : {A : Type 0} (ms : Members) (k : Key) (value : Option A) → (value ≡ None → is_there k ms ≡ false) → Says ms (ok_or value (Missing k))
-missing_says ms k (Some a) absent = tt
-missing_says ms k None absent = absent refl
+  module _ (reading : keys.Reading (Option (List ℕ))) where
+    beside_says : (has_chunks : Bool) → (reading ≡ Ok None → is_there (name_of key.Pages) ms ≡ false) → keys_shown.Says (name_of key.Pages) ms reading → keys_shown.Says (name_of key.Pages) ms (pages_beside has_chunks reading)
+    beside_says true absent says = keys_shown.otherwise_says (name_of key.Pages) ms [] reading says
+    beside_says false absent says = keys_shown.required_says (name_of key.Pages) ms reading absent says
 
-required_says : {A : Type 0} (ms : Members) (k : Key) (reading : Reading (Option A)) → (reading ≡ Ok None → is_there k ms ≡ false) → Says ms reading → Says ms (required k reading)
-required_says ms k reading absent says =
-    chain ms reading (λ value. ok_or value (Missing k)) says (λ value is. missing_says ms k value (λ none. absent (is ∙ ap Ok none)))
+  pages_says : Says (pages ms)
+  pages_says =
+      let few : List ℕ → Bool = λ ns. nat_le (length ns) 4096 in
+      let name = name_of key.Pages in
+      let read = list is_integer u32_of few name ms in
+      let has_chunks = is_there (name_of key.Chunks) ms in
+      told_says key.Pages (pages_beside has_chunks read)
+      (beside_says read has_chunks (keys_shown.list_none name ms is_integer u32_of few) (keys_shown.list_says name ms is_integer u32_of few))
 
-or_else_says : {A : Type 0} (ms : Members) (default : A) (value : Option A) → Says ms (or_else default value)
-or_else_says ms default None = tt
-or_else_says ms default (Some a) = tt
-
-otherwise_says : {A : Type 0} (ms : Members) (default : A) (reading : Reading (Option A)) → Says ms reading → Says ms (otherwise default reading)
-otherwise_says ms default reading says = chain ms reading (or_else default) says (λ value _. or_else_says ms default value)
-
-fitting_says : {A : Type 0} (ms : Members) (k : Key) (fits : List A → Bool) (found : Option (List A)) → ((members : List A) → found ≡ Some members → is_there k ms ≡ true) → Says ms (fitting k fits found)
-fitting_says ms k fits None is = tt
-fitting_says ms k fits (Some members) is =
-    elim (cases_Bool (fits members)) [
-      | inl good ↦ rw good tt
-      | inr bad ↦ rw bad (is members refl)
-    ]
-
-fitting_none : {A : Type 0} (k : Key) (fits : List A → Bool) (found : Option (List A)) → fitting k fits found ≡ Ok None → found ≡ None
-fitting_none k fits None is = refl
-fitting_none k fits (Some members) is =
-    elim (cases_Bool (fits members)) [
-      | inl good ↦ (let now = rw good at is in absurd (cc))
-      | inr bad ↦ (let now = rw bad at is in absurd (cc))
-    ]
-
-module _ {A : Type 0} (ms : Members) (k : Key) (typed : Data → Bool) (value : Data → Option A) (fits : List A → Bool) where
-  list_says : Says ms (list typed value fits k ms)
-  list_says =
-      chain ms (at k (list_typed typed) (each value) ms) (fitting k fits) (at_says ms k (list_typed typed) (each value)) (λ found is.
-      fitting_says ms k fits found (λ members some. at_some ms k (list_typed typed) (each value) members (is ∙ ap Ok some)))
-
-  list_none : list typed value fits k ms ≡ Ok None → is_there k ms ≡ false
-  list_none is =
-      gone_on (at k (list_typed typed) (each value) ms) (fitting k fits) None is (λ found first end.
-      at_none ms k (list_typed typed) (each value) (first ∙ ap Ok (fitting_none k fits found end)))
-
-pages_says : (ms : Members) (has_chunks : Bool) (reading : Reading (Option (List ℕ))) → (reading ≡ Ok None → is_there key.Pages ms ≡ false) → Says ms reading → Says ms (pages_beside has_chunks reading)
-pages_says ms true reading absent says = otherwise_says ms [] reading says
-pages_says ms false reading absent says = required_says ms key.Pages reading absent says
-
-number_says : (ms : Members) (most : ℕ) (k : Key) → Says ms (number most k ms)
-number_says ms most k = at_says ms k as_integer (up_to most)
-
-number_or_says : (ms : Members) (default most : ℕ) (k : Key) → Says ms (otherwise default (number most k ms))
-number_or_says ms default most k = otherwise_says ms default (number most k ms) (number_says ms most k)
-
-required_number_says : (ms : Members) (k : Key) → Says ms (required k (number u32_max k ms))
-required_number_says ms k = required_says ms k (number u32_max k ms) (at_none ms k as_integer (up_to u32_max)) (number_says ms u32_max k)
-
-plane_numbers_says : (ms : Members) (format : Format) (k : Key) → Says ms (plane_numbers format k ms)
-plane_numbers_says ms format k = list_says ms k is_integer u32_of (λ ns. length ns == planes_of (layout format))
-
-few : List ℕ → Bool
-few ns = nat_le (length ns) 4096
+  chunks_says : Says (chunks ms)
+  chunks_says =
+      let fits = chunks_fit (is_there (name_of key.Pages) ms) in
+      told_says key.Chunks (list is_row two_of fits (name_of key.Chunks) ms) (keys_shown.list_says (name_of key.Chunks) ms is_row two_of fits)
 
 values_says : (ms : Members) → Says ms (values ms)
-unfolding few
 values_says ms =
-    chain ms (required key.Format (word format_named key.Format ms)) _ (required_says ms key.Format (word format_named key.Format ms) (at_none ms key.Format as_str format_named) (at_says ms key.Format as_str format_named)) (λ format _.
-    chain ms (required key.Width (number u32_max key.Width ms)) _ (required_number_says ms key.Width) (λ width _.
-    chain ms (required key.Height (number u32_max key.Height ms)) _ (required_number_says ms key.Height) (λ height _.
-    chain ms (otherwise Both (word fields_named key.Fields ms)) _ (otherwise_says ms Both (word fields_named key.Fields ms) (at_says ms key.Fields as_str fields_named)) (λ fields _.
-    chain ms (plane_numbers format key.Stride ms) _ (plane_numbers_says ms format key.Stride) (λ stride _.
-    chain ms (plane_numbers format key.Offset ms) _ (plane_numbers_says ms format key.Offset) (λ offset _.
-    chain ms (otherwise 0 (number 255 key.SkipLines ms)) _ (number_or_says ms 0 255 key.SkipLines) (λ skip_lines _.
-    chain ms (otherwise 0 (number u32_max key.VbiLines ms)) _ (number_or_says ms 0 u32_max key.VbiLines) (λ vbi_lines _.
-    chain ms (otherwise 2044 (number u32_max key.VbiBytes ms)) _ (number_or_says ms 2044 u32_max key.VbiBytes) (λ vbi_bytes _.
-    chain ms (number u32_max key.VbiOffset ms) _ (number_says ms u32_max key.VbiOffset) (λ vbi_offset _.
-    chain ms (otherwise [] (clips ms)) _ (otherwise_says ms [] (clips ms) (list_says ms key.Clip is_row rect_of (λ rects. nat_le (length rects) 64))) (λ clip _.
-    chain ms (otherwise 4096 (number u32_max key.Base ms)) _ (number_or_says ms 4096 u32_max key.Base) (λ base _.
-    chain ms (pages ms) _ (pages_says ms (is_there key.Chunks ms) (list is_integer u32_of few key.Pages ms) (list_none ms key.Pages is_integer u32_of few) (list_says ms key.Pages is_integer u32_of few)) (λ all_pages _.
-    chain ms (chunks ms) _ (list_says ms key.Chunks is_row chunk_of (chunks_fit (is_there key.Pages ms))) (λ all_chunks _.
-    chain ms (otherwise 0 (number 255 key.Fill ms)) _ (number_or_says ms 0 255 key.Fill) (λ fill _. tt)))))))))))))))
+    then ms (required_word format_named key.Format ms) _ (required_word_says ms key.Format format_named) (λ format _.
+    then ms (required_number key.Width ms) _ (required_number_says ms key.Width) (λ width _.
+    then ms (required_number key.Height ms) _ (required_number_says ms key.Height) (λ height _.
+    then ms (word_or Both fields_named key.Fields ms) _ (word_or_says ms key.Fields Both fields_named) (λ fields _.
+    then ms (plane_numbers format key.Stride ms) _ (plane_numbers_says ms key.Stride format) (λ stride _.
+    then ms (plane_numbers format key.Offset ms) _ (plane_numbers_says ms key.Offset format) (λ offset _.
+    then ms (number_or 0 255 key.SkipLines ms) _ (number_or_says ms key.SkipLines 0 255) (λ skip_lines _.
+    then ms (number_or 0 u32_max key.VbiLines ms) _ (number_or_says ms key.VbiLines 0 u32_max) (λ vbi_lines _.
+    then ms (number_or 2044 u32_max key.VbiBytes ms) _ (number_or_says ms key.VbiBytes 2044 u32_max) (λ vbi_bytes _.
+    then ms (optional_number key.VbiOffset ms) _ (optional_number_says ms key.VbiOffset) (λ vbi_offset _.
+    then ms (clips ms) _ (clips_says ms) (λ clip _.
+    then ms (number_or 4096 u32_max key.Base ms) _ (number_or_says ms key.Base 4096 u32_max) (λ base _.
+    then ms (pages ms) _ (pages_says ms) (λ all_pages _.
+    then ms (chunks ms) _ (chunks_says ms) (λ all_chunks _.
+    then ms (number_or 0 255 key.Fill ms) _ (number_or_says ms key.Fill 0 255) (λ fill _. tt)))))))))))))))
 
-known_says : (ms : Members) (unknown : Option (List ℕ)) → unknown ≡ least (unknown_names ms) → Says ms (unless_unknown unknown (values ms))
+known_says : (ms : Members) (unknown : Option (List ℕ)) → unknown ≡ least (unknown_names is_known ms) → Says ms (unless_unknown unknown (values ms))
 known_says ms None is = values_says ms
-known_says ms (Some name) is = least-IsLeastUnknown ms name (sym is)
+known_says ms (Some name) is = least-IsLeastUnknown is_known ms name (sym is)
 
 document_says : (document : Option Members) → IfErr (described_in document) (Shows document)
 document_says None = refl
-document_says (Some ms) = known_says ms (least (unknown_names ms)) refl
+document_says (Some ms) = known_says ms (least (unknown_names is_known ms)) refl
 
 -- a fault shows in the document
 pub described-shows : (text : List ℕ) → IfErr (described text) (Shows (document_of text))

@@ -1,11 +1,13 @@
 -- What a text describes, or its first fault.
-use Rattle.std.specs.Prelude.{ℕ, Bool, ◌&&◌, not, ◌==◌, List, [], length, Option, Some, None, is_some, Ok, Err, Result, ⊤, ◌≡◌, if◌then◌else◌, nat_le, codes, bytes_eq}
-use Rattle.std.specs.Str.{is_utf8}
-use Rattle.toml.specs.Data.{Members, get_member}
-use Rattle.toml.specs.Parse.{parse_document}
+use Rattle.std.specs.Prelude.{ℕ, Bool, ◌&&◌, not, ◌==◌, List, [], length, map, Option, Some, None, Ok, Err, Result, ⊤, ◌≡◌, if◌then◌else◌, nat_le, codes, bytes_eq}
+use Rattle.toml.specs.Data.{Members}
+use Rattle.toml_keys.specs.Keys.{document_of, is_there, least, unknown_names}
+use Rattle.toml_keys.specs.Values.{◌>>=◌, four_of, is_integer, is_row, list, otherwise, required, told, two_of, u32_max, u32_of}
+use Rattle.toml_keys.specs.Values as keys
 use Rattle.pixel_layout.specs.Layouts.{format_named, layout, planes_of}
 use Rattle.pixel_layout.specs.declared.Format.{Format}
-use Rattle.page_table.specs.Grants.{max_bytes, max_chunks}
+use Rattle.page_table.specs.Grants.{max_bytes, max_chunks, total}
+use Rattle.page_table.specs.Taken.{listed}
 use Rattle.clip_spans.specs.Clipping.{max_rects}
 use Rattle.clip_spans.specs.declared.Rect.{Rect}
 use Rattle.capture_desc.specs.declared.desc.Desc.{Desc}
@@ -16,9 +18,9 @@ use Rattle.capture_desc.specs.declared.fault.Key.TheVariants as key
 use Rattle.capture_desc.specs.declared.fault.DescFault.TheVariants.{NotToml, Unknown}
 use Rattle.capture_desc.specs.declared.fault.DescError.{DescError}
 use Rattle.capture_desc.specs.declared.fault.DescError.TheVariants.{Bad, Memory}
-use Rattle.capture_desc.specs.Keys.{name_of, unknown_names, least}
-use Rattle.capture_desc.specs.Values.{Reading, ◌>>=◌, required, otherwise, word, number, u32_max, list, is_integer, u32_of, is_row, rect_of, chunk_of}
-use Rattle.capture_desc.specs.WellFormed.{bytes_of_chunks, max_skip_lines}
+use Rattle.capture_desc.specs.Keys.{is_known, name_of}
+use Rattle.capture_desc.specs.Values.{Reading, fault_of, number_or, optional_number, rect, required_number, required_word, word_or}
+use Rattle.capture_desc.specs.WellFormed.{max_skip_lines}
 
 abbrev pub fields_named : List ℕ → Option Fields
 fields_named name =
@@ -27,51 +29,55 @@ fields_named name =
     else if bytes_eq name (codes "both") then Some Both
     else None
 
-abbrev pub is_there : Key → Members → Bool
-is_there key members = is_some (get_member (name_of key) members)
-
 -- a number for each plane
 abbrev pub plane_numbers : Format → Key → Members → Reading (Option (List ℕ))
-plane_numbers format = list is_integer u32_of (λ ns. length ns == planes_of (layout format))
+plane_numbers format key members =
+    told (fault_of key) (list is_integer u32_of (λ ns. length ns == planes_of (layout format)) (name_of key) members)
 
-abbrev pub clips : Members → Reading (Option (List Rect))
-clips = list is_row rect_of (λ rects. nat_le (length rects) max_rects) key.Clip
+abbrev pub clips : Members → Reading (List Rect)
+clips members =
+    told (fault_of key.Clip)
+    (otherwise [] (list is_row four_of (λ rows. nat_le (length rows) max_rects) (name_of key.Clip) members))
+    >>= (λ rows. Ok (map rect rows))
 
 -- pages have to be there where no chunks are
-abbrev pub pages_beside : Bool → Reading (Option (List ℕ)) → Reading (List ℕ)
-pages_beside chunks pages = if chunks then otherwise [] pages else required key.Pages pages
+abbrev pub pages_beside : Bool → keys.Reading (Option (List ℕ)) → keys.Reading (List ℕ)
+pages_beside chunks pages = if chunks then otherwise [] pages else required pages
 
 abbrev pub pages : Members → Reading (List ℕ)
 pages members =
-    pages_beside (is_there key.Chunks members)
-    (list is_integer u32_of (λ ns. nat_le (length ns) max_chunks) key.Pages members)
+    told (fault_of key.Pages)
+    (pages_beside (is_there (name_of key.Chunks) members)
+    (list is_integer u32_of (λ ns. nat_le (length ns) max_chunks) (name_of key.Pages) members))
 
 -- chunks stand in place of pages, and have at most 16 MiB together
 abbrev pub chunks_fit : Bool → List (ℕ × ℕ) → Bool
 chunks_fit pages chunks =
-    nat_le (length chunks) max_chunks && nat_le (bytes_of_chunks chunks) max_bytes && not pages
+    nat_le (length chunks) max_chunks && nat_le (total (listed chunks)) max_bytes && not pages
 
 abbrev pub chunks : Members → Reading (Option (List (ℕ × ℕ)))
-chunks members = list is_row chunk_of (chunks_fit (is_there key.Pages members)) key.Chunks members
+chunks members =
+    told (fault_of key.Chunks)
+    (list is_row two_of (chunks_fit (is_there (name_of key.Pages) members)) (name_of key.Chunks) members)
 
 -- the keys one after the other, each with what it may be and what stands for it where it is absent
 abbrev pub values : Members → Reading Desc
 values members =
-    required key.Format (word format_named key.Format members) >>= (λ format.
-    required key.Width (number u32_max key.Width members) >>= (λ width.
-    required key.Height (number u32_max key.Height members) >>= (λ height.
-    otherwise Both (word fields_named key.Fields members) >>= (λ fields.
+    required_word format_named key.Format members >>= (λ format.
+    required_number key.Width members >>= (λ width.
+    required_number key.Height members >>= (λ height.
+    word_or Both fields_named key.Fields members >>= (λ fields.
     plane_numbers format key.Stride members >>= (λ stride.
     plane_numbers format key.Offset members >>= (λ offset.
-    otherwise 0 (number max_skip_lines key.SkipLines members) >>= (λ skip_lines.
-    otherwise 0 (number u32_max key.VbiLines members) >>= (λ vbi_lines.
-    otherwise 2044 (number u32_max key.VbiBytes members) >>= (λ vbi_bytes.
-    number u32_max key.VbiOffset members >>= (λ vbi_offset.
-    otherwise [] (clips members) >>= (λ clip.
-    otherwise 4096 (number u32_max key.Base members) >>= (λ base.
+    number_or 0 max_skip_lines key.SkipLines members >>= (λ skip_lines.
+    number_or 0 u32_max key.VbiLines members >>= (λ vbi_lines.
+    number_or 2044 u32_max key.VbiBytes members >>= (λ vbi_bytes.
+    optional_number key.VbiOffset members >>= (λ vbi_offset.
+    clips members >>= (λ clip.
+    number_or 4096 u32_max key.Base members >>= (λ base.
     pages members >>= (λ pages.
     chunks members >>= (λ chunks.
-    otherwise 0 (number 255 key.Fill members) >>= (λ fill.
+    number_or 0 255 key.Fill members >>= (λ fill.
     Ok (record {
       format = format;
       width = width;
@@ -97,11 +103,7 @@ unless_unknown (Some name) reading = Err (Unknown name)
 
 abbrev pub described_in : Option Members → Reading Desc
 described_in None = Err NotToml
-described_in (Some members) = unless_unknown (least (unknown_names members)) (values members)
-
--- the document that a text is
-abbrev pub document_of : List ℕ → Option Members
-document_of text = if is_utf8 text then parse_document text else None
+described_in (Some members) = unless_unknown (least (unknown_names is_known members)) (values members)
 
 abbrev pub described : List ℕ → Reading Desc
 described text = described_in (document_of text)

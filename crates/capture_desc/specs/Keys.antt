@@ -1,9 +1,6 @@
--- The keys of a description, and those of a table that are none.
-use Rattle.std.specs.Prelude.{ℕ, Bool, not, List, [], ◌∷◌, Option, Some, None, codes, bytes_eq, filter, unwrap_or}
+-- The keys of a description.
+use Rattle.std.specs.Prelude.{ℕ, Bool, List, [], ◌∷◌, codes, bytes_eq}
 use Rattle.std.specs.List.{list_any}
-use Rattle.std.specs.Ordering.{nat_cmp, match_ordering}
-use Rattle.std.specs.Cmp.Lexicographic.{slice_cmp}
-use Rattle.toml.specs.Data.{Members, no_members, member}
 use Rattle.capture_desc.specs.declared.fault.Key.{Key}
 use Rattle.capture_desc.specs.declared.fault.Key.TheVariants as key
 
@@ -32,18 +29,3 @@ keys =
 
 abbrev pub is_known : List ℕ → Bool
 is_known name = list_any (λ k. bytes_eq name (name_of k)) keys
-
-abbrev pub names : Members → List (List ℕ)
-names no_members = []
-names (member name _ members) = name ∷ names members
-
-abbrev pub unknown_names : Members → List (List ℕ)
-unknown_names members = filter (λ name. not (is_known name)) (names members)
-
--- the lesser of two names in byte order
-abbrev pub lesser : List ℕ → List ℕ → List ℕ
-lesser a b = match_ordering (slice_cmp nat_cmp a b) a a b
-
-abbrev pub least : List (List ℕ) → Option (List ℕ)
-least [] = None
-least (name ∷ others) = Some (lesser name (unwrap_or (least others) name))

@@ -1,17 +1,13 @@
 -- What every description meets.
-use Rattle.std.specs.Prelude.{◌≡◌, ℕ, ◌+◌, ◌≤◌, List, [], ◌∷◌, Option, length, IfSome}
-use Rattle.page_table.specs.Grants.{max_bytes, max_chunks}
+use Rattle.std.specs.Prelude.{◌≡◌, ℕ, ◌≤◌, List, [], Option, length, IfSome}
+use Rattle.page_table.specs.Grants.{max_bytes, max_chunks, total}
+use Rattle.page_table.specs.Taken.{listed}
 use Rattle.pixel_layout.specs.Layouts.{layout, planes_of}
 use Rattle.capture_desc.specs.declared.desc.Desc.{Desc}
 
 -- how many lines a field may skip
 abbrev pub max_skip_lines : ℕ
 max_skip_lines = 255
-
--- the bytes of chunks, each an address and a length
-abbrev pub bytes_of_chunks : List (ℕ × ℕ) → ℕ
-bytes_of_chunks [] = 0
-bytes_of_chunks (chunk ∷ chunks) = chunk.1 + bytes_of_chunks chunks
 
 -- a list with a number for each plane, where it is there
 abbrev pub HasPlanes : Desc → Option (List ℕ) → Type 0
@@ -23,4 +19,4 @@ pub record IsWellFormed (d : Desc) : Type 0 where
   pub pages : length d.pages ≤ max_chunks
   pub no_pages : IfSome d.chunks (λ _. d.pages ≡ [])
   pub chunks : IfSome d.chunks (λ cs. length cs ≤ max_chunks)
-  pub bytes : IfSome d.chunks (λ cs. bytes_of_chunks cs ≤ max_bytes)
+  pub bytes : IfSome d.chunks (λ cs. total (listed cs) ≤ max_bytes)

@@ -5,6 +5,7 @@ ghost use Rattle.capture_desc.specs.Keys.{is_known, name_of};
 
 use crate::lists::KeyText;
 use std::alloc::AllocError;
+use toml_keys::KnownKeys;
 
 /// A key of a description (this project's own form).
 #[derive(Clone, Copy, Debug, PartialEq, Eq)]
@@ -66,16 +67,17 @@ impl Key {
     }
 }
 
-/// Whether a key is one of a description.
-pub(crate) fn is_known(name: &str) -> bool
-    ensures { result ≡ is_known name.now }
-{
-    match name {
-        "format" | "width" | "height" | "fields" => true,
-        "stride" | "offset" | "skip_lines" => true,
-        "vbi_lines" | "vbi_bytes" | "vbi_offset" => true,
-        "clip" | "base" | "pages" | "chunks" | "fill" => true,
-        _ => false,
+impl KnownKeys for Key {
+    ghost is_known = { is_known };
+
+    fn is_known(name: &str) -> bool {
+        match name {
+            "format" | "width" | "height" | "fields" => true,
+            "stride" | "offset" | "skip_lines" => true,
+            "vbi_lines" | "vbi_bytes" | "vbi_offset" => true,
+            "clip" | "base" | "pages" | "chunks" | "fill" => true,
+            _ => false,
+        }
     }
 }
 

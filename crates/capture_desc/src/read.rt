@@ -1,37 +1,43 @@
 //! Reading a description.
-ghost use Rattle.std.specs.Prelude.{◌≡◌, ◌≤◌, [], Option, length, option_map, string_bytes, ℕ, List, IfOk, IfErr};
+ghost use Rattle.std.specs.Prelude.{◌≡◌, ◌≤◌, length, map, ℕ, List, Ok, IfOk, IfErr};
 ghost use Rattle.toml.specs.View.{table_view};
-ghost use Rattle.page_table.specs.Grants.{max_chunks};
+ghost use Rattle.toml_keys.specs.Keys.{document_of};
+ghost use Rattle.page_table.specs.Grants.{max_chunks, total};
+ghost use Rattle.page_table.specs.Taken.{listed};
 ghost use Rattle.pixel_layout.specs.Layouts.{format_named};
-ghost use Rattle.capture_desc.specs.Keys.{least, unknown_names};
-ghost use Rattle.capture_desc.specs.Values.{number, otherwise, required, u32_max, word};
-ghost use Rattle.capture_desc.specs.WellFormed.{IsWellFormed, bytes_of_chunks};
-ghost use Rattle.capture_desc.specs.Description.{Answers, chunks, clips, described, document_of, fields_named, is_there, pages, plane_numbers, values};
+ghost use Rattle.capture_desc.specs.Values.{rect, required_word, word_or};
+ghost use Rattle.capture_desc.specs.WellFormed.{IsWellFormed};
+ghost use Rattle.capture_desc.specs.Description.{Answers, chunks, clips, described, fields_named, pages, plane_numbers, values};
 ghost use Rattle.capture_desc.specs.Faults.{Explains, Shows};
 
 use crate::desc::{Desc, Fields};
-use crate::fault::{DescError, DescFault, Key, is_known};
+use crate::fault::{DescError, DescFault, Key};
 use crate::lists::{ChunkList, KeyText, Numbers};
-use crate::values::{list, number, number_or, required_number, value_at, word};
+use crate::values::{is_there, list, number_or, optional_number, required_number, told};
 use clip_spans::{ClipFault, Clips, Rect};
 use page_table::{MAX_BYTES, MAX_CHUNKS};
 use pixel_layout::Format;
-use std::alloc::Global;
+use std::alloc::{AllocError, Global};
 use toml::Table;
+use toml_keys::TableError;
 
 // The most lines that a field may skip.
 const MAX_SKIP_LINES: u32 = 255;
 
 fn format(table: &Table) -> Result<Format, DescError>
-    ensures { Answers (required Key.Format (word format_named Key.Format (table_view table.now))) result }
+    ensures { Answers (required_word format_named Key.Format (table_view table.now)) result }
 {
-    Ok(word::<Format>(table, Key::Format)?.ok_or(DescFault::Missing(Key::Format))?)
+    let key = Key::Format;
+    let format = told(key, toml_keys::word::<Format, Key>(table, key.name()))?;
+    Ok(format.ok_or(DescFault::Missing(key))?)
 }
 
 fn fields(table: &Table) -> Result<Fields, DescError>
-    ensures { Answers (otherwise Fields.Both (word fields_named Key.Fields (table_view table.now))) result }
+    ensures { Answers (word_or Fields.Both fields_named Key.Fields (table_view table.now)) result }
 {
-    Ok(word::<Fields>(table, Key::Fields)?.unwrap_or(Fields::Both))
+    let key = Key::Fields;
+    let fields = told(key, toml_keys::word::<Fields, Key>(table, key.name()))?;
+    Ok(fields.unwrap_or(Fields::Both))
 }
 
 // A number for each plane.
@@ -52,25 +58,27 @@ fn plane_numbers(
     Ok(Some(Numbers::from_vec(numbers)))
 }
 
-fn clips(alloc: Global, table: &Table) -> Result<Clips, DescError>
-    ensures { Answers (otherwise [] (clips (table_view table.now))) result }
+// The rectangles, each by its four numbers.
+fn rectangles(alloc: Global, rows: &[(u32, u32, u32, u32)]) -> Result<Vec<Rect>, AllocError>
+    ensures { IfOk result (λ rects. rects.items ≡ map rect rows.now) }
 {
-    let rects = match list::<Rect>(alloc, table, Key::Clip)? {
-        Some(rects) => rects,
+    rows.iter()
+        .map(|&(x, y, w, h)| Rect { x, y, w, h })
+        .collect(alloc)
+}
+
+fn clips(alloc: Global, table: &Table) -> Result<Clips, DescError>
+    ensures { Answers (clips (table_view table.now)) result }
+{
+    let rows = match list::<(u32, u32, u32, u32)>(alloc, table, Key::Clip)? {
+        Some(rows) => rows,
         None => Vec::new(alloc),
     };
-    match Clips::new(alloc, &rects) {
+    match Clips::new(alloc, &rectangles(alloc, &rows)?) {
         Ok(clips) => Ok(clips),
         Err(ClipFault::TooMany) => Err(DescError::Bad(DescFault::OutOfRange(Key::Clip))),
         Err(ClipFault::Memory) => Err(DescError::Memory),
     }
-}
-
-// Whether the table has the key.
-fn is_there(table: &Table, key: Key) -> bool
-    ensures { result ≡ is_there key (table_view table.now) }
-{
-    value_at(table, key).is_some()
 }
 
 // Pages have to be there where no chunks are.
@@ -97,13 +105,9 @@ fn pages(alloc: Global, table: &Table) -> Result<Numbers, DescError>
 // The bytes of all the chunks.
 fn bytes_of_chunks(chunks: &[(u32, u32)]) -> u64
     requires { length chunks.now ≤ max_chunks }
-    ensures { result ≡ bytes_of_chunks chunks.now }
+    ensures { result ≡ total (listed chunks.now) }
 {
-    let mut bytes = 0;
-    for chunk in chunks {
-        bytes += u64::from(chunk.1);
-    }
-    bytes
+    chunks.iter().map(|chunk| u64::from(chunk.1)).sum()
 }
 
 // Chunks stand in place of pages.
@@ -133,7 +137,7 @@ fn values(alloc: Global, table: &Table) -> Result<Desc, DescError>
     let skip_lines = number_or(table, Key::SkipLines, 0, MAX_SKIP_LINES)?;
     let vbi_lines = number_or(table, Key::VbiLines, 0, u32::MAX)?;
     let vbi_bytes = number_or(table, Key::VbiBytes, 2044, u32::MAX)?;
-    let vbi_offset = number(table, Key::VbiOffset, u32::MAX)?;
+    let vbi_offset = optional_number(table, Key::VbiOffset)?;
     let clip = clips(alloc, table)?;
     let base = number_or(table, Key::Base, 4096, u32::MAX)?;
     let pages = pages(alloc, table)?;
@@ -158,32 +162,16 @@ fn values(alloc: Global, table: &Table) -> Result<Desc, DescError>
     })
 }
 
-// The least key that no description has.
-fn unknown_key(table: &Table) -> Option<&String>
-    ensures { option_map (λ k. string_bytes k.now) result ≡ least (unknown_names (table_view table.now)) }
-{
-    for (key, _value) in table.iter() {
-        if !is_known(key.as_str()) {
-            return Some(key);
-        }
-    }
-    None
-}
-
 // What a text describes.
 fn read_text(alloc: Global, text: &[u8]) -> Result<Desc, DescError>
     ensures { Answers (described text.now) result }
 {
-    let table = match toml::table_from_slice(alloc, text) {
+    let table = match toml_keys::read_table(alloc, text) {
         Ok(table) => table,
-        Err(error) => {
-            if error.is_memory() {
-                return Err(DescError::Memory);
-            }
-            return Err(DescError::Bad(DescFault::NotToml));
-        }
+        Err(TableError::NotToml) => return Err(DescError::Bad(DescFault::NotToml)),
+        Err(TableError::Memory) => return Err(DescError::Memory),
     };
-    match unknown_key(&table) {
+    match toml_keys::unknown_key::<Key>(&table) {
         Some(key) => {
             let key = KeyText::from_list(alloc, key.as_bytes())?;
             Err(DescError::Bad(DescFault::Unknown(key)))

@@ -8,12 +8,11 @@ use Rattle.risc_word.specs.Words.{encoded}
 use Rattle.pixel_layout.specs.declared.Parity.{Parity}
 use Rattle.pixel_layout.specs.declared.Parity.TheVariants.{Top, Bottom}
 use Rattle.page_table.specs.Grants.{AreGrants, AreRising, Chunk, total}
-use Rattle.page_table.specs.Taken.{all_placed, first_shared, in_order, is_aligned, listed, pair_chunk, placed, shares}
+use Rattle.page_table.specs.Taken.{all_placed, first_shared, in_order, is_aligned, listed, placed, shares}
 use Rattle.page_table.proofs.Gathering.{IsGathered, chunk_from_test, none_gathered, one_more}
 use Rattle.page_table.proofs.Pages.{total-pages}
 use Rattle.page_table.proofs.Placing.{length-placed, total-cons, total-placed}
 use Rattle.machine_model.specs.Paths.{IsProgram, RiscProgram, shares_byte}
-use Rattle.capture_desc.specs.WellFormed.{bytes_of_chunks}
 use Rattle.capture_desc.specs.declared.desc.Desc.{Desc}
 use Rattle.capture_desc.specs.declared.desc.Fields.{Fields}
 use Rattle.capture_desc.specs.declared.desc.Fields.TheVariants as fields
@@ -59,14 +58,9 @@ each_of : (chunks : List Chunk) → All (λ c. is_aligned c ≡ true) chunks →
 each_of [] all = tt
 each_of (c ∷ rest) all = (all 0 c (omega arith), each_of rest (λ k d below. all (suc k) d (omega arith)))
 
-pub total_chunks : (pairs : List (ℕ × ℕ)) → total (listed pairs) ≡ bytes_of_chunks pairs
-total_chunks [] = refl
-total_chunks (pair ∷ rest) =
-    let more = total_chunks rest in let first = total-cons (pair_chunk pair) (listed rest) in omega arith
-
-total_few : (chunks : Option (List (ℕ × ℕ))) (pages : List ℕ) → length pages ≤ 4096 → IfSome chunks (λ cs. bytes_of_chunks cs ≤ 16777216) → total (memory_from chunks pages) ≤ 2 ^ 24
+total_few : (chunks : Option (List (ℕ × ℕ))) (pages : List ℕ) → length pages ≤ 4096 → IfSome chunks (λ cs. total (listed cs) ≤ 16777216) → total (memory_from chunks pages) ≤ 2 ^ 24
 total_few None pages few bytes = let all = total-pages pages in omega arith
-total_few (Some pairs) pages few bytes = let all = total_chunks pairs in omega arith
+total_few (Some pairs) pages few bytes = bytes
 
 -- chunks without a fault, put into rising order, are granted memory
 pub chunks_grants : (memory : List Chunk) → length memory ≤ 4096 → total memory ≤ 2 ^ 24 → All (λ c. is_aligned c ≡ true) memory → first_shared [] memory ≡ None → AreGrants (in_order memory)

@@ -1,6 +1,6 @@
 -- The first of some faults, and the faults of pages and chunks.
-use Rattle.std.proofs.Common.{◌≡◌, ℕ, ◌≤◌, ◌||◌, List, [], ◌∷◌, ◌++◌, length, Option, Some, None, Result, Ok, Err, IfOk, refl, ap, ◌∙◌, arith}
-use Rattle.std.specs.Prelude.{not, nat_lt, IfSome}
+use Rattle.std.proofs.Common.{◌≡◌, ℕ, ◌≤◌, ◌||◌, List, [], ◌∷◌, ◌++◌, length, Option, Some, None, Result, Ok, Err, IfOk, refl, ap, ◌∙◌}
+use Rattle.std.specs.Prelude.{nat_lt, IfSome}
 use Rattle.std.proofs.lemmas.Bool.{cond-false, le-ltb, or_from}
 use Rattle.page_table.specs.declared.PageFault.{PageFault}
 use Rattle.page_table.specs.declared.PageFault.TheVariants.{TooMany, Unaligned, Twice}
@@ -8,11 +8,10 @@ use Rattle.page_table.specs.Grants.{Chunk, max_bytes, max_chunks, total}
 use Rattle.page_table.specs.Scattered.{IsScatterList, ScatterList, scatter_list}
 use Rattle.page_table.specs.Taken.{first_shared, in_order, listed, unless_shared, unless_unaligned}
 use Rattle.capture_desc.specs.declared.desc.Desc.{Desc}
-use Rattle.capture_desc.specs.WellFormed.{IsWellFormed, bytes_of_chunks}
+use Rattle.capture_desc.specs.WellFormed.{IsWellFormed}
 use Rattle.picture_model.specs.declared.BuildFault.{BuildFault}
 use Rattle.picture_model.specs.Described.{highest_end, memory_from, memory_of, taken}
 use Rattle.picture_model.specs.Geometry.{Check, first_after, first_unaligned, frame_fault, memory_faults, overlap, page_faults, picture_faults, size_faults, too_few, vbi_range}
-use Rattle.picture_model.proofs.Made.{total_chunks}
 use Rattle.planar_plan.specs.declared.judge.BuildError.{BuildError}
 use Rattle.planar_plan.specs.declared.judge.BuildError.TheVariants.{Bad, Memory}
 use Rattle.planar_plan.specs.Frames.{HasScatter, IsFramed, Judges, taken_memory}
@@ -74,13 +73,12 @@ module _ (d : Desc) where
 few_pages : (pages : List ℕ) → length pages ≤ max_chunks → taken_memory None pages ≡ unless_unaligned (first_unaligned None pages) (memory_from None pages)
 few_pages pages few = cond-false (nat_lt max_chunks (length pages)) _ _ (le-ltb max_chunks (length pages) few)
 
-few_chunks : (pairs : List (ℕ × ℕ)) (pages : List ℕ) → length pairs ≤ max_chunks → bytes_of_chunks pairs ≤ max_bytes → taken_memory (Some pairs) pages ≡ unless_unaligned (first_unaligned (Some pairs) pages) (memory_from (Some pairs) pages)
+few_chunks : (pairs : List (ℕ × ℕ)) (pages : List ℕ) → length pairs ≤ max_chunks → total (listed pairs) ≤ max_bytes → taken_memory (Some pairs) pages ≡ unless_unaligned (first_unaligned (Some pairs) pages) (memory_from (Some pairs) pages)
 few_chunks pairs pages few small =
-    let bytes = total_chunks pairs in
     cond-false (nat_lt max_chunks (length pairs) || nat_lt max_bytes (total (listed pairs))) _ _
-    (or_from _ _ (le-ltb max_chunks (length pairs) few) (le-ltb max_bytes (total (listed pairs)) (omega arith)))
+    (or_from _ _ (le-ltb max_chunks (length pairs) few) (le-ltb max_bytes (total (listed pairs)) small))
 
-few_in : (chunks : Option (List (ℕ × ℕ))) (pages : List ℕ) → length pages ≤ max_chunks → IfSome chunks (λ cs. length cs ≤ max_chunks) → IfSome chunks (λ cs. bytes_of_chunks cs ≤ max_bytes) → taken_memory chunks pages ≡ unless_unaligned (first_unaligned chunks pages) (memory_from chunks pages)
+few_in : (chunks : Option (List (ℕ × ℕ))) (pages : List ℕ) → length pages ≤ max_chunks → IfSome chunks (λ cs. length cs ≤ max_chunks) → IfSome chunks (λ cs. total (listed cs) ≤ max_bytes) → taken_memory chunks pages ≡ unless_unaligned (first_unaligned chunks pages) (memory_from chunks pages)
 few_in None pages few chunks bytes = few_pages pages few
 few_in (Some pairs) pages few chunks bytes = few_chunks pairs pages chunks bytes
 

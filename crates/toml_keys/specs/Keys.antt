@@ -1,9 +1,9 @@
 -- The document that a text is, and the keys of a table that are none of a form's.
-use Rattle.std.specs.Prelude.{◌≡◌, ℕ, Bool, false, not, Contains, List, [], ◌∷◌, Option, Some, None, filter, unwrap_or, if◌then◌else◌}
+use Rattle.std.specs.Prelude.{◌≡◌, ℕ, Bool, false, not, Contains, List, [], ◌∷◌, Option, Some, None, is_some, filter, unwrap_or, if◌then◌else◌}
 use Rattle.std.specs.Ordering.{nat_cmp, is_gt, match_ordering}
 use Rattle.std.specs.Cmp.Lexicographic.{slice_cmp}
 use Rattle.std.specs.Str.{is_utf8}
-use Rattle.toml.specs.Data.{Members, no_members, member}
+use Rattle.toml.specs.Data.{Members, no_members, member, get_member}
 use Rattle.toml.specs.Parse.{parse_document}
 
 -- the document that a text is
@@ -13,6 +13,10 @@ document_of text = if is_utf8 text then parse_document text else None
 abbrev pub names : Members → List (List ℕ)
 names no_members = []
 names (member name _ members) = name ∷ names members
+
+-- whether a table has a key
+abbrev pub is_there : List ℕ → Members → Bool
+is_there name members = is_some (get_member name members)
 
 -- the keys that a form doesn't know
 abbrev pub unknown_names : (List ℕ → Bool) → Members → List (List ℕ)

@@ -93,6 +93,34 @@ u32_of d = option_and_then (between 0 u32_max) (as_integer d)
 abbrev pub is_row : Data → Bool
 is_row d = is_some (list_typed is_integer d)
 
+-- an array of two such numbers, or of four
+abbrev pub two : Option ℕ → Option ℕ → Option (ℕ × ℕ)
+two (Some a) (Some b) = Some (a, b)
+two _ _ = None
+
+abbrev pub two_in : List Data → Option (ℕ × ℕ)
+two_in (a ∷ b ∷ []) = two (u32_of a) (u32_of b)
+two_in _ = None
+
+abbrev pub two_of : Data → Option (ℕ × ℕ)
+two_of d = option_and_then two_in (as_list d)
+
+abbrev pub four : Option ℕ → Option ℕ → Option ℕ → Option ℕ → Option (ℕ × ℕ × ℕ × ℕ)
+four (Some a) (Some b) (Some c) (Some d) = Some (a, b, c, d)
+four _ _ _ _ = None
+
+abbrev pub four_in : List Data → Option (ℕ × ℕ × ℕ × ℕ)
+four_in (a ∷ b ∷ c ∷ d ∷ []) = four (u32_of a) (u32_of b) (u32_of c) (u32_of d)
+four_in _ = None
+
+abbrev pub four_of : Data → Option (ℕ × ℕ × ℕ × ℕ)
+four_of d = option_and_then four_in (as_list d)
+
+-- a fault of a form says at which of its keys it is
+abbrev pub told : {A F : Type 0} → (KeyFault → F) → Reading A → Result A F
+told fault_of (Ok value) = Ok value
+told fault_of (Err fault) = Err (fault_of fault)
+
 -- an error is the fault, or want of memory
 abbrev pub Refuses : {A : Type 0} → Reading A → KeyError → Type 0
 Refuses reading (Bad fault) = reading ≡ Err fault

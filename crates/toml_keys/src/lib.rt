@@ -10,10 +10,7 @@ ghost use Rattle.toml_keys.specs.declared.KeyError.TheVariants.{Bad, Memory};
 
 use std::alloc::AllocError;
 pub use table::{KnownKeys, TableError, read_table, unknown_key};
-pub use values::{
-    Member, Named, all_typed, between, items_of, list, number, number_or, required_number,
-    value_at, word,
-};
+pub use values::{Member, Words, list, number, number_or, required_number, value_at, word};
 
 /// Why a key is at fault (this project's own rules), in the order in which it is judged.
 #[derive(Clone, Copy, Debug, PartialEq, Eq)]

@@ -4,7 +4,7 @@ ghost use Rattle.std.specs.List.{list_all};
 ghost use Rattle.std.specs.Result.{result_err};
 ghost use Rattle.toml.specs.Data.{Data, get_member};
 ghost use Rattle.toml.specs.View.{table_view, view};
-ghost use Rattle.toml_keys.specs.Values.{Refuses, as_list, at, between, each, is_integer, is_row, list_typed, number, otherwise, required, u32_max, u32_of, word};
+ghost use Rattle.toml_keys.specs.Values.{Refuses, as_list, at, between, each, four_of, is_integer, is_row, list_typed, number, otherwise, required, two_of, u32_max, u32_of, word};
 
 use crate::{KeyError, KeyFault};
 use std::alloc::{AllocError, Global};
@@ -17,8 +17,8 @@ pub fn value_at<'a>(table: &'a Table, name: &str) -> Option<&'a Value>
     table.get(name)
 }
 
-/// The number, where it is one from `least` to `most`.
-pub fn between(least: u32, most: u32, number: i64) -> Option<u32>
+// The number, where it is one from `least` to `most`.
+fn between(least: u32, most: u32, number: i64) -> Option<u32>
     ensures { result ≡ between least most number }
 {
     u32::try_from(number)
@@ -55,18 +55,18 @@ pub fn number_or(table: &Table, name: &str, default: u32, most: u32) -> Result<u
     Ok(number(table, name, 0, most)?.unwrap_or(default))
 }
 
-/// What is written by its name.
-pub trait Named: Sized {
-    ghost named: { List ℕ → Option Self };
+/// What a form writes by its name.
+pub trait Words<T> {
+    ghost named: { List ℕ → Option T };
 
     /// What has this name.
-    fn named(name: &str) -> Option<Self>
+    fn named(name: &str) -> Option<T>
         ensures { result ≡ named name.now };
 }
 
-/// What the text at a key names.
-pub fn word<T: Named + Drop>(table: &Table, name: &str) -> Result<Option<T>, KeyFault>
-    ensures { result ≡ word T.named name.now (table_view table.now) }
+/// What the text at a key names in the form `W`.
+pub fn word<T: Drop, W: Words<T>>(table: &Table, name: &str) -> Result<Option<T>, KeyFault>
+    ensures { result ≡ word W.named name.now (table_view table.now) }
 {
     let Some(value) = value_at(table, name) else {
         return Ok(None);
@@ -74,14 +74,14 @@ pub fn word<T: Named + Drop>(table: &Table, name: &str) -> Result<Option<T>, Key
     let Some(text) = value.as_str() else {
         return Err(KeyFault::WrongKind);
     };
-    match T::named(text) {
+    match W::named(text) {
         Some(named) => Ok(Some(named)),
         None => Err(KeyFault::OutOfRange),
     }
 }
 
-/// The members of a value that is an array.
-pub fn items_of(value: &Value) -> Option<&[Value]>
+// The members of a value that is an array.
+fn items_of(value: &Value) -> Option<&[Value]>
     ensures { option_map (λ vs. map view vs.now) result ≡ as_list (view value.now) }
 {
     match value.as_array() {
@@ -122,8 +122,8 @@ impl Member for u32 {
     }
 }
 
-/// Whether all the members have their types.
-pub fn all_typed<T: Member>(members: &[Value]) -> bool
+// Whether all the members have their types.
+fn all_typed<T: Member>(members: &[Value]) -> bool
     ensures { result ≡ list_all T.typed (map view members.now) }
 {
     for member in members {
@@ -132,6 +132,50 @@ pub fn all_typed<T: Member>(members: &[Value]) -> bool
         }
     }
     true
+}
+
+// Whether the value is an array of whole numbers.
+fn is_row(value: &Value) -> bool
+    ensures { result ≡ is_row (view value.now) }
+{
+    match items_of(value) {
+        Some(members) => all_typed::<u32>(members),
+        None => false,
+    }
+}
+
+impl Member for (u32, u32) {
+    ghost typed = { is_row };
+
+    ghost value = { two_of };
+
+    fn is_typed(member: &Value) -> bool {
+        is_row(member)
+    }
+
+    fn read(member: &Value) -> Option<(u32, u32)> {
+        match items_of(member)? {
+            [a, b] => Some((u32::read(a)?, u32::read(b)?)),
+            _ => None,
+        }
+    }
+}
+
+impl Member for (u32, u32, u32, u32) {
+    ghost typed = { is_row };
+
+    ghost value = { four_of };
+
+    fn is_typed(member: &Value) -> bool {
+        is_row(member)
+    }
+
+    fn read(member: &Value) -> Option<(u32, u32, u32, u32)> {
+        match items_of(member)? {
+            [a, b, c, d] => Some((u32::read(a)?, u32::read(b)?, u32::read(c)?, u32::read(d)?)),
+            _ => None,
+        }
+    }
 }
 
 // What the members stand for, or None where one is out of range.
