@@ -6,7 +6,7 @@ use Rattle.toml.specs.Data.{Members}
 use Rattle.toml_keys.specs.declared.KeyFault.{KeyFault}
 use Rattle.toml_keys.specs.declared.KeyFault.TheVariants as key_fault
 use Rattle.toml_keys.specs.Keys.{document_of, least, unknown_names}
-use Rattle.toml_keys.specs.Values.{◌>>=◌, is_integer, list, number, otherwise, required, u32_max, u32_of}
+use Rattle.toml_keys.specs.Values.{◌>>=◌, is_integer, list, number, otherwise, required, told, u32_max, u32_of}
 use Rattle.page_table.specs.Taken.{first_shared, is_page_address}
 use Rattle.machine_model.specs.Paths.{shares_byte}
 use Rattle.picture_model.specs.Geometry.{is_multiple}
@@ -41,20 +41,15 @@ fault_of key key_fault.Missing = Missing key
 fault_of key key_fault.WrongKind = WrongKind key
 fault_of key key_fault.OutOfRange = OutOfRange key
 
--- a fault is told of its key
-abbrev pub told : {A : Type 0} → RingKey → Result A KeyFault → Reading A
-told key (Ok value) = Ok value
-told key (Err fault) = Err (fault_of key fault)
-
 abbrev pub required_number : ℕ → ℕ → RingKey → Members → Reading ℕ
-required_number least most key members = told key (required (number least most (name_of key) members))
+required_number least most key members = told (fault_of key) (required (number least most (name_of key) members))
 
 abbrev pub number_or : ℕ → ℕ → RingKey → Members → Reading ℕ
-number_or default most key members = told key (otherwise default (number 0 most (name_of key) members))
+number_or default most key members = told (fault_of key) (otherwise default (number 0 most (name_of key) members))
 
 abbrev pub pages : Members → Reading (List ℕ)
 pages members =
-    told Pages (required (list is_integer u32_of (λ pages. nat_le (length pages) 4096) (name_of Pages) members))
+    told (fault_of Pages) (required (list is_integer u32_of (λ pages. nat_le (length pages) 4096) (name_of Pages) members))
 
 -- the keys one after the other, each with what it may be and what stands for it where it is absent
 abbrev pub values : Members → Reading Ring

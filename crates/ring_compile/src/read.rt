@@ -2,9 +2,9 @@
 ghost use Rattle.page_table.specs.Grants.{max_chunks};
 ghost use Rattle.std.specs.Prelude.{◌≡◌, ◌≤◌, length, Ok, IfOk};
 ghost use Rattle.toml.specs.View.{table_view};
-ghost use Rattle.toml_keys.specs.Values.{u32_max};
+ghost use Rattle.toml_keys.specs.Values.{told, u32_max};
 ghost use Rattle.toml_keys.specs.declared.KeyFault.{KeyFault};
-ghost use Rattle.ring_compile.specs.Files.{Answers, described, fault_of, number_or, pages, required_number, told, values};
+ghost use Rattle.ring_compile.specs.Files.{Answers, described, fault_of, number_or, pages, required_number, values};
 ghost use Rattle.ring_compile.specs.Kept.{IsInBounds, IsJudged};
 
 use crate::fault::{RingError, RingFault, RingKey};
@@ -29,7 +29,7 @@ fn fault_of(key: RingKey, fault: KeyFault) -> RingFault
 
 // What was read at a key, or the key's fault.
 fn told(key: RingKey, read: Result<u32, KeyFault>) -> Result<u32, RingError>
-    ensures answer { Answers (told key read) result }
+    ensures answer { Answers (told (fault_of key) read) result }
     ensures same { IfOk result (λ n. read ≡ Ok n) }
 {
     match read {
