@@ -1,0 +1,4 @@
+pub mod Takings
+pub mod Lines
+pub mod Marks
+pub mod Worked

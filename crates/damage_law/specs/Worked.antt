@@ -1,0 +1,74 @@
+-- Worked fields of small descriptions, in the top field.
+use Rattle.std.specs.Prelude.{ℕ, Bool, true, false, List, [], ◌∷◌, ◌++◌, map, replicate, Option}
+use Rattle.risc_word.specs.declared.Code.TheVariants.{Vre, Fm1}
+use Rattle.fifo_model.specs.declared.Entry.{Entry}
+use Rattle.fifo_model.specs.declared.Queue.TheVariants.{One}
+use Rattle.irq_status.specs.declared.HostWrite.TheVariants.{Enable}
+use Rattle.pixel_layout.specs.declared.Parity.TheVariants.{Top}
+use Rattle.machine_model.specs.States.{first_state}
+use Rattle.machine_model.specs.Steps.{Step, Push, Control, Turn, Host}
+use Rattle.capture_desc.specs.declared.desc.Desc.{Desc}
+use Rattle.picture_model.specs.Programs.{compiled}
+use Rattle.picture_model.specs.Worked.{smallest}
+use Rattle.field_law.specs.Worked.{entry}
+use Rattle.damage_law.specs.Marks.{answer}
+
+-- what is said of the rows of the top field after steps from the first state
+abbrev pub marks_of : Desc → List Step → Option (List Bool)
+marks_of d steps = answer d Top (first_state (compiled d) d.fill) steps
+
+abbrev pub pushed : List Entry → List Step
+pushed entries = map (Push One) entries
+
+abbrev pub turns : ℕ → List Step
+turns count = replicate count Turn
+
+abbrev pub announced : List Step
+announced = Control Vre ∷ Control Fm1 ∷ []
+
+-- a line of eight bytes: SOL, then EOL4
+abbrev pub eight : ℕ → ℕ → List Entry
+eight first second = entry 2 first ∷ entry 1 second ∷ []
+
+-- two rows of sixteen pixels, of which four in each are clipped; the first line has seven bytes
+abbrev pub clipped : Desc
+clipped =
+    record smallest { width = 16; height = 2; clip = record { x = 4; y = 0; w = 4; h = 2 } ∷ []; fill = 0x55 }
+
+abbrev pub cut_short : List Step
+cut_short =
+    announced
+    ++ pushed (entry 2 0xa3a2a1a0 ∷ entry 13 0xffa6a5a4 ∷ entry 2 0xb3b2b1b0 ∷ entry 0 0xb7b6b5b4 ∷ entry 0 0xbbbab9b8 ∷ entry 1 0xbfbebdbc ∷ [])
+    ++ turns 21
+
+-- two rows of eight pixels; the first line has 17 bytes
+abbrev pub two_rows : Desc
+two_rows = record smallest { height = 2 }
+
+abbrev pub too_long : List Step
+too_long =
+    announced
+    ++ pushed (entry 2 0x03020100 ∷ entry 0 0x07060504 ∷ entry 0 0x0b0a0908 ∷ entry 0 0x0f0e0d0c ∷ entry 5 0x10 ∷ eight 0x23222120 0x27262524)
+    ++ turns 16
+
+-- a field of one line, and a whole one after it
+abbrev pub interrupted : List Step
+interrupted =
+    announced ++ pushed (eight 0x23222120 0x27262524) ++ announced
+    ++ pushed (eight 0x33323130 0x37363534 ++ eight 0x43424140 0x47464544) ++ turns 24
+
+-- one row of eight pixels; an entry of a reserved status stands within the line
+abbrev pub reserved : List Step
+reserved = announced ++ pushed (entry 2 0x13121110 ∷ entry 3 0 ∷ entry 1 0x17161514 ∷ []) ++ turns 10
+
+-- the host empties the queues within the line, where they hold nothing, or an entry of it
+abbrev pub within_line : List Step → List Step
+within_line lost =
+    announced ++ pushed (entry 2 0x13121110 ∷ []) ++ turns 6 ++ lost ++ Host (Enable false true) ∷ Host (Enable true true)
+    ∷ pushed (entry 1 0x17161514 ∷ []) ++ turns 3
+
+abbrev pub emptied_empty : List Step
+emptied_empty = within_line []
+
+abbrev pub emptied_full : List Step
+emptied_full = within_line (pushed (entry 0 0xa3a2a1a0 ∷ []))

@@ -1,0 +1,28 @@
+//! Laws of damage maps. The functions do nothing; their contracts are the laws.
+
+ghost use Rattle.std.specs.Prelude.{◌≡◌, ℕ, List, true, false, [], ◌∷◌, Some, None};
+ghost use Rattle.fifo_model.specs.declared.Entry.{Entry};
+ghost use Rattle.picture_model.specs.Worked.{smallest};
+ghost use Rattle.damage_law.specs.Takings.{Taking};
+ghost use Rattle.damage_law.specs.Lines.{AreInOrder, IsWholeLine, are_line};
+ghost use Rattle.damage_law.specs.Worked.{clipped, cut_short, emptied_empty, emptied_full, interrupted, marks_of, reserved, too_long, two_rows};
+
+/// Takings in their order make a line by their places exactly where the entries of which a byte is taken follow one
+/// another among those that enter the queue, each is taken whole, and they are a line.
+pub fn whole_lines_are_taken_whole()
+    ensures line { (entry_at : ℕ → Entry) (ts : List Taking) → AreInOrder entry_at 0 0 ts → are_line ts ≡ true → IsWholeLine entry_at ts }
+    ensures takings { (entry_at : ℕ → Entry) (ts : List Taking) → AreInOrder entry_at 0 0 ts → IsWholeLine entry_at ts → are_line ts ≡ true }
+{}
+
+/// Worked fields of small descriptions, and which of their rows are whole: a row whose line is too short isn't, nor is one
+/// whose line is too long; a field that is broken off says nothing of the next; no field was signalled; an entry of a
+/// reserved status within a line is one too many, and so is one that the host's emptying of the queues takes from it.
+pub fn worked_fields_are_marked()
+    ensures too_short { marks_of clipped cut_short ≡ Some (false ∷ true ∷ []) }
+    ensures too_long { marks_of two_rows too_long ≡ Some (false ∷ true ∷ []) }
+    ensures broken_off { marks_of two_rows interrupted ≡ Some (true ∷ true ∷ []) }
+    ensures no_signal { marks_of smallest [] ≡ None }
+    ensures one_too_many { marks_of smallest reserved ≡ Some (false ∷ []) }
+    ensures emptied_of_nothing { marks_of smallest emptied_empty ≡ Some (true ∷ []) }
+    ensures emptied_of_an_entry { marks_of smallest emptied_full ≡ Some (false ∷ []) }
+{}
