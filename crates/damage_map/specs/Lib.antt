@@ -1,0 +1,3 @@
+pub mod Tracks
+pub mod Maps
+pub mod Worked

@@ -1,0 +1,15 @@
+-- A machine and what is kept of its fields.
+use Rattle.std.specs.Prelude.{ℕ, Bool, List, Option, drop, option_map}
+use Rattle.pixel_layout.specs.declared.Parity.{Parity}
+use Rattle.machine_model.specs.States.{State}
+use Rattle.damage_map.specs.Tracks.{FieldTrack, lines_at_signal}
+
+-- so many lines stand before the rows of a field: its VBI lines, and those that are skipped
+pub record Map : Type 0 where
+  pub machine : State
+  pub track : FieldTrack
+  pub lines_before : ℕ
+
+-- which rows of a field are whole at its last signal, if it had one
+abbrev pub rows_of : Parity → Map → Option (List Bool)
+rows_of field map = option_map (drop map.lines_before) (lines_at_signal field map.track)

@@ -1,0 +1,168 @@
+-- What is kept of a field under way, and how each step changes it.
+use Rattle.std.specs.Prelude.{ℕ, ◌+◌, Bool, true, false, not, ◌&&◌, ◌==◌, List, [], ◌∷◌, ◌++◌, length, Option, Some, None, Ok, Err, if◌then◌else◌, nat_lt}
+use Rattle.risc_word.specs.declared.Instr.TheVariants.{Jump, Sync}
+use Rattle.risc_word.specs.Words.{Reading}
+use Rattle.fifo_model.specs.declared.Queue.{Queue}
+use Rattle.fifo_model.specs.declared.Queue.TheVariants.{One, Two, Three}
+use Rattle.irq_status.specs.declared.HostWrite.{HostWrite}
+use Rattle.irq_status.specs.declared.HostWrite.TheVariants.{Enable}
+use Rattle.pixel_layout.specs.declared.Parity.{Parity}
+use Rattle.pixel_layout.specs.declared.Parity.TheVariants.{Top, Bottom}
+use Rattle.machine_model.specs.declared.Did.{Did}
+use Rattle.machine_model.specs.declared.Did.TheVariants.{Synced, Jumped, Passed, Retired, Moved, GivenUp}
+use Rattle.machine_model.specs.declared.Seen.{Seen}
+use Rattle.machine_model.specs.Paths.{RiscProgram, fetch, instr_ends}
+use Rattle.machine_model.specs.Seen.{seen}
+use Rattle.machine_model.specs.States.{State}
+use Rattle.machine_model.specs.Steps.{Step, Turn, Host, step}
+use Rattle.dma_machine.specs.Looks.{holds}
+use Rattle.damage_map.specs.declared.mark.LineMark.{LineMark}
+use Rattle.damage_map.specs.declared.mark.LineMark.TheVariants.{Fresh, Within, Done, Spoilt}
+use Rattle.damage_map.specs.declared.mark.LineMarks.{LineMarks}
+
+-- the line under way on each queue, whether an instruction of it was passed over or given up, the lines of the field
+-- before it, each whole or not, and the lines of each field at its last signal
+pub record FieldTrack : Type 0 where
+  pub marks : LineMarks
+  pub lost : Bool
+  pub lines : List Bool
+  pub top : Option (List Bool)
+  pub bottom : Option (List Bool)
+
+-- the lines of a field at its last signal, if it had one
+abbrev pub told : Bool → List Bool → Option (List Bool)
+told true lines = Some lines
+told false lines = None
+
+abbrev pub fresh : LineMarks
+fresh = record { one = Fresh; two = Fresh; three = Fresh }
+
+-- as a machine is made
+abbrev pub untold : FieldTrack
+untold = record { marks = fresh; lost = false; lines = []; top = None; bottom = None }
+
+-- a queue's mark, where bytes are taken: up to the last byte of a line, or not
+abbrev pub taken_mark : Bool → LineMark → LineMark
+taken_mark true Fresh = Done
+taken_mark true Within = Done
+taken_mark false Fresh = Within
+taken_mark false Within = Within
+taken_mark ended _ = Spoilt
+
+-- where an entry leaves the queue of which nothing is taken
+abbrev pub left_mark : LineMark → LineMark
+left_mark Within = Spoilt
+left_mark mark = mark
+
+-- where both happen in one turn, the entry stood within the line
+abbrev pub met_mark : Bool → Bool → Bool → LineMark → LineMark
+met_mark true true ended mark = Spoilt
+met_mark true false ended mark = taken_mark ended mark
+met_mark false true ended mark = left_mark mark
+met_mark false false ended mark = mark
+
+abbrev pub mark_on : Queue → LineMarks → LineMark
+mark_on One marks = marks.one
+mark_on Two marks = marks.two
+mark_on Three marks = marks.three
+
+abbrev pub with_mark : Queue → LineMark → LineMarks → LineMarks
+with_mark One mark marks = record marks { one = mark }
+with_mark Two mark marks = record marks { two = mark }
+with_mark Three mark marks = record marks { three = mark }
+
+abbrev pub met : Queue → Seen → FieldTrack → FieldTrack
+met q s t = record t { marks = with_mark q (met_mark s.took s.reserved s.ended (mark_on q t.marks)) t.marks }
+
+-- a line is whole where no instruction of it was lost, and each queue was taken a whole line of or nothing
+abbrev pub is_good : LineMark → Bool
+is_good Fresh = true
+is_good Within = false
+is_good Done = true
+is_good Spoilt = false
+
+abbrev pub is_whole : FieldTrack → Bool
+is_whole t = not t.lost && is_good t.marks.one && is_good t.marks.two && is_good t.marks.three
+
+-- how many lines are kept: a field has at most 32 VBI lines, 255 skipped lines and 1,024 rows
+abbrev pub max_lines : ℕ
+max_lines = 1311
+
+abbrev pub noted : Bool → List Bool → List Bool
+noted whole lines = if nat_lt (length lines) max_lines then lines ++ whole ∷ [] else lines
+
+-- at the end of a line the next one begins
+abbrev pub through : Bool → FieldTrack → FieldTrack
+through true t = record t { marks = fresh; lost = false; lines = noted (is_whole t) t.lines }
+through false t = t
+
+abbrev pub with_loss : FieldTrack → FieldTrack
+with_loss t = record t { lost = true }
+
+-- a SYNC with RESYNC opens a field
+abbrev pub opened : Bool → FieldTrack → FieldTrack
+opened true t = record t { marks = fresh; lost = false; lines = [] }
+opened false t = t
+
+-- a JUMP that sets RISC status 1 signals the top field, one that sets 2 the bottom field
+abbrev pub signalled : Option Parity → FieldTrack → FieldTrack
+signalled (Some Top) t = record t { top = Some t.lines; lines = [] }
+signalled (Some Bottom) t = record t { bottom = Some t.lines; lines = [] }
+signalled None t = t
+
+-- what the instruction at an address tells
+abbrev pub opens : Reading → Bool
+opens (Ok (Sync ctl resync code, count)) = resync
+opens _ = false
+
+abbrev pub field_of : ℕ → Option Parity
+field_of status = if status == 1 then Some Top else (if status == 2 then Some Bottom else None)
+
+abbrev pub signals : Reading → Option Parity
+signals (Ok (Jump ctl target, count)) = field_of ctl.set
+signals _ = None
+
+abbrev pub ends_line : Reading → Bool
+ends_line (Ok (instr, count)) = (instr_ends instr).eol
+ends_line (Err fault) = false
+
+-- a turn, by what it did
+abbrev pub turned : RiscProgram → Did → Seen → FieldTrack → FieldTrack
+turned program Synced s t = opened (opens (fetch program s.at)) t
+turned program Jumped s t = signalled (signals (fetch program s.at)) t
+turned program Passed s t = through (ends_line (fetch program s.at)) (with_loss t)
+turned program Retired s t = through (ends_line (fetch program s.at)) t
+turned program (Moved q) s t = met q s t
+turned program (GivenUp q) s t = through (ends_line (fetch program s.at)) (with_loss (met q s t))
+turned program _ s t = t
+
+-- a host write that disables the FIFO empties the queues
+abbrev pub emptied_mark : Bool → LineMark → LineMark
+emptied_mark true mark = left_mark mark
+emptied_mark false mark = mark
+
+abbrev pub emptied_marks : Bool → Bool → Bool → LineMarks → LineMarks
+emptied_marks one two three marks =
+    record {
+      one = emptied_mark one marks.one;
+      two = emptied_mark two marks.two;
+      three = emptied_mark three marks.three;
+    }
+
+abbrev pub written : HostWrite → State → FieldTrack → FieldTrack
+written (Enable false risc) m t = record t { marks = emptied_marks (holds One m) (holds Two m) (holds Three m) t.marks }
+written write m t = t
+
+-- what each step makes of it, from the state that the step meets
+abbrev pub track_next : State → Step → FieldTrack → FieldTrack
+track_next m Turn t = turned m.program (seen m).did (seen m) t
+track_next m (Host write) t = written write m t
+track_next m push t = t
+
+abbrev pub tracked : State → List Step → FieldTrack → FieldTrack
+tracked m [] t = t
+tracked m (s ∷ steps) t = tracked (step s m) steps (track_next m s t)
+
+abbrev pub lines_at_signal : Parity → FieldTrack → Option (List Bool)
+lines_at_signal Top t = t.top
+lines_at_signal Bottom t = t.bottom

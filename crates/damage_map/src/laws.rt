@@ -1,0 +1,18 @@
+//! Laws of tracks. The functions do nothing; their contracts are the laws.
+
+ghost use Rattle.std.specs.Prelude.{◌≡◌, true, false, [], ◌∷◌, Some, None};
+ghost use Rattle.picture_model.specs.Worked.{smallest};
+ghost use Rattle.damage_law.specs.Worked.{clipped, cut_short, emptied_empty, emptied_full, interrupted, reserved, too_long, two_rows};
+ghost use Rattle.damage_map.specs.Worked.{kept_of};
+
+/// Over the worked fields of damage_law a track keeps what the definition says of their rows (its law
+/// `worked_fields_are_marked`).
+pub fn worked_fields_are_tracked()
+    ensures too_short { kept_of clipped cut_short ≡ Some (false ∷ true ∷ []) }
+    ensures too_long { kept_of two_rows too_long ≡ Some (false ∷ true ∷ []) }
+    ensures broken_off { kept_of two_rows interrupted ≡ Some (true ∷ true ∷ []) }
+    ensures no_signal { kept_of smallest [] ≡ None }
+    ensures one_too_many { kept_of smallest reserved ≡ Some (false ∷ []) }
+    ensures emptied_of_nothing { kept_of smallest emptied_empty ≡ Some (true ∷ []) }
+    ensures emptied_of_an_entry { kept_of smallest emptied_full ≡ Some (false ∷ []) }
+{}

@@ -1,0 +1,15 @@
+//! Damage maps: which rows of a captured field are whole lines (this project's own rules).
+#![tactic(auto)]
+
+pub mod laws;
+mod lines;
+mod mapped;
+mod mark;
+mod reading;
+#[cfg(test)]
+mod tests;
+mod track;
+
+pub use mapped::Mapped;
+pub use mark::{LineMark, LineMarks};
+pub use track::Track;
