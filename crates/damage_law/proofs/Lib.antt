@@ -1,1 +1,2 @@
-pub mod WholeLines
+mod Leaving
+mod WholeLines

@@ -1,9 +1,13 @@
 //! Laws of damage maps. The functions do nothing; their contracts are the laws.
 
-ghost use Rattle.std.specs.Prelude.{◌≡◌, ℕ, List, true, false, [], ◌∷◌, Some, None};
+ghost use Rattle.std.specs.Prelude.{◌≡◌, ℕ, List, true, false, [], ◌∷◌, Some, None, drop};
+ghost use Rattle.fifo_model.specs.declared.Queue.{Queue};
+ghost use Rattle.fifo_model.specs.Queues.{queue_state};
+ghost use Rattle.machine_model.specs.States.{State};
+ghost use Rattle.machine_model.specs.Turns.{turn};
 ghost use Rattle.fifo_model.specs.declared.Entry.{Entry};
 ghost use Rattle.picture_model.specs.Worked.{smallest};
-ghost use Rattle.damage_law.specs.Takings.{Taking};
+ghost use Rattle.damage_law.specs.Takings.{Taking, left};
 ghost use Rattle.damage_law.specs.Lines.{AreInOrder, IsWholeLine, are_line};
 ghost use Rattle.damage_law.specs.Worked.{clipped, cut_short, emptied_empty, emptied_full, interrupted, marks_of, reserved, too_long, two_rows};
 
@@ -12,6 +16,12 @@ ghost use Rattle.damage_law.specs.Worked.{clipped, cut_short, emptied_empty, emp
 pub fn whole_lines_are_taken_whole()
     ensures line { (entry_at : ℕ → Entry) (ts : List Taking) → AreInOrder entry_at 0 0 ts → are_line ts ≡ true → IsWholeLine entry_at ts }
     ensures takings { (entry_at : ℕ → Entry) (ts : List Taking) → AreInOrder entry_at 0 0 ts → IsWholeLine entry_at ts → are_line ts ≡ true }
+{}
+
+/// What leaves a queue in a turn leaves it at its front. So the entry at a place is the one that so many others left
+/// before.
+pub fn entries_leave_at_the_front()
+    ensures { (q : Queue) (m : State) → (queue_state q (turn m).queues).entries ≡ drop (left q m (turn m)) (queue_state q m.queues).entries }
 {}
 
 /// Worked fields of small descriptions, and which of their rows are whole: a row whose line is too short isn't, nor is one
