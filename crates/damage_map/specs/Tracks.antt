@@ -1,5 +1,5 @@
 -- What is kept of a field under way, and how each step changes it.
-use Rattle.std.specs.Prelude.{ℕ, ◌+◌, Bool, true, false, not, ◌&&◌, ◌==◌, List, [], ◌∷◌, ◌++◌, length, Option, Some, None, Ok, Err, if◌then◌else◌, nat_lt}
+use Rattle.std.specs.Prelude.{ℕ, Bool, true, false, not, ◌&&◌, ◌==◌, List, [], ◌∷◌, ◌++◌, length, Option, Some, None, Ok, Err, if◌then◌else◌, nat_lt}
 use Rattle.risc_word.specs.declared.Instr.TheVariants.{Jump, Sync}
 use Rattle.risc_word.specs.Words.{Reading}
 use Rattle.fifo_model.specs.declared.Queue.{Queue}
