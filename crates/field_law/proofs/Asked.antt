@@ -13,17 +13,18 @@ use Rattle.field_law.specs.Sections.{Ask, Await, ask, ask_of, UsesTo, laid, plan
 use Rattle.field_law.proofs.Lines.{UnderWay, has_waking, part-waking}
 use Rattle.field_law.proofs.Served.{Outlook, front as front_of, between}
 
-module _ (Ends : List ℕ → List Token → Type 0) where
+module _ (Ends : List ℕ → List Token → Type 0) (Rests : List Entry → Type 0) where
   -- where the field begins
-  pub outlook_at_start : (asks : List Ask) (field : List Token) (entries rest : List Entry) → UsesTo Ends asks [] field → Brings field entries →
-      Outlook Ends asks (planned asks [] field) (length entries) 0 (entries ++ rest)
-  outlook_at_start asks field entries rest uses brings =
+  pub outlook_at_start : (asks : List Ask) (field : List Token) (entries rest : List Entry) → Rests rest → UsesTo Ends asks [] field → Brings field entries →
+      Outlook Ends Rests asks (planned asks [] field) (length entries) 0 (entries ++ rest)
+  outlook_at_start asks field entries rest rests uses brings =
       record {
         line = [];
         tokens = field;
         half = [];
         entries = entries;
         rest = rest;
+        rests = rests;
         order = refl;
         under_way = (refl, refl);
         brings = brings;
@@ -33,15 +34,16 @@ module _ (Ends : List ℕ → List Token → Type 0) where
       }
 
   -- more entries may come after the field
-  pub outlook_with : (asks : List Ask) (stores : List Store) (left taken : ℕ) (ahead more : List Entry) → Outlook Ends asks stores left taken ahead →
-      Outlook Ends asks stores left taken (ahead ++ more)
-  outlook_with asks stores left taken ahead more h =
+  pub outlook_with : (asks : List Ask) (stores : List Store) (left taken : ℕ) (ahead more : List Entry) → ((rest : List Entry) → Rests rest → Rests (rest ++ more)) → Outlook Ends Rests asks stores left taken ahead →
+      Outlook Ends Rests asks stores left taken (ahead ++ more)
+  outlook_with asks stores left taken ahead more grows h =
       record {
         line = h.line;
         tokens = h.tokens;
         half = h.half;
         entries = h.entries;
         rest = h.rest ++ more;
+        rests = grows h.rest h.rests;
         order =
             ap (λ (ahead : List Entry). ahead ++ more) h.order ∙ append_assoc h.half (h.entries ++ h.rest) more
             ∙ ap (λ (entries : List Entry). h.half ++ entries) (append_assoc h.entries h.rest more);
@@ -53,7 +55,7 @@ module _ (Ends : List ℕ → List Token → Type 0) where
       }
 
   -- nothing is asked any more, so nothing is stored any more
-  pub outlook_at_end : (stores : List Store) (left taken : ℕ) (ahead : List Entry) → Outlook Ends [] stores left taken ahead → stores ≡ []
+  pub outlook_at_end : (stores : List Store) (left taken : ℕ) (ahead : List Entry) → Outlook Ends Rests [] stores left taken ahead → stores ≡ []
   outlook_at_end stores left taken ahead h = sym h.stored
 
   -- an ask of no bytes
@@ -69,8 +71,8 @@ module _ (Ends : List ℕ → List Token → Type 0) where
   no_bytes true count address asks line (Mark code ∷ tokens) e h = absurd h
   no_bytes true count address asks line (Row bytes ∷ tokens) e h = let some = h.1 in absurd (omega arith)
 
-  pub outlook_done : (d : Demand) (asks : List Ask) (stores : List Store) (left taken : ℕ) (ahead : List Entry) → d.rest ≡ 0 → Outlook Ends (ask_of d ∷ asks) stores left taken ahead →
-      Outlook Ends asks stores left taken ahead
+  pub outlook_done : (d : Demand) (asks : List Ask) (stores : List Store) (left taken : ℕ) (ahead : List Entry) → d.rest ≡ 0 → Outlook Ends Rests (ask_of d ∷ asks) stores left taken ahead →
+      Outlook Ends Rests asks stores left taken ahead
   outlook_done d asks stores left taken ahead e h =
       let less = no_bytes d.needs_sol d.rest d.address asks h.line h.tokens e h.uses in
       record {
@@ -79,6 +81,7 @@ module _ (Ends : List ℕ → List Token → Type 0) where
         half = h.half;
         entries = h.entries;
         rest = h.rest;
+        rests = h.rests;
         order = h.order;
         under_way = h.under_way;
         brings = h.brings;
@@ -92,6 +95,7 @@ module _ (Ends : List ℕ → List Token → Type 0) where
     pub entry : Entry
     pub entries : List Entry
     pub rest : List Entry
+    pub rests : Rests rest
     pub tokens : List Token
     pub order : ahead ≡ entry ∷ (entries ++ rest)
     pub is_code : code_of_kind (kind_of entry.status) ≡ Some code
@@ -100,12 +104,12 @@ module _ (Ends : List ℕ → List Token → Type 0) where
     pub stored : planned asks [] tokens ≡ stores
     pub counted : suc (length entries) ≡ left
 
-  awaits : (code : Code) (asks : List Ask) (stores : List Store) (left taken : ℕ) (ahead : List Entry) (line : List ℕ) (tokens : List Token) (half entries rest : List Entry) →
+  awaits : (code : Code) (asks : List Ask) (stores : List Store) (left taken : ℕ) (ahead : List Entry) (line : List ℕ) (tokens : List Token) (half entries rest : List Entry) → Rests rest →
       ahead ≡ half ++ (entries ++ rest) → UnderWay taken line half → Brings tokens entries → UsesTo Ends (Await code ∷ asks) line tokens →
       planned (Await code ∷ asks) line tokens ≡ stores → length half + length entries ≡ left → Awaits code asks stores left ahead
-  awaits code asks stores left taken ahead line [] half entries rest order way brings uses stored counted = absurd uses
-  awaits code asks stores left taken ahead line (Row bytes ∷ tokens) half entries rest order way brings uses stored counted = absurd uses
-  awaits code asks stores left taken ahead line (Mark seen ∷ tokens) half entries rest order way brings uses stored counted =
+  awaits code asks stores left taken ahead line [] half entries rest rests order way brings uses stored counted = absurd uses
+  awaits code asks stores left taken ahead line (Row bytes ∷ tokens) half entries rest rests order way brings uses stored counted = absurd uses
+  awaits code asks stores left taken ahead line (Mark seen ∷ tokens) half entries rest rests order way brings uses stored counted =
       let none = between taken line half way uses.0 in
       let no_half = ap (λ (entries : List Entry). length entries) none.1 in
       let parts = ap (λ (entries : List Entry). length entries) brings.2 in
@@ -113,6 +117,7 @@ module _ (Ends : List ℕ → List Token → Type 0) where
         entry = brings.0;
         entries = brings.1;
         rest = rest;
+        rests = rests;
         tokens = tokens;
         order = order ∙ ap (λ (half : List Entry). half ++ (entries ++ rest)) none.1 ∙ ap (λ (entries : List Entry). entries ++ rest) brings.2;
         is_code = brings.3 ∙ ap Some uses.1;
@@ -122,17 +127,17 @@ module _ (Ends : List ℕ → List Token → Type 0) where
         counted = omega arith;
       }
 
-  pub outlook_awaits : (code : Code) (asks : List Ask) (stores : List Store) (left taken : ℕ) (ahead : List Entry) → Outlook Ends (Await code ∷ asks) stores left taken ahead →
+  pub outlook_awaits : (code : Code) (asks : List Ask) (stores : List Store) (left taken : ℕ) (ahead : List Entry) → Outlook Ends Rests (Await code ∷ asks) stores left taken ahead →
       Awaits code asks stores left ahead
   outlook_awaits code asks stores left taken ahead h =
-      awaits code asks stores left taken ahead h.line h.tokens h.half h.entries h.rest h.order h.under_way h.brings h.uses h.stored h.counted
+      awaits code asks stores left taken ahead h.line h.tokens h.half h.entries h.rest h.rests h.order h.under_way h.brings h.uses h.stored h.counted
 
   -- what the queue shows: nothing yet, or the code, and then it goes on without it
   pub record Shows (code : Code) (asks : List Ask) (stores : List Store) (left : ℕ) (held : QueueState) (later : List Entry) : Type 0 where
     pub is_code : front_code held ≡ Some code
     pub entries_left : ℕ
     pub less : suc entries_left ≡ left
-    pub next : Outlook Ends asks stores entries_left 0 ((removed held).entries ++ later)
+    pub next : Outlook Ends Rests asks stores entries_left 0 ((removed held).entries ++ later)
 
   shows_in : (code : Code) (asks : List Ask) (stores : List Store) (left : ℕ) (held : QueueState) (later now : List Entry) → held.entries ≡ now →
       Awaits code asks stores left (now ++ later) → (now ≡ []) ⊎ Shows code asks stores left held later
@@ -147,21 +152,21 @@ module _ (Ends : List ℕ → List Token → Type 0) where
         entries_left = length h.entries;
         less = h.counted;
         next =
-            subst (λ (ahead : List Entry). Outlook Ends asks stores (length h.entries) 0 ahead) (sym behind ∙ ap (λ (es : List Entry). es ++ later) (sym without))
-            (subst (λ (stores : List Store). Outlook Ends asks stores (length h.entries) 0 (h.entries ++ h.rest)) h.stored (outlook_at_start asks h.tokens h.entries h.rest h.uses h.brings));
+            subst (λ (ahead : List Entry). Outlook Ends Rests asks stores (length h.entries) 0 ahead) (sym behind ∙ ap (λ (es : List Entry). es ++ later) (sym without))
+            (subst (λ (stores : List Store). Outlook Ends Rests asks stores (length h.entries) 0 (h.entries ++ h.rest)) h.stored (outlook_at_start asks h.tokens h.entries h.rest h.rests h.uses h.brings));
       })
 
   pub outlook_shows : (code : Code) (asks : List Ask) (stores : List Store) (left taken : ℕ) (held : QueueState) (later : List Entry) →
-      Outlook Ends (Await code ∷ asks) stores left taken (held.entries ++ later) → (held.entries ≡ []) ⊎ Shows code asks stores left held later
+      Outlook Ends Rests (Await code ∷ asks) stores left taken (held.entries ++ later) → (held.entries ≡ []) ⊎ Shows code asks stores left held later
   outlook_shows code asks stores left taken held later h =
       shows_in code asks stores left held later held.entries refl (outlook_awaits code asks stores left taken (held.entries ++ later) h)
 
   -- ---- once all of the field is there
 
   -- the queue is ready where bytes are asked of it
-  pub outlook_wakes : (d : Demand) (asks : List Ask) (stores : List Store) (left taken : ℕ) (ahead : List Entry) → 0 < d.rest → Outlook Ends (ask_of d ∷ asks) stores left taken ahead →
+  pub outlook_wakes : (d : Demand) (asks : List Ask) (stores : List Store) (left taken : ℕ) (ahead : List Entry) → 0 < d.rest → Outlook Ends Rests (ask_of d ∷ asks) stores left taken ahead →
       has_waking ahead ≡ true
   outlook_wakes d asks stores left taken ahead some h =
-      let f = front_of Ends d.needs_sol d.rest d.address asks stores left taken ahead some h in
+      let f = front_of Ends Rests d.needs_sol d.rest d.address asks stores left taken ahead some h in
       ap has_waking f.order ∙ list_any-append (λ entry. wakes (kind_of entry.status)) (f.entry ∷ f.half) (f.entries ++ f.rest)
       ∙ or_left (has_waking (f.entry ∷ f.half)) (has_waking (f.entries ++ f.rest)) (part-waking taken f.line f.entry f.half f.part)

@@ -19,6 +19,7 @@ use Rattle.machine_model.specs.Turns.{counted, jumped, fetched, worked, turn_if,
 use Rattle.machine_model.specs.Steps.{Turn}
 use Rattle.field_law.specs.Sections.{Section, IsUsedUp, IsPlain, Holds, HoldsFrom, words_in, closing_at, is_stored}
 use Rattle.field_law.specs.Arrivals.{is_idle, is_signal}
+use Rattle.field_law.proofs.Served.{AnyRest}
 use Rattle.field_law.proofs.Asked.{outlook_at_end}
 use Rattle.field_law.proofs.Fetching.{idle-Fetches}
 use Rattle.field_law.proofs.InSection.{StandsIn, Settling, IsInSection, FetchesIn}
@@ -81,11 +82,11 @@ module _ (s : Section) (given : Type 0) (chunks : List Chunk) (final : ℕ → �
             λ known address.
             (h.comes known).settled address
             (λ q.
-            ap (is_stored address) (outlook_at_end IsUsedUp (h.stores q) (h.left q) (queue_state q m.queues).taken ((queue_state q m.queues).entries ++ later q) (h.outlook q)));
+            ap (is_stored address) (outlook_at_end IsUsedUp AnyRest (h.stores q) (h.left q) (queue_state q m.queues).taken ((queue_state q m.queues).entries ++ later q) (h.outlook q)));
       }
 
   pub signal-Closes : (bound : ℕ) (m : State) → IsInSection s given chunks final later bound m → Holds s m.program → is_signal s m Turn ≡ true → Closes m
   signal-Closes bound m h held signals =
       let signal = signal-Signals s m signals in
-      let f = idle-Fetches IsUsedUp (StandsIn s) (Settling given chunks final) later bound m signal.idle h in
+      let f = idle-Fetches IsUsedUp AnyRest (StandsIn s) (Settling given chunks final) later bound m signal.idle h in
       closes bound f.0 m f.1 held signal

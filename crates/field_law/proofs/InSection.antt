@@ -15,6 +15,7 @@ use Rattle.machine_model.specs.Turns.{Store, fetched, is_done, lowest_served, ra
 use Rattle.machine_model.specs.Steps.{Turn}
 use Rattle.field_law.specs.Sections.{Section, IsUsedUp, Holds, HoldsFrom, words_in, closing_at}
 use Rattle.field_law.specs.Arrivals.{is_idle, is_signal}
+use Rattle.field_law.proofs.Served.{AnyRest}
 use Rattle.field_law.proofs.Painting.{Settles, settles_made}
 use Rattle.field_law.proofs.Within.{IsWithin, IsMade}
 use Rattle.field_law.proofs.Running.{Turned, serves-Turned, retires-Turned}
@@ -25,6 +26,10 @@ pub record StandsIn (s : Section) (pc : ℕ) (body : List Instr) : Type 0 where
   pub holds : (program : RiscProgram) → Holds s program → HoldsFrom program pc body s.closing s.target
   pub there : pc + 4 * words_in body ≡ closing_at s
 
+-- behind its opening all of its body is left
+pub begins_in : (s : Section) → StandsIn s s.at s.body
+begins_in s = record { holds = λ program held. held; there = refl }
+
 -- `given` is what is known of the stores, if anything is
 abbrev pub Settling : Type 0 → List Chunk → (ℕ → ℕ) → List Block → (Queue → List Store) → Type 0
 Settling given chunks final memory stores = given → Settles chunks final memory stores
@@ -34,22 +39,22 @@ settling_made given chunks final memory stores q made rest split settling = λ k
 
 module _ (s : Section) (given : Type 0) (chunks : List Chunk) (final : ℕ → ℕ) (later : Queue → List Entry) where
   abbrev pub IsInSection : ℕ → State → Type 0
-  IsInSection bound m = IsWithin IsUsedUp (StandsIn s) (Settling given chunks final) later bound m
+  IsInSection bound m = IsWithin IsUsedUp AnyRest (StandsIn s) (Settling given chunks final) later bound m
 
   abbrev pub TurnedIn : ℕ → ℕ → State → Type 0
-  TurnedIn bound interrupts m = Turned IsUsedUp (StandsIn s) (Settling given chunks final) later bound interrupts m
+  TurnedIn bound interrupts m = Turned IsUsedUp AnyRest (StandsIn s) (Settling given chunks final) later bound interrupts m
 
   abbrev pub FetchesIn : ℕ → List Instr → State → Type 0
-  FetchesIn bound body m = Fetches IsUsedUp (StandsIn s) (Settling given chunks final) later bound body m
+  FetchesIn bound body m = Fetches IsUsedUp AnyRest (StandsIn s) (Settling given chunks final) later bound body m
 
   -- ---- a data instruction runs
 
   pub ran-TurnedIn : (bound : ℕ) (instr : Instr) (ds : Demands) (m : State) (done : Bool) → 0 < m.trigger → m.job ≡ Running instr ds → IsInSection bound m → is_done ds ≡ done →
       TurnedIn bound m.interrupts (ran done instr ds m)
   ran-TurnedIn bound instr ds m true triggered j h done =
-      retires-Turned IsUsedUp (StandsIn s) (StandsIn s) (Settling given chunks final) later bound instr ds m j h (λ body stands. stands) done
+      retires-Turned IsUsedUp AnyRest (StandsIn s) (StandsIn s) (Settling given chunks final) later bound instr ds m j h (λ body stands. stands) done
   ran-TurnedIn bound instr ds m false triggered j h undone =
-      serves-Turned IsUsedUp (StandsIn s) (Settling given chunks final) later (settling_made given chunks final) bound instr ds m triggered j h (lowest_served ds m) refl undone
+      serves-Turned IsUsedUp AnyRest (StandsIn s) (Settling given chunks final) later (settling_made given chunks final) bound instr ds m triggered j h (lowest_served ds m) refl undone
 
   -- ---- an instruction is fetched
 
@@ -65,10 +70,10 @@ module _ (s : Section) (given : Type 0) (chunks : List Chunk) (final : ℕ → �
       let stands = h.stands.holds m.program held in
       let there = h.stands.there in
       subst (λ (reading : Reading). TurnedIn bound m.interrupts (fetched reading m)) (sym stands.0)
-      (executes-Turned IsUsedUp (StandsIn s) (Settling given chunks final) later bound instr rest m h
+      (executes-Turned IsUsedUp AnyRest (StandsIn s) (Settling given chunks final) later (StandsIn s) bound instr rest m h
       (record { holds = λ program held. (h.stands.holds program held).3; there = omega arith }) stands.1 stands.2)
 
   pub fetched-TurnedIn : (bound : ℕ) (m : State) → m.job ≡ Idle → IsInSection bound m → Holds s m.program → is_signal s m Turn ≡ false →
       TurnedIn bound m.interrupts (fetched (fetch m.program m.pc) m)
   fetched-TurnedIn bound m j h held silent =
-      let f = idle-Fetches IsUsedUp (StandsIn s) (Settling given chunks final) later bound m j h in fetches bound f.0 m f.1 held silent
+      let f = idle-Fetches IsUsedUp AnyRest (StandsIn s) (Settling given chunks final) later bound m j h in fetches bound f.0 m f.1 held silent

@@ -29,6 +29,8 @@ use Rattle.field_law.proofs.Opening.{IsReached}
 use Rattle.field_law.proofs.Turns.{turn-Reaches}
 use Rattle.field_law.proofs.Runs.{Ran, runs, counted_runs}
 use Rattle.field_law.proofs.Closing.{signal-Signals, Closes, signal-Closes}
+use Rattle.field_law.proofs.InSection.{begins_in, StandsIn, Settling}
+use Rattle.field_law.proofs.Served.{AnyRest}
 
 -- ---- lists of steps
 
@@ -57,7 +59,7 @@ module _ (s : Section) (field : Queue → List Token) (m : State) (steps : List 
   first_bound = 5 * suc (length s.body) + 1 + over_queues (entries_of r.arrives.before r.arrives.entries)
 
   starts : (later rest : Queue → List Entry) → ((q : Queue) → (queue_state q m.queues).entries ++ later q ≡ r.arrives.before q ++ (r.arrives.entries q ++ rest q)) →
-      IsReached s field r.uses given chunks final later first_bound m
+      IsReached s field r.uses AnyRest (StandsIn s) (Settling given chunks final) (begins_in s) later first_bound m
   starts later rest order =
       let fits : JobFits m.skipping m.target (Waiting s.opening true s.code) = subst (λ (job : Job). JobFits m.skipping m.target job) r.arrives.waits r.orderly.job in
       inl (record {
@@ -68,10 +70,11 @@ module _ (s : Section) (field : Queue → List Token) (m : State) (steps : List 
         before = r.arrives.before;
         entries = r.arrives.entries;
         rest = rest;
+        rests = λ q. tt;
         order = order;
         unmarked = r.arrives.unmarked;
         brings = r.arrives.brought;
-        painted = painted;
+        comes = painted;
         bounded = omega arith;
       })
 
@@ -99,7 +102,7 @@ module _ (s : Section) (field : Queue → List Token) (m : State) (early late : 
   turned : run_in m (early ++ (program, Turn) ∷ []) ≡ turn before
   turned = run_in-append m early ((program, Turn) ∷ [])
 
-  closes_by : (now : State) (bound : ℕ) → IsReached s field r.uses given chunks final seen bound now → Holds s now.program → is_signal s now Turn ≡ true →
+  closes_by : (now : State) (bound : ℕ) → IsReached s field r.uses AnyRest (StandsIn s) (Settling given chunks final) (begins_in s) seen bound now → Holds s now.program → is_signal s now Turn ≡ true →
       Closes s given chunks final seen now
   closes_by now bound (inl opening) held signal =
       let idle = (signal-Signals s now signal).idle in

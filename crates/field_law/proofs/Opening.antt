@@ -1,4 +1,5 @@
--- Turns of the machine while a section's opening waits for its field.
+-- Turns of the machine while an opening waits for its field. Where the machine stands behind the opening, what its stores
+-- must come to and what may come after the field are for the user to say.
 use Rattle.std.proofs.Common.{◌≡◌, ℕ, suc, ◌+◌, ◌*◌, ◌<◌, ◌≤◌, Bool, true, false, ◌==◌, List, [], ◌∷◌, ◌++◌, length, Option, Some, None, refl, sym, ap, subst, ◌∙◌, arith, ◌⊎◌, inl, inr, eqb-true, length-append}
 use Rattle.std.proofs.lemmas.Bool.{eqb-false}
 use Rattle.risc_word.specs.declared.Code.{Code}
@@ -9,28 +10,27 @@ use Rattle.fifo_model.specs.declared.Queue.TheVariants.{One, Two, Three}
 use Rattle.fifo_model.specs.Queues.{QueueState, Queues, queue_state, removed, front_code, IsFifo}
 use Rattle.irq_status.specs.Register.{fdsr, has}
 use Rattle.irq_status.proofs.Laws.{fdsr-applied}
-use Rattle.page_table.specs.Grants.{Chunk}
 use Rattle.page_table.specs.Blocks.{Block}
 use Rattle.machine_model.specs.declared.Job.{Job}
 use Rattle.machine_model.specs.declared.Job.TheVariants.{Waiting}
 use Rattle.machine_model.specs.declared.Skipping.{Skipping}
 use Rattle.machine_model.specs.declared.Skipping.TheVariants.{Nothing}
 use Rattle.machine_model.specs.States.{State}
-use Rattle.machine_model.specs.Turns.{is_stray, lowest_stray, code_if, common_code, dropped, met, code_seen, stray_seen, waited}
+use Rattle.machine_model.specs.Turns.{is_stray, lowest_stray, code_if, common_code, dropped, met, code_seen, stray_seen, waited, Store}
 use Rattle.field_law.specs.Fields.{Token, Mark, Brings}
-use Rattle.field_law.specs.Sections.{Section, HoldsFrom, Uses, IsUsedUp, asks, section_stores}
+use Rattle.field_law.specs.Sections.{Section, Uses, IsUsedUp, asks, section_stores}
 use Rattle.field_law.specs.Arrivals.{over_queues}
 use Rattle.field_law.proofs.Changed.{changed, each_queue}
-use Rattle.field_law.proofs.Painting.{Settles}
 use Rattle.field_law.proofs.Served.{Outlook}
 use Rattle.field_law.proofs.Asked.{outlook_at_start}
-use Rattle.field_law.proofs.InSection.{IsInSection}
 use Rattle.field_law.proofs.Running.{lowest_some, lowest_none}
 use Rattle.field_law.proofs.Waiting.{each_removed}
 use Rattle.field_law.proofs.Before.{IsUnmarked, stray-HasFront, code-HasFront, held_code, same_code, Common, code-Common, Dropped, drops, Opened, opens}
+use Rattle.risc_word.specs.declared.Instr.{Instr}
+use Rattle.field_law.proofs.Within.{IsWithin}
 
 -- what is there before the field, the field, and what comes after it
-pub record Opening (s : Section) (field : Queue → List Token) (given : Type 0) (chunks : List Chunk) (final : ℕ → ℕ) (later : Queue → List Entry) (bound : ℕ)
+pub record Opening (s : Section) (field : Queue → List Token) (Rests : List Entry → Type 0) (Comes : List Block → (Queue → List Store) → Type 0) (later : Queue → List Entry) (bound : ℕ)
     (risc_on : Bool) (pc : ℕ) (skipping : Skipping) (job : Job) (queues : Queues) (memory : List Block) : Type 0 where
   pub on : risc_on ≡ true
   pub unskipped : skipping ≡ Nothing
@@ -39,10 +39,11 @@ pub record Opening (s : Section) (field : Queue → List Token) (given : Type 0)
   pub before : Queue → List Entry
   pub entries : Queue → List Entry
   pub rest : Queue → List Entry
+  pub rests : (q : Queue) → Rests (rest q)
   pub order : (q : Queue) → (queue_state q queues).entries ++ later q ≡ before q ++ (entries q ++ rest q)
   pub unmarked : (q : Queue) → IsUnmarked s.code (before q)
   pub brings : (q : Queue) → Brings (Mark s.code ∷ field q) (entries q)
-  pub painted : given → Settles chunks final memory (section_stores s field)
+  pub comes : Comes memory (section_stores s field)
   pub bounded : 5 * suc (length s.body) + 1 + over_queues (λ q. length (before q) + length (entries q)) ≤ bound
 
 less_before : (q : Queue) (new : List Entry) (before entries : Queue → List Entry) → length (before q) ≡ suc (length new) →
@@ -67,12 +68,13 @@ some_code (Some one) None three a b c ea eb ec h = cc
 some_code (Some one) (Some two) None a b c ea eb ec h = cc
 some_code (Some one) (Some two) (Some three) a b c ea eb ec h = cc
 
-module _ (s : Section) (field : Queue → List Token) (uses : Uses s field) (given : Type 0) (chunks : List Chunk) (final : ℕ → ℕ) (later : Queue → List Entry) where
+module _ (s : Section) (field : Queue → List Token) (uses : Uses s field) (Rests : List Entry → Type 0) (Stands : ℕ → List Instr → Type 0) (Comes : List Block → (Queue → List Store) → Type 0)
+    (begins : Stands s.at s.body) (later : Queue → List Entry) where
   abbrev pub IsOpening : ℕ → State → Type 0
-  IsOpening bound m = Opening s field given chunks final later bound m.risc_on m.pc m.skipping m.job m.queues m.memory
+  IsOpening bound m = Opening s field Rests Comes later bound m.risc_on m.pc m.skipping m.job m.queues m.memory
 
   abbrev pub IsReached : ℕ → State → Type 0
-  IsReached bound m = IsOpening bound m ⊎ IsInSection s given chunks final later bound m
+  IsReached bound m = IsOpening bound m ⊎ IsWithin IsUsedUp Rests Stands Comes later bound m
 
   -- what a turn leaves: the opening or the section, by less once all entries are there, and FDSR as it was
   pub record Reaches (bound interrupts : ℕ) (m : State) : Type 0 where
@@ -103,11 +105,12 @@ module _ (s : Section) (field : Queue → List Token) (uses : Uses s field) (giv
                 before = changed q d.after h.before;
                 entries = h.entries;
                 rest = h.rest;
+                rests = h.rests;
                 order =
                     each_queue (λ p held before. held.entries ++ later p ≡ before ++ (h.entries p ++ h.rest p)) q (removed held) d.after m.queues h.before h.order d.order;
                 unmarked = each_queue (λ p held before. IsUnmarked s.code before) q (removed held) d.after m.queues h.before h.unmarked d.unmarked;
                 brings = h.brings;
-                painted = h.painted;
+                comes = h.comes;
                 bounded = omega arith;
               });
           most = omega arith;
@@ -133,10 +136,11 @@ module _ (s : Section) (field : Queue → List Token) (uses : Uses s field) (giv
                 before = λ q. (d q).after;
                 entries = h.entries;
                 rest = h.rest;
+                rests = h.rests;
                 order = each_removed (λ q held. held.entries ++ later q ≡ (d q).after ++ (h.entries q ++ h.rest q)) m.queues (λ q. (d q).order);
                 unmarked = λ q. (d q).unmarked;
                 brings = h.brings;
-                painted = h.painted;
+                comes = h.comes;
                 bounded = omega arith;
               });
           most = omega arith;
@@ -159,16 +163,16 @@ module _ (s : Section) (field : Queue → List Token) (uses : Uses s field) (giv
                 on = h.on;
                 unskipped = h.unskipped;
                 body = s.body;
-                stands = record { holds = λ program held. subst (λ (at : ℕ). HoldsFrom program at s.body s.closing s.target) (sym h.there) held; there = omega arith };
+                stands = subst (λ (at : ℕ). Stands at s.body) (sym h.there) begins;
                 plain = tt;
                 stores = section_stores s field;
                 left = λ q. length (o q).field;
                 outlook =
-                    each_removed (λ q held. Outlook IsUsedUp (asks q s.body) (section_stores s field q) (length (o q).field) held.taken (held.entries ++ later q)) m.queues
+                    each_removed (λ q held. Outlook IsUsedUp Rests (asks q s.body) (section_stores s field q) (length (o q).field) held.taken (held.entries ++ later q)) m.queues
                     (λ q.
-                    subst (λ (ahead : List Entry). Outlook IsUsedUp (asks q s.body) (section_stores s field q) (length (o q).field) 0 ahead) (sym (o q).order)
-                    (outlook_at_start IsUsedUp (asks q s.body) (field q) (o q).field (h.rest q) (uses q) (o q).brings));
-                comes = h.painted;
+                    subst (λ (ahead : List Entry). Outlook IsUsedUp Rests (asks q s.body) (section_stores s field q) (length (o q).field) 0 ahead) (sym (o q).order)
+                    (outlook_at_start IsUsedUp Rests (asks q s.body) (field q) (o q).field (h.rest q) (h.rests q) (uses q) (o q).brings));
+                comes = h.comes;
                 bounded = omega arith;
               });
           most = omega arith;

@@ -45,7 +45,7 @@ byte_at-stored_all chunks final memory (store ∷ stores) address same within ag
     ∙ sym (All-head (λ store. final store.address ≡ store.byte) store stores agree) ∙ ap final at)
     (cases_Bool (is_stored address stores))
 
-all_left : (P : Store → Type 0) (xs ys : List Store) → All P (xs ++ ys) → All P xs
+pub all_left : {X : Type 0} (P : X → Type 0) (xs ys : List X) → All P (xs ++ ys) → All P xs
 all_left P [] ys h = All-nil P
 all_left P (x ∷ xs) ys h = All-cons P x xs (All-head P x (xs ++ ys) h) (all_left P xs ys (All-tail P x (xs ++ ys) h))
 

@@ -119,11 +119,12 @@ module _ (P : Bool → ℕ → Skipping → Job → Queues → List Block → Ty
 
 -- ---- half way through instructions, after such a step
 
-module _ (Ends : List ℕ → List Token → Type 0) (Stands : ℕ → List Instr → Type 0) (Comes : List Block → (Queue → List Store) → Type 0) (later later' more : Queue → List Entry) where
+module _ (Ends : List ℕ → List Token → Type 0) (Rests : List Entry → Type 0) (Stands : ℕ → List Instr → Type 0) (Comes : List Block → (Queue → List Store) → Type 0) (later later' more : Queue → List Entry)
+    (grows : (q : Queue) (rest : List Entry) → Rests rest → Rests (rest ++ more q)) where
   module _ (queues queues' : Queues) (taken : (q : Queue) → (queue_state q queues').taken ≡ (queue_state q queues).taken)
       (ahead : (q : Queue) → (queue_state q queues').entries ++ later' q ≡ ((queue_state q queues).entries ++ later q) ++ more q)
       (bound : ℕ) (risc_on : Bool) (pc : ℕ) (skipping : Skipping) (job : Job) (memory : List Block) where
-    within_moved : Within Ends Stands Comes later bound risc_on pc skipping job queues memory → Within Ends Stands Comes later' bound risc_on pc skipping job queues' memory
+    pub within_moved : Within Ends Rests Stands Comes later bound risc_on pc skipping job queues memory → Within Ends Rests Stands Comes later' bound risc_on pc skipping job queues' memory
     within_moved h =
         record {
           on = h.on;
@@ -135,18 +136,18 @@ module _ (Ends : List ℕ → List Token → Type 0) (Stands : ℕ → List Inst
           left = h.left;
           outlook =
               λ q.
-              subst (λ (taken : ℕ). Outlook Ends (job_asks q job (asks q h.body)) (h.stores q) (h.left q) taken ((queue_state q queues').entries ++ later' q)) (sym (taken q))
-              (subst (λ (ahead : List Entry). Outlook Ends (job_asks q job (asks q h.body)) (h.stores q) (h.left q) (queue_state q queues).taken ahead) (sym (ahead q))
-              (outlook_with Ends (job_asks q job (asks q h.body)) (h.stores q) (h.left q) (queue_state q queues).taken ((queue_state q queues).entries ++ later q) (more q) (h.outlook q)));
+              subst (λ (taken : ℕ). Outlook Ends Rests (job_asks q job (asks q h.body)) (h.stores q) (h.left q) taken ((queue_state q queues').entries ++ later' q)) (sym (taken q))
+              (subst (λ (ahead : List Entry). Outlook Ends Rests (job_asks q job (asks q h.body)) (h.stores q) (h.left q) (queue_state q queues).taken ahead) (sym (ahead q))
+              (outlook_with Ends Rests (job_asks q job (asks q h.body)) (h.stores q) (h.left q) (queue_state q queues).taken ((queue_state q queues).entries ++ later q) (more q) (grows q) (h.outlook q)));
           comes = h.comes;
           bounded = h.bounded;
         }
 
   pub step-Within : (bound : ℕ) (st : Step) (m : State) → IsKept m st → turn_count st ≡ 0 →
       ((after : Queues) → Adds m.queues after (pushed_by st) → (q : Queue) → (queue_state q after).entries ++ later' q ≡ ((queue_state q m.queues).entries ++ later q) ++ more q) →
-      IsWithin Ends Stands Comes later bound m → IsWithin Ends Stands Comes later' bound (step st m)
+      IsWithin Ends Rests Stands Comes later bound m → IsWithin Ends Rests Stands Comes later' bound (step st m)
   step-Within bound st m kept no_turn ahead h =
-      step-IsSaid (Within Ends Stands Comes later' bound) st m kept no_turn
+      step-IsSaid (Within Ends Rests Stands Comes later' bound) st m kept no_turn
       (λ after adds. within_moved m.queues after adds.taken (ahead after adds) bound m.risc_on m.pc m.skipping m.job m.memory h)
 
 -- ---- what was to come, and more

@@ -16,13 +16,15 @@ use Rattle.field_law.proofs.Opening.{IsReached}
 use Rattle.field_law.proofs.Turns.{turn-Reaches}
 use Rattle.field_law.proofs.Pushes.{ahead_there, ahead_more}
 use Rattle.field_law.proofs.Moved.{step-IsReached}
+use Rattle.field_law.proofs.InSection.{begins_in, StandsIn, Settling}
+use Rattle.field_law.proofs.Served.{AnyRest}
 
 pub IsOrderly-after : (m : State) (met : Met) → IsStep met.1 → IsOrderly m → IsOrderly (after m met)
 IsOrderly-after m met made orderly = IsOrderly-step met.1 (with_program met.0 m) made (IsOrderly-with_program met.0 m orderly)
 
 module _ (s : Section) (field : Queue → List Token) (uses : Uses s field) (given : Type 0) (chunks : List Chunk) (final : ℕ → ℕ) where
   abbrev pub ReachedWith : (Queue → List Entry) → ℕ → State → Type 0
-  ReachedWith later bound m = IsReached s field uses given chunks final later bound m
+  ReachedWith later bound m = IsReached s field uses AnyRest (StandsIn s) (Settling given chunks final) (begins_in s) later bound m
 
   -- ---- one step, of which the pushes were to come
 
@@ -40,7 +42,7 @@ module _ (s : Section) (field : Queue → List Token) (uses : Uses s field) (giv
       record {
         next = bound;
         reached =
-            step-IsReached s field uses given chunks final (λ q. pushed_by st q ++ later q) later (λ q. []) bound st (with_program met.0 m) kept refl
+            step-IsReached s field uses AnyRest (StandsIn s) (Settling given chunks final) (begins_in s) (λ q. pushed_by st q ++ later q) later (λ q. []) (λ q rest any. any) bound st (with_program met.0 m) kept refl
             (λ after adds. ahead_there m.queues after (pushed_by st) later adds) h;
         most = omega arith;
       }
@@ -65,7 +67,7 @@ module _ (s : Section) (field : Queue → List Token) (uses : Uses s field) (giv
       record {
         next = bound;
         reached =
-            step-IsReached s field uses given chunks final none none (pushed_by st) bound st (with_program met.0 m) kept refl
+            step-IsReached s field uses AnyRest (StandsIn s) (Settling given chunks final) (begins_in s) none none (pushed_by st) (λ q rest any. any) bound st (with_program met.0 m) kept refl
             (λ after adds. ahead_more m.queues after (pushed_by st) adds) h;
         most = omega arith;
       }

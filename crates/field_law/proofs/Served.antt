@@ -96,15 +96,21 @@ stores_after n count taken address asks line tokens entry half le enough part so
 
 -- ---- one queue, up to what is to be left at the end
 
-module _ (Ends : List ℕ → List Token → Type 0) where
+-- any entries may come after the field
+abbrev pub AnyRest : List Entry → Type 0
+AnyRest rest = Unit {0}
+
+module _ (Ends : List ℕ → List Token → Type 0) (Rests : List Entry → Type 0) where
   -- what is asked of a queue from now on, the stores still to be made for it, and how many entries of the field are left;
-  -- of the entries that are there or still come, first the rest of the line under way, then the rest of the field
+  -- of the entries that are there or still come, first the rest of the line under way, then the rest of the field, then
+  -- such as may come after it
   pub record Outlook (asks : List Ask) (stores : List Store) (left taken : ℕ) (ahead : List Entry) : Type 0 where
     pub line : List ℕ
     pub tokens : List Token
     pub half : List Entry
     pub entries : List Entry
     pub rest : List Entry
+    pub rests : Rests rest
     pub order : ahead ≡ half ++ (entries ++ rest)
     pub under_way : UnderWay taken line half
     pub brings : Brings tokens entries
@@ -120,6 +126,7 @@ module _ (Ends : List ℕ → List Token → Type 0) where
     pub half : List Entry
     pub entries : List Entry
     pub rest : List Entry
+    pub rests : Rests rest
     pub order : ahead ≡ entry ∷ (half ++ (entries ++ rest))
     pub part : Part taken line entry half
     pub verdict : verdict_on (kind_of entry.status) sol taken count ≡ Take (min count (valid_bytes entry.status - taken))
@@ -131,15 +138,15 @@ module _ (Ends : List ℕ → List Token → Type 0) where
 
   -- a line under way goes on
   going_front : (count : ℕ) (address : Option ℕ) (asks : List Ask) (stores : List Store) (left taken : ℕ) (ahead : List Entry)
-      (line : List ℕ) (tokens : List Token) (half entries rest : List Entry) → 0 < count → ahead ≡ half ++ (entries ++ rest) → UnderWay taken line half →
+      (line : List ℕ) (tokens : List Token) (half entries rest : List Entry) → Rests rest → 0 < count → ahead ≡ half ++ (entries ++ rest) → UnderWay taken line half →
       Brings tokens entries → (count ≤ length line) × UsesTo Ends asks (drop count line) tokens →
       laid address (take count line) ++ planned asks (drop count line) tokens ≡ stores → length half + length entries ≡ left →
       Front false count address asks stores left taken ahead
-  going_front count address asks stores left taken ahead line tokens [] entries rest some order way brings uses stored counted =
+  going_front count address asks stores left taken ahead line tokens [] entries rest rests some order way brings uses stored counted =
       let none = ap (λ (bytes : List ℕ). length bytes) way.1 in
       let enough = uses.0 in
       absurd (omega arith)
-  going_front count address asks stores left taken ahead line tokens (entry ∷ half) entries rest some order way brings uses stored counted =
+  going_front count address asks stores left taken ahead line tokens (entry ∷ half) entries rest rests some order way brings uses stored counted =
       record {
         entry = entry;
         line = line;
@@ -147,6 +154,7 @@ module _ (Ends : List ℕ → List Token → Type 0) where
         half = half;
         entries = entries;
         rest = rest;
+        rests = rests;
         order = order;
         part = way.1;
         verdict = moving-verdict (kind_of entry.status) taken count way.0;
@@ -159,12 +167,12 @@ module _ (Ends : List ℕ → List Token → Type 0) where
 
   -- a line begins
   begin_front : (count : ℕ) (address : Option ℕ) (asks : List Ask) (stores : List Store) (left taken : ℕ) (ahead : List Entry)
-      (bytes : List ℕ) (tokens : List Token) (half entries line rest_entries rest : List Entry) → ahead ≡ half ++ (entries ++ rest) →
+      (bytes : List ℕ) (tokens : List Token) (half entries line rest_entries rest : List Entry) → Rests rest → ahead ≡ half ++ (entries ++ rest) →
       (taken ≡ 0) × (half ≡ []) → entries ≡ line ++ rest_entries → Started bytes line → Brings tokens rest_entries →
       (count ≤ length bytes) → UsesTo Ends asks (drop count bytes) tokens →
       laid address (take count bytes) ++ planned asks (drop count bytes) tokens ≡ stores → length half + length entries ≡ left →
       Front true count address asks stores left taken ahead
-  begin_front count address asks stores left taken ahead bytes tokens half entries line rest_entries rest order none split start brings enough uses stored counted =
+  begin_front count address asks stores left taken ahead bytes tokens half entries line rest_entries rest rests order none split start brings enough uses stored counted =
       record {
         entry = start.entry;
         line = bytes;
@@ -172,6 +180,7 @@ module _ (Ends : List ℕ → List Token → Type 0) where
         half = start.rest;
         entries = rest_entries;
         rest = rest;
+        rests = rests;
         order =
             order ∙ ap (λ (half : List Entry). half ++ (entries ++ rest)) none.1 ∙ ap (λ (entries : List Entry). entries ++ rest) split
             ∙ ap (λ (line : List Entry). line ++ rest_entries ++ rest) start.same ∙ ap (λ (rest : List Entry). start.entry ∷ rest) (append_assoc start.rest rest_entries rest);
@@ -192,7 +201,7 @@ module _ (Ends : List ℕ → List Token → Type 0) where
   pub front : (sol : Bool) (count : ℕ) (address : Option ℕ) (asks : List Ask) (stores : List Store) (left taken : ℕ) (ahead : List Entry) → 0 < count →
       Outlook (ask sol count address ∷ asks) stores left taken ahead → Front sol count address asks stores left taken ahead
   front false count address asks stores left taken ahead some h =
-      going_front count address asks stores left taken ahead h.line h.tokens h.half h.entries h.rest some h.order h.under_way h.brings h.uses h.stored h.counted
+      going_front count address asks stores left taken ahead h.line h.tokens h.half h.entries h.rest h.rests some h.order h.under_way h.brings h.uses h.stored h.counted
   front true count address asks stores left taken ahead some h =
       begins h.tokens h.brings h.uses h.stored
     where
@@ -201,7 +210,7 @@ module _ (Ends : List ℕ → List Token → Type 0) where
       begins [] brings uses stored = absurd uses
       begins (Mark code ∷ tokens) brings uses stored = absurd uses
       begins (Row bytes ∷ tokens) brings uses stored =
-          begin_front count address asks stores left taken ahead bytes tokens h.half h.entries brings.0 brings.1 h.rest h.order
+          begin_front count address asks stores left taken ahead bytes tokens h.half h.entries brings.0 brings.1 h.rest h.rests h.order
           (between taken h.line h.half h.under_way uses.0) brings.2 (line-Started bytes brings.0 brings.3) brings.4 uses.2 uses.3 stored h.counted
 
   -- ---- one application
@@ -219,11 +228,11 @@ module _ (Ends : List ℕ → List Token → Type 0) where
     pub less : entries_left + min (d.rest - count) 1 < left + min d.rest 1
 
   -- the outlook after so many bytes
-  after_taking : (n count : ℕ) (address : Option ℕ) (asks : List Ask) (line : List ℕ) (tokens : List Token) (left taken : ℕ) (ahead half entries rest : List Entry) →
+  after_taking : (n count : ℕ) (address : Option ℕ) (asks : List Ask) (line : List ℕ) (tokens : List Token) (left taken : ℕ) (ahead half entries rest : List Entry) → Rests rest →
       n ≤ count → count ≤ length line → UsesTo Ends asks (drop count line) tokens → Brings tokens entries → ahead ≡ half ++ (entries ++ rest) →
       UnderWay taken (drop n line) half → length half + length entries ≡ left →
       Outlook (GoOn (count - n) address ∷ asks) (planned (GoOn (count - n) address ∷ asks) (drop n line) tokens) left taken ahead
-  after_taking n count address asks line tokens left taken ahead half entries rest le enough uses brings order way counted =
+  after_taking n count address asks line tokens left taken ahead half entries rest rests le enough uses brings order way counted =
       let all : n + (count - n) ≡ count = omega arith in
       let same : drop (count - n) (drop n line) ≡ drop count line = drop-drop (count - n) n line ∙ ap (λ (k : ℕ). drop k line) all in
       record {
@@ -232,6 +241,7 @@ module _ (Ends : List ℕ → List Token → Type 0) where
         half = half;
         entries = entries;
         rest = rest;
+        rests = rests;
         order = order;
         under_way = way;
         brings = brings;
@@ -264,7 +274,7 @@ module _ (Ends : List ℕ → List Token → Type 0) where
         let there = f.part.some in
         let after : taken_from taking held ≡ removed held = queue_without taking held f.entry es first whole in
         let next =
-        after_taking taking d.rest (option_map (λ at. at + taking) d.address) asks f.line f.tokens (length f.half + length f.entries) 0 (drop 1 held.entries ++ later) f.half f.entries f.rest
+        after_taking taking d.rest (option_map (λ at. at + taking) d.address) asks f.line f.tokens (length f.half + length f.entries) 0 (drop 1 held.entries ++ later) f.half f.entries f.rest f.rests
         (omega arith) enough f.uses f.brings (ap (λ (entries : List Entry). drop 1 entries ++ later) first ∙ behind) (part-whole held.taken taking f.line f.entry f.half f.part whole) refl in
         record {
           count = taking;
@@ -287,7 +297,7 @@ module _ (Ends : List ℕ → List Token → Type 0) where
         let there = f.part.some in
         let after : taken_from taking held ≡ record held { taken = held.taken + taking } = queue_with taking held f.entry es first part in
         let next =
-        after_taking taking d.rest (option_map (λ at. at + taking) d.address) asks f.line f.tokens left (held.taken + taking) (held.entries ++ later) (f.entry ∷ f.half) f.entries f.rest
+        after_taking taking d.rest (option_map (λ at. at + taking) d.address) asks f.line f.tokens left (held.taken + taking) (held.entries ++ later) (f.entry ∷ f.half) f.entries f.rest f.rests
         (omega arith) enough f.uses f.brings f.order (part-some held.taken taking f.line f.entry f.half f.part (omega arith) (omega arith)) (omega arith) in
         record {
           count = taking;

@@ -93,16 +93,16 @@ nothing_ahead (other ∷ held) later rest entry a b e = cc
 
 -- ---- a turn
 
-module _ (Ends : List ℕ → List Token → Type 0) (Stands : ℕ → List Instr → Type 0) (Comes : List Block → (Queue → List Store) → Type 0) (later : Queue → List Entry) (bound : ℕ) (ctl : Ctl) (resync : Bool) (code : Code)
-    (m : State) (j : m.job ≡ Waiting ctl resync code) (h : IsWithin Ends Stands Comes later bound m) where
-  waits : WithinJob Ends Stands Comes later bound (Waiting ctl resync code) m
-  waits = subst (λ (job : Job). WithinJob Ends Stands Comes later bound job m) j h
+module _ (Ends : List ℕ → List Token → Type 0) (Rests : List Entry → Type 0) (Stands : ℕ → List Instr → Type 0) (Comes : List Block → (Queue → List Store) → Type 0) (later : Queue → List Entry) (bound : ℕ) (ctl : Ctl) (resync : Bool) (code : Code)
+    (m : State) (j : m.job ≡ Waiting ctl resync code) (h : IsWithin Ends Rests Stands Comes later bound m) where
+  waits : WithinJob Ends Rests Stands Comes later bound (Waiting ctl resync code) m
+  waits = subst (λ (job : Job). WithinJob Ends Rests Stands Comes later bound job m) j h
 
   abbrev ShowsAt : Queue → Type 0
-  ShowsAt q = Shows Ends code (asks q waits.body) (waits.stores q) (waits.left q) (queue_state q m.queues) (later q)
+  ShowsAt q = Shows Ends Rests code (asks q waits.body) (waits.stores q) (waits.left q) (queue_state q m.queues) (later q)
 
   shows : (q : Queue) → ((queue_state q m.queues).entries ≡ []) ⊎ ShowsAt q
-  shows q = outlook_shows Ends code (asks q waits.body) (waits.stores q) (waits.left q) (queue_state q m.queues).taken (queue_state q m.queues) (later q) (waits.outlook q)
+  shows q = outlook_shows Ends Rests code (asks q waits.body) (waits.stores q) (waits.left q) (queue_state q m.queues).taken (queue_state q m.queues) (later q) (waits.outlook q)
 
   not_stray : (q : Queue) → is_stray (queue_state q m.queues) ≡ false
   not_stray q = elim (shows q) [ inl none ↦ empty_no_stray (queue_state q m.queues).entries none | inr some ↦ code_no_stray (front (queue_state q m.queues)) code some.is_code ]
@@ -111,23 +111,23 @@ module _ (Ends : List ℕ → List Token → Type 0) (Stands : ℕ → List Inst
   goes_by : waited ctl resync code m ≡ code_seen (common_code m.queues) ctl resync code m
   goes_by = ap (λ (stray : Option Queue). stray_seen stray ctl resync code m) (none_stray m.queues not_stray)
 
-  stays : (q : Queue) → (queue_state q m.queues).entries ≡ [] → Turned Ends Stands Comes later bound m.interrupts (waited ctl resync code m)
+  stays : (q : Queue) → (queue_state q m.queues).entries ≡ [] → Turned Ends Rests Stands Comes later bound m.interrupts (waited ctl resync code m)
   stays q none =
       let still : waited ctl resync code m ≡ m = goes_by ∙ ap (λ (seen : Option Code). code_seen seen ctl resync code m) (without m.queues q none) in
-      subst (λ (m' : State). Turned Ends Stands Comes later bound m.interrupts m') (sym still)
+      subst (λ (m' : State). Turned Ends Rests Stands Comes later bound m.interrupts m') (sym still)
       (record {
         next = bound;
         within = h;
         most = omega arith;
         less = λ empty.
-            let awaits = outlook_awaits Ends code (asks q waits.body) (waits.stores q) (waits.left q) (queue_state q m.queues).taken ((queue_state q m.queues).entries ++ later q) (waits.outlook q) in
+            let awaits = outlook_awaits Ends Rests code (asks q waits.body) (waits.stores q) (waits.left q) (queue_state q m.queues).taken ((queue_state q m.queues).entries ++ later q) (waits.outlook q) in
             let order = awaits.order in
             let none' = empty q in
             absurd (nothing_ahead (queue_state q m.queues).entries (later q) (awaits.entries ++ awaits.rest) awaits.entry none none' order);
         quiet = refl;
       })
 
-  goes_on : ((q : Queue) → ShowsAt q) → Turned Ends Stands Comes later bound m.interrupts (waited ctl resync code m)
+  goes_on : ((q : Queue) → ShowsAt q) → Turned Ends Rests Stands Comes later bound m.interrupts (waited ctl resync code m)
   goes_on show =
       let bounded = waits.bounded in
       let one = (show One).less in
@@ -137,7 +137,7 @@ module _ (Ends : List ℕ → List Token → Type 0) (Stands : ℕ → List Inst
       all_with (front_code m.queues.one) (front_code m.queues.two) (front_code m.queues.three) code (show One).is_code (show Two).is_code (show Three).is_code in
       let goes : waited ctl resync code m ≡ met true ctl resync m =
       goes_by ∙ ap (λ (seen : Option Code). code_seen seen ctl resync code m) seen ∙ ap (λ (same : Bool). met same ctl resync m) (eq-eqb (code_number code) (code_number code) refl) in
-      subst (λ (m' : State). Turned Ends Stands Comes later bound m.interrupts m') (sym goes)
+      subst (λ (m' : State). Turned Ends Rests Stands Comes later bound m.interrupts m') (sym goes)
       (record {
         next = 5 * suc (length waits.body) + 0 + over_queues (λ q. (show q).entries_left);
         within =
@@ -150,7 +150,7 @@ module _ (Ends : List ℕ → List Token → Type 0) (Stands : ℕ → List Inst
               stores = waits.stores;
               left = λ q. (show q).entries_left;
               outlook =
-                  each_removed (λ q held. Outlook Ends (asks q waits.body) (waits.stores q) (show q).entries_left held.taken (held.entries ++ later q)) m.queues (λ q. (show q).next);
+                  each_removed (λ q held. Outlook Ends Rests (asks q waits.body) (waits.stores q) (show q).entries_left held.taken (held.entries ++ later q)) m.queues (λ q. (show q).next);
               comes = waits.comes;
               bounded = omega arith;
             };
@@ -159,7 +159,7 @@ module _ (Ends : List ℕ → List Token → Type 0) (Stands : ℕ → List Inst
         quiet = fdsr-applied ctl m.interrupts;
       })
 
-  pub waited-Turned : Turned Ends Stands Comes later bound m.interrupts (waited ctl resync code m)
+  pub waited-Turned : Turned Ends Rests Stands Comes later bound m.interrupts (waited ctl resync code m)
   waited-Turned =
       elim (shows One) [
         | inl none ↦ stays One none

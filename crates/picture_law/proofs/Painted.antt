@@ -33,7 +33,7 @@ pub record IsLastAt (P : Store → Type 0) (memory : List Block) (address : ℕ)
   pub there : store.address ≡ address
   pub byte : byte_at memory address ≡ store.byte
 
-last_at : (P : Store → Type 0) (chunks : List Chunk) (memory : List Block) (stores : List Store) (address : ℕ) → chunks_of memory ≡ chunks →
+pub last_at : (P : Store → Type 0) (chunks : List Chunk) (memory : List Block) (stores : List Store) (address : ℕ) → chunks_of memory ≡ chunks →
     All (λ store. granted chunks store.address ≡ true) stores → All P stores → is_stored address stores ≡ true → IsLastAt P (stored_all memory stores) address
 last_at P chunks memory [] address same within all some = cc
 last_at P chunks memory (store ∷ stores) address same within all some =
