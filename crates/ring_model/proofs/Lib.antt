@@ -4,3 +4,4 @@ pub mod Sound
 pub mod Writes
 pub mod Few
 pub mod Made
+pub mod Counting

@@ -32,18 +32,25 @@ module _ (r : Ring) (is : IsRing r) (program : RiscProgram) (grants : program.gr
   good_front = (good_sync program (memory_of r) grants true Fm1, good_round r is program grants)
 
 module _ (r : Ring) (is : IsRing r) where
+  -- the closing leads to a word
+  pub closing_word : is_word (ring_program r) (r.base + 8) ≡ true
+  closing_word = let long = ring_length r in a_word (ring_program r) 2 (omega arith)
+
+  pub ring_fine : Each (IsFineInstr (ring_program r)) (ring_instrs r)
+  ring_fine =
+      let program = ring_program r in
+      let last : IsFineInstr program (closing r) =
+      record { spelled = (refl, tt); some = omega arith; fine = λ target. cond-true (is_word program (program.base + 8)) _ _ closing_word }
+      in
+      each_append (IsFineInstr program) (opening ∷ round r) (closing r ∷ [])
+      (each_only (IsGoodInstr program) (IsFineInstr program) (opening ∷ round r) (λ i g. g.fine) (good_front r is program refl)) (last, tt)
+
   pub ring_sound : IsSound (ring_program r)
   ring_sound =
       let program = ring_program r in
       let instrs = ring_instrs r in
       let There = IsAt program.base instrs in
-      let long = ring_length r in
       let good = good_front r is program refl in
-      let word : is_word program (program.base + 8) ≡ true = a_word program 2 (omega arith) in
-      let last : IsFineInstr program (closing r) =
-      record { spelled = (refl, tt); some = omega arith; fine = λ target. cond-true (is_word program (program.base + 8)) _ _ word }
-      in
-      circle_sound program instrs refl
-      (each_append (IsFineInstr program) (opening ∷ round r) (closing r ∷ []) (each_only (IsGoodInstr program) (IsFineInstr program) (opening ∷ round r) (λ i g. g.fine) good) (last, tt))
+      circle_sound program instrs refl ring_fine
       (lead_plain There (opening ∷ round r) (closing r) [] (each_only (IsGoodInstr program) IsPlain (opening ∷ round r) (λ i g. g.plain) good) (second_at program.base (round r) (closing r)) tt)
       (record { before = []; instr = opening; after = round r ++ closing r ∷ []; split = refl; at = omega arith })

@@ -14,8 +14,9 @@ use Rattle.picture_model.specs.Programs.{instr_of, instr_by, words_of}
 use Rattle.picture_model.proofs.Each.{Each, each_append, each_map}
 use Rattle.ring_model.specs.Rings.{Ring, block_instrs, blocks_instrs, last_with, line_instrs, line_strip, lines_instrs, mark, memory_of, with_control}
 
+-- a WRITE of which no lane is off
 abbrev pub IsWrite : Instr → Type 0
-IsWrite (instr.Write ctl ends off count address) = Unit {0}
+IsWrite (instr.Write ctl ends off count address) = off ≡ 0
 IsWrite _ = ⊥
 
 write_words : (i : Instr) → IsWrite i → length (encoded i) ≡ 2
@@ -38,7 +39,7 @@ writes_words (i ∷ rest) are =
 -- other control bits leave a WRITE one, and no instruction is added
 
 with_write : (ctl : Ctl) (i : Instr) → IsWrite i → IsWrite (with_control ctl i)
-with_write ctl (instr.Write before ends off count address) is = tt
+with_write ctl (instr.Write before ends off count address) is = is
 with_write ctl (instr.Skip before ends count) is = is
 with_write ctl (instr.WriteC before ends off count) is = is
 with_write ctl (instr.Jump before target) is = is
@@ -70,7 +71,12 @@ plain_cuts memory strip s (suc fuel) (suc rest) at plain =
 
 pub write_piece : (r : Ring) (n : ℕ) (k : Cut) → IsPlainCut k → IsWrite (instr_of false (piece_of (memory_of r) (line_strip r n) k))
 write_piece r n k plain =
-    subst (λ clipped. IsWrite (instr_by false (kind_of clipped kind.Write) (piece_of (memory_of r) (line_strip r n) k))) (sym plain) tt
+    subst (λ clipped. IsWrite (instr_by false (kind_of clipped kind.Write) (piece_of (memory_of r) (line_strip r n) k))) (sym plain) refl
+
+pub line_plain : (r : Ring) (n : ℕ) → Each IsPlainCut (cuts_of (memory_of r) (line_strip r n) (line_strip r n).spans)
+line_plain r n =
+    each_append IsPlainCut (cuts_from (r.line_bytes - 0) (r.line_bytes - 0) (memory_of r) (line_strip r n) (record { from = 0; to = r.line_bytes; clipped = false }) 0) []
+    (plain_cuts (memory_of r) (line_strip r n) (record { from = 0; to = r.line_bytes; clipped = false }) (r.line_bytes - 0) (r.line_bytes - 0) 0 refl) tt
 
 pub line_writes : (r : Ring) (n : ℕ) → Each IsWrite (line_instrs r n)
 line_writes r n =
@@ -78,9 +84,7 @@ line_writes r n =
     let strip = line_strip r n in
     let cuts = cuts_of memory strip strip.spans in
     each_map (λ (p : Piece). IsWrite (instr_of false p)) IsWrite (instr_of false) (map (piece_of memory strip) cuts) (λ p write. write)
-    (each_map IsPlainCut (λ (p : Piece). IsWrite (instr_of false p)) (piece_of memory strip) cuts (write_piece r n)
-    (each_append IsPlainCut (cuts_from (r.line_bytes - 0) (r.line_bytes - 0) memory strip (record { from = 0; to = r.line_bytes; clipped = false }) 0) []
-    (plain_cuts memory strip (record { from = 0; to = r.line_bytes; clipped = false }) (r.line_bytes - 0) (r.line_bytes - 0) 0 refl) tt))
+    (each_map IsPlainCut (λ (p : Piece). IsWrite (instr_of false p)) (piece_of memory strip) cuts (write_piece r n) (line_plain r n))
 
 every : (instrs : ℕ → List Instr) (first count : ℕ) → ((n : ℕ) → Each IsWrite (instrs n)) → Each IsWrite (flat_map instrs (range_with_len first count))
 every instrs first zero each = tt
