@@ -1,0 +1,15 @@
+pub mod Walks
+pub mod Making
+pub mod Turns
+pub mod Runs
+pub mod Addresses
+pub mod Rounds
+pub mod Asks
+pub mod Stored
+pub mod Padding
+pub mod Ending
+pub mod Laws
+pub mod Shown
+pub mod Places
+pub mod Seeing
+pub mod Worked

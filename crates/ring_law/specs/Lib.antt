@@ -1,0 +1,4 @@
+pub mod RingRuns
+pub mod Laws
+pub mod Runs
+pub mod Worked
