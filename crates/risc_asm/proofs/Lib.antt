@@ -4,3 +4,4 @@ pub mod Making
 pub mod Judging
 pub mod Searching
 pub mod OneAnswer
+pub mod NoFields

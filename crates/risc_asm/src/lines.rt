@@ -1,31 +1,15 @@
 //! What is read from a whole line.
 
 ghost use Rattle.risc_asm.specs.Drafts.{LineFits};
-ghost use Rattle.risc_text.specs.Readers.{Reads, any_line, base_line, chunk_line, fields_of, fill_line, if_fits, line_at, page_line, word_field, words_line};
+ghost use Rattle.risc_text.specs.Readers.{Reads, any_line, base_line, chunk_line, fields_of, fill_line, line_at, named_line, page_line, word_field, words_line};
 ghost use Rattle.std.specs.Prelude.{◌≡◌, ◌≤◌, ◌<◌, IfSome, length};
 
 use super::readers::{
-    after, read_address, read_eight_digits, read_eight_places, read_jump, read_name, read_skip,
-    read_skip_123, read_sync, read_two_digits, read_write, read_write_1_s_23, read_write_123,
-    read_write_c,
+    after, read_address, read_eight_places, read_jump, read_name, read_skip, read_skip_123,
+    read_sync, read_two_digits, read_write, read_write_1_s_23, read_write_123, read_write_c,
 };
 use page_table::PAGE_SIZE;
 use risc_text::{Line, Name};
-use risc_word::Instr;
-
-// The line of an instruction, where its fields fit their bits.
-#[inline(always)]
-fn if_fits<'a>(instr: Instr, text: &'a [u8]) -> Option<(Line, &'a [u8])>
-    ensures value { Reads (λ x. (x.0, x.1.now)) result (if_fits (instr, text.now)) }
-    ensures rest { IfSome result (λ x. length x.1.now ≤ length text.now) }
-    ensures fits { IfSome result (λ x. LineFits x.0) }
-{
-    if instr.fits() {
-        Some((Line::Instr(instr), text))
-    } else {
-        None
-    }
-}
 
 #[inline(always)]
 #[tactic(auto, unfolding(risc_text::specs::Readers::word_field))]
@@ -56,10 +40,10 @@ fn read_fields(name: Name, text: &[u8]) -> Option<(Line, &[u8])>
         Name::Skip123 => read_skip_123(text)?,
         Name::Write1S23 => read_write_1_s_23(text)?,
     };
-    if_fits(instr, text)
+    Some((Line::Instr(instr), text))
 }
 
-// The line of an instruction or a word. Its address is told by the lines before it.
+// The line of an instruction or a word, after its address and a space.
 #[inline(always)]
 #[tactic(auto, unfolding(risc_text::specs::Readers::words_line))]
 fn read_words_line(text: &[u8]) -> Option<(Line, &[u8])>
@@ -67,8 +51,7 @@ fn read_words_line(text: &[u8]) -> Option<(Line, &[u8])>
     ensures rest { IfSome result (λ x. length x.1.now ≤ length text.now) }
     ensures fits { IfSome result (λ x. LineFits x.0) }
 {
-    let (_, text) = read_eight_digits(text)?;
-    let (name, text) = read_name(after(text, b" ")?)?;
+    let (name, text) = read_name(text)?;
     read_fields(name, text)
 }
 
@@ -117,11 +100,11 @@ fn read_fill_line(text: &[u8]) -> Option<(Line, &[u8])>
     Some((Line::Fill(fill), text))
 }
 
-// A line without its end, by its first word.
+// A line without its end that begins with a word.
 #[inline(always)]
-#[tactic(auto, unfolding(risc_text::specs::Readers::any_line))]
-fn read_any_line(text: &[u8]) -> Option<(Line, &[u8])>
-    ensures value { Reads (λ x. (x.0, x.1.now)) result (any_line text.now) }
+#[tactic(auto, unfolding(risc_text::specs::Readers::named_line))]
+fn read_named_line(text: &[u8]) -> Option<(Line, &[u8])>
+    ensures value { Reads (λ x. (x.0, x.1.now)) result (named_line text.now) }
     ensures rest { IfSome result (λ x. length x.1.now ≤ length text.now) }
     ensures fits { IfSome result (λ x. LineFits x.0) }
 {
@@ -131,10 +114,22 @@ fn read_any_line(text: &[u8]) -> Option<(Line, &[u8])>
         read_page_line(rest)
     } else if let Some(rest) = after(text, b"chunk") {
         read_chunk_line(rest)
-    } else if let Some(rest) = after(text, b"fill") {
-        read_fill_line(rest)
     } else {
-        read_words_line(text)
+        read_fill_line(after(text, b"fill")?)
+    }
+}
+
+// A line without its end. A space after eight bytes tells an address, which the lines before tell too.
+#[inline(always)]
+#[tactic(auto, unfolding(risc_text::specs::Readers::any_line))]
+fn read_any_line(text: &[u8]) -> Option<(Line, &[u8])>
+    ensures value { Reads (λ x. (x.0, x.1.now)) result (any_line text.now) }
+    ensures rest { IfSome result (λ x. length x.1.now ≤ length text.now) }
+    ensures fits { IfSome result (λ x. LineFits x.0) }
+{
+    match text {
+        [_, _, _, _, _, _, _, _, b' ', rest @ ..] => read_words_line(rest),
+        _ => read_named_line(text),
     }
 }
 

@@ -1,11 +1,23 @@
 //! What is read from the front of a line. A reader asks only for what tells lines apart: whether a text is
 //! a listing is told by listing again what was read.
 
-ghost use Rattle.risc_text.specs.Readers.{Reads, address, after, base_line, chunk_line, code, control, count, data_fields, decimal_digit, decimal_digits, digit, fields_of, fill_line, flag, hex_digit, hex_digits, if_fits, jump_fields, line_at, any_line, name_at, nibble, page_line, skip_123_fields, skip_fields, sync_fields, three_addresses, three_counts, word_field, words_line, write_123_fields, write_1_s_23_fields, write_c_fields, write_fields};
-ghost use Rattle.std.specs.Prelude.{◌≡◌, ◌+◌, ◌*◌, ◌≤◌, ◌<◌, ◌^◌, IfSome, length};
+ghost use Rattle.risc_text.specs.Readers.{Reads, address, after, base_line, chunk_line, code, control, count, data_fields, decimal_digit, decimal_digits, digit, fields_of, fill_line, flag, hex_digit, hex_digits, jump_fields, name_at, nibble, page_line, skip_123_fields, skip_fields, sync_fields, three_addresses, three_counts, skip_name, write_name, word_field, words_line, write_123_fields, write_1_s_23_fields, write_c_fields, write_fields};
+ghost use Rattle.risc_word.specs.Words.{control_fits, counts_fit, fits};
+ghost use Rattle.std.specs.Prelude.{◌≡◌, ◌+◌, ◌*◌, ◌≤◌, ◌<◌, ◌^◌, IfSome, IsTrue, length};
 
-use risc_text::{Line, Name};
+use risc_text::Name;
 use risc_word::{Code, Ctl, Ends, Instr};
+
+const NO_CONTROL: Ctl = Ctl {
+    irq: false,
+    set: 0,
+    reset: 0,
+};
+
+const NO_ENDS: Ends = Ends {
+    sol: false,
+    eol: false,
+};
 
 // The text after these bytes, where it begins with them.
 #[inline(always)]
@@ -16,29 +28,25 @@ pub fn after<'a>(text: &'a [u8], name: &[u8]) -> Option<&'a [u8]>
     text.strip_prefix(name)
 }
 
-// The value of a hexadecimal digit in lower case.
+// The number of a hexadecimal digit in lower case.
 #[inline(always)]
-fn digit(byte: u8) -> Option<u32>
+fn digit(byte: u8) -> u32
     ensures value { result ≡ digit byte }
-    ensures small { IfSome result (λ d. d < 16) }
+    ensures small { result < 16 }
 {
-    match byte {
-        b'0'..=b'9' => Some(u32::from(byte - b'0')),
-        b'a'..=b'f' => Some(u32::from(byte - b'a') + 10),
-        _ => None,
-    }
+    u32::from((byte % 16 + byte / 64 * 9) % 16)
 }
 
-// A number with a hexadecimal digit more.
+// The number of one digit, of two and of eight.
 #[inline(always)]
-fn push_hex(n: u32, text: &[u8]) -> Option<(u32, &[u8])>
-    requires { n < 2 ^ 28 }
-    ensures value { Reads (λ x. (x.0, x.1.now)) result (hex_digit n text.now) }
-    ensures small { IfSome result (λ x. x.0 ≤ 16 * n + 15) }
+#[tactic(auto, unfolding(risc_text::specs::Readers::hex_digits))]
+fn read_digit(text: &[u8]) -> Option<(u8, &[u8])>
+    ensures value { Reads (λ x. (x.0, x.1.now)) result (hex_digits 1 0 text.now) }
+    ensures small { IfSome result (λ x. x.0 < 16) }
     ensures rest { IfSome result (λ x. length x.1.now ≤ length text.now) }
 {
     match text {
-        [byte, rest @ ..] => Some((n * 16 + digit(*byte)?, rest)),
+        [byte, rest @ ..] => Some((digit(*byte) as u8, rest)),
         [] => None,
     }
 }
@@ -49,25 +57,32 @@ pub fn read_two_digits(text: &[u8]) -> Option<(u8, &[u8])>
     ensures value { Reads (λ x. (x.0, x.1.now)) result (hex_digits 2 0 text.now) }
     ensures rest { IfSome result (λ x. length x.1.now ≤ length text.now) }
 {
-    let (n, text) = push_hex(0, text)?;
-    let (n, text) = push_hex(n, text)?;
-    Some((n as u8, text))
+    match text {
+        [first, second, rest @ ..] => Some(((digit(*first) * 16 + digit(*second)) as u8, rest)),
+        _ => None,
+    }
+}
+
+#[inline(always)]
+fn four_digits(a: u8, b: u8, c: u8, d: u8) -> u32
+    ensures { result ≡ ((digit a * 16 + digit b) * 16 + digit c) * 16 + digit d }
+{
+    ((digit(a) * 16 + digit(b)) * 16 + digit(c)) * 16 + digit(d)
 }
 
 #[inline(always)]
 #[tactic(auto, unfolding(risc_text::specs::Readers::hex_digits))]
-pub fn read_eight_digits(text: &[u8]) -> Option<(u32, &[u8])>
+fn read_eight_digits(text: &[u8]) -> Option<(u32, &[u8])>
     ensures value { Reads (λ x. (x.0, x.1.now)) result (hex_digits 8 0 text.now) }
     ensures rest { IfSome result (λ x. length x.1.now ≤ length text.now) }
 {
-    let (n, text) = push_hex(0, text)?;
-    let (n, text) = push_hex(n, text)?;
-    let (n, text) = push_hex(n, text)?;
-    let (n, text) = push_hex(n, text)?;
-    let (n, text) = push_hex(n, text)?;
-    let (n, text) = push_hex(n, text)?;
-    let (n, text) = push_hex(n, text)?;
-    push_hex(n, text)
+    match text {
+        [a, b, c, d, e, f, g, h, rest @ ..] => {
+            let high = four_digits(*a, *b, *c, *d);
+            Some((high * 65536 + four_digits(*e, *f, *g, *h), rest))
+        }
+        _ => None,
+    }
 }
 
 // A number with a decimal digit more, where one stands here.
@@ -114,14 +129,16 @@ pub fn read_eight_places(text: &[u8]) -> (u32, &[u8])
     push_decimal(n, text)
 }
 
-// A count of bytes after a space.
+// A count of bytes after a space, which has twelve bits.
 #[inline(always)]
 #[tactic(auto, unfolding(risc_text::specs::Readers::count))]
 fn read_count(text: &[u8]) -> Option<(u16, &[u8])>
     ensures value { Reads (λ x. (x.0, x.1.now)) result (count text.now) }
+    ensures small { IfSome result (λ x. x.0 < 4096) }
     ensures rest { IfSome result (λ x. length x.1.now ≤ length text.now) }
 {
-    Some(read_four_places(after(text, b" ")?))
+    let (n, text) = read_four_places(after(text, b" ")?);
+    if n < 4096 { Some((n, text)) } else { None }
 }
 
 // An address after a space.
@@ -138,6 +155,7 @@ pub fn read_address(text: &[u8]) -> Option<(u32, &[u8])>
 #[tactic(auto, unfolding(risc_text::specs::Readers::three_counts))]
 fn read_counts(text: &[u8]) -> Option<([u16; 3], &[u8])>
     ensures value { Reads (λ x. (x.0, x.1.now)) result (three_counts text.now) }
+    ensures small { IfSome result (λ x. IsTrue (counts_fit x.0)) }
     ensures rest { IfSome result (λ x. length x.1.now ≤ length text.now) }
 {
     let (first, text) = read_count(text)?;
@@ -173,16 +191,14 @@ fn flag<'a>(text: &'a [u8], name: &[u8]) -> (bool, &'a [u8])
 
 // A field of four bits, which is 0 where it is missing.
 #[inline(always)]
-#[tactic(auto, unfolding(risc_text::specs::Readers::nibble, risc_text::specs::Readers::hex_digits))]
+#[tactic(auto, unfolding(risc_text::specs::Readers::nibble))]
 fn read_nibble<'a>(text: &'a [u8], name: &[u8]) -> Option<(u8, &'a [u8])>
     ensures value { Reads (λ x. (x.0, x.1.now)) result (nibble name.now text.now) }
+    ensures small { IfSome result (λ x. x.0 < 16) }
     ensures rest { IfSome result (λ x. length x.1.now ≤ length text.now) }
 {
     match after(text, name) {
-        Some(rest) => {
-            let (n, rest) = push_hex(0, rest)?;
-            Some((n as u8, rest))
-        }
+        Some(rest) => read_digit(rest),
         None => Some((0, text)),
     }
 }
@@ -191,6 +207,7 @@ fn read_nibble<'a>(text: &'a [u8], name: &[u8]) -> Option<(u8, &'a [u8])>
 #[tactic(auto, unfolding(risc_text::specs::Readers::control))]
 fn read_control(text: &[u8]) -> Option<(Ctl, &[u8])>
     ensures value { Reads (λ x. (x.0, x.1.now)) result (control text.now) }
+    ensures small { IfSome result (λ x. IsTrue (control_fits x.0)) }
     ensures rest { IfSome result (λ x. length x.1.now ≤ length text.now) }
 {
     let (irq, text) = flag(text, b" irq");
@@ -199,11 +216,12 @@ fn read_control(text: &[u8]) -> Option<(Ctl, &[u8])>
     Some((Ctl { irq, set, reset }, text))
 }
 
-// The fields of a data instruction before its counts.
 #[inline(always)]
 #[tactic(auto, unfolding(risc_text::specs::Readers::data_fields))]
-fn read_data(text: &[u8]) -> Option<((Ctl, Ends, u8), &[u8])>
+fn read_data_fields(text: &[u8]) -> Option<((Ctl, Ends, u8), &[u8])>
     ensures value { Reads (λ x. (x.0, x.1.now)) result (data_fields text.now) }
+    ensures control { IfSome result (λ x. IsTrue (control_fits x.0.0)) }
+    ensures lanes { IfSome result (λ x. x.0.2 < 16) }
     ensures rest { IfSome result (λ x. length x.1.now ≤ length text.now) }
 {
     let (sol, text) = flag(text, b" sol");
@@ -211,6 +229,21 @@ fn read_data(text: &[u8]) -> Option<((Ctl, Ends, u8), &[u8])>
     let (ctl, text) = read_control(text)?;
     let (off, text) = read_nibble(text, b" off=")?;
     Some(((ctl, Ends { sol, eol }, off), text))
+}
+
+// The fields of a data instruction before its counts. Often there are none.
+#[inline(always)]
+#[tactic(auto, using(crate::proofs::NoFields::no_fields))]
+fn read_data(text: &[u8]) -> Option<((Ctl, Ends, u8), &[u8])>
+    ensures value { Reads (λ x. (x.0, x.1.now)) result (data_fields text.now) }
+    ensures control { IfSome result (λ x. IsTrue (control_fits x.0.0)) }
+    ensures lanes { IfSome result (λ x. x.0.2 < 16) }
+    ensures rest { IfSome result (λ x. length x.1.now ≤ length text.now) }
+{
+    match text {
+        [b' ', b'0'..=b'9', ..] => Some(((NO_CONTROL, NO_ENDS, 0), text)),
+        _ => read_data_fields(text),
+    }
 }
 
 #[inline(always)]
@@ -230,6 +263,37 @@ fn read_code(text: &[u8]) -> Option<(Code, &[u8])>
     }
 }
 
+// The name that begins with `write`, and the one that begins with `skip`, after that word.
+#[inline(always)]
+#[tactic(auto, unfolding(risc_text::specs::Readers::write_name))]
+fn read_write_name(text: &[u8]) -> Option<(Name, &[u8])>
+    ensures value { Reads (λ x. (x.0, x.1.now)) result (write_name text.now) }
+    ensures rest { IfSome result (λ x. length x.1.now ≤ length text.now) }
+{
+    if let Some(rest) = after(text, b"123") {
+        Some((Name::Write123, rest))
+    } else if let Some(rest) = after(text, b"c") {
+        Some((Name::WriteC, rest))
+    } else if let Some(rest) = after(text, b"1s23") {
+        Some((Name::Write1S23, rest))
+    } else {
+        Some((Name::Write, text))
+    }
+}
+
+#[inline(always)]
+#[tactic(auto, unfolding(risc_text::specs::Readers::skip_name))]
+fn read_skip_name(text: &[u8]) -> Option<(Name, &[u8])>
+    ensures value { Reads (λ x. (x.0, x.1.now)) result (skip_name text.now) }
+    ensures rest { IfSome result (λ x. length x.1.now ≤ length text.now) }
+{
+    if let Some(rest) = after(text, b"123") {
+        Some((Name::Skip123, rest))
+    } else {
+        Some((Name::Skip, text))
+    }
+}
+
 // The name before the fields.
 #[inline(always)]
 #[tactic(auto, unfolding(risc_text::specs::Readers::name_at))]
@@ -237,24 +301,16 @@ pub fn read_name(text: &[u8]) -> Option<(Name, &[u8])>
     ensures value { Reads (λ x. (x.0, x.1.now)) result (name_at text.now) }
     ensures rest { IfSome result (λ x. length x.1.now ≤ length text.now) }
 {
-    if let Some(rest) = after(text, b"word") {
-        Some((Name::Word, rest))
-    } else if let Some(rest) = after(text, b"write123") {
-        Some((Name::Write123, rest))
-    } else if let Some(rest) = after(text, b"write1s23") {
-        Some((Name::Write1S23, rest))
-    } else if let Some(rest) = after(text, b"writec") {
-        Some((Name::WriteC, rest))
-    } else if let Some(rest) = after(text, b"write") {
-        Some((Name::Write, rest))
-    } else if let Some(rest) = after(text, b"skip123") {
-        Some((Name::Skip123, rest))
+    if let Some(rest) = after(text, b"write") {
+        read_write_name(rest)
     } else if let Some(rest) = after(text, b"skip") {
-        Some((Name::Skip, rest))
-    } else if let Some(rest) = after(text, b"jump") {
-        Some((Name::Jump, rest))
+        read_skip_name(rest)
+    } else if let Some(rest) = after(text, b"word") {
+        Some((Name::Word, rest))
+    } else if let Some(rest) = after(text, b"sync ") {
+        Some((Name::Sync, rest))
     } else {
-        Some((Name::Sync, after(text, b"sync ")?))
+        Some((Name::Jump, after(text, b"jump")?))
     }
 }
 
@@ -262,6 +318,7 @@ pub fn read_name(text: &[u8]) -> Option<(Name, &[u8])>
 #[tactic(auto, unfolding(risc_text::specs::Readers::write_fields))]
 pub fn read_write(text: &[u8]) -> Option<(Instr, &[u8])>
     ensures value { Reads (λ x. (x.0, x.1.now)) result (write_fields text.now) }
+    ensures fits { IfSome result (λ x. IsTrue (fits x.0)) }
     ensures rest { IfSome result (λ x. length x.1.now ≤ length text.now) }
 {
     let ((ctl, ends, off), text) = read_data(text)?;
@@ -283,6 +340,7 @@ pub fn read_write(text: &[u8]) -> Option<(Instr, &[u8])>
 #[tactic(auto, unfolding(risc_text::specs::Readers::skip_fields))]
 pub fn read_skip(text: &[u8]) -> Option<(Instr, &[u8])>
     ensures value { Reads (λ x. (x.0, x.1.now)) result (skip_fields text.now) }
+    ensures fits { IfSome result (λ x. IsTrue (fits x.0)) }
     ensures rest { IfSome result (λ x. length x.1.now ≤ length text.now) }
 {
     let ((ctl, ends, _), text) = read_data(text)?;
@@ -294,6 +352,7 @@ pub fn read_skip(text: &[u8]) -> Option<(Instr, &[u8])>
 #[tactic(auto, unfolding(risc_text::specs::Readers::write_c_fields))]
 pub fn read_write_c(text: &[u8]) -> Option<(Instr, &[u8])>
     ensures value { Reads (λ x. (x.0, x.1.now)) result (write_c_fields text.now) }
+    ensures fits { IfSome result (λ x. IsTrue (fits x.0)) }
     ensures rest { IfSome result (λ x. length x.1.now ≤ length text.now) }
 {
     let ((ctl, ends, off), text) = read_data(text)?;
@@ -313,6 +372,7 @@ pub fn read_write_c(text: &[u8]) -> Option<(Instr, &[u8])>
 #[tactic(auto, unfolding(risc_text::specs::Readers::jump_fields))]
 pub fn read_jump(text: &[u8]) -> Option<(Instr, &[u8])>
     ensures value { Reads (λ x. (x.0, x.1.now)) result (jump_fields text.now) }
+    ensures fits { IfSome result (λ x. IsTrue (fits x.0)) }
     ensures rest { IfSome result (λ x. length x.1.now ≤ length text.now) }
 {
     let (ctl, text) = read_control(text)?;
@@ -324,6 +384,7 @@ pub fn read_jump(text: &[u8]) -> Option<(Instr, &[u8])>
 #[tactic(auto, unfolding(risc_text::specs::Readers::sync_fields))]
 pub fn read_sync(text: &[u8]) -> Option<(Instr, &[u8])>
     ensures value { Reads (λ x. (x.0, x.1.now)) result (sync_fields text.now) }
+    ensures fits { IfSome result (λ x. IsTrue (fits x.0)) }
     ensures rest { IfSome result (λ x. length x.1.now ≤ length text.now) }
 {
     let (code, text) = read_code(text)?;
@@ -336,6 +397,7 @@ pub fn read_sync(text: &[u8]) -> Option<(Instr, &[u8])>
 #[tactic(auto, unfolding(risc_text::specs::Readers::write_123_fields))]
 pub fn read_write_123(text: &[u8]) -> Option<(Instr, &[u8])>
     ensures value { Reads (λ x. (x.0, x.1.now)) result (write_123_fields text.now) }
+    ensures fits { IfSome result (λ x. IsTrue (fits x.0)) }
     ensures rest { IfSome result (λ x. length x.1.now ≤ length text.now) }
 {
     let ((ctl, ends, off), text) = read_data(text)?;
@@ -357,6 +419,7 @@ pub fn read_write_123(text: &[u8]) -> Option<(Instr, &[u8])>
 #[tactic(auto, unfolding(risc_text::specs::Readers::skip_123_fields))]
 pub fn read_skip_123(text: &[u8]) -> Option<(Instr, &[u8])>
     ensures value { Reads (λ x. (x.0, x.1.now)) result (skip_123_fields text.now) }
+    ensures fits { IfSome result (λ x. IsTrue (fits x.0)) }
     ensures rest { IfSome result (λ x. length x.1.now ≤ length text.now) }
 {
     let ((ctl, ends, _), text) = read_data(text)?;
@@ -368,6 +431,7 @@ pub fn read_skip_123(text: &[u8]) -> Option<(Instr, &[u8])>
 #[tactic(auto, unfolding(risc_text::specs::Readers::write_1_s_23_fields))]
 pub fn read_write_1_s_23(text: &[u8]) -> Option<(Instr, &[u8])>
     ensures value { Reads (λ x. (x.0, x.1.now)) result (write_1_s_23_fields text.now) }
+    ensures fits { IfSome result (λ x. IsTrue (fits x.0)) }
     ensures rest { IfSome result (λ x. length x.1.now ≤ length text.now) }
 {
     let ((ctl, ends, off), text) = read_data(text)?;

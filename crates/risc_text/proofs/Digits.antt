@@ -5,9 +5,9 @@ use Rattle.std.proofs.lemmas.Bool.Decides.{nat_tests}
 use Rattle.std.proofs.lemmas.Fmt.{decimal_by_steps, hex_one_digit, hex_byte, length-decimal-le}
 use Rattle.risc_listing.specs.Lines.{address_text, hex}
 use Rattle.risc_listing.proofs.Hexadecimal.{address_digits}
-use Rattle.risc_text.specs.Readers.{digit, hex_digits, decimal_digits, is_decimal, ◌>>=◌}
+use Rattle.risc_text.specs.Readers.{digit, hex_digits, decimal_digits, is_decimal}
 
-pub digit-glyph : (d : ℕ) → d < 16 → digit (digit_glyph false d) ≡ Some d
+pub digit-glyph : (d : ℕ) → d < 16 → digit (digit_glyph false d) ≡ d
 digit-glyph d small = grind (arith, nat_tests)
 
 pub glyph-small : (d : ℕ) → d < 16 → digit_glyph false d < 103
@@ -19,7 +19,7 @@ glyph-large d small = grind (arith, nat_tests)
 pub hex_step : (k n d m : ℕ) (rest : List ℕ) → d < 16 → n * 16 + d ≡ m → hex_digits (suc k) n (digit_glyph false d ∷ rest) ≡ hex_digits k m rest
 unfolding hex_digits
 hex_step k n d m rest small is =
-    ap (λ found. found >>= (λ (e : ℕ). Some (n * 16 + e, rest)) >>= (λ (read : ℕ × List ℕ). hex_digits k read.0 read.1)) (digit-glyph d small) ∙ ap (λ value. hex_digits k value rest) is
+    ap (λ (e : ℕ). hex_digits k (n * 16 + e) rest) (digit-glyph d small) ∙ ap (λ value. hex_digits k value rest) is
 
 pub hex_end : (n : ℕ) (rest : List ℕ) → hex_digits 0 n rest ≡ Some (n, rest)
 unfolding hex_digits

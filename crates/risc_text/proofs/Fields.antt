@@ -1,13 +1,13 @@
 -- The fields of an instruction are read back.
 use Rattle.std.proofs.Common.{◌≡◌, ℕ, ◌/◌, ◌%◌, ◌^◌, ◌<◌, ◌≤◌, Bool, true, false, List, [], ◌∷◌, ◌++◌, Option, Some, refl, ap, ◌∙◌, arith, append_assoc}
-use Rattle.std.specs.Prelude.{◌==◌, codes, if◌then◌else◌}
+use Rattle.std.specs.Prelude.{◌==◌, codes, if◌then◌else◌, nat_lt}
 use Rattle.std.specs.Fmt.{decimal, digit_glyph, digits}
-use Rattle.std.proofs.lemmas.Bool.{eqb-true, ne_eqb}
+use Rattle.std.proofs.lemmas.Bool.{eqb-true, lt-ltb, ne_eqb}
 use Rattle.risc_word.specs.declared.Ctl.{Ctl}
 use Rattle.risc_word.specs.declared.Ends.{Ends}
 use Rattle.risc_listing.specs.Lines.{addresses_text, at_text, control_text, count_text, counts_text, data_text, flag_text, nibble_text}
 use Rattle.risc_listing.proofs.Hexadecimal.{address_digits}
-use Rattle.risc_text.specs.Readers.{after, address, begins, control, count, data_fields, flag, flag_of, is_decimal, nibble, nibble_of, three_addresses, three_counts, ◌>>=◌}
+use Rattle.risc_text.specs.Readers.{after, address, begins, control, count, data_fields, flag, flag_of, if_twelve_bits, is_decimal, nibble, nibble_of, three_addresses, three_counts, ◌>>=◌}
 use Rattle.risc_text.proofs.Digits.{address_back, glyph-small, nibble_back, number_back, starts_decimal}
 
 -- ---- fields that may be missing
@@ -129,7 +129,9 @@ data_back ctl ends off rest set_small reset_small off_small missing =
 
 pub count_back : (n byte : ℕ) (rest : List ℕ) → n < 4096 → is_decimal byte ≡ false → count (count_text n ++ byte ∷ rest) ≡ Some (n, byte ∷ rest)
 unfolding count
-count_back n byte rest small is = ap (λ (read : ℕ × List ℕ). Some read) (number_back 4 n byte rest (omega arith) (omega arith) (omega arith) is)
+count_back n byte rest small is =
+    let fits : nat_lt n 4096 ≡ true = lt-ltb n 4096 small in
+    ap if_twelve_bits (number_back 4 n byte rest (omega arith) (omega arith) (omega arith) is) ∙ (rw fits refl)
 
 pub at_back : (n : ℕ) (rest : List ℕ) → n < 2 ^ 32 → address (at_text n ++ rest) ≡ Some (n, rest)
 unfolding address
@@ -175,6 +177,11 @@ digit_is_no_field d rest low high =
     let r : (d == 114) ≡ false = ne_eqb d 114 (λ is. omega arith) in
     let o : (d == 111) ≡ false = ne_eqb d 111 (λ is. omega arith) in
     record { sol = rw s refl; eol = rw e refl; irq = rw i refl; set = rw s refl; reset = rw r refl; off = rw o refl }
+
+-- before a digit there are none
+pub none_back : (d : ℕ) (rest : List ℕ) → 48 ≤ d → d < 58 → data_fields (32 ∷ d ∷ rest) ≡ Some ((record { irq = false; set = 0; reset = 0 }, record { sol = false; eol = false }, 0), 32 ∷ d ∷ rest)
+none_back d rest low high =
+    data_back (record { irq = false; set = 0; reset = 0 }) (record { sol = false; eol = false }) 0 (32 ∷ d ∷ rest) (omega arith) (omega arith) (omega arith) (digit_is_no_field d rest low high)
 
 pub count_is_no_field : (n : ℕ) (rest : List ℕ) → n < 4096 → NoData (count_text n ++ rest)
 count_is_no_field n rest small =

@@ -179,7 +179,7 @@ trunk_is_read program made small =
 pub listing_is_read : (program : RiscProgram) (fill : ℕ) → IsListed program fill → drafted (listing program fill) ≡ Some (draft_of program (Some fill))
 listing_is_read program fill listed =
     let last = subst (λ (text : List ℕ). Goes (draft_of program None) text (draft_of program (Some fill)) []) (append-nil (fill_line fill))
-    (goes_line (draft_of program None) (fill_line fill) [] (lines.Fill fill) (omega arith) (fill_line_back fill [] listed.fill_small))
+    (goes_line (draft_of program None) (fill_line fill) [] (lines.Fill fill) (omega arith) (ap line_at (append-nil (fill_line fill)) ∙ fill_line_back fill listed.fill_small))
     in
     drafted_by (listing program fill) (draft_of program (Some fill))
     (goes_on blank (draft_of program None) (draft_of program (Some fill)) (listing program fill) (fill_line fill) [] (goes_trunk program (fill_line fill) listed.made listed.base_small) last)

@@ -2,6 +2,7 @@
 use Rattle.std.proofs.Common.{◌≡◌, ℕ, ◌/◌, ◌%◌, ◌^◌, ◌<◌, Bool, true, false, List, [], ◌∷◌, ◌++◌, Some, refl, sym, ap, ◌∙◌, arith, append_assoc}
 use Rattle.std.specs.Prelude.{◌==◌, ◌&&◌, nat_lt, codes, if◌then◌else◌, slice_index, IsTrue}
 use Rattle.std.specs.Fmt.{decimal, digit_glyph}
+use Rattle.std.proofs.lemmas.Fmt.{hex_byte}
 use Rattle.std.proofs.lemmas.Bool.{and_parts, ltb-true, eqb-true, ne_eqb}
 use Rattle.risc_word.specs.declared.Code.{Code}
 use Rattle.risc_word.specs.declared.Code.TheVariants.{Vre, Vro, Fm1, Fm3}
@@ -9,7 +10,7 @@ use Rattle.risc_word.specs.declared.Ctl.{Ctl}
 use Rattle.risc_word.specs.declared.Ends.{Ends}
 use Rattle.risc_word.specs.declared.Instr.{Instr}
 use Rattle.risc_word.specs.declared.Instr.TheVariants.{Write, Skip, WriteC, Jump, Sync, Write123, Skip123, Write1S23}
-use Rattle.risc_word.specs.Words.{IsInstr, control_fits, counts_fit, fits}
+use Rattle.risc_word.specs.Words.{IsInstr, control_fits, counts_fit}
 use Rattle.risc_word.proofs.FirstWord.{control_parts}
 use Rattle.risc_word.proofs.ReadBack.{counts_parts, line_parts, three_of}
 use Rattle.risc_listing.specs.Lines.{address_text, addresses_text, at_text, code_name, control_text, count_text, counts_text, data_text, flag_text, hex, instr_line, instr_text, line_end, word_line}
@@ -17,11 +18,11 @@ use Rattle.risc_text.specs.declared.Line.{Line}
 use Rattle.risc_text.specs.declared.Line.TheVariants as lines
 use Rattle.risc_text.specs.declared.Name.{Name}
 use Rattle.risc_text.specs.declared.Name.TheVariants as names
-use Rattle.risc_text.specs.Readers.{Read, after, address, any_line, base_line, begins, chunk_line, fill_line, decimal_digits, page_line, code, control, count, data_fields, fields_of, flag, if_fits, jump_fields, line_at, name_at, skip_123_fields, skip_fields, sync_fields, three_addresses, three_counts, word_field, words_line, write_123_fields, write_1_s_23_fields, write_c_fields, write_fields, ◌>>=◌}
+use Rattle.risc_text.specs.Readers.{Read, after, address, any_line, named_line, base_line, chunk_line, fill_line, decimal_digits, page_line, code, control, count, data_fields, fields_of, flag, as_line, jump_fields, line_at, name_at, skip_name, write_name, skip_123_fields, skip_fields, sync_fields, three_addresses, three_counts, word_field, words_line, write_123_fields, write_1_s_23_fields, write_c_fields, write_fields, ◌>>=◌}
 use Rattle.page_table.specs.Grants.{Chunk, is_page}
 use Rattle.risc_listing.specs.Listings as listings
 use Rattle.risc_listing.proofs.Hexadecimal.{address_digits}
-use Rattle.risc_text.proofs.Digits.{address_back, byte_back, glyph-small, number_back}
+use Rattle.risc_text.proofs.Digits.{byte_back, glyph-large, number_back}
 use Rattle.risc_text.proofs.Fields.{NoData, Spaced, address_is_no_field, addresses_back, addresses_grouped, addresses_then, at_back, control_back, control_grouped, control_then, count_back, count_is_no_field, counts_back, counts_grouped, counts_then, data_back, data_grouped, data_spaced, data_then, flag_back, control_not}
 
 abbrev Data : Type 0
@@ -115,27 +116,27 @@ sync_back ctl resync waits rest control_is =
 -- ---- the name before them
 
 name_write : (text : List ℕ) → Spaced text → name_at (codes "write" ++ text) ≡ Some (names.Write, text)
-unfolding name_at
+unfolding name_at write_name
 name_write text spaced = let is = spaced.is in rw is refl
 
 name_skip : (text : List ℕ) → Spaced text → name_at (codes "skip" ++ text) ≡ Some (names.Skip, text)
-unfolding name_at
+unfolding name_at skip_name
 name_skip text spaced = let is = spaced.is in rw is refl
 
 name_write_c : (text : List ℕ) → name_at (codes "writec" ++ text) ≡ Some (names.WriteC, text)
-unfolding name_at
+unfolding name_at write_name
 name_write_c text = refl
 
 name_write_123 : (text : List ℕ) → name_at (codes "write123" ++ text) ≡ Some (names.Write123, text)
-unfolding name_at
+unfolding name_at write_name
 name_write_123 text = refl
 
 name_write_1_s_23 : (text : List ℕ) → name_at (codes "write1s23" ++ text) ≡ Some (names.Write1S23, text)
-unfolding name_at
+unfolding name_at write_name
 name_write_1_s_23 text = refl
 
 name_skip_123 : (text : List ℕ) → name_at (codes "skip123" ++ text) ≡ Some (names.Skip123, text)
-unfolding name_at
+unfolding name_at skip_name
 name_skip_123 text = refl
 
 name_jump : (text : List ℕ) → name_at (codes "jump" ++ text) ≡ Some (names.Jump, text)
@@ -167,8 +168,8 @@ record IsRead (instr : Instr) (rest : List ℕ) : Type 0 where
   named : name_at (instr_text instr ++ 10 ∷ rest) ≡ Some (name, left)
   fields : fields_of name left ≡ Some (lines.Instr instr, 10 ∷ rest)
 
-fitting : (read : Read Instr) (instr : Instr) (rest : List ℕ) → read ≡ Some (instr, rest) → IsTrue (fits instr) → (read >>= if_fits) ≡ Some (lines.Instr instr, rest)
-fitting read instr rest is fitted = rw (is, fitted) refl
+as_instr : (read : Read Instr) (instr : Instr) (rest : List ℕ) → read ≡ Some (instr, rest) → (read >>= as_line) ≡ Some (lines.Instr instr, rest)
+as_instr read instr rest is = rw is refl
 
 grouped_two : (front one two rest : List ℕ) → (front ++ (one ++ two)) ++ rest ≡ front ++ (one ++ (two ++ rest))
 grouped_two front one two rest = append_assoc front (one ++ two) rest ∙ ap (λ (text : List ℕ). front ++ text) (append_assoc one two rest)
@@ -193,7 +194,7 @@ instr_read (Write ctl ends off n at) rest is small =
       name = names.Write;
       left = data_then ctl ends off left;
       named = ap (λ (text : List ℕ). name_at (codes "write" ++ text)) grouped ∙ name_write (data_then ctl ends off left) (data_spaced ctl ends off left (record { rest = _; is = refl }));
-      fields = fitting _ (Write ctl ends off n at) (10 ∷ rest) (write_back ctl ends off rest f.control f.lanes n at f.bytes small) is.0;
+      fields = as_instr _ (Write ctl ends off n at) (10 ∷ rest) (write_back ctl ends off rest f.control f.lanes n at f.bytes small);
     }
 instr_read (Skip ctl ends n) rest is small =
     let parts = and_parts (control_fits ctl) (nat_lt n 4096) is.0 in
@@ -203,7 +204,7 @@ instr_read (Skip ctl ends n) rest is small =
       name = names.Skip;
       left = data_then ctl ends 0 left;
       named = ap (λ (text : List ℕ). name_at (codes "skip" ++ text)) grouped ∙ name_skip (data_then ctl ends 0 left) (data_spaced ctl ends 0 left (record { rest = _; is = refl }));
-      fields = fitting _ (Skip ctl ends n) (10 ∷ rest) (skip_back ctl ends 0 rest parts.0 (omega arith) n (ltb-true n 4096 parts.1)) is.0;
+      fields = as_instr _ (Skip ctl ends n) (10 ∷ rest) (skip_back ctl ends 0 rest parts.0 (omega arith) n (ltb-true n 4096 parts.1));
     }
 instr_read (WriteC ctl ends off n) rest is small =
     let f = line_parts ctl off n is.0 in
@@ -213,7 +214,7 @@ instr_read (WriteC ctl ends off n) rest is small =
       name = names.WriteC;
       left = data_then ctl ends off left;
       named = ap (λ (text : List ℕ). name_at (codes "writec" ++ text)) grouped ∙ name_write_c (data_then ctl ends off left);
-      fields = fitting _ (WriteC ctl ends off n) (10 ∷ rest) (write_c_back ctl ends off rest f.control f.lanes n f.bytes) is.0;
+      fields = as_instr _ (WriteC ctl ends off n) (10 ∷ rest) (write_c_back ctl ends off rest f.control f.lanes n f.bytes);
     }
 instr_read (Jump ctl target) rest is small =
     let left = at_text target ++ 10 ∷ rest in
@@ -222,7 +223,7 @@ instr_read (Jump ctl target) rest is small =
       name = names.Jump;
       left = control_then ctl left;
       named = ap (λ (text : List ℕ). name_at (codes "jump" ++ text)) grouped ∙ name_jump (control_then ctl left);
-      fields = fitting _ (Jump ctl target) (10 ∷ rest) (jump_back ctl target rest is.0 small) is.0;
+      fields = as_instr _ (Jump ctl target) (10 ∷ rest) (jump_back ctl target rest is.0 small);
     }
 instr_read (Sync ctl resync waits) rest is small =
     let left = code_name waits ++ (flag_text (codes " resync") resync ++ control_then ctl (10 ∷ rest)) in
@@ -233,7 +234,7 @@ instr_read (Sync ctl resync waits) rest is small =
       name = names.Sync;
       left = left;
       named = ap (λ (text : List ℕ). name_at (codes "sync " ++ text)) grouped ∙ name_sync left;
-      fields = fitting _ (Sync ctl resync waits) (10 ∷ rest) (sync_back ctl resync waits rest is.0) is.0;
+      fields = as_instr _ (Sync ctl resync waits) (10 ∷ rest) (sync_back ctl resync waits rest is.0);
     }
 instr_read (Write123 ctl ends off counts addrs) rest is small =
     let f = fitted_parts ctl off counts is.0 in
@@ -250,13 +251,12 @@ instr_read (Write123 ctl ends off counts addrs) rest is small =
     ∙ ap (λ (text : List ℕ). data_text ctl ends off ++ text) (counts_grouped a b c (addresses_then p q r (10 ∷ rest)))
     ∙ data_grouped ctl ends off left
     in
-    let fitted : IsTrue (fits (Write123 ctl ends off (a ∷ b ∷ c ∷ []) (p ∷ q ∷ r ∷ []))) = rw (three.list_is) at is.0 in
     rw (three.list_is, at_list) (record {
       name = names.Write123;
       left = data_then ctl ends off left;
       named = ap (λ (text : List ℕ). name_at (codes "write123" ++ text)) grouped ∙ name_write_123 (data_then ctl ends off left);
-      fields = fitting _ (Write123 ctl ends off (a ∷ b ∷ c ∷ []) (p ∷ q ∷ r ∷ [])) (10 ∷ rest)
-          (write_123_back ctl ends off rest f.control f.lanes a b c each.first_small each.second_small each.third_small p q r fit.0 fit.1 fit.2) fitted;
+      fields = as_instr _ (Write123 ctl ends off (a ∷ b ∷ c ∷ []) (p ∷ q ∷ r ∷ [])) (10 ∷ rest)
+          (write_123_back ctl ends off rest f.control f.lanes a b c each.first_small each.second_small each.third_small p q r fit.0 fit.1 fit.2);
     })
 instr_read (Skip123 ctl ends counts) rest is small =
     let parts = and_parts (control_fits ctl) (counts_fit counts) is.0 in
@@ -268,13 +268,12 @@ instr_read (Skip123 ctl ends counts) rest is small =
     ∙ ap (λ (text : List ℕ). data_text ctl ends 0 ++ text) (counts_grouped a b c (10 ∷ rest))
     ∙ data_grouped ctl ends 0 left
     in
-    let fitted : IsTrue (fits (Skip123 ctl ends (a ∷ b ∷ c ∷ []))) = rw (three.list_is) at is.0 in
     rw (three.list_is) (record {
       name = names.Skip123;
       left = data_then ctl ends 0 left;
       named = ap (λ (text : List ℕ). name_at (codes "skip123" ++ text)) grouped ∙ name_skip_123 (data_then ctl ends 0 left);
-      fields = fitting _ (Skip123 ctl ends (a ∷ b ∷ c ∷ [])) (10 ∷ rest)
-          (skip_123_back ctl ends 0 rest parts.0 (omega arith) a b c each.first_small each.second_small each.third_small) fitted;
+      fields = as_instr _ (Skip123 ctl ends (a ∷ b ∷ c ∷ [])) (10 ∷ rest)
+          (skip_123_back ctl ends 0 rest parts.0 (omega arith) a b c each.first_small each.second_small each.third_small);
     })
 instr_read (Write1S23 ctl ends off counts at) rest is small =
     let f = fitted_parts ctl off counts is.0 in
@@ -286,62 +285,49 @@ instr_read (Write1S23 ctl ends off counts at) rest is small =
     ∙ ap (λ (text : List ℕ). data_text ctl ends off ++ text) (counts_grouped a b c (at_text at ++ 10 ∷ rest))
     ∙ data_grouped ctl ends off left
     in
-    let fitted : IsTrue (fits (Write1S23 ctl ends off (a ∷ b ∷ c ∷ []) at)) = rw (three.list_is) at is.0 in
     rw (three.list_is) (record {
       name = names.Write1S23;
       left = data_then ctl ends off left;
       named = ap (λ (text : List ℕ). name_at (codes "write1s23" ++ text)) grouped ∙ name_write_1_s_23 (data_then ctl ends off left);
-      fields = fitting _ (Write1S23 ctl ends off (a ∷ b ∷ c ∷ []) at) (10 ∷ rest)
-          (write_1_s_23_back ctl ends off rest f.control f.lanes a b c each.first_small each.second_small each.third_small at small) fitted;
+      fields = as_instr _ (Write1S23 ctl ends off (a ∷ b ∷ c ∷ []) at) (10 ∷ rest)
+          (write_1_s_23_back ctl ends off rest f.control f.lanes a b c each.first_small each.second_small each.third_small at small);
     })
 
 -- ---- whole lines
 
-record Digits (n : ℕ) (rest : List ℕ) : Type 0 where
-  base : begins (codes "base") (address_text n ++ rest) ≡ false
-  page : begins (codes "page") (address_text n ++ rest) ≡ false
-  chunk : begins (codes "chunk") (address_text n ++ rest) ≡ false
-  fill : begins (codes "fill") (address_text n ++ rest) ≡ false
+-- a line with no space after its eight bytes begins with a word
+named : (text : List ℕ) → (slice_index text 8 == 32) ≡ false → any_line text ≡ named_line text
+unfolding any_line
+named text is = rw is refl
 
-and_false : (x : Bool) → (x && false) ≡ false
-and_false true = refl
-and_false false = refl
+glyph-no-space : (n : ℕ) → (digit_glyph false (n % 16) == 32) ≡ false
+glyph-no-space n =
+    let large = glyph-large (n % 16) (omega arith) in ne_eqb (digit_glyph false (n % 16)) 32 (λ is. omega arith)
 
--- no word begins as an address does
-address_no_word : (n : ℕ) (rest : List ℕ) → n < 2 ^ 32 → Digits n rest
-address_no_word n rest small =
-    let first = digit_glyph false (n / 2 ^ 28 % 16) in
-    let second = digit_glyph false (n / 2 ^ 24 % 16) in
-    let third = digit_glyph false (n / 2 ^ 20 % 16) in
-    let low : first < 103 = glyph-small (n / 2 ^ 28 % 16) (omega arith) in
-    let lower : second < 103 = glyph-small (n / 2 ^ 24 % 16) (omega arith) in
-    let lowest : third < 103 = glyph-small (n / 2 ^ 20 % 16) (omega arith) in
-    let s : (third == 115) ≡ false = ne_eqb third 115 (λ is. omega arith) in
-    let p : (first == 112) ≡ false = ne_eqb first 112 (λ is. omega arith) in
-    let h : (second == 104) ≡ false = ne_eqb second 104 (λ is. omega arith) in
-    let i : (second == 105) ≡ false = ne_eqb second 105 (λ is. omega arith) in
-    record {
-      base = rw (address_digits n small, s, and_false (second == 97), and_false (first == 98)) refl;
-      page = rw (address_digits n small, p) refl;
-      chunk = rw (address_digits n small, h, and_false (first == 99)) refl;
-      fill = rw (address_digits n small, i, and_false (first == 102)) refl;
-    }
+-- the fourth digit of an address after five bytes, and the third after six
+fourth_is_no_space : (a b c d e n : ℕ) (rest : List ℕ) → n < 2 ^ 32 → (slice_index (a ∷ b ∷ c ∷ d ∷ e ∷ (address_text n ++ rest)) 8 == 32) ≡ false
+fourth_is_no_space a b c d e n rest small = rw (address_digits n small) (glyph-no-space (n / 2 ^ 16))
+
+third_is_no_space : (a b c d e f n : ℕ) (rest : List ℕ) → n < 2 ^ 32 → (slice_index (a ∷ b ∷ c ∷ d ∷ e ∷ f ∷ (address_text n ++ rest)) 8 == 32) ≡ false
+third_is_no_space a b c d e f n rest small = rw (address_digits n small) (glyph-no-space (n / 2 ^ 20))
 
 -- a line and its end
 ending : (text : List ℕ) (l : Line) (rest : List ℕ) → any_line text ≡ Some (l, 10 ∷ rest) → line_at text ≡ Some (l, rest)
 unfolding line_at
 ending text l rest is = ap (λ found. found >>= (λ (read : Line × List ℕ). after (codes "\n") read.1 >>= (λ (rest : List ℕ). Some (read.0, rest)))) is
 
+after_address : (at : ℕ) (text : List ℕ) → at < 2 ^ 32 → any_line (address_text at ++ 32 ∷ text) ≡ words_line text
+unfolding any_line
+after_address at text small = rw (address_digits at small) refl
+
 words_line_back : (at : ℕ) (text left : List ℕ) (name : Name) (l : Line) (rest : List ℕ) → at < 2 ^ 32 → name_at text ≡ Some (name, left) → fields_of name left ≡ Some (l, 10 ∷ rest) →
     line_at (address_text at ++ 32 ∷ text) ≡ Some (l, rest)
-unfolding any_line words_line
-words_line_back at text left name l rest small named fields =
-    let none = address_no_word at (32 ∷ text) small in
+unfolding words_line
+words_line_back at text left name l rest small is fields =
     ending (address_text at ++ 32 ∷ text) l rest (
-    rw (none.base, none.page, none.chunk, none.fill) (
-    ap (λ found. found >>= (λ (at : ℕ × List ℕ). after (codes " ") at.1 >>= (λ (rest : List ℕ). name_at rest >>= (λ (read : Name × List ℕ). fields_of read.0 read.1)))) (address_back at (32 ∷ text) small)
-    ∙ ap (λ found. found >>= (λ (read : Name × List ℕ). fields_of read.0 read.1)) named
-    ∙ fields))
+    after_address at text small
+    ∙ ap (λ found. found >>= (λ (read : Name × List ℕ). fields_of read.0 read.1)) is
+    ∙ fields)
 
 pub instr_line_back : (at : ℕ) (instr : Instr) (rest : List ℕ) → at < 2 ^ 32 → IsInstr instr → AddressesFit instr → line_at (instr_line at instr ++ rest) ≡ Some (lines.Instr instr, rest)
 instr_line_back at instr rest at_small is small =
@@ -360,21 +346,22 @@ word_line_back at word rest at_small small =
     ∙ words_line_back at (codes "word" ++ (at_text word ++ 10 ∷ rest)) (at_text word ++ 10 ∷ rest) names.Word (lines.Word word) rest at_small (name_word (at_text word ++ 10 ∷ rest)) (word_field_back word (10 ∷ rest) small)
 
 pub base_line_back : (base : ℕ) (rest : List ℕ) → base < 2 ^ 32 → line_at (listings.base_line base ++ rest) ≡ Some (lines.Base base, rest)
-unfolding any_line base_line
+unfolding named_line base_line
 base_line_back base rest small =
     ap line_at (ap (λ (text : List ℕ). codes "base " ++ text) (append_assoc (address_text base) line_end rest))
-    ∙ ending (codes "base" ++ (at_text base ++ 10 ∷ rest)) (lines.Base base) rest (ap (λ found. found >>= (λ (at : ℕ × List ℕ). Some (lines.Base at.0, at.1))) (at_back base (10 ∷ rest) small))
+    ∙ ending (codes "base" ++ (at_text base ++ 10 ∷ rest)) (lines.Base base) rest (named _ (fourth_is_no_space 98 97 115 101 32 base (10 ∷ rest) small) ∙ ap (λ found. found >>= (λ (at : ℕ × List ℕ). Some (lines.Base at.0, at.1))) (at_back base (10 ∷ rest) small))
 
 page_line_back : (at : ℕ) (rest : List ℕ) → at < 2 ^ 32 → line_at (codes "page" ++ (at_text at ++ 10 ∷ rest)) ≡ Some (lines.Chunk at 4096, rest)
-unfolding any_line page_line
+unfolding named_line page_line
 page_line_back at rest small =
-    ending (codes "page" ++ (at_text at ++ 10 ∷ rest)) (lines.Chunk at 4096) rest (ap (λ found. found >>= (λ (at : ℕ × List ℕ). Some (lines.Chunk at.0 4096, at.1))) (at_back at (10 ∷ rest) small))
+    ending (codes "page" ++ (at_text at ++ 10 ∷ rest)) (lines.Chunk at 4096) rest (named _ (fourth_is_no_space 112 97 103 101 32 at (10 ∷ rest) small) ∙ ap (λ found. found >>= (λ (at : ℕ × List ℕ). Some (lines.Chunk at.0 4096, at.1))) (at_back at (10 ∷ rest) small))
 
 long_line_back : (at len : ℕ) (rest : List ℕ) → at < 2 ^ 32 → len < 10 ^ 8 → line_at (codes "chunk" ++ (at_text at ++ (count_text len ++ 10 ∷ rest))) ≡ Some (lines.Chunk at len, rest)
-unfolding any_line chunk_line
+unfolding named_line chunk_line
 long_line_back at len rest small short =
     ending (codes "chunk" ++ (at_text at ++ (count_text len ++ 10 ∷ rest))) (lines.Chunk at len) rest (
-    ap (λ found. found >>= (λ (at : ℕ × List ℕ). after (codes " ") at.1 >>= (λ (rest : List ℕ). Some (lines.Chunk at.0 (decimal_digits 8 0 rest).0, (decimal_digits 8 0 rest).1)))) (at_back at (count_text len ++ 10 ∷ rest) small)
+    named _ (third_is_no_space 99 104 117 110 107 32 at (count_text len ++ 10 ∷ rest) small)
+    ∙ ap (λ found. found >>= (λ (at : ℕ × List ℕ). after (codes " ") at.1 >>= (λ (rest : List ℕ). Some (lines.Chunk at.0 (decimal_digits 8 0 rest).0, (decimal_digits 8 0 rest).1)))) (at_back at (count_text len ++ 10 ∷ rest) small)
     ∙ ap (λ (len : ℕ × List ℕ). Some (lines.Chunk at len.0, len.1)) (number_back 8 len 10 rest (omega arith) short (omega arith) refl))
 
 chunk_by : (test : Bool) (c : Chunk) (rest : List ℕ) → is_page c ≡ test → c.at < 2 ^ 32 → c.len < 10 ^ 8 →
@@ -391,8 +378,12 @@ chunk_by false c rest is small short =
 pub chunk_line_back : (c : Chunk) (rest : List ℕ) → c.at < 2 ^ 32 → c.len < 10 ^ 8 → line_at (listings.chunk_line c ++ rest) ≡ Some (lines.Chunk c.at c.len, rest)
 chunk_line_back c rest small short = chunk_by (is_page c) c rest refl small short
 
-pub fill_line_back : (fill : ℕ) (rest : List ℕ) → fill < 256 → line_at (listings.fill_line fill ++ rest) ≡ Some (lines.Fill fill, rest)
-unfolding any_line fill_line
-fill_line_back fill rest small =
-    ap line_at (ap (λ (text : List ℕ). codes "fill " ++ text) (append_assoc (hex 2 fill) line_end rest))
-    ∙ ending (codes "fill" ++ (codes " " ++ (hex 2 fill ++ 10 ∷ rest))) (lines.Fill fill) rest (ap (λ found. found >>= (λ (fill : ℕ × List ℕ). Some (lines.Fill fill.0, fill.1))) (byte_back fill (10 ∷ rest) small))
+-- the last line has eight bytes and nothing after it
+fill_is_named : (fill : ℕ) → fill < 256 → any_line (codes "fill " ++ (hex 2 fill ++ 10 ∷ [])) ≡ named_line (codes "fill " ++ (hex 2 fill ++ 10 ∷ []))
+fill_is_named fill small = named _ (rw (hex_byte false fill small) refl)
+
+pub fill_line_back : (fill : ℕ) → fill < 256 → line_at (listings.fill_line fill) ≡ Some (lines.Fill fill, [])
+unfolding named_line fill_line
+fill_line_back fill small =
+    ending (codes "fill" ++ (codes " " ++ (hex 2 fill ++ 10 ∷ []))) (lines.Fill fill) [] (fill_is_named fill small
+    ∙ ap (λ found. found >>= (λ (fill : ℕ × List ℕ). Some (lines.Fill fill.0, fill.1))) (byte_back fill (10 ∷ []) small))

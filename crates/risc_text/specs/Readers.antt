@@ -1,6 +1,6 @@
 -- What is read from the front of a line of a listing. A reader asks only for what tells lines apart:
 -- whether a text is a listing is told by listing again what was read.
-use Rattle.std.specs.Prelude.{◌≡◌, ℕ, zero, suc, ◌+◌, ◌-◌, ◌*◌, Bool, true, false, ◌&&◌, List, [], ◌∷◌, length, take, drop, Option, Some, None, if◌then◌else◌, ◌==◌, nat_lt, nat_le, codes}
+use Rattle.std.specs.Prelude.{◌≡◌, ℕ, zero, suc, ◌+◌, ◌-◌, ◌*◌, ◌/◌, ◌%◌, Bool, true, false, ◌&&◌, List, [], ◌∷◌, length, take, drop, Option, Some, None, if◌then◌else◌, ◌==◌, nat_lt, nat_le, codes, slice_index}
 use Rattle.std.specs.Cmp.Lexicographic.{pointwise}
 use Rattle.risc_word.specs.declared.Code.{Code}
 use Rattle.risc_word.specs.declared.Code.TheVariants.{Vre, Vro, Fm1, Fm3}
@@ -13,7 +13,6 @@ use Rattle.risc_text.specs.declared.Name.TheVariants as names
 use Rattle.risc_text.specs.declared.Line.{Line}
 use Rattle.risc_text.specs.declared.Line.TheVariants.{Base, Word, Chunk, Fill}
 use Rattle.risc_text.specs.declared.Line.TheVariants as lines
-use Rattle.risc_word.specs.Words.{fits}
 
 -- what was read, and the text after it
 abbrev pub Read : Type 0 → Type 0
@@ -36,19 +35,14 @@ begins name text = pointwise (λ one other. one == other) (take (length name) te
 abbrev pub after : List ℕ → List ℕ → Option (List ℕ)
 after name text = if begins name text then Some (drop (length name) text) else None
 
--- a hexadecimal digit in lower case
-abbrev pub digit : ℕ → Option ℕ
-digit byte =
-    if nat_le 48 byte && nat_lt byte 58 then Some (byte - 48)
-    else (if nat_le 97 byte && nat_lt byte 103 then Some (byte - 87)
-    else None)
+-- the number of a hexadecimal digit in lower case; what another byte gives tells nothing
+abbrev pub digit : ℕ → ℕ
+digit byte = (byte % 16 + byte / 64 * 9) % 16
 
 -- a hexadecimal digit more, after others of the value `n`
 abbrev pub hex_digit : ℕ → List ℕ → Read ℕ
 hex_digit n [] = None
-hex_digit n (byte ∷ rest) = do
-  d ← digit byte
-  Some (n * 16 + d, rest)
+hex_digit n (byte ∷ rest) = Some (n * 16 + digit byte, rest)
 
 unfoldable pub hex_digits : ℕ → ℕ → List ℕ → Read ℕ
 hex_digits zero n text = Some (n, text)
@@ -68,11 +62,14 @@ unfoldable pub decimal_digits : ℕ → ℕ → List ℕ → ℕ × List ℕ
 decimal_digits zero n text = (n, text)
 decimal_digits (suc k) n text = let read = decimal_digit n text in decimal_digits k read.0 read.1
 
--- after a space, a count
+-- after a space, a count, which has twelve bits
+abbrev pub if_twelve_bits : ℕ × List ℕ → Read ℕ
+if_twelve_bits read = if nat_lt read.0 4096 then Some read else None
+
 unfoldable pub count : List ℕ → Read ℕ
 count text = do
   rest ← after (codes " ") text
-  Some (decimal_digits 4 0 rest)
+  if_twelve_bits (decimal_digits 4 0 rest)
 
 -- after a space, an address
 unfoldable pub address : List ℕ → Read ℕ
@@ -133,17 +130,23 @@ unfoldable pub code : List ℕ → Read Code
 code text =
     one_of Vre (codes "vre") (one_of Vro (codes "vro") (one_of Fm1 (codes "fm1") (one_of Fm3 (codes "fm3") None text) text) text) text
 
+-- what stands after `write` and after `skip`
+unfoldable pub write_name : List ℕ → Read Name
+write_name text =
+    one_of names.Write123 (codes "123")
+    (one_of names.WriteC (codes "c")
+    (one_of names.Write1S23 (codes "1s23") (Some (names.Write, text)) text) text) text
+
+unfoldable pub skip_name : List ℕ → Read Name
+skip_name text = one_of names.Skip123 (codes "123") (Some (names.Skip, text)) text
+
 unfoldable pub name_at : List ℕ → Read Name
 name_at text =
-    one_of names.Word (codes "word")
-    (one_of names.Write123 (codes "write123")
-    (one_of names.Write1S23 (codes "write1s23")
-    (one_of names.WriteC (codes "writec")
-    (one_of names.Write (codes "write")
-    (one_of names.Skip123 (codes "skip123")
-    (one_of names.Skip (codes "skip")
-    (one_of names.Jump (codes "jump")
-    (one_of names.Sync (codes "sync ") None text) text) text) text) text) text) text) text) text
+    if begins (codes "write") text then write_name (drop 5 text)
+    else (if begins (codes "skip") text then skip_name (drop 4 text)
+    else one_of names.Word (codes "word")
+    (one_of names.Sync (codes "sync ")
+    (one_of names.Jump (codes "jump") None text) text) text)
 
 -- the fields after the name
 unfoldable pub write_fields : List ℕ → Read Instr
@@ -198,8 +201,8 @@ write_1_s_23_fields text = do
   at ← address counts.1
   Some (instr.Write1S23 start.0.0 start.0.1 start.0.2 counts.0 at.0, at.1)
 
-abbrev pub if_fits : Instr × List ℕ → Read Line
-if_fits read = if fits read.0 then Some (lines.Instr read.0, read.1) else None
+abbrev pub as_line : Instr × List ℕ → Read Line
+as_line read = Some (lines.Instr read.0, read.1)
 
 unfoldable pub word_field : List ℕ → Read Line
 word_field text = do
@@ -208,21 +211,19 @@ word_field text = do
 
 abbrev pub fields_of : Name → List ℕ → Read Line
 fields_of names.Word text = word_field text
-fields_of names.Write text = write_fields text >>= if_fits
-fields_of names.Skip text = skip_fields text >>= if_fits
-fields_of names.WriteC text = write_c_fields text >>= if_fits
-fields_of names.Jump text = jump_fields text >>= if_fits
-fields_of names.Sync text = sync_fields text >>= if_fits
-fields_of names.Write123 text = write_123_fields text >>= if_fits
-fields_of names.Skip123 text = skip_123_fields text >>= if_fits
-fields_of names.Write1S23 text = write_1_s_23_fields text >>= if_fits
+fields_of names.Write text = write_fields text >>= as_line
+fields_of names.Skip text = skip_fields text >>= as_line
+fields_of names.WriteC text = write_c_fields text >>= as_line
+fields_of names.Jump text = jump_fields text >>= as_line
+fields_of names.Sync text = sync_fields text >>= as_line
+fields_of names.Write123 text = write_123_fields text >>= as_line
+fields_of names.Skip123 text = skip_123_fields text >>= as_line
+fields_of names.Write1S23 text = write_1_s_23_fields text >>= as_line
 
--- the line of an instruction or a word, whose address is passed over
+-- the line of an instruction or a word, after its address
 unfoldable pub words_line : List ℕ → Read Line
 words_line text = do
-  at ← hex_digits 8 0 text
-  rest ← after (codes " ") at.1
-  read ← name_at rest
+  read ← name_at text
   fields_of read.0 read.1
 
 unfoldable pub base_line : List ℕ → Read Line
@@ -247,14 +248,18 @@ fill_line text = do
   fill ← hex_digits 2 0 rest
   Some (Fill fill.0, fill.1)
 
--- a line without its end, by its first word
-unfoldable pub any_line : List ℕ → Read Line
-any_line text =
+-- a line without its end that begins with a word
+unfoldable pub named_line : List ℕ → Read Line
+named_line text =
     if begins (codes "base") text then base_line (drop 4 text)
     else (if begins (codes "page") text then page_line (drop 4 text)
     else (if begins (codes "chunk") text then chunk_line (drop 5 text)
     else (if begins (codes "fill") text then fill_line (drop 4 text)
-    else words_line text)))
+    else None)))
+
+-- a line without its end. A space after eight bytes tells an address, which is passed over
+unfoldable pub any_line : List ℕ → Read Line
+any_line text = if slice_index text 8 == 32 then words_line (drop 9 text) else named_line text
 
 -- a line with its end
 unfoldable pub line_at : List ℕ → Read Line
