@@ -5,12 +5,7 @@ use Rattle.std.proofs.lemmas.Bool.{eqb-true}
 use Rattle.risc_text.specs.declared.Line.{Line}
 use Rattle.risc_text.specs.Readers.{line_at, ◌>>=◌}
 use Rattle.risc_text.specs.Drafts.{Draft, blank, drafted, gathered, taken}
-
--- a draft, and the text that is left of one
-pub record Continues (d : Draft) (rest text : List ℕ) : Type 0 where
-  pub most : ℕ
-  pub enough : length rest ≤ most
-  pub same : gathered most d rest ≡ drafted text
+use Rattle.risc_asm.specs.Drafts.{Continues}
 
 pub begin : (text : List ℕ) → Continues blank text text
 begin text = record { most = length text; enough = omega arith; same = refl }

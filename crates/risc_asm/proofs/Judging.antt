@@ -1,22 +1,22 @@
 -- What is told of a text follows from what was read of it and listed again.
-use Rattle.std.proofs.Common.{◌≡◌, ℕ, ◌+◌, ◌<◌, ◌^◌, Bool, true, false, List, [], ◌∷◌, ◌++◌, length, length-append, take, Option, Some, None, refl, sym, ap, ◌∙◌, arith, inl, inr}
+use Rattle.std.proofs.Common.{◌≡◌, ℕ, ◌+◌, ◌<◌, ◌^◌, Bool, true, false, List, [], ◌∷◌, ◌++◌, length, length-append, take, Option, Some, None, refl, sym, ap, subst, ◌∙◌, arith, inl, inr}
 use Rattle.std.specs.Prelude.{◌==◌, ◌⊎◌, IsTrue, codes}
 use Rattle.std.specs.List.{flat_map}
 use Rattle.std.specs.Cmp.Lexicographic.{pointwise, bytes_decides}
-use Rattle.std.proofs.lemmas.List.{append-nil, append_cancel_left, take_all}
-use Rattle.std.proofs.Math.Seq.{take-append_seam}
+use Rattle.std.proofs.lemmas.List.{append-nil, take_all}
+use Rattle.std.proofs.Math.Seq.{take-append_seam, take-length}
 use Rattle.page_table.specs.Taken.{listed}
 use Rattle.machine_model.specs.Paths.{IsProgram, RiscProgram}
 use Rattle.risc_listing.specs.Listings.{base_line, chunk_line, fill_line, listing, word_lines}
 use Rattle.std.proofs.lemmas.Fmt.{hex_byte}
 use Rattle.risc_listing.specs.Lines.{line_end}
 use Rattle.risc_text.specs.Drafts.{Draft, draft_of, drafted}
-use Rattle.risc_text.specs.Assembly.{BeginsListing, IsListing, are_lines}
-use Rattle.risc_text.proofs.Cutting.{Starts, begun_starts, starts_begun}
+use Rattle.risc_text.specs.Assembly.{BeginsListing, IsListed, IsListing, are_lines}
+use Rattle.risc_text.proofs.Cutting.{Starts, begun_starts, listing_begins, starts_begun}
 use Rattle.risc_text.proofs.Gathering.{listed_pairs, listing_is_read, trunk_is_read}
 use Rattle.risc_text.proofs.Spelling.{some_is}
-use Rattle.risc_asm.specs.Verdicts.{Agrees, EndAgrees, all_but_fill}
-use Rattle.risc_asm.specs.declared.judge.Agreement.{Agreement}
+use Rattle.risc_asm.specs.Verdicts.{Agrees, EndAgrees, IsBegun, StartsAs, all_but_fill}
+use Rattle.risc_asm.proofs.Agreeing.{starts_nowhere}
 use Rattle.risc_asm.specs.declared.judge.Agreement.TheVariants as agreement
 
 abbrev is_front : List ℕ → List ℕ → Bool
@@ -30,8 +30,9 @@ not_front piece rest text isnt is =
 
 -- ---- the last lines
 
-pub end_none : (text lines front last : List ℕ) → is_front text lines ≡ false → lines ≡ front ++ last → (text ≡ front ++ last → ⊥) × (text ≡ front → ⊥)
-end_none text lines front last isnt is = (
+pub end_none : (k : ℕ) (text lines front last : List ℕ) → is_front text lines ≡ false → StartsAs k text lines → lines ≡ front ++ last → EndAgrees text front last (agreement.No k)
+end_none k text lines front last isnt starts is = (
+  subst (StartsAs k text) is starts,
   λ whole. not_front text [] lines isnt (is ∙ sym whole ∙ sym (append-nil text)),
   λ same. not_front text last lines isnt (is ∙ ap (λ (list : List ℕ). list ++ last) (sym same)),
 )
@@ -46,35 +47,34 @@ end_but text lines rest front last is long left lines_are eight =
     let same : length text ≡ length front = omega arith in
     sym ((bytes_decides (take (length text) lines) text).0 is) ∙ ap (take (length text)) lines_are ∙ ap (λ (n : ℕ). take n (front ++ last)) same ∙ take-append_seam front last
 
-pub end_no : (text lines rest front last : List ℕ) → length rest + length text ≡ length lines → (length rest ≡ 0 → ⊥) → (length rest ≡ 8 → ⊥) → lines ≡ front ++ last → length last ≡ 8 → (text ≡ front ++ last → ⊥) × (text ≡ front → ⊥)
-end_no text lines rest front last long some other lines_are eight =
+pub end_no : (k : ℕ) (text lines rest front last : List ℕ) → StartsAs k text lines → length rest + length text ≡ length lines → (length rest ≡ 0 → ⊥) → (length rest ≡ 8 → ⊥) → lines ≡ front ++ last → length last ≡ 8 → EndAgrees text front last (agreement.No k)
+end_no k text lines rest front last starts long some other lines_are eight =
     let all : length lines ≡ length front + length last = ap length lines_are ∙ length-append front last in (
+      subst (StartsAs k text) lines_are starts,
       λ whole. some (let same : length text ≡ length front + length last = ap length whole ∙ length-append front last in omega arith),
       λ same. other (let same : length text ≡ length front = ap length same in omega arith),
     )
 
 -- ---- the whole listing
 
-pub no_base : (piece text : List ℕ) (program : RiscProgram) (fill : ℕ) → piece ≡ base_line program.base → is_front piece text ≡ false → Agrees text program fill agreement.No
+pub no_base : (piece text : List ℕ) (program : RiscProgram) (fill : ℕ) → piece ≡ base_line program.base → is_front piece text ≡ false → Agrees text program fill (agreement.No 0)
 no_base piece text program fill piece_is isnt =
     let rest = word_lines program.base 0 program.words ++ flat_map chunk_line program.grants in
     let all = word_lines program.base 0 program.words ++ (flat_map chunk_line program.grants ++ fill_line fill) in (
+      starts_nowhere text (listing program fill),
       λ whole. not_front piece all text isnt (whole ∙ ap (λ (list : List ℕ). list ++ all) (sym piece_is)),
       λ same. not_front piece rest text isnt (same ∙ ap (λ (list : List ℕ). list ++ rest) (sym piece_is)),
     )
 
-pub agrees : (a : Agreement) (text one two : List ℕ) (program : RiscProgram) (fill : ℕ) → text ≡ base_line program.base ++ one → one ≡ word_lines program.base 0 program.words ++ two →
-    EndAgrees two (flat_map chunk_line program.grants) (fill_line fill) a → Agrees text program fill a
-agrees agreement.Whole text one two program fill text_is one_is same =
+pub agrees_whole : (text one two : List ℕ) (program : RiscProgram) (fill : ℕ) → text ≡ base_line program.base ++ one → one ≡ word_lines program.base 0 program.words ++ two →
+    two ≡ flat_map chunk_line program.grants ++ fill_line fill → text ≡ listing program fill
+agrees_whole text one two program fill text_is one_is same =
     text_is ∙ ap (λ (list : List ℕ). base_line program.base ++ list) (one_is ∙ ap (λ (list : List ℕ). word_lines program.base 0 program.words ++ list) same)
-agrees agreement.AllButFill text one two program fill text_is one_is same =
+
+pub agrees_but_fill : (text one two : List ℕ) (program : RiscProgram) → text ≡ base_line program.base ++ one → one ≡ word_lines program.base 0 program.words ++ two →
+    two ≡ flat_map chunk_line program.grants → text ≡ all_but_fill program
+agrees_but_fill text one two program text_is one_is same =
     text_is ∙ ap (λ (list : List ℕ). base_line program.base ++ list) (one_is ∙ ap (λ (list : List ℕ). word_lines program.base 0 program.words ++ list) same)
-agrees agreement.No text one two program fill text_is one_is differ =
-    let words = word_lines program.base 0 program.words in
-    let same : (tail : List ℕ) → text ≡ base_line program.base ++ (words ++ tail) → two ≡ tail =
-    λ tail is. append_cancel_left words two tail (sym one_is ∙ append_cancel_left (base_line program.base) one (words ++ tail) (sym text_is ∙ is))
-    in
-    (λ whole. differ.0 (same (flat_map chunk_line program.grants ++ fill_line fill) whole), λ part. differ.1 (same (flat_map chunk_line program.grants) part))
 
 -- ---- the verdict
 
@@ -139,14 +139,14 @@ no_program text d base is base_is finds some whole begun =
     none_some start.program (found_program text d base None finds base_is start)
 
 pub no_agreement : (text : List ℕ) (d : Draft) (base : ℕ) (program : RiscProgram) (fill : ℕ) → drafted text ≡ Some d → d.base ≡ Some base → Finds (Some program) base d → ((f : ℕ) → d.fill ≡ Some f → fill ≡ f) →
-    Agrees text program fill agreement.No → 0 < length text → IsTrue (are_lines text) → BeginsListing text → ⊥
-no_agreement text d base program fill is base_is finds fill_is differ some whole begun =
+    (n : ℕ) → Agrees text program fill (agreement.No n) → 0 < length text → IsTrue (are_lines text) → BeginsListing text → ⊥
+no_agreement text d base program fill is base_is finds fill_is n differ some whole begun =
     let start = start_of text d whole begun is some in
     let same = some_is program start.program (found_program text d base (Some program) finds base_is start) in
     let filled = ap (λ (d : Draft). d.fill) start.draft_is in
     elim start.text_is as (λ _. ⊥) [
-      | inl part ↦ differ.1 (part.1 ∙ ap all_but_fill (sym same))
-      | inr all ↦ differ.0 (all.2 ∙ ap (λ (p : RiscProgram). listing p all.0) (sym same) ∙ ap (listing program) (sym (fill_is all.0 (filled ∙ all.1))))
+      | inl part ↦ differ.2 (part.1 ∙ ap all_but_fill (sym same))
+      | inr all ↦ differ.1 (all.2 ∙ ap (λ (p : RiscProgram). listing p all.0) (sym same) ∙ ap (listing program) (sym (fill_is all.0 (filled ∙ all.1))))
     ]
 
 pub but_fill_begins : (text : List ℕ) (program : RiscProgram) → IsProgram program → program.base < 2 ^ 32 → text ≡ all_but_fill program → BeginsListing text × (IsListing text → ⊥)
@@ -159,6 +159,22 @@ but_fill_begins text program made small is = (
       in
       none_some all.1 (ap (λ (d : Draft). d.fill) (some_is (draft_of program None) (draft_of all.0 (Some all.1)) same)),
 )
+
+-- so many bytes begin a listing
+pub begun_nowhere : (text : List ℕ) → IsBegun text 0
+begun_nowhere text = (omega arith, starts_begun [] (inl refl))
+
+pub begun_at : (text : List ℕ) (program : RiscProgram) (fill n : ℕ) → IsListed program fill → Agrees text program fill (agreement.No n) → IsBegun text n
+begun_at text program fill n listed_is differ = let starts = differ.0 in (starts.within, (starts.more, (program, fill, (listed_is, starts.is))))
+
+begun_all : (text : List ℕ) → BeginsListing text → IsBegun text (length text)
+begun_all text begun = (omega arith, subst BeginsListing (sym (take-length text)) begun)
+
+pub begun_whole : (text : List ℕ) (program : RiscProgram) (fill : ℕ) → IsListed program fill → text ≡ listing program fill → IsBegun text (length text)
+begun_whole text program fill listed_is is = begun_all text (listing_begins text (program, fill, (listed_is, sym is)))
+
+pub begun_but_fill : (text : List ℕ) (program : RiscProgram) → IsProgram program → program.base < 2 ^ 32 → text ≡ all_but_fill program → IsBegun text (length text)
+begun_but_fill text program made small is = begun_all text (but_fill_begins text program made small is).0
 
 pub none_begins_none_is : (text : List ℕ) → length text ≡ 0 → BeginsListing text × (IsListing text → ⊥)
 none_begins_none_is [] none = (starts_begun [] (inl refl), λ all. (let e = ap length all.2.1 in absurd (omega arith)))

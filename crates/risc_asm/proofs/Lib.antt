@@ -5,3 +5,4 @@ pub mod Judging
 pub mod Searching
 pub mod OneAnswer
 pub mod NoFields
+pub mod Agreeing

@@ -1,15 +1,17 @@
 -- The first line at fault lies between two places that come nearer.
 use Rattle.std.proofs.Common.{◌≡◌, ◌≢◌, ℕ, zero, suc, ◌+◌, ◌-◌, ◌≤◌, ◌<◌, true, false, List, [], ◌∷◌, ◌++◌, length, take, drop, refl, sym, ap, subst, ◌∙◌, arith, inl, inr, length-drop, append_assoc, min}
-use Rattle.std.specs.Prelude.{◌==◌, if◌then◌else◌, slice_index}
+use Rattle.std.specs.Prelude.{◌==◌, ◌⊎◌, if◌then◌else◌, slice_index}
 use Rattle.std.proofs.lemmas.Bool.{eq-eqb, ne_eqb}
-use Rattle.std.proofs.lemmas.List.{get_or-drop, get_or-take, length-take, take-append-drop, append-nil}
+use Rattle.std.proofs.lemmas.Bool.Decides.{leb_tells}
+use Rattle.std.proofs.Math.Dec.{leb}
+use Rattle.std.proofs.lemmas.List.{get_or-drop, get_or-take, length-take, take-append-drop, take_all, append-nil}
 use Rattle.std.proofs.lemmas.List.Sums.{sum_by-cons}
 use Rattle.std.proofs.Math.Seq.{take-length}
-use Rattle.risc_text.specs.Assembly.{Assembles, BeginsListing, EndsShort, LineAtFault, are_lines, has_no_newline, line_count}
-use Rattle.risc_text.proofs.Cutting.{listing_begins, starts_begun}
+use Rattle.risc_text.specs.Assembly.{Assembles, BeginsListing, EndsShort, IsListing, LineAtFault, are_lines, has_no_newline, line_count}
+use Rattle.risc_text.proofs.Cutting.{listing_begins}
 use Rattle.capture_file.specs.declared.program.ProgramFile.{ProgramFile}
 use Rattle.risc_asm.specs.Answers.{HasWrongLine, IsBetween}
-use Rattle.risc_asm.specs.Verdicts.{Judges}
+use Rattle.risc_asm.specs.Verdicts.{IsBegun, Judges}
 use Rattle.risc_asm.specs.declared.judge.Verdict.{Verdict}
 use Rattle.risc_asm.specs.declared.judge.Verdict.TheVariants.{Wrong, Begun, Whole}
 
@@ -56,19 +58,28 @@ take-take (suc low) zero text order = absurd (omega arith)
 take-take (suc low) (suc high) [] order = refl
 take-take (suc low) (suc high) (byte ∷ rest) order = ap (λ (list : List ℕ). byte ∷ list) (take-take low high rest (omega arith))
 
-pub begin : (lines : List ℕ) → are_lines lines ≡ true → (BeginsListing lines → ⊥) → IsBetween lines 0 (length lines)
-begin lines whole wrong = record {
-  order = some lines wrong;
-  within = omega arith;
-  low_whole = refl;
-  high_whole = rw (take-length lines) whole;
-  begun = starts_begun [] (inl refl);
-  wrong = rw (take-length lines) wrong;
-}
+shorter : (front rest : List ℕ) → BeginsListing (front ++ rest) → BeginsListing front
+shorter front rest begun = (rest ++ begun.0, subst IsListing (append_assoc front rest begun.0) begun.1)
+
+pub begin : (lines : List ℕ) (low begun : ℕ) → are_lines lines ≡ true → (BeginsListing lines → ⊥) → IsBegun lines begun → low ≤ begun → are_lines (take low lines) ≡ true → IsBetween lines low (length lines)
+begin lines low begun whole wrong is before low_whole =
+    let front : take low (take begun lines) ≡ take low lines = take-take low begun lines before in
+    let low_begun = subst BeginsListing front (shorter (take low (take begun lines)) (drop low (take begun lines)) (subst BeginsListing (sym (take-append-drop low (take begun lines))) is.1)) in
+    record {
+      order = some low_begun;
+      within = omega arith;
+      low_whole = low_whole;
+      high_whole = rw (take-length lines) whole;
+      begun = low_begun;
+      wrong = rw (take-length lines) wrong;
+    }
   where
-    some : (lines : List ℕ) → (BeginsListing lines → ⊥) → 0 < length lines
-    some [] wrong = absurd (wrong (starts_begun [] (inl refl)))
-    some (byte ∷ rest) wrong = omega arith
+    by_order : BeginsListing (take low lines) → ((leb (length lines) low ≡ true) × (length lines ≤ low)) ⊎ ((leb (length lines) low ≡ false) × (low < length lines)) → low < length lines
+    by_order so_far (inl more) = absurd (wrong (subst BeginsListing (take_all low lines more.1) so_far))
+    by_order so_far (inr less) = less.1
+
+    some : BeginsListing (take low lines) → low < length lines
+    some so_far = by_order so_far (leb_tells (length lines) low)
 
 pub lower : (lines : List ℕ) (low high end : ℕ) → IsBetween lines low high → low < end → end < high → are_lines (take end lines) ≡ true → (BeginsListing (take end lines) → ⊥) → IsBetween lines low end
 lower lines low high end between first second whole wrong = record {
@@ -124,8 +135,8 @@ begins_whole text verdict file is told = listing_begins text (file.program, file
 pub begins_begun : (text : List ℕ) (verdict : Verdict) → verdict ≡ Begun → Judges text verdict → BeginsListing text
 begins_begun text verdict is told = (rw is at told).0
 
-pub none_wrong : (text : List ℕ) (verdict : Verdict) → verdict ≡ Wrong → Judges text verdict → are_lines text ≡ true → BeginsListing text → ⊥
-none_wrong text verdict is told = rw is at told
+pub none_wrong : (text : List ℕ) (verdict : Verdict) (n : ℕ) → verdict ≡ Wrong n → Judges text verdict → are_lines text ≡ true → BeginsListing text → ⊥
+none_wrong text verdict n is told = (rw is at told).1
 
 -- ---- the answer
 

@@ -1,8 +1,7 @@
 //! What the lines of a text tell together.
 
-ghost use Rattle.risc_asm.specs.Drafts.{LineFits, seen};
-ghost use Rattle.risc_text.specs.Drafts.{blank, drafted, taken};
-ghost use Rattle.risc_text.specs.Readers.{Reads};
+ghost use Rattle.risc_asm.specs.Drafts.{IsReadUpTo, LineFits, seen};
+ghost use Rattle.risc_text.specs.Drafts.{blank, taken};
 ghost use Rattle.std.specs.Prelude.{◌≡◌, IfOk};
 
 use super::lines::next_line;
@@ -51,18 +50,16 @@ impl Draft {
     }
 }
 
-/// What a text tells, if each of its lines can be read. The error is want of memory.
-pub fn read_draft(alloc: Global, text: &[u8]) -> Result<Option<Draft>, AllocError>
-    ensures { IfOk result (λ found. Reads seen found (drafted text.now)) }
+/// What the lines of a text tell, up to the first that can't be read, and that line with those after it.
+/// The error is want of memory.
+pub fn read_draft(alloc: Global, text: &[u8]) -> Result<(Draft, &[u8]), AllocError>
+    ensures { IfOk result (λ read. IsReadUpTo (seen read.0) read.1.now text.now) }
 {
     let mut draft = Draft::new(alloc);
     let mut rest = text;
-    while !rest.is_empty() {
-        let Some((line, left)) = next_line(rest) else {
-            return Ok(None);
-        };
+    while let Some((line, left)) = next_line(rest) {
         draft.take(&line)?;
         rest = left;
     }
-    Ok(Some(draft))
+    Ok((draft, rest))
 }

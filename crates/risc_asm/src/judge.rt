@@ -4,10 +4,10 @@ ghost use Rattle.machine_model.specs.Paths.{IsProgram, RiscProgram, shares_byte,
 ghost use Rattle.page_table.specs.Grants.{AreGrants, Chunk};
 ghost use Rattle.page_table.specs.Taken.{listed};
 ghost use Rattle.risc_asm.specs.Drafts.{seen};
-ghost use Rattle.risc_asm.specs.Verdicts.{Agrees, EndAgrees, Judges, WithoutWords};
+ghost use Rattle.risc_asm.specs.Verdicts.{Agrees, EndAgrees, IsBegun, Judges, WithoutWords};
 ghost use Rattle.risc_text.specs.Drafts.{drafted};
 ghost use Rattle.std.specs.List.{All};
-ghost use Rattle.std.specs.Prelude.{◌≡◌, ◌≤◌, ◌<◌, ◌^◌, ◌↔◌, false, IfOk, IsTrue, Some, [], length, ◌++◌, List, ℕ};
+ghost use Rattle.std.specs.Prelude.{◌≡◌, ◌≢◌, ◌≤◌, ◌<◌, ◌^◌, ◌↔◌, false, IfOk, IsTrue, Some, [], length, slice_index, take, ◌++◌, List, ℕ};
 
 use super::draft::{Draft, read_draft};
 use capture_file::ProgramFile;
@@ -25,8 +25,9 @@ const FILL_LINE: usize = 8;
 /// What a text is.
 #[derive(Drop)]
 pub enum Verdict {
-    /// No listing begins with it.
-    Wrong,
+    /// No listing begins with it, and one with so many of its bytes: those before the place where it
+    /// differs from what was read of it, where there is one.
+    Wrong(usize),
     /// It begins a listing, and is none.
     Begun,
     /// It is the listing of this program with its fill.
@@ -36,7 +37,8 @@ pub enum Verdict {
 // How a text agrees with a listing.
 #[derive(Clone, Copy)]
 enum Agreement {
-    No,
+    // So many bytes agree.
+    No(usize),
     // It has all lines but the last.
     AllButFill,
     Whole,
@@ -97,8 +99,22 @@ fn program_of(
     }
 }
 
-// The text after the lines of a program's words, where it begins with them.
-fn after_words<'a>(text: &'a [u8], program: &Program) -> Option<&'a [u8]>
+// How many bytes of a text stand in front of another.
+fn alike(text: &[u8], other: &[u8]) -> usize
+    ensures within { (result ≤ length text.now) × (result ≤ length other.now) }
+    ensures same { take result text.now ≡ take result other.now }
+    ensures longest { result < length text.now → result < length other.now → slice_index text.now result ≢ slice_index other.now result }
+{
+    let mut at = 0;
+    while at < text.len() && at < other.len() && text[at] == other[at] {
+        at += 1;
+    }
+    at
+}
+
+// The text after the lines of a program's words, where it begins with them, and else how many bytes agree
+// with them.
+fn after_words<'a>(text: &'a [u8], program: &Program) -> Result<&'a [u8], usize>
     ensures { WithoutWords program.now.base program.now.words text.now result }
 {
     let mut lines = Lines::new();
@@ -107,9 +123,13 @@ fn after_words<'a>(text: &'a [u8], program: &Program) -> Option<&'a [u8]>
     while next < program.words().len() {
         lines.clear();
         next = push_words(&mut lines, program, next);
-        rest = rest.strip_prefix(lines.as_str().as_bytes())?;
+        let piece = lines.as_str().as_bytes();
+        let Some(left) = rest.strip_prefix(piece) else {
+            return Err(text.len() - rest.len() + alike(rest, piece));
+        };
+        rest = left;
     }
-    Some(rest)
+    Ok(rest)
 }
 
 // How a text agrees with lines, of which the last is that of the fill.
@@ -117,7 +137,7 @@ fn compare_end(text: &[u8], lines: &[u8]) -> Agreement
     ensures { (front last : List ℕ) → lines.now ≡ front ++ last → length last ≡ 8 → EndAgrees text.now front last result }
 {
     let Some(rest) = lines.strip_prefix(text) else {
-        return Agreement::No;
+        return Agreement::No(alike(text, lines));
     };
     if rest.is_empty() {
         return Agreement::Whole;
@@ -125,7 +145,7 @@ fn compare_end(text: &[u8], lines: &[u8]) -> Agreement
     if rest.len() == FILL_LINE {
         return Agreement::AllButFill;
     }
-    Agreement::No
+    Agreement::No(alike(text, lines))
 }
 
 // How a text agrees with the listing of a program.
@@ -137,14 +157,19 @@ fn compare(alloc: Global, text: &[u8], program: &Program, fill: u8) -> Result<Ag
 {
     let mut line = Lines::new();
     push_base(&mut line, program.base());
-    let Some(rest) = text.strip_prefix(line.as_str().as_bytes()) else {
-        return Ok(Agreement::No);
+    let Some(words) = text.strip_prefix(line.as_str().as_bytes()) else {
+        return Ok(Agreement::No(0));
     };
-    let Some(rest) = after_words(rest, program) else {
-        return Ok(Agreement::No);
+    let rest = match after_words(words, program) {
+        Ok(rest) => rest,
+        Err(number) => return Ok(Agreement::No(text.len() - words.len() + number)),
     };
     let last = memory_lines(alloc, program.grants(), fill)?;
-    Ok(compare_end(rest, &last))
+    Ok(match compare_end(rest, &last) {
+        Agreement::No(number) => Agreement::No(text.len() - rest.len() + number),
+        Agreement::AllButFill => Agreement::AllButFill,
+        Agreement::Whole => Agreement::Whole,
+    })
 }
 
 // Judges a text by what its lines tell.
@@ -160,17 +185,36 @@ fn judge_draft(alloc: Global, text: &[u8], draft: Draft) -> Result<Verdict, Allo
         fill,
     } = draft;
     let Some(base) = base else {
-        return Ok(Verdict::Wrong);
+        return Ok(Verdict::Wrong(0));
     };
     let Some(program) = program_of(alloc, base, words, &chunks)? else {
-        return Ok(Verdict::Wrong);
+        return Ok(Verdict::Wrong(0));
     };
     let fill = fill.unwrap_or(0);
     Ok(match compare(alloc, text, &program, fill)? {
         Agreement::Whole => Verdict::Whole(ProgramFile { program, fill }),
         Agreement::AllButFill => Verdict::Begun,
-        Agreement::No => Verdict::Wrong,
+        Agreement::No(number) => Verdict::Wrong(number),
     })
+}
+
+// How many bytes of a text surely begin a listing, by what its first lines tell.
+fn begun(alloc: Global, text: &[u8], draft: Draft) -> Result<usize, AllocError>
+    ensures { IfOk result (λ number. IsBegun text.now number) }
+{
+    let Some(base) = draft.base else {
+        return Ok(0);
+    };
+    let Some(program) = program_of(alloc, base, draft.words, &draft.chunks)? else {
+        return Ok(0);
+    };
+    Ok(
+        match compare(alloc, text, &program, draft.fill.unwrap_or(0))? {
+            Agreement::Whole => text.len(),
+            Agreement::AllButFill => text.len(),
+            Agreement::No(number) => number,
+        },
+    )
 }
 
 /// Whether a text begins a listing, or is one. The error is want of memory.
@@ -180,8 +224,10 @@ pub fn judge(alloc: Global, text: &[u8]) -> Result<Verdict, AllocError>
     if text.is_empty() {
         return Ok(Verdict::Begun);
     }
-    match read_draft(alloc, text)? {
-        Some(draft) => judge_draft(alloc, text, draft),
-        None => Ok(Verdict::Wrong),
+    let (draft, rest) = read_draft(alloc, text)?;
+    if rest.is_empty() {
+        judge_draft(alloc, text, draft)
+    } else {
+        Ok(Verdict::Wrong(begun(alloc, text, draft)?))
     }
 }

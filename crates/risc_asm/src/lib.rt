@@ -68,7 +68,7 @@ pub fn assemble(alloc: Global, text: &[u8]) -> Result<ProgramFile, AsmError>
             AsmFault::Line(count_lines(lines) + 1)
         }
         Verdict::Begun => AsmFault::Short(count_lines(lines)),
-        Verdict::Wrong => AsmFault::Line(first_wrong(alloc, lines)?),
+        Verdict::Wrong(begun) => AsmFault::Line(first_wrong(alloc, lines, begun)?),
     };
     Err(AsmError::Bad(fault))
 }

@@ -1,11 +1,16 @@
 //! The first line at fault.
 
 ghost use Rattle.risc_asm.specs.Answers.{HasWrongLine, IsBetween};
+ghost use Rattle.risc_asm.specs.Verdicts.{IsBegun};
 ghost use Rattle.risc_text.specs.Assembly.{BeginsListing, are_lines, has_no_newline, line_count};
-ghost use Rattle.std.specs.Prelude.{◌≡◌, ◌≢◌, ◌+◌, ◌-◌, ◌≤◌, ◌<◌, IfOk, IfSome, IsTrue, None, drop, length, slice_index, take, true, ℕ};
+ghost use Rattle.std.specs.Prelude.{◌≡◌, ◌≢◌, ◌+◌, ◌-◌, ◌/◌, ◌≤◌, ◌<◌, ◌==◌, if◌then◌else◌, IfOk, IfSome, IsTrue, None, drop, length, slice_index, take, true, ℕ};
 
 use super::judge::{Verdict, judge};
 use std::alloc::{AllocError, Global};
+
+// So many lines after the place of a difference may still begin a listing: words that are told one by one
+// may become an instruction of five.
+const NEAR: u8 = 5;
 
 /// How many whole lines a text has.
 pub fn count_lines(text: &[u8]) -> u64
@@ -64,18 +69,17 @@ pub fn whole_lines(text: &[u8]) -> usize
     }
 }
 
-// The end of a line strictly between two places, where there is one, near their middle if it can be.
-fn line_end_between(text: &[u8], low: usize, high: usize) -> Option<usize>
-    requires order { low < high }
+// The end of a line strictly between two places, where there is one: the next after a third if it can be.
+fn line_end_between(text: &[u8], low: usize, high: usize, near: usize) -> Option<usize>
+    requires order { (low ≤ near) × (near < high) }
     requires within { high ≤ length text.now }
     ensures some { IfSome result (λ end. (low < end) × (end < high) × (are_lines (take end text.now) ≡ true)) }
     ensures none { result ≡ None → (k : ℕ) → low ≤ k → k + 1 < high → slice_index text.now k ≢ 10 }
 {
-    let middle = low + (high - low) / 2;
-    if let Some(at) = first_newline(text, middle, high - 1) {
+    if let Some(at) = first_newline(text, near, high - 1) {
         return Some(at + 1);
     }
-    match last_newline(text, low, middle) {
+    match last_newline(text, low, near) {
         Some(at) => Some(at + 1),
         None => None,
     }
@@ -96,25 +100,53 @@ fn narrow(
     ensures nearer { IfOk result (λ x. x.1 - x.0 < high - low) }
 {
     match judge(alloc, &lines[..end])? {
-        Verdict::Wrong => Ok((low, end)),
+        Verdict::Wrong(_) => Ok((low, end)),
         Verdict::Begun => Ok((end, high)),
         Verdict::Whole(_) => Ok((end, high)),
     }
 }
 
-/// The number of the first line with which lines begin no listing, counted from 1. The error is want of
-/// memory.
-pub fn first_wrong(alloc: Global, lines: &[u8]) -> Result<u64, AllocError>
+// Where a line's end is looked for between two places: right after the first so many times, then in the
+// middle.
+fn probe(low: usize, high: usize, near: u8) -> usize
+    requires { low < high }
+    ensures value { result ≡ (if near == 0 then low + (high - low) / 2 else low) }
+{
+    if near == 0 {
+        low + (high - low) / 2
+    } else {
+        low
+    }
+}
+
+// Where the last line begins of which a byte stands before a place.
+fn line_begin(text: &[u8], at: usize) -> usize
+    requires { at ≤ length text.now }
+    ensures within { result ≤ at }
+    ensures whole { are_lines (take result text.now) ≡ true }
+{
+    match last_newline(text, 0, at) {
+        Some(before) => before + 1,
+        None => 0,
+    }
+}
+
+/// The number of the first line with which lines begin no listing, counted from 1, where their first
+/// `begun` bytes begin one. Lines near that place are tried first. The error is want of memory.
+pub fn first_wrong(alloc: Global, lines: &[u8], begun: usize) -> Result<u64, AllocError>
     requires whole { are_lines lines.now ≡ true }
+    requires begun { IsBegun lines.now begun }
     requires wrong { BeginsListing lines.now → ⊥ }
     ensures { IfOk result (λ k. HasWrongLine lines.now k) }
 {
-    let mut low = 0;
+    let mut low = line_begin(lines, begun);
     let mut high = lines.len();
-    while let Some(end) = line_end_between(lines, low, high) {
+    let mut near = NEAR;
+    while let Some(end) = line_end_between(lines, low, high, probe(low, high, near)) {
         let places = narrow(alloc, lines, low, high, end)?;
         low = places.0;
         high = places.1;
+        near = near.saturating_sub(1);
     }
     Ok(count_lines(&lines[..low]) + 1)
 }

@@ -1,10 +1,9 @@
 use Rattle.std.proofs.Common.{length}
-use Rattle.risc_asm.specs.Drafts.{seen}
-use Rattle.risc_asm.proofs.Continuing.{Continues}
+use Rattle.risc_asm.specs.Drafts.{Continues, seen}
 use Rattle.risc_asm.proofs.draft.read_draft.Given as goal
 
-abbrev pub invariant-loop-rest : goal.invariant-loop-rest
-invariant-loop-rest l = Continues (seen l.draft) l.rest l.text
+abbrev pub invariant-loop-line : goal.invariant-loop-line
+invariant-loop-line l = Continues (seen l.draft) l.rest l.text
 
-abbrev pub decreases-loop-rest : goal.decreases-loop-rest
-decreases-loop-rest l = length l.rest
+abbrev pub decreases-loop-line : goal.decreases-loop-line
+decreases-loop-line l = length l.rest

@@ -1,15 +1,19 @@
 use Rattle.std.proofs.Common.{◌∙◌, ap, sym}
 use Rattle.std.specs.Option.{unwrap_or}
 use Rattle.risc_asm.specs.Drafts.{seen}
-use Rattle.risc_asm.proofs.Judging.{but_fill_begins, no_agreement, no_program, no_program_base}
+use Rattle.risc_text.specs.Assembly.{IsListed}
+use Rattle.risc_asm.proofs.Judging.{begun_at, begun_nowhere, but_fill_begins, no_agreement, no_program, no_program_base}
 use Rattle.risc_asm.proofs.judge.judge_draft.Goals as goal
 use Rattle.risc_asm.proofs.judge.judge_draft.Goals.{in-Whole, in-AllButFill, in-No}
 
 pub returns-in_default : goal.returns-in_default
-returns-in_default c = no_program_base c.args.text.now (seen c.args.draft) c.requires.drafted c.in_default.is c.requires.some
+returns-in_default c = (begun_nowhere c.args.text.now, no_program_base c.args.text.now (seen c.args.draft) c.requires.drafted c.in_default.is c.requires.some)
 
 pub returns-in_default-2 : goal.returns-in_default-2
-returns-in_default-2 c = no_program c.args.text.now (seen c.args.draft) c.in-Some.base c.requires.drafted c.in-Some.is (rw (c.deref.ensures.value, c.in_default-2.is) at c.in_ok-program.ensures) c.requires.some
+returns-in_default-2 c = (
+  begun_nowhere c.args.text.now,
+  no_program c.args.text.now (seen c.args.draft) c.in-Some.base c.requires.drafted c.in-Some.is (rw (c.deref.ensures.value, c.in_default-2.is) at c.in_ok-program.ensures) c.requires.some,
+)
 
 pub returns : goal.returns
 returns c =
@@ -20,6 +24,12 @@ returns c =
     elim c.match-branch-4.branch [
       | in-Whole w ↦ rw w.result-is (record { made = told.made; base_small = told.base; fill_small = told.fill }, sym (rw w.in-Whole.is at told.value))
       | in-AllButFill w ↦ rw w.result-is (but_fill_begins c.args.text.now program told.made told.base (rw w.in-AllButFill.is at told.value))
-      | in-No w ↦ rw w.result-is (no_agreement c.args.text.now (seen c.args.draft) c.in-Some.base program fill c.requires.drafted c.in-Some.is finds
-          (λ f is. c.unwrap_or-fill.ensures ∙ ap (λ found. unwrap_or found 0) is) (rw w.in-No.is at told.value) c.requires.some)
+      | in-No w ↦
+          let listed_is : IsListed program fill = record { made = told.made; base_small = told.base; fill_small = told.fill } in
+          let differ = rw w.in-No.is at told.value in
+          rw w.result-is (
+            begun_at c.args.text.now program fill _ listed_is differ,
+            no_agreement c.args.text.now (seen c.args.draft) c.in-Some.base program fill c.requires.drafted c.in-Some.is finds
+                (λ f is. c.unwrap_or-fill.ensures ∙ ap (λ found. unwrap_or found 0) is) _ differ c.requires.some,
+          )
     ]

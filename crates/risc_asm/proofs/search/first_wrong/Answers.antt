@@ -3,7 +3,7 @@ use Rattle.risc_asm.proofs.Searching.{begin, line_between}
 use Rattle.risc_asm.proofs.search.first_wrong.Goals as goal
 
 pub loop-end-init : goal.loop-end-init
-loop-end-init c = begin c.args.lines.now c.requires.whole c.requires.wrong
+loop-end-init c = begin c.args.lines.now c.line_begin-low.result c.args.begun c.requires.whole c.requires.wrong c.requires.begun c.line_begin-low.ensures.within c.line_begin-low.ensures.whole
 
 pub returns : goal.returns
 returns c =
