@@ -1,6 +1,6 @@
 -- What is told of a text follows from what was read of it and listed again.
 use Rattle.std.proofs.Common.{◌≡◌, ℕ, ◌+◌, ◌<◌, ◌^◌, Bool, true, false, List, [], ◌∷◌, ◌++◌, length, length-append, take, Option, Some, None, refl, sym, ap, subst, ◌∙◌, arith, inl, inr}
-use Rattle.std.specs.Prelude.{◌==◌, ◌⊎◌, IsTrue, codes}
+use Rattle.std.specs.Prelude.{◌==◌, ◌⊎◌, IsTrue, codes, Result, Ok, Err}
 use Rattle.std.specs.List.{flat_map}
 use Rattle.std.specs.Cmp.Lexicographic.{pointwise, bytes_decides}
 use Rattle.std.proofs.lemmas.List.{append-nil, take_all}
@@ -123,26 +123,32 @@ no_program_base text d is none some whole begun =
     none_some start.program.base (sym none ∙ ap (λ (d : Draft). d.base) start.draft_is)
 
 -- a program is made of a draft wherever there is one
-abbrev pub Finds : Option RiscProgram → ℕ → Draft → Type 0
-Finds made base d = (program : RiscProgram) → IsProgram program → program.base ≡ base → program.words ≡ d.words → program.grants ≡ listed d.chunks → made ≡ Some program
+abbrev pub Finds : {E : Type 0} → Result RiscProgram E → ℕ → Draft → Type 0
+Finds made base d = (program : RiscProgram) → IsProgram program → program.base ≡ base → program.words ≡ d.words → program.grants ≡ listed d.chunks → made ≡ Ok program
 
-found_program : (text : List ℕ) (d : Draft) (base : ℕ) (made : Option RiscProgram) → Finds made base d → d.base ≡ Some base → (start : StartOf text d) → made ≡ Some start.program
+found_program : {E : Type 0} (text : List ℕ) (d : Draft) (base : ℕ) (made : Result RiscProgram E) → Finds made base d → d.base ≡ Some base → (start : StartOf text d) → made ≡ Ok start.program
 found_program text d base made finds base_is start =
     finds start.program start.made
     (some_is start.program.base base (sym (ap (λ (d : Draft). d.base) start.draft_is) ∙ base_is))
     (sym (ap (λ (d : Draft). d.words) start.draft_is))
     (sym (ap (λ (d : Draft). listed d.chunks) start.draft_is ∙ listed_pairs start.program.grants))
 
-pub no_program : (text : List ℕ) (d : Draft) (base : ℕ) → drafted text ≡ Some d → d.base ≡ Some base → Finds None base d → 0 < length text → IsTrue (are_lines text) → BeginsListing text → ⊥
-no_program text d base is base_is finds some whole begun =
-    let start = start_of text d whole begun is some in
-    none_some start.program (found_program text d base None finds base_is start)
+err_ok : {E : Type 0} (e : E) (program : RiscProgram) → Err e ≡ Ok program → ⊥
+err_ok e program is = cc
 
-pub no_agreement : (text : List ℕ) (d : Draft) (base : ℕ) (program : RiscProgram) (fill : ℕ) → drafted text ≡ Some d → d.base ≡ Some base → Finds (Some program) base d → ((f : ℕ) → d.fill ≡ Some f → fill ≡ f) →
-    (n : ℕ) → Agrees text program fill (agreement.No n) → 0 < length text → IsTrue (are_lines text) → BeginsListing text → ⊥
-no_agreement text d base program fill is base_is finds fill_is n differ some whole begun =
+ok_is : {E : Type 0} (made : Result RiscProgram E) (one other : RiscProgram) → made ≡ Ok one → made ≡ Ok other → one ≡ other
+ok_is made one other first second = let same = sym first ∙ second in cc
+
+pub no_program : {E : Type 0} (text : List ℕ) (d : Draft) (base : ℕ) (e : E) → drafted text ≡ Some d → d.base ≡ Some base → Finds (Err e) base d → 0 < length text → IsTrue (are_lines text) → BeginsListing text → ⊥
+no_program text d base e is base_is finds some whole begun =
     let start = start_of text d whole begun is some in
-    let same = some_is program start.program (found_program text d base (Some program) finds base_is start) in
+    err_ok e start.program (found_program text d base (Err e) finds base_is start)
+
+pub no_agreement : {E : Type 0} (text : List ℕ) (d : Draft) (base : ℕ) (program : RiscProgram) (fill : ℕ) → drafted text ≡ Some d → d.base ≡ Some base → (made : Result RiscProgram E) → made ≡ Ok program → Finds made base d → ((f : ℕ) → d.fill ≡ Some f → fill ≡ f) →
+    (n : ℕ) → Agrees text program fill (agreement.No n) → 0 < length text → IsTrue (are_lines text) → BeginsListing text → ⊥
+no_agreement text d base program fill is base_is made made_is finds fill_is n differ some whole begun =
+    let start = start_of text d whole begun is some in
+    let same = ok_is made program start.program made_is (found_program text d base made finds base_is start) in
     let filled = ap (λ (d : Draft). d.fill) start.draft_is in
     elim start.text_is as (λ _. ⊥) [
       | inl part ↦ differ.2 (part.1 ∙ ap all_but_fill (sym same))

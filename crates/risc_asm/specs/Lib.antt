@@ -1,3 +1,4 @@
 pub mod Drafts
+pub mod Limits
 pub mod Verdicts
 pub mod Answers

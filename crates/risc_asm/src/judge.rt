@@ -4,15 +4,16 @@ ghost use Rattle.machine_model.specs.Paths.{IsProgram, RiscProgram, shares_byte,
 ghost use Rattle.page_table.specs.Grants.{AreGrants, Chunk};
 ghost use Rattle.page_table.specs.Taken.{listed};
 ghost use Rattle.risc_asm.specs.Drafts.{seen};
+ghost use Rattle.risc_asm.specs.Limits.{IsWithinLimits, follows, rising};
 ghost use Rattle.risc_asm.specs.Verdicts.{Agrees, EndAgrees, IsBegun, Judges, WithoutWords};
 ghost use Rattle.risc_text.specs.Drafts.{drafted};
 ghost use Rattle.std.specs.List.{All};
-ghost use Rattle.std.specs.Prelude.{◌≡◌, ◌≢◌, ◌≤◌, ◌<◌, ◌^◌, ◌↔◌, false, IfOk, IsTrue, Some, [], length, slice_index, take, ◌++◌, List, ℕ};
+ghost use Rattle.std.specs.Prelude.{◌≡◌, ◌≢◌, ◌≤◌, ◌<◌, ◌^◌, ◌↔◌, false, IfErr, IfOk, IsTrue, Ok, Some, [], length, slice_index, take, ◌++◌, List, ℕ};
 
 use super::draft::{Draft, read_draft};
 use capture_file::ProgramFile;
 use machine_model::MAX_WORDS;
-use page_table::{PageFault, PageSet};
+use page_table::{MAX_CHUNKS, PageFault, PageSet};
 use risc_listing::{Lines, memory_lines, push_base, push_words};
 use risc_verify::Program;
 use std::alloc::{AllocError, Global};
@@ -74,28 +75,29 @@ fn grants_of(alloc: Global, chunks: &[(u32, u32)]) -> Result<Option<PageSet>, Al
     }
 }
 
-// The program with these parts, where there is one.
+// The program with these parts, where there is one, and else the words.
 fn program_of(
     alloc: Global,
     base: u32,
     words: Vec<u32>,
     chunks: &[(u32, u32)],
-) -> Result<Option<Program>, AllocError>
-    ensures { IfOk result (λ found. (program : RiscProgram) → IsProgram program → program.base ≡ base → program.words ≡ words.items → program.grants ≡ listed chunks.now → found ≡ Some program) }
+) -> Result<Result<Program, Vec<u32>>, AllocError>
+    ensures program { IfOk result (λ found. (program : RiscProgram) → IsProgram program → program.base ≡ base → program.words ≡ words.items → program.grants ≡ listed chunks.now → found ≡ Ok program) }
+    ensures words { IfOk result (λ found. IfErr found (λ left. left.items ≡ words.items)) }
 {
     if base % 4 != 0
         || words.len() > MAX_WORDS as usize
         || u64::from(base) + 4 * words.len() as u64 > ADDRESSES
     {
-        return Ok(None);
+        return Ok(Err(words));
     }
     let Some(grants) = grants_of(alloc, chunks)? else {
-        return Ok(None);
+        return Ok(Err(words));
     };
     if is_apart(base, &words, &grants) {
-        Ok(Some(Program::new(base, words, grants)))
+        Ok(Ok(Program::new(base, words, grants)))
     } else {
-        Ok(None)
+        Ok(Err(words))
     }
 }
 
@@ -172,6 +174,67 @@ fn compare(alloc: Global, text: &[u8], program: &Program, fill: u8) -> Result<Ag
     })
 }
 
+// How many bytes of a text surely begin a listing: as many as agree with that of a program.
+fn begun(
+    alloc: Global,
+    text: &[u8],
+    base: u32,
+    words: Vec<u32>,
+    chunks: &[(u32, u32)],
+) -> Result<usize, AllocError>
+    ensures { IfOk result (λ number. IsBegun text.now number) }
+{
+    let Ok(program) = program_of(alloc, base, words, chunks)? else {
+        return Ok(0);
+    };
+    Ok(match compare(alloc, text, &program, 0)? {
+        Agreement::Whole => text.len(),
+        Agreement::AllButFill => text.len(),
+        Agreement::No(number) => number,
+    })
+}
+
+// Whether a chunk can stand after others that end before `from`, and apart from words up to `end`.
+fn follows(chunk: (u32, u32), from: u64, base: u32, end: u64) -> bool
+    ensures { result ≡ follows chunk from base end }
+{
+    let (at, len) = chunk;
+    let (begin, past) = (u64::from(at), u64::from(at) + u64::from(len));
+    from <= begin && begin < past && (past <= u64::from(base) || end <= begin)
+}
+
+// How many chunks rise from the first on, apart from the words.
+#[tactic(auto, unfolding(crate::specs::Limits::rising))]
+fn rising(chunks: &[(u32, u32)], base: u32, end: u64) -> usize
+    ensures value { result ≡ rising 0 base end chunks.now }
+    ensures within { result ≤ length chunks.now }
+{
+    let (mut from, mut number, mut left) = (0, 0, chunks);
+    while let [chunk, rest @ ..] = left {
+        if !follows(*chunk, from, base, end) {
+            return number;
+        }
+        from = u64::from(chunk.0) + u64::from(chunk.1);
+        number += 1;
+        left = rest;
+    }
+    number
+}
+
+// As many of the words and of the chunks as a program can have, where its base is right.
+fn within_limits(base: u32, words: Vec<u32>, chunks: Vec<(u32, u32)>) -> (Vec<u32>, Vec<(u32, u32)>)
+    ensures { IsWithinLimits base words.items chunks.items result.0.items result.1.items }
+{
+    let room = (ADDRESSES - u64::from(base)) / 4;
+    let most = MAX_WORDS.min(room as u32) as usize;
+    let (mut words, mut chunks) = (words, chunks);
+    words.truncate(most);
+    let end = u64::from(base) + 4 * words.len() as u64;
+    let number = rising(&chunks, base, end);
+    chunks.truncate(number.min(MAX_CHUNKS));
+    (words, chunks)
+}
+
 // Judges a text by what its lines tell.
 fn judge_draft(alloc: Global, text: &[u8], draft: Draft) -> Result<Verdict, AllocError>
     requires drafted { drafted text.now ≡ Some (seen draft) }
@@ -187,8 +250,12 @@ fn judge_draft(alloc: Global, text: &[u8], draft: Draft) -> Result<Verdict, Allo
     let Some(base) = base else {
         return Ok(Verdict::Wrong(0));
     };
-    let Some(program) = program_of(alloc, base, words, &chunks)? else {
-        return Ok(Verdict::Wrong(0));
+    let program = match program_of(alloc, base, words, &chunks)? {
+        Ok(program) => program,
+        Err(words) => {
+            let (words, chunks) = within_limits(base, words, chunks);
+            return Ok(Verdict::Wrong(begun(alloc, text, base, words, &chunks)?));
+        }
     };
     let fill = fill.unwrap_or(0);
     Ok(match compare(alloc, text, &program, fill)? {
@@ -196,25 +263,6 @@ fn judge_draft(alloc: Global, text: &[u8], draft: Draft) -> Result<Verdict, Allo
         Agreement::AllButFill => Verdict::Begun,
         Agreement::No(number) => Verdict::Wrong(number),
     })
-}
-
-// How many bytes of a text surely begin a listing, by what its first lines tell.
-fn begun(alloc: Global, text: &[u8], draft: Draft) -> Result<usize, AllocError>
-    ensures { IfOk result (λ number. IsBegun text.now number) }
-{
-    let Some(base) = draft.base else {
-        return Ok(0);
-    };
-    let Some(program) = program_of(alloc, base, draft.words, &draft.chunks)? else {
-        return Ok(0);
-    };
-    Ok(
-        match compare(alloc, text, &program, draft.fill.unwrap_or(0))? {
-            Agreement::Whole => text.len(),
-            Agreement::AllButFill => text.len(),
-            Agreement::No(number) => number,
-        },
-    )
 }
 
 /// Whether a text begins a listing, or is one. The error is want of memory.
@@ -226,8 +274,11 @@ pub fn judge(alloc: Global, text: &[u8]) -> Result<Verdict, AllocError>
     }
     let (draft, rest) = read_draft(alloc, text)?;
     if rest.is_empty() {
-        judge_draft(alloc, text, draft)
-    } else {
-        Ok(Verdict::Wrong(begun(alloc, text, draft)?))
+        return judge_draft(alloc, text, draft);
     }
+    let Some(base) = draft.base else {
+        return Ok(Verdict::Wrong(0));
+    };
+    let (words, chunks) = within_limits(base, draft.words, draft.chunks);
+    Ok(Verdict::Wrong(begun(alloc, text, base, words, &chunks)?))
 }

@@ -9,19 +9,19 @@ use Rattle.risc_asm.proofs.judge.judge_draft.Goals.{in-Whole, in-AllButFill, in-
 pub returns-in_default : goal.returns-in_default
 returns-in_default c = (begun_nowhere c.args.text.now, no_program_base c.args.text.now (seen c.args.draft) c.requires.drafted c.in_default.is c.requires.some)
 
-pub returns-in_default-2 : goal.returns-in_default-2
-returns-in_default-2 c = (
-  begun_nowhere c.args.text.now,
-  no_program c.args.text.now (seen c.args.draft) c.in-Some.base c.requires.drafted c.in-Some.is (rw (c.deref.ensures.value, c.in_default-2.is) at c.in_ok-program.ensures) c.requires.some,
+pub returns-in-Err : goal.returns-in-Err
+returns-in-Err c = (
+  c.in_ok-begun-in-Err.ensures,
+  no_program c.args.text.now (seen c.args.draft) c.in-Some.base _ c.requires.drafted c.in-Some.is (rw (c.deref.ensures.value, c.in-Err.is) at c.in_ok-program.ensures.program) c.requires.some,
 )
 
 pub returns : goal.returns
 returns c =
-    let finds = rw (c.deref.ensures.value, c.in-Some-2.is) at c.in_ok-program.ensures in
-    let program = c.in-Some-2.program in
+    let finds = rw c.deref.ensures.value at c.in_ok-program.ensures.program in
+    let program = c.in-Ok.program in
     let fill = c.unwrap_or-fill.result in
     let told = c.in_ok-compare.ensures in
-    elim c.match-branch-4.branch [
+    elim c.match-branch-5.branch [
       | in-Whole w ↦ rw w.result-is (record { made = told.made; base_small = told.base; fill_small = told.fill }, sym (rw w.in-Whole.is at told.value))
       | in-AllButFill w ↦ rw w.result-is (but_fill_begins c.args.text.now program told.made told.base (rw w.in-AllButFill.is at told.value))
       | in-No w ↦
@@ -29,7 +29,7 @@ returns c =
           let differ = rw w.in-No.is at told.value in
           rw w.result-is (
             begun_at c.args.text.now program fill _ listed_is differ,
-            no_agreement c.args.text.now (seen c.args.draft) c.in-Some.base program fill c.requires.drafted c.in-Some.is finds
+            no_agreement c.args.text.now (seen c.args.draft) c.in-Some.base program fill c.requires.drafted c.in-Some.is c.in_ok-program.field-0 c.in-Ok.is finds
                 (λ f is. c.unwrap_or-fill.ensures ∙ ap (λ found. unwrap_or found 0) is) _ differ c.requires.some,
           )
     ]

@@ -1,14 +1,14 @@
-use Rattle.std.proofs.Common.{◌∙◌, Some, ap, sym}
+use Rattle.std.proofs.Common.{◌∙◌, Ok, ap, sym}
 use Rattle.risc_text.proofs.Spelling.{some_is}
 use Rattle.risc_asm.proofs.Making.{apart_of, no_longer}
 use Rattle.risc_asm.proofs.judge.program_of.Goals as goal
 
-pub returns-then-is_apart : goal.returns-then-is_apart
-returns-then-is_apart c = λ program made base words grants.
+pub returns-then-is_apart-clause-program : goal.returns-then-is_apart-clause-program
+returns-then-is_apart-clause-program c = λ program made base words grants.
     let grants_same = some_is c.in-Some.grants program.grants (sym c.in-Some.is ∙ c.in_ok-grants.ensures program.grants made.grants grants) in
-    ap Some (c.new.ensures ∙ (λ i. record { base = sym base i; words = sym words i; grants = grants_same i }))
+    ap Ok (c.new.ensures ∙ (λ i. record { base = sym base i; words = sym words i; grants = grants_same i }))
 
-pub returns-else-is_apart : goal.returns-else-is_apart
-returns-else-is_apart c = λ program made base words grants.
+pub returns-else-is_apart-clause-program : goal.returns-else-is_apart-clause-program
+returns-else-is_apart-clause-program c = λ program made base words grants.
     let grants_same = some_is c.in-Some.grants program.grants (sym c.in-Some.is ∙ c.in_ok-grants.ensures program.grants made.grants grants) in
     absurd (no_longer c.is_apart.result _ c.is_apart.ensures c.if-is_apart.false (rw c.deref.ensures.value (apart_of program c.args.base c.args.words.items c.in-Some.grants base words grants_same made)))
