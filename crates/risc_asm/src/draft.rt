@@ -1,12 +1,19 @@
 //! What the lines of a text tell together.
 
-ghost use Rattle.risc_asm.specs.Drafts.{IsReadUpTo, LineFits, seen};
+ghost use Rattle.risc_asm.specs.Drafts.{IsReadUpTo, Leaves, LineFits, ReadsInstr, Takes, instr_to_end, seen, to_end};
 ghost use Rattle.risc_text.specs.Drafts.{blank, taken};
-ghost use Rattle.std.specs.Prelude.{◌≡◌, IfOk};
+ghost use Rattle.risc_text.specs.Readers.{Read, fields_of, line_at, named_line, word_field, words_line};
+ghost use Rattle.risc_word.specs.declared.Instr.{Instr};
+ghost use Rattle.risc_word.specs.Words.{fits};
+ghost use Rattle.std.specs.Prelude.{◌≡◌, ◌≤◌, ◌<◌, IfOk, IfSome, IsTrue, ℕ, length};
 
-use super::lines::next_line;
-use risc_text::Line;
-use risc_word::encode;
+use super::lines::read_named_line;
+use super::readers::{
+    next_line, read_address, read_jump, read_name, read_skip, read_skip_123, read_sync, read_write,
+    read_write_1_s_23, read_write_123, read_write_c,
+};
+use risc_text::{Line, Name};
+use risc_word::{Instr, encode};
 use std::alloc::{AllocError, AllocFailed, Global};
 
 /// What the lines of a text tell: a program, as far as its lines were read.
@@ -48,6 +55,110 @@ impl Draft {
         }
         Ok(())
     }
+
+    // Takes an instruction that was read, where its line ends there, and answers the text after it.
+    #[inline(always)]
+    fn take_instr<'a>(
+        &mut self,
+        read: Option<(Instr, &'a [u8])>,
+    ) -> Result<Option<&'a [u8]>, AllocError>
+        requires { IfSome read (λ x. IsTrue (fits x.0)) }
+        ensures taken { IfOk result (λ left. (found : Read Instr) → ReadsInstr read.entry found → Takes (seen self.old) (instr_to_end found) (seen self.new) left) }
+        ensures rest { IfOk result (λ left. IfSome left (λ y. (n : ℕ) → Leaves n read.entry → length y.now < n)) }
+    {
+        let Some((instr, text)) = read else {
+            return Ok(None);
+        };
+        let Some(rest) = next_line(text) else {
+            return Ok(None);
+        };
+        let mut words = [0; 5];
+        let number = encode(&instr, &mut words);
+        self.words.extend_from_slice(&words[..usize::from(number)])?;
+        Ok(Some(rest))
+    }
+
+    // The same with a word.
+    #[inline(always)]
+    #[tactic(auto, unfolding(risc_text::specs::Readers::word_field))]
+    fn take_word<'a>(&mut self, text: &'a [u8]) -> Result<Option<&'a [u8]>, AllocError>
+        ensures taken { IfOk result (λ left. Takes (seen self.old) (to_end (word_field text.now)) (seen self.new) left) }
+        ensures rest { IfOk result (λ left. IfSome left (λ y. length y.now < length text.now)) }
+    {
+        let Some((word, text)) = read_address(text) else {
+            return Ok(None);
+        };
+        let Some(rest) = next_line(text) else {
+            return Ok(None);
+        };
+        self.words.push(word)?;
+        Ok(Some(rest))
+    }
+
+    // The fields after the name. Each name has its own way to the words, which is what makes it fast.
+    #[inline(always)]
+    fn take_fields<'a>(
+        &mut self,
+        name: Name,
+        text: &'a [u8],
+    ) -> Result<Option<&'a [u8]>, AllocError>
+        ensures taken { IfOk result (λ left. Takes (seen self.old) (to_end (fields_of name text.now)) (seen self.new) left) }
+        ensures rest { IfOk result (λ left. IfSome left (λ y. length y.now < length text.now)) }
+    {
+        match name {
+            Name::Word => self.take_word(text),
+            Name::Write => self.take_instr(read_write(text)),
+            Name::Skip => self.take_instr(read_skip(text)),
+            Name::WriteC => self.take_instr(read_write_c(text)),
+            Name::Jump => self.take_instr(read_jump(text)),
+            Name::Sync => self.take_instr(read_sync(text)),
+            Name::Write123 => self.take_instr(read_write_123(text)),
+            Name::Skip123 => self.take_instr(read_skip_123(text)),
+            Name::Write1S23 => self.take_instr(read_write_1_s_23(text)),
+        }
+    }
+
+    // The line of an instruction or a word, after its address and a space.
+    #[inline(always)]
+    #[tactic(auto, unfolding(risc_text::specs::Readers::words_line))]
+    fn take_words_line<'a>(&mut self, text: &'a [u8]) -> Result<Option<&'a [u8]>, AllocError>
+        ensures taken { IfOk result (λ left. Takes (seen self.old) (to_end (words_line text.now)) (seen self.new) left) }
+        ensures rest { IfOk result (λ left. IfSome left (λ y. length y.now < length text.now)) }
+    {
+        let Some((name, text)) = read_name(text) else {
+            return Ok(None);
+        };
+        self.take_fields(name, text)
+    }
+
+    // A line that begins with a word.
+    fn take_named_line<'a>(&mut self, text: &'a [u8]) -> Result<Option<&'a [u8]>, AllocError>
+        ensures taken { IfOk result (λ left. Takes (seen self.old) (to_end (named_line text.now)) (seen self.new) left) }
+        ensures rest { IfOk result (λ left. IfSome left (λ y. length y.now < length text.now)) }
+    {
+        let Some((line, text)) = read_named_line(text) else {
+            return Ok(None);
+        };
+        let Some(rest) = next_line(text) else {
+            return Ok(None);
+        };
+        self.take(&line)?;
+        Ok(Some(rest))
+    }
+
+    // The line at the front of a text; the text after it. A space after eight bytes tells an address, which
+    // the lines before tell too.
+    #[inline(always)]
+    #[tactic(auto, unfolding(risc_text::specs::Readers::line_at, risc_text::specs::Readers::any_line))]
+    fn take_line<'a>(&mut self, text: &'a [u8]) -> Result<Option<&'a [u8]>, AllocError>
+        ensures taken { IfOk result (λ left. Takes (seen self.old) (line_at text.now) (seen self.new) left) }
+        ensures rest { IfOk result (λ left. IfSome left (λ y. length y.now < length text.now)) }
+    {
+        match text {
+            [_, _, _, _, _, _, _, _, b' ', rest @ ..] => self.take_words_line(rest),
+            _ => self.take_named_line(text),
+        }
+    }
 }
 
 /// What the lines of a text tell, up to the first that can't be read, and that line with those after it.
@@ -57,8 +168,7 @@ pub fn read_draft(alloc: Global, text: &[u8]) -> Result<(Draft, &[u8]), AllocErr
 {
     let mut draft = Draft::new(alloc);
     let mut rest = text;
-    while let Some((line, left)) = next_line(rest) {
-        draft.take(&line)?;
+    while let Some(left) = draft.take_line(rest)? {
         rest = left;
     }
     Ok((draft, rest))

@@ -3,7 +3,7 @@
 
 ghost use Rattle.risc_text.specs.Readers.{Reads, address, after, base_line, chunk_line, code, control, count, data_fields, decimal_digit, decimal_digits, digit, fields_of, fill_line, flag, hex_digit, hex_digits, jump_fields, name_at, nibble, page_line, skip_123_fields, skip_fields, sync_fields, three_addresses, three_counts, skip_name, write_name, word_field, words_line, write_123_fields, write_1_s_23_fields, write_c_fields, write_fields};
 ghost use Rattle.risc_word.specs.Words.{control_fits, counts_fit, fits};
-ghost use Rattle.std.specs.Prelude.{◌≡◌, ◌+◌, ◌*◌, ◌≤◌, ◌<◌, ◌^◌, IfSome, IsTrue, length};
+ghost use Rattle.std.specs.Prelude.{◌≡◌, ◌+◌, ◌*◌, ◌≤◌, ◌<◌, ◌^◌, IfSome, IsTrue, codes, length};
 
 use risc_text::Name;
 use risc_word::{Code, Ctl, Ends, Instr};
@@ -26,6 +26,15 @@ pub fn after<'a>(text: &'a [u8], name: &[u8]) -> Option<&'a [u8]>
     ensures rest { IfSome result (λ x. length x.now + length name.now ≡ length text.now) }
 {
     text.strip_prefix(name)
+}
+
+// The text after the end of a line, where one stands here.
+#[inline(always)]
+pub fn next_line(text: &[u8]) -> Option<&[u8]>
+    ensures value { Reads (λ x. x.now) result (after (codes "\n") text.now) }
+    ensures rest { IfSome result (λ x. length x.now < length text.now) }
+{
+    after(text, b"\n")
 }
 
 // The number of a hexadecimal digit in lower case.

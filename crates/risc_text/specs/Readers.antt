@@ -261,9 +261,12 @@ named_line text =
 unfoldable pub any_line : List ℕ → Read Line
 any_line text = if slice_index text 8 == 32 then words_line (drop 9 text) else named_line text
 
--- a line with its end
-unfoldable pub line_at : List ℕ → Read Line
-line_at text = do
-  read ← any_line text
+-- what was read, where its line ends there
+abbrev pub ended : Line × List ℕ → Read Line
+ended read = do
   rest ← after (codes "\n") read.1
   Some (read.0, rest)
+
+-- a line with its end
+unfoldable pub line_at : List ℕ → Read Line
+line_at text = any_line text >>= ended
