@@ -6,3 +6,4 @@ pub mod Searching
 pub mod OneAnswer
 pub mod NoFields
 pub mod Agreeing
+pub mod DigitTable
