@@ -38,6 +38,7 @@ impl Draft {
         }
     }
 
+    // Takes a line.
     fn take(&mut self, line: &Line) -> Result<(), AllocError>
         requires { LineFits line.now }
         ensures { IfOk result (λ _. seen self.new ≡ taken (seen self.old) line.now) }

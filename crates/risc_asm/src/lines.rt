@@ -1,7 +1,7 @@
 //! What is read from the lines that begin with a word.
 
 ghost use Rattle.risc_asm.specs.Drafts.{LineFits};
-ghost use Rattle.risc_text.specs.Readers.{Reads, any_line, base_line, chunk_line, fields_of, fill_line, line_at, named_line, page_line, word_field, words_line};
+ghost use Rattle.risc_text.specs.Readers.{Reads, base_line, chunk_line, fill_line, named_line, page_line};
 ghost use Rattle.std.specs.Prelude.{◌≡◌, ◌≤◌, ◌<◌, IfSome, length};
 
 use super::readers::{after, read_address, read_eight_places, read_two_digits};

@@ -107,6 +107,26 @@ fn the_first_line_at_fault_is_told(rt: HostRuntime) -> Result<(), Fail> {
     Ok(())
 }
 
+#[test]
+fn chunks_rise_apart_from_the_words(rt: HostRuntime) -> Result<(), Fail> {
+    let falling = b"base 00001000\nchunk 00020008 4\nchunk 00020000 4\nfill 00\n";
+    assert_eq!(rt; fault_of(rt.alloc(), falling)?, Some(AsmFault::Line(3)));
+    let twice = b"base 00001000\npage 00020000\npage 00020000\nfill 00\n";
+    assert_eq!(rt; fault_of(rt.alloc(), twice)?, Some(AsmFault::Line(3)));
+    let own = b"base 00001000\n00001000 skip 4\nchunk 00001000 4\nfill 00\n";
+    assert_eq!(rt; fault_of(rt.alloc(), own)?, Some(AsmFault::Line(3)));
+    // five words told one by one that are an instruction: the line of the fifth is at fault
+    let write = b"base 00001000\n\
+        00001000 word 90000004\n\
+        00001004 word 00040004\n\
+        00001008 word 00020000\n\
+        0000100c word 00020000\n\
+        00001010 word 00020000\n\
+        fill 00\n";
+    assert_eq!(rt; fault_of(rt.alloc(), write)?, Some(AsmFault::Line(6)));
+    Ok(())
+}
+
 // Each of these lines after `base 00001000` is at fault.
 const WRONG: [&[u8]; 14] = [
     b"00001000 sync  vre\n",
