@@ -1,0 +1,5 @@
+pub mod Splits
+pub mod Sound
+pub mod Standing
+pub mod Meets
+pub mod Shown
