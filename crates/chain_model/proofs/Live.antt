@@ -35,7 +35,7 @@ use Rattle.chain_model.proofs.Others.{step-with}
 none_at : (skipping : Skipping) (target there : Option ℕ) → there ≡ None → TargetAt skipping target there → TargetAt skipping target None
 none_at skipping target there e h = subst (TargetAt skipping target) e h
 
-Belongs-IsPart : (chain : Chain) (slot : ℕ) (part : Option ℕ) → Belongs chain slot part → IsPart chain part
+pub Belongs-IsPart : (chain : Chain) (slot : ℕ) (part : Option ℕ) → Belongs chain slot part → IsPart chain part
 Belongs-IsPart chain slot None there = tt
 Belongs-IsPart chain slot (Some part) there = there.0
 
@@ -100,7 +100,7 @@ module _ (chain : Chain) (is : IsChain chain) (sound : IsSoundChain chain) where
           alike = λ on e. behind_alike chain (alone_in chain part) patching (length-alone chain part) good.long m.pc low;
         }
 
-    idle_stands : (m : State) (part : Option ℕ) → IsPart chain part → IsSafe (with_program (alone chain part) m) → m.job ≡ Idle → Stands chain is sound m.pc
+    pub idle_stands : (m : State) (part : Option ℕ) → IsPart chain part → IsSafe (with_program (alone chain part) m) → m.job ≡ Idle → Stands chain is sound m.pc
     idle_stands m part there safe idle =
         let number = safe.on_path.number in
         let here = idle_there (alone chain part) (path (alone chain part) number) m.pc m.skipping m.target m.job idle safe.on_path.there in

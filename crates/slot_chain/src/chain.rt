@@ -1,0 +1,147 @@
+//! A chain while it runs.
+
+ghost use Rattle.std.specs.Prelude.{◌≡◌, ◌<◌, length, IfSome};
+ghost use Rattle.chain_model.specs.Chains.{Chain as ChainOf};
+ghost use Rattle.slot_chain.specs.Wheels.{EnteredAt, EntersAt, slot_of};
+
+use crate::wheel::Wheel;
+use chain_model::PartWords;
+use dma_machine::Report;
+use fifo_model::{Entry, Pushed, Queue};
+use irq_status::HostWrite;
+use page_ram::Ram;
+use risc_word::Code;
+use std::marker::Model;
+
+/// A chain with its machine, its queues and its memory. Contracts see the chain and its live state, whose program is at all
+/// times that of the words as they are now.
+#[derive(Drop)]
+pub struct Chain<R: Ram> {
+    wheel: Wheel<R>,
+    base: u32,
+    slots: u32,
+    parts: Vec<PartWords>,
+    /// The part to which each slot leads.
+    patching: Vec<Option<u32>>,
+}
+
+impl<R: Ram> Model for Chain<R> {
+    ghost use Rattle.chain_model.specs.Chains.{IsPatching};
+    ghost use Rattle.slot_chain.specs.States.{ChainState, chain_of, state_of};
+    ghost use Rattle.slot_chain.specs.Wheels.{IsWheel};
+
+    ghost Value = { ChainState };
+
+    ghost view = { λ c. state_of (chain_of c.base c.slots c.parts.items c.wheel.machine.program.grants) c.patching.items c.wheel.machine };
+
+    ghost invariant = { λ c. IsWheel (chain_of c.base c.slots c.parts.items c.wheel.machine.program.grants) c.wheel.machine.program c.wheel.programs.items c.wheel.current × IsPatching (chain_of c.base c.slots c.parts.items c.wheel.machine.program.grants) c.patching.items };
+}
+
+impl<R: Ram> Chain<R> {
+    ghost use Rattle.std.specs.Prelude.{◌≡◌, ◌<◌, false};
+    ghost use Rattle.sync_status.specs.Statuses.{is_control, kind_of};
+    ghost use Rattle.irq_status.specs.Writes.{IsWrite};
+    ghost use Rattle.machine_model.specs.Steps.{Control, Host, Push, Turn, control_pushed_as, pushed_as};
+    ghost use Rattle.dma_machine.specs.Facts.{report_of};
+    ghost use Rattle.chain_model.specs.Chains.{Belongs};
+    ghost use Rattle.chain_model.specs.Live.{LiveInside, Patch, Plain};
+    ghost use Rattle.slot_chain.specs.States.{lived, turned};
+
+    /// A push of a data entry to a queue; it is ignored while the FIFO is off.
+    #[inline]
+    pub fn push(&mut self, q: Queue, e: Entry) -> Pushed
+        requires { is_control (kind_of e.status) ≡ false }
+        ensures state { self.new ≡ lived (Plain (Push q e)) self.old }
+        ensures answer { result ≡ pushed_as q self.old.live.machine }
+    {
+        self.wheel.machine.push(q, e)
+    }
+
+    /// A push of a control code into all three queues; it is ignored while the FIFO is off.
+    #[inline]
+    pub fn push_control(&mut self, c: Code) -> Pushed
+        ensures state { self.new ≡ lived (Plain (Control c)) self.old }
+        ensures answer { result ≡ control_pushed_as self.old.live.machine }
+    {
+        self.wheel.machine.push_control(c)
+    }
+
+    /// One turn of the controller, over the words as they are now. Where it fetches at a slot, the program of the slot's
+    /// part comes into the machine first.
+    #[inline]
+    pub fn turn(&mut self)
+        ensures state { self.new ≡ lived (Plain Turn) self.old }
+        ensures inside { LiveInside self.old.chain self.old.live }
+    {
+        let next = self.wheel.machine.next_fetch();
+        let slot = slot_fetched(next, self.base, self.slots);
+        enter_slot(&mut self.wheel, slot, &self.patching);
+        self.wheel.machine.turn();
+    }
+
+    /// So many turns of the controller.
+    pub fn turns(&mut self, count: u32)
+        ensures { self.new ≡ turned count self.old }
+    {
+        for _turn in 0..count {
+            self.turn();
+        }
+    }
+
+    /// A register write of the host.
+    pub fn host(&mut self, w: HostWrite)
+        requires { IsWrite w }
+        ensures { self.new ≡ lived (Plain (Host w)) self.old }
+    {
+        self.wheel.machine.host(w);
+    }
+
+    /// A patch of the host: a slot leads to a part from now on, or without one on to the next slot. A machine inside the
+    /// part that is patched out finishes it.
+    pub fn patch(&mut self, slot: u32, part: Option<u32>)
+        requires exists { slot < self.old.chain.slots }
+        requires belongs { Belongs self.old.chain slot part }
+        ensures { self.new ≡ lived (Patch slot part) self.old }
+    {
+        self.patching[slot as usize] = part;
+    }
+
+    /// The counts and INT_STAT.
+    pub fn report(&self) -> Report
+        ensures { result ≡ report_of self.now.live.machine }
+    {
+        self.wheel.machine.report()
+    }
+
+    /// The memory.
+    pub fn ram(&self) -> &R
+        ensures { R.memory result.now ≡ self.now.live.machine.memory }
+    {
+        self.wheel.machine.ram()
+    }
+}
+
+/// Puts the program of a slot's part into the machine, if there is a slot.
+#[inline]
+fn enter_slot<R: Ram>(wheel: &mut Wheel<R>, slot: Option<usize>, patching: &[Option<u32>])
+    requires within { IfSome slot (λ s. s < length patching.now) }
+    requires can { (chain : ChainOf) × EntersAt chain slot patching.now wheel.old.machine wheel.old.programs.items wheel.old.current }
+    ensures { (chain : ChainOf) → EntersAt chain slot patching.now wheel.old.machine wheel.old.programs.items wheel.old.current →
+        EnteredAt chain slot patching.now wheel.old.machine wheel.new.machine wheel.new.programs.items wheel.new.current }
+{
+    if let Some(slot) = slot {
+        wheel.enter(patching[slot]);
+    }
+}
+
+/// The slot at which the next turn fetches, if it does.
+fn slot_fetched(next: Option<u32>, base: u32, slots: u32) -> Option<usize>
+    ensures { result ≡ slot_of base slots next }
+{
+    let address = next?;
+    if address >= base && (address - base) % 8 == 0 && (address - base) / 8 < slots {
+        Some(((address - base) / 8) as usize)
+    } else {
+        None
+    }
+}
