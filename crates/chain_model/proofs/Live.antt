@@ -39,6 +39,10 @@ pub Belongs-IsPart : (chain : Chain) (slot : ℕ) (part : Option ℕ) → Belong
 Belongs-IsPart chain slot None there = tt
 Belongs-IsPart chain slot (Some part) there = there.0
 
+pub IsPatching-unpatched : (chain : Chain) → IsPatching chain (unpatched chain)
+IsPatching-unpatched chain =
+    record { long = length-alone chain None; belong = λ slot lt. subst (Belongs chain slot) (sym (part_at-unpatched chain slot)) tt }
+
 module _ (chain : Chain) (is : IsChain chain) (sound : IsSoundChain chain) where
   -- it can go on with each part of this slot, and with none
   pub safe_at_slot : (part other : Option ℕ) (slot : ℕ) (m : State) → slot < chain.slots → m.job ≡ Idle → m.pc ≡ slot_at chain slot → IsPart chain part →
@@ -154,10 +158,6 @@ module _ (chain : Chain) (is : IsChain chain) (sound : IsSoundChain chain) where
         belong = λ k below. after_patch patching slot k part good lt below belongs (cases_eq k slot);
       }
 
-  pub IsPatching-unpatched : IsPatching chain (unpatched chain)
-  IsPatching-unpatched =
-      record { long = length-alone chain None; belong = λ slot lt. subst (Belongs chain slot) (sym (part_at-unpatched chain slot)) tt }
-
   IsLive-turn : (live : Live) (h : IsLive chain live) → IsLive chain (live_step chain (Plain Turn) live)
   IsLive-turn live h =
       let r = ready live.patching h.patching live.machine h.part h.is_part h.safe in
@@ -205,7 +205,7 @@ module _ (chain : Chain) (is : IsChain chain) (sound : IsSoundChain chain) where
   pub IsLive-first : (fill : ℕ) → IsLive chain (first_live chain fill)
   IsLive-first fill =
       record {
-        patching = IsPatching-unpatched;
+        patching = IsPatching-unpatched chain;
         program = refl;
         part = None;
         is_part = tt;

@@ -1,2 +1,3 @@
 pub mod Wheels
 pub mod States
+pub mod Making

@@ -1,17 +1,22 @@
 //! A chain while it runs.
 
-ghost use Rattle.std.specs.Prelude.{◌≡◌, ◌<◌, length, IfSome};
+ghost use Rattle.std.specs.Prelude.{◌≡◌, ◌<◌, length, replicate, IfOk, IfSome, None};
 ghost use Rattle.chain_model.specs.Chains.{Chain as ChainOf};
 ghost use Rattle.slot_chain.specs.Wheels.{EnteredAt, EntersAt, slot_of};
 
+use crate::making::{ChainError, accept, accept_parts, empty_words, judge_place};
 use crate::wheel::Wheel;
 use chain_model::PartWords;
-use dma_machine::Report;
-use fifo_model::{Entry, Pushed, Queue};
+use dma_machine::{Machine, Report};
+use fifo_model::{Entry, Fifo, Pushed, Queue};
 use irq_status::HostWrite;
 use page_ram::Ram;
+use page_table::PageSet;
+use risc_verify::Steps;
 use risc_word::Code;
+use std::alloc::{AllocError, Global};
 use std::marker::Model;
+use std::sync::ledger::Ledger;
 
 /// A chain with its machine, its queues and its memory. Contracts see the chain and its live state, whose program is at all
 /// times that of the words as they are now.
@@ -35,6 +40,59 @@ impl<R: Ram> Model for Chain<R> {
     ghost view = { λ c. state_of (chain_of c.base c.slots c.parts.items c.wheel.machine.program.grants) c.patching.items c.wheel.machine };
 
     ghost invariant = { λ c. IsWheel (chain_of c.base c.slots c.parts.items c.wheel.machine.program.grants) c.wheel.machine.program c.wheel.programs.items c.wheel.current × IsPatching (chain_of c.base c.slots c.parts.items c.wheel.machine.program.grants) c.patching.items };
+}
+
+impl<R: Ram + Drop> Chain<R> {
+    ghost use Rattle.std.specs.Prelude.{◌≡◌, ◌+◌, ◌*◌, ◌<◌, ◌≤◌, IfErr, IfOk, length};
+    ghost use Rattle.std.specs.List.{All};
+    ghost use Rattle.fifo_model.specs.Queues.{empty_fifo};
+    ghost use Rattle.page_table.specs.Blocks.{chunks_of};
+    ghost use Rattle.chain_model.specs.Chains.{IsChain, IsSoundChain, max_parts, max_slots};
+    ghost use Rattle.slot_chain.specs.Making.{Refuses, word_count};
+    ghost use Rattle.slot_chain.specs.States.{chain_of, first_chain};
+
+    /// A chain of these slots and parts, which stands at the base and may write these grants. No slot leads to a part, and
+    /// its machine is at the base. The verifier's steps are counted.
+    pub fn new<L: Ledger>(
+        alloc: Global,
+        base: u32,
+        slots: u32,
+        parts: Vec<PartWords>,
+        grants: PageSet,
+        ram: R,
+        fifo: Fifo,
+        steps: &mut Steps<L>,
+    ) -> Result<Chain<R>, ChainError>
+        requires slots { (1 ≤ slots) × (slots ≤ max_slots) }
+        requires parts { length parts.items ≤ max_parts }
+        requires belong { All (λ part. part.slot < slots) parts.items }
+        requires granted { chunks_of (R.memory ram) ≡ grants }
+        requires empty { fifo ≡ empty_fifo }
+        ensures first { IfOk result (λ c. c ≡ first_chain (chain_of base slots parts.items grants) (R.memory ram)) }
+        ensures sound { IfOk result (λ c. IsChain c.chain × IsSoundChain c.chain) }
+        ensures refused { IfErr result (Refuses (chain_of base slots parts.items grants)) }
+        ensures cost { (steps.old ≤ steps.new) × (steps.new ≤ steps.old + (length parts.items + 1) * (2 * word_count (chain_of base slots parts.items grants) + 1)) }
+    {
+        judge_place(base, slots, &parts, &grants)?;
+        let words = empty_words(alloc, base, slots, &parts)?;
+        let programs = accept_parts(alloc, base, slots, &words, &parts, &grants, steps)?;
+        let empty = match accept(alloc, base, words, &grants, steps) {
+            Ok(empty) => empty,
+            Err(_) => return Err(ChainError::Memory),
+        };
+        let patching = no_parts(alloc, slots)?;
+        Ok(Chain {
+            wheel: Wheel {
+                machine: Machine::new(empty, ram, fifo),
+                programs,
+                current: None,
+            },
+            base,
+            slots,
+            parts,
+            patching,
+        })
+    }
 }
 
 impl<R: Ram> Chain<R> {
@@ -132,6 +190,17 @@ fn enter_slot<R: Ram>(wheel: &mut Wheel<R>, slot: Option<usize>, patching: &[Opt
     if let Some(slot) = slot {
         wheel.enter(patching[slot]);
     }
+}
+
+/// A patching in which no slot leads to a part.
+fn no_parts(alloc: Global, slots: u32) -> Result<Vec<Option<u32>>, AllocError>
+    ensures { IfOk result (λ patching. patching.items ≡ replicate slots None) }
+{
+    let mut patching = Vec::new(alloc);
+    for _slot in 0..slots {
+        patching.push(None)?;
+    }
+    Ok(patching)
 }
 
 /// The slot at which the next turn fetches, if it does.

@@ -4,8 +4,10 @@
 
 mod chain;
 mod fragments;
+mod making;
 mod wheel;
 
 pub use chain::Chain;
 pub use chain_model::PartWords;
 pub use fragments::fragment;
+pub use making::ChainError;

@@ -1,0 +1,90 @@
+-- A chain as it is made.
+use Rattle.std.proofs.Common.{◌≡◌, ◌≢◌, ℕ, ◌+◌, ◌*◌, ◌<◌, ◌≤◌, Bool, true, false, All, List, [], ◌∷◌, length, Option, Some, None, refl, sym, ap, subst, ◌∙◌, arith}
+use Rattle.std.specs.Prelude.{replicate, slice_index_or}
+use Rattle.std.specs.List.{list_any}
+use Rattle.std.proofs.lemmas.Bool.{or_parts}
+use Rattle.std.proofs.lemmas.List.{get_or_default}
+use Rattle.std.proofs.lemmas.List.Elements.{All-nil, All-cons}
+use Rattle.page_table.specs.Grants.{Chunk}
+use Rattle.machine_model.specs.Paths.{RiscProgram, shares_byte}
+use Rattle.chain_model.specs.declared.PartWords.{PartWords}
+use Rattle.chain_model.specs.Chains.{Chain, IsChain, IsPatching, IsSoundChain, alone, max_parts, max_slots, unpatched}
+use Rattle.chain_model.proofs.Slots.{part_at-unpatched, length-alone}
+use Rattle.chain_model.proofs.Live.{IsPatching-unpatched}
+use Rattle.slot_chain.specs.Making.{AreAlone, IsPlaced, place_fault, word_count}
+use Rattle.slot_chain.specs.States.{chain_of}
+use Rattle.slot_chain.specs.Wheels.{IsWheel}
+use Rattle.slot_chain.proofs.Placing.{placed}
+
+none_of : (test : Chunk → Bool) (chunks : List Chunk) → list_any test chunks ≡ false → All (λ c. test c ≡ false) chunks
+none_of test [] e = All-nil (λ c. test c ≡ false)
+none_of test (c ∷ rest) e =
+    let parts = or_parts (test c) (list_any test rest) e in
+    All-cons (λ c. test c ≡ false) c rest parts.0 (none_of test rest parts.1)
+
+module _ (chain : Chain) (slots : (1 ≤ chain.slots) × (chain.slots ≤ max_slots)) (parts : length chain.parts ≤ max_parts) (belong : All (λ part. part.slot < chain.slots) chain.parts)
+    (none : place_fault chain ≡ None) where
+  pub is_chain : IsChain chain
+  is_chain =
+      let place = placed chain none in
+      record {
+        slots = slots;
+        parts = parts;
+        belong = belong;
+        aligned = place.aligned;
+        few = place.few;
+        ends = place.ends;
+        apart = none_of (shares_byte (alone chain None)) chain.grants place.apart;
+      }
+
+  pub first_wheel : (running : RiscProgram) (programs : List RiscProgram) → AreAlone chain programs → running ≡ alone chain None → IsWheel chain running programs None
+  first_wheel running programs are is =
+      record {
+        is = is_chain;
+        sound = are.sound;
+        part = tt;
+        runs = is;
+        count = are.count;
+        kept = λ part lt. ap (slice_index_or programs part) is ∙ are.each part lt;
+      }
+
+-- from what the code is told of its parts
+module _ (base slots : ℕ) (parts judged worded met : List PartWords) (grants : List Chunk) (words : List ℕ) (running : RiscProgram) (programs : List RiscProgram) (patching : List (Option ℕ))
+    (one : judged ≡ parts) (two : worded ≡ parts) (three : met ≡ parts) (some : (1 ≤ slots) × (slots ≤ max_slots)) (few : length parts ≤ max_parts)
+    (belong : All (λ part. part.slot < slots) parts) (none : None ≡ place_fault (chain_of base slots judged grants))
+    (words_are : (g : List Chunk) → words ≡ (alone (chain_of base slots worded g) None).words) (are : AreAlone (chain_of base slots met grants) programs)
+    (runs : running ≡ record { base = base; words = words; grants = grants }) (list : patching ≡ replicate slots None) where
+  abbrev whole : Chain
+  whole = chain_of base slots parts grants
+
+  no_fault : place_fault whole ≡ None
+  no_fault = sym (subst (λ (ps : List PartWords). None ≡ place_fault (chain_of base slots ps grants)) one none)
+
+  runs_empty : running ≡ alone whole None
+  runs_empty =
+      runs ∙ ap (λ (ws : List ℕ). record { base = base; words = ws; grants = grants }) (words_are grants)
+      ∙ ap (λ (ps : List PartWords). record { base = base; words = (alone (chain_of base slots ps grants) None).words; grants = grants }) two
+
+  alone_whole : AreAlone whole programs
+  alone_whole = subst (λ (ps : List PartWords). AreAlone (chain_of base slots ps grants) programs) three are
+
+  grants_are : running.grants ≡ grants
+  grants_are = ap (λ (p : RiscProgram). p.grants) runs
+
+  pub made_wheel : IsWheel (chain_of base slots parts running.grants) running programs None
+  made_wheel =
+      subst (λ (g : List Chunk). IsWheel (chain_of base slots parts g) running programs None) (sym grants_are)
+      (first_wheel whole some few belong no_fault running programs alone_whole runs_empty)
+
+  pub made_patching : IsPatching (chain_of base slots parts running.grants) patching
+  made_patching =
+      subst (λ (ps : List (Option ℕ)). IsPatching (chain_of base slots parts running.grants) ps) (sym list)
+      (IsPatching-unpatched (chain_of base slots parts running.grants))
+
+  pub made_chain : IsChain (chain_of base slots parts running.grants)
+  made_chain =
+      subst (λ (g : List Chunk). IsChain (chain_of base slots parts g)) (sym grants_are) (is_chain whole some few belong no_fault)
+
+  pub made_sound : IsSoundChain (chain_of base slots parts running.grants)
+  made_sound =
+      subst (λ (g : List Chunk). IsSoundChain (chain_of base slots parts g)) (sym grants_are) alone_whole.sound

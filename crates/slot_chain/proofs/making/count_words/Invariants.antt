@@ -1,0 +1,8 @@
+use Rattle.std.proofs.Common.{◌≡◌, ◌+◌, ◌*◌, ◌≤◌, length, take}
+use Rattle.machine_model.specs.Paths.{max_words}
+use Rattle.chain_model.specs.Chains.{words_of_parts}
+use Rattle.slot_chain.proofs.Counting.{IsCounted}
+use Rattle.slot_chain.proofs.making.count_words.Given as goal
+
+abbrev pub invariant-loop-part : goal.invariant-loop-part
+invariant-loop-part l = IsCounted l.slots l.parts l.part-index l.count
