@@ -3,3 +3,4 @@ pub mod Sound
 pub mod Standing
 pub mod Meets
 pub mod Shown
+pub mod Worked

@@ -2,8 +2,13 @@
 //! functions do nothing; their contracts are the laws.
 #![tactic(auto)]
 
+ghost use Rattle.pixel_layout.specs.declared.Parity.TheVariants.{Top};
+ghost use Rattle.picture_model.specs.Worked.{smallest};
+ghost use Rattle.picture_law.specs.Worked.{picture};
+ghost use Rattle.chain_model.specs.Chains.{IsChain, IsSoundChain};
 ghost use Rattle.chain_law.specs.Fragments.{FragmentIsSound, FragmentsAreSound};
-ghost use Rattle.chain_law.specs.Pictures.{LiveShowsNoFault, LiveShowsPicture, LiveTellsField};
+ghost use Rattle.chain_law.specs.Pictures.{IsSignalled, LiveShowsNoFault, LiveShowsPicture, LiveTellsField};
+ghost use Rattle.chain_law.specs.Worked.{other, steps, two_slots};
 
 /// A part that is the fragment of a description whose memory the chain may write is sound alone, whatever the other parts
 /// are; so a chain of such parts is sound.
@@ -20,4 +25,14 @@ pub fn live_pictures_are_shown()
     ensures shown { LiveShowsPicture }
     ensures quiet { LiveShowsNoFault }
     ensures signalled { LiveTellsField }
+{}
+
+/// The premises of these laws can be met: a chain of two slots whose parts are the fragments of two descriptions is sound.
+/// A field arrives at the fragment to which its first slot leads, and is signalled though the slot is patched to the other
+/// fragment while this one runs; the next field arrives at that other one.
+pub fn worked_chain_is_patched_while_it_runs()
+    ensures chain { IsChain two_slots }
+    ensures sound { IsSoundChain two_slots }
+    ensures first { IsSignalled two_slots 0 smallest Top picture 0 steps 7 19 }
+    ensures second { IsSignalled two_slots 1 other Top picture 0 steps 24 31 }
 {}
