@@ -11,3 +11,6 @@ pub use chain::Chain;
 pub use chain_model::PartWords;
 pub use fragments::fragment;
 pub use making::ChainError;
+
+#[cfg(test)]
+mod tests;
