@@ -1,9 +1,9 @@
 -- Turns of a chain, one after the other.
-use Rattle.std.proofs.Common.{◌≡◌, ℕ, zero, suc, ◌+◌, List, [], ◌∷◌, ◌++◌, refl, sym, ap, ◌∙◌, arith}
+use Rattle.std.proofs.Common.{◌≡◌, ℕ, zero, suc, ◌+◌, refl, ap, ◌∙◌, arith}
 use Rattle.std.specs.Prelude.{replicate}
 use Rattle.machine_model.specs.Steps.{Turn}
 use Rattle.chain_model.specs.Chains.{Chain}
-use Rattle.chain_model.specs.Live.{Live, LiveStep, Plain, live_run, live_step}
+use Rattle.chain_model.specs.Live.{Live, Plain, live_run, live_step}
 use Rattle.slot_chain.specs.States.{ChainState, lived, turned}
 
 live_more : (chain : Chain) (live : Live) (count : ℕ) → live_step chain (Plain Turn) (live_run chain live (replicate count (Plain Turn))) ≡ live_run chain live (replicate (suc count) (Plain Turn))

@@ -1,11 +1,11 @@
 -- The words of a chain as the code makes them.
-use Rattle.std.proofs.Common.{◌≡◌, ℕ, zero, suc, ◌+◌, ◌-◌, ◌*◌, ◌<◌, ◌≤◌, List, [], ◌∷◌, ◌++◌, length, take, drop, length-append, append_assoc, Option, Some, None, refl, sym, ap, subst, ◌∙◌, arith}
-use Rattle.std.specs.Prelude.{replicate, slice_index_or, slice_set}
+use Rattle.std.proofs.Common.{◌≡◌, ℕ, suc, ◌+◌, ◌-◌, ◌*◌, ◌<◌, ◌≤◌, List, [], ◌∷◌, ◌++◌, length, take, drop, length-append, append_assoc, None, sym, ap, ◌∙◌, arith}
+use Rattle.std.specs.Prelude.{replicate, slice_index_or}
 use Rattle.std.proofs.lemmas.Grind.{flat_map-append}
 use Rattle.std.proofs.lemmas.List.{append-nil, take-append-drop, take_more}
 use Rattle.machine_model.specs.Paths.{max_words}
 use Rattle.chain_model.specs.declared.PartWords.{PartWords}
-use Rattle.chain_model.specs.Chains.{Chain, Patching, jump_word, loop_words, next, target, words_of_parts}
+use Rattle.chain_model.specs.Chains.{Chain, jump_word, loop_words, next, words_of_parts}
 
 pub words_more : (parts : List PartWords) (i : ℕ) (part : PartWords) → i < length parts → slice_index_or parts i part ≡ part →
     words_of_parts (take (i + 1) parts) ≡ words_of_parts (take i parts) ++ part.words

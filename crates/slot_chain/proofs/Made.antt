@@ -1,17 +1,15 @@
 -- A chain as it is made.
-use Rattle.std.proofs.Common.{◌≡◌, ◌≢◌, ℕ, ◌+◌, ◌*◌, ◌<◌, ◌≤◌, Bool, true, false, All, List, [], ◌∷◌, length, Option, Some, None, refl, sym, ap, subst, ◌∙◌, arith}
+use Rattle.std.proofs.Common.{◌≡◌, ℕ, ◌<◌, ◌≤◌, Bool, false, All, List, [], ◌∷◌, length, Option, None, sym, ap, subst, ◌∙◌}
 use Rattle.std.specs.Prelude.{replicate, slice_index_or}
 use Rattle.std.specs.List.{list_any}
 use Rattle.std.proofs.lemmas.Bool.{or_parts}
-use Rattle.std.proofs.lemmas.List.{get_or_default}
 use Rattle.std.proofs.lemmas.List.Elements.{All-nil, All-cons}
 use Rattle.page_table.specs.Grants.{Chunk}
 use Rattle.machine_model.specs.Paths.{RiscProgram, shares_byte}
 use Rattle.chain_model.specs.declared.PartWords.{PartWords}
-use Rattle.chain_model.specs.Chains.{Chain, IsChain, IsPatching, IsSoundChain, alone, max_parts, max_slots, unpatched}
-use Rattle.chain_model.proofs.Slots.{part_at-unpatched, length-alone}
+use Rattle.chain_model.specs.Chains.{Chain, IsChain, IsPatching, IsSoundChain, alone, max_parts, max_slots}
 use Rattle.chain_model.proofs.Live.{IsPatching-unpatched}
-use Rattle.slot_chain.specs.Making.{AreAlone, IsPlaced, place_fault, word_count}
+use Rattle.slot_chain.specs.Making.{AreAlone, place_fault}
 use Rattle.slot_chain.specs.States.{chain_of}
 use Rattle.slot_chain.specs.Wheels.{IsWheel}
 use Rattle.slot_chain.proofs.Placing.{placed}

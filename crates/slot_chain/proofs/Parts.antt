@@ -1,5 +1,5 @@
 -- The programs of the first parts.
-use Rattle.std.proofs.Common.{◌≡◌, ℕ, zero, suc, ◌+◌, ◌*◌, ◌<◌, ◌≤◌, ◌⊎◌, inl, inr, List, [], ◌∷◌, ◌++◌, length, take, length-append, length-take, Option, Some, None, refl, sym, ap, subst, ◌∙◌, arith}
+use Rattle.std.proofs.Common.{◌≡◌, ℕ, zero, suc, ◌+◌, ◌*◌, ◌<◌, ◌≤◌, ◌⊎◌, inl, inr, List, [], ◌∷◌, ◌++◌, length, take, length-append, Some, None, refl, sym, ap, subst, ◌∙◌, arith}
 use Rattle.std.specs.Prelude.{slice_index_or, slice_set}
 use Rattle.std.specs.List.{All}
 use Rattle.std.proofs.Math.Nat.{mul-le-mul_right}
@@ -7,12 +7,12 @@ use Rattle.std.proofs.lemmas.Bool.{cases_eq, cases_lt}
 use Rattle.std.proofs.lemmas.List.{get_or_append_left, get_or_default, get_or_push}
 use Rattle.machine_model.specs.Paths.{IsFirstBad, IsSound, RiscProgram}
 use Rattle.chain_model.specs.declared.PartWords.{PartWords}
-use Rattle.chain_model.specs.Chains.{Chain, Patching, alone, alone_in, chain_limit, head, loop_words, part_of, patched, slot_at, target, unpatched, words_of_parts}
+use Rattle.chain_model.specs.Chains.{Chain, Patching, alone, chain_limit, head, loop_words, part_of, target, unpatched, words_of_parts}
 use Rattle.chain_model.proofs.Slots.{length-alone}
 use Rattle.risc_verify.specs.Verdicts.{Refuses}
 use Rattle.risc_verify.specs.declared.walk.Why.{Why}
 use Rattle.risc_verify.specs.declared.walk.Why.TheVariants.{Bad, Memory}
-use Rattle.slot_chain.specs.Making.{AreAlone, AreSound, IsFirstUnsound, RefusesPart, refusal}
+use Rattle.slot_chain.specs.Making.{AreSound, RefusesPart, refusal}
 use Rattle.slot_chain.proofs.Loops.{words_at_most, words_more}
 use Rattle.slot_chain.proofs.Placing.{word_count_is}
 

@@ -1,5 +1,5 @@
 -- A turn of a chain: with the program of the slot's part in the machine it is one over the words as they are now.
-use Rattle.std.proofs.Common.{◌≡◌, ℕ, ◌+◌, ◌-◌, ◌*◌, ◌/◌, ◌%◌, ◌<◌, ◌≤◌, ◌⊎◌, inl, inr, Bool, true, false, ◌&&◌, List, length, Option, Some, None, refl, sym, ap, subst, ◌∙◌, arith, if◌then◌else◌, ◌==◌, nat_le, nat_lt}
+use Rattle.std.proofs.Common.{◌≡◌, ℕ, ◌+◌, ◌-◌, ◌*◌, ◌/◌, ◌%◌, ◌<◌, ◌≤◌, inl, inr, Bool, true, false, ◌&&◌, List, Option, Some, None, refl, sym, ap, subst, ◌∙◌, arith, if◌then◌else◌, ◌==◌, nat_le, nat_lt}
 use Rattle.std.proofs.lemmas.Bool.{and_from, le-leb, lt-ltb, eq-eqb, leb-true, ltb-true, eqb-true}
 use Rattle.machine_model.specs.declared.Job.{Job}
 use Rattle.machine_model.specs.declared.Job.TheVariants.{Idle, Waiting, Running}
@@ -15,13 +15,13 @@ use Rattle.machine_model.proofs.Rows.{three_parts}
 use Rattle.dma_machine.specs.Facts.{IsMachine}
 use Rattle.dma_machine.specs.Looks.{fetches_at, next_fetch}
 use Rattle.chain_model.specs.declared.PartWords.{PartWords}
-use Rattle.chain_model.specs.Chains.{Chain, IsChain, IsPart, IsPatching, IsSoundChain, Patching, alone, alone_in, part_at, patched, slot_at}
-use Rattle.chain_model.specs.Live.{IsLive, Live, LiveInside, Plain}
+use Rattle.chain_model.specs.Chains.{Chain, IsPatching, Patching, alone, alone_in, part_at, patched, slot_at}
+use Rattle.chain_model.specs.Live.{IsLive, LiveInside, Plain}
 use Rattle.chain_model.proofs.Live.{Belongs-IsPart, LiveInside-IsLive, idle_stands, safe_at_slot, slot_alike}
 use Rattle.chain_model.proofs.Slots.{Stands, length-alone}
 use Rattle.chain_model.proofs.Words.{behind_alike}
-use Rattle.slot_chain.specs.States.{ChainState, chain_of, live_of, lived, state_of}
-use Rattle.slot_chain.specs.Wheels.{CanEnter, EnteredAt, EntersAt, Entered, IsWheel, slot_of}
+use Rattle.slot_chain.specs.States.{chain_of, live_of, lived, state_of}
+use Rattle.slot_chain.specs.Wheels.{EnteredAt, EntersAt, IsWheel, slot_of}
 
 -- ---- where a turn fetches
 

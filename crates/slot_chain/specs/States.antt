@@ -6,9 +6,8 @@ use Rattle.page_table.specs.Grants.{Chunk}
 use Rattle.machine_model.specs.States.{State, started}
 use Rattle.machine_model.specs.Steps.{Turn, with_program}
 use Rattle.chain_model.specs.declared.PartWords.{PartWords}
-use Rattle.chain_model.specs.Chains.{Chain, IsPatching, Patching, patched, unpatched}
+use Rattle.chain_model.specs.Chains.{Chain, Patching, patched, unpatched}
 use Rattle.chain_model.specs.Live.{Live, LiveStep, Plain, live_run, live_step}
-use Rattle.slot_chain.specs.Wheels.{IsWheel}
 
 pub record ChainState : Type 0 where
   pub chain : Chain

@@ -1,6 +1,5 @@
 use Rattle.std.proofs.Common.{◌≡◌, ◌+◌, ◌*◌, ◌∙◌, ℕ, length, sym, ap, subst, arith}
 use Rattle.slot_chain.specs.Making.{RefusesPart, refusal}
-use Rattle.slot_chain.specs.declared.making.ChainError.{ChainError}
 use Rattle.slot_chain.specs.States.{chain_of}
 use Rattle.slot_chain.proofs.Parts.{first_none, head_room, its_program, one_more, refused_by, slot_below, slot_within}
 use Rattle.slot_chain.proofs.making.accept_parts.Goals as goal

@@ -1,6 +1,3 @@
-use Rattle.std.proofs.Common.{◌≡◌, ◌+◌, ◌*◌, ◌≤◌, length, take}
-use Rattle.machine_model.specs.Paths.{max_words}
-use Rattle.chain_model.specs.Chains.{words_of_parts}
 use Rattle.slot_chain.proofs.Counting.{IsCounted}
 use Rattle.slot_chain.proofs.making.count_words.Given as goal
 

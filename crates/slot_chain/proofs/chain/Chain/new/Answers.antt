@@ -1,4 +1,4 @@
-use Rattle.std.proofs.Common.{sym, ap, ◌∙◌}
+use Rattle.std.proofs.Common.{ap, ◌∙◌}
 use Rattle.machine_model.specs.States.{State}
 use Rattle.slot_chain.proofs.Made.{made_chain, made_patching, made_sound, made_wheel}
 use Rattle.slot_chain.proofs.chain.Chain.new.Goals as goal

@@ -1,4 +1,4 @@
-use Rattle.std.proofs.Common.{None, Option, Some, ℕ, sym, subst}
+use Rattle.std.proofs.Common.{Option, Some, ℕ, subst}
 use Rattle.slot_chain.specs.Wheels.{CanEnter}
 use Rattle.slot_chain.proofs.Wheels.{bring_can, bring_inside, brought}
 use Rattle.slot_chain.proofs.wheel.Wheel.bring.Goals as goal

@@ -1,4 +1,4 @@
-use Rattle.std.proofs.Common.{Option, Some, ℕ, subst}
+use Rattle.std.proofs.Common.{Option, ℕ, subst}
 use Rattle.slot_chain.specs.Wheels.{CanEnter}
 use Rattle.slot_chain.proofs.Wheels.{home_can, then_can}
 use Rattle.slot_chain.proofs.wheel.Wheel.enter.Goals as goal

@@ -1,6 +1,6 @@
-use Rattle.std.proofs.Common.{None, Option, Some, ℕ, sym, subst}
-use Rattle.slot_chain.specs.Wheels.{CanEnter, Entered}
-use Rattle.slot_chain.proofs.Wheels.{entered_already, leave_can, leave_inside, left}
+use Rattle.std.proofs.Common.{None, Option, ℕ, subst}
+use Rattle.slot_chain.specs.Wheels.{CanEnter}
+use Rattle.slot_chain.proofs.Wheels.{leave_can, leave_inside, left}
 use Rattle.slot_chain.proofs.wheel.Wheel.leave.Goals as goal
 
 pub exchange-requires-clause-inside : goal.exchange-requires-clause-inside
