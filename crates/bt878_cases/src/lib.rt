@@ -14,6 +14,8 @@ mod left;
 #[cfg(test)]
 mod memory;
 #[cfg(test)]
+mod order;
+#[cfg(test)]
 mod painting;
 #[cfg(test)]
 mod tests;
