@@ -1,5 +1,5 @@
 -- A program file that is read and judged.
-use Rattle.std.specs.Prelude.{◌≡◌, ℕ, ⊤, List, ◌++◌, Option, Result, Ok, Err}
+use Rattle.std.specs.Prelude.{◌≡◌, ℕ, ⊤, List, Option, Result, Ok, Err}
 use Rattle.capture_desk.specs.Desks.{Inputs}
 use Rattle.machine_model.specs.declared.Cause.{Cause}
 use Rattle.machine_model.specs.Paths.{RiscProgram, IsSound, IsFirstBad}

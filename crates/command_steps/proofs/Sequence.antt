@@ -1,13 +1,12 @@
 -- Inputs that are taken one after the other.
-use Rattle.std.proofs.Common.{◌≡◌, ℕ, ◌⊎◌, inl, inr, List, [], ◌∷◌, ◌++◌, Option, refl, sym, ap, subst, ◌∙◌}
+use Rattle.std.proofs.Common.{◌≡◌, inl, inr, List, [], ◌∷◌, ◌++◌, refl, sym, ap, subst, ◌∙◌}
 use Rattle.std.proofs.lemmas.List.{append-nil}
-use Rattle.capture_desk.specs.declared.calls.Call.{Call}
-use Rattle.capture_desk.specs.Desks.{HasRisen, Inputs, Seen, Tells, is_missing}
+use Rattle.capture_desk.specs.Desks.{Seen, is_missing}
 use Rattle.capture_desk.proofs.Telling.{tells_both}
 use Rattle.command_texts.specs.declared.refusal.Refusal.{Refusal}
 use Rattle.command_texts.specs.declared.refusal.Refusal.TheVariants.{NoMemory, ReadFault}
-use Rattle.command_steps.specs.Inputs.{Input, IsThereAndGood, OfInput, StopsAt, StopsIn, apart}
-use Rattle.command_steps.specs.Reading.{AreTaken, AreTakenUpTo, Calls, IsTakingOf, OnlyReads, Stopped, Took}
+use Rattle.command_steps.specs.Inputs.{Input, IsThereAndGood, StopsAt, StopsIn}
+use Rattle.command_steps.specs.Reading.{AreTaken, AreTakenUpTo, OnlyReads, Stopped, Took}
 use Rattle.command_steps.proofs.Inputs.{rose_from, same_inputs}
 
 -- one input was read, and then others were, or not all of them

@@ -6,6 +6,6 @@ mod outputs;
 mod read;
 mod refusals;
 
-pub use read::{PIECE, open, read_into, read_whole};
 pub use outputs::{Content, Output, finish};
+pub use read::{PIECE, open, read_into, read_whole};
 pub use refusals::{refuse, refuse_words};

@@ -27,11 +27,7 @@ pub struct Output<'a, C> {
 }
 
 /// Writes an output: it is created, written and finished.
-fn write_output<C: Content, D: Desk>(
-    name: &str,
-    content: &C,
-    desk: &mut D,
-) -> Result<(), Failed>
+fn write_output<C: Content, D: Desk>(name: &str, content: &C, desk: &mut D) -> Result<(), Failed>
     requires { IsAllowed name.now (D.seen desk.old).told.may_create }
     ensures left { MatchResult result
         (λ _. (D.seen desk.new).told ≡ after_file (name.now, C.bytes content.now) (D.seen desk.old).told)
@@ -68,11 +64,7 @@ fn deliver<C: Content, D: Desk>(
 
 /// Writes the outputs of a command, one after the other, says its text, and answers `Done`; `WriteFault` up to
 /// the first call that fails, after which none follows.
-pub fn finish<C: Content, D: Desk>(
-    outputs: &[Output<'_, C>],
-    text: &str,
-    desk: &mut D,
-) -> Answer
+pub fn finish<C: Content, D: Desk>(outputs: &[Output<'_, C>], text: &str, desk: &mut D) -> Answer
     requires { All (λ output. IsAllowed output.name.now (D.seen desk.old).told.may_create) outputs.now }
     ensures { Finishes (files_of C.bytes outputs.now) text.now result (D.seen desk.old) (D.seen desk.new) }
 {

@@ -9,8 +9,8 @@ ghost use Rattle.command_steps.specs.Outputs.{Refused, SaysAtOnce};
 use bt878_words::UsageFault;
 use capture_desk::{Desk, say_all};
 use command_texts::{
-    Answer, NO_MEMORY, READ_FAULT, Refusal, desc_text, geometry_text, listing_text,
-    malformed_text, rejected_text, usage_text,
+    Answer, NO_MEMORY, READ_FAULT, Refusal, desc_text, geometry_text, listing_text, malformed_text,
+    rejected_text, usage_text,
 };
 use std::alloc::{AllocError, Global};
 

@@ -1,4 +1,4 @@
-use Rattle.std.proofs.Common.{[], Ok, refl, subst}
+use Rattle.std.proofs.Common.{subst}
 use Rattle.capture_desk.specs.Desks.{Tells}
 use Rattle.command_steps.proofs.outputs.finish.Goals as goal
 

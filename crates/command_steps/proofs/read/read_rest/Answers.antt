@@ -57,11 +57,11 @@ returns-clause-calls g c =
     let i = c.loop-at.invariant in
     elim c.loop-at-test.branch [
       | else-loop-at-test w ↦
-        subst (λ desk. Calls (AreReads Before c.args.most 0) (see c.args.desk.now) (see desk)) (sym w.desk-is)
-        (reads_end Before c.args.most at (see c.args.desk.now) (see c.loop-at.desk) i.calls)
+          subst (λ desk. Calls (AreReads Before c.args.most 0) (see c.args.desk.now) (see desk)) (sym w.desk-is)
+          (reads_end Before c.args.most at (see c.args.desk.now) (see c.loop-at.desk) i.calls)
       | then-loop-at-test+in_ok-count+then-count-eq0 w ↦
-        subst (λ desk. Calls (AreReads Before c.args.most 0) (see c.args.desk.now) (see desk)) (sym w.desk-is)
-        (read_end Before c.args.most at (w.min-end.result - at) w.in_ok-count.count (see c.args.desk.now) (see c.loop-at.desk) (see w.read_piece.new.desk) i.calls
-        (next_read c.args.most at w.min-end.result (omega (arith, w.loop-at-test.true)) w.min-end.ensures)
-        (read_by Refusal (w.min-end.result - at) w.in_ok-count.count (see c.loop-at.desk) (see w.read_piece.new.desk) w.in_ok-count.ensures.calls))
+          subst (λ desk. Calls (AreReads Before c.args.most 0) (see c.args.desk.now) (see desk)) (sym w.desk-is)
+          (read_end Before c.args.most at (w.min-end.result - at) w.in_ok-count.count (see c.args.desk.now) (see c.loop-at.desk) (see w.read_piece.new.desk) i.calls
+          (next_read c.args.most at w.min-end.result (omega (arith, w.loop-at-test.true)) w.min-end.ensures)
+          (read_by Refusal (w.min-end.result - at) w.in_ok-count.count (see c.loop-at.desk) (see w.read_piece.new.desk) w.in_ok-count.ensures.calls))
     ]
