@@ -29,6 +29,7 @@ impl Model for Frames {
 }
 
 impl Frames {
+    /// So many frames.
     pub fn new(count: u8) -> Frames
         requires { (1 ≤ count) × (count ≤ 16) }
         ensures { result ≡ count }
@@ -36,6 +37,7 @@ impl Frames {
         Frames { count }
     }
 
+    /// How many they are.
     pub fn count(&self) -> u8
         ensures value { result ≡ self.now }
         ensures range { (1 ≤ result) × (result ≤ 16) }

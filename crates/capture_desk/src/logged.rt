@@ -1,5 +1,5 @@
 // A desk that keeps the calls of another.
-ghost use Rattle.std.specs.Prelude.{◌≡◌, [], ◌∷◌, IfOk, Some};
+ghost use Rattle.std.specs.Prelude.{◌≡◌, [], ◌∷◌, IfOk, Some, option_map};
 ghost use Rattle.capture_desk.specs.Desks.{Tells, joined, moved_by};
 
 use crate::calls::Call;
@@ -80,7 +80,9 @@ impl<D: Desk + Drop> LoggedDesk<D> {
     }
 
     /// The calls, the last one first, where they were kept.
-    pub fn calls(&self) -> Option<&VecDeque<Call>> {
+    pub fn calls(&self) -> Option<&VecDeque<Call>>
+        ensures { option_map (λ calls. calls.now.items) result ≡ self.now.log }
+    {
         self.log.calls.as_ref()
     }
 
