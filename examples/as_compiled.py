@@ -1,0 +1,40 @@
+#!/usr/bin/env python3
+"""A driver's field lists, laid out as `bt878 compile` lays out a description: to be compared byte for byte.
+
+    as_compiled.py OUT.brp BASE FILL CHUNK[,CHUNK..] top|bottom DUMP[,DUMP] [bottom DUMP[,DUMP]]
+
+The DUMPs of a field are its VBI list, if there is one, and its picture list, each as it lies in memory and with its
+closing JUMP, which is left out. Around them come the opening SYNC on the field's vertical code and the closing JUMP,
+with the interrupt and the status of a compiled program. CHUNK as in lay_out.py.
+"""
+
+import sys
+
+from formats import IS_IRQ, JUMP, RESYNC, SYNC, VRE, VRO, program, words_of
+
+FIELDS = {"top": (VRE, 0x1, 0xE), "bottom": (VRO, 0x2, 0xD)}  # vertical code, status bits to set and to clear
+
+
+def as_compiled(base, fields):
+    """The words of fields (name, lists), where each list ends with its JUMP of two words."""
+    out = []
+    for number, (name, lists) in enumerate(fields):
+        code, set_, reset = FIELDS[name]
+        out += [SYNC << 28 | RESYNC | code, 0]
+        for words in lists:
+            out += words[:-2]
+        follows = base + 4 * (len(out) + 2) if number + 1 < len(fields) else base
+        out += [JUMP << 28 | IS_IRQ | reset << 20 | set_ << 16, follows]
+    return out
+
+
+def main(out, base, fill, chunks, *fields):
+    chunks = [tuple(int(n, 0) for n in chunk.split("+")) for chunk in chunks.split(",")]
+    dumps = [[words_of(open(name, "rb").read()) for name in names.split(",")] for names in fields[1::2]]
+    words = as_compiled(int(base, 0), list(zip(fields[0::2], dumps, strict=True)))
+    with open(out, "wb") as file:
+        file.write(program(int(base, 0), words, chunks, int(fill, 0)))
+
+
+if __name__ == "__main__":
+    main(*sys.argv[1:]) if len(sys.argv) > 6 else sys.exit(__doc__)

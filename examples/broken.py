@@ -1,0 +1,121 @@
+#!/usr/bin/env python3
+"""Bugs that drivers have had, each planted in the program of scattered.brp, and what tells them.
+
+    broken.py [FOLDER]
+
+writes three of them to files. check.py tries them all against bt878.
+"""
+
+import struct
+import sys
+from typing import NamedTuple
+
+import bttv
+from formats import FM3, IS_EOL, IS_IRQ, IS_SOL, RESYNC, SYNC, WRITE, program
+from lay_out import lay_out
+from make_examples import BASE, HERE, cases, write
+
+RIGHT = next(case for case in cases() if case.name == "scattered")
+FIRST, SECOND, THIRD = RIGHT.grants
+FREED = (0x03007000, 4096)  # was the second page, and is granted no more
+
+
+class Bug(NamedTuple):
+    name: str
+    plant: object  # what is done to the buffers (loop, top list, bottom list)
+    verdict: str  # what `verify` says
+    diff: int | None = None  # changed lines beside the compiled listing; None where the bug is in no field list
+    status: str = ""  # of `run` on scattered.bfs, where it is accepted
+    moved: int = 8400
+    same_image: bool = True
+
+
+def top_list(*arguments):
+    """The top list is made anew; its closing JUMP stays."""
+
+    def plant(loop, top, bottom):
+        top[:] = bttv.packed(*arguments)[:-2] + top[-2:]
+
+    return plant
+
+
+def word(buffer, place, change):
+    """One word of a buffer (0 the loop, 1 the top list, 2 the bottom list) is changed."""
+
+    def plant(*buffers):
+        buffers[buffer][place] = change(buffers[buffer][place])
+
+    return plant
+
+
+def exchange(loop, top, bottom):
+    """Each slot has the other field's list."""
+    top[2:-2], bottom[2:-2] = bottom[2:-2], top[2:-2]
+
+
+def without_resync(loop, top, bottom):
+    loop[0] &= ~RESYNC
+    loop[8] &= ~RESYNC
+
+
+def swap(*buffers):
+    for buffer in buffers:
+        buffer[:] = [struct.unpack(">I", struct.pack("<I", w))[0] for w in buffer]
+
+
+PAGES = [FIRST, SECOND, THIRD]
+OK = "accepted"
+BUGS = [
+    Bug("a page that was freed", top_list([FIRST, FREED, THIRD], 0, 600, 1200, 7),
+        "rejected at 00001068, step 9: ungranted 03007000", 8),
+    Bug("a page end not split", top_list([(FIRST[0], 3 * 4096)], 0, 600, 1200, 7),
+        "rejected at 00001060, step 8: ungranted 03006000", 33),
+    Bug("a JUMP into a list that is gone", word(0, 7, lambda w: 0x00A05000),
+        "rejected at 00001018, step 3: jump out 00a05000"),
+    Bug("a list whose end was never hooked", word(1, -1, lambda w: 0),
+        "rejected at 00001088, step 13: jump out 00000000"),
+    Bug("bytes not swapped", swap, "rejected at 00001000, step 0: reserved 0", None),
+    Bug("a length in pixels", top_list(PAGES, 0, 300, 1200, 7), OK, 39, "20004800", 6300, False),
+    Bug("four bytes too few", top_list(PAGES, 0, 596, 1200, 7), OK, 14, "20004800", 8372, False),
+    Bug("four bytes too many", top_list(PAGES, 0, 604, 1200, 7), OK, 14, "20004800"),
+    Bug("a count of 4,096", word(1, 2, lambda w: WRITE << 28 | IS_SOL | IS_EOL | 4096), OK, 2, "20000800", 7800, False),
+    Bug("pages exchanged", top_list([SECOND, FIRST, THIRD], 0, 600, 1200, 7), OK, 16, "20000800", 8400, False),
+    Bug("no EOL", word(1, 2, lambda w: w & ~IS_EOL), OK, 2, "20000800"),
+    Bug("no SOL", word(1, 2, lambda w: w & ~IS_SOL), OK, 2, "20004800", 7800, False),
+    Bug("SOL on the rest of a split line", word(1, 10, lambda w: w | IS_SOL), OK, 2, "20004800", 7800, False),
+    Bug("FM3 for packed data", word(1, 0, lambda w: SYNC << 28 | FM3), OK, 2, "00004000", 0, False),
+    Bug("a line too many", top_list(PAGES, 0, 600, 1200, 8), OK, 25, "20004800"),
+    Bug("a line too few", top_list(PAGES, 0, 600, 1200, 6), OK, 25, "20000800", 7800, False),
+    Bug("fields exchanged", exchange, OK, 32, "20000800", 8400, False),
+    Bug("no IRQ", word(2, -2, lambda w: w & ~IS_IRQ), OK, None, "20000800"),
+    Bug("the other field's status", word(2, -2, lambda w: w ^ (0x33 << 16)), OK, None, "10000800"),
+    Bug("a status that is never cleared", word(2, -2, lambda w: w & ~(0xF << 20)), OK, None, "30000800"),
+    Bug("no RESYNC", without_resync, OK, None, "20000800"),
+]  # fmt: skip
+FILES = {"stale_jump": 2, "page_end": 1, "no_eol": 10}  # those that are written, by their place in BUGS
+
+
+def buffers_with(bug):
+    buffers = RIGHT.buffers()
+    bug.plant(*[words for _, words in buffers])
+    return buffers
+
+
+def laid_out(bug):
+    """The program file: the buffers as they are, bug and all."""
+    return program(BASE, lay_out(BASE, buffers_with(bug)), RIGHT.grants, RIGHT.description.fill)
+
+
+def lists_with(bug):
+    """The fields' lists, as as_compiled.py takes them."""
+    _, (_, top), (_, bottom) = buffers_with(bug)
+    return [("top", [top]), ("bottom", [bottom])]
+
+
+def main(folder=HERE):
+    for name, number in FILES.items():
+        write(folder, name + ".brp", laid_out(BUGS[number]))
+
+
+if __name__ == "__main__":
+    main(*sys.argv[1:2])

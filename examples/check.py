@@ -1,0 +1,151 @@
+#!/usr/bin/env python3
+"""Tries the examples of this folder on the program.
+
+    check.py --bin PATH
+
+Each file is made anew and must be as it stands here; each program must be accepted and leave the image that was painted
+by the rules; the lists of the driver's programs must be the compiled ones of their descriptions; each planted bug must
+be told as broken.py says. A line is printed for each check that fails, and last `N passed, M failed`.
+"""
+
+import argparse
+import difflib
+import os
+import subprocess
+import sys
+import tempfile
+
+import broken
+import emulator
+import make_examples
+from as_compiled import as_compiled
+from description import Description
+from formats import program
+from make_examples import BASE, HERE
+
+REPORTS = {  # turns, moved, overruns, status
+    ("main_loop", "main_loop"): (1120, 256, 0, "20000800"),
+    ("scattered", "scattered"): (33664, 8400, 0, "20000800"),
+    ("chroma", "chroma"): (4160, 768, 0, "20000800"),
+    ("overlay", "overlay"): (1184, 240, 0, "10000800"),
+    ("one_line", "one_line"): (9, 8, 0, "10000800"),
+    ("one_line", "overrun"): (84, 8, 32, "10005800"),
+    ("two_lines", "early_eol"): (15, 23, 0, "10004800"),
+    ("one_line", "resync"): (12, 8, 0, "10000800"),
+    ("one_line", "stray"): (10, 8, 0, "10004800"),
+    ("no_eol", "scattered"): (33664, 8400, 0, "20000800"),
+}
+IMAGES = {"overrun": "one_line", "resync": "one_line", "stray": "one_line"}  # where it isn't the stream's own name
+VERDICTS = {"into_operand": "rejected at 00001004, step 2: ungranted 70000000"}
+VERDICTS |= {name: broken.BUGS[number].verdict for name, number in broken.FILES.items()}
+
+
+class Check:
+    def __init__(self, binary, folder):
+        self.binary, self.folder, self.passed, self.failed = os.path.abspath(binary), folder, 0, 0
+
+    def run(self, *words):
+        """What the command says, in the scratch folder; `@name` is a file of the examples."""
+        words = [os.path.join(HERE, word[1:]) if word.startswith("@") else word for word in words]
+        done = subprocess.run([self.binary, *words], cwd=self.folder, capture_output=True, timeout=100)
+        return done.stdout.decode()
+
+    def same(self, name, got, wanted):
+        if got == wanted:
+            self.passed += 1
+        else:
+            self.failed += 1
+            print(f"{name}: got {got!r:.200}, wanted {wanted!r:.200}")
+
+    def read(self, name):
+        with open(os.path.join(self.folder, name), "rb") as file:
+            return file.read()
+
+    def write(self, name, data):
+        with open(os.path.join(self.folder, name), "wb") as file:
+            file.write(data)
+
+
+def report(turns, moved, overruns, status):
+    return f"turns {turns}\nmoved {moved}\noverruns {overruns} 0 0 0\nstatus {status}\n"
+
+
+def check_files(check):
+    """The files of the folder are those that the scripts make."""
+    fresh = os.path.join(check.folder, "fresh")
+    for make in (make_examples.main, emulator.main, broken.main):
+        make(fresh)
+    for folder, _, names in os.walk(fresh):
+        for name in names:
+            at = os.path.relpath(os.path.join(folder, name), fresh)
+            check.same(at, check.read(os.path.join("fresh", at)), check.read(os.path.join(HERE, at)))
+
+
+def check_runs(check):
+    for (prog, stream), wanted in REPORTS.items():
+        name = f"{prog} on {stream}"
+        check.same(name + ", verdict", check.run("verify", f"@{prog}.brp"), "accepted\n")
+        check.same(name, check.run("run", f"@{prog}.brp", f"@{stream}.bfs", "image"), report(*wanted))
+        check.same(name + ", image", check.read("image"), check.read(f"{HERE}/{IMAGES.get(stream, stream)}.bmi"))
+    for name, verdict in VERDICTS.items():
+        check.same(name, check.run("verify", f"@{name}.brp"), verdict + "\n")
+
+
+def check_compiled(check):
+    """The lists of each example are the compiled program of its description, and its listing is read back."""
+    for case in make_examples.cases():
+        d = case.description
+        check.run("compile", f"@{case.name}.toml", "compiled")
+        lists = program(BASE, as_compiled(BASE, case.fields()), d.chunks, d.fill)
+        check.same(case.name + ", compiled", check.read("compiled"), lists)
+        check.write("listing", check.run("list", f"@{case.name}.brp").encode())
+        check.run("assemble", "listing", "again")
+        check.same(case.name + ", assembled", check.read("again"), case.program())
+    check.run("compile", "@two_lines.toml", "compiled")
+    check.same("two_lines, compiled", check.read("compiled"), check.read(f"{HERE}/two_lines.brp"))
+
+
+def check_bugs(check):
+    check.run("compile", "@scattered.toml", "compiled")
+    right = check.run("list", "compiled").splitlines()
+    for bug in broken.BUGS:
+        check.write("bug", broken.laid_out(bug))
+        check.same(bug.name, check.run("verify", "bug"), bug.verdict + "\n")
+        if bug.verdict == "accepted":
+            said = check.run("run", "bug", "@scattered.bfs", "image")
+            check.same(bug.name + ", report", said, report(33664, bug.moved, 0, bug.status))
+            check.same(bug.name + ", image", check.read("image") == broken.RIGHT.image(), bug.same_image)
+        if bug.diff is not None:
+            d = broken.RIGHT.description
+            check.write("lists", program(BASE, as_compiled(BASE, broken.lists_with(bug)), d.chunks, d.fill))
+            lines = difflib.unified_diff(right, check.run("list", "lists").splitlines(), n=0, lineterm="")
+            changed = sum(line[:1] in "+-" and line[:3] not in ("+++", "---") for line in lines)
+            check.same(bug.name + ", diff", changed, bug.diff)
+
+
+def check_pictures(check):
+    """A raw picture goes by picture_stream.py and `capture` into an image, and comes out again."""
+    for name in ("scattered", "chroma"):
+        d = Description(f"{HERE}/{name}.toml")
+        raw = bytes(n * 7 % 251 for n in range(sum(r * b for r, b in zip(d.rows, d.row_bytes, strict=True))))
+        check.write("raw", raw)
+        script = lambda *words: subprocess.run([sys.executable, *words], cwd=check.folder, check=True)
+        script(f"{HERE}/picture_stream.py", f"{HERE}/{name}.toml", "raw", "stream")
+        check.run("capture", f"@{name}.toml", "stream", "program", "image")
+        script(f"{HERE}/image_picture.py", f"{HERE}/{name}.toml", "image", "out")
+        check.same(name + ", there and back", check.read("out"), raw)
+
+
+def main():
+    words = argparse.ArgumentParser(description=__doc__.splitlines()[0])
+    words.add_argument("--bin", required=True, help="the program bt878")
+    with tempfile.TemporaryDirectory() as folder:
+        check = Check(words.parse_args().bin, folder)
+        for part in (check_files, check_runs, check_compiled, check_bugs, check_pictures):
+            part(check)
+    print(f"{check.passed} passed, {check.failed} failed")
+    sys.exit(check.failed > 0)
+
+
+if __name__ == "__main__":
+    main()

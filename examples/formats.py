@@ -1,0 +1,110 @@
+"""The files of bt878, for the scripts of this folder: programs, streams, images (docs/FORMATS.md)."""
+
+import struct
+
+VRE, FM1, VRO, FM3 = 4, 6, 12, 14  # control codes
+PXV, EOL4, SOL, EOL1, EOL2, EOL3 = 0, 1, 2, 5, 9, 13  # status codes
+ENDS = {1: EOL1, 2: EOL2, 3: EOL3, 4: EOL4}  # by the valid bytes of a line's last DWORD
+
+WRITE, SKIP, WRITEC, JUMP, SYNC, WRITE123, SKIP123, WRITE1S23 = 1, 2, 5, 7, 8, 9, 10, 11
+LENGTHS = {WRITE: 2, SKIP: 1, WRITEC: 1, JUMP: 2, SYNC: 2, WRITE123: 5, SKIP123: 2, WRITE1S23: 3}
+IS_SOL, IS_EOL, IS_IRQ, RESYNC = 1 << 27, 1 << 26, 1 << 24, 1 << 15
+
+
+def words_of(dump):
+    """The words of a buffer, as it lies in the memory of a little-endian machine."""
+    return [word for (word,) in struct.iter_unpack("<I", dump)]
+
+
+def bytes_of(words):
+    return b"".join(struct.pack("<I", word) for word in words)
+
+
+def walk(words):
+    """The place of each instruction, from the first word on."""
+    at = 0
+    while at < len(words):
+        yield at
+        at += LENGTHS.get(words[at] >> 28, 1)
+
+
+def program(base, words, chunks, fill):
+    """A program file: BRP1 where all chunks are pages, else BRP2. Chunks are (address, length), in any order."""
+    chunks = sorted(chunks)
+    pages = all(address % 4096 == 0 and length == 4096 for address, length in chunks)
+    head = (b"BRP1" if pages else b"BRP2") + struct.pack("<II", base, len(words)) + bytes_of(words)
+    memory = [address for address, _ in chunks] if pages else [n for chunk in chunks for n in chunk]
+    return head + struct.pack("<I", len(chunks)) + bytes_of(memory) + bytes([fill])
+
+
+def image(memory):
+    """An image file of {address of a chunk: its bytes}."""
+    chunks = sorted(memory.items())
+    pages = all(address % 4096 == 0 and len(data) == 4096 for address, data in chunks)
+    out = (b"BMI1" if pages else b"BMI2") + struct.pack("<I", len(chunks))
+    for address, data in chunks:
+        out += struct.pack("<I", address) + (b"" if pages else struct.pack("<I", len(data))) + data
+    return out
+
+
+def memory_of(data):
+    """{address of a chunk: its bytes} of an image file."""
+    (count,) = struct.unpack_from("<I", data, 4)
+    at, memory = 8, {}
+    for _ in range(count):
+        (address,) = struct.unpack_from("<I", data, at)
+        length = 4096 if data[:4] == b"BMI1" else struct.unpack_from("<I", data, at + 4)[0]
+        at += 4 if data[:4] == b"BMI1" else 8
+        memory[address] = bytearray(data[at : at + length])
+        at += length
+    return memory
+
+
+def line_entries(data):
+    """The entries (status, DWORD) of a line: one SOL, any number of PXV, one EOL. It has at least 5 bytes."""
+    parts = [data[at : at + 4] for at in range(0, len(data), 4)]
+    statuses = [SOL] + [PXV] * (len(parts) - 2) + [ENDS[len(parts[-1])]]
+    return [(status, bytes(part).ljust(4, b"\xff")) for status, part in zip(statuses, parts, strict=True)]
+
+
+class Stream:
+    """A stream file. After each push come `turns` turns: with 16 of them no queue fills up."""
+
+    def __init__(self, turns=16, form=b"BFS1"):
+        self.data, self.after = bytearray(form), turns
+
+    def turns(self, count):
+        if count:
+            self.data += b"\x05" + struct.pack("<I", count)
+        return self
+
+    def push(self, queue, status, dword):
+        self.data += bytes([queue, status]) + dword
+        return self.turns(self.after)
+
+    def control(self, code):
+        self.data += bytes([4, code])
+        return self.turns(self.after)
+
+    def line(self, luma, chroma=None):
+        """A packed line, or a planar one: `chroma` is the two lines of queues 2 and 3, spread among the luma."""
+        entries = line_entries(luma)
+        blue, red = [line_entries(line) for line in chroma] if chroma else ([], [])
+        step = len(luma) // len(chroma[0]) if chroma else 1
+        for number, entry in enumerate(entries):
+            self.push(1, *entry)
+            if number % step == 0 and number // step < len(blue):
+                self.push(2, *blue[number // step])
+                self.push(3, *red[number // step])
+        return self
+
+    def acknowledge(self, mask):
+        self.data += b"\x06" + struct.pack("<I", mask)
+        return self
+
+    def enable(self, fifo, risc):
+        self.data += bytes([7, fifo + 2 * risc])
+        return self
+
+    def end(self):
+        return bytes(self.data + b"\x00")

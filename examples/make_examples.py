@@ -1,0 +1,107 @@
+#!/usr/bin/env python3
+"""Makes the driver's programs of this folder, a stream for each and the image that must come.
+
+    make_examples.py [FOLDER]
+
+The programs are lists as bttv makes them (bttv.py), laid out as one span (lay_out.py); the pictures are drawn, sent
+(picture_stream.py) and painted by the rules alone (paint.py). Nothing here calls bt878.
+"""
+
+import os
+import sys
+
+import bttv
+from bttv import BOTTOM_FIELD, BOTTOM_VBI, TOP_FIELD, TOP_VBI
+from description import Description
+from formats import Stream, bytes_of, image, program
+from lay_out import lay_out
+from paint import drawn, paint
+from picture_stream import send_field
+
+HERE = os.path.dirname(os.path.abspath(__file__))
+BASE = 0x1000  # clear of all pages, and of the addresses below
+LOOP, LISTS = 0x00A00000, [0x00A01000, 0x00A02000, 0x00A03000, 0x00A04000]  # where the driver's buffers lie
+
+
+class Case:
+    """A program of a driver: its lists, where they are hooked, and what they may write."""
+
+    def __init__(self, name, hooks, grants):
+        """`hooks` are (slot, list, status that its closing JUMP sets or 0), in the order of the buffers."""
+        self.name, self.hooks, self.grants = name, hooks, grants
+        self.description = Description(os.path.join(HERE, name + ".toml"))
+
+    def buffers(self):
+        """(address, words) of the main loop and of each list, hooked."""
+        loop, out = bttv.main_loop(LOOP), []
+        for at, (slot, words, status) in zip(LISTS, self.hooks):
+            words = list(words)
+            bttv.hook(loop, LOOP, slot, words, at, status)
+            out.append((at, words))
+        return [(LOOP, loop)] + out
+
+    def program(self):
+        return program(BASE, lay_out(BASE, self.buffers()), self.grants, self.description.fill)
+
+    def fields(self):
+        """(name, lists) of each field, as as_compiled.py takes them."""
+        slots = {"top": (TOP_VBI, TOP_FIELD), "bottom": (BOTTOM_VBI, BOTTOM_FIELD)}
+        named = [(f, [w for slot, w, _ in self.hooks if slot in slots[f]]) for f in self.description.fields]
+        return [(field, lists) for field, lists in named if lists]
+
+    def stream(self):
+        stream, picture = Stream(), drawn(self.description, self.name)
+        for field in self.description.fields:
+            send_field(stream, self.description, field, picture)
+        return stream.end()
+
+    def image(self):
+        memory = {address: bytearray([self.description.fill]) * length for address, length in self.grants}
+        return image(paint(self.description, drawn(self.description, self.name), memory))
+
+
+def cases():
+    pages = lambda *addresses: [(address, 4096) for address in addresses]
+    frame, vbi = [(0x02000000, 4096)], [(0x02001000, 4096)]
+    hooks = [
+        (TOP_VBI, bttv.packed(vbi, 0, 32, 64, 2), 0),
+        (TOP_FIELD, bttv.packed(frame, 0, 32, 64, 2), 1),
+        (BOTTOM_VBI, bttv.packed(vbi, 128, 32, 64, 2), 4),
+        (BOTTOM_FIELD, bttv.packed(frame, 32, 32, 64, 2), 2),
+    ]
+    yield Case("main_loop", hooks, frame + vbi)
+
+    scatter = pages(0x03005000, 0x03001000, 0x03004000)
+    hooks = [
+        (TOP_FIELD, bttv.packed(scatter, 0, 600, 1200, 7), 1),
+        (BOTTOM_FIELD, bttv.packed(scatter, 600, 600, 1200, 7), 2),
+    ]
+    yield Case("scattered", hooks, scatter)
+
+    scatter = pages(0x05001000, 0x05000000)
+    hooks = [
+        (TOP_FIELD, bttv.planar(scatter, (3700, 4212, 4340), 64, 128, 4, 2, 2), 1),
+        (BOTTOM_FIELD, bttv.planar(scatter, (3764, 4244, 4372), 64, 128, 4, 2, 2), 2),
+    ]
+    yield Case("chroma", hooks, scatter)
+
+    window = bttv.overlay(0x040004A0, 128, 2, 24, 6, [(4, 1, 8, 3)])
+    yield Case("overlay", [(TOP_FIELD, window, 1)], [(0x040004A0 + 128 * row, 48) for row in range(6)])
+
+
+def write(folder, name, data):
+    os.makedirs(os.path.dirname(os.path.join(folder, name)), exist_ok=True)
+    with open(os.path.join(folder, name), "wb") as file:
+        file.write(data)
+
+
+def main(folder=HERE):
+    for case in cases():
+        for ending, data in ((".brp", case.program()), (".bfs", case.stream()), (".bmi", case.image())):
+            write(folder, case.name + ending, data)
+        for number, (address, words) in enumerate(case.buffers()):
+            write(folder, f"dumps/{case.name}_{number}_{address:08x}.bin", bytes_of(words))
+
+
+if __name__ == "__main__":
+    main(*sys.argv[1:2])
