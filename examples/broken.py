@@ -11,7 +11,7 @@ import sys
 from typing import NamedTuple
 
 import bttv
-from formats import FM3, IS_EOL, IS_IRQ, IS_SOL, RESYNC, SYNC, WRITE, program
+from formats import FM3, IS_EOL, IS_IRQ, IS_SOL, RESYNC, SYNC, WRITE, bytes_of, program
 from lay_out import lay_out
 from make_examples import BASE, HERE, cases, write
 
@@ -58,6 +58,10 @@ def without_resync(loop, top, bottom):
     loop[8] &= ~RESYNC
 
 
+def without_jump(loop, top, bottom):
+    del top[-2:]
+
+
 def swap(*buffers):
     for buffer in buffers:
         buffer[:] = [struct.unpack(">I", struct.pack("<I", w))[0] for w in buffer]
@@ -67,13 +71,15 @@ PAGES = [FIRST, SECOND, THIRD]
 OK = "accepted"
 BUGS = [
     Bug("a page that was freed", top_list([FIRST, FREED, THIRD], 0, 600, 1200, 7),
-        "rejected at 00001068, step 9: ungranted 03007000", 8),
+        "rejected at 0000106c, step 9: ungranted 03007000", 8),
     Bug("a page end not split", top_list([(FIRST[0], 3 * 4096)], 0, 600, 1200, 7),
-        "rejected at 00001060, step 8: ungranted 03006000", 33),
+        "rejected at 00001064, step 8: ungranted 03006000", 33),
     Bug("a JUMP into a list that is gone", word(0, 7, lambda w: 0x00A05000),
         "rejected at 00001018, step 3: jump out 00a05000"),
     Bug("a list whose end was never hooked", word(1, -1, lambda w: 0),
-        "rejected at 00001088, step 13: jump out 00000000"),
+        "rejected at 0000108c, step 13: jump out 00000000"),
+    Bug("a list without its JUMP", without_jump, "rejected at 0000108c, step 13: reserved 0"),
+    Bug("a JUMP a word too far", word(0, 7, lambda w: w + 4), "rejected at 00001048, step 4: reserved 0"),
     Bug("bytes not swapped", swap, "rejected at 00001000, step 0: reserved 0", None),
     Bug("a length in pixels", top_list(PAGES, 0, 300, 1200, 7), OK, 39, "20004800", 6300, False),
     Bug("four bytes too few", top_list(PAGES, 0, 596, 1200, 7), OK, 14, "20004800", 8372, False),
@@ -87,12 +93,12 @@ BUGS = [
     Bug("a line too many", top_list(PAGES, 0, 600, 1200, 8), OK, 25, "20004800"),
     Bug("a line too few", top_list(PAGES, 0, 600, 1200, 6), OK, 25, "20000800", 7800, False),
     Bug("fields exchanged", exchange, OK, 32, "20000800", 8400, False),
-    Bug("no IRQ", word(2, -2, lambda w: w & ~IS_IRQ), OK, None, "20000800"),
+    Bug("no IRQ", word(2, -2, lambda w: w & ~IS_IRQ), OK, None, "20000000"),
     Bug("the other field's status", word(2, -2, lambda w: w ^ (0x33 << 16)), OK, None, "10000800"),
     Bug("a status that is never cleared", word(2, -2, lambda w: w & ~(0xF << 20)), OK, None, "30000800"),
     Bug("no RESYNC", without_resync, OK, None, "20000800"),
 ]  # fmt: skip
-FILES = {"stale_jump": 2, "page_end": 1, "no_eol": 10}  # those that are written, by their place in BUGS
+FILES = {"stale_jump": 2, "page_end": 1, "no_eol": 12}  # those that are written, by their place in BUGS
 
 
 def buffers_with(bug):
@@ -115,6 +121,8 @@ def lists_with(bug):
 def main(folder=HERE):
     for name, number in FILES.items():
         write(folder, name + ".brp", laid_out(BUGS[number]))
+        for buffer, (address, words) in enumerate(buffers_with(BUGS[number])):
+            write(folder, f"dumps/{name}_{buffer}_{address:08x}.bin", bytes_of(words))
 
 
 if __name__ == "__main__":

@@ -5,12 +5,15 @@
 
 Each file is made anew and must be as it stands here; each program must be accepted and leave the image that was painted
 by the rules; the lists of the driver's programs must be the compiled ones of their descriptions; each planted bug must
-be told as broken.py says. A line is printed for each check that fails, and last `N passed, M failed`.
+be told as broken.py says. And each command that README.md and docs/*.md show behind `$ ` must print what stands below it. A
+line is printed for each check that fails, and last `N passed, M failed`.
 """
 
 import argparse
 import difflib
+import glob
 import os
+import re
 import subprocess
 import sys
 import tempfile
@@ -136,12 +139,32 @@ def check_pictures(check):
         check.same(name + ", there and back", check.read("out"), raw)
 
 
+def commands(page):
+    """(command, what is printed) of each command that a page shows, in order."""
+    with open(page) as file:
+        blocks = re.findall(r"^```\n(\$ .*?)^```", file.read(), re.MULTILINE | re.DOTALL)
+    for part in filter(None, "".join(blocks).removeprefix("$ ").split("\n$ ")):
+        command, _, printed = part.replace("\\\n", "").partition("\n")
+        yield command, printed and printed.rstrip("\n") + "\n"
+
+
+def check_pages(check):
+    """The pages' commands, in the folder above this one, with the program first on the path."""
+    top = os.path.dirname(HERE)
+    os.symlink(check.binary, os.path.join(check.folder, "bt878"))
+    env = os.environ | {"PATH": check.folder + ":" + os.environ["PATH"]}
+    for page in [os.path.join(top, "README.md"), *sorted(glob.glob(os.path.join(top, "docs/*.md")))]:
+        for command, printed in commands(page):
+            done = subprocess.run(["bash", "-c", command], cwd=top, env=env, capture_output=True)
+            check.same(f"{os.path.relpath(page, top)}: {command}", done.stdout.decode(), printed)
+
+
 def main():
     words = argparse.ArgumentParser(description=__doc__.splitlines()[0])
     words.add_argument("--bin", required=True, help="the program bt878")
     with tempfile.TemporaryDirectory() as folder:
         check = Check(words.parse_args().bin, folder)
-        for part in (check_files, check_runs, check_compiled, check_bugs, check_pictures):
+        for part in (check_files, check_runs, check_compiled, check_bugs, check_pictures, check_pages):
             part(check)
     print(f"{check.passed} passed, {check.failed} failed")
     sys.exit(check.failed > 0)

@@ -9,6 +9,7 @@ ENDS = {1: EOL1, 2: EOL2, 3: EOL3, 4: EOL4}  # by the valid bytes of a line's la
 WRITE, SKIP, WRITEC, JUMP, SYNC, WRITE123, SKIP123, WRITE1S23 = 1, 2, 5, 7, 8, 9, 10, 11
 LENGTHS = {WRITE: 2, SKIP: 1, WRITEC: 1, JUMP: 2, SYNC: 2, WRITE123: 5, SKIP123: 2, WRITE1S23: 3}
 IS_SOL, IS_EOL, IS_IRQ, RESYNC = 1 << 27, 1 << 26, 1 << 24, 1 << 15
+RISCI = 1 << 11  # of INT_STAT
 
 
 def words_of(dump):

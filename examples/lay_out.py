@@ -5,8 +5,8 @@
 
 A DUMP is a buffer as it lies in memory, ADDRESS the bus address that the chip sees it at. The first buffer is the
 entry. A CHUNK, ADDRESS+LENGTH, is memory that the program may write. The buffers are laid one after another from BASE
-on, and the target of each JUMP that lies in one of them moves with it. A target that lies in none stays as it is.
-Numbers may be hexadecimal (0x..).
+on, each followed by a word 0 (a list that lacks its closing JUMP runs into it), and the target of each JUMP that lies in
+one of them moves with it. A target that lies in none stays as it is. Numbers may be hexadecimal (0x..).
 """
 
 import sys
@@ -19,7 +19,7 @@ def lay_out(base, buffers):
     spans, at = [], base
     for address, words in buffers:
         spans.append((address, address + 4 * len(words), at - address))
-        at += 4 * len(words)
+        at += 4 * len(words) + 4
     moved = lambda target: next((target + by for first, end, by in spans if first <= target < end), target)
     out = []
     for _, words in buffers:
@@ -27,7 +27,7 @@ def lay_out(base, buffers):
         for place in walk(words):
             if words[place] >> 28 == JUMP and place + 1 < len(words):
                 words[place + 1] = moved(words[place + 1])
-        out += words
+        out += words + [0]
     return out
 
 

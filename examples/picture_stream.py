@@ -1,17 +1,18 @@
 #!/usr/bin/env python3
 """A stream of a picture, as a recorder would have made it.
 
-    picture_stream.py DESC PICTURE OUT.bfs
+    picture_stream.py DESC PICTURE OUT.bfs [top|bottom]
 
 PICTURE is raw: the rows of the picture from the first to the last; in a planar format then all rows of plane 2 and all
 of plane 3, one for each row whose chroma is kept (so a 4:2:0 file is I420). DESC says the format, the size and the
-fields. VBI lines and skipped lines are sent as bytes 00.
+fields; a fourth word sends one of them alone. VBI lines and skipped lines are sent as bytes 00. Before each field the
+host acknowledges RISCI, as an interrupt handler does, so that RISCI in the report is the last field's.
 """
 
 import sys
 
 from description import Description
-from formats import FM1, FM3, VRE, VRO, Stream
+from formats import FM1, FM3, RISCI, VRE, VRO, Stream
 
 
 def read_picture(description, data):
@@ -30,7 +31,7 @@ def read_picture(description, data):
 
 def send_field(stream, description, field, picture):
     """The vertical code, VBI lines behind FM1, then the lines of the picture behind FM1 or FM3."""
-    stream.control(VRE if field == "top" else VRO)
+    stream.acknowledge(RISCI).control(VRE if field == "top" else VRO)
     if description.vbi_lines:
         stream.control(FM1)
     for line in range(description.vbi_lines):
@@ -43,16 +44,16 @@ def send_field(stream, description, field, picture):
         stream.line(luma, chroma)
 
 
-def main(desc, name, out):
+def main(desc, name, out, alone=None):
     description = Description(desc)
     stream = Stream()
     with open(name, "rb") as file:
         picture = read_picture(description, file.read())
-    for field in description.fields:
+    for field in [alone] if alone else description.fields:
         send_field(stream, description, field, picture)
     with open(out, "wb") as file:
         file.write(stream.end())
 
 
 if __name__ == "__main__":
-    main(*sys.argv[1:]) if len(sys.argv) == 4 else sys.exit(__doc__)
+    main(*sys.argv[1:]) if len(sys.argv) in (4, 5) else sys.exit(__doc__)
