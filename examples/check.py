@@ -5,7 +5,7 @@
 
 Each file is made anew and must be as it stands here; each program must be accepted and leave the image that was painted
 by the rules; the lists of the driver's programs must be the compiled ones of their descriptions; each planted bug must
-be told as broken.py says. And each command that README.md and docs/*.md show behind `$ ` must print what stands below it. A
+be told as broken.py says. And each command that README.md and docs/* show behind `$ ` must print what stands below it. A
 line is printed for each check that fails, and last `N passed, M failed`.
 """
 
@@ -142,14 +142,15 @@ def check_pictures(check):
 def commands(page):
     """(command, what is printed) of each command that a page shows, in order."""
     with open(page) as file:
-        blocks = re.findall(r"^```\n(\$ .*?)^```", file.read(), re.MULTILINE | re.DOTALL)
+        block = r"^(?:```|\.Bd.*)\n(\$ (?:.|\n)*?)^(?:```|\.Ed)"
+        blocks = re.findall(block, file.read(), re.MULTILINE)
     for part in filter(None, "".join(blocks).removeprefix("$ ").split("\n$ ")):
         command, _, printed = part.replace("\\\n", "").partition("\n")
         yield command, printed and printed.rstrip("\n") + "\n"
 
 
 def check_pages(check):
-    """The pages' commands, in the folder above this one, with the program first on the path."""
+    """The pages' commands, in the folder above this one, with the program first on the path; the manual's in another."""
     top = os.path.dirname(HERE)
     os.symlink(check.binary, os.path.join(check.folder, "bt878"))
     env = os.environ | {"PATH": check.folder + ":" + os.environ["PATH"]}
@@ -157,6 +158,10 @@ def check_pages(check):
         for command, printed in commands(page):
             done = subprocess.run(["bash", "-c", command], cwd=top, env=env, capture_output=True)
             check.same(f"{os.path.relpath(page, top)}: {command}", done.stdout.decode(), printed)
+    check.write("line.toml", check.read(f"{HERE}/one_line.toml"))
+    for command, printed in commands(os.path.join(top, "docs/bt878.1")):
+        done = subprocess.run(["bash", "-c", command], cwd=check.folder, env=env, capture_output=True)
+        check.same(f"bt878.1: {command}", done.stdout.decode(), printed)
 
 
 def main():
