@@ -5,8 +5,8 @@
 
 Each file is made anew and must be as it stands here; each program must be accepted and leave the image that was painted
 by the rules; the lists of the driver's programs must be the compiled ones of their descriptions; each planted bug must
-be told as broken.py says. And each command that README.md and docs/* show behind `$ ` must print what stands below it. A
-line is printed for each check that fails, and last `N passed, M failed`.
+be told as broken.py says. And each command that README.md and docs/* show behind `$ ` must print what stands below it.
+A line is printed for each check that fails, and last `N passed, M failed`.
 """
 
 import argparse
@@ -150,7 +150,7 @@ def commands(page):
 
 
 def check_pages(check):
-    """The pages' commands, in the folder above this one, with the program first on the path; the manual's in another."""
+    """The pages' commands, in the folder above this one, with the program first on the path; the manual's elsewhere."""
     top = os.path.dirname(HERE)
     os.symlink(check.binary, os.path.join(check.folder, "bt878"))
     env = os.environ | {"PATH": check.folder + ":" + os.environ["PATH"]}

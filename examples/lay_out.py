@@ -5,8 +5,8 @@
 
 A DUMP is a buffer as it lies in memory, ADDRESS the bus address that the chip sees it at. The first buffer is the
 entry. A CHUNK, ADDRESS+LENGTH, is memory that the program may write. The buffers are laid one after another from BASE
-on, each followed by a word 0 (a list that lacks its closing JUMP runs into it), and the target of each JUMP that lies in
-one of them moves with it. A target that lies in none stays as it is. Numbers may be hexadecimal (0x..).
+on, each followed by a word 0 (a list that lacks its closing JUMP runs into it), and the target of each JUMP that lies
+in one of them moves with it. A target that lies in none stays as it is. Numbers may be hexadecimal (0x..).
 """
 
 import sys
