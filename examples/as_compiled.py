@@ -3,9 +3,9 @@
 
     as_compiled.py OUT.brp BASE FILL CHUNK[,CHUNK..] top|bottom DUMP[,DUMP] [bottom DUMP[,DUMP]]
 
-The DUMPs of a field are its VBI list, if there is one, and its picture list, each as it lies in memory and with its
-closing JUMP, which is left out. Around them come the opening SYNC on the field's vertical code and the closing JUMP,
-with the interrupt and the status of a compiled program. CHUNK as in lay_out.py.
+The DUMPs of a field are its VBI list, if there is one, and its picture list, each as it lies in memory up to and with
+its closing JUMP, which is left out. Around them come the opening SYNC on the field's vertical code and the closing
+JUMP, with the interrupt and the status of a compiled program. CHUNK as in lay_out.py.
 """
 
 import sys
