@@ -20,6 +20,7 @@ import sys
 import tempfile
 
 import broken
+import descriptions
 import emulator
 import make_examples
 import rings_and_chains
@@ -131,6 +132,12 @@ def check_compiled(check):
     check.same("two_lines, compiled", check.read("compiled"), check.read(f"{HERE}/two_lines.brp"))
 
 
+def check_descriptions(check):
+    for text, wanted in descriptions.CASES:
+        check.write("description", text)
+        check.same(f"description {text[-60:]!r}", check.run("compile", "description", "program"), wanted)
+
+
 def check_bugs(check):
     check.run("compile", "@scattered.toml", "compiled")
     right = check.run("list", "compiled").splitlines()
@@ -188,12 +195,17 @@ def check_pages(check):
         check.same(f"bt878.1: {command}", done.stdout.decode(), printed)
 
 
+PARTS = [
+    check_files, check_runs, check_later, check_compiled, check_descriptions, check_bugs, check_pictures, check_pages,
+]  # fmt: skip
+
+
 def main():
     words = argparse.ArgumentParser(description=__doc__.splitlines()[0])
     words.add_argument("--bin", required=True, help="the program bt878")
     with tempfile.TemporaryDirectory() as folder:
         check = Check(words.parse_args().bin, folder)
-        for part in (check_files, check_runs, check_later, check_compiled, check_bugs, check_pictures, check_pages):
+        for part in PARTS:
             part(check)
     print(f"{check.passed} passed, {check.failed} failed" + f", {check.skipped} skipped" * (check.skipped > 0))
     sys.exit(check.failed > 0)
