@@ -67,6 +67,9 @@ class Check:
         done = subprocess.run([self.binary, *words], cwd=self.folder, capture_output=True, timeout=100)
         return done.stdout.decode()
 
+    def script(self, name, *words):
+        subprocess.run([sys.executable, os.path.join(HERE, name), *words], cwd=self.folder, check=True)
+
     def same(self, name, got, wanted, later=False):
         if got == wanted:
             self.passed += 1
@@ -162,10 +165,9 @@ def check_pictures(check):
         d = Description(f"{HERE}/{name}.toml")
         raw = bytes(n * 7 % 251 for n in range(sum(r * b for r, b in zip(d.rows, d.row_bytes, strict=True))))
         check.write("raw", raw)
-        script = lambda *words: subprocess.run([sys.executable, *words], cwd=check.folder, check=True)
-        script(f"{HERE}/picture_stream.py", f"{HERE}/{name}.toml", "raw", "stream")
+        check.script("picture_stream.py", f"{HERE}/{name}.toml", "raw", "stream")
         check.run("capture", f"@{name}.toml", "stream", "program", "image")
-        script(f"{HERE}/image_picture.py", f"{HERE}/{name}.toml", "image", "out")
+        check.script("image_picture.py", f"{HERE}/{name}.toml", "image", "out")
         check.same(name + ", there and back", check.read("out"), raw)
 
 

@@ -15,7 +15,7 @@ import subprocess
 import sys
 import tempfile
 
-from formats import IS_EOL, IS_SOL, JUMP, SKIP, SKIP123, SYNC, WRITE, WRITE1S23, WRITE123, WRITEC, image, program
+from formats import IS_EOL, IS_SOL, JUMP, PXV, SKIP, SKIP123, SYNC, WRITE, WRITE1S23, WRITE123, WRITEC, image, program
 from machine import CODES, Machine, Program
 
 BASE = 0x1000
@@ -48,6 +48,11 @@ def drawn_program(draw):
     return Program(BASE, words, chunks, draw.randrange(256))
 
 
+def push(machine, queue, status, dword):
+    machine.push(queue, status, dword)
+    return bytes([queue + 1, status]) + dword
+
+
 def drawn_stream(draw, machine, form):
     """A stream file, whose steps the machine takes at once."""
     data = bytearray(form)
@@ -56,10 +61,8 @@ def drawn_stream(draw, machine, form):
     for _ in range(draw.randrange(5, 120)):
         kind = draw.randrange(30)
         if kind < 12:
-            queue, status = draw.choice([0, 0, 1, 2]), draw.choice([0, 0, 2, 2, 1, 5, 9, 13, 3, 7, 8, 10, 11, 15])
-            dword = draw.randbytes(4)
-            data += bytes([queue + 1, status]) + dword
-            machine.push(queue, status, dword)
+            status = draw.choice([0, 0, 2, 2, 1, 5, 9, 13, 3, 7, 8, 10, 11, 15])
+            data += push(machine, draw.choice([0, 0, 1, 2]), status, draw.randbytes(4))
         elif kind < 18:
             code = draw.choice(sorted(CODES))
             data += bytes([4, code])
@@ -81,6 +84,9 @@ def drawn_stream(draw, machine, form):
             code = draw.randrange(4)
             data += bytes([8, code])
             machine.trigger = 4 << code
+        elif kind == 29 and draw.random() < 0.2:  # more than a queue holds
+            queue = draw.randrange(3)
+            data += b"".join(push(machine, queue, PXV, b"over") for _ in range(80))
     return bytes(data + b"\x00")
 
 

@@ -20,7 +20,10 @@ def lay_out(base, buffers):
     for address, words in buffers:
         spans.append((address, address + 4 * len(words), at - address))
         at += 4 * len(words) + 4
-    moved = lambda target: next((target + by for first, end, by in spans if first <= target < end), target)
+
+    def moved(target):
+        return next((target + by for first, end, by in spans if first <= target < end), target)
+
     out = []
     for _, words in buffers:
         words = list(words)

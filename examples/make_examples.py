@@ -60,8 +60,11 @@ class Case:
         return image(paint(self.description, drawn(self.description, self.name), memory))
 
 
+def pages(*addresses):
+    return [(address, 4096) for address in addresses]
+
+
 def cases():
-    pages = lambda *addresses: [(address, 4096) for address in addresses]
     frame, vbi = [(0x02000000, 4096)], [(0x02001000, 4096)]
     hooks = [
         (TOP_VBI, bttv.packed(vbi, 0, 32, 64, 2), 0),
