@@ -26,7 +26,8 @@ import make_examples
 import rings_and_chains
 from as_compiled import as_compiled
 from description import Description
-from formats import program
+from formats import image, program, read_program
+from machine import Machine, Program
 from make_examples import BASE, HERE
 
 
@@ -107,6 +108,21 @@ def check_runs(check):
         check.same(name + ", image", check.read("image"), check.read(f"{HERE}/{IMAGES.get(stream, stream)}.bmi"))
     for name, verdict in VERDICTS.items():
         check.same(name, check.run("verify", f"@{name}.brp"), verdict + "\n")
+
+
+def check_machine(check):
+    """What is expected of the programs here is also what machine.py makes of them."""
+    for (prog, stream), wanted in REPORTS.items():
+        machine = Machine(Program(*read_program(check.read(f"{HERE}/{prog}.brp"))))
+        machine.play(check.read(f"{HERE}/{stream}.bfs"))
+        check.same(f"machine.py, {prog} on {stream}", machine.report(), report(*wanted))
+    for bug in broken.BUGS:
+        machine = Machine(Program(*read_program(broken.laid_out(bug))))
+        check.same("machine.py, " + bug.name, machine.program.verdict(), bug.verdict + "\n")
+        if bug.verdict == "accepted":
+            machine.play(broken.RIGHT.stream())
+            check.same("machine.py, report, " + bug.name, machine.report(), report(33664, bug.moved, 0, bug.status))
+            check.same("machine.py, image, " + bug.name, image(machine.memory) == broken.RIGHT.image(), bug.same_image)
 
 
 def check_later(check):
@@ -198,7 +214,8 @@ def check_pages(check):
 
 
 PARTS = [
-    check_files, check_runs, check_later, check_compiled, check_descriptions, check_bugs, check_pictures, check_pages,
+    check_files, check_runs, check_machine, check_later, check_compiled, check_descriptions, check_bugs, check_pictures,
+    check_pages,
 ]  # fmt: skip
 
 

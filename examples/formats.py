@@ -38,6 +38,16 @@ def program(base, words, chunks, fill):
     return head + struct.pack("<I", len(chunks)) + bytes_of(memory) + bytes([fill])
 
 
+def read_program(data):
+    """(base, words, chunks, fill) of a program file without a fault."""
+    base, count = struct.unpack_from("<II", data, 4)
+    words = words_of(data[12 : 12 + 4 * count])
+    memory = words_of(data[16 + 4 * count : -1])
+    pages = data[:4] == b"BRP1"
+    chunks = [(page, 4096) for page in memory] if pages else list(zip(memory[::2], memory[1::2], strict=True))
+    return base, words, chunks, data[-1]
+
+
 def image(memory):
     """An image file of {address of a chunk: its bytes}."""
     chunks = sorted(memory.items())
@@ -105,6 +115,10 @@ class Stream:
 
     def enable(self, fifo, risc):
         self.data += bytes([7, fifo + 2 * risc])
+        return self
+
+    def trigger(self, code):
+        self.data += bytes([8, code])
         return self
 
     def end(self):

@@ -10,12 +10,13 @@ last how many programs were accepted and how many answers differ.
 import argparse
 import os
 import random
-import struct
 import subprocess
 import sys
 import tempfile
 
-from formats import IS_EOL, IS_SOL, JUMP, PXV, SKIP, SKIP123, SYNC, WRITE, WRITE1S23, WRITE123, WRITEC, image, program
+from formats import (
+    IS_EOL, IS_SOL, JUMP, PXV, SKIP, SKIP123, SYNC, WRITE, WRITE1S23, WRITE123, WRITEC, Stream, image, program,
+)  # fmt: skip
 from machine import CODES, Machine, Program
 
 BASE = 0x1000
@@ -48,46 +49,28 @@ def drawn_program(draw):
     return Program(BASE, words, chunks, draw.randrange(256))
 
 
-def push(machine, queue, status, dword):
-    machine.push(queue, status, dword)
-    return bytes([queue + 1, status]) + dword
-
-
-def drawn_stream(draw, machine, form):
-    """A stream file, whose steps the machine takes at once."""
-    data = bytearray(form)
-    if form == b"BFS2":
-        machine.trigger = 4
+def drawn_stream(draw, form):
+    stream = Stream(turns=0, form=form)
     for _ in range(draw.randrange(5, 120)):
         kind = draw.randrange(30)
         if kind < 12:
             status = draw.choice([0, 0, 2, 2, 1, 5, 9, 13, 3, 7, 8, 10, 11, 15])
-            data += push(machine, draw.choice([0, 0, 1, 2]), status, draw.randbytes(4))
+            stream.push(draw.choice([1, 1, 2, 3]), status, draw.randbytes(4))
         elif kind < 18:
-            code = draw.choice(sorted(CODES))
-            data += bytes([4, code])
-            machine.control(code)
+            stream.control(draw.choice(sorted(CODES)))
         elif kind < 27:
-            count = draw.choice([1, 1, 2, 3, 5, 9])
-            data += b"\x05" + struct.pack("<I", count)
-            for _ in range(count):
-                machine.turn()
+            stream.turns(draw.choice([1, 1, 2, 3, 5, 9]))
         elif kind == 27:
-            mask = draw.getrandbits(32)
-            data += b"\x06" + struct.pack("<I", mask)
-            machine.acknowledge(mask)
+            stream.acknowledge(draw.getrandbits(32))
         elif kind == 28 and draw.random() < 0.3:
-            enables = draw.randrange(4)
-            data += bytes([7, enables])
-            machine.enable(enables & 1, enables >> 1)
+            stream.enable(draw.randrange(2), draw.randrange(2))
         elif kind == 29 and form == b"BFS2":
-            code = draw.randrange(4)
-            data += bytes([8, code])
-            machine.trigger = 4 << code
+            stream.trigger(draw.randrange(4))
         elif kind == 29 and draw.random() < 0.2:  # more than a queue holds
-            queue = draw.randrange(3)
-            data += b"".join(push(machine, queue, PXV, b"over") for _ in range(80))
-    return bytes(data + b"\x00")
+            queue = draw.choice([1, 2, 3])
+            for _ in range(80):
+                stream.push(queue, PXV, b"over")
+    return stream.end()
 
 
 def compare(binary, folder, drawn, draw):
@@ -104,8 +87,9 @@ def compare(binary, folder, drawn, draw):
     wanted = drawn.verdict()
     differences = [] if run("verify", "program") == wanted else [wanted]
     for form in (b"BFS1", b"BFS2") if wanted == "accepted\n" else ():
-        machine = Machine(drawn)
-        write("stream", drawn_stream(draw, machine, form))
+        machine, stream = Machine(drawn), drawn_stream(draw, form)
+        machine.play(stream)
+        write("stream", stream)
         write("image", b"")
         said = run("run", "program", "stream", "image")
         with open(os.path.join(folder, "image"), "rb") as file:

@@ -3,6 +3,8 @@
 fuzz.py compares the two.
 """
 
+import struct
+
 from formats import (
     ENDS, FM1, FM3, JUMP, LENGTHS, PXV, SKIP, SOL, SYNC, VRE, VRO, WRITE, WRITE1S23, WRITE123, WRITEC, SKIP123,
 )  # fmt: skip
@@ -259,6 +261,29 @@ class Machine:
     def apply(self, found):
         status = self.int_stat >> 28 & ~found.reset | found.set
         self.int_stat = self.int_stat & 0x0FFFFFFF | status << 28 | (RISCI if found.irq else 0)
+
+    # a stream file without a fault
+
+    def play(self, data):
+        if data[:4] == b"BFS2":
+            self.trigger = 4
+        at = 4
+        while data[at]:
+            tag, field = data[at], data[at + 1]
+            if tag <= 3:
+                self.push(tag - 1, field, data[at + 2 : at + 6])
+            elif tag == 4:
+                self.control(field)
+            elif tag == 5:
+                for _ in range(*struct.unpack_from("<I", data, at + 1)):
+                    self.turn()
+            elif tag == 6:
+                self.acknowledge(*struct.unpack_from("<I", data, at + 1))
+            elif tag == 7:
+                self.enable(field & 1, field >> 1)
+            else:
+                self.trigger = 4 << field
+            at += 6 if tag <= 3 else 5 if tag in (5, 6) else 2
 
     def report(self):
         lost = " ".join(map(str, self.overruns))
