@@ -5,7 +5,7 @@ use Rattle.bt878_words.specs.declared.Command.TheVariants as command
 use Rattle.bt878_words.specs.Words.{command_of, inputs_of, outputs_of}
 use Rattle.bt878_words.proofs.Asked.{Asks, asked}
 use Rattle.command_steps.specs.Inputs.{Input}
-use Rattle.bt878_contract.specs.Tasks.{Task, Lists, Verifies, Runs, Compiles, Captures, Generates, Assembles, creates, meaning, task_of, task_with}
+use Rattle.bt878_contract.specs.Tasks.{Task, Lists, Verifies, Runs, Compiles, Captures, Generates, Rings, Assembles, creates, meaning, task_of, task_with}
 use Rattle.bt878_contract.proofs.Outputs.{AreApart, not_among}
 
 -- the inputs, in the order in which they are read
@@ -64,9 +64,9 @@ asked_by command.Compile words e h =
     }
 asked_by command.Capture words e h =
     record {
-      task = Captures h.desc h.stream h.program h.image;
+      task = Captures h.source h.stream h.program h.image;
       is =
-          asks_for words (h.word ∷ h.desc ∷ h.stream ∷ h.program ∷ h.image ∷ []) command.Capture (Captures h.desc h.stream h.program h.image) e
+          asks_for words (h.word ∷ h.source ∷ h.stream ∷ h.program ∷ h.image ∷ []) command.Capture (Captures h.source h.stream h.program h.image) e
           h.are refl;
       inputs = h.opens;
       outputs = h.creates;
@@ -92,7 +92,16 @@ asked_by command.Assemble words e h =
     }
 asked_by command.Chain words e h = absurd h
 asked_by command.Damage words e h = absurd h
-asked_by command.Ring words e h = absurd h
+asked_by command.Ring words e h =
+    record {
+      task = Rings h.source h.stream h.program h.image;
+      is =
+          asks_for words (h.word ∷ h.source ∷ h.stream ∷ h.program ∷ h.image ∷ []) command.Ring (Rings h.source h.stream h.program h.image) e
+          h.are refl;
+      inputs = h.opens;
+      outputs = h.creates;
+      distinct = two_apart h.program h.image h.apart;
+    }
 
 pub is_asked : (words : List (List ℕ)) (c : Command) → command_of words ≡ Ok c → IsAsked words
 is_asked words c e = asked_by c words e (asked words c e)

@@ -15,28 +15,29 @@ use Rattle.capture_file.specs.Programs.{program_of, spelled}
 use Rattle.capture_file.specs.Streams.{steps_of, steps_run}
 use Rattle.picture_model.specs.Programs.{compiled}
 use Rattle.field_stream.specs.Made.{made, made_entries, made_fields}
-use Rattle.dma_machine.specs.Facts.{report_of}
 use Rattle.risc_listing.specs.Listings.{listing}
 use Rattle.command_texts.specs.declared.answer.Answer.{Answer}
-use Rattle.command_texts.specs.declared.answer.Answer.TheVariants.{Done, Usage, ReadFault, WriteFault, Malformed, BadDesc, BadGeometry, BadText, Rejected, NoMemory}
+use Rattle.command_texts.specs.declared.answer.Answer.TheVariants.{Done, Usage, ReadFault, WriteFault, Malformed, BadDesc, BadGeometry, BadRing, BadText, Rejected, NoMemory}
 use Rattle.command_texts.specs.declared.refusal.Refusal.{Refusal}
 use Rattle.command_texts.specs.declared.refusal.Refusal.TheVariants as refusal
 use Rattle.command_texts.specs.Answers.{answer_of}
 use Rattle.command_steps.specs.Outputs.{EndsAtFault, Product, Says, delivered}
 use Rattle.command_steps.specs.Inputs.{OfInput, SameCounts, ReadsRose, WritesRose, apart}
-use Rattle.command_texts.specs.Texts.{answer_text, made_text, report_text}
+use Rattle.command_texts.specs.Texts.{answer_text, made_text}
 use Rattle.stream_play.specs.Plays.{longest_stream}
 use Rattle.command_inputs.specs.Programs.{GivesSound, HoldsProgram, HoldsSound}
 use Rattle.bt878_contract.specs.Tasks.{IsListed}
-use Rattle.stream_play.specs.Runs.{OfRun, Ran, last_of}
+use Rattle.stream_play.specs.Runs.{IsRun, OfRun, Ran}
 use Rattle.stream_play.proofs.Fitting.{steps_fit}
 use Rattle.command_steps.proofs.Inputs.{OfInput-map}
 use Rattle.command_inputs.specs.Descriptions.{GivesCompiled, HoldsValid}
 use Rattle.command_inputs.specs.Listings.{GivesAssembled, HoldsListing}
-use Rattle.bt878_contract.specs.Tasks.{Task, Lists, Verifies, Runs, Compiles, Captures, Generates, Assembles, Answers, DescMakes, Ends, IsDone, IsPartDone, IsRefused, ListingMakes, Makes, RunMakes, compiled_text, creates, image_file, meaning, program_file, program_text, task_of, task_with}
-use Rattle.bt878_contract.specs.Clauses.{AreTold, CreatesNone, IsAssembled, IsBadInput, IsCompiled, IsCut, IsInOrder, IsGenerated, IsGood, IsOutput, IsRefusal, IsUnreadOf, IsUsage, OfDesc, OfRan, OfSteps, OnlyOutputs, OnlySays, SameNames, SameOutput, SaysAccepted, SaysAll, SaysListing, ShowsLast, ShowsProgram, StandsAt, StaysInside, TellsInput, UnlessCut}
+use Rattle.command_inputs.specs.Rings.{GivesRing, GivesRingProgram, HoldsRing}
+use Rattle.ring_model.specs.Rings.{Ring}
+use Rattle.bt878_contract.specs.Tasks.{Task, Lists, Verifies, Runs, Compiles, Captures, Generates, Rings, Assembles, Answers, DescMakes, Ends, IsDone, IsPartDone, IsRefused, ListingMakes, Makes, Reports, ReportsBlocks, RunMakes, RunOf, compiled_text, creates, image_of_run, meaning, program_and_image, program_file, program_text, task_of, task_with}
+use Rattle.bt878_contract.specs.Clauses.{AreTold, CreatesNone, IsAssembled, IsBadInput, IsCompiled, IsCut, IsInOrder, IsGenerated, IsGood, IsOutput, IsRefusal, IsUnreadOf, IsUsage, OfDesc, OfRan, OfRingRun, OfSteps, OnlyOutputs, OnlySays, SameNames, SameOutput, SaysAccepted, SaysAll, SaysBlocks, SaysListing, ShowsImage, ShowsLast, ShowsProgram, StandsAt, StaysInside, TellsInput, UnlessCut}
 use Rattle.bt878_contract.proofs.Asked.{IsAsked, is_asked}
-use Rattle.bt878_contract.proofs.Inputs.{OfRun-map, run_file, run_stream}
+use Rattle.bt878_contract.proofs.Inputs.{both-map, run_file, run_stream}
 use Rattle.bt878_contract.proofs.Judges.{bad_in, bad_leads, good_leads, good_not_bad, judged, unread_in}
 use Rattle.bt878_contract.proofs.Outputs.{AreApart, AreOutputs, all_said, all_written, cut_off, done_names, done_other, no_files, only_says, part_done_other, part_names, rises, said_names, same_outputs, says_only}
 
@@ -81,18 +82,24 @@ pub done_counts : (r : Result Task UsageFault) (answer : Answer) (old new : Seen
 done_counts (Err fault) answer old new h e = let usage = h.0 in absurd (cc)
 done_counts (Ok task) answer old new h e = (done_by task answer old new h e).counts
 
--- what follows of what `run` and `capture` make, over the stream's steps
-module _ (Q : Ran → Type 0) (f : (files : List (List ℕ × List ℕ)) (product : Product) (stream : List ℕ) (r : Ran) → steps_of longest_stream false stream ≡ Ok r.steps → RunMakes files product r → Q r) where
+-- what follows of what `run`, `capture` and `ring` make, over the stream's steps
+module _ (Q : Ran → Type 0) (f : (files : List (List ℕ × List ℕ)) (Says : List ℕ → Type 0) (product : Product) (stream : List ℕ) (r : Ran) → steps_of longest_stream false stream ≡ Ok r.steps → RunMakes files Says product r → Q r) where
+  of_run : (Gives : List ℕ → RiscProgram → ℕ → Type 0) (files : Ran → List (List ℕ × List ℕ)) (Says : List ℕ → Ran → List ℕ → Type 0) (product : Product) (file stream : List ℕ) (inputs : Option Inputs) →
+      OfInput file inputs (λ a. OfInput stream inputs (λ b. RunOf Gives files Says (a ∷ b ∷ []) product)) → OfRun Gives file stream inputs Q
+  of_run Gives files Says product file stream inputs h =
+      both-map file stream inputs (λ a b. RunOf Gives files Says (a ∷ b ∷ []) product) (λ a b. (r : Ran) × IsRun Gives a b r × Q r)
+      (λ a b m. (m.0, m.1, f (files m.0) (Says a m.0) product b m.0 m.1.reads m.2)) h
+
   ran_by : (r : Result Task UsageFault) (answer : Answer) (old new : Seen) → Answers r answer old new → answer ≡ Done → OfRan r old.told.inputs Q
   ran_by (Ok (Runs program stream image)) answer old new h e =
       let d = done_by (Runs program stream image) answer old new h e in
-      OfRun-map GivesSound program stream old.told.inputs (λ r. RunMakes (image_file image r ∷ []) d.product r) Q
-      (λ a b r is m. f (image_file image r ∷ []) d.product b r is.reads m) d.made.0
+      of_run GivesSound (image_of_run image) Reports d.product program stream old.told.inputs d.made.0
   ran_by (Ok (Captures desc stream program image)) answer old new h e =
       let d = done_by (Captures desc stream program image) answer old new h e in
-      OfRun-map GivesCompiled desc stream old.told.inputs
-      (λ r. RunMakes (program_file program r.program r.fill ∷ image_file image r ∷ []) d.product r) Q
-      (λ a b r is m. f (program_file program r.program r.fill ∷ image_file image r ∷ []) d.product b r is.reads m) d.made.0
+      of_run GivesCompiled (program_and_image program image) Reports d.product desc stream old.told.inputs d.made.0
+  ran_by (Ok (Rings ring stream program image)) answer old new h e =
+      let d = done_by (Rings ring stream program image) answer old new h e in
+      of_run GivesRingProgram (program_and_image program image) ReportsBlocks d.product ring stream old.told.inputs d.made.0
   ran_by (Ok (Lists program)) answer old new h e = tt
   ran_by (Ok (Verifies program)) answer old new h e = tt
   ran_by (Ok (Compiles desc program)) answer old new h e = tt
@@ -100,20 +107,20 @@ module _ (Q : Ran → Type 0) (f : (files : List (List ℕ × List ℕ)) (produc
   ran_by (Ok (Assembles text program)) answer old new h e = tt
   ran_by (Err fault) answer old new h e = let usage = h.0 in absurd (cc)
 
-module _ (P : Ran → Type 0) (always : (files : List (List ℕ × List ℕ)) (product : Product) (r : Ran) → RunMakes files product r → P r) where
+module _ (P : Ran → Type 0) (always : (files : List (List ℕ × List ℕ)) (Says : List ℕ → Type 0) (product : Product) (r : Ran) → RunMakes files Says product r → P r) where
   pub done_ran : (r : Result Task UsageFault) (answer : Answer) (old new : Seen) → Answers r answer old new → answer ≡ Done → OfRan r old.told.inputs P
-  done_ran = ran_by P (λ files product stream r reads m. always files product r m)
+  done_ran = ran_by P (λ files Says product stream r reads m. always files Says product r m)
 
 pub done_inside : (r : Result Task UsageFault) (answer : Answer) (old new : Seen) → Answers r answer old new → answer ≡ Done → OfRan r old.told.inputs StaysInside
-done_inside = done_ran StaysInside (λ files product r m. m.inside)
+done_inside = done_ran StaysInside (λ files Says product r m. m.inside)
 
 -- what is so of every first state and all steps that a decoder makes
 module _ (P : State → List machine.Step → Type 0) (always : (program : RiscProgram) (fill : ℕ) (steps : List machine.Step) → All IsStep steps → P (first_state program fill) steps) where
   pub done_captured : (r : Result Task UsageFault) (answer : Answer) (old new : Seen) → Answers r answer old new → answer ≡ Done → OfRan r old.told.inputs (OfSteps P)
-  done_captured = ran_by (OfSteps P) (λ files product stream r reads m. always r.program r.fill (steps_run r.steps) (steps_fit stream r.steps reads))
+  done_captured = ran_by (OfSteps P) (λ files Says product stream r reads m. always r.program r.fill (steps_run r.steps) (steps_fit stream r.steps reads))
 
 pub done_sound : (r : Result Task UsageFault) (answer : Answer) (old new : Seen) → Answers r answer old new → answer ≡ Done → OfRan r old.told.inputs (λ ran. IsSound ran.program)
-done_sound = done_ran (λ ran. IsSound ran.program) (λ files product ran m. m.sound)
+done_sound = done_ran (λ ran. IsSound ran.program) (λ files Says product ran m. m.sound)
 
 -- its files and its text are there, and nothing else is created
 module _ (task : Task) (old new : Seen) (d : IsDone task old new) where
@@ -127,12 +134,12 @@ module _ (task : Task) (old new : Seen) (d : IsDone task old new) where
   its_text_alone none =
       (says_only d.product.text old.told new.told (d.left ∙ ap (λ files. delivered files d.product.text (apart old.told)) (no_files d.product.files (d.names ∙ none)))).0
 
-  its_run : (files : List (List ℕ × List ℕ)) (r : Ran) → AreApart (creates task) → RunMakes files d.product r →
-      AreOutputs files new.told.outputs × SaysAll (report_text (report_of (last_of r))) old.told new.told
-  its_run files r h m = (
-    subst (λ fs. AreOutputs fs new.told.outputs) m.writes (its_files h),
-    subst (λ text. SaysAll text old.told new.told) m.reports its_text,
-  )
+  -- the files of a run, and a text that is said of it
+  its_run : (files : List (List ℕ × List ℕ)) (Says : List ℕ → Type 0) (r : Ran) → AreApart (creates task) → RunMakes files Says d.product r → AreOutputs files new.told.outputs
+  its_run files Says r h m = subst (λ fs. AreOutputs fs new.told.outputs) m.writes (its_files h)
+
+  its_words : (text : List ℕ) → d.product.text ≡ text → SaysAll text old.told new.told
+  its_words text e = subst (λ t. SaysAll t old.told new.told) e its_text
 
   its_desc : (file : Desc → List ℕ × List ℕ) (text : Desc → List ℕ) (desc : List ℕ) → AreApart (creates task) → OfInput desc old.told.inputs (DescMakes file text d.product) →
       OfDesc desc old.told.inputs (λ c. IsOutput (file c).0 (file c).1 new.told.outputs × SaysAll (text c) old.told new.told)
@@ -160,19 +167,41 @@ module _ (words : List (List ℕ)) (answer : Answer) (old new : Seen) (h : Answe
 
   pub done_run : (program stream image : List ℕ) → task_of words ≡ Ok (Runs program stream image) → OfRun GivesSound program stream old.told.inputs (ShowsLast image old.told new.told)
   done_run program stream image is =
-      let d = task_done (Runs program stream image) is in
-      OfRun-map GivesSound program stream old.told.inputs (λ r. RunMakes (image_file image r ∷ []) d.product r) (ShowsLast image old.told new.told)
-      (λ a b r runs m. let shown = its_run (Runs program stream image) old new d (image_file image r ∷ []) r (distinct (Runs program stream image) is) m in (shown.0.0, shown.1)) d.made.0
+      let task = Runs program stream image in
+      let d = task_done task is in
+      both-map program stream old.told.inputs (λ a b. RunOf GivesSound (image_of_run image) Reports (a ∷ b ∷ []) d.product)
+      (λ a b. (r : Ran) × IsRun GivesSound a b r × ShowsLast image old.told new.told r)
+      (λ a b m. (m.0, m.1, ((its_run task old new d (image_of_run image m.0) (Reports a m.0) m.0 (distinct task is) m.2).0, its_words task old new d _ m.2.says))) d.made.0
+
+  -- the program file and the image of a run
+  its_program_and_image : (task : Task) (d : IsDone task old new) (program image : List ℕ) (Says : List ℕ → Type 0) (r : Ran) → AreApart (creates task) → RunMakes (program_and_image program image r) Says d.product r →
+      ShowsProgram program new.told r × ShowsImage image new.told r
+  its_program_and_image task d program image Says r h m =
+      let written = its_run task old new d (program_and_image program image r) Says r h m in (written.0, written.1.0)
 
   pub done_capture : (desc stream program image : List ℕ) → task_of words ≡ Ok (Captures desc stream program image) →
       OfRun GivesCompiled desc stream old.told.inputs (λ r. ShowsProgram program new.told r × ShowsLast image old.told new.told r)
   done_capture desc stream program image is =
-      let d = task_done (Captures desc stream program image) is in
-      OfRun-map GivesCompiled desc stream old.told.inputs
-      (λ r. RunMakes (program_file program r.program r.fill ∷ image_file image r ∷ []) d.product r) (λ r. ShowsProgram program new.told r × ShowsLast image old.told new.told r)
-      (λ a b r runs m.
-      let shown = its_run (Captures desc stream program image) old new d (program_file program r.program r.fill ∷ image_file image r ∷ []) r (distinct (Captures desc stream program image) is) m in
-      (shown.0.0, (shown.0.1.0, shown.1)))
+      let task = Captures desc stream program image in
+      let d = task_done task is in
+      both-map desc stream old.told.inputs (λ a b. RunOf GivesCompiled (program_and_image program image) Reports (a ∷ b ∷ []) d.product)
+      (λ a b. (r : Ran) × IsRun GivesCompiled a b r × (ShowsProgram program new.told r × ShowsLast image old.told new.told r))
+      (λ a b m.
+      let written = its_program_and_image task d program image (Reports a m.0) m.0 (distinct task is) m.2 in
+      (m.0, m.1, (written.0, (written.1, its_words task old new d _ m.2.says))))
+      d.made.0
+
+  pub done_ring : (ring stream program image : List ℕ) → task_of words ≡ Ok (Rings ring stream program image) →
+      OfRingRun ring stream old.told.inputs (λ x r. ShowsProgram program new.told r × ShowsImage image new.told r × SaysBlocks old.told new.told x r)
+  done_ring ring stream program image is =
+      let task = Rings ring stream program image in
+      let d = task_done task is in
+      both-map ring stream old.told.inputs (λ a b. RunOf GivesRingProgram (program_and_image program image) ReportsBlocks (a ∷ b ∷ []) d.product)
+      (λ a b. (x : Ring) × (r : Ran) × IsRun (GivesRing x) a b r × (ShowsProgram program new.told r × ShowsImage image new.told r × SaysBlocks old.told new.told x r))
+      (λ a b m.
+      let written = its_program_and_image task d program image (ReportsBlocks a m.0) m.0 (distinct task is) m.2 in
+      let says = m.2.says in
+      (says.ring, m.0, record { gives = says.gives; reads = m.1.reads }, (written.0, written.1, its_words task old new d _ says.says)))
       d.made.0
 
   pub done_compile : (desc program : List ℕ) → task_of words ≡ Ok (Compiles desc program) → IsCompiled desc program old.told new.told
@@ -233,6 +262,7 @@ refusal_in ReadFault = refusal.ReadFault
 refusal_in (Malformed file fault) = refusal.Malformed file fault
 refusal_in (BadDesc fault) = refusal.BadDesc fault
 refusal_in (BadGeometry fault) = refusal.BadGeometry fault
+refusal_in (BadRing fault) = refusal.BadRing fault
 refusal_in (BadText fault) = refusal.BadText fault
 refusal_in (Rejected at nth cause) = refusal.Rejected at nth cause
 refusal_in answer = refusal.NoMemory
@@ -243,6 +273,7 @@ refusal_back refusal.ReadFault = refl
 refusal_back (refusal.Malformed file fault) = refl
 refusal_back (refusal.BadDesc fault) = refl
 refusal_back (refusal.BadGeometry fault) = refl
+refusal_back (refusal.BadRing fault) = refl
 refusal_back (refusal.BadText fault) = refl
 refusal_back (refusal.Rejected at nth cause) = refl
 refusal_back refusal.NoMemory = refl
@@ -262,6 +293,7 @@ is_other refusal.ReadFault = tt
 is_other (refusal.Malformed file fault) = tt
 is_other (refusal.BadDesc fault) = tt
 is_other (refusal.BadGeometry fault) = tt
+is_other (refusal.BadRing fault) = tt
 is_other (refusal.BadText fault) = tt
 is_other (refusal.Rejected at nth cause) = tt
 is_other refusal.NoMemory = tt
@@ -298,17 +330,19 @@ valid_of file text product desc inputs h = OfInput-map desc inputs (DescMakes fi
 makes_good : (task : Task) (inputs : Option Inputs) (product : Product) → AreTold inputs → Makes task inputs product → IsGood (Ok task) inputs
 makes_good (Lists program) inputs product told h = (OfInput-map program inputs (λ bytes. IsListed bytes product.text) HoldsProgram (λ bytes is. (is.0, is.1)) h.0, tt)
 makes_good (Verifies program) inputs product told h = (h.0, tt)
-makes_good (Runs program stream image) inputs product told h =
-    let P : Ran → Type 0 = λ r. RunMakes (image_file image r ∷ []) product r in (
-      run_file GivesSound program stream inputs P HoldsSound (λ bytes p fill is. (p, fill, is)) told h.0,
-      (run_stream GivesSound program stream inputs P told h.0, tt),
-    )
+makes_good (Runs program stream image) inputs product told h = (
+  run_file GivesSound program stream inputs (image_of_run image) Reports product HoldsSound (λ bytes p fill is. (p, fill, is)) told h.0,
+  (run_stream GivesSound program stream inputs (image_of_run image) Reports product told h.0, tt),
+)
 makes_good (Compiles desc program) inputs product told h = (valid_of (λ d. program_file program (compiled d) d.fill) compiled_text product desc inputs h.0, tt)
-makes_good (Captures desc stream program image) inputs product told h =
-    let P : Ran → Type 0 = λ r. RunMakes (program_file program r.program r.fill ∷ image_file image r ∷ []) product r in (
-      run_file GivesCompiled desc stream inputs P HoldsValid (λ bytes p fill is. (is.description, is.describes)) told h.0,
-      (run_stream GivesCompiled desc stream inputs P told h.0, tt),
-    )
+makes_good (Captures desc stream program image) inputs product told h = (
+  run_file GivesCompiled desc stream inputs (program_and_image program image) Reports product HoldsValid (λ bytes p fill is. (is.description, is.describes)) told h.0,
+  (run_stream GivesCompiled desc stream inputs (program_and_image program image) Reports product told h.0, tt),
+)
+makes_good (Rings ring stream program image) inputs product told h = (
+  run_file GivesRingProgram ring stream inputs (program_and_image program image) ReportsBlocks product HoldsRing (λ bytes p fill is. (is.0, is.1.holds)) told h.0,
+  (run_stream GivesRingProgram ring stream inputs (program_and_image program image) ReportsBlocks product told h.0, tt),
+)
 makes_good (Generates desc seed frames stream) inputs product told h =
     (valid_of (λ d. (stream, made d seed frames)) (λ d. made_text (made_fields d frames) (made_entries d frames)) product desc inputs h.0, tt)
 makes_good (Assembles text program) inputs product told h = (OfInput-map text inputs (ListingMakes program product) HoldsListing (λ bytes m. (m.file, m.assembles)) h.0, tt)
@@ -347,6 +381,7 @@ in_order (Ok task) answer old new h =
     refused_order (refusal.Malformed file fault) refused = refused.calls
     refused_order (refusal.BadDesc fault) refused = refused.calls
     refused_order (refusal.BadGeometry fault) refused = refused.calls
+    refused_order (refusal.BadRing fault) refused = refused.calls
     refused_order (refusal.BadText fault) refused = refused.calls
     refused_order (refusal.Rejected at nth cause) refused = refused.calls
     refused_order refusal.NoMemory refused = refused.calls

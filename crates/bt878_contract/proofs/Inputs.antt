@@ -1,12 +1,14 @@
 -- What follows of an input that the desk tells, and of a run over two.
-use Rattle.std.proofs.Common.{◌≡◌, ℕ, inl, inr, true, false, Bool, List, Option, Some, None, refl}
+use Rattle.std.proofs.Common.{◌≡◌, ℕ, inl, inr, true, false, Bool, List, [], ◌∷◌, Option, Some, None, refl}
 use Rattle.capture_desk.specs.Desks.{Seen, Inputs, is_missing, named}
 use Rattle.machine_model.specs.Paths.{RiscProgram}
 use Rattle.command_texts.specs.declared.refusal.Refusal.TheVariants.{ReadFault}
 use Rattle.command_texts.specs.Answers.{answer_of}
 use Rattle.command_steps.specs.Inputs.{OfFile, OfInput, IsUnread}
+use Rattle.command_steps.specs.Outputs.{Product}
 use Rattle.stream_play.specs.Runs.{HoldsSteps, IsRun, OfRun, Ran}
 use Rattle.command_steps.proofs.Inputs.{OfInput-map}
+use Rattle.bt878_contract.specs.Tasks.{RunOf}
 use Rattle.bt878_contract.specs.Clauses.{AreTold, IsCut}
 
 -- two facts of one input
@@ -44,23 +46,32 @@ cut_unread name old new P told there (inr missing) = absurd (not_missing name ol
 
 -- ---- a run
 
+-- what holds of two inputs
+pub both-map : (file stream : List ℕ) (inputs : Option Inputs) (P Q : List ℕ → List ℕ → Type 0) → ((a b : List ℕ) → P a b → Q a b) → OfInput file inputs (λ a. OfInput stream inputs (P a)) →
+    OfInput file inputs (λ a. OfInput stream inputs (Q a))
+both-map file stream inputs P Q f h =
+    OfInput-map file inputs (λ a. OfInput stream inputs (P a)) (λ a. OfInput stream inputs (Q a)) (λ a k. OfInput-map stream inputs (P a) (Q a) (f a) k) h
+
 module _ (Gives : List ℕ → RiscProgram → ℕ → Type 0) (file stream : List ℕ) (inputs : Option Inputs) where
-  abbrev RunOf : (Ran → Type 0) → List ℕ → List ℕ → Type 0
-  RunOf P a b = (r : Ran) × IsRun Gives a b r × P r
+  abbrev Ran-of : (Ran → Type 0) → List ℕ → List ℕ → Type 0
+  Ran-of P a b = (r : Ran) × IsRun Gives a b r × P r
 
   pub OfRun-map : (P Q : Ran → Type 0) → ((a b : List ℕ) (r : Ran) → IsRun Gives a b r → P r → Q r) → OfRun Gives file stream inputs P → OfRun Gives file stream inputs Q
-  OfRun-map P Q f h =
-      OfInput-map file inputs (λ a. OfInput stream inputs (RunOf P a)) (λ a. OfInput stream inputs (RunOf Q a))
-      (λ a k. OfInput-map stream inputs (RunOf P a) (RunOf Q a) (λ b m. (m.0, m.1, f a b m.0 m.1 m.2)) k) h
+  OfRun-map P Q f h = both-map file stream inputs (Ran-of P) (Ran-of Q) (λ a b m. (m.0, m.1, f a b m.0 m.1 m.2)) h
 
-  -- both inputs of a run are good
-  pub run_file : (P : Ran → Type 0) (IsGood : List ℕ → Type 0) → ((bytes : List ℕ) (program : RiscProgram) (fill : ℕ) → Gives bytes program fill → IsGood bytes) → AreTold inputs →
-      OfRun Gives file stream inputs P → OfInput file inputs IsGood
-  run_file P IsGood f told h =
-      OfInput-map file inputs (λ a. OfInput stream inputs (RunOf P a)) IsGood
-      (λ a k. let some = told_some stream inputs (RunOf P a) told k in f a some.1.0.program some.1.0.fill some.1.1.gives) h
+  module _ (files : Ran → List (List ℕ × List ℕ)) (Says : List ℕ → Ran → List ℕ → Type 0) (product : Product) where
+    -- what a run makes
+    abbrev pub Made : List ℕ → List ℕ → Type 0
+    Made a b = RunOf Gives files Says (a ∷ b ∷ []) product
 
-  pub run_stream : (P : Ran → Type 0) → AreTold inputs → OfRun Gives file stream inputs P → OfInput stream inputs HoldsSteps
-  run_stream P told h =
-      let some = told_some file inputs (λ a. OfInput stream inputs (RunOf P a)) told h in
-      OfInput-map stream inputs (RunOf P some.0) HoldsSteps (λ b m. (m.0.steps, m.1.reads)) some.1
+    -- both inputs of a run are good
+    pub run_file : (IsGood : List ℕ → Type 0) → ((bytes : List ℕ) (program : RiscProgram) (fill : ℕ) → Gives bytes program fill → IsGood bytes) → AreTold inputs →
+        OfInput file inputs (λ a. OfInput stream inputs (Made a)) → OfInput file inputs IsGood
+    run_file IsGood f told h =
+        OfInput-map file inputs (λ a. OfInput stream inputs (Made a)) IsGood
+        (λ a k. let some = told_some stream inputs (Made a) told k in f a some.1.0.program some.1.0.fill some.1.1.gives) h
+
+    pub run_stream : AreTold inputs → OfInput file inputs (λ a. OfInput stream inputs (Made a)) → OfInput stream inputs (HoldsSteps false)
+    run_stream told h =
+        let some = told_some file inputs (λ a. OfInput stream inputs (Made a)) told h in
+        OfInput-map stream inputs (Made some.0) (HoldsSteps false) (λ b m. (m.0.steps, m.1.reads)) some.1

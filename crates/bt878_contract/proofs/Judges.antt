@@ -1,22 +1,22 @@
 -- Why an input is not taken: a told input is bad in one way only, and a good one isn't bad.
-use Rattle.std.proofs.Common.{◌≡◌, ℕ, ◌<◌, ◌⊎◌, inl, inr, false, List, [], ◌∷◌, map, Option, Result, Ok, Err, refl, sym, ap, subst, ◌∙◌, arith}
+use Rattle.std.proofs.Common.{◌≡◌, ℕ, ◌<◌, ◌⊎◌, inl, inr, Bool, false, List, [], ◌∷◌, map, Option, Result, Ok, Err, refl, sym, ap, subst, ◌∙◌, arith}
 use Rattle.capture_desk.specs.Desks.{HasRisen, Inputs, Seen}
 use Rattle.machine_model.specs.declared.Cause.{Cause}
 use Rattle.machine_model.specs.Paths.{RiscProgram, IsSound, IsFirstBad}
 use Rattle.capture_file.specs.declared.FileFault.{FileFault}
 use Rattle.capture_file.specs.declared.Input.{Input as FileInput}
-use Rattle.capture_file.specs.declared.Input.TheVariants.{Program, Stream, Desc as DescFile}
+use Rattle.capture_file.specs.declared.Input.TheVariants.{Program, Stream, Desc as DescFile, Ring as RingFile}
 use Rattle.capture_file.specs.declared.program.ProgramFile.{ProgramFile}
 use Rattle.capture_file.specs.declared.Step.{Step}
 use Rattle.capture_file.specs.Programs.{program_of}
 use Rattle.capture_file.specs.Streams.{steps_of}
 use Rattle.command_texts.specs.declared.refusal.Refusal.{Refusal}
-use Rattle.command_texts.specs.declared.refusal.Refusal.TheVariants.{ReadFault, Malformed, BadDesc, BadGeometry, BadText, Rejected, NoMemory}
+use Rattle.command_texts.specs.declared.refusal.Refusal.TheVariants.{ReadFault, Malformed, BadDesc, BadGeometry, BadRing, BadText, Rejected, NoMemory}
 use Rattle.command_texts.specs.Answers.{answer_of}
-use Rattle.command_steps.specs.Inputs.{AreGood, Input, IsFirstBadOf, OfInput, StopsAt, StopsIn}
+use Rattle.command_steps.specs.Inputs.{AreGood, ByBytes, Input, IsFirstBadOf, OfInput, StopsAt, StopsIn}
 use Rattle.stream_play.specs.Plays.{longest_stream}
 use Rattle.command_inputs.specs.Programs.{HoldsProgram, HoldsSound, IsBadFile, IsBadProgram, Rejects, a_program, a_sound_program}
-use Rattle.stream_play.specs.Runs.{HoldsSteps, IsBadStream, a_stream}
+use Rattle.stream_play.specs.Runs.{HoldsSteps, IsBadStream, a_stream_file}
 use Rattle.command_steps.proofs.Inputs.{OfInput-map}
 use Rattle.command_inputs.specs.Descriptions.{HoldsValid, IsBadDesc, a_description, description_of}
 use Rattle.risc_asm.specs.declared.AsmFault.{AsmFault}
@@ -24,16 +24,17 @@ use Rattle.risc_asm.specs.declared.AsmError.TheVariants.{Bad}
 use Rattle.risc_asm.specs.Answers.{IsFault}
 use Rattle.risc_asm.proofs.OneAnswer.{one_answer}
 use Rattle.command_inputs.specs.Listings.{HoldsListing, IsBadText, a_listing}
-use Rattle.bt878_contract.specs.Tasks.{Task, Lists, Verifies, Runs, Compiles, Captures, Generates, Assembles, meaning}
+use Rattle.command_inputs.specs.Rings.{HoldsRing, IsBadRing, a_ring, ring_of}
+use Rattle.bt878_contract.specs.Tasks.{Task, Lists, Verifies, Runs, Compiles, Captures, Generates, Rings, Assembles, meaning}
 use Rattle.bt878_contract.specs.Clauses.{AreTold, IsCut, IsUnreadOf, TellsInput, UnlessCut}
 use Rattle.bt878_contract.proofs.Inputs.{both_of, cut_unread}
 use Rattle.bt878_contract.proofs.Outputs.{first_among, later_among}
 
--- Why is what an refusal says of the bytes
-pub record IsJudge (IsBad : List ℕ → Refusal → Option Inputs → Type 0) (IsGood : List ℕ → Type 0) (Why : Refusal → List ℕ → Type 0) : Type 0 where
-  pub tells : (name : List ℕ) (refusal : Refusal) (inputs : Option Inputs) → IsBad name refusal inputs → OfInput name inputs (Why refusal)
-  pub excludes : (refusal : Refusal) (bytes : List ℕ) → IsGood bytes → Why refusal bytes → ⊥
-  pub once : (a b : Refusal) (bytes : List ℕ) → Why a bytes → Why b bytes → a ≡ b
+-- Why is what a refusal says of the bytes
+pub record IsJudge (IsBad : List ℕ → Refusal → Option Inputs → Type 0) (IsGood : Option Inputs → List ℕ → Type 0) (Why : Refusal → Option Inputs → List ℕ → Type 0) : Type 0 where
+  pub tells : (name : List ℕ) (refusal : Refusal) (inputs : Option Inputs) → IsBad name refusal inputs → OfInput name inputs (Why refusal inputs)
+  pub excludes : (refusal : Refusal) (inputs : Option Inputs) (bytes : List ℕ) → AreTold inputs → IsGood inputs bytes → Why refusal inputs bytes → ⊥
+  pub once : (a b : Refusal) (inputs : Option Inputs) (bytes : List ℕ) → AreTold inputs → Why a inputs bytes → Why b inputs bytes → a ≡ b
 
 -- ---- what follows for every judge
 
@@ -43,26 +44,41 @@ bad_at IsBad name ReadFault old new tells h = absurd tells
 bad_at IsBad name NoMemory old new tells h = absurd tells
 bad_at IsBad name refusal old new tells h = h
 
-module _ {IsBad : List ℕ → Refusal → Option Inputs → Type 0} {IsGood : List ℕ → Type 0} {Why : Refusal → List ℕ → Type 0} (judge : IsJudge IsBad IsGood Why) where
-  pub good_or_bad : (name : List ℕ) (refusal : Refusal) (inputs : Option Inputs) → AreTold inputs → OfInput name inputs IsGood → IsBad name refusal inputs → ⊥
+module _ {IsBad : List ℕ → Refusal → Option Inputs → Type 0} {IsGood : Option Inputs → List ℕ → Type 0} {Why : Refusal → Option Inputs → List ℕ → Type 0} (judge : IsJudge IsBad IsGood Why) where
+  pub good_or_bad : (name : List ℕ) (refusal : Refusal) (inputs : Option Inputs) → AreTold inputs → OfInput name inputs (IsGood inputs) → IsBad name refusal inputs → ⊥
   good_or_bad name refusal inputs told good bad =
-      both_of name inputs IsGood (Why refusal) ⊥ told (λ bytes. judge.excludes refusal bytes) good (judge.tells name refusal inputs bad)
+      both_of name inputs (IsGood inputs) (Why refusal inputs) ⊥ told (λ bytes. judge.excludes refusal inputs bytes told) good (judge.tells name refusal inputs bad)
 
   bad_once : (name : List ℕ) (a b : Refusal) (inputs : Option Inputs) → AreTold inputs → IsBad name a inputs → IsBad name b inputs → a ≡ b
   bad_once name a b inputs told one two =
-      both_of name inputs (Why a) (Why b) (a ≡ b) told (λ bytes. judge.once a b bytes) (judge.tells name a inputs one) (judge.tells name b inputs two)
+      both_of name inputs (Why a inputs) (Why b inputs) (a ≡ b) told (λ bytes. judge.once a b inputs bytes told) (judge.tells name a inputs one) (judge.tells name b inputs two)
 
-  pub good_cuts : (name : List ℕ) (refusal : Refusal) (old new : Seen) → AreTold old.told.inputs → OfInput name old.told.inputs IsGood → StopsAt IsBad name refusal old new → IsCut (answer_of refusal) old new
-  good_cuts name ReadFault old new told good h = cut_unread name old new IsGood told good h
+  pub good_cuts : (name : List ℕ) (refusal : Refusal) (old new : Seen) → AreTold old.told.inputs → OfInput name old.told.inputs (IsGood old.told.inputs) → StopsAt IsBad name refusal old new → IsCut (answer_of refusal) old new
+  good_cuts name ReadFault old new told good h = cut_unread name old new (IsGood old.told.inputs) told good h
   good_cuts name NoMemory old new told good h = inl refl
   good_cuts name refusal old new told good h = absurd (good_or_bad name refusal old.told.inputs told good h)
 
   pub bad_stops : (name : List ℕ) (wanted refusal : Refusal) (old new : Seen) → AreTold old.told.inputs → IsBad name wanted old.told.inputs → StopsAt IsBad name refusal old new → UnlessCut wanted (answer_of refusal) old new
-  bad_stops name wanted ReadFault old new told bad h = inr (cut_unread name old new (Why wanted) told (judge.tells name wanted old.told.inputs bad) h)
+  bad_stops name wanted ReadFault old new told bad h = inr (cut_unread name old new (Why wanted old.told.inputs) told (judge.tells name wanted old.told.inputs bad) h)
   bad_stops name wanted NoMemory old new told bad h = inr (inl refl)
   bad_stops name wanted refusal old new told bad h = inl (ap answer_of (bad_once name refusal wanted old.told.inputs told h bad))
 
--- ---- the five judges
+-- ---- the judges
+
+-- a judge of the bytes alone
+record IsByteJudge (IsBad : List ℕ → Refusal → Option Inputs → Type 0) (IsGood : List ℕ → Type 0) (Why : Refusal → List ℕ → Type 0) : Type 0 where
+  tells : (name : List ℕ) (refusal : Refusal) (inputs : Option Inputs) → IsBad name refusal inputs → OfInput name inputs (Why refusal)
+  excludes : (refusal : Refusal) (bytes : List ℕ) → IsGood bytes → Why refusal bytes → ⊥
+  once : (a b : Refusal) (bytes : List ℕ) → Why a bytes → Why b bytes → a ≡ b
+
+by_bytes : {IsBad : List ℕ → Refusal → Option Inputs → Type 0} {IsGood : List ℕ → Type 0} {Why : Refusal → List ℕ → Type 0} → IsByteJudge IsBad IsGood Why →
+    IsJudge IsBad (ByBytes IsGood) (λ refusal inputs. Why refusal)
+by_bytes judge =
+    record {
+      tells = judge.tells;
+      excludes = λ refusal inputs bytes told. judge.excludes refusal bytes;
+      once = λ a b inputs bytes told. judge.once a b bytes;
+    }
 
 -- a file that its reader gives a fault of
 module _ {X : Type 0} (read : List ℕ → Result X FileFault) (file : FileInput) where
@@ -86,7 +102,7 @@ file_tells : (name : List ℕ) (refusal : Refusal) (inputs : Option Inputs) → 
 file_tells name (Malformed Program fault) inputs h = faulty program_of Program fault name inputs h
 file_tells name refusal inputs h = absurd h
 
-pub file_judge : IsJudge IsBadFile HoldsProgram WhyFile
+file_judge : IsByteJudge IsBadFile HoldsProgram WhyFile
 file_judge =
     record {
       tells = file_tells;
@@ -157,46 +173,68 @@ program_once a b bytes (inr one) (inl two) = absurd (not_faulty program_of Progr
 program_once a b bytes (inr one) (inr two) =
     one.is ∙ one_rejection one.place two.place one.step two.step one.cause two.cause bytes one.rejects two.rejects ∙ sym two.is
 
-pub program_judge : IsJudge IsBadProgram HoldsSound WhyProgram
+program_judge : IsByteJudge IsBadProgram HoldsSound WhyProgram
 program_judge = record { tells = program_tells; excludes = program_excludes; once = program_once }
 
--- a stream file
-abbrev stream_steps : List ℕ → Result (List Step) FileFault
-stream_steps bytes = steps_of longest_stream false bytes
+-- a stream file of the form for chains, or of another
+module _ (chained : Bool) where
+  abbrev stream_steps : List ℕ → Result (List Step) FileFault
+  stream_steps bytes = steps_of longest_stream chained bytes
 
-abbrev WhyStream : Refusal → List ℕ → Type 0
-WhyStream refusal bytes = IsFaulty stream_steps Stream refusal bytes
+  abbrev WhyStream : Refusal → List ℕ → Type 0
+  WhyStream refusal bytes = IsFaulty stream_steps Stream refusal bytes
 
-stream_tells : (name : List ℕ) (refusal : Refusal) (inputs : Option Inputs) → IsBadStream name refusal inputs → OfInput name inputs (WhyStream refusal)
-stream_tells name (Malformed Stream fault) inputs h = faulty stream_steps Stream fault name inputs h
-stream_tells name refusal inputs h = absurd h
+  stream_tells : (name : List ℕ) (refusal : Refusal) (inputs : Option Inputs) → IsBadStream chained name refusal inputs → OfInput name inputs (WhyStream refusal)
+  stream_tells name (Malformed Stream fault) inputs h = faulty stream_steps Stream fault name inputs h
+  stream_tells name refusal inputs h = absurd h
 
-pub stream_judge : IsJudge IsBadStream HoldsSteps WhyStream
-stream_judge =
-    record {
-      tells = stream_tells;
-      excludes = λ refusal bytes good why. not_faulty stream_steps Stream refusal bytes good.0 good.1 why;
-      once = faulty_once stream_steps Stream;
-    }
+  stream_judge : IsByteJudge (IsBadStream chained) (HoldsSteps chained) WhyStream
+  stream_judge =
+      record {
+        tells = stream_tells;
+        excludes = λ refusal bytes good why. not_faulty stream_steps Stream refusal bytes good.0 good.1 why;
+        once = faulty_once stream_steps Stream;
+      }
+
+-- a file that its reader refuses
+module _ {X : Type 0} (read : List ℕ → Result X Refusal) where
+  abbrev IsRefusedBy : Refusal → List ℕ → Type 0
+  IsRefusedBy refusal bytes = read bytes ≡ Err refusal
+
+  not_refused : (refusal : Refusal) (bytes : List ℕ) (x : X) → read bytes ≡ Ok x → IsRefusedBy refusal bytes → ⊥
+  not_refused refusal bytes x e why = absurd (cc)
+
+  refused_once : (a b : Refusal) (bytes : List ℕ) → IsRefusedBy a bytes → IsRefusedBy b bytes → a ≡ b
+  refused_once a b bytes one two = cc
 
 -- a description
-abbrev WhyDesc : Refusal → List ℕ → Type 0
-WhyDesc refusal bytes = description_of bytes ≡ Err refusal
-
-desc_tells : (name : List ℕ) (refusal : Refusal) (inputs : Option Inputs) → IsBadDesc name refusal inputs → OfInput name inputs (WhyDesc refusal)
+desc_tells : (name : List ℕ) (refusal : Refusal) (inputs : Option Inputs) → IsBadDesc name refusal inputs → OfInput name inputs (IsRefusedBy description_of refusal)
 desc_tells name (Malformed DescFile fault) inputs h = h
 desc_tells name (BadDesc fault) inputs h = h
 desc_tells name (BadGeometry fault) inputs h = h
 desc_tells name refusal inputs h = absurd h
 
-desc_excludes : (refusal : Refusal) (bytes : List ℕ) → HoldsValid bytes → WhyDesc refusal bytes → ⊥
-desc_excludes refusal bytes (d, is) why = let right = is.reads in absurd (cc)
+desc_judge : IsByteJudge IsBadDesc HoldsValid (IsRefusedBy description_of)
+desc_judge =
+    record {
+      tells = desc_tells;
+      excludes = λ refusal bytes good why. not_refused description_of refusal bytes good.0 good.1.reads why;
+      once = refused_once description_of;
+    }
 
-desc_once : (a b : Refusal) (bytes : List ℕ) → WhyDesc a bytes → WhyDesc b bytes → a ≡ b
-desc_once a b bytes one two = cc
+-- a ring file
+ring_tells : (name : List ℕ) (refusal : Refusal) (inputs : Option Inputs) → IsBadRing name refusal inputs → OfInput name inputs (IsRefusedBy ring_of refusal)
+ring_tells name (Malformed RingFile fault) inputs h = h
+ring_tells name (BadRing fault) inputs h = h
+ring_tells name refusal inputs h = absurd h
 
-pub desc_judge : IsJudge IsBadDesc HoldsValid WhyDesc
-desc_judge = record { tells = desc_tells; excludes = desc_excludes; once = desc_once }
+ring_judge : IsByteJudge IsBadRing HoldsRing (IsRefusedBy ring_of)
+ring_judge =
+    record {
+      tells = ring_tells;
+      excludes = λ refusal bytes good why. not_refused ring_of refusal bytes good.0 good.1.reads why;
+      once = refused_once ring_of;
+    }
 
 -- a text
 pub record IsAtFault (refusal : Refusal) (bytes : List ℕ) : Type 0 where
@@ -219,13 +257,13 @@ text_once a b bytes one two =
     let fault : one.fault ≡ two.fault = cc in
     one.is ∙ ap BadText fault ∙ sym two.is
 
-pub text_judge : IsJudge IsBadText HoldsListing IsAtFault
+text_judge : IsByteJudge IsBadText HoldsListing IsAtFault
 text_judge = record { tells = text_tells; excludes = text_excludes; once = text_once }
 
 -- ---- inputs whose judges are so
 
 pub record IsJudged (input : Input) : Type 1 where
-  pub Why : Refusal → List ℕ → Type 0
+  pub Why : Refusal → Option Inputs → List ℕ → Type 0
   pub judges : IsJudge input.judge.IsBad input.judge.IsGood Why
 
 abbrev pub AreJudged : List Input → Type 1
@@ -233,27 +271,31 @@ AreJudged [] = Unit {1}
 AreJudged (input ∷ inputs) = IsJudged input × AreJudged inputs
 
 pub program_judged : (name : List ℕ) → IsJudged (a_program name)
-program_judged name = record { Why = WhyFile; judges = file_judge }
+program_judged name = record { Why = λ refusal inputs. WhyFile refusal; judges = by_bytes file_judge }
 
 pub sound_program_judged : (name : List ℕ) → IsJudged (a_sound_program name)
-sound_program_judged name = record { Why = WhyProgram; judges = program_judge }
+sound_program_judged name = record { Why = λ refusal inputs. WhyProgram refusal; judges = by_bytes program_judge }
 
 pub description_judged : (name : List ℕ) → IsJudged (a_description name)
-description_judged name = record { Why = WhyDesc; judges = desc_judge }
+description_judged name = record { Why = λ refusal inputs. IsRefusedBy description_of refusal; judges = by_bytes desc_judge }
 
-pub stream_judged : (name : List ℕ) → IsJudged (a_stream name)
-stream_judged name = record { Why = WhyStream; judges = stream_judge }
+pub stream_judged : (chained : Bool) (name : List ℕ) → IsJudged (a_stream_file chained name)
+stream_judged chained name = record { Why = λ refusal inputs. WhyStream chained refusal; judges = by_bytes (stream_judge chained) }
+
+pub ring_judged : (name : List ℕ) → IsJudged (a_ring name)
+ring_judged name = record { Why = λ refusal inputs. IsRefusedBy ring_of refusal; judges = by_bytes ring_judge }
 
 pub listing_judged : (name : List ℕ) → IsJudged (a_listing name)
-listing_judged name = record { Why = IsAtFault; judges = text_judge }
+listing_judged name = record { Why = λ refusal inputs. IsAtFault refusal; judges = by_bytes text_judge }
 
 pub judged : (task : Task) → AreJudged (meaning task).inputs
 judged (Lists program) = (program_judged program, tt)
 judged (Verifies program) = (sound_program_judged program, tt)
-judged (Runs program stream image) = (sound_program_judged program, (stream_judged stream, tt))
+judged (Runs program stream image) = (sound_program_judged program, (stream_judged false stream, tt))
 judged (Compiles desc program) = (description_judged desc, tt)
-judged (Captures desc stream program image) = (description_judged desc, (stream_judged stream, tt))
+judged (Captures desc stream program image) = (description_judged desc, (stream_judged false stream, tt))
 judged (Generates desc seed frames stream) = (description_judged desc, tt)
+judged (Rings ring stream program image) = (ring_judged ring, (stream_judged false stream, tt))
 judged (Assembles text program) = (listing_judged text, tt)
 
 -- ---- a list of inputs

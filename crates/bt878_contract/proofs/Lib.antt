@@ -4,3 +4,4 @@ pub mod Outputs
 pub mod Asked
 pub mod Consequences
 pub mod Pictures
+pub mod Rings

@@ -24,12 +24,14 @@ use Rattle.command_texts.specs.Answers.{answer_of}
 use Rattle.command_steps.specs.Outputs.{Product, names_of}
 use Rattle.command_steps.specs.Reading.{Calls}
 use Rattle.command_steps.specs.Inputs.{AreGood, IsFirstBadOf, OfInput, ReadsRose, WritesRose}
-use Rattle.command_texts.specs.Texts.{accepted_text, answer_text, made_text, report_text}
+use Rattle.command_texts.specs.Texts.{accepted_text, answer_text, blocks_text, made_text, report_text}
 use Rattle.command_inputs.specs.Programs.{HoldsSound, GivesSound}
-use Rattle.stream_play.specs.Runs.{Ran, first_of, last_of, OfRun}
+use Rattle.stream_play.specs.Runs.{IsRun, Ran, first_of, last_of, OfRun}
 use Rattle.command_inputs.specs.Descriptions.{Describes, GivesCompiled}
 use Rattle.command_inputs.specs.Listings.{GivesAssembled}
-use Rattle.bt878_contract.specs.Tasks.{Task, Lists, Verifies, Runs, Compiles, Captures, Generates, Assembles, IsPartOfWork, IsRefusedWork, IsWholeWork, Makes, compiled_text, creates, meaning, program_text}
+use Rattle.command_inputs.specs.Rings.{GivesRing, GivesRingProgram}
+use Rattle.ring_model.specs.Rings.{Ring}
+use Rattle.bt878_contract.specs.Tasks.{Task, Lists, Verifies, Runs, Compiles, Captures, Generates, Rings, Assembles, IsPartOfWork, IsRefusedWork, IsWholeWork, Makes, blocks_of, compiled_text, creates, meaning, program_text}
 
 -- ---- the words
 
@@ -45,17 +47,23 @@ abbrev pub AreTold : Option Inputs → Type 0
 AreTold None = ⊥
 AreTold (Some inputs) = ⊤
 
--- P of what `run` or `capture` ran: the program of the program file or of the description, with its fill, over the steps
--- of the whole stream; the others run nothing
+-- P of what `run`, `capture` or `ring` ran: the program of the program file, of the description or of the ring, with its
+-- fill, over the steps of the whole stream; the others run nothing
 abbrev pub OfRan : Result Task UsageFault → Option Inputs → (Ran → Type 0) → Type 0
 OfRan (Ok (Runs program stream image)) inputs P = OfRun GivesSound program stream inputs P
 OfRan (Ok (Captures desc stream program image)) inputs P = OfRun GivesCompiled desc stream inputs P
+OfRan (Ok (Rings ring stream program image)) inputs P = OfRun GivesRingProgram ring stream inputs P
 OfRan (Ok (Lists program)) inputs P = ⊤
 OfRan (Ok (Verifies program)) inputs P = ⊤
 OfRan (Ok (Compiles desc program)) inputs P = ⊤
 OfRan (Ok (Generates desc seed frames stream)) inputs P = ⊤
 OfRan (Ok (Assembles text program)) inputs P = ⊤
 OfRan (Err fault) inputs P = ⊥
+
+-- P of the ring that `ring` read, and of what it ran
+abbrev pub OfRingRun : List ℕ → List ℕ → Option Inputs → (Ring → Ran → Type 0) → Type 0
+OfRingRun ring stream inputs P =
+    OfInput ring inputs (λ a. OfInput stream inputs (λ b. (x : Ring) × (r : Ran) × IsRun (GivesRing x) a b r × P x r))
 
 -- P of the description that `compile` or `make` read
 abbrev pub OfDesc : List ℕ → Option Inputs → (Desc → Type 0) → Type 0
@@ -86,12 +94,19 @@ CreatesNone old new = (new.outputs ≡ old.outputs) × (new.writing ≡ old.writ
 
 -- ---- at Done
 
--- the image is that of the memory after all steps, and the report that of the same state
-abbrev pub ShowsLast : List ℕ → Told → Told → Ran → Type 0
-ShowsLast image old new r =
-    IsOutput image (image_of (last_of r).memory) new.outputs × SaysAll (report_text (report_of (last_of r))) old new
+-- the image is that of the memory after all steps
+abbrev pub ShowsImage : List ℕ → Told → Ran → Type 0
+ShowsImage image new r = IsOutput image (image_of (last_of r).memory) new.outputs
 
--- the program file of `capture` is the one spelling of the program that ran and of its fill
+-- and the report is that of the same state
+abbrev pub ShowsLast : List ℕ → Told → Told → Ran → Type 0
+ShowsLast image old new r = ShowsImage image new r × SaysAll (report_text (report_of (last_of r))) old new
+
+-- the block ends over all steps are said, and then the report of the state after them
+abbrev pub SaysBlocks : Told → Told → Ring → Ran → Type 0
+SaysBlocks old new ring r = SaysAll (blocks_text (blocks_of ring r) (report_of (last_of r))) old new
+
+-- the program file of `capture` or `ring` is the one spelling of the program that ran and of its fill
 abbrev pub ShowsProgram : List ℕ → Told → Ran → Type 0
 ShowsProgram program new r = IsOutput program (spelled r.program r.fill) new.outputs
 
@@ -141,8 +156,8 @@ IsUnreadOf names old new =
     ReadsRose old new
     ⊎ ((name : List ℕ) × (is_among name names ≡ true) × (is_missing name old.told.inputs ≡ true))
 
--- the cause of a refusal that tells what is bad about an input: `Malformed`, `Rejected`, `BadDesc`, `BadGeometry` or
--- `BadText`
+-- the cause of a refusal that tells what is bad about an input: `Malformed`, `Rejected`, `BadDesc`, `BadGeometry`,
+-- `BadRing` or `BadText`
 abbrev pub IsBadInput : Result Task UsageFault → Refusal → Option Inputs → Type 0
 IsBadInput (Ok task) refusal inputs = IsFirstBadOf (meaning task).inputs refusal inputs
 IsBadInput (Err fault) refusal inputs = ⊥

@@ -1,3 +1,4 @@
 pub mod Tasks
 pub mod Clauses
 pub mod Pictures
+pub mod Rings

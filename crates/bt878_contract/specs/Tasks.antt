@@ -24,13 +24,16 @@ use Rattle.command_texts.specs.declared.answer.Answer.{Answer}
 use Rattle.command_texts.specs.declared.answer.Answer.TheVariants.{Done, Usage, WriteFault}
 use Rattle.command_texts.specs.declared.refusal.Refusal.{Refusal}
 use Rattle.command_texts.specs.Answers.{answer_of}
-use Rattle.command_texts.specs.Texts.{accepted_text, answer_text, built_text, made_text, report_text}
+use Rattle.command_texts.specs.Texts.{accepted_text, answer_text, blocks_text, built_text, made_text, report_text}
 use Rattle.command_steps.specs.Inputs.{Input, OfInput, SameCounts, StopsIn, apart}
 use Rattle.command_steps.specs.Reading.{AreTaken, AreTakenUpTo, Calls}
 use Rattle.command_steps.specs.Outputs.{IsDeliveryPart, IsPart, Product, Says, SaysAtOnce, delivered, delivery, names_of}
 use Rattle.command_inputs.specs.Programs.{GivesSound, HoldsSound, a_program, a_sound_program}
 use Rattle.command_inputs.specs.Descriptions.{Describes, GivesCompiled, a_description}
 use Rattle.command_inputs.specs.Listings.{GivesAssembled, a_listing}
+use Rattle.command_inputs.specs.Rings.{GivesRing, GivesRingProgram, a_ring}
+use Rattle.ring_model.specs.Rings.{Ring, ends}
+use Rattle.ring_model.specs.Runs.{block_ends}
 use Rattle.stream_play.specs.Runs.{IsRun, Ran, a_stream, first_of, last_of}
 
 -- ---- the words
@@ -43,6 +46,7 @@ pub data Task : Type 0 where
   Compiles : List ℕ → List ℕ → Task
   Captures : List ℕ → List ℕ → List ℕ → List ℕ → Task
   Generates : List ℕ → ℕ → ℕ → List ℕ → Task
+  Rings : List ℕ → List ℕ → List ℕ → List ℕ → Task
   Assembles : List ℕ → List ℕ → Task
 
 -- words without a fault are those of one of these commands
@@ -54,6 +58,7 @@ task_with (Ok command.Run) (_ ∷ program ∷ stream ∷ image ∷ _) = Ok (Runs
 task_with (Ok command.Compile) (_ ∷ desc ∷ program ∷ _) = Ok (Compiles desc program)
 task_with (Ok command.Capture) (_ ∷ desc ∷ stream ∷ program ∷ image ∷ _) = Ok (Captures desc stream program image)
 task_with (Ok (command.Make seed frames)) (_ ∷ desc ∷ _ ∷ _ ∷ stream ∷ _) = Ok (Generates desc seed frames stream)
+task_with (Ok command.Ring) (_ ∷ ring ∷ stream ∷ program ∷ image ∷ _) = Ok (Rings ring stream program image)
 task_with (Ok command.Assemble) (_ ∷ text ∷ program ∷ _) = Ok (Assembles text program)
 task_with (Ok _) words = Err UnknownCommand
 
@@ -78,13 +83,26 @@ image_file name r = (name, image_of (last_of r).memory)
 abbrev pub program_file : List ℕ → RiscProgram → ℕ → List ℕ × List ℕ
 program_file name program fill = (name, spelled program fill)
 
--- What a run makes: the program is sound; the files; the report of the machine after all steps; and at every place of
--- the steps the machine is inside: what a turn there writes is granted, what it fetches is a word of the program, and
--- OCERR is 0.
-pub record RunMakes (files : List (List ℕ × List ℕ)) (product : Product) (r : Ran) : Type 0 where
+-- what `run` and `capture` say: the report of the machine after all steps
+abbrev pub Reports : List ℕ → Ran → List ℕ → Type 0
+Reports file r text = text ≡ report_text (report_of (last_of r))
+
+-- the block ends over all steps of a run of a ring
+abbrev pub blocks_of : Ring → Ran → ℕ
+blocks_of ring r = block_ends (ends ring) (first_of r) (steps_run r.steps)
+
+-- what `ring` says of a ring file: its block ends, and then the report
+pub record ReportsBlocks (file : List ℕ) (r : Ran) (text : List ℕ) : Type 0 where
+  pub ring : Ring
+  pub gives : GivesRing ring file r.program r.fill
+  pub says : text ≡ blocks_text (blocks_of ring r) (report_of (last_of r))
+
+-- What a run makes: the program is sound; the files; a text as it is said of the run; and at every place of the steps the
+-- machine is inside: what a turn there writes is granted, what it fetches is a word of the program, and OCERR is 0.
+pub record RunMakes (files : List (List ℕ × List ℕ)) (Says : List ℕ → Type 0) (product : Product) (r : Ran) : Type 0 where
   pub sound : IsSound r.program
   pub writes : product.files ≡ files
-  pub reports : product.text ≡ report_text (report_of (last_of r))
+  pub says : Says product.text
   pub inside : (place : ℕ) → IsInside r.program (state_at (first_of r) (steps_run r.steps) place)
 
 -- a text is the listing of a file's program
@@ -135,10 +153,18 @@ abbrev pub VerdictOf : List (List ℕ) → Product → Type 0
 VerdictOf (program ∷ []) product = HoldsSound program
 VerdictOf _ product = ⊥
 
--- what a run over a stream makes, by the files of what ran
-abbrev pub RunOf : (List ℕ → RiscProgram → ℕ → Type 0) → (Ran → List (List ℕ × List ℕ)) → List (List ℕ) → Product → Type 0
-RunOf Gives files (file ∷ stream ∷ []) product = (r : Ran) × IsRun Gives file stream r × RunMakes (files r) product r
-RunOf Gives files _ product = ⊥
+-- what a run over a stream makes, by the files of what ran, and what is said of it and of the file that it came from
+abbrev pub RunOf : (List ℕ → RiscProgram → ℕ → Type 0) → (Ran → List (List ℕ × List ℕ)) → (List ℕ → Ran → List ℕ → Type 0) → List (List ℕ) → Product → Type 0
+RunOf Gives files Says (file ∷ stream ∷ []) product =
+    (r : Ran) × IsRun Gives file stream r × RunMakes (files r) (Says file r) product r
+RunOf Gives files Says _ product = ⊥
+
+-- the image of a run, and its program file before it
+abbrev pub image_of_run : List ℕ → Ran → List (List ℕ × List ℕ)
+image_of_run image r = image_file image r ∷ []
+
+abbrev pub program_and_image : List ℕ → List ℕ → Ran → List (List ℕ × List ℕ)
+program_and_image program image r = program_file program r.program r.fill ∷ image_file image r ∷ []
 
 -- what is made of a description, by the file and the text for it
 abbrev pub MadeOf : (Desc → List ℕ × List ℕ) → (Desc → List ℕ) → List (List ℕ) → Product → Type 0
@@ -168,7 +194,7 @@ meaning (Runs program stream image) =
     record {
       inputs = a_sound_program program ∷ a_stream stream ∷ [];
       outputs = image ∷ [];
-      makes = RunOf GivesSound (λ r. image_file image r ∷ []);
+      makes = RunOf GivesSound (image_of_run image) Reports;
       text = None;
     }
 meaning (Compiles desc program) =
@@ -182,7 +208,7 @@ meaning (Captures desc stream program image) =
     record {
       inputs = a_description desc ∷ a_stream stream ∷ [];
       outputs = program ∷ image ∷ [];
-      makes = RunOf GivesCompiled (λ r. program_file program r.program r.fill ∷ image_file image r ∷ []);
+      makes = RunOf GivesCompiled (program_and_image program image) Reports;
       text = None;
     }
 meaning (Generates desc seed frames stream) =
@@ -190,6 +216,13 @@ meaning (Generates desc seed frames stream) =
       inputs = a_description desc ∷ [];
       outputs = stream ∷ [];
       makes = MadeOf (λ d. (stream, made d seed frames)) (λ d. made_text (made_fields d frames) (made_entries d frames));
+      text = None;
+    }
+meaning (Rings ring stream program image) =
+    record {
+      inputs = a_ring ring ∷ a_stream stream ∷ [];
+      outputs = program ∷ image ∷ [];
+      makes = RunOf GivesRingProgram (program_and_image program image) ReportsBlocks;
       text = None;
     }
 meaning (Assembles text program) =

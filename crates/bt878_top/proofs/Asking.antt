@@ -5,7 +5,7 @@ use Rattle.bt878_words.specs.declared.Command.TheVariants as command
 use Rattle.bt878_words.specs.Words.{command_of, inputs_of, outputs_of}
 use Rattle.bt878_words.proofs.Asked.{AsksProgram, AsksRun, AsksBuilt, AsksCapture, AsksMake, asked}
 use Rattle.capture_desk.specs.Desks.{IsAllowed, is_among}
-use Rattle.bt878_contract.specs.Tasks.{AreNames, Lists, Verifies, Runs, Compiles, Captures, Generates, Assembles, task_of, task_with}
+use Rattle.bt878_contract.specs.Tasks.{AreNames, Lists, Verifies, Runs, Compiles, Captures, Generates, Rings, Assembles, task_of, task_with}
 use Rattle.bt878_contract.proofs.Outputs.{first_among, later_among}
 
 -- a name may be used where it is one of those that are told
@@ -78,25 +78,19 @@ module _ {X : Type 0} (f : X → List ℕ) (xs : List X) (d : X) where
   pub assemble_program_allowed : (told : Option (List (List ℕ))) → command_of words ≡ Ok command.Assemble → AreNames (outputs_of words) told → IsAllowed (word_at 2) told
   assemble_program_allowed told e are = built_allowed told (asked words command.Assemble e) are
 
-  pub capture_desc_allowed : (told : Option (List (List ℕ))) → command_of words ≡ Ok command.Capture → AreNames (inputs_of words) told → IsAllowed (word_at 1) told
-  capture_desc_allowed told e are =
-      let h : AsksCapture words = asked words command.Capture e in
-      opens 1 (h.desc ∷ h.stream ∷ []) told h.opens (first (word_at 1) h.desc (h.stream ∷ []) (at 1 _ h.are)) are
+  -- two inputs and two outputs, as of `capture` and `ring`
+  module _ (h : AsksCapture words) (told : Option (List (List ℕ))) where
+    pub capture_source_allowed : AreNames (inputs_of words) told → IsAllowed (word_at 1) told
+    capture_source_allowed are = opens 1 (h.source ∷ h.stream ∷ []) told h.opens (first (word_at 1) h.source (h.stream ∷ []) (at 1 _ h.are)) are
 
-  pub capture_stream_allowed : (told : Option (List (List ℕ))) → command_of words ≡ Ok command.Capture → AreNames (inputs_of words) told → IsAllowed (word_at 2) told
-  capture_stream_allowed told e are =
-      let h : AsksCapture words = asked words command.Capture e in
-      opens 2 (h.desc ∷ h.stream ∷ []) told h.opens (second (word_at 2) h.desc h.stream [] (at 2 _ h.are)) are
+    pub capture_stream_allowed : AreNames (inputs_of words) told → IsAllowed (word_at 2) told
+    capture_stream_allowed are = opens 2 (h.source ∷ h.stream ∷ []) told h.opens (second (word_at 2) h.source h.stream [] (at 2 _ h.are)) are
 
-  pub capture_program_allowed : (told : Option (List (List ℕ))) → command_of words ≡ Ok command.Capture → AreNames (outputs_of words) told → IsAllowed (word_at 3) told
-  capture_program_allowed told e are =
-      let h : AsksCapture words = asked words command.Capture e in
-      creates 3 (h.program ∷ h.image ∷ []) told h.creates (first (word_at 3) h.program (h.image ∷ []) (at 3 _ h.are)) are
+    pub capture_program_allowed : AreNames (outputs_of words) told → IsAllowed (word_at 3) told
+    capture_program_allowed are = creates 3 (h.program ∷ h.image ∷ []) told h.creates (first (word_at 3) h.program (h.image ∷ []) (at 3 _ h.are)) are
 
-  pub capture_image_allowed : (told : Option (List (List ℕ))) → command_of words ≡ Ok command.Capture → AreNames (outputs_of words) told → IsAllowed (word_at 4) told
-  capture_image_allowed told e are =
-      let h : AsksCapture words = asked words command.Capture e in
-      creates 4 (h.program ∷ h.image ∷ []) told h.creates (second (word_at 4) h.program h.image [] (at 4 _ h.are)) are
+    pub capture_image_allowed : AreNames (outputs_of words) told → IsAllowed (word_at 4) told
+    capture_image_allowed are = creates 4 (h.program ∷ h.image ∷ []) told h.creates (second (word_at 4) h.program h.image [] (at 4 _ h.are)) are
 
   pub make_desc_allowed : (seed frames : ℕ) (told : Option (List (List ℕ))) → command_of words ≡ Ok (command.Make seed frames) → AreNames (inputs_of words) told → IsAllowed (word_at 1) told
   make_desc_allowed seed frames told e are =
@@ -145,10 +139,19 @@ module _ {X : Type 0} (f : X → List ℕ) (xs : List X) (d : X) where
   capture_task e =
       let h : AsksCapture words = asked words command.Capture e in
       ap (λ c. task_with c words) e ∙ ap (task_with (Ok command.Capture)) h.are
-      ∙ ap (λ desc. Ok (Captures desc h.stream h.program h.image)) (sym (at 1 _ h.are))
+      ∙ ap (λ source. Ok (Captures source h.stream h.program h.image)) (sym (at 1 _ h.are))
       ∙ ap (λ stream. Ok (Captures (word_at 1) stream h.program h.image)) (sym (at 2 _ h.are))
       ∙ ap (λ program. Ok (Captures (word_at 1) (word_at 2) program h.image)) (sym (at 3 _ h.are))
       ∙ ap (λ image. Ok (Captures (word_at 1) (word_at 2) (word_at 3) image)) (sym (at 4 _ h.are))
+
+  pub ring_task : command_of words ≡ Ok command.Ring → task_of words ≡ Ok (Rings (word_at 1) (word_at 2) (word_at 3) (word_at 4))
+  ring_task e =
+      let h : AsksCapture words = asked words command.Ring e in
+      ap (λ c. task_with c words) e ∙ ap (task_with (Ok command.Ring)) h.are
+      ∙ ap (λ source. Ok (Rings source h.stream h.program h.image)) (sym (at 1 _ h.are))
+      ∙ ap (λ stream. Ok (Rings (word_at 1) stream h.program h.image)) (sym (at 2 _ h.are))
+      ∙ ap (λ program. Ok (Rings (word_at 1) (word_at 2) program h.image)) (sym (at 3 _ h.are))
+      ∙ ap (λ image. Ok (Rings (word_at 1) (word_at 2) (word_at 3) image)) (sym (at 4 _ h.are))
 
   pub make_task : (seed frames : ℕ) → command_of words ≡ Ok (command.Make seed frames) → task_of words ≡ Ok (Generates (word_at 1) seed frames (word_at 4))
   make_task seed frames e =

@@ -18,7 +18,7 @@ use Rattle.command_texts.specs.declared.answer.Answer.TheVariants.{Done, NoMemor
 use Rattle.command_texts.specs.declared.refusal.Refusal.{Refusal}
 use Rattle.command_texts.specs.declared.refusal.Refusal.TheVariants as refusal
 use Rattle.command_texts.specs.Answers.{answer_of}
-use Rattle.command_texts.specs.Texts.{answer_text, made_text, report_text}
+use Rattle.command_texts.specs.Texts.{answer_text, blocks_text, made_text, report_text}
 use Rattle.command_steps.specs.declared.outputs.Output.{Output}
 use Rattle.command_steps.specs.Inputs.{Input, OfInput, StopsIn, apart}
 use Rattle.command_steps.specs.Reading.{Stopped, Took}
@@ -28,11 +28,17 @@ use Rattle.command_steps.proofs.Parts.{apart_part, apart_delivered}
 use Rattle.command_inputs.specs.Programs.{GivesSound}
 use Rattle.command_inputs.specs.Descriptions.{Describes, GivesCompiled}
 use Rattle.command_inputs.specs.Listings.{GivesAssembled}
+use Rattle.command_inputs.specs.Rings.{GivesRing, GivesRingProgram}
+use Rattle.ring_model.specs.Rings.{Ring}
+use Rattle.ring_model.proofs.Sound.{ring_sound}
+use Rattle.ring_machine.specs.States.{RingState}
 use Rattle.stream_play.specs.Runs.{IsRun, OfRun, Ran, first_of, last_of}
 use Rattle.stream_play.proofs.Fitting.{steps_fit}
-use Rattle.bt878_contract.specs.Tasks.{Task, Runs, Compiles, Captures, Generates, Assembles, DescMakes, Ends, IsDone, IsPartDone, IsRefused, ListingMakes, Makes, RunMakes, Stops, compiled_text, creates, image_file, meaning, program_file, program_text}
+use Rattle.bt878_contract.specs.Tasks.{Task, Runs, Compiles, Captures, Generates, Rings, Assembles, DescMakes, Ends, IsDone, IsPartDone, IsRefused, ListingMakes, Makes, Reports, ReportsBlocks, RunMakes, RunOf, Stops, blocks_of, compiled_text, creates, image_file, image_of_run, meaning, program_and_image, program_file, program_text}
+use Rattle.bt878_contract.specs.Clauses.{OfRingRun}
+use Rattle.bt878_top.specs.Rings.{ShowsRing}
 use Rattle.bt878_contract.proofs.Judges.{stops_later}
-use Rattle.bt878_contract.proofs.Inputs.{OfRun-map}
+use Rattle.bt878_contract.proofs.Inputs.{both-map}
 
 -- ---- refusals
 
@@ -48,6 +54,7 @@ ends_by task refusal.ReadFault old new h = (refusal.ReadFault, refl, h)
 ends_by task (refusal.Malformed file fault) old new h = (refusal.Malformed file fault, refl, h)
 ends_by task (refusal.BadDesc fault) old new h = (refusal.BadDesc fault, refl, h)
 ends_by task (refusal.BadGeometry fault) old new h = (refusal.BadGeometry fault, refl, h)
+ends_by task (refusal.BadRing fault) old new h = (refusal.BadRing fault, refl, h)
 ends_by task (refusal.BadText fault) old new h = (refusal.BadText fault, refl, h)
 ends_by task (refusal.Rejected at nth cause) old new h = (refusal.Rejected at nth cause, refl, h)
 ends_by task refusal.NoMemory old new h = (refusal.NoMemory, refl, h)
@@ -147,52 +154,90 @@ still_allowed name old mid same h = subst (IsAllowed name) (sym (ap (λ (t : Tol
 -- ---- what a run makes
 
 module _ (r : Ran) (m : State) (fill : ℕ) (sound : IsSound r.program) (last : m ≡ last_of r) where
-  run_makes : (Gives : List ℕ → RiscProgram → ℕ → Type 0) (a b : List ℕ) → IsRun Gives a b r → (files given : List (List ℕ × List ℕ)) → given ≡ files →
-      RunMakes files (record { files = given; text = report_text (report_of m) }) r
-  run_makes Gives a b is files given e =
+  run_makes : (Gives : List ℕ → RiscProgram → ℕ → Type 0) (a b : List ℕ) → IsRun Gives a b r → (files given : List (List ℕ × List ℕ)) → given ≡ files → (Says : List ℕ → Type 0) (text : List ℕ) → Says text →
+      RunMakes files Says (record { files = given; text = text }) r
+  run_makes Gives a b is files given e Says text says =
       record {
         sound = sound;
         writes = e;
-        reports = ap (λ s. report_text (report_of s)) last;
+        says = says;
         inside = λ place. IsInside-first_state r.program r.fill (steps_run r.steps) place sound (steps_fit b r.steps is.reads);
       }
 
-  same_image : (image : List ℕ) → (image, image_of m.memory) ∷ [] ≡ image_file image r ∷ []
+  its_report : report_text (report_of m) ≡ report_text (report_of (last_of r))
+  its_report = ap (λ s. report_text (report_of s)) last
+
+  same_image : (image : List ℕ) → (image, image_of m.memory) ∷ [] ≡ image_of_run image r
   same_image image = ap (λ (s : State). (image, image_of s.memory) ∷ []) last
 
   same_both : fill ≡ r.fill → (program image : List ℕ) →
-      (program, spelled m.program fill) ∷ (image, image_of m.memory) ∷ [] ≡ program_file program r.program r.fill ∷ image_file image r ∷ []
+      (program, spelled m.program fill) ∷ (image, image_of m.memory) ∷ [] ≡ program_and_image program image r
   same_both filled program image =
       ap (λ (s : State). (program, spelled s.program fill) ∷ (image, image_of s.memory) ∷ []) last
       ∙ ap (λ p. (program, spelled p fill) ∷ image_file image r ∷ []) (program-run (first_of r) (steps_run r.steps))
       ∙ ap (λ f. (program, spelled r.program f) ∷ image_file image r ∷ []) filled
 
-module _ (file stream program image : List ℕ) (inputs : Option Inputs) (m : State) (fill : ℕ) where
-  abbrev Shows : Ran → Type 0
-  Shows r = (m ≡ last_of r) × (fill ≡ r.fill)
+-- what was played, and what ran
+abbrev Shows : State → ℕ → Ran → Type 0
+Shows m fill r = (m ≡ last_of r) × (fill ≡ r.fill)
 
-  pub run_product : OfRun GivesSound file stream inputs Shows →
+module _ (file stream program image : List ℕ) (inputs : Option Inputs) (m : State) (fill : ℕ) where
+  pub run_product : OfRun GivesSound file stream inputs (Shows m fill) →
       Makes (Runs file stream image) inputs (record { files = (image, image_of m.memory) ∷ []; text = report_text (report_of m) })
   run_product h = (
-    OfRun-map GivesSound file stream inputs Shows (λ r. RunMakes (image_file image r ∷ []) (record { files = (image, image_of m.memory) ∷ []; text = report_text (report_of m) }) r)
-        (λ a b r is k.
-        let sound = is.gives.sound in
-        run_makes r m fill sound k.0 GivesSound a b is (image_file image r ∷ []) ((image, image_of m.memory) ∷ []) (same_image r m fill sound k.0 image)) h,
+    both-map file stream inputs (λ a b. (r : Ran) × IsRun GivesSound a b r × Shows m fill r)
+        (λ a b. RunOf GivesSound (image_of_run image) Reports (a ∷ b ∷ []) (record { files = (image, image_of m.memory) ∷ []; text = report_text (report_of m) }))
+        (λ a b k.
+        let r = k.0 in
+        let last = k.2.0 in
+        let sound = k.1.gives.sound in
+        (r, k.1, run_makes r m fill sound last GivesSound a b k.1 (image_of_run image r) ((image, image_of m.memory) ∷ []) (same_image r m fill sound last image) (Reports a r) (report_text (report_of m)) (its_report r m fill sound last))) h,
     tt,
   )
 
   compiled_is_sound : (bytes : List ℕ) (p : RiscProgram) (f : ℕ) → GivesCompiled bytes p f → IsSound p
   compiled_is_sound bytes p f g = subst IsSound (sym g.compiles) (checked_sound g.description g.describes.checked)
 
-  pub capture_product : OfRun GivesCompiled file stream inputs Shows →
+  pub capture_product : OfRun GivesCompiled file stream inputs (Shows m fill) →
       Makes (Captures file stream program image) inputs (record { files = (program, spelled m.program fill) ∷ (image, image_of m.memory) ∷ []; text = report_text (report_of m) })
   capture_product h = (
-    OfRun-map GivesCompiled file stream inputs Shows
-        (λ r. RunMakes (program_file program r.program r.fill ∷ image_file image r ∷ []) (record { files = (program, spelled m.program fill) ∷ (image, image_of m.memory) ∷ []; text = report_text (report_of m) }) r)
-        (λ a b r is k.
-        let sound = compiled_is_sound a r.program r.fill is.gives in
-        run_makes r m fill sound k.0 GivesCompiled a b is (program_file program r.program r.fill ∷ image_file image r ∷ []) ((program, spelled m.program fill) ∷ (image, image_of m.memory) ∷ [])
-        (same_both r m fill sound k.0 k.1 program image)) h,
+    both-map file stream inputs (λ a b. (r : Ran) × IsRun GivesCompiled a b r × Shows m fill r)
+        (λ a b. RunOf GivesCompiled (program_and_image program image) Reports (a ∷ b ∷ []) (record { files = (program, spelled m.program fill) ∷ (image, image_of m.memory) ∷ []; text = report_text (report_of m) }))
+        (λ a b k.
+        let r = k.0 in
+        let last = k.2.0 in
+        let sound = compiled_is_sound a r.program r.fill k.1.gives in (
+          r,
+          k.1,
+          run_makes r m fill sound last GivesCompiled a b k.1 (program_and_image program image r) ((program, spelled m.program fill) ∷ (image, image_of m.memory) ∷ [])
+              (same_both r m fill sound last k.2.1 program image) (Reports a r) (report_text (report_of m)) (its_report r m fill sound last),
+        )) h,
+    tt,
+  )
+
+module _ (ring stream program image : List ℕ) (inputs : Option Inputs) (m : RingState) where
+  abbrev ring_text : List ℕ
+  ring_text = blocks_text m.blocks (report_of m.machine)
+
+  pub ring_product : OfRingRun ring stream inputs (ShowsRing m) →
+      Makes (Rings ring stream program image) inputs (record { files = (program, spelled m.machine.program m.ring.fill) ∷ (image, image_of m.machine.memory) ∷ []; text = ring_text })
+  ring_product h = (
+    both-map ring stream inputs (λ a b. (x : Ring) × (r : Ran) × IsRun (GivesRing x) a b r × ShowsRing m x r)
+        (λ a b. RunOf GivesRingProgram (program_and_image program image) ReportsBlocks (a ∷ b ∷ []) (record { files = (program, spelled m.machine.program m.ring.fill) ∷ (image, image_of m.machine.memory) ∷ []; text = ring_text }))
+        (λ a b k.
+        let x = k.0 in
+        let r = k.1 in
+        let gives = k.2.gives in
+        let shows = k.3 in
+        let sound : IsSound r.program = subst IsSound (sym gives.compiles) (ring_sound x gives.holds.ring) in
+        let is : IsRun GivesRingProgram a b r = record { gives = (x, gives); reads = k.2.reads } in
+        let says : ReportsBlocks a r ring_text =
+        record { ring = x; gives = gives; says = ap (λ n. blocks_text n (report_of m.machine)) shows.blocks ∙ ap (λ s. blocks_text (blocks_of x r) (report_of s)) shows.last } in (
+          r,
+          is,
+          run_makes r m.machine m.ring.fill sound shows.last GivesRingProgram a b is (program_and_image program image r)
+              ((program, spelled m.machine.program m.ring.fill) ∷ (image, image_of m.machine.memory) ∷ []) (same_both r m.machine m.ring.fill sound shows.last shows.fills program image) (ReportsBlocks a r) ring_text says,
+        )) h,
     tt,
   )
 

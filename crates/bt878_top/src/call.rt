@@ -2,9 +2,10 @@
 
 ghost use Rattle.std.specs.Prelude.{◌≡◌, ℕ, ◌⊎◌, List, Ok};
 ghost use Rattle.bt878_words.specs.Words.{command_of, inputs_of, outputs_of};
-ghost use Rattle.bt878_contract.specs.Clauses.{AreTold, IsAssembled, IsBadInput, IsCompiled, IsGenerated, IsGood, IsInOrder, IsRefusal, IsUnreadOf, IsUsage, OfRan, OfSteps, OnlyOutputs, OnlySays, SameNames, SaysAccepted, SaysListing, ShowsLast, ShowsProgram, StandsAt, StaysInside, TellsInput, UnlessCut};
+ghost use Rattle.bt878_contract.specs.Clauses.{AreTold, IsAssembled, IsBadInput, IsCompiled, IsGenerated, IsGood, IsInOrder, IsRefusal, IsUnreadOf, IsUsage, OfRan, OfRingRun, OfSteps, OnlyOutputs, OnlySays, SameNames, SaysAccepted, SaysBlocks, SaysListing, ShowsImage, ShowsLast, ShowsProgram, StandsAt, StaysInside, TellsInput, UnlessCut};
 ghost use Rattle.bt878_contract.specs.Pictures.{ShowsNoFault, ShowsPictures, SignalsInTime};
-ghost use Rattle.bt878_contract.specs.Tasks.{Answers, AreNames, Assembles, Captures, Compiles, Generates, Lists, Runs, Verifies, task_of, texts};
+ghost use Rattle.bt878_contract.specs.Rings.{RingsShowNoFault, ShowsRings};
+ghost use Rattle.bt878_contract.specs.Tasks.{Answers, AreNames, Assembles, Captures, Compiles, Generates, Lists, Rings, Runs, Verifies, task_of, texts};
 ghost use Rattle.command_texts.specs.declared.refusal.Refusal.{Refusal};
 ghost use Rattle.command_texts.specs.Answers.{answer_of};
 ghost use Rattle.command_steps.specs.Outputs.{EndsAtFault};
@@ -18,6 +19,7 @@ ghost use Rattle.stream_play.specs.Runs.{OfRun};
 use crate::commands::{list, run, verify};
 use crate::descriptions::{capture, make};
 use crate::programs::{assemble, compile};
+use crate::rings::ring;
 use bt878_words::{Command, read_words};
 use capture_desk::Desk;
 use command_steps::refuse_words;
@@ -41,10 +43,10 @@ fn answer_words<D: Desk>(alloc: Global, words: &[&str], desk: &mut D) -> Answer
         Command::Compile => compile(alloc, words[1], words[2], desk),
         Command::Capture => capture(alloc, words[1], words[2], words[3], words[4], desk),
         Command::Make { seed, frames } => make(alloc, words[1], seed, frames, words[4], desk),
+        Command::Ring => ring(alloc, words[1], words[2], words[3], words[4], desk),
         Command::Assemble => assemble(alloc, words[1], words[2], desk),
         Command::Chain => unreachable!(),
         Command::Damage => unreachable!(),
-        Command::Ring => unreachable!(),
     }
 }
 
@@ -66,7 +68,7 @@ pub fn bt878<D: Desk>(alloc: Global, words: &[&str], desk: &mut D) -> Answer
     // comes there.
     ensures usage { IsUsage (command_of (texts words.now)) result }
 
-    // At Done of `run` and `capture` the program that ran is sound.
+    // At Done of `run`, `capture` and `ring` the program that ran is sound.
     ensures sound { (result ≡ Answer.Done) →
         OfRan (task_of (texts words.now)) (D.seen desk.old).told.inputs (λ r. IsSound r.program) }
 
@@ -86,13 +88,22 @@ pub fn bt878<D: Desk>(alloc: Global, words: &[&str], desk: &mut D) -> Answer
         (λ r. ShowsProgram program (D.seen desk.new).told r
         × ShowsLast image (D.seen desk.old).told (D.seen desk.new).told r) }
 
-    // At Done of `run` and `capture`: at every place of those steps, what the turn there writes is granted,
+    // At Done of `ring` the program and the fill that ran are those of the ring file, and both files are as at
+    // Done of `capture`; the text tells how many blocks the steps of the whole stream end, and then the report.
+    ensures ringed { (result ≡ Answer.Done) → (ring stream program image : List ℕ) →
+        task_of (texts words.now) ≡ Ok (Rings ring stream program image) →
+        OfRingRun ring stream (D.seen desk.old).told.inputs
+        (λ x r. ShowsProgram program (D.seen desk.new).told r
+        × ShowsImage image (D.seen desk.new).told r
+        × SaysBlocks (D.seen desk.old).told (D.seen desk.new).told x r) }
+
+    // At Done of `run`, `capture` and `ring`: at every place of those steps, what the turn there writes is granted,
     // what it fetches is a word of the program, and OCERR is 0. That a turn stores nowhere else and reads no
     // other word are the laws `turns_store_what_is_listed` and `turns_read_what_is_listed` of machine_model.
     ensures inside { (result ≡ Answer.Done) →
         OfRan (task_of (texts words.now)) (D.seen desk.old).told.inputs StaysInside }
 
-    // At Done of `run` and `capture`, for every valid description whose program is the one that ran (for
+    // At Done of these, for every valid description whose program is the one that ran (for
     // `capture` the description that was read), every field of it, every picture and all places of those
     // steps: after the first signal of a field that arrived in order and lost nothing, memory holds each
     // byte of the picture that is not clipped at its place and is as it was everywhere else; no turn up to
@@ -104,6 +115,16 @@ pub fn bt878<D: Desk>(alloc: Global, words: &[&str], desk: &mut D) -> Answer
         OfRan (task_of (texts words.now)) (D.seen desk.old).told.inputs (OfSteps ShowsNoFault) }
     ensures in_time { (result ≡ Answer.Done) →
         OfRan (task_of (texts words.now)) (D.seen desk.old).told.inputs (OfSteps SignalsInTime) }
+
+    // At Done of these, for every ring whose program and fill are those that ran (for `ring` the ring that was
+    // read), all lines and all places of those steps: where a ring run goes from place j up to and with step k,
+    // which ends a block, that is the block whose turn it is; after step k RISCI is set and the RISC status is
+    // the block's number, each block holds the lines of its last block end since j or what it held at j, and
+    // every other byte is as it was at j. No turn from j up to k sets FDSR.
+    ensures blocks { (result ≡ Answer.Done) →
+        OfRan (task_of (texts words.now)) (D.seen desk.old).told.inputs (OfSteps ShowsRings) }
+    ensures no_fault_in_rings { (result ≡ Answer.Done) →
+        OfRan (task_of (texts words.now)) (D.seen desk.old).told.inputs (OfSteps RingsShowNoFault) }
 
     // At Done of the other commands: what was written and said.
     ensures accepted { (result ≡ Answer.Done) → (program : List ℕ) →
@@ -126,8 +147,8 @@ pub fn bt878<D: Desk>(alloc: Global, words: &[&str], desk: &mut D) -> Answer
     ensures done { (result ≡ Answer.Done) → SameCounts (D.seen desk.old) (D.seen desk.new) }
 
     // When each refusal comes, and, but for want of memory and faults of reading, that it must come:
-    // `Malformed`, `Rejected`, `BadDesc`, `BadGeometry` and `BadText` exactly where the first bad input is
-    // so.
+    // `Malformed`, `Rejected`, `BadDesc`, `BadGeometry`, `BadRing` and `BadText` exactly where the first bad
+    // input is so.
     ensures read_fault { (result ≡ Answer.ReadFault) →
         IsUnreadOf (inputs_of (texts words.now))
         (D.seen desk.old)

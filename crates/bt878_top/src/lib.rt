@@ -7,6 +7,7 @@ mod contents;
 mod descriptions;
 mod listings;
 mod programs;
+mod rings;
 mod runs;
 
 pub use call::bt878;

@@ -17,7 +17,7 @@ use command_texts::Refusal;
 use program_build::Checked;
 use risc_verify::{Accepted, Why};
 use std::alloc::{AllocError, Global};
-use stream_play::{Played, play_file};
+use stream_play::{Played, play_program};
 
 /// Runs the program of a program file over a stream file.
 pub fn run_program<D: Desk>(
@@ -33,7 +33,7 @@ pub fn run_program<D: Desk>(
     ensures takes { Takes (a_sound_program program.now ∷ a_stream stream.now ∷ []) result (D.seen desk.old) (D.seen desk.new) }
 {
     let Loaded { accepted, fill } = accept(alloc, program, desk)?;
-    match play_file(alloc, accepted, fill, stream, desk) {
+    match play_program(alloc, accepted, fill, stream, desk) {
         Ok(played) => Ok(played),
         Err(refusal) => Err(refusal),
     }
@@ -70,7 +70,7 @@ pub fn run_description<D: Desk>(
         Ok(accepted) => accepted,
         Err(_) => return Err(Refusal::NoMemory),
     };
-    match play_file(alloc, accepted, fill, stream, desk) {
+    match play_program(alloc, accepted, fill, stream, desk) {
         Ok(played) => Ok(played),
         Err(refusal) => Err(refusal),
     }

@@ -120,15 +120,15 @@ pub record AsksBuilt (words : List (List ℕ)) : Type 0 where
   pub opens : inputs_of words ≡ source ∷ []
   pub creates : outputs_of words ≡ program ∷ []
 
--- no output has the name of another
+-- what a program is made of, a stream, the program and the image; no output has the name of another
 pub record AsksCapture (words : List (List ℕ)) : Type 0 where
   pub word : List ℕ
-  pub desc : List ℕ
+  pub source : List ℕ
   pub stream : List ℕ
   pub program : List ℕ
   pub image : List ℕ
-  pub are : words ≡ word ∷ desc ∷ stream ∷ program ∷ image ∷ []
-  pub opens : inputs_of words ≡ desc ∷ stream ∷ []
+  pub are : words ≡ word ∷ source ∷ stream ∷ program ∷ image ∷ []
+  pub opens : inputs_of words ≡ source ∷ stream ∷ []
   pub creates : outputs_of words ≡ program ∷ image ∷ []
   pub apart : program ≢ image
 
@@ -149,6 +149,7 @@ Asks words command.Run = AsksRun words
 Asks words command.Compile = AsksBuilt words
 Asks words command.Capture = AsksCapture words
 Asks words (command.Make seed frames) = AsksMake words
+Asks words command.Ring = AsksCapture words
 Asks words command.Assemble = AsksBuilt words
 Asks words _ = ⊥
 
@@ -226,6 +227,30 @@ asks_by v words c h e = of_verb v e (subst (λ w. is_built w ≡ true) e h.built
           creates = creates_as v e (o.0 ∷ o.1 ∷ []) o.2 ∙ outs o.0 o.1;
         }
 
+    -- two inputs and two outputs
+    one_capture : (v : Verb) → h.verb ≡ v → length h.others ≡ 4 → ((a b c d : List ℕ) → input_names v (a ∷ b ∷ c ∷ d ∷ []) ≡ a ∷ b ∷ []) →
+        ((a b c d : List ℕ) → output_names v (a ∷ b ∷ c ∷ d ∷ []) ≡ c ∷ d ∷ []) → AsksCapture words
+    one_capture v e many ins outs =
+        let o = four_of h.others many in
+        let l : List (List ℕ) = o.0 ∷ o.1 ∷ o.2 ∷ o.3 ∷ [] in
+        let clash : has_clash (input_names v l) (output_names v l) ≡ false =
+        subst (λ others. has_clash (input_names v others) (output_names v others) ≡ false) o.4
+        (subst (λ w. has_clash (input_names w h.others) (output_names w h.others) ≡ false) e h.apart) in
+        let apart : has_clash (o.0 ∷ o.1 ∷ []) (o.2 ∷ o.3 ∷ []) ≡ false =
+        subst (λ names. has_clash names (o.2 ∷ o.3 ∷ []) ≡ false) (ins o.0 o.1 o.2 o.3)
+        (subst (λ names. has_clash (input_names v l) names ≡ false) (outs o.0 o.1 o.2 o.3) clash) in
+        record {
+          word = h.word;
+          source = o.0;
+          stream = o.1;
+          program = o.2;
+          image = o.3;
+          are = are_as l o.4;
+          opens = opens_as v e l o.4 ∙ ins o.0 o.1 o.2 o.3;
+          creates = creates_as v e l o.4 ∙ outs o.0 o.1 o.2 o.3;
+          apart = unlike (o.0 ∷ o.1 ∷ []) o.2 o.3 apart;
+        }
+
     of_verb : (v : Verb) → h.verb ≡ v → is_built v ≡ true → length h.others ≡ operands v → command_with v h.others ≡ Ok c → Asks words c
     of_verb verb.List e built many asks = is_command words c command.List asks (one_program verb.List e many (λ name. refl) (λ name. refl))
     of_verb verb.Verify e built many asks = is_command words c command.Verify asks (one_program verb.Verify e many (λ name. refl) (λ name. refl))
@@ -243,24 +268,7 @@ asks_by v words c h e = of_verb v e (subst (λ w. is_built w ≡ true) e h.built
           creates = creates_as verb.Run e l o.3;
         })
     of_verb verb.Compile e built many asks = is_command words c command.Compile asks (one_built verb.Compile e many (λ source program. refl) (λ source program. refl))
-    of_verb verb.Capture e built many asks =
-        let o = four_of h.others many in
-        let l : List (List ℕ) = o.0 ∷ o.1 ∷ o.2 ∷ o.3 ∷ [] in
-        let apart : has_clash (input_names verb.Capture l) (output_names verb.Capture l) ≡ false =
-        subst (λ others. has_clash (input_names verb.Capture others) (output_names verb.Capture others) ≡ false) o.4
-        (subst (λ w. has_clash (input_names w h.others) (output_names w h.others) ≡ false) e h.apart) in
-        is_command words c command.Capture asks
-        (record {
-          word = h.word;
-          desc = o.0;
-          stream = o.1;
-          program = o.2;
-          image = o.3;
-          are = are_as l o.4;
-          opens = opens_as verb.Capture e l o.4;
-          creates = creates_as verb.Capture e l o.4;
-          apart = unlike (o.0 ∷ o.1 ∷ []) o.2 o.3 apart;
-        })
+    of_verb verb.Capture e built many asks = is_command words c command.Capture asks (one_capture verb.Capture e many (λ a b c d. refl) (λ a b c d. refl))
     of_verb verb.Make e built many asks =
         let o = four_of h.others many in
         let l : List (List ℕ) = o.0 ∷ o.1 ∷ o.2 ∷ o.3 ∷ [] in
@@ -277,7 +285,7 @@ asks_by v words c h e = of_verb v e (subst (λ w. is_built w ≡ true) e h.built
         })
     of_verb verb.Chain e built many asks = absurd (cc)
     of_verb verb.Damage e built many asks = absurd (cc)
-    of_verb verb.Ring e built many asks = absurd (cc)
+    of_verb verb.Ring e built many asks = is_command words c command.Ring asks (one_capture verb.Ring e many (λ a b c d. refl) (λ a b c d. refl))
     of_verb verb.Assemble e built many asks = is_command words c command.Assemble asks (one_built verb.Assemble e many (λ source program. refl) (λ source program. refl))
 
 -- a stream is made of 1 to 16 frames

@@ -32,6 +32,7 @@ is_built verb.Run = true
 is_built verb.Compile = true
 is_built verb.Capture = true
 is_built verb.Make = true
+is_built verb.Ring = true
 is_built verb.Assemble = true
 is_built _ = false
 

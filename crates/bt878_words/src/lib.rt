@@ -83,8 +83,9 @@ impl Verb {
     {
         match self {
             Verb::List | Verb::Verify | Verb::Run => true,
-            Verb::Compile | Verb::Capture | Verb::Make | Verb::Assemble => true,
-            Verb::Chain | Verb::Damage | Verb::Ring => false,
+            Verb::Compile | Verb::Capture | Verb::Make => true,
+            Verb::Ring | Verb::Assemble => true,
+            Verb::Chain | Verb::Damage => false,
         }
     }
 
@@ -253,6 +254,14 @@ mod tests {
         assert_eq!(rt; read_words(&["list", "a"]), Ok(Command::List));
         assert_eq!(rt; read_words(&["compile", "d", "p"]), Ok(Command::Compile));
         assert_eq!(rt; read_words(&["assemble", "t", "p"]), Ok(Command::Assemble));
+        assert_eq!(rt;
+            read_words(&["ring", "r", "s", "p", "i"]),
+            Ok(Command::Ring)
+        );
+        assert_eq!(rt;
+            read_words(&["ring", "r", "s", "p", "s"]),
+            Err(UsageFault::SameName)
+        );
         assert_eq!(rt;
             read_words(&["assemble", "t", "t"]),
             Err(UsageFault::SameName)

@@ -1,2 +1,3 @@
+pub mod UpToLimit
 mod Lengths
 pub mod Whole

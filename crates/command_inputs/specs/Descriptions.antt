@@ -14,7 +14,7 @@ use Rattle.capture_file.specs.declared.FileFault.{FileFault}
 use Rattle.capture_file.specs.declared.Input.TheVariants.{Desc as DescFile}
 use Rattle.command_texts.specs.declared.refusal.Refusal.{Refusal}
 use Rattle.command_texts.specs.declared.refusal.Refusal.TheVariants.{Malformed, BadDesc, BadGeometry, NoMemory}
-use Rattle.command_steps.specs.Inputs.{Always, Input, Judge, OfInput}
+use Rattle.command_steps.specs.Inputs.{Always, ByBytes, Input, Judge, OfInput}
 
 -- the most bytes of a description file, which is read to one byte beyond them at most
 abbrev pub longest_description : ℕ
@@ -70,7 +70,7 @@ pub record GivesCompiled (bytes : List ℕ) (program : RiscProgram) (fill : ℕ)
 -- ---- as an input
 
 abbrev pub descriptions : Judge
-descriptions = record { most = longest_description; MayGoOn = Always; IsGood = HoldsValid; IsBad = IsBadDesc }
+descriptions = record { most = longest_description; MayGoOn = Always; IsGood = ByBytes HoldsValid; IsBad = IsBadDesc }
 
 abbrev pub a_description : List ℕ → Input
 a_description name = record { name = name; judge = descriptions }

@@ -1,3 +1,4 @@
 pub mod Programs
 pub mod Descriptions
 pub mod Listings
+pub mod Rings

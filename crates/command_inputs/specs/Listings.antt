@@ -5,7 +5,7 @@ use Rattle.capture_file.specs.declared.program.ProgramFile.{ProgramFile}
 use Rattle.risc_asm.specs.Answers.{Answers, IsFault, most_bytes}
 use Rattle.command_texts.specs.declared.refusal.Refusal.{Refusal}
 use Rattle.command_texts.specs.declared.refusal.Refusal.TheVariants.{BadText}
-use Rattle.command_steps.specs.Inputs.{Always, Input, Judge, OfInput}
+use Rattle.command_steps.specs.Inputs.{Always, ByBytes, Input, Judge, OfInput}
 
 -- a text isn't too long, and it is the listing of this program and fill
 abbrev pub GivesAssembled : List ℕ → ProgramFile → Type 0
@@ -22,7 +22,7 @@ IsBadText name _ inputs = ⊥
 -- ---- as an input
 
 abbrev pub listings : Judge
-listings = record { most = most_bytes; MayGoOn = Always; IsGood = HoldsListing; IsBad = IsBadText }
+listings = record { most = most_bytes; MayGoOn = Always; IsGood = ByBytes HoldsListing; IsBad = IsBadText }
 
 abbrev pub a_listing : List ℕ → Input
 a_listing name = record { name = name; judge = listings }

@@ -9,7 +9,7 @@ use Rattle.capture_file.specs.declared.program.ProgramFile.{ProgramFile}
 use Rattle.capture_file.specs.Programs.{program_of}
 use Rattle.command_texts.specs.declared.refusal.Refusal.{Refusal}
 use Rattle.command_texts.specs.declared.refusal.Refusal.TheVariants.{Malformed, Rejected, NoMemory}
-use Rattle.command_steps.specs.Inputs.{Always, Input, Judge, OfInput}
+use Rattle.command_steps.specs.Inputs.{Always, ByBytes, Input, Judge, OfInput}
 
 -- the most bytes of a program file, which is read to one byte beyond them at most
 abbrev pub longest_program : ℕ
@@ -64,10 +64,10 @@ GivesSound bytes program fill = Accepts (program_of bytes) program fill
 -- ---- as inputs
 
 abbrev pub program_files : Judge
-program_files = record { most = longest_program; MayGoOn = Always; IsGood = HoldsProgram; IsBad = IsBadFile }
+program_files = record { most = longest_program; MayGoOn = Always; IsGood = ByBytes HoldsProgram; IsBad = IsBadFile }
 
 abbrev pub sound_programs : Judge
-sound_programs = record { most = longest_program; MayGoOn = Always; IsGood = HoldsSound; IsBad = IsBadProgram }
+sound_programs = record { most = longest_program; MayGoOn = Always; IsGood = ByBytes HoldsSound; IsBad = IsBadProgram }
 
 abbrev pub a_program : List ℕ → Input
 a_program name = record { name = name; judge = program_files }

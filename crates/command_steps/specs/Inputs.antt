@@ -60,23 +60,28 @@ StopsAt IsBad name refusal old new = IsBad name refusal old.told.inputs
 -- ---- judges
 
 -- How an input of some kind is judged. It is read to one byte beyond `most`; behind its first bytes it may be read on
--- where they are as `MayGoOn` says; it is good by its bytes, or bad in the way that a refusal says.
+-- where they are as `MayGoOn` says; it is good by its bytes and by what is told of the other inputs, or bad in the way
+-- that a refusal says.
 pub record Judge : Type 1 where
   pub most : ℕ
   pub MayGoOn : List ℕ → Type 0
-  pub IsGood : List ℕ → Type 0
+  pub IsGood : Option Inputs → List ℕ → Type 0
   pub IsBad : List ℕ → Refusal → Option Inputs → Type 0
 
 pub record Input : Type 1 where
   pub name : List ℕ
   pub judge : Judge
 
+-- an input that is good by its bytes alone
+abbrev pub ByBytes : (List ℕ → Type 0) → Option Inputs → List ℕ → Type 0
+ByBytes P told bytes = P bytes
+
 -- an input that is judged whole is read on whatever its first bytes are
 abbrev pub Always : List ℕ → Type 0
 Always bytes = ⊤
 
 abbrev pub IsThereAndGood : Input → Option Inputs → Type 0
-IsThereAndGood input told = OfInput input.name told input.judge.IsGood
+IsThereAndGood input told = OfInput input.name told (input.judge.IsGood told)
 
 -- every input is there and good
 abbrev pub AreGood : List Input → Option Inputs → Type 0

@@ -18,10 +18,14 @@ use Rattle.capture_desc.specs.declared.fault.DescFault.TheVariants.{NotToml, Unk
 use Rattle.capture_desc.specs.Keys.{name_of}
 use Rattle.picture_model.specs.declared.BuildFault.{BuildFault}
 use Rattle.picture_model.specs.declared.BuildFault.TheVariants as geometry
+use Rattle.ring_compile.specs.declared.fault.RingKey.{RingKey}
+use Rattle.ring_compile.specs.declared.fault.RingFault.{RingFault}
+use Rattle.ring_compile.specs.declared.fault.RingFault.TheVariants as ring
+use Rattle.ring_compile.specs.Files as ring_keys
 use Rattle.risc_asm.specs.declared.AsmFault.{AsmFault}
 use Rattle.risc_asm.specs.declared.AsmFault.TheVariants as listing
 use Rattle.command_texts.specs.declared.answer.Answer.{Answer}
-use Rattle.command_texts.specs.declared.answer.Answer.TheVariants.{Done, Usage, ReadFault, WriteFault, Malformed, BadDesc, BadGeometry, BadText, Rejected, NoMemory}
+use Rattle.command_texts.specs.declared.answer.Answer.TheVariants.{Done, Usage, ReadFault, WriteFault, Malformed, BadDesc, BadGeometry, BadRing, BadText, Rejected, NoMemory}
 
 abbrev pub byte_text : ℕ → List ℕ
 byte_text n = hex 2 n
@@ -72,16 +76,23 @@ cause_words NoTarget = codes "no target"
 cause_words Wrap = codes "wrap"
 cause_words (Ungranted address) = codes "ungranted " ++ address_text address
 
--- a fault of a description; a key is said as it stands in the file
-abbrev pub key_text : List ℕ → Key → List ℕ
-key_text fault key = codes "description: " ++ (fault ++ (codes " key " ++ (name_of key ++ line_end)))
+-- a fault of a file of keys, which is named first; a key is said as it stands in the file
+abbrev pub key_text : List ℕ → List ℕ → List ℕ → List ℕ
+key_text file fault key = file ++ (codes ": " ++ (fault ++ (codes " key " ++ (key ++ line_end))))
+
+abbrev pub not_toml_text : List ℕ → List ℕ
+not_toml_text file = file ++ codes ": not toml\n"
+
+-- a fault of a description
+abbrev pub description_key_text : List ℕ → Key → List ℕ
+description_key_text fault key = key_text (codes "description") fault (name_of key)
 
 abbrev pub desc_text : DescFault → List ℕ
-desc_text NotToml = codes "description: not toml\n"
-desc_text (Unknown name) = codes "description: unknown key " ++ (name ++ line_end)
-desc_text (Missing key) = key_text (codes "missing") key
-desc_text (WrongKind key) = key_text (codes "wrong kind of") key
-desc_text (OutOfRange key) = key_text (codes "out of range") key
+desc_text NotToml = not_toml_text (codes "description")
+desc_text (Unknown name) = key_text (codes "description") (codes "unknown") name
+desc_text (Missing key) = description_key_text (codes "missing") key
+desc_text (WrongKind key) = description_key_text (codes "wrong kind of") key
+desc_text (OutOfRange key) = description_key_text (codes "out of range") key
 
 -- what is needed, and what is there
 abbrev pub need_words : ℕ → ℕ → List ℕ
@@ -104,6 +115,25 @@ geometry_words (geometry.TooFewBytes need have) = codes "too few bytes" ++ need_
 geometry_words geometry.ProgramBase = codes "program base"
 geometry_words geometry.ProgramOnPage = codes "program on page"
 
+-- a fault of a ring file: of the text and its keys as that of a description, of the ring's place as that of a geometry
+abbrev pub ring_key_text : List ℕ → RingKey → List ℕ
+ring_key_text fault key = key_text (codes "ring") fault (ring_keys.name_of key)
+
+abbrev pub ring_place_text : BuildFault → List ℕ
+ring_place_text fault = codes "ring: " ++ (geometry_words fault ++ line_end)
+
+abbrev pub ring_text : RingFault → List ℕ
+ring_text ring.NotToml = not_toml_text (codes "ring")
+ring_text (ring.Unknown name) = key_text (codes "ring") (codes "unknown") name
+ring_text (ring.Missing key) = ring_key_text (codes "missing") key
+ring_text (ring.WrongKind key) = ring_key_text (codes "wrong kind of") key
+ring_text (ring.OutOfRange key) = ring_key_text (codes "out of range") key
+ring_text (ring.PageUnaligned number) = ring_place_text (geometry.PageUnaligned number)
+ring_text (ring.PageTwice number) = ring_place_text (geometry.PageTwice number)
+ring_text (ring.TooFewPages need have) = ring_place_text (geometry.TooFewPages need have)
+ring_text ring.ProgramBase = ring_place_text geometry.ProgramBase
+ring_text ring.ProgramOnPage = ring_place_text geometry.ProgramOnPage
+
 -- a fault of a text that is assembled
 abbrev pub listing_words : AsmFault → List ℕ
 listing_words (listing.Line k) = codes "line " ++ decimal k
@@ -120,6 +150,7 @@ answer_text (Malformed file fault) =
     input_words file ++ (codes ": " ++ (kind_words fault.kind ++ (codes " at " ++ (decimal fault.at ++ line_end))))
 answer_text (BadDesc fault) = desc_text fault
 answer_text (BadGeometry fault) = codes "geometry: " ++ (geometry_words fault ++ line_end)
+answer_text (BadRing fault) = ring_text fault
 answer_text (BadText fault) = codes "listing: " ++ (listing_words fault ++ line_end)
 answer_text (Rejected at nth cause) =
     codes "rejected at " ++ (address_text at ++ (codes ", step " ++ (decimal nth
@@ -136,6 +167,10 @@ abbrev pub report_text : Report → List ℕ
 report_text r =
     codes "turns " ++ (decimal r.turns ++ (codes "\nmoved " ++ (decimal r.moved
     ++ (codes "\noverruns " ++ (lost_words r.overruns ++ (codes "\nstatus " ++ (hex 8 r.int_stat ++ line_end)))))))
+
+-- what `ring` says: the number of block ends, and then the report
+abbrev pub blocks_text : ℕ → Report → List ℕ
+blocks_text blocks r = codes "blocks " ++ (decimal blocks ++ (line_end ++ report_text r))
 
 -- what `verify` says of a sound program
 abbrev pub accepted_text : List ℕ

@@ -8,6 +8,7 @@ use capture_desc::DescFault;
 use capture_file::{FileFault, Input};
 use machine_model::Cause;
 use picture_model::BuildFault;
+use ring_compile::RingFault;
 use risc_asm::AsmFault;
 
 /// What a call of the program comes to (the statuses and texts are this project's own rules).
@@ -27,6 +28,8 @@ pub enum Answer {
     BadDesc(DescFault),
     /// The geometry of a description has a fault.
     BadGeometry(BuildFault),
+    /// A ring file describes no ring.
+    BadRing(RingFault),
     /// A text is not the listing of a program.
     BadText(AsmFault),
     /// The program isn't sound: the address of the first place of its path that isn't fine, the
@@ -38,8 +41,8 @@ pub enum Answer {
 
 impl Answer {
     /// The status with which the program ends: 0 for `Done`, 1 for `Rejected` and `BadGeometry`, 2 for
-    /// `Usage`, 3 for `Malformed`, `BadDesc` and `BadText`, 4 for `ReadFault`, 5 for `WriteFault` and 6
-    /// for `NoMemory`.
+    /// `Usage`, 3 for `Malformed`, `BadDesc`, `BadRing` and `BadText`, 4 for `ReadFault`, 5 for `WriteFault`
+    /// and 6 for `NoMemory`.
     pub fn status(&self) -> u8
         ensures { result ≡ status_of self.now }
     {
@@ -47,7 +50,8 @@ impl Answer {
             Answer::Done => 0,
             Answer::BadGeometry(_) | Answer::Rejected { .. } => 1,
             Answer::Usage(_) => 2,
-            Answer::Malformed(..) | Answer::BadDesc(_) | Answer::BadText(_) => 3,
+            Answer::Malformed(..) | Answer::BadDesc(_) => 3,
+            Answer::BadRing(_) | Answer::BadText(_) => 3,
             Answer::ReadFault => 4,
             Answer::WriteFault => 5,
             Answer::NoMemory => 6,

@@ -8,6 +8,7 @@ use capture_desc::DescFault;
 use capture_file::{FileFault, Input};
 use machine_model::Cause;
 use picture_model::BuildFault;
+use ring_compile::RingFault;
 use risc_asm::AsmFault;
 use std::alloc::AllocError;
 
@@ -23,6 +24,8 @@ pub enum Refusal {
     BadDesc(DescFault),
     /// The geometry of a description has a fault.
     BadGeometry(BuildFault),
+    /// A ring file describes no ring.
+    BadRing(RingFault),
     /// A text is not the listing of a program.
     BadText(AsmFault),
     /// The program isn't sound: the address of the first place of its path that isn't fine, the
@@ -53,6 +56,7 @@ impl Refusal {
             Refusal::Malformed(input, fault) => Answer::Malformed(input, fault),
             Refusal::BadDesc(fault) => Answer::BadDesc(fault),
             Refusal::BadGeometry(fault) => Answer::BadGeometry(fault),
+            Refusal::BadRing(fault) => Answer::BadRing(fault),
             Refusal::BadText(fault) => Answer::BadText(fault),
             Refusal::Rejected { at, nth, cause } => Answer::Rejected { at, nth, cause },
             Refusal::NoMemory => Answer::NoMemory,

@@ -1,16 +1,16 @@
 //! The texts that are said.
 
-ghost use Rattle.std.specs.Prelude.{◌≡◌, IfOk, Some, string_bytes};
-ghost use Rattle.capture_desc.specs.declared.fault.DescFault.TheVariants as DescFault;
-ghost use Rattle.command_texts.specs.Texts.{answer_text, built_text, cause_words, geometry_words, input_words, key_text, kind_words, listing_words, lost_words, made_text, need_words, report_text, usage_words};
+ghost use Rattle.std.specs.Prelude.{◌≡◌, IfOk, Some, codes, string_bytes};
+ghost use Rattle.command_texts.specs.Texts.{answer_text, blocks_text, built_text, cause_words, geometry_words, input_words, key_text, kind_words, listing_words, lost_words, made_text, need_words, not_toml_text, report_text, ring_place_text, usage_words};
 
 use crate::answer::Answer;
 use bt878_words::UsageFault;
-use capture_desc::{DescFault, Key};
+use capture_desc::DescFault;
 use capture_file::{FileKind, Input};
 use dma_machine::Report;
 use machine_model::Cause;
 use picture_model::BuildFault;
+use ring_compile::RingFault;
 use risc_asm::AsmFault;
 use std::alloc::{AllocError, Global};
 use std::fmt;
@@ -177,22 +177,30 @@ pub fn rejected_text(alloc: Global, at: u64, nth: u64, cause: Cause) -> Result<V
     Ok(text.into_bytes())
 }
 
-/// The text of a key that no description has. The key is said as it stands in the file.
-fn unknown_text(alloc: Global, key: &[u8]) -> Result<Vec<u8>, AllocError>
-    ensures { IfOk result (λ text. text.items ≡ answer_text (Answer.BadDesc (DescFault.Unknown key.now))) }
+/// The text of a file of keys that is no TOML document.
+fn not_toml_text(alloc: Global, file: &str) -> Result<Vec<u8>, AllocError>
+    ensures { IfOk result (λ text. text.items ≡ not_toml_text file.now) }
 {
-    let mut text = Vec::from_slice(alloc, b"description: unknown key ")?;
+    let text = format!(in alloc; "{file}: not toml\n")?;
+    Ok(text.into_bytes())
+}
+
+/// The text of a key that no such file has. The key is said as it stands in the file.
+fn unknown_text(alloc: Global, file: &str, key: &[u8]) -> Result<Vec<u8>, AllocError>
+    ensures { IfOk result (λ text. text.items ≡ key_text file.now (codes "unknown") key.now) }
+{
+    let mut text = Vec::from_slice(alloc, file.as_bytes())?;
+    text.extend_from_slice(b": unknown key ")?;
     text.extend_from_slice(key)?;
     text.push(b'\n')?;
     Ok(text)
 }
 
-/// The text of a fault of a key of descriptions.
-fn key_text(alloc: Global, fault: &str, key: Key) -> Result<Vec<u8>, AllocError>
-    ensures { IfOk result (λ text. text.items ≡ key_text fault.now key) }
+/// The text of a fault of a key.
+fn key_text(alloc: Global, file: &str, fault: &str, key: &str) -> Result<Vec<u8>, AllocError>
+    ensures { IfOk result (λ text. text.items ≡ key_text file.now fault.now key.now) }
 {
-    let key = key.name();
-    let text = format!(in alloc; "description: {fault} key {key}\n")?;
+    let text = format!(in alloc; "{file}: {fault} key {key}\n")?;
     Ok(text.into_bytes())
 }
 
@@ -200,13 +208,46 @@ fn key_text(alloc: Global, fault: &str, key: Key) -> Result<Vec<u8>, AllocError>
 pub fn desc_text(alloc: Global, fault: &DescFault) -> Result<Vec<u8>, AllocError>
     ensures { IfOk result (λ text. text.items ≡ answer_text (Answer.BadDesc fault.now)) }
 {
+    let file = "description";
     match fault {
-        DescFault::NotToml => Vec::from_slice(alloc, b"description: not toml\n"),
-        DescFault::Unknown(key) => unknown_text(alloc, key.as_slice()),
-        DescFault::Missing(key) => key_text(alloc, "missing", *key),
-        DescFault::WrongKind(key) => key_text(alloc, "wrong kind of", *key),
-        DescFault::OutOfRange(key) => key_text(alloc, "out of range", *key),
+        DescFault::NotToml => not_toml_text(alloc, file),
+        DescFault::Unknown(key) => unknown_text(alloc, file, key.as_slice()),
+        DescFault::Missing(key) => key_text(alloc, file, "missing", key.name()),
+        DescFault::WrongKind(key) => key_text(alloc, file, "wrong kind of", key.name()),
+        DescFault::OutOfRange(key) => key_text(alloc, file, "out of range", key.name()),
     }
+}
+
+/// The text of a fault of a ring's place in memory, which is said as one of a geometry.
+fn ring_place_text(alloc: Global, fault: BuildFault) -> Result<Vec<u8>, AllocError>
+    ensures { IfOk result (λ text. text.items ≡ ring_place_text fault) }
+{
+    let fault = GeometryWords(fault);
+    let text = format!(in alloc; "ring: {fault}\n")?;
+    Ok(text.into_bytes())
+}
+
+/// The text of a file that describes no ring.
+pub fn ring_text(alloc: Global, fault: &RingFault) -> Result<Vec<u8>, AllocError>
+    ensures { IfOk result (λ text. text.items ≡ answer_text (Answer.BadRing fault.now)) }
+{
+    let file = "ring";
+    let place = match fault {
+        RingFault::NotToml => return not_toml_text(alloc, file),
+        RingFault::Unknown(key) => return unknown_text(alloc, file, key.as_slice()),
+        RingFault::Missing(key) => return key_text(alloc, file, "missing", key.name()),
+        RingFault::WrongKind(key) => return key_text(alloc, file, "wrong kind of", key.name()),
+        RingFault::OutOfRange(key) => return key_text(alloc, file, "out of range", key.name()),
+        RingFault::PageUnaligned(number) => BuildFault::PageUnaligned(*number),
+        RingFault::PageTwice(number) => BuildFault::PageTwice(*number),
+        RingFault::TooFewPages { need, have } => BuildFault::TooFewPages {
+            need: *need,
+            have: *have,
+        },
+        RingFault::ProgramBase => BuildFault::ProgramBase,
+        RingFault::ProgramOnPage => BuildFault::ProgramOnPage,
+    };
+    ring_place_text(alloc, place)
 }
 
 /// The text of a geometry that has a fault.
@@ -255,15 +296,39 @@ impl fmt::Display for LostWords {
     }
 }
 
+/// The report of a machine in words.
+#[derive(Drop)]
+struct ReportWords(Report);
+
+impl fmt::Display for ReportWords {
+    ghost output = { λ words. Some (report_text words.0) };
+
+    fn fmt<W: fmt::Write>(&self, f: &mut fmt::Formatter<W>) -> fmt::Result {
+        let turns = self.0.turns;
+        let moved = self.0.moved;
+        let lost = LostWords(self.0.overruns);
+        let status = self.0.int_stat;
+        write!(
+            f,
+            "turns {turns}\nmoved {moved}\noverruns {lost}\nstatus {status:08x}\n"
+        )
+    }
+}
+
 /// The report of a machine. The error is want of memory.
 pub fn report_text(alloc: Global, report: &Report) -> Result<String, AllocError>
     ensures { IfOk result (λ text. string_bytes text ≡ report_text report.now) }
 {
-    let turns = report.turns;
-    let moved = report.moved;
-    let lost = LostWords(report.overruns);
-    let status = report.int_stat;
-    format!(in alloc; "turns {turns}\nmoved {moved}\noverruns {lost}\nstatus {status:08x}\n")
+    let report = ReportWords(*report);
+    format!(in alloc; "{report}")
+}
+
+/// What `ring` says: the number of block ends, and then the report of the machine. The error is want of memory.
+pub fn blocks_text(alloc: Global, blocks: u64, report: &Report) -> Result<String, AllocError>
+    ensures { IfOk result (λ text. string_bytes text ≡ blocks_text blocks report.now) }
+{
+    let report = ReportWords(*report);
+    format!(in alloc; "blocks {blocks}\n{report}")
 }
 
 /// What `compile` and `assemble` say of a program of so many words and chunks. The error is want of memory.

@@ -79,7 +79,7 @@ steps_in : List Step → Result (List Step) FileFault → List Step
 steps_in none (Ok steps) = steps
 steps_in none (Err fault) = none
 
-whole_steps : (count : ℕ) (found steps : List Step) (e : Ending) → whole_file count found e ≡ Ok steps → found ≡ steps
+pub whole_steps : (count : ℕ) (found steps : List Step) (e : Ending) → whole_file count found e ≡ Ok steps → found ≡ steps
 unfolding steps_in
 whole_steps count found steps Unfinished is = ap (steps_in found) is
 whole_steps count found steps Ended is = ap (steps_in found) is

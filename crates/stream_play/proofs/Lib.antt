@@ -3,3 +3,5 @@ mod Forms
 pub mod Sound
 mod Loading
 pub mod Fitting
+pub mod FewTurns
+pub mod Rings

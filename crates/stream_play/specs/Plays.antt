@@ -19,6 +19,7 @@ use Rattle.capture_file.specs.Readers.{Phase, Reader, Records, fresh, resumed}
 use Rattle.command_texts.specs.declared.refusal.Refusal.{Refusal}
 use Rattle.command_texts.specs.declared.refusal.Refusal.TheVariants.{ReadFault, Malformed}
 use Rattle.command_steps.specs.Inputs.{OfRest, ReadsRose}
+use Rattle.ring_machine.specs.States.{RingState, ran}
 
 -- the most bytes of a stream
 abbrev pub longest_stream : ℕ
@@ -32,6 +33,10 @@ acted act (step ∷ steps) p = acted act steps (act step p)
 -- what a step of a stream makes of a machine
 abbrev pub machine_act : Step → State → State
 machine_act step m = run m (atomic step)
+
+-- and of a machine that counts the blocks of its ring
+abbrev pub ring_act : Step → RingState → RingState
+ring_act step s = ran (atomic step) s
 
 -- a player with what is left of a stream goes on to where it came from: to the same state, and the same end
 pub record GoesOn {S : Type 0} (act : Step → S → S) (p : S) (whole : Reading) (now : S) (left : Reading) : Type 0 where

@@ -1,36 +1,53 @@
 -- The run of a program over a stream file.
-use Rattle.std.specs.Prelude.{◌≡◌, ℕ, Bool, List, Option, Ok, Err, false}
+use Rattle.std.specs.Prelude.{◌≡◌, ℕ, ◌+◌, Bool, List, [], ◌∷◌, Option, Ok, Err, false}
 use Rattle.capture_desk.specs.Desks.{Inputs}
 use Rattle.machine_model.specs.Paths.{RiscProgram}
 use Rattle.machine_model.specs.States.{State, first_state}
 use Rattle.machine_model.specs.Steps.{run}
 use Rattle.capture_file.specs.declared.Input.TheVariants.{Stream}
 use Rattle.capture_file.specs.declared.Step.{Step}
-use Rattle.capture_file.specs.Streams.{steps_of, steps_run, stream_of}
+use Rattle.capture_file.specs.Streams.{steps_of, steps_run, stream_of, turns_of}
 use Rattle.command_texts.specs.declared.refusal.Refusal.{Refusal}
 use Rattle.command_texts.specs.declared.refusal.Refusal.TheVariants.{Malformed}
-use Rattle.command_steps.specs.Inputs.{Input, Judge, OfInput}
+use Rattle.command_steps.specs.Inputs.{ByBytes, Input, Judge, OfInput}
+use Rattle.ring_model.specs.Rings.{Ring, ends}
+use Rattle.ring_model.specs.Runs.{block_ends}
+use Rattle.ring_machine.specs.States.{RingState}
 use Rattle.stream_play.specs.Plays.{EndsWell, longest_stream}
 
 -- ---- stream files
 
--- an input isn't a stream
-abbrev pub IsBadStream : List ℕ → Refusal → Option Inputs → Type 0
-IsBadStream name (Malformed Stream fault) inputs = OfInput name inputs (λ bytes. steps_of longest_stream false bytes ≡ Err fault)
-IsBadStream name _ inputs = ⊥
+-- an input isn't a stream of the form for chains, or of another
+abbrev pub IsBadStream : Bool → List ℕ → Refusal → Option Inputs → Type 0
+IsBadStream chained name (Malformed Stream fault) inputs = OfInput name inputs (λ bytes. steps_of longest_stream chained bytes ≡ Err fault)
+IsBadStream chained name _ inputs = ⊥
 
-abbrev pub HoldsSteps : List ℕ → Type 0
-HoldsSteps bytes = (steps : List Step) × (steps_of longest_stream false bytes ≡ Ok steps)
+abbrev pub HoldsSteps : Bool → List ℕ → Type 0
+HoldsSteps chained bytes = (steps : List Step) × (steps_of longest_stream chained bytes ≡ Ok steps)
 
 -- the first bytes of a stream hold no fault, so that more of it may be read
 abbrev pub HoldsNoFault : Bool → List ℕ → Type 0
 HoldsNoFault chained bytes = EndsWell (stream_of longest_stream chained bytes)
 
-abbrev pub stream_files : Judge
-stream_files = record { most = longest_stream; MayGoOn = HoldsNoFault false; IsGood = HoldsSteps; IsBad = IsBadStream }
+abbrev pub stream_files : Bool → Judge
+stream_files chained =
+    record {
+      most = longest_stream;
+      MayGoOn = HoldsNoFault chained;
+      IsGood = ByBytes (HoldsSteps chained);
+      IsBad = IsBadStream chained;
+    }
+
+abbrev pub a_stream_file : Bool → List ℕ → Input
+a_stream_file chained name = record { name = name; judge = stream_files chained }
 
 abbrev pub a_stream : List ℕ → Input
-a_stream name = record { name = name; judge = stream_files }
+a_stream name = a_stream_file false name
+
+-- all turns of a stream
+abbrev pub turns_in : List Step → ℕ
+turns_in [] = 0
+turns_in (step ∷ steps) = turns_of step + turns_in steps
 
 -- ---- runs
 
@@ -56,3 +73,12 @@ pub record IsRun (Gives : List ℕ → RiscProgram → ℕ → Type 0) (file str
 abbrev pub OfRun : (List ℕ → RiscProgram → ℕ → Type 0) → List ℕ → List ℕ → Option Inputs → (Ran → Type 0) → Type 0
 OfRun Gives file stream inputs P =
     OfInput file inputs (λ a. OfInput stream inputs (λ b. (r : Ran) × IsRun Gives a b r × P r))
+
+-- ---- runs of a ring
+
+-- the machine of a ring took the steps of a whole stream, from a state in which no block was counted; the blocks are the
+-- block ends over all of them
+abbrev pub HasPlayedRing : List ℕ → Ring → State → RingState → Type 0
+HasPlayedRing bytes ring m now =
+    (steps : List Step) × (steps_of longest_stream false bytes ≡ Ok steps)
+    × (now ≡ record { ring = ring; machine = run m (steps_run steps); blocks = block_ends (ends ring) m (steps_run steps) })

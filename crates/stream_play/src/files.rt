@@ -1,4 +1,4 @@
-//! A stream file, played on the machine of a sound program.
+//! Stream files, played on a player that is made for them, and on the machine of a sound program.
 
 ghost use Rattle.std.specs.Prelude.{◌≡◌, false, length, string_bytes, IfOk, IfErr};
 ghost use Rattle.capture_desk.specs.Desks.{IsAllowed};
@@ -7,10 +7,11 @@ ghost use Rattle.command_steps.specs.Reading.{OnlyReads};
 ghost use Rattle.command_texts.specs.Texts.{report_text};
 ghost use Rattle.dma_machine.specs.Facts.{report_of};
 ghost use Rattle.machine_model.specs.States.{first_state};
-ghost use Rattle.stream_play.specs.Plays.{HasPlayed, longest_stream};
+ghost use Rattle.stream_play.specs.Plays.{HasPlayed, PlaysAll, longest_stream};
 ghost use Rattle.stream_play.specs.Runs.{HoldsNoFault, IsBadStream};
 
 use crate::play::play;
+use crate::player::Player;
 use capture_desk::Desk;
 use command_steps::{PIECE, open};
 use command_texts::{Refusal, report_text};
@@ -30,8 +31,13 @@ pub struct Played {
     pub report: String,
 }
 
-/// The machine of a sound program before its first step. All memory that it needs is taken here.
-fn machine_of(alloc: Global, accepted: Accepted, fill: u8) -> Result<Machine<PageRam>, AllocError>
+/// The machine of a sound program before its first step: both enables are on, each granted byte is the
+/// fill, and the queues have room for what the chip's FIFOs hold. All memory that it needs is taken here.
+pub fn machine_of(
+    alloc: Global,
+    accepted: Accepted,
+    fill: u8,
+) -> Result<Machine<PageRam>, AllocError>
     ensures { IfOk result (λ machine. machine ≡ first_state accepted fill) }
 {
     let ram = PageRam::new(alloc, accepted.program().grants(), fill)?;
@@ -39,28 +45,54 @@ fn machine_of(alloc: Global, accepted: Accepted, fill: u8) -> Result<Machine<Pag
     Ok(Machine::new(accepted, ram, fifo))
 }
 
-/// Plays an input's stream to its end.
-fn play_input<D: Desk, R: Ram>(
-    machine: &mut Machine<R>,
+/// Opens an input and plays its stream to its end.
+fn play_input<D: Desk, P: Player>(
+    player: &mut P,
     name: &str,
     desk: &mut D,
     buffer: &mut [u8],
 ) -> Result<(), Refusal>
     requires allowed { IsAllowed name.now (D.seen desk.old).told.may_open }
     requires room { length buffer.old ≡ 65536 }
-    ensures played { IfOk result (λ _. OfInput name.now (D.seen desk.old).told.inputs (λ bytes. HasPlayed bytes machine.old machine.new)) }
-    ensures stops { IfErr result (λ refusal. StopsAt IsBadStream name.now refusal (D.seen desk.old) (D.seen desk.new)) }
-    ensures reads { OnlyReads name.now longest_stream (HoldsNoFault false) (D.seen desk.old) (D.seen desk.new) }
+    ensures played { IfOk result (λ _. OfInput name.now (D.seen desk.old).told.inputs (λ bytes. PlaysAll P.act P.has_slots bytes player.old player.new)) }
+    ensures stops { IfErr result (λ refusal. StopsAt (IsBadStream P.has_slots) name.now refusal (D.seen desk.old) (D.seen desk.new)) }
+    ensures reads { OnlyReads name.now longest_stream (HoldsNoFault P.has_slots) (D.seen desk.old) (D.seen desk.new) }
     ensures quiet { IfOk result (λ _. (D.seen desk.new).reads ≡ (D.seen desk.old).reads) }
 {
     open(name, desk)?;
-    match play(machine, desk, buffer) {
+    match play(player, desk, buffer) {
         Ok(()) => Ok(()),
         Err(refusal) => Err(refusal),
     }
 }
 
-/// Plays an input's stream on a machine that is made for it.
+/// Plays a whole stream file on a player, and gives the player back. The memory that this takes is taken
+/// before the stream is opened. A stream is refused as `Malformed` at its first fault (the forms of
+/// streams are this project's own).
+pub fn play_file<D: Desk, P: Player + Drop>(
+    alloc: Global,
+    player: P,
+    stream: &str,
+    desk: &mut D,
+) -> Result<P, Refusal>
+    requires { IsAllowed stream.now (D.seen desk.old).told.may_open }
+    ensures played { IfOk result (λ after. OfInput stream.now (D.seen desk.old).told.inputs (λ bytes. PlaysAll P.act P.has_slots bytes player after)) }
+    ensures stops { IfErr result (λ refusal. StopsAt (IsBadStream P.has_slots) stream.now refusal (D.seen desk.old) (D.seen desk.new)) }
+    ensures reads { OnlyReads stream.now longest_stream (HoldsNoFault P.has_slots) (D.seen desk.old) (D.seen desk.new) }
+    ensures quiet { IfOk result (λ _. (D.seen desk.new).reads ≡ (D.seen desk.old).reads) }
+{
+    let mut player = player;
+    let mut buffer = match vec![in alloc; 0; PIECE] {
+        Ok(buffer) => buffer,
+        Err(_) => return Err(Refusal::NoMemory),
+    };
+    match play_input(&mut player, stream, desk, &mut buffer) {
+        Ok(()) => Ok(player),
+        Err(refusal) => Err(refusal),
+    }
+}
+
+/// Plays a whole stream file on the machine of a sound program.
 fn play_on<D: Desk>(
     alloc: Global,
     accepted: Accepted,
@@ -70,27 +102,23 @@ fn play_on<D: Desk>(
 ) -> Result<Machine<PageRam>, Refusal>
     requires { IsAllowed stream.now (D.seen desk.old).told.may_open }
     ensures played { IfOk result (λ machine. OfInput stream.now (D.seen desk.old).told.inputs (λ bytes. HasPlayed bytes (first_state accepted fill) machine)) }
-    ensures stops { IfErr result (λ refusal. StopsAt IsBadStream stream.now refusal (D.seen desk.old) (D.seen desk.new)) }
+    ensures stops { IfErr result (λ refusal. StopsAt (IsBadStream false) stream.now refusal (D.seen desk.old) (D.seen desk.new)) }
     ensures reads { OnlyReads stream.now longest_stream (HoldsNoFault false) (D.seen desk.old) (D.seen desk.new) }
     ensures quiet { IfOk result (λ _. (D.seen desk.new).reads ≡ (D.seen desk.old).reads) }
 {
-    let mut machine = match machine_of(alloc, accepted, fill) {
+    let machine = match machine_of(alloc, accepted, fill) {
         Ok(machine) => machine,
         Err(_) => return Err(Refusal::NoMemory),
     };
-    let mut buffer = match vec![in alloc; 0; PIECE] {
-        Ok(buffer) => buffer,
-        Err(_) => return Err(Refusal::NoMemory),
-    };
-    match play_input(&mut machine, stream, desk, &mut buffer) {
-        Ok(()) => Ok(machine),
+    match play_file(alloc, machine, stream, desk) {
+        Ok(machine) => Ok(machine),
         Err(refusal) => Err(refusal),
     }
 }
 
 /// Plays a whole stream file on the machine of a sound program, whose memory is filled with a byte, and
 /// makes the report. All memory is taken before the stream is opened, but for the report's text.
-pub fn play_file<D: Desk>(
+pub fn play_program<D: Desk>(
     alloc: Global,
     accepted: Accepted,
     fill: u8,
@@ -101,7 +129,7 @@ pub fn play_file<D: Desk>(
     ensures played { IfOk result (λ played. OfInput stream.now (D.seen desk.old).told.inputs (λ bytes. HasPlayed bytes (first_state accepted fill) played.machine)) }
     ensures fill { IfOk result (λ played. played.fill ≡ fill) }
     ensures report { IfOk result (λ played. string_bytes played.report ≡ report_text (report_of played.machine)) }
-    ensures stops { IfErr result (λ refusal. StopsAt IsBadStream stream.now refusal (D.seen desk.old) (D.seen desk.new)) }
+    ensures stops { IfErr result (λ refusal. StopsAt (IsBadStream false) stream.now refusal (D.seen desk.old) (D.seen desk.new)) }
     ensures reads { OnlyReads stream.now longest_stream (HoldsNoFault false) (D.seen desk.old) (D.seen desk.new) }
     ensures quiet { IfOk result (λ _. (D.seen desk.new).reads ≡ (D.seen desk.old).reads) }
 {

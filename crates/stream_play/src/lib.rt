@@ -5,5 +5,5 @@ mod files;
 mod play;
 mod player;
 
-pub use files::{Played, play_file};
+pub use files::{Played, machine_of, play_file, play_program};
 pub use player::Player;

@@ -5,13 +5,14 @@ ghost use Rattle.capture_file.specs.declared.Step.TheVariants as Step;
 ghost use Rattle.capture_file.specs.declared.Step.{Step as StepOf};
 ghost use Rattle.capture_file.specs.Readers.{fresh};
 ghost use Rattle.capture_file.specs.Records.{StepFits};
-ghost use Rattle.stream_play.specs.Plays.{machine_act};
+ghost use Rattle.stream_play.specs.Plays.{machine_act, ring_act};
 
 use capture_file::StepReader;
 use dma_machine::Machine;
 use fifo_model::{Entry, Queue};
 use irq_status::HostWrite;
 use page_ram::Ram;
+use ring_machine::RingMachine;
 use risc_word::Code;
 
 /// What takes the steps of a stream, one after the other. Proofs see what a step makes of it, and whether
@@ -80,4 +81,40 @@ impl<R: Ram> Player for Machine<R> {
 
     // A machine has no slots, and a stream that its reader takes has no patches: `act` makes nothing of one.
     fn patch(&mut self, _slot: u8, _buffer: u8) {}
+}
+
+impl<R: Ram> Player for RingMachine<R> {
+    ghost act = { ring_act };
+
+    ghost has_slots = { false };
+
+    fn reader(limit: u64) -> StepReader {
+        <Machine<R> as Player>::reader(limit)
+    }
+
+    #[inline(always)]
+    fn push(&mut self, queue: Queue, entry: Entry) {
+        RingMachine::push(self, queue, entry);
+    }
+
+    #[inline(always)]
+    fn push_control(&mut self, code: Code) {
+        RingMachine::push_control(self, code);
+    }
+
+    #[inline(always)]
+    fn turns(&mut self, count: u32) {
+        RingMachine::turns(self, count);
+    }
+
+    #[inline(always)]
+    fn host(&mut self, write: HostWrite) {
+        RingMachine::host(self, write);
+    }
+
+    // A ring has no slots either.
+    fn patch(&mut self, _slot: u8, _buffer: u8) {
+        // the call tells that the count has 64 bits
+        let _blocks = self.blocks();
+    }
 }

@@ -1,7 +1,8 @@
 use Rattle.std.proofs.Common.{◌∙◌, ap, map, sym, subst, Bor, List, ℕ, Ok}
-use Rattle.bt878_words.proofs.Asked.{few_frames}
+use Rattle.bt878_words.proofs.Asked.{asked, few_frames}
+use Rattle.bt878_words.specs.declared.Command.TheVariants as command
 use Rattle.bt878_contract.specs.Tasks.{Answers}
-use Rattle.bt878_top.proofs.Asking.{assemble_program_allowed, assemble_task, assemble_text_allowed, capture_desc_allowed, capture_image_allowed, capture_program_allowed, capture_stream_allowed, capture_task, compile_desc_allowed, compile_program_allowed, compile_task, list_allowed, list_task, make_desc_allowed, make_stream_allowed, make_task, run_image_allowed, run_program_allowed, run_stream_allowed, run_task, verify_allowed, verify_task}
+use Rattle.bt878_top.proofs.Asking.{assemble_program_allowed, assemble_task, assemble_text_allowed, capture_image_allowed, capture_program_allowed, capture_source_allowed, capture_stream_allowed, capture_task, compile_desc_allowed, compile_program_allowed, compile_task, list_allowed, list_task, make_desc_allowed, make_stream_allowed, make_task, ring_task, run_image_allowed, run_program_allowed, run_stream_allowed, run_task, verify_allowed, verify_task}
 use Rattle.bt878_top.proofs.call.answer_words.Goals as goal
 
 abbrev text : Bor (List ℕ) → List ℕ
@@ -45,19 +46,35 @@ assemble-requires-clause-program g c =
 
 pub capture-requires-clause-desc : goal.capture-requires-clause-desc
 capture-requires-clause-desc g c =
-    capture_desc_allowed text c.args.words.now _ _ (sym c.read_words.ensures ∙ c.in-Ok.is ∙ ap Ok c.in-Capture.is) c.requires.opens
+    capture_source_allowed text c.args.words.now _ (asked (map text c.args.words.now) command.Capture (sym c.read_words.ensures ∙ c.in-Ok.is ∙ ap Ok c.in-Capture.is)) _ c.requires.opens
 
 pub capture-requires-clause-stream : goal.capture-requires-clause-stream
 capture-requires-clause-stream g c =
-    capture_stream_allowed text c.args.words.now _ _ (sym c.read_words.ensures ∙ c.in-Ok.is ∙ ap Ok c.in-Capture.is) c.requires.opens
+    capture_stream_allowed text c.args.words.now _ (asked (map text c.args.words.now) command.Capture (sym c.read_words.ensures ∙ c.in-Ok.is ∙ ap Ok c.in-Capture.is)) _ c.requires.opens
 
 pub capture-requires-clause-program : goal.capture-requires-clause-program
 capture-requires-clause-program g c =
-    capture_program_allowed text c.args.words.now _ _ (sym c.read_words.ensures ∙ c.in-Ok.is ∙ ap Ok c.in-Capture.is) c.requires.creates
+    capture_program_allowed text c.args.words.now _ (asked (map text c.args.words.now) command.Capture (sym c.read_words.ensures ∙ c.in-Ok.is ∙ ap Ok c.in-Capture.is)) _ c.requires.creates
 
 pub capture-requires-clause-image : goal.capture-requires-clause-image
 capture-requires-clause-image g c =
-    capture_image_allowed text c.args.words.now _ _ (sym c.read_words.ensures ∙ c.in-Ok.is ∙ ap Ok c.in-Capture.is) c.requires.creates
+    capture_image_allowed text c.args.words.now _ (asked (map text c.args.words.now) command.Capture (sym c.read_words.ensures ∙ c.in-Ok.is ∙ ap Ok c.in-Capture.is)) _ c.requires.creates
+
+pub ring-requires-clause-ring_file : goal.ring-requires-clause-ring_file
+ring-requires-clause-ring_file g c =
+    capture_source_allowed text c.args.words.now _ (asked (map text c.args.words.now) command.Ring (sym c.read_words.ensures ∙ c.in-Ok.is ∙ ap Ok c.in-Ring.is)) _ c.requires.opens
+
+pub ring-requires-clause-stream : goal.ring-requires-clause-stream
+ring-requires-clause-stream g c =
+    capture_stream_allowed text c.args.words.now _ (asked (map text c.args.words.now) command.Ring (sym c.read_words.ensures ∙ c.in-Ok.is ∙ ap Ok c.in-Ring.is)) _ c.requires.opens
+
+pub ring-requires-clause-program : goal.ring-requires-clause-program
+ring-requires-clause-program g c =
+    capture_program_allowed text c.args.words.now _ (asked (map text c.args.words.now) command.Ring (sym c.read_words.ensures ∙ c.in-Ok.is ∙ ap Ok c.in-Ring.is)) _ c.requires.creates
+
+pub ring-requires-clause-image : goal.ring-requires-clause-image
+ring-requires-clause-image g c =
+    capture_image_allowed text c.args.words.now _ (asked (map text c.args.words.now) command.Ring (sym c.read_words.ensures ∙ c.in-Ok.is ∙ ap Ok c.in-Ring.is)) _ c.requires.creates
 
 pub make-requires-clause-desc : goal.make-requires-clause-desc
 make-requires-clause-desc g c =
@@ -112,3 +129,9 @@ returns-in-Make g c =
     let see = g.D.Desk.seen in
     subst (λ task. Answers task c.make.result (see c.args.desk.now) (see c.make.new.desk))
     (sym (make_task text c.args.words.now _ c.in-Make.seed c.in-Make.frames (sym c.read_words.ensures ∙ c.in-Ok.is ∙ ap Ok c.in-Make.is))) c.make.ensures
+
+pub returns-in-Ring : goal.returns-in-Ring
+returns-in-Ring g c =
+    let see = g.D.Desk.seen in
+    subst (λ task. Answers task c.ring.result (see c.args.desk.now) (see c.ring.new.desk))
+    (sym (ring_task text c.args.words.now _ (sym c.read_words.ensures ∙ c.in-Ok.is ∙ ap Ok c.in-Ring.is))) c.ring.ensures

@@ -3,7 +3,10 @@ use Rattle.std.proofs.Common.{Bor, List, ℕ, map}
 use Rattle.bt878_contract.specs.Tasks.{task_of}
 use Rattle.bt878_contract.specs.Pictures.{ShowsPictures, ShowsNoFault, SignalsInTime}
 use Rattle.bt878_contract.proofs.Pictures.{pictures_shown, no_fault_shown, signals_come}
-use Rattle.bt878_contract.proofs.Consequences.{bad_input_comes, bad_input_must, completes, done_assemble, done_capture, done_captured, done_compile, done_counts, done_inside, done_list, done_make, done_run, done_sound, done_verify, ends_at_fault, in_order, names_kept, others_untouched, read_fault_comes, refused_only_says, usage_comes, write_fault_comes, write_fault_stands}
+use Rattle.bt878_contract.specs.Rings.{RingsShowNoFault, ShowsRings}
+use Rattle.bt878_contract.proofs.Rings.{no_fault_in_rings, rings_shown}
+use Rattle.machine_model.specs.States.{first_state}
+use Rattle.bt878_contract.proofs.Consequences.{bad_input_comes, bad_input_must, completes, done_assemble, done_capture, done_captured, done_compile, done_counts, done_inside, done_list, done_make, done_ring, done_run, done_sound, done_verify, ends_at_fault, in_order, names_kept, others_untouched, read_fault_comes, refused_only_says, usage_comes, write_fault_comes, write_fault_stands}
 use Rattle.bt878_top.proofs.call.bt878.Goals as goal
 
 abbrev text : Bor (List ℕ) → List ℕ
@@ -33,6 +36,23 @@ pub returns-clause-in_time : goal.returns-clause-in_time
 returns-clause-in_time g c =
     let see = g.D.Desk.seen in
     done_captured SignalsInTime signals_come (task_of (map text c.args.words.now)) c.answer_words.result (see c.args.desk.now) (see c.answer_words.new.desk) c.answer_words.ensures
+
+pub returns-clause-blocks : goal.returns-clause-blocks
+returns-clause-blocks g c =
+    let see = g.D.Desk.seen in
+    done_captured ShowsRings (λ program fill steps made. rings_shown (first_state program fill) steps) (task_of (map text c.args.words.now)) c.answer_words.result (see c.args.desk.now)
+    (see c.answer_words.new.desk) c.answer_words.ensures
+
+pub returns-clause-no_fault_in_rings : goal.returns-clause-no_fault_in_rings
+returns-clause-no_fault_in_rings g c =
+    let see = g.D.Desk.seen in
+    done_captured RingsShowNoFault (λ program fill steps made. no_fault_in_rings (first_state program fill) steps) (task_of (map text c.args.words.now)) c.answer_words.result (see c.args.desk.now)
+    (see c.answer_words.new.desk) c.answer_words.ensures
+
+pub returns-clause-ringed : goal.returns-clause-ringed
+returns-clause-ringed g c =
+    let see = g.D.Desk.seen in
+    done_ring (map text c.args.words.now) c.answer_words.result (see c.args.desk.now) (see c.answer_words.new.desk) c.answer_words.ensures
 
 pub returns-clause-done : goal.returns-clause-done
 returns-clause-done g c =

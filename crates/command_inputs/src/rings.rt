@@ -1,0 +1,53 @@
+//! A ring file, read and judged.
+
+ghost use Rattle.std.specs.Prelude.{◌≡◌, ◌≤◌, length, IfErr, IfOk};
+ghost use Rattle.capture_desk.specs.Desks.{IsAllowed};
+ghost use Rattle.command_steps.specs.Inputs.{Always, OfInput, StopsAt};
+ghost use Rattle.command_steps.specs.Reading.{OnlyReads};
+ghost use Rattle.command_inputs.specs.Rings.{IsBadRing, IsRefused, IsRingFile, longest_ring};
+
+use capture_desk::Desk;
+use capture_file::{FileFault, FileKind, Input};
+use command_steps::read_whole;
+use command_texts::Refusal;
+use ring_compile::{Ring, RingError, read_ring};
+use std::alloc::Global;
+
+/// The most bytes of a ring file.
+const LONGEST_RING: usize = 1_048_576;
+
+/// Reads and judges the bytes of a ring file.
+fn read_bytes(alloc: Global, bytes: &[u8]) -> Result<Ring, Refusal>
+    requires { length bytes.now ≤ longest_ring }
+    ensures ring { IfOk result (IsRingFile bytes.now) }
+    ensures refuses { IfErr result (IsRefused bytes.now) }
+{
+    match read_ring(alloc, bytes) {
+        Ok(ring) => Ok(ring),
+        Err(RingError::Bad(fault)) => Err(Refusal::BadRing(fault)),
+        Err(RingError::Memory) => Err(Refusal::NoMemory),
+    }
+}
+
+/// Reads a ring file and judges its ring: `Malformed` where it has more than 1,048,576 bytes, `BadRing` with the
+/// first fault of its text, its keys or the ring's place in memory (this project's own rules).
+pub fn ring_file<D: Desk>(alloc: Global, name: &str, desk: &mut D) -> Result<Ring, Refusal>
+    requires { IsAllowed name.now (D.seen desk.old).told.may_open }
+    ensures ring { IfOk result (λ ring. OfInput name.now (D.seen desk.old).told.inputs (λ bytes. IsRingFile bytes ring)) }
+    ensures stops { IfErr result (λ refusal. StopsAt IsBadRing name.now refusal (D.seen desk.old) (D.seen desk.new)) }
+    ensures reads { OnlyReads name.now longest_ring Always (D.seen desk.old) (D.seen desk.new) }
+    ensures quiet { IfOk result (λ _. (D.seen desk.new).reads ≡ (D.seen desk.old).reads) }
+{
+    let bytes = read_whole(alloc, name, LONGEST_RING, desk)?;
+    if bytes.len() > LONGEST_RING {
+        let fault = FileFault {
+            at: LONGEST_RING as u64,
+            kind: FileKind::TooLong,
+        };
+        return Err(Refusal::Malformed(Input::Ring, fault));
+    }
+    match read_bytes(alloc, &bytes) {
+        Ok(ring) => Ok(ring),
+        Err(refusal) => Err(refusal),
+    }
+}
