@@ -4,3 +4,4 @@ pub mod Standing
 pub mod Meets
 pub mod Shown
 pub mod Worked
+pub mod Promises

@@ -1,3 +1,4 @@
 pub mod Fragments
 pub mod Pictures
+pub mod Runs
 pub mod Worked

@@ -8,6 +8,7 @@ ghost use Rattle.picture_law.specs.Worked.{picture};
 ghost use Rattle.chain_model.specs.Chains.{IsChain, IsSoundChain};
 ghost use Rattle.chain_law.specs.Fragments.{FragmentIsSound, FragmentsAreSound};
 ghost use Rattle.chain_law.specs.Pictures.{IsSignalled, LiveShowsNoFault, LiveShowsPicture, LiveTellsField};
+ghost use Rattle.chain_law.specs.Runs.{LiveRunsKeepPromises};
 ghost use Rattle.chain_law.specs.Worked.{other, steps, two_slots};
 
 /// A part that is the fragment of a description whose memory the chain may write is sound alone, whatever the other parts
@@ -25,6 +26,12 @@ pub fn live_pictures_are_shown()
     ensures shown { LiveShowsPicture }
     ensures quiet { LiveShowsNoFault }
     ensures signalled { LiveTellsField }
+{}
+
+/// All this holds at all places of every live run of a sound chain from its first state: it stays inside, the picture of
+/// each field that arrives at a part that is a fragment is shown, and no turn from its arrival to its signal sets FDSR.
+pub fn live_runs_keep_promises()
+    ensures { LiveRunsKeepPromises }
 {}
 
 /// The premises of these laws can be met: a chain of two slots whose parts are the fragments of two descriptions is sound.

@@ -1,7 +1,8 @@
 //! The parts that capture the fields of a description.
 
-ghost use Rattle.std.specs.Prelude.{◌≡◌, ◌+◌, ◌*◌, ◌%◌, ◌≤◌, ◌<◌, IfOk, length};
+ghost use Rattle.std.specs.Prelude.{◌≡◌, ◌+◌, ◌*◌, ◌%◌, ◌≤◌, ◌<◌, IfOk, OnOk, length};
 ghost use Rattle.chain_model.specs.Chains.{chain_limit};
+ghost use Rattle.picture_model.specs.Described.{IsDescription};
 ghost use Rattle.picture_model.specs.Programs.{sections_words};
 
 use capture_desc::Numbers;
@@ -17,6 +18,7 @@ pub fn fragment(alloc: Global, frame: &Frame, at: u32, back: u32) -> Result<Numb
     requires low { at ≤ chain_limit }
     ensures words { IfOk result (λ words. words ≡ sections_words frame.now at back) }
     ensures few { IfOk result (λ words. length words < 500000) }
+    ensures description { OnOk result (IsDescription frame.now) }
 {
     // the call tells what each frame keeps
     let _desc = frame.desc();

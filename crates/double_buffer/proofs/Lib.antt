@@ -1,0 +1,7 @@
+mod Granting
+mod Reasons
+mod Together
+mod Standing
+mod Pairs
+mod Behind
+mod Plays
