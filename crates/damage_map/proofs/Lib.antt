@@ -1,1 +1,4 @@
 mod Turned
+mod Histories
+mod LineTold
+mod Bursts
