@@ -2,3 +2,6 @@ mod Turned
 mod Histories
 mod LineTold
 mod Bursts
+mod Sections
+mod Visits
+mod SectionTurns
