@@ -5,3 +5,5 @@ mod Bursts
 mod Sections
 mod Visits
 mod SectionTurns
+mod SectionSteps
+mod Compiled

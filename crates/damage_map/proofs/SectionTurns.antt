@@ -737,10 +737,10 @@ module _ (program : RiscProgram) (closing : Ctl) (target : ℕ) (all : List (Lis
         subst (λ (at : ℕ). Result (ran (is_done ds) l.instr ds (counted m)) (seen_running (is_done ds) at ds m) (λ p. ran_takings (is_done ds) ds p at (gone p) (counted m))) (sym stands_before)
         (ran_by (is_done ds) refl)
 
-  runs_on : (instr : Instr) (ds : Demands) → m.job ≡ Running instr ds → Visit program closing target all m t past gone →
-      Result (worked (Running instr ds) (counted m)) (seen_in (Running instr ds) m) (λ p. worked_takings (Running instr ds) p (gone p) (counted m))
-  runs_on instr ds j (inl g) = absurd (subst (λ (job : Job). GapJob g.here m.pc job) j g.job)
-  runs_on instr ds j (inr l) =
+  runs_on : (runs : Instr) (ds : Demands) → m.job ≡ Running runs ds → Visit program closing target all m t past gone →
+      Result (worked (Running runs ds) (counted m)) (seen_in (Running runs ds) m) (λ p. worked_takings (Running runs ds) p (gone p) (counted m))
+  runs_on runs ds j (inl g) = absurd (subst (λ (job : Job). GapJob g.here m.pc job) j g.job)
+  runs_on runs ds j (inr l) =
       let job = subst (λ (job : Job). LineJob l.here l.begins l.moved l.instr m.pc m.skipping t.lost t.marks job) j l.job in
       subst (λ (i : Instr). Result (worked (Running i ds) (counted m)) (seen_in (Running i ds) m) (λ p. worked_takings (Running i ds) p (gone p) (counted m))) (sym job.0)
       (runs_here l ds (j ∙ ap (λ (i : Instr). Running i ds) job.0))
