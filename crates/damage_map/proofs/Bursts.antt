@@ -235,7 +235,13 @@ module _ (q : Queue) (moved : Bool) (instr : Instr) (at : ℕ) where
     broken =
         record {
           served = record {
-            behind = place; forward = omega arith; counts = refl; tells = still_tells; others = λ p apart. refl; pc = refl; ats = tt;
+            behind = place;
+            forward = omega arith;
+            counts = refl;
+            tells = still_tells;
+            others = λ p apart. refl;
+            pc = refl;
+            ats = tt;
             job = (refl, λ same. cc);
           };
           either = λ same. refl;
@@ -248,7 +254,13 @@ module _ (q : Queue) (moved : Bool) (instr : Instr) (at : ℕ) where
     missing =
         record {
           served = record {
-            behind = place; forward = omega arith; counts = refl; tells = still_tells; others = λ p apart. refl; pc = refl; ats = tt;
+            behind = place;
+            forward = omega arith;
+            counts = refl;
+            tells = still_tells;
+            others = λ p apart. refl;
+            pc = refl;
+            ats = tt;
             job = (refl, λ same. eol_by (instr_ends instr).eol same);
           };
           either = λ same. refl;
@@ -427,12 +439,12 @@ module _ (q : Queue) (moved : Bool) (instr : Instr) (at : ℕ) where
 
   pub stopped : (count : ℕ) (m : State) → apply q m ≡ None → application q m ≡ [] →
       (burst count q m ≡ m) × (applications count q m ≡ []) × ((place : ℕ) → burst_takings count q at place m ≡ [])
-  stopped zero m none made = (refl, refl, λ place. refl)
-  stopped (suc count) m none made = (
+  stopped zero m none unmade = (refl, refl, λ place. refl)
+  stopped (suc count) m none unmade = (
     ap (λ (next : Option State). elim next as (λ _. State) [ None ↦ m | Some after ↦ burst count q after ]) none,
-    ap₂ (λ (a : List Application) (next : Option State). a ++ (elim next as (λ _. List Application) [ None ↦ [] | Some after ↦ applications count q after ])) made none,
+    ap₂ (λ (a : List Application) (next : Option State). a ++ (elim next as (λ _. List Application) [ None ↦ [] | Some after ↦ applications count q after ])) unmade none,
     λ place. ap₂ (λ (a : List Application) (next : Option State).
-    takings_of at place a ++ (elim next as (λ _. List Taking) [ None ↦ [] | Some after ↦ burst_takings count q at (place + left q m after) after ])) made none,
+        takings_of at place a ++ (elim next as (λ _. List Taking) [ None ↦ [] | Some after ↦ burst_takings count q at (place + left q m after) after ])) unmade none,
   )
 
   idle_stops : (m : State) → m.job ≡ Idle → (apply q m ≡ None) × (application q m ≡ [])
@@ -520,15 +532,15 @@ module _ (q : Queue) (moved : Bool) (instr : Instr) (at : ℕ) where
         (takings_of at place made ++ (elim next as (λ _. List Taking) [ None ↦ [] | Some after ↦ burst_takings count q at (place + left q m after) after ])) mark
         (flags_of (made ++ (elim next as (λ _. List Application) [ None ↦ [] | Some after ↦ applications count q after ])))
 
-    behind_one : (after : State) (made : Application) (new : List Taking) (f : Flags) (gave : Bool) → f.gave ≡ gave → OneApplied m after ds place ts new mark f →
+    behind_one : (after : State) (application_made : Application) (new : List Taking) (f : Flags) (gave : Bool) → f.gave ≡ gave → OneApplied m after ds place ts new mark f →
         Served m (burst count q after) ds place ts (new ++ burst_takings count q at (place + left q m after) after) mark (then_flags f (flags_of (applications count q after)))
-    behind_one after made new f true is o =
+    behind_one after _ new f true is o =
         let idle : RunsOn ds (mark_by f mark) true after = subst (λ (b : Bool). RunsOn ds (mark_by f mark) b after) is o.served.job in
         let none = idle_stops after idle.0 in
         let stop = stopped count after none.0 none.1 in
         last_one m after (burst count q after) ds place ts new (burst_takings count q at (place + left q m after) after) mark f (applications count q after) o.served stop.0 stop.1
         (stop.2 (place + left q m after))
-    behind_one after made new f false is o =
+    behind_one after _ new f false is o =
         let runs : RunsOn ds (mark_by f mark) false after = subst (λ (b : Bool). RunsOn ds (mark_by f mark) b after) is o.served.job in
         joined m after (burst count q after) ds place ts new (burst_takings count q at (place + left q m after) after) mark f (flags_of (applications count q after)) o runs.0 runs.3
         (later after runs.0 (place + left q m after) (ts ++ new) (mark_by f mark) runs.1

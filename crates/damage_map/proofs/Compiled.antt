@@ -137,8 +137,8 @@ module _ (sol eol : Bool) (clipped : Bool) (one two three a b c : ℕ) where
         unmoved = λ q target is. rest_piece planar kind q target ∙ unmoved_by (moves planar q) q is;
         first =
             λ q target is.
-                let parts = first_by (moves planar q) q (some q) (sym (sol_piece planar kind q target) ∙ is) in
-                (first_is ∙ parts.0, subst (λ (n : ℕ). 0 < n) (sym (rest_piece planar kind q target)) parts.1);
+            let parts = first_by (moves planar q) q (some q) (sym (sol_piece planar kind q target) ∙ is) in
+            (first_is ∙ parts.0, subst (λ (n : ℕ). 0 < n) (sym (rest_piece planar kind q target)) parts.1);
         awaits = λ q target does none. first_is ∙ awaits_by (moves planar q) q (some q) does (sym (sol_piece planar kind q target) ∙ none);
       }
 
@@ -180,7 +180,7 @@ module _ (memory : List Chunk) (strip : Strip) (laid : IsLaid memory strip) wher
       let some = follow.1 in
       let p = piece_of memory strip k in (
         goes_piece (k.at == 0) (k.at + k.n == strip.grains) k.clipped (k.n * strip.one.size) (k.n * strip.two.size) (k.n * strip.three.size) _ _ _ strip.planar (kind_of k.clipped strip.kind)
-        begins (is_none (instrs rest)) (first ∙ ap (λ (n : ℕ). n == 0) (sym here)) (last_cut at k rest here follow.2) (counts_some k some),
+            begins (is_none (instrs rest)) (first ∙ ap (λ (n : ℕ). n == 0) (sym here)) (last_cut at k rest here follow.2) (counts_some k some),
         cuts_go false (at + k.n) rest (sym (ne_eqb (at + k.n) 0 (λ same. absurd (omega arith)))) follow.2,
       )
 
@@ -229,7 +229,7 @@ module _ (d : Desc) (right : IsRight d) where
         some = grains_some;
         sizes =
             λ q does.
-                subst (λ (n : ℕ). 0 < n) (ap (λ t. t.size) (row_track_on d row q)) (grain_some d right (plane_of q) row (queue_plane d q (has_moved q does)) below);
+            subst (λ (n : ℕ). 0 < n) (ap (λ t. t.size) (row_track_on d row q)) (grain_some d right (plane_of q) row (queue_plane d q (has_moved q does)) below);
       }
 
   skipped_size : (q : Queue) → (track_on q (skipped_strip d)).size ≡ grain_bytes (layout_of d) (plane_of q)
@@ -358,7 +358,7 @@ module _ (d : Desc) where
       let there : begin + 4 * words_in (instrs_of (parts_before field)) ≡ section_begin d d.base field + 4 * words_in (before_rows d field) = omega arith in
       lines_append (parts_before field) (row_parts field) begin
       ∙ ap (λ (ls : List (List ℕ)). lines_at begin (parts_before field) ++ ls)
-        (row_lines (rows_of d field) (begin + 4 * words_in (instrs_of (parts_before field))) ∙ ap (λ (n : ℕ). lines_from n (map (λ row. line_instrs d (row_strip d row)) (rows_of d field))) there)
+      (row_lines (rows_of d field) (begin + 4 * words_in (instrs_of (parts_before field))) ∙ ap (λ (n : ℕ). lines_from n (map (λ row. line_instrs d (row_strip d row)) (rows_of d field))) there)
 
   pub rows_dropped : (field : Parity) → drop (d.vbi_lines + d.skip_lines) (section_lines field) ≡ row_addresses d field
   rows_dropped field =

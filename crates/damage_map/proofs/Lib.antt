@@ -7,3 +7,4 @@ mod Visits
 mod SectionTurns
 mod SectionSteps
 mod Compiled
+mod AnswersKept

@@ -87,9 +87,9 @@ pub kept-tells : (place : ℕ) (held after : QueueState) (ts : List Taking) (mar
 kept-tells place held after ts Fresh count top tells = tells
 kept-tells place held after ts Within count top tells =
     λ more.
-        tells more
-        ∙ ap (λ (shape : Bool). go_on place held.taken more && shape) (same_shape held.taken (front held) (front after) more top)
-        ∙ ap (λ (taken : ℕ). go_on place taken more && shape_from taken (front after) more) (sym count)
+    tells more
+    ∙ ap (λ (shape : Bool). go_on place held.taken more && shape) (same_shape held.taken (front held) (front after) more top)
+    ∙ ap (λ (taken : ℕ). go_on place taken more && shape_from taken (front after) more) (sym count)
 kept-tells place held after ts Done count top tells = tells
 kept-tells place held after ts Spoilt count top tells = tells
 

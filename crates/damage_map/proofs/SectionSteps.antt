@@ -177,9 +177,9 @@ emptied_holds One m marks = refl
 emptied_holds Two m marks = refl
 emptied_holds Three m marks = refl
 
-module _ (program : RiscProgram) (closing : Ctl) (target : ℕ) (all : List (List ℕ)) (few : length all ≤ max_lines) (m : State) (t : FieldTrack) (past : Past) (gone : Queue → ℕ) where
-  pub unmoved_on : (after : State) → Unmoved m after → Visit program closing target all m t past gone → Visit program closing target all after t past (next_gone program closing target all few m t past gone after)
-  unmoved_on after u visit = quiet program closing target all few m t past gone after u.job u.pc u.skipping u.queues visit
+module _ (program : RiscProgram) (closing : Ctl) (target end : ℕ) (all : List (List ℕ)) (few : length all ≤ max_lines) (m : State) (t : FieldTrack) (past : Past) (gone : Queue → ℕ) where
+  pub unmoved_on : (after : State) → Unmoved m after → Visit program closing target end all m t past gone → Visit program closing target end all after t past (next_gone program closing target end all few m t past gone after)
+  unmoved_on after u visit = quiet program closing target end all few m t past gone after u.job u.pc u.skipping u.queues visit
 
   abbrev marks_emptied : LineMarks
   marks_emptied = emptied_marks (holds One m) (holds Two m) (holds Three m) t.marks
@@ -209,7 +209,7 @@ module _ (program : RiscProgram) (closing : Ctl) (target : ℕ) (all : List (Lis
 
   module _ (orderly : IsFifo m.queues) (after : State) (queues : after.queues ≡ cleared m.queues) where
     gone_after : Queue → ℕ
-    gone_after = next_gone program closing target all few m t past gone after
+    gone_after = next_gone program closing target end all few m t past gone after
 
     left_all : (q : Queue) → gone q + (length (queue_state q m.queues).entries - 0) ≡ gone q + left q m after
     left_all q =
@@ -217,7 +217,7 @@ module _ (program : RiscProgram) (closing : Ctl) (target : ℕ) (all : List (Lis
         omega arith
 
     told_still : (lost : Bool) (done line : List ℕ) → IsTold lost past gone m.queues t.marks done line →
-        IsTold lost past (next_gone program closing target all few m t past gone after) after.queues marks_emptied done line
+        IsTold lost past (next_gone program closing target end all few m t past gone after) after.queues marks_emptied done line
     told_still true done line told = told
     told_still false done line told = (
       told.0,
@@ -230,8 +230,8 @@ module _ (program : RiscProgram) (closing : Ctl) (target : ℕ) (all : List (Lis
           (tells_emptied (gone q) held (mark_on q t.marks) (takes_in line (past.takes q)) (front held) refl (IsQueue-queue_state q m.queues orderly) (told.1 q)))),
     )
 
-    pub emptied_visit : after.job ≡ m.job → after.pc ≡ m.pc → after.skipping ≡ m.skipping → Visit program closing target all m t past gone →
-        Visit program closing target all after emptied_track past (next_gone program closing target all few m t past gone after)
+    pub emptied_visit : after.job ≡ m.job → after.pc ≡ m.pc → after.skipping ≡ m.skipping → Visit program closing target end all m t past gone →
+        Visit program closing target end all after emptied_track past (next_gone program closing target end all few m t past gone after)
     emptied_visit j p s (inl g) =
         inl (record {
           here = g.here;
@@ -239,6 +239,7 @@ module _ (program : RiscProgram) (closing : Ctl) (target : ℕ) (all : List (Lis
           parts = g.parts;
           whole = g.whole;
           stands = g.stands;
+          ends = g.ends;
           are = g.are;
           through = g.through;
           fresh = ap (emptied_marks (holds One m) (holds Two m) (holds Three m)) g.fresh ∙ all_fresh (holds One m) (holds Two m) (holds Three m);
@@ -257,6 +258,7 @@ module _ (program : RiscProgram) (closing : Ctl) (target : ℕ) (all : List (Lis
           rest = l.rest;
           whole = l.whole;
           stands = l.stands;
+          ends = l.ends;
           goes = l.goes;
           are = l.are;
           through = l.through;

@@ -205,7 +205,14 @@ rest_none ds done q =
     by_queue Two one two three = two
     by_queue Three one two three = three
 
-module _ (program : RiscProgram) (closing : Ctl) (target : ℕ) (all : List (List ℕ)) (few : length all ≤ max_lines) (m : State) (t : FieldTrack) (past : Past) (gone : Queue → ℕ) where
+-- what an idle machine fetches that isn't about to close the section
+pub record Plainly (r : Reading) : Type 0 where
+  pub instr : Instr
+  pub many : ℕ
+  pub read : r ≡ Ok (instr, many)
+  pub plain : (is_data instr ≡ true) ⊎ ((code : Code) × (instr ≡ sync false code))
+
+module _ (program : RiscProgram) (closing : Ctl) (target end : ℕ) (all : List (List ℕ)) (few : length all ≤ max_lines) (m : State) (t : FieldTrack) (past : Past) (gone : Queue → ℕ) where
   abbrev pub next_past : Seen → (Queue → List Taking) → Past
   next_past s new = record { takes = λ q. past.takes q ++ new q; retired = past.retired ++ retired_at s.did s.at }
 
@@ -218,11 +225,15 @@ module _ (program : RiscProgram) (closing : Ctl) (target : ℕ) (all : List (Lis
     pub there : after.pc ≡ target
     pub lines : t.lines ≡ map (whole_over past) all
     pub was_idle : m.job ≡ Idle
+    pub was_there : m.pc ≡ end
     pub fetched_there : fetch program m.pc ≡ Ok (Jump closing target, 2)
     pub signals_field : told ≡ signalled (field_of closing.set) t
 
   abbrev pub Result : State → Seen → (Queue → List Taking) → Type 0
-  Result after s new = Visit program closing target all after (turned program s.did s t) (next_past s new) (next_gone after)
+  Result after s new = Visit program closing target end all after (turned program s.did s t) (next_past s new) (next_gone after)
+
+  later_ends : (l : InLine program closing target end all m t past gone) → l.here + 4 * length (encoded l.instr) + 4 * words_in (l.rest ++ instrs_of l.parts) ≡ end
+  later_ends l = let ends = l.ends in omega arith
 
   -- ---- nothing is done
 
@@ -245,7 +256,7 @@ module _ (program : RiscProgram) (closing : Ctl) (target : ℕ) (all : List (Lis
   )
 
   pub quiet : (after : State) → after.job ≡ m.job → after.pc ≡ m.pc → after.skipping ≡ m.skipping → ((q : Queue) → QueueKept (queue_state q m.queues) (queue_state q after.queues)) →
-      Visit program closing target all m t past gone → Visit program closing target all after t past (next_gone after)
+      Visit program closing target end all m t past gone → Visit program closing target end all after t past (next_gone after)
   quiet after j p s kept (inl g) =
       inl (record {
         here = g.here;
@@ -253,6 +264,7 @@ module _ (program : RiscProgram) (closing : Ctl) (target : ℕ) (all : List (Lis
         parts = g.parts;
         whole = g.whole;
         stands = g.stands;
+        ends = g.ends;
         are = g.are;
         through = g.through;
         fresh = g.fresh;
@@ -271,6 +283,7 @@ module _ (program : RiscProgram) (closing : Ctl) (target : ℕ) (all : List (Lis
         rest = l.rest;
         whole = l.whole;
         stands = l.stands;
+        ends = l.ends;
         goes = l.goes;
         are = l.are;
         through = l.through;
@@ -283,18 +296,18 @@ module _ (program : RiscProgram) (closing : Ctl) (target : ℕ) (all : List (Lis
       })
 
   -- with a quiet turn
-  as_quiet : (after : State) (s : Seen) → IsQuiet s.did → Visit program closing target all after t past (next_gone after) → Result after s (λ q. [])
+  as_quiet : (after : State) (s : Seen) → IsQuiet s.did → Visit program closing target end all after t past (next_gone after) → Result after s (λ q. [])
   as_quiet after s is visit =
       let same = is program s t s.at in
-      subst (λ (told : FieldTrack). Visit program closing target all after told (next_past s (λ q. [])) (next_gone after)) (sym same.0)
-      (subst (λ (p : Past). Visit program closing target all after t p (next_gone after)) (sym (same_past s same.1)) visit)
+      subst (λ (told : FieldTrack). Visit program closing target end all after told (next_past s (λ q. [])) (next_gone after)) (sym same.0)
+      (subst (λ (p : Past). Visit program closing target end all after t p (next_gone after)) (sym (same_past s same.1)) visit)
 
-  pub still : (at : ℕ) → Visit program closing target all m t past gone → Result (counted m) (seen_alone Still at) (λ q. [])
+  pub still : (at : ℕ) → Visit program closing target end all m t past gone → Result (counted m) (seen_alone Still at) (λ q. [])
   still at visit = as_quiet (counted m) (seen_alone Still at) (λ program s t at. (refl, refl)) (quiet (counted m) refl refl refl (λ q. queue_same (queue_state q m.queues)) visit)
 
   -- ---- waiting
 
-  gap_moved : (after : State) (g : InGap program closing target all m t past) → GapJob g.here after.pc after.job → InGap program closing target all after t past
+  gap_moved : (after : State) (g : InGap program closing target end all m t past) → GapJob g.here after.pc after.job → InGap program closing target end all after t past
   gap_moved after g job =
       record {
         here = g.here;
@@ -302,6 +315,7 @@ module _ (program : RiscProgram) (closing : Ctl) (target : ℕ) (all : List (Lis
         parts = g.parts;
         whole = g.whole;
         stands = g.stands;
+        ends = g.ends;
         are = g.are;
         through = g.through;
         fresh = g.fresh;
@@ -309,7 +323,7 @@ module _ (program : RiscProgram) (closing : Ctl) (target : ℕ) (all : List (Lis
         job = job;
       }
 
-  pub waited_on : (ctl : Ctl) (resync : Bool) (code : Code) (at : ℕ) → m.job ≡ Waiting ctl resync code → Visit program closing target all m t past gone →
+  pub waited_on : (ctl : Ctl) (resync : Bool) (code : Code) (at : ℕ) → m.job ≡ Waiting ctl resync code → Visit program closing target end all m t past gone →
       Result (waited ctl resync code (counted m)) (seen_alone (waited_did (lowest_stray m.queues) (common_code m.queues) code) at) (λ q. [])
   waited_on ctl resync code at j (inl g) =
       let after = waited ctl resync code (counted m) in
@@ -324,23 +338,26 @@ module _ (program : RiscProgram) (closing : Ctl) (target : ℕ) (all : List (Lis
   abbrev Fetched : Reading → Type 0
   Fetched r = Result (fetched r (counted m)) (seen_alone (fetched_did r m.skipping) m.pc) (λ q. [])
 
-  syncs : (g : InGap program closing target all m t past) (code : Code) (rest : List Part) → m.job ≡ Idle → g.parts ≡ Await code ∷ rest → Fetched (fetch program m.pc)
+  syncs : (g : InGap program closing target end all m t past) (code : Code) (rest : List Part) → m.job ≡ Idle → g.parts ≡ Await code ∷ rest → Fetched (fetch program m.pc)
   syncs g code rest j is =
       let there : m.pc ≡ g.here = subst (λ (job : Job). GapJob g.here m.pc job) j g.job in
       let stands = subst (λ (ps : List Part). HoldsFrom program g.here (instrs_of ps) closing target) is g.stands in
       let here : fetch program m.pc ≡ Ok (sync false code, length (encoded (sync false code))) = ap (fetch program) there ∙ stands.0 in
       let whole = subst (λ (ps : List Part). all ≡ g.lines ++ lines_at g.here ps) is g.whole in
       let are = subst AreParts is g.are in
+      let ends : g.here + 4 * words_in (instrs_of (Await code ∷ rest)) ≡ end = subst (λ (ps : List Part). g.here + 4 * words_in (instrs_of ps) ≡ end) is g.ends in
+      let later : g.here + 8 + 4 * words_in (instrs_of rest) ≡ end = omega arith in
       let through = g.through in
       let s = seen_alone Synced m.pc in
       let after = fetched (Ok (sync false code, length (encoded (sync false code)))) (counted m) in
-      let next : InGap program closing target all after t past =
+      let next : InGap program closing target end all after t past =
       record {
         here = g.here + 8;
         lines = g.lines;
         parts = rest;
         whole = whole;
         stands = stands.3;
+        ends = later;
         are = are;
         through = record {
           told = through.told;
@@ -355,8 +372,8 @@ module _ (program : RiscProgram) (closing : Ctl) (target : ℕ) (all : List (Lis
       in
       let opened_not : turned program Synced s t ≡ t = ap (λ (r : Reading). turned_synced r) here in
       subst Fetched (sym here)
-      (subst (λ (told : FieldTrack). Visit program closing target all after told (next_past s (λ q. [])) (next_gone after)) (sym opened_not)
-      (subst (λ (p : Past). Visit program closing target all after t p (next_gone after)) (sym (same_past s refl)) (inl next)))
+      (subst (λ (told : FieldTrack). Visit program closing target end all after told (next_past s (λ q. [])) (next_gone after)) (sym opened_not)
+      (subst (λ (p : Past). Visit program closing target end all after t p (next_gone after)) (sym (same_past s refl)) (inl next)))
     where
       turned_synced : Reading → FieldTrack
       turned_synced r = opened (opens r) t
@@ -364,12 +381,13 @@ module _ (program : RiscProgram) (closing : Ctl) (target : ℕ) (all : List (Lis
   abbrev ClosedBy : Reading → Type 0
   ClosedBy r = Closed (fetched r (counted m)) (turned program (fetched_did r m.skipping) (seen_alone (fetched_did r m.skipping) m.pc) t)
 
-  closes : (g : InGap program closing target all m t past) → m.program ≡ program → m.job ≡ Idle → g.parts ≡ [] → ClosedBy (fetch program m.pc)
+  closes : (g : InGap program closing target end all m t past) → m.program ≡ program → m.job ≡ Idle → g.parts ≡ [] → ClosedBy (fetch program m.pc)
   closes g same j is =
       let there : m.pc ≡ g.here = subst (λ (job : Job). GapJob g.here m.pc job) j g.job in
       let stands = subst (λ (ps : List Part). HoldsFrom program g.here (instrs_of ps) closing target) is g.stands in
       let here : fetch program m.pc ≡ Ok (Jump closing target, 2) = ap (fetch program) there ∙ stands.0 in
       let word : is_word m.program target ≡ true = ap (λ (p : RiscProgram). is_word p target) same ∙ stands.1 in
+      let ends : g.here + 4 * words_in (instrs_of []) ≡ end = subst (λ (ps : List Part). g.here + 4 * words_in (instrs_of ps) ≡ end) is g.ends in
       let whole : all ≡ g.lines ++ [] = subst (λ (ps : List Part). all ≡ g.lines ++ lines_at g.here ps) is g.whole in
       subst ClosedBy (sym here)
       (subst (λ (inside : Bool). Closed (jumped inside closing target (counted m)) (turned program Jumped (seen_alone Jumped m.pc) t)) (sym word)
@@ -378,20 +396,21 @@ module _ (program : RiscProgram) (closing : Ctl) (target : ℕ) (all : List (Lis
         there = refl;
         lines = g.through.told ∙ ap (map (whole_over past)) (sym (append-nil g.lines) ∙ sym whole);
         was_idle = j;
+        was_there = omega arith;
         fetched_there = here;
         signals_field = ap (λ (r : Reading). signalled (signals r) t) here;
       }))
 
   -- ---- fetching within a line
 
-  line_told : (lost : Bool) (told_lost : t.lost ≡ lost) (l : InLine program closing target all m t past gone) → IsTold lost past gone m.queues t.marks l.done (l.done ++ addresses_from l.here (l.instr ∷ l.rest))
+  line_told : (lost : Bool) (told_lost : t.lost ≡ lost) (l : InLine program closing target end all m t past gone) → IsTold lost past gone m.queues t.marks l.done (l.done ++ addresses_from l.here (l.instr ∷ l.rest))
   line_told lost is l = subst (λ (b : Bool). IsTold b past gone m.queues t.marks l.done (l.done ++ addresses_from l.here (l.instr ∷ l.rest))) is l.told
 
-  with_same_past : (after : State) (told : FieldTrack) (s : Seen) → retired_at s.did s.at ≡ [] → Visit program closing target all after told past (next_gone after) →
-      Visit program closing target all after told (next_past s (λ q. [])) (next_gone after)
-  with_same_past after told s none visit = subst (λ (p : Past). Visit program closing target all after told p (next_gone after)) (sym (same_past s none)) visit
+  with_same_past : (after : State) (told : FieldTrack) (s : Seen) → retired_at s.did s.at ≡ [] → Visit program closing target end all after told past (next_gone after) →
+      Visit program closing target end all after told (next_past s (λ q. [])) (next_gone after)
+  with_same_past after told s none visit = subst (λ (p : Past). Visit program closing target end all after told p (next_gone after)) (sym (same_past s none)) visit
 
-  module _ (l : InLine program closing target all m t past gone) (j : m.job ≡ Idle) where
+  module _ (l : InLine program closing target end all m t past gone) (j : m.job ≡ Idle) where
     abbrev instr : Instr
     instr = l.instr
 
@@ -439,6 +458,7 @@ module _ (program : RiscProgram) (closing : Ctl) (target : ℕ) (all : List (Lis
           rest = l.rest;
           whole = l.whole;
           stands = l.stands;
+          ends = l.ends;
           goes = l.goes;
           are = l.are;
           through = l.through;
@@ -461,7 +481,7 @@ module _ (program : RiscProgram) (closing : Ctl) (target : ℕ) (all : List (Lis
         let line = l.done ++ addresses_from l.here (l.instr ∷ l.rest) in
         let through_is : through (is_none l.rest) (with_loss t) ≡ turned program Passed s t =
         ap (λ (b : Bool). through b (with_loss t)) (sym (l.goes.0.ends)) ∙ ap (λ (r : Reading). through (ends_line r) (with_loss t)) (sym read_here) in
-        let behind : Behind program closing target all after (with_loss t) past (next_gone after) l.here l.lines l.done l.moved l.instr line =
+        let behind : Behind program closing target end all after (with_loss t) past (next_gone after) l.here l.lines l.done l.moved l.instr line =
         record {
           idle = j;
           there = ap (λ (pc : ℕ). pc + 4 * many) idle_job.0;
@@ -473,9 +493,9 @@ module _ (program : RiscProgram) (closing : Ctl) (target : ℕ) (all : List (Lis
           begun = λ lost. cc;
         }
         in
-        subst (λ (told : FieldTrack). Visit program closing target all after told (next_past s (λ q. [])) (next_gone after)) through_is
+        subst (λ (told : FieldTrack). Visit program closing target end all after told (next_past s (λ q. [])) (next_gone after)) through_is
         (with_same_past after (through (is_none l.rest) (with_loss t)) s refl
-        (advance program closing target all few after (with_loss t) past (next_gone after) l.here l.lines l.done l.moved l.instr l.parts l.are l.through.below l.before some l.rest behind l.goes.0.ends l.whole l.stands.3 l.goes.1))
+        (advance program closing target end all few after (with_loss t) past (next_gone after) l.here l.lines l.done l.moved l.instr l.parts l.are l.through.below l.before some l.rest behind l.goes.0.ends l.whole l.stands.3 (later_ends l) l.goes.1))
 
     skips_by : (skipping : Skipping) → m.skipping ≡ skipping → data_cause m.program.grants l.instr (target_before l.instr m.target) ≡ None →
         Result (data_fetched skipping l.instr many (counted m)) (seen_alone (data_did skipping) m.pc) (λ q. [])
@@ -500,34 +520,27 @@ module _ (program : RiscProgram) (closing : Ctl) (target : ℕ) (all : List (Lis
         let fine = ap (λ (p : RiscProgram). demands_cause p.grants (demands_of l.instr None)) same ∙ l.stands.2 in
         subst Fetched (sym read_here) (as_data l.instr many l.goes.0.moves l.stands.1 fine (λ fine_there. skips_by m.skipping refl fine_there))
 
-  -- what an idle machine fetches that isn't about to close the section
-  pub record Plainly (r : Reading) : Type 0 where
-    pub instr : Instr
-    pub many : ℕ
-    pub read : r ≡ Ok (instr, many)
-    pub plain : (is_data instr ≡ true) ⊎ ((code : Code) × (instr ≡ sync false code))
-
   abbrev Split : Reading → Type 0
   Split r = (Fetched r × Plainly r) ⊎ ClosedBy r
 
-  line_split : InLine program closing target all m t past gone → m.program ≡ program → m.job ≡ Idle → Split (fetch program m.pc)
+  line_split : InLine program closing target end all m t past gone → m.program ≡ program → m.job ≡ Idle → Split (fetch program m.pc)
   line_split l same j = inl (goes_in l j same, record { instr = l.instr; many = length (encoded l.instr); read = read_here l j; plain = inl l.goes.0.moves })
 
-  by_parts : (g : InGap program closing target all m t past) (parts : List Part) → m.program ≡ program → m.job ≡ Idle → g.parts ≡ parts → Split (fetch program m.pc)
+  by_parts : (g : InGap program closing target end all m t past) (parts : List Part) → m.program ≡ program → m.job ≡ Idle → g.parts ≡ parts → Split (fetch program m.pc)
   by_parts g [] same j is = inr (closes g same j is)
   by_parts g (Await code ∷ rest) same j is =
       let there : m.pc ≡ g.here = subst (λ (job : Job). GapJob g.here m.pc job) j g.job in
       let stands = subst (λ (ps : List Part). HoldsFrom program g.here (instrs_of ps) closing target) is g.stands in
       inl (syncs g code rest j is, record { instr = sync false code; many = length (encoded (sync false code)); read = ap (fetch program) there ∙ stands.0; plain = inr (code, refl) })
-  by_parts g (Cut moved line ∷ rest) same j is = line_split (enters program closing target all m t past gone g moved line rest j is) same j
+  by_parts g (Cut moved line ∷ rest) same j is = line_split (enters program closing target end all m t past gone g moved line rest j is) same j
 
-  fetches_on : m.program ≡ program → m.job ≡ Idle → Visit program closing target all m t past gone → Split (fetch program m.pc)
+  fetches_on : m.program ≡ program → m.job ≡ Idle → Visit program closing target end all m t past gone → Split (fetch program m.pc)
   fetches_on same j (inl g) = by_parts g g.parts same j refl
   fetches_on same j (inr l) = line_split l same j
 
   -- ---- an instruction retires
 
-  module _ (l : InLine program closing target all m t past gone) (ds : Demands) (j : m.job ≡ Running l.instr ds) where
+  module _ (l : InLine program closing target end all m t past gone) (ds : Demands) (j : m.job ≡ Running l.instr ds) where
     running_job : (l.instr ≡ l.instr) × (m.pc ≡ l.here + 4 * length (encoded l.instr)) × (t.lost ≡ false) × ((q : Queue) → Needs (l.moved q) (mark_on q t.marks) (demand_on q ds))
     running_job = subst (λ (job : Job). LineJob l.here l.begins l.moved l.instr m.pc m.skipping t.lost t.marks job) j l.job
 
@@ -553,7 +566,7 @@ module _ (program : RiscProgram) (closing : Ctl) (target : ℕ) (all : List (Lis
         let told = line_told false lost l in
         let kept = kept_told false after l.done line (λ q. queue_same (queue_state q m.queues)) told in
         let on : GoesOn l.here past next = record { new = λ q. []; takes = λ q. refl; at = λ q. tt; retires = l.here ∷ []; retired = refl; retires_at = (refl, tt) } in
-        let behind : Behind program closing target all after t next (next_gone after) l.here l.lines l.done l.moved l.instr line =
+        let behind : Behind program closing target end all after t next (next_gone after) l.here l.lines l.done l.moved l.instr line =
         record {
           idle = refl;
           there = running_job.1;
@@ -571,8 +584,8 @@ module _ (program : RiscProgram) (closing : Ctl) (target : ℕ) (all : List (Lis
         in
         let through_is : through (is_none l.rest) t ≡ turned program Retired s t =
         ap (λ (b : Bool). through b t) (sym (l.goes.0.ends)) ∙ ap (λ (r : Reading). through (ends_line r) t) (sym l.stands.0) in
-        subst (λ (told : FieldTrack). Visit program closing target all after told next (next_gone after)) through_is
-        (advance program closing target all few after t next (next_gone after) l.here l.lines l.done l.moved l.instr l.parts l.are l.through.below l.before long l.rest behind l.goes.0.ends l.whole l.stands.3 l.goes.1)
+        subst (λ (told : FieldTrack). Visit program closing target end all after told next (next_gone after)) through_is
+        (advance program closing target end all few after t next (next_gone after) l.here l.lines l.done l.moved l.instr l.parts l.are l.through.below l.before long l.rest behind l.goes.0.ends l.whole l.stands.3 (later_ends l) l.goes.1)
 
     -- ---- a burst to a queue
 
@@ -661,6 +674,7 @@ module _ (program : RiscProgram) (closing : Ctl) (target : ℕ) (all : List (Lis
             rest = l.rest;
             whole = l.whole;
             stands = l.stands;
+            ends = l.ends;
             goes = l.goes;
             are = l.are;
             through = record {
@@ -691,7 +705,7 @@ module _ (program : RiscProgram) (closing : Ctl) (target : ℕ) (all : List (Lis
       by_gave true is =
           let idle : RunsOn q (l.moved q) l.instr l.here ds (mark_by f (mark_on q t.marks)) true after = subst (λ (b : Bool). RunsOn q (l.moved q) l.instr l.here ds (mark_by f (mark_on q t.marks)) b after) is served.job in
           let told = with_loss (record t { marks = with_mark q (mark_by f (mark_on q t.marks)) t.marks }) in
-          let behind : Behind program closing target all after told (next_of true) (next_gone after) l.here l.lines l.done l.moved l.instr line =
+          let behind : Behind program closing target end all after told (next_of true) (next_gone after) l.here l.lines l.done l.moved l.instr line =
           record {
             idle = idle.0;
             there = pc_there;
@@ -705,8 +719,8 @@ module _ (program : RiscProgram) (closing : Ctl) (target : ℕ) (all : List (Lis
           in
           let through_is : through (is_none l.rest) told ≡ turned program (GivenUp q) (seen_there true) t =
           ap (λ (b : Bool). through b told) (sym (l.goes.0.ends)) ∙ ap (λ (r : Reading). through (ends_line r) told) (sym l.stands.0) in
-          subst (λ (x : FieldTrack). Visit program closing target all after x (next_of true) (next_gone after)) through_is
-          (advance program closing target all few after told (next_of true) (next_gone after) l.here l.lines l.done l.moved l.instr l.parts l.are l.through.below l.before long l.rest behind l.goes.0.ends l.whole l.stands.3 l.goes.1)
+          subst (λ (x : FieldTrack). Visit program closing target end all after x (next_of true) (next_gone after)) through_is
+          (advance program closing target end all few after told (next_of true) (next_gone after) l.here l.lines l.done l.moved l.instr l.parts l.are l.through.below l.before long l.rest behind l.goes.0.ends l.whole l.stands.3 (later_ends l) l.goes.1)
 
     burst_on : (q : Queue) → Result (burst m.trigger q (counted m)) (seen_burst q l.here (applications m.trigger q m)) (λ p. served_takings (Some q) p l.here (gone p) (counted m))
     burst_on q =
@@ -737,7 +751,7 @@ module _ (program : RiscProgram) (closing : Ctl) (target : ℕ) (all : List (Lis
         subst (λ (at : ℕ). Result (ran (is_done ds) l.instr ds (counted m)) (seen_running (is_done ds) at ds m) (λ p. ran_takings (is_done ds) ds p at (gone p) (counted m))) (sym stands_before)
         (ran_by (is_done ds) refl)
 
-  runs_on : (runs : Instr) (ds : Demands) → m.job ≡ Running runs ds → Visit program closing target all m t past gone →
+  runs_on : (runs : Instr) (ds : Demands) → m.job ≡ Running runs ds → Visit program closing target end all m t past gone →
       Result (worked (Running runs ds) (counted m)) (seen_in (Running runs ds) m) (λ p. worked_takings (Running runs ds) p (gone p) (counted m))
   runs_on runs ds j (inl g) = absurd (subst (λ (job : Job). GapJob g.here m.pc job) j g.job)
   runs_on runs ds j (inr l) =
@@ -757,7 +771,7 @@ module _ (program : RiscProgram) (closing : Ctl) (target : ℕ) (all : List (Lis
   idle_turned on (inl goes) = inl (goes.0, λ is j. goes.1)
   idle_turned on (inr closed) = inr (closed, on)
 
-  by_job : (job : Job) → m.program ≡ program → m.risc_on ≡ true → m.job ≡ job → Visit program closing target all m t past gone →
+  by_job : (job : Job) → m.program ≡ program → m.risc_on ≡ true → m.job ≡ job → Visit program closing target end all m t past gone →
       Turned (worked job (counted m)) (seen_in job m) (λ p. worked_takings job p (gone p) (counted m))
   by_job Idle same on j visit =
       subst (λ (p : RiscProgram). Turned (fetched (fetch p m.pc) (counted m)) (seen_alone (fetched_did (fetch p m.pc) m.skipping) m.pc) (λ q. [])) (sym same)
@@ -772,10 +786,10 @@ module _ (program : RiscProgram) (closing : Ctl) (target : ℕ) (all : List (Lis
       idle_runs : m.job ≡ Idle → ⊥
       idle_runs idle = cc
 
-  by_risc : (on : Bool) → m.risc_on ≡ on → m.program ≡ program → Visit program closing target all m t past gone →
+  by_risc : (on : Bool) → m.risc_on ≡ on → m.program ≡ program → Visit program closing target end all m t past gone →
       Turned (turn_if on (counted m)) (seen_if on m) (λ p. takings_if on p (gone p) (counted m))
   by_risc false is same visit = inl (still m.pc visit, λ on idle. cc)
   by_risc true is same visit = by_job m.job same is refl visit
 
-  pub turn_on : m.program ≡ program → Visit program closing target all m t past gone → Turned (turn m) (seen m) (λ q. step_takings q (gone q) m Turn)
+  pub turn_on : m.program ≡ program → Visit program closing target end all m t past gone → Turned (turn m) (seen m) (λ q. step_takings q (gone q) m Turn)
   turn_on same visit = by_risc m.risc_on refl same visit

@@ -144,7 +144,7 @@ pub none_more : (here : ℕ) (addresses : List ℕ) (ts new : List Taking) → E
 none_more here addresses ts new at below =
     filter-append (λ t. is_among addresses t.at) ts new
     ∙ ap (λ (r : List Taking). takes_in addresses ts ++ r)
-      (none_taken addresses new (each_only (λ t. t.at ≡ here) (λ t. is_among addresses t.at ≡ false) new (λ t same. not_below here t.at addresses (omega arith) below) at))
+    (none_taken addresses new (each_only (λ t. t.at ≡ here) (λ t. is_among addresses t.at ≡ false) new (λ t same. not_below here t.at addresses (omega arith) below) at))
     ∙ append-nil (takes_in addresses ts)
 
 -- what is taken at an instruction of a line is taken of the line
@@ -153,9 +153,9 @@ pub taken_here : (here : ℕ) (before after : List ℕ) (ts new : List Taking) �
 taken_here here before after ts new at =
     filter-append (λ t. is_among (before ++ here ∷ after) t.at) ts new
     ∙ ap (λ (r : List Taking). takes_in (before ++ here ∷ after) ts ++ r)
-      (all_taken (before ++ here ∷ after) new
-      (each_only (λ t. t.at ≡ here) (λ t. is_among (before ++ here ∷ after) t.at ≡ true) new
-      (λ t same. ap (is_among (before ++ here ∷ after)) same ∙ is_there here before after) at))
+    (all_taken (before ++ here ∷ after) new
+    (each_only (λ t. t.at ≡ here) (λ t. is_among (before ++ here ∷ after) t.at ≡ true) new
+    (λ t same. ap (is_among (before ++ here ∷ after)) same ∙ is_there here before after) at))
 
 -- ---- which instructions retired
 
@@ -178,7 +178,7 @@ pub retired_here : (here : ℕ) (retired done : List ℕ) → list_all (is_among
 retired_here here retired done all below =
     list_all-append (is_among (retired ++ here ∷ [])) done (here ∷ [])
     ∙ and_from (list_all (is_among (retired ++ here ∷ [])) done) (list_all (is_among (retired ++ here ∷ [])) (here ∷ []))
-      (retired_more here retired (here ∷ []) done (refl, tt) below ∙ all) (and_from (is_among (retired ++ here ∷ []) here) true (is_there here retired []) refl)
+    (retired_more here retired (here ∷ []) done (refl, tt) below ∙ all) (and_from (is_among (retired ++ here ∷ []) here) true (is_there here retired []) refl)
 
 -- one that doesn't
 pub unretired_here : (here : ℕ) (retired done : List ℕ) → AreBelow here retired → list_all (is_among retired) (done ++ here ∷ []) ≡ false

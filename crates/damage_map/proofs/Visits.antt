@@ -73,13 +73,14 @@ LineJob here begins moved instr pc skipping lost marks (Waiting ctl resync code)
 LineJob here begins moved instr pc skipping lost marks (Running runs ds) =
     (runs ≡ instr) × (pc ≡ here + 4 * length (encoded instr)) × (lost ≡ false) × ((q : Queue) → Needs (moved q) (mark_on q marks) (demand_on q ds))
 
-module _ (program : RiscProgram) (closing : Ctl) (target : ℕ) (all : List (List ℕ)) where
+module _ (program : RiscProgram) (closing : Ctl) (target end : ℕ) (all : List (List ℕ)) where
   pub record InGap (m : State) (t : FieldTrack) (past : Past) : Type 0 where
     pub here : ℕ
     pub lines : List (List ℕ)
     pub parts : List Part
     pub whole : all ≡ lines ++ lines_at here parts
     pub stands : HoldsFrom program here (instrs_of parts) closing target
+    pub ends : here + 4 * words_in (instrs_of parts) ≡ end
     pub are : AreParts parts
     pub through : Through past t.lines lines here here
     pub fresh : t.marks ≡ fresh
@@ -97,6 +98,7 @@ module _ (program : RiscProgram) (closing : Ctl) (target : ℕ) (all : List (Lis
     pub rest : List Instr
     pub whole : all ≡ lines ++ ((done ++ addresses_from here (instr ∷ rest)) ∷ lines_at (here + 4 * words_in (instr ∷ rest)) parts)
     pub stands : HoldsFrom program here (instr ∷ (rest ++ instrs_of parts)) closing target
+    pub ends : here + 4 * words_in (instr ∷ (rest ++ instrs_of parts)) ≡ end
     pub goes : LineGoes begins moved (instr ∷ rest)
     pub are : AreParts parts
     pub through : Through past t.lines lines here (here + 1)
@@ -118,12 +120,13 @@ module _ (program : RiscProgram) (closing : Ctl) (target : ℕ) (all : List (Lis
       g.parts ≡ Cut moved line ∷ rest → InLine m t past gone
   enters m t past gone g moved line rest j is =
       entered g.here g.lines (subst (λ (ps : List Part). all ≡ g.lines ++ lines_at g.here ps) is g.whole)
-      (subst (λ (ps : List Part). HoldsFrom program g.here (instrs_of ps) closing target) is g.stands) (subst AreParts is g.are) g.through
+      (subst (λ (ps : List Part). HoldsFrom program g.here (instrs_of ps) closing target) is g.stands)
+      (subst (λ (ps : List Part). g.here + 4 * words_in (instrs_of ps) ≡ end) is g.ends) (subst AreParts is g.are) g.through
       (subst (λ (job : Job). GapJob g.here m.pc job) j g.job)
     where
       entered : (here : ℕ) (lines : List (List ℕ)) → all ≡ lines ++ (addresses_from here line ∷ lines_at (here + 4 * words_in line) rest) →
-          HoldsFrom program here (line ++ instrs_of rest) closing target → IsCut moved line × AreParts rest → Through past t.lines lines here here → m.pc ≡ here → InLine m t past gone
-      entered here lines whole stands are through there =
+          HoldsFrom program here (line ++ instrs_of rest) closing target → here + 4 * words_in (line ++ instrs_of rest) ≡ end → IsCut moved line × AreParts rest → Through past t.lines lines here here → m.pc ≡ here → InLine m t past gone
+      entered here lines whole stands ends are through there =
           let first = are.0.first in
           let more = are.0.rest in
           let some = are.0.some in
@@ -140,6 +143,7 @@ module _ (program : RiscProgram) (closing : Ctl) (target : ℕ) (all : List (Lis
             rest = more;
             whole = subst (λ (l : List Instr). all ≡ lines ++ (addresses_from here l ∷ lines_at (here + 4 * words_in l) rest)) some whole;
             stands = subst (λ (l : List Instr). HoldsFrom program here (l ++ instrs_of rest) closing target) some stands;
+            ends = subst (λ (l : List Instr). here + 4 * words_in (l ++ instrs_of rest) ≡ end) some ends;
             goes = subst (λ (l : List Instr). LineGoes true moved l) some are.0.goes;
             are = are.1;
             through = record {
@@ -209,8 +213,8 @@ module _ (program : RiscProgram) (closing : Ctl) (target : ℕ) (all : List (Lis
     -- it ended its line
     ends_there : Behind after t past gone here lines done moved instr (done ++ addresses_from here (instr ∷ [])) →
         all ≡ lines ++ ((done ++ addresses_from here (instr ∷ [])) ∷ lines_at (here + 4 * words_in (instr ∷ [])) parts) → HoldsFrom program next (instrs_of parts) closing target →
-        InGap after (through true t) past
-    ends_there b whole stands =
+        next + 4 * words_in (instrs_of parts) ≡ end → InGap after (through true t) past
+    ends_there b whole stands ends =
         let line = done ++ here ∷ [] in
         let same : here + 4 * words_in (instr ∷ []) ≡ next = omega arith in
         record {
@@ -219,6 +223,7 @@ module _ (program : RiscProgram) (closing : Ctl) (target : ℕ) (all : List (Lis
           parts = parts;
           whole = subst (λ (n : ℕ). all ≡ lines ++ (line ∷ lines_at n parts)) same whole ∙ sym (append_assoc lines (line ∷ []) (lines_at next parts));
           stands = stands;
+          ends = ends;
           are = are;
           through = record {
             told = noted_whole t past lines line b.told_lines (few_through lines (lines_at (here + 4 * words_in (instr ∷ [])) parts) line few whole) (whole_line t.lost t past gone after.queues line refl b.told);
@@ -234,8 +239,9 @@ module _ (program : RiscProgram) (closing : Ctl) (target : ℕ) (all : List (Lis
     -- the line goes on
     goes_there : (instr' : Instr) (rest : List Instr) → Behind after t past gone here lines done moved instr (done ++ addresses_from here (instr ∷ instr' ∷ rest)) → (instr_ends instr).eol ≡ false →
         all ≡ lines ++ ((done ++ addresses_from here (instr ∷ instr' ∷ rest)) ∷ lines_at (here + 4 * words_in (instr ∷ instr' ∷ rest)) parts) →
-        HoldsFrom program next (instr' ∷ (rest ++ instrs_of parts)) closing target → LineGoes false moved (instr' ∷ rest) → InLine after t past gone
-    goes_there instr' rest b on whole stands goes =
+        HoldsFrom program next (instr' ∷ (rest ++ instrs_of parts)) closing target → next + 4 * words_in (instr' ∷ (rest ++ instrs_of parts)) ≡ end → LineGoes false moved (instr' ∷ rest) →
+        InLine after t past gone
+    goes_there instr' rest b on whole stands ends goes =
         let same : here + 4 * words_in (instr ∷ instr' ∷ rest) ≡ next + 4 * words_in (instr' ∷ rest) = omega arith in
         let line : done ++ addresses_from here (instr ∷ instr' ∷ rest) ≡ (done ++ here ∷ []) ++ addresses_from next (instr' ∷ rest) = sym (append_assoc done (here ∷ []) (addresses_from next (instr' ∷ rest))) in
         record {
@@ -249,6 +255,7 @@ module _ (program : RiscProgram) (closing : Ctl) (target : ℕ) (all : List (Lis
           rest = rest;
           whole = whole ∙ ap₂ (λ (l : List ℕ) (n : ℕ). lines ++ (l ∷ lines_at n parts)) line same;
           stands = stands;
+          ends = ends;
           goes = goes;
           are = are;
           through = record {
@@ -264,6 +271,6 @@ module _ (program : RiscProgram) (closing : Ctl) (target : ℕ) (all : List (Lis
 
     pub advance : (rest : List Instr) → Behind after t past gone here lines done moved instr (done ++ addresses_from here (instr ∷ rest)) → (instr_ends instr).eol ≡ is_none rest →
         all ≡ lines ++ ((done ++ addresses_from here (instr ∷ rest)) ∷ lines_at (here + 4 * words_in (instr ∷ rest)) parts) → HoldsFrom program next (rest ++ instrs_of parts) closing target →
-        LineGoes false moved rest → Visit after (through (is_none rest) t) past gone
-    advance [] b ends whole stands goes = inl (ends_there b whole stands)
-    advance (instr' ∷ rest) b ends whole stands goes = inr (goes_there instr' rest b ends whole stands goes)
+        next + 4 * words_in (rest ++ instrs_of parts) ≡ end → LineGoes false moved rest → Visit after (through (is_none rest) t) past gone
+    advance [] b last whole stands ends goes = inl (ends_there b whole stands ends)
+    advance (instr' ∷ rest) b last whole stands ends goes = inr (goes_there instr' rest b last whole stands ends goes)

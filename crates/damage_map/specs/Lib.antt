@@ -1,3 +1,4 @@
 pub mod Tracks
 pub mod Maps
 pub mod Worked
+pub mod Laws

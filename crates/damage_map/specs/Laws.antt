@@ -1,0 +1,26 @@
+-- What is kept of a run from the first state of a description's program.
+use Rattle.std.specs.Prelude.{◌≡◌, ℕ, ◌+◌, true, All, List}
+use Rattle.pixel_layout.specs.declared.Parity.{Parity}
+use Rattle.machine_model.specs.Safety.{IsStep}
+use Rattle.machine_model.specs.States.{State, first_state}
+use Rattle.machine_model.specs.Steps.{Step, run}
+use Rattle.capture_desc.specs.declared.desc.Desc.{Desc}
+use Rattle.picture_model.specs.Described.{IsDescription, describes}
+use Rattle.picture_model.specs.Geometry.{IsValid}
+use Rattle.picture_model.specs.Programs.{compiled}
+use Rattle.damage_law.specs.Marks.{answer}
+use Rattle.damage_map.specs.Maps.{Map, rows_of}
+use Rattle.damage_map.specs.Tracks.{tracked, untold}
+
+abbrev pub map_after : Desc → ℕ → List Step → Map
+map_after d fill steps =
+    record {
+      machine = run (first_state (compiled d) fill) steps;
+      track = tracked (first_state (compiled d) fill) steps untold;
+      lines_before = d.vbi_lines + d.skip_lines;
+    }
+
+-- it tells of the rows of a field what the definition says at the field's last signal
+abbrev pub KeepsAnswers : Type 0
+KeepsAnswers = (d : Desc) (field : Parity) (fill : ℕ) (steps : List Step) → IsDescription d → IsValid d → describes d.fields field ≡ true → All IsStep steps →
+    rows_of field (map_after d fill steps) ≡ answer d field (first_state (compiled d) fill) steps
