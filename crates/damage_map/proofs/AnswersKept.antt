@@ -1,5 +1,6 @@
 -- What a track keeps over a run is what the definition says of the fields at their last signals.
 use Rattle.std.proofs.Common.{◌≡◌, ℕ, zero, suc, ◌+◌, ◌-◌, ◌*◌, ◌<◌, ◌≤◌, ◌⊎◌, inl, inr, Bool, true, false, not, ◌&&◌, ◌==◌, All, List, [], ◌∷◌, ◌++◌, append_assoc, drop, length, map, Option, Some, None, Ok, Err, refl, sym, ap, ap₂, ◌∙◌, subst, arith, option_map, if◌then◌else◌, eqb-true, eq-eqb}
+use Rattle.std.specs.Prelude.{is_some, option_and_then}
 use Rattle.std.specs.List.{list_any}
 use Rattle.std.proofs.lemmas.Bool.{and_from, ne_eqb}
 use Rattle.std.proofs.lemmas.List.{append-nil, drop-map}
@@ -47,8 +48,9 @@ use Rattle.field_law.specs.Arrivals.{is_idle, is_signal}
 use Rattle.picture_law.specs.Sections.{section_of}
 use Rattle.picture_law.proofs.Program.{fetched_at, section_holds}
 use Rattle.damage_law.specs.Takings.{Taking, left, retired_at, retires, step_retires, step_takings, takings, takings_if, worked_takings}
-use Rattle.damage_law.specs.Marks.{answer, is_opening, is_synced, is_whole, marks, row_addresses}
-use Rattle.damage_map.specs.Laws.{KeepsAnswers}
+use Rattle.damage_law.specs.Marks.{is_opening, is_synced, last_step, later_or, marks_to}
+use Rattle.damage_map.specs.Laws.{KeepsAnswers, TellsSignals, map_after}
+use Rattle.damage_map.specs.Maps.{rows_of}
 use Rattle.damage_map.specs.Tracks.{FieldTrack, field_of, fresh, lines_at_signal, max_lines, met, opened, opens, signalled, signals, through, track_next, tracked, turned, untold, with_loss, written}
 use Rattle.damage_map.proofs.Compiled.{body_parts, few_lines, parts_cut, rows_dropped, section_lines, section_parts}
 use Rattle.damage_map.proofs.Histories.{Opened, marks_over, more_steps, next_opened, next_told, opened_if, told_after, told_after-answer, told_if}
@@ -732,8 +734,107 @@ module _ (d : Desc) (right : IsRight d) (skips : d.skip_lines ≤ 255) where
         place = inl (record { field = first.0; described = first.1; idle = refl; there = sym first.2 });
       }
 
+-- ---- nothing is told exactly before the first signal
+
+pc_at : (on : Bool) (job : Job) (pc c : ℕ) → (on && is_idle job && pc == c) ≡ true → (on ≡ true) × (job ≡ Idle) × (pc ≡ c)
+pc_at true Idle pc c is = (refl, refl, eqb-true pc c is)
+pc_at true (Waiting ctl resync code) pc c is = cc
+pc_at true (Running instr ds) pc c is = cc
+pc_at false job pc c is = cc
+
+module _ (d : Desc) (right : IsRight d) (skips : d.skip_lines ≤ 255) where
+  module _ (m : State) (t : FieldTrack) (opens_since : Parity → Opened) (tolds : Parity → Option (List Bool)) (h : Keeps d right skips m t opens_since tolds) (g : Parity)
+      (is : describes d.fields g ≡ true) where
+    closing_read : (m.risc_on && is_idle m.job && m.pc == end_of d right g) ≡ true → fetch (compiled d) m.pc ≡ Ok (Jump (signal g) (next_of d right g), 2)
+    closing_read here = ap (fetch (compiled d)) (pc_at m.risc_on m.job m.pc (end_of d right g) here).2 ∙ closes_there d right g is
+
+    inside_signals : (i : Inside d right skips m t opens_since) → (m.risc_on && is_idle m.job && m.pc == end_of d right g) ≡ true →
+        Turned (compiled d) (signal i.field) (next_of d right i.field) (end_of d right i.field) (section_lines d i.field) (few d right skips i.field) m t (past_of i.first i.done) (gone_of i.first i.done)
+        (turn m) (seen m) (λ q. step_takings q (gone_of i.first i.done q) m Turn) → is_some (opens_since g) ≡ true
+    inside_signals i here (inl goes) =
+        let at = pc_at m.risc_on m.job m.pc (end_of d right g) here in
+        absurd (plain_jump (fetch (compiled d) m.pc) (signal g) (next_of d right g) 2 (goes.1 at.0 at.1) (closing_read here))
+    inside_signals i here (inr closes) =
+        let f = i.field in
+        let same : f ≡ g =
+        signals_apart f g (next_of d right f) (next_of d right g)
+        (same_read (Jump (signal f) (next_of d right f)) (Jump (signal g) (next_of d right g)) 2 2 (fetch (compiled d) m.pc) closes.0.fetched_there (closing_read here)) in
+        subst (λ (x : Parity). is_some (opens_since x) ≡ true) same (ap is_some i.opened_at)
+
+    placed_signals : Place d right skips m t opens_since → (m.risc_on && is_idle m.job && m.pc == end_of d right g) ≡ true → is_some (opens_since g) ≡ true
+    placed_signals (inl o) here =
+        let other : opening o.field ≡ Jump (signal g) (next_of d right g) =
+        same_read (opening o.field) (Jump (signal g) (next_of d right g)) 2 2 (fetch (compiled d) m.pc) (ap (fetch (compiled d)) o.there ∙ opens_there d right o.field o.described) (closing_read here) in
+        cc
+    placed_signals (inr i) here =
+        inside_signals i here
+        (turn_on (compiled d) (signal i.field) (next_of d right i.field) (end_of d right i.field) (section_lines d i.field) (few d right skips i.field) m t (past_of i.first i.done) (gone_of i.first i.done)
+        h.program i.visit)
+
+    -- a field that is signalled was opened
+    signal_opened : (s : Step) → is_signal (section_of d g) m s ≡ true → is_some (opens_since g) ≡ true
+    signal_opened Turn here = placed_signals h.place here
+    signal_opened (Push q entry) here = cc
+    signal_opened (Control code) here = cc
+    signal_opened (Host write) here = cc
+
+    some_mapped : (o : Opened) → is_some o ≡ true → is_some (option_map (marks_over d g) o) ≡ true
+    some_mapped None some = cc
+    some_mapped (Some x) some = refl
+
+    told_next : (s : Step) (here : Bool) → is_signal (section_of d g) m s ≡ here → (here ≡ true) ⊎ (is_some (tolds g) ≡ true) → is_some (told_if d g here (opens_since g) (tolds g)) ≡ true
+    told_next s true is_here either = some_mapped (opens_since g) (signal_opened s is_here)
+    told_next s false is_here (inl never) = cc
+    told_next s false is_here (inr some) = some
+
+  keeps_some : (steps : List Step) (m : State) (t : FieldTrack) (opens_since : Parity → Opened) (tolds : Parity → Option (List Bool)) → All IsStep steps → Keeps d right skips m t opens_since tolds →
+      (g : Parity) → describes d.fields g ≡ true → (is_some (last_step (is_signal (section_of d g)) m steps) ≡ true) ⊎ (is_some (tolds g) ≡ true) →
+      is_some (told_after d g (opens_since g) (tolds g) m steps) ≡ true
+  keeps_some [] m t opens_since tolds made h g is (inl never) = cc
+  keeps_some [] m t opens_since tolds made h g is (inr some) = some
+  keeps_some (s ∷ steps) m t opens_since tolds made h g is either =
+      keeps_some steps (step s m) (track_next m s t) (λ x. next_opened d x m s (opens_since x)) (λ x. next_told d x m s (opens_since x) (tolds x)) (All-tail IsStep s steps made)
+      (after_step d right skips m t opens_since tolds h s (All-head IsStep s steps made)) g is (later (last_step (is_signal (section_of d g)) (step s m) steps) refl either)
+    where
+      now_or : (here : Bool) → is_some (later_or here None) ≡ true → here ≡ true
+      now_or true some = refl
+      now_or false some = cc
+
+      later : (last : Option ℕ) → last_step (is_signal (section_of d g)) (step s m) steps ≡ last →
+          (is_some (later_or (is_signal (section_of d g) m s) last) ≡ true) ⊎ (is_some (tolds g) ≡ true) →
+          (is_some last ≡ true) ⊎ (is_some (next_told d g m s (opens_since g) (tolds g)) ≡ true)
+      later (Some k) last_is either = inl refl
+      later None last_is (inl some) =
+          inr (told_next m t opens_since tolds h g is s (is_signal (section_of d g) m s) refl (inl (now_or (is_signal (section_of d g) m s) some)))
+      later None last_is (inr some) = inr (told_next m t opens_since tolds h g is s (is_signal (section_of d g) m s) refl (inr some))
+
+none_or_some : {A : Type 0} (x : Option A) → (x ≡ None) ⊎ (is_some x ≡ true)
+none_or_some None = inl refl
+none_or_some (Some x) = inr refl
+
 pub keeps_answers : KeepsAnswers
 keeps_answers d field fill steps is valid described made =
     let right = IsFrame-IsRight d is (IsValid-IsFrame d valid) in
     keeps_told d right is.skipped steps (first_state (compiled d) fill) untold (λ g. None) (λ g. None) made (at_first d right is.skipped fill) field described
     ∙ told_after-answer d field (first_state (compiled d) fill) steps
+
+pub tells_signals : TellsSignals
+tells_signals d field fill steps is valid described made = (forth, back)
+  where
+    forth : rows_of field (map_after d fill steps) ≡ None → last_step (is_signal (section_of d field)) (first_state (compiled d) fill) steps ≡ None
+    forth none = by_last (none_or_some (last_step (is_signal (section_of d field)) (first_state (compiled d) fill) steps))
+      where
+        by_last : (last_step (is_signal (section_of d field)) (first_state (compiled d) fill) steps ≡ None) ⊎ (is_some (last_step (is_signal (section_of d field)) (first_state (compiled d) fill) steps) ≡ true) →
+            last_step (is_signal (section_of d field)) (first_state (compiled d) fill) steps ≡ None
+        by_last (inl is_none_there) = is_none_there
+        by_last (inr some) =
+            let told = keeps_some d (IsFrame-IsRight d is (IsValid-IsFrame d valid)) is.skipped steps (first_state (compiled d) fill) untold (λ g. None) (λ g. None) made
+            (at_first d (IsFrame-IsRight d is (IsValid-IsFrame d valid)) is.skipped fill) field described (inl some) in
+            let never : false ≡ true =
+            ap is_some (sym none ∙ keeps_answers d field fill steps is valid described made ∙ sym (told_after-answer d field (first_state (compiled d) fill) steps)) ∙ told in
+            cc
+
+    back : last_step (is_signal (section_of d field)) (first_state (compiled d) fill) steps ≡ None → rows_of field (map_after d fill steps) ≡ None
+    back none =
+        keeps_answers d field fill steps is valid described made
+        ∙ ap (option_and_then (marks_to d field (first_state (compiled d) fill) steps)) none

@@ -1,5 +1,5 @@
 -- What is kept of a run from the first state of a description's program.
-use Rattle.std.specs.Prelude.{◌≡◌, ℕ, ◌+◌, true, All, List}
+use Rattle.std.specs.Prelude.{◌≡◌, ◌↔◌, ℕ, ◌+◌, true, All, List, None}
 use Rattle.pixel_layout.specs.declared.Parity.{Parity}
 use Rattle.machine_model.specs.Safety.{IsStep}
 use Rattle.machine_model.specs.States.{State, first_state}
@@ -8,7 +8,9 @@ use Rattle.capture_desc.specs.declared.desc.Desc.{Desc}
 use Rattle.picture_model.specs.Described.{IsDescription, describes}
 use Rattle.picture_model.specs.Geometry.{IsValid}
 use Rattle.picture_model.specs.Programs.{compiled}
-use Rattle.damage_law.specs.Marks.{answer}
+use Rattle.field_law.specs.Arrivals.{is_signal}
+use Rattle.picture_law.specs.Sections.{section_of}
+use Rattle.damage_law.specs.Marks.{answer, last_step}
 use Rattle.damage_map.specs.Maps.{Map, rows_of}
 use Rattle.damage_map.specs.Tracks.{tracked, untold}
 
@@ -24,3 +26,8 @@ map_after d fill steps =
 abbrev pub KeepsAnswers : Type 0
 KeepsAnswers = (d : Desc) (field : Parity) (fill : ℕ) (steps : List Step) → IsDescription d → IsValid d → describes d.fields field ≡ true → All IsStep steps →
     rows_of field (map_after d fill steps) ≡ answer d field (first_state (compiled d) fill) steps
+
+-- it tells nothing of a field exactly where no step was a signal of it
+abbrev pub TellsSignals : Type 0
+TellsSignals = (d : Desc) (field : Parity) (fill : ℕ) (steps : List Step) → IsDescription d → IsValid d → describes d.fields field ≡ true → All IsStep steps →
+    (rows_of field (map_after d fill steps) ≡ None) ↔ (last_step (is_signal (section_of d field)) (first_state (compiled d) fill) steps ≡ None)

@@ -3,14 +3,15 @@
 ghost use Rattle.std.specs.Prelude.{◌≡◌, true, false, [], ◌∷◌, Some, None};
 ghost use Rattle.picture_model.specs.Worked.{smallest};
 ghost use Rattle.damage_law.specs.Worked.{clipped, cut_short, emptied_empty, emptied_full, interrupted, reserved, too_long, two_rows};
-ghost use Rattle.damage_map.specs.Laws.{KeepsAnswers};
+ghost use Rattle.damage_map.specs.Laws.{KeepsAnswers, TellsSignals};
 ghost use Rattle.damage_map.specs.Worked.{kept_of};
 
 /// Over every list of steps from the first state of a valid description's program, whatever was pushed and however decoder,
 /// DMA controller and host interleave: what is kept of a described field tells of its rows what the definition says at the
-/// field's last signal.
+/// field's last signal, and nothing exactly before its first.
 pub fn tracks_tell_whole_rows()
-    ensures { KeepsAnswers }
+    ensures rows { KeepsAnswers }
+    ensures none { TellsSignals }
 {}
 
 /// Over the worked fields of damage_law a track keeps what the definition says of their rows (its law
