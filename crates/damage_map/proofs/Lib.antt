@@ -8,3 +8,4 @@ mod SectionTurns
 mod SectionSteps
 mod Compiled
 mod AnswersKept
+mod StillTurns

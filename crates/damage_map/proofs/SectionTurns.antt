@@ -191,7 +191,7 @@ module _ (q : Queue) where
       ap₂ (λ (made : List Application) (next : Option State). made ++ applied_next number next) (application_turns m.job m count) (apply_turns m.job m count)
       ∙ ap (λ (later : List Application). application q m ++ later) (next_alike number (apply q m) count (λ (other : State). alike number other count))
 
-  uncounted : (number : ℕ) (m : State) → applications number q (counted m) ≡ applications number q m
+  pub uncounted : (number : ℕ) (m : State) → applications number q (counted m) ≡ applications number q m
   uncounted number m = alike number m (more m.turns 1)
 
 rest_none : (ds : Demands) → is_done ds ≡ true → (q : Queue) → (demand_on q ds).rest ≡ 0
