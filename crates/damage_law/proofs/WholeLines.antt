@@ -46,7 +46,7 @@ module _ (entry_at : ℕ → Entry) where
   entries_more place end (suc x) less = refl
 
   -- from a byte of an entry on, and on from there
-  from_from : (a x b y c z : ℕ) → IsFrom a x b y → IsFrom b y c z → IsFrom a x c z
+  pub from_from : (a x b y c z : ℕ) → IsFrom a x b y → IsFrom b y c z → IsFrom a x c z
   from_from a x b y c z first second = (
     omega (arith, first.0, second.0),
     λ same.

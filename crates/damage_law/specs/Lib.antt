@@ -2,3 +2,4 @@ pub mod Takings
 pub mod Lines
 pub mod Marks
 pub mod Worked
+pub mod Orders

@@ -1,9 +1,11 @@
 -- Worked fields of small descriptions, in the top field.
 use Rattle.std.specs.Prelude.{ℕ, Bool, true, false, List, [], ◌∷◌, ◌++◌, map, replicate, Option}
-use Rattle.risc_word.specs.declared.Code.TheVariants.{Vre, Fm1}
+use Rattle.risc_word.specs.declared.Code.TheVariants.{Vre, Fm1, Fm3}
 use Rattle.fifo_model.specs.declared.Entry.{Entry}
-use Rattle.fifo_model.specs.declared.Queue.TheVariants.{One}
+use Rattle.fifo_model.specs.declared.Queue.{Queue}
+use Rattle.fifo_model.specs.declared.Queue.TheVariants.{One, Two, Three}
 use Rattle.irq_status.specs.declared.HostWrite.TheVariants.{Enable}
+use Rattle.pixel_layout.specs.declared.Format.TheVariants.{Yuv420p}
 use Rattle.pixel_layout.specs.declared.Parity.TheVariants.{Top}
 use Rattle.machine_model.specs.States.{first_state}
 use Rattle.machine_model.specs.Steps.{Step, Push, Control, Turn, Host}
@@ -72,3 +74,44 @@ emptied_empty = within_line []
 
 abbrev pub emptied_full : List Step
 emptied_full = within_line (pushed (entry 0 0xa3a2a1a0 ∷ []))
+
+-- two rows of twelve pixels, with six bytes of each chroma: of the second row they aren't kept
+abbrev pub planar_rows : Desc
+planar_rows = record smallest { format = Yuv420p; width = 12; height = 2 }
+
+abbrev pub pushed_to : Queue → List Entry → List Step
+pushed_to q entries = map (Push q) entries
+
+abbrev pub twelve : List Entry
+twelve = entry 2 0x03020100 ∷ entry 0 0x07060504 ∷ entry 1 0x0b0a0908 ∷ []
+
+-- lines of five, six and seven bytes
+abbrev pub five : List Entry
+five = entry 2 0x83828180 ∷ entry 5 0x84 ∷ []
+
+abbrev pub six : List Entry
+six = entry 2 0x83828180 ∷ entry 9 0x8584 ∷ []
+
+abbrev pub seven : List Entry
+seven = entry 2 0x83828180 ∷ entry 13 0x868584 ∷ []
+
+-- the first and the second line of the second queue
+abbrev pub planar_field : List Entry → List Entry → List Step
+planar_field first second =
+    Control Vre ∷ Control Fm3 ∷ pushed_to One (twelve ++ twelve) ++ pushed_to Two (first ++ second)
+    ++ pushed_to Three (six ++ six) ++ turns 30
+
+abbrev pub chroma_short : List Step
+chroma_short = planar_field five six
+
+abbrev pub chroma_long : List Step
+chroma_long = planar_field seven six
+
+abbrev pub unkept_short : List Step
+unkept_short = planar_field six five
+
+-- the controller begins again within a row, and the field comes anew behind the rest of it
+abbrev pub restarted : List Step
+restarted =
+    announced ++ pushed (entry 2 0x13121110 ∷ []) ++ turns 6 ++ Host (Enable true false) ∷ Host (Enable true true)
+    ∷ pushed (entry 1 0x17161514 ∷ []) ++ announced ++ pushed (eight 0x23222120 0x27262524) ++ turns 12

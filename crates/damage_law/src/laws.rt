@@ -9,13 +9,22 @@ ghost use Rattle.fifo_model.specs.declared.Entry.{Entry};
 ghost use Rattle.picture_model.specs.Worked.{smallest};
 ghost use Rattle.damage_law.specs.Takings.{Taking, left};
 ghost use Rattle.damage_law.specs.Lines.{AreInOrder, IsWholeLine, are_line};
-ghost use Rattle.damage_law.specs.Worked.{clipped, cut_short, emptied_empty, emptied_full, interrupted, marks_of, reserved, too_long, two_rows};
+ghost use Rattle.damage_law.specs.Orders.{LinesAreWhole, TakesInOrder};
+ghost use Rattle.damage_law.specs.Worked.{chroma_long, chroma_short, clipped, cut_short, emptied_empty, emptied_full, interrupted, marks_of, planar_rows, reserved, restarted, too_long, two_rows, unkept_short};
 
 /// Takings in their order make a line by their places exactly where the entries of which a byte is taken follow one
 /// another among those that enter the queue, each is taken whole, and they are a line.
 pub fn whole_lines_are_taken_whole()
     ensures line { (entry_at : ℕ → Entry) (ts : List Taking) → AreInOrder entry_at 0 0 ts → are_line ts ≡ true → IsWholeLine entry_at ts }
     ensures takings { (entry_at : ℕ → Entry) (ts : List Taking) → AreInOrder entry_at 0 0 ts → IsWholeLine entry_at ts → are_line ts ≡ true }
+{}
+
+/// What is taken of a queue over steps is taken of the entries that it holds and that enter it, in their order. So what the
+/// instructions of a row take of it is a line exactly where the entries of which they take a byte follow one another among
+/// these, each is taken whole, and they are a line.
+pub fn takings_are_in_order()
+    ensures order { TakesInOrder }
+    ensures lines { LinesAreWhole }
 {}
 
 /// What leaves a queue in a turn leaves it at its front. So the entry at a place is the one that so many others left
@@ -26,7 +35,9 @@ pub fn entries_leave_at_the_front()
 
 /// Worked fields of small descriptions, and which of their rows are whole: a row whose line is too short isn't, nor is one
 /// whose line is too long; a field that is broken off says nothing of the next; no field was signalled; an entry of a
-/// reserved status within a line is one too many, and so is one that the host's emptying of the queues takes from it.
+/// reserved status within a line is one too many, and so is one that the host's emptying of the queues takes from it; a row
+/// whose chroma is a byte too short or too long isn't whole, also where its chroma isn't kept; a field that is opened again
+/// within a row is told from there on.
 pub fn worked_fields_are_marked()
     ensures too_short { marks_of clipped cut_short ≡ Some (false ∷ true ∷ []) }
     ensures too_long { marks_of two_rows too_long ≡ Some (false ∷ true ∷ []) }
@@ -35,4 +46,8 @@ pub fn worked_fields_are_marked()
     ensures one_too_many { marks_of smallest reserved ≡ Some (false ∷ []) }
     ensures emptied_of_nothing { marks_of smallest emptied_empty ≡ Some (true ∷ []) }
     ensures emptied_of_an_entry { marks_of smallest emptied_full ≡ Some (false ∷ []) }
+    ensures chroma_too_short { marks_of planar_rows chroma_short ≡ Some (false ∷ true ∷ []) }
+    ensures chroma_too_long { marks_of planar_rows chroma_long ≡ Some (false ∷ true ∷ []) }
+    ensures chroma_not_kept { marks_of planar_rows unkept_short ≡ Some (true ∷ false ∷ []) }
+    ensures opened_again { marks_of smallest restarted ≡ Some (true ∷ []) }
 {}

@@ -2,7 +2,7 @@
 
 ghost use Rattle.std.specs.Prelude.{◌≡◌, true, false, [], ◌∷◌, Some, None};
 ghost use Rattle.picture_model.specs.Worked.{smallest};
-ghost use Rattle.damage_law.specs.Worked.{clipped, cut_short, emptied_empty, emptied_full, interrupted, reserved, too_long, two_rows};
+ghost use Rattle.damage_law.specs.Worked.{chroma_long, chroma_short, clipped, cut_short, emptied_empty, emptied_full, interrupted, planar_rows, reserved, restarted, too_long, two_rows, unkept_short};
 ghost use Rattle.damage_map.specs.Laws.{KeepsAnswers, TellsSignals};
 ghost use Rattle.damage_map.specs.Worked.{kept_of};
 
@@ -24,4 +24,8 @@ pub fn worked_fields_are_tracked()
     ensures one_too_many { kept_of smallest reserved ≡ Some (false ∷ []) }
     ensures emptied_of_nothing { kept_of smallest emptied_empty ≡ Some (true ∷ []) }
     ensures emptied_of_an_entry { kept_of smallest emptied_full ≡ Some (false ∷ []) }
+    ensures chroma_too_short { kept_of planar_rows chroma_short ≡ Some (false ∷ true ∷ []) }
+    ensures chroma_too_long { kept_of planar_rows chroma_long ≡ Some (false ∷ true ∷ []) }
+    ensures chroma_not_kept { kept_of planar_rows unkept_short ≡ Some (true ∷ false ∷ []) }
+    ensures opened_again { kept_of smallest restarted ≡ Some (true ∷ []) }
 {}
