@@ -1,3 +1,3 @@
 mod Leaving
 mod WholeLines
-mod Orders
+pub mod Orders

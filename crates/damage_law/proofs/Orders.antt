@@ -1,5 +1,5 @@
 -- Over steps the takings of a queue are in the order of its entries.
-use Rattle.std.proofs.Common.{◌≡◌, ℕ, zero, suc, ◌+◌, ◌-◌, ◌<◌, ◌≤◌, ◌⊎◌, inl, inr, ◌==◌, Bool, true, false, All, List, [], ◌∷◌, ◌++◌, append_assoc, drop, length, length-append, Option, Some, None, Ok, Err, if◌then◌else◌, refl, sym, ap, ap₂, subst, ◌∙◌, arith, slice_index_or}
+use Rattle.std.proofs.Common.{◌≡◌, ℕ, zero, suc, ◌+◌, ◌-◌, ◌<◌, ◌≤◌, ◌⊎◌, inl, inr, ◌==◌, Bool, true, false, All, List, [], ◌∷◌, ◌++◌, append_assoc, drop, length, length-append, Option, Some, None, Ok, Err, if◌then◌else◌, refl, sym, ap, subst, ◌∙◌, arith, slice_index_or}
 use Rattle.std.specs.Prelude.{filter}
 use Rattle.std.proofs.lemmas.Bool.{cond-true, cond-false, eqb-false}
 use Rattle.std.proofs.lemmas.List.{append-nil, drop-append-le, drop-drop, drop_all, length-drop}
@@ -30,14 +30,14 @@ use Rattle.machine_model.specs.declared.Skipping.{Skipping}
 use Rattle.machine_model.specs.declared.Skipping.TheVariants.{Nothing, ToEol, ToSync}
 use Rattle.machine_model.specs.Paths.{fetch}
 use Rattle.machine_model.specs.States.{State}
-use Rattle.machine_model.specs.Turns.{apply, apply_in, begun_with, burst, burst_of, code_seen, counted, data_fetched, demand_on, ended, fetched, instr_fetched, is_cut_short, is_done, judged, jumped, lowest_served, met, ran, served, stray_seen, took, turn, turn_if, verdict_at, with_fdsr_unless, without_codes, worked}
+use Rattle.machine_model.specs.Turns.{apply_in, begun_with, burst, burst_of, code_seen, counted, data_fetched, demand_on, ended, fetched, instr_fetched, is_cut_short, is_done, judged, jumped, lowest_served, met, ran, served, stray_seen, took, turn, turn_if, verdict_at, with_fdsr_unless, without_codes, worked}
 use Rattle.machine_model.proofs.Turning.{IsKept, turn-kept}
 use Rattle.machine_model.specs.Safety.{IsOrderly, IsStep}
 use Rattle.machine_model.specs.Steps.{Step, Push, Control, Turn, Host, answer_if, host, push_control_if, push_if, step, with_fifo, with_risc}
 use Rattle.machine_model.proofs.Orderly.{IsOrderly-step}
 use Rattle.field_law.specs.Arrivals.{is_queue, pushed_by}
 use Rattle.field_law.proofs.Pushes.{Adds, adds_all, adds_none, adds_to}
-use Rattle.machine_model.specs.Seen.{Application, address_before, application, application_in, served_application, verdict_of}
+use Rattle.machine_model.specs.Seen.{Application, address_before, application_in, served_application}
 use Rattle.damage_law.specs.Takings.{Taking, burst_takings, left, ran_takings, served_takings, step_takings, taking_by, takings, takings_if, takings_of, worked_takings}
 use Rattle.damage_law.specs.Lines.{AreInOrder, IsFrom}
 use Rattle.damage_law.specs.Marks.{is_among, takings_at}

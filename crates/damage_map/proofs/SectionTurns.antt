@@ -36,6 +36,7 @@ use Rattle.field_law.specs.Sections.{HoldsFrom, IsPlain, words_in}
 use Rattle.field_law.specs.Arrivals.{is_queue}
 use Rattle.damage_law.specs.Takings.{Taking, burst_takings, left, ran_takings, retired_at, served_takings, step_takings, takings_if, worked_takings}
 use Rattle.damage_law.specs.Marks.{addresses_from, is_among}
+use Rattle.damage_law.proofs.Orders.{queue_is}
 use Rattle.damage_map.specs.declared.mark.LineMark.{LineMark}
 use Rattle.damage_map.specs.declared.mark.LineMark.TheVariants.{Fresh, Within, Done, Spoilt}
 use Rattle.damage_map.specs.declared.mark.LineMarks.{LineMarks}
@@ -89,17 +90,6 @@ module _ (here : ℕ) where
   waits (Some q) ctl resync code m there h = unless resync _ h
 
 -- ---- which queue
-
-queue_is : (p q : Queue) → is_queue p q ≡ true → p ≡ q
-queue_is One One is = refl
-queue_is One Two is = cc
-queue_is One Three is = cc
-queue_is Two One is = cc
-queue_is Two Two is = refl
-queue_is Two Three is = cc
-queue_is Three One is = cc
-queue_is Three Two is = cc
-queue_is Three Three is = refl
 
 queue_itself : (q : Queue) → is_queue q q ≡ true
 queue_itself One = refl
