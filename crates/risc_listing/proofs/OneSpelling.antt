@@ -10,7 +10,7 @@ use Rattle.risc_word.specs.declared.Code.{Code}
 use Rattle.risc_word.specs.declared.Instr.{Instr}
 use Rattle.risc_word.specs.Words.{Reading, by_opcode, code_number, code_numbered, control_bits, counts_word, data_word, encoded, first_count, first_instr, flag, head_word, instr_at, jump_at, lanes_off, line_ends, skip_123_at, skip_at, sync_at, sync_for, sync_word, write_123_at, write_1_s_23_at, write_at, write_c_at}
 use Rattle.risc_listing.specs.Listings.{if_spelled, spelled}
-use Rattle.risc_listing.specs.Unnamed.{are_unnamed_zero, are_unnamed_zero_in_counts, are_unnamed_zero_in_data, are_unnamed_zero_in_jump, are_unnamed_zero_in_skip, are_unnamed_zero_in_sync}
+use Rattle.risc_listing.specs.Unnamed.{TellsPlain, are_unnamed_zero, are_unnamed_zero_in_counts, are_unnamed_zero_in_data, are_unnamed_zero_in_jump, are_unnamed_zero_in_skip, are_unnamed_zero_in_sync}
 
 not_zero : (n : ℕ) → (suc n == 0) ≡ false
 not_zero n = ne_eqb (suc n) 0 (λ same. omega arith)
@@ -197,8 +197,9 @@ exact [] small = tt
 exact (word ∷ rest) small = exact_by_opcode word (small 0) rest (small 1)
 
 -- what was read is spelled, by the test of the bits
-pub spelled_where : (test : Bool) (words : List ℕ) → ((k : ℕ) → slice_index words k < 2 ^ 32) → (instr : Instr) (number : ℕ) → Ok (instr, number) ≡ instr_at words 0 →
-    are_unnamed_zero instr (slice_index words 0) (slice_index words 1) ≡ test → spelled words ≡ (if test then Some (instr, number) else None)
-spelled_where test words small instr number is test_is =
+pub spelled_where : (test other : Bool) (words : List ℕ) → ((k : ℕ) → slice_index words k < 2 ^ 32) → (instr : Instr) (number : ℕ) → Ok (instr, number) ≡ instr_at words 0 →
+    TellsPlain test words → test ≡ other → spelled words ≡ (if other then Some (instr, number) else None)
+spelled_where test other words small instr number is told same =
     let plain = MatchResult-at_ok (λ read. starts_with (λ one other. one == other) words (encoded read.0) ≡ are_unnamed_zero read.0 (slice_index words 0) (slice_index words 1)) (λ _. Unit {0}) (instr, number) (sym is) (exact words small) in
-    ap (if_spelled words) (sym is) ∙ ap (λ (b : Bool). if b then Some (instr, number) else None) (plain ∙ test_is)
+    let tested = MatchResult-at_ok (λ read. are_unnamed_zero read.0 (slice_index words 0) (slice_index words 1) ≡ test) (λ _. Unit {0}) (instr, number) (sym is) told in
+    ap (if_spelled words) (sym is) ∙ ap (λ (b : Bool). if b then Some (instr, number) else None) (plain ∙ tested ∙ same)

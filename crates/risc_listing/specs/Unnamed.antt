@@ -1,6 +1,7 @@
 -- The bits of an instruction's words that no field names.
-use Rattle.std.specs.Prelude.{ℕ, Bool, ◌&&◌, ◌==◌}
+use Rattle.std.specs.Prelude.{◌≡◌, ℕ, Bool, ◌&&◌, ◌==◌, List, IfOk, slice_index}
 use Rattle.bit_field.specs.Bits.{bits}
+use Rattle.risc_word.specs.Words.{instr_at}
 use Rattle.risc_word.specs.declared.Instr.{Instr}
 use Rattle.risc_word.specs.declared.Instr.TheVariants.{Write, Skip, WriteC, Jump, Sync, Write123, Skip123, Write1S23}
 
@@ -36,3 +37,8 @@ are_unnamed_zero (Sync ctl resync code) first second = are_unnamed_zero_in_sync 
 are_unnamed_zero (Write123 ctl ends off counts addrs) first second = are_unnamed_zero_in_data first && are_unnamed_zero_in_counts second
 are_unnamed_zero (Skip123 ctl ends counts) first second = are_unnamed_zero_in_skip first && are_unnamed_zero_in_counts second
 are_unnamed_zero (Write1S23 ctl ends off counts addr) first second = are_unnamed_zero_in_data first && are_unnamed_zero_in_counts second
+
+-- the test tells this of the instruction that stands at the words, where one does
+abbrev pub TellsPlain : Bool → List ℕ → Type 0
+TellsPlain test words =
+    IfOk (instr_at words 0) (λ read. are_unnamed_zero read.0 (slice_index words 0) (slice_index words 1) ≡ test)

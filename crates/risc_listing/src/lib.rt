@@ -4,6 +4,7 @@
 
 ghost use Rattle.arrayvec.specs.ArrayString.{array_string_len};
 ghost use Rattle.risc_listing.specs.Listings.{base_line, chunk_line, fill_line, line_of, listing, spelled, word_lines, words_of};
+ghost use Rattle.risc_listing.specs.Unnamed.{TellsPlain};
 ghost use Rattle.std.specs.List.{flat_map};
 ghost use Rattle.std.specs.Prelude.{◌≡◌, ◌+◌, ◌*◌, ◌<◌, ◌≤◌, ◌++◌, drop, length, slice_index, string_bytes, IfOk, IfSome};
 
@@ -19,7 +20,10 @@ use risc_verify::Program;
 use risc_word::{Instr, decode};
 use std::alloc::{AllocError, Global};
 use std::fmt::Write;
-use unnamed::are_unnamed_zero;
+use unnamed::{
+    Opcode, are_unnamed_zero_in_counts, are_unnamed_zero_in_data, are_unnamed_zero_in_jump,
+    are_unnamed_zero_in_skip, are_unnamed_zero_in_sync, word_or_zero,
+};
 
 /// How many bytes of lines are made at once, at most.
 pub const ROOM: usize = 65_536;
@@ -28,15 +32,17 @@ pub const ROOM: usize = 65_536;
 pub type Lines = ArrayString<ROOM>;
 
 // The instruction that the words begin with and its length, where they are exactly its one spelling.
+// `is_plain` tells whether each bit that no field names is 0.
 #[inline(always)]
-fn spelled(words: &[u32]) -> Option<(Instr, usize)>
+fn spelled(words: &[u32], is_plain: bool) -> Option<(Instr, usize)>
+    requires { TellsPlain is_plain words.now }
     ensures value { result ≡ spelled words.now }
     ensures within { IfSome result (λ read. (1 ≤ read.1) × (read.1 ≤ length words.now)) }
 {
     let Ok((instr, number)) = decode(words, 0) else {
         return None;
     };
-    if are_unnamed_zero(&instr, words) {
+    if is_plain {
         Some((instr, usize::from(number)))
     } else {
         None
@@ -46,7 +52,13 @@ fn spelled(words: &[u32]) -> Option<(Instr, usize)>
 // Appends the line of the instruction or the word that words begin with, and answers how many words
 // the line stands for.
 #[inline(always)]
-fn push_line<const CAP: usize>(text: &mut ArrayString<CAP>, at: u32, words: &[u32]) -> usize
+fn push_spelled<const CAP: usize>(
+    text: &mut ArrayString<CAP>,
+    at: u32,
+    words: &[u32],
+    is_plain: bool,
+) -> usize
+    requires plain { TellsPlain is_plain words.now }
     requires some { 1 ≤ length words.now }
     requires room { array_string_len text.old + 98 ≤ CAP }
     ensures text { text.new.bytes ≡ text.old.bytes ++ line_of at (slice_index words.now 0) (spelled words.now) }
@@ -54,7 +66,7 @@ fn push_line<const CAP: usize>(text: &mut ArrayString<CAP>, at: u32, words: &[u3
     ensures within { (1 ≤ result) × (result ≤ length words.now) }
     ensures long { array_string_len text.new ≤ array_string_len text.old + 98 }
 {
-    match spelled(words) {
+    match spelled(words, is_plain) {
         Some((instr, number)) => {
             push_instr_line(text, at, &instr);
             number
@@ -63,6 +75,33 @@ fn push_line<const CAP: usize>(text: &mut ArrayString<CAP>, at: u32, words: &[u3
             push_word_line(text, at, words[0]);
             1
         }
+    }
+}
+
+// The same of any words. Each opcode has its own way to its line, which is what makes it fast.
+#[inline(always)]
+fn push_line<const CAP: usize>(text: &mut ArrayString<CAP>, at: u32, words: &[u32]) -> usize
+    requires some { 1 ≤ length words.now }
+    requires room { array_string_len text.old + 98 ≤ CAP }
+    ensures text { text.new.bytes ≡ text.old.bytes ++ line_of at (slice_index words.now 0) (spelled words.now) }
+    ensures number { result ≡ words_of (spelled words.now) }
+    ensures within { (1 ≤ result) × (result ≤ length words.now) }
+    ensures long { array_string_len text.new ≤ array_string_len text.old + 98 }
+{
+    let (first, second) = (words[0], word_or_zero(words, 1));
+    let data = are_unnamed_zero_in_data(first);
+    let skip = are_unnamed_zero_in_skip(first);
+    let counts = are_unnamed_zero_in_counts(second);
+    match Opcode::get(first) {
+        1 => push_spelled(text, at, words, data),
+        2 => push_spelled(text, at, words, skip),
+        5 => push_spelled(text, at, words, data),
+        7 => push_spelled(text, at, words, are_unnamed_zero_in_jump(first)),
+        8 => push_spelled(text, at, words, are_unnamed_zero_in_sync(first, second)),
+        9 => push_spelled(text, at, words, data && counts),
+        10 => push_spelled(text, at, words, skip && counts),
+        11 => push_spelled(text, at, words, data && counts),
+        _ => push_spelled(text, at, words, false),
     }
 }
 

@@ -1,11 +1,13 @@
 //! The bits of an instruction's words that no field names (Bt878 data sheet, "RISC instructions"; the
 //! planar counts are this project's own).
 
-ghost use Rattle.risc_listing.specs.Unnamed.{are_unnamed_zero, are_unnamed_zero_in_counts, are_unnamed_zero_in_data, are_unnamed_zero_in_jump, are_unnamed_zero_in_skip, are_unnamed_zero_in_sync};
-ghost use Rattle.std.specs.Prelude.{◌≡◌, slice_index};
+ghost use Rattle.risc_listing.specs.Unnamed.{are_unnamed_zero_in_counts, are_unnamed_zero_in_data, are_unnamed_zero_in_jump, are_unnamed_zero_in_skip, are_unnamed_zero_in_sync};
+ghost use Rattle.std.specs.Prelude.{◌≡◌, ◌&&◌, ◌==◌, slice_index};
 
 use bit_field::Field;
-use risc_word::Instr;
+
+/// Which instruction a first word begins.
+pub type Opcode = Field<28, 4>;
 
 // The bit below the line ends.
 type Spare = Field<25, 1>;
@@ -27,67 +29,50 @@ type AboveSecondCount = Field<12, 4>;
 
 type AboveThirdCount = Field<28, 4>;
 
+/// Whether these bits are 0 in the first word of an instruction that writes data.
 #[inline(always)]
-fn are_unnamed_zero_in_data(word: u32) -> bool
+pub fn are_unnamed_zero_in_data(word: u32) -> bool
     ensures { result ≡ are_unnamed_zero_in_data word }
 {
     Spare::get(word) == 0
 }
 
+/// The same of one that takes data and writes nothing.
 #[inline(always)]
-fn are_unnamed_zero_in_skip(word: u32) -> bool
+pub fn are_unnamed_zero_in_skip(word: u32) -> bool
     ensures { result ≡ are_unnamed_zero_in_skip word }
 {
     are_unnamed_zero_in_data(word) && Lanes::get(word) == 0
 }
 
+/// The same of a JUMP.
 #[inline(always)]
-fn are_unnamed_zero_in_jump(word: u32) -> bool
+pub fn are_unnamed_zero_in_jump(word: u32) -> bool
     ensures { result ≡ are_unnamed_zero_in_jump word }
 {
     NoEnds::get(word) == 0 && LowerHalf::get(word) == 0
 }
 
+/// The same of a SYNC, whose second word is all unnamed.
 #[inline(always)]
-fn are_unnamed_zero_in_sync(word: u32) -> bool
-    ensures { result ≡ are_unnamed_zero_in_sync word }
+pub fn are_unnamed_zero_in_sync(first: u32, second: u32) -> bool
+    ensures { result ≡ (are_unnamed_zero_in_sync first && second == 0) }
 {
-    NoEnds::get(word) == 0 && BelowResync::get(word) == 0
+    NoEnds::get(first) == 0 && BelowResync::get(first) == 0 && second == 0
 }
 
+/// The same of the word with the counts of queues 2 and 3.
 #[inline(always)]
-fn are_unnamed_zero_in_counts(word: u32) -> bool
+pub fn are_unnamed_zero_in_counts(word: u32) -> bool
     ensures { result ≡ are_unnamed_zero_in_counts word }
 {
     AboveSecondCount::get(word) == 0 && AboveThirdCount::get(word) == 0
 }
 
-// A word, or 0 past the last.
+/// A word, or 0 past the last.
 #[inline(always)]
-fn word_or_zero(words: &[u32], at: usize) -> u32
+pub fn word_or_zero(words: &[u32], at: usize) -> u32
     ensures { result ≡ slice_index words.now at }
 {
     if at < words.len() { words[at] } else { 0 }
-}
-
-/// Whether each bit that no field of the instruction names is 0, where the words begin with it.
-#[inline(always)]
-pub fn are_unnamed_zero(instr: &Instr, words: &[u32]) -> bool
-    ensures { result ≡ are_unnamed_zero instr.now (slice_index words.now 0) (slice_index words.now 1) }
-{
-    let first = word_or_zero(words, 0);
-    let second = word_or_zero(words, 1);
-    match instr {
-        Instr::Write { .. } => are_unnamed_zero_in_data(first),
-        Instr::Skip { .. } => are_unnamed_zero_in_skip(first),
-        Instr::WriteC { .. } => are_unnamed_zero_in_data(first),
-        Instr::Jump { .. } => are_unnamed_zero_in_jump(first),
-        Instr::Sync { .. } => are_unnamed_zero_in_sync(first) && second == 0,
-        Instr::Write123 { .. } => are_unnamed_zero_in_data(first)
-            && are_unnamed_zero_in_counts(second),
-        Instr::Skip123 { .. } => are_unnamed_zero_in_skip(first)
-            && are_unnamed_zero_in_counts(second),
-        Instr::Write1S23 { .. } => are_unnamed_zero_in_data(first)
-            && are_unnamed_zero_in_counts(second),
-    }
 }
