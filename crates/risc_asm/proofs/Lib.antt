@@ -7,3 +7,5 @@ pub mod OneAnswer
 pub mod NoFields
 pub mod Agreeing
 pub mod DigitTable
+pub mod ShortName
+pub mod SameNumber

@@ -1,4 +1,5 @@
 pub mod Drafts
+pub mod Fields
 pub mod Limits
 pub mod Verdicts
 pub mod Answers

@@ -80,4 +80,8 @@ pub fn one_answer_fits_a_text()
 {}
 
 #[cfg(test)]
+mod round_trips;
+#[cfg(test)]
 mod tests;
+#[cfg(test)]
+mod worked;

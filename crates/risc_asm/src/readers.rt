@@ -1,6 +1,7 @@
 //! What is read from the front of a line. A reader asks only for what tells lines apart: whether a text is
 //! a listing is told by listing again what was read.
 
+ghost use Rattle.risc_asm.specs.Fields.{control_and_off};
 ghost use Rattle.risc_text.specs.Readers.{Reads, address, after, base_line, chunk_line, code, control, count, data_fields, decimal_digit, decimal_digits, digit, fields_of, fill_line, flag, hex_digit, hex_digits, jump_fields, name_at, nibble, page_line, skip_123_fields, skip_fields, sync_fields, three_addresses, three_counts, skip_name, write_name, word_field, words_line, write_123_fields, write_1_s_23_fields, write_c_fields, write_fields};
 ghost use Rattle.risc_word.specs.Words.{control_fits, counts_fit, fits};
 ghost use Rattle.std.specs.Prelude.{◌≡◌, ◌+◌, ◌*◌, ◌≤◌, ◌<◌, ◌^◌, IfSome, IsTrue, codes, length};
@@ -240,8 +241,36 @@ fn read_control(text: &[u8]) -> Option<(Ctl, &[u8])>
     Some((Ctl { irq, set, reset }, text))
 }
 
+// The control bits, and the lanes that are left out.
 #[inline(always)]
-#[tactic(auto, unfolding(risc_text::specs::Readers::data_fields))]
+fn read_control_and_off(text: &[u8]) -> Option<((Ctl, u8), &[u8])>
+    ensures value { Reads (λ x. (x.0, x.1.now)) result (control_and_off text.now) }
+    ensures control { IfSome result (λ x. IsTrue (control_fits x.0.0)) }
+    ensures lanes { IfSome result (λ x. x.0.1 < 16) }
+    ensures rest { IfSome result (λ x. length x.1.now ≤ length text.now) }
+{
+    let (ctl, text) = read_control(text)?;
+    let (off, text) = read_nibble(text, b" off=")?;
+    Some(((ctl, off), text))
+}
+
+// The same before the counts. Often there are none.
+#[inline(always)]
+#[tactic(auto, using(crate::proofs::NoFields::no_control_and_off))]
+fn read_bits(text: &[u8]) -> Option<((Ctl, u8), &[u8])>
+    ensures value { Reads (λ x. (x.0, x.1.now)) result (control_and_off text.now) }
+    ensures control { IfSome result (λ x. IsTrue (control_fits x.0.0)) }
+    ensures lanes { IfSome result (λ x. x.0.1 < 16) }
+    ensures rest { IfSome result (λ x. length x.1.now ≤ length text.now) }
+{
+    match text {
+        [b' ', b'0'..=b'9', ..] => Some(((NO_CONTROL, 0), text)),
+        _ => read_control_and_off(text),
+    }
+}
+
+#[inline(always)]
+#[tactic(auto, using(crate::proofs::NoFields::ends_and_bits))]
 fn read_data_fields(text: &[u8]) -> Option<((Ctl, Ends, u8), &[u8])>
     ensures value { Reads (λ x. (x.0, x.1.now)) result (data_fields text.now) }
     ensures control { IfSome result (λ x. IsTrue (control_fits x.0.0)) }
@@ -250,8 +279,7 @@ fn read_data_fields(text: &[u8]) -> Option<((Ctl, Ends, u8), &[u8])>
 {
     let (sol, text) = flag(text, b" sol");
     let (eol, text) = flag(text, b" eol");
-    let (ctl, text) = read_control(text)?;
-    let (off, text) = read_nibble(text, b" off=")?;
+    let ((ctl, off), text) = read_bits(text)?;
     Some(((ctl, Ends { sol, eol }, off), text))
 }
 
@@ -289,12 +317,14 @@ fn read_code(text: &[u8]) -> Option<(Code, &[u8])>
 
 // The name that begins with `write`, and the one that begins with `skip`, after that word.
 #[inline(always)]
-#[tactic(auto, unfolding(risc_text::specs::Readers::write_name))]
+#[tactic(auto, unfolding(risc_text::specs::Readers::write_name), using(crate::proofs::ShortName::short_name))]
 fn read_write_name(text: &[u8]) -> Option<(Name, &[u8])>
     ensures value { Reads (λ x. (x.0, x.1.now)) result (write_name text.now) }
     ensures rest { IfSome result (λ x. length x.1.now ≤ length text.now) }
 {
-    if let Some(rest) = after(text, b"123") {
+    if let [b' ', ..] = text {
+        Some((Name::Write, text))
+    } else if let Some(rest) = after(text, b"123") {
         Some((Name::Write123, rest))
     } else if let Some(rest) = after(text, b"c") {
         Some((Name::WriteC, rest))
