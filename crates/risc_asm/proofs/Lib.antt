@@ -8,4 +8,3 @@ pub mod NoFields
 pub mod Agreeing
 pub mod DigitTable
 pub mod ShortName
-pub mod SameNumber

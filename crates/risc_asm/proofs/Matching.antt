@@ -1,8 +1,9 @@
 -- A text is compared with the lines of words, piece by piece.
-use Rattle.std.proofs.Common.{◌≡◌, ℕ, ◌+◌, ◌*◌, ◌≤◌, ◌<◌, true, List, [], ◌++◌, length, take, drop, refl, sym, ap, ◌∙◌, arith, append_assoc}
-use Rattle.std.specs.Prelude.{◌==◌, slice_index}
+use Rattle.std.proofs.Common.{◌≡◌, ℕ, ◌+◌, ◌*◌, ◌≤◌, true, false, List, [], ◌++◌, length, take, drop, refl, sym, ap, ◌∙◌, arith, append_assoc}
+use Rattle.std.specs.Prelude.{◌==◌}
 use Rattle.std.specs.Cmp.Lexicographic.{pointwise, bytes_decides}
-use Rattle.std.proofs.lemmas.List.{append-nil, append_cancel_left, drop_all, get_or_append_left, length-append, take-append-drop, take_all}
+use Rattle.std.proofs.lemmas.List.{append-nil, append_cancel_left, drop_all, take-append-drop}
+use Rattle.std.proofs.Math.Seq.{take-append_seam}
 use Rattle.risc_listing.specs.Listings.{word_lines}
 
 -- a text of which the lines of so many words were found
@@ -24,36 +25,29 @@ pub found : (rest piece : List ℕ) → pointwise (λ one other. one == other) (
 found rest piece is =
     sym (take-append-drop (length piece) rest) ∙ ap (λ (list : List ℕ). list ++ drop (length piece) rest) ((bytes_decides (take (length piece) rest) piece).0 is)
 
--- a piece that agrees up to its end stands in front
-pub whole_found : (n : ℕ) (rest piece : List ℕ) → n ≤ length piece → length piece ≤ n → take n rest ≡ take n piece → rest ≡ piece ++ drop n rest
-whole_found n rest piece within past same =
-    sym (take-append-drop n rest) ∙ ap (λ (list : List ℕ). list ++ drop n rest) (same ∙ take_all n piece past)
-
--- and one that differs before its end does not
-pub not_found : (n : ℕ) (rest piece : List ℕ) → n < length piece → (n < length rest → n < length piece → slice_index rest n ≡ slice_index piece n → ⊥) → (after : List ℕ) → rest ≡ piece ++ after → ⊥
-not_found n rest piece short differ after is =
-    let long : length rest ≡ length piece + length after = ap length is ∙ length-append piece after in
-    differ (omega arith) short (ap (λ (list : List ℕ). slice_index list n) is ∙ get_or_append_left piece after 0 n short)
-
 pub on : (base : ℕ) (words : List ℕ) (next more : ℕ) (text rest piece left : List ℕ) → Matched base words next text rest → more ≤ length words →
     piece ++ word_lines (base + 4 * more) 0 (drop more words) ≡ word_lines (base + 4 * next) 0 (drop next words) →
-    rest ≡ piece ++ left → Matched base words more text left
-on base words next more text rest piece left so_far within lines_are is = record {
+    pointwise (λ one other. one == other) (take (length piece) rest) piece ≡ true → left ≡ drop (length piece) rest → Matched base words more text left
+on base words next more text rest piece left so_far within lines_are is left_is = record {
   within = within;
   shown = so_far.shown ++ piece;
-  text_is = so_far.text_is ∙ ap (λ (list : List ℕ). so_far.shown ++ list) is ∙ sym (append_assoc so_far.shown piece left);
+  text_is = so_far.text_is ∙ ap (λ (list : List ℕ). so_far.shown ++ list) (found rest piece is ∙ ap (λ (list : List ℕ). piece ++ list) (sym left_is)) ∙ sym (append_assoc so_far.shown piece left);
   lines_are = so_far.lines_are ∙ ap (λ (list : List ℕ). so_far.shown ++ list) (sym lines_are) ∙ sym (append_assoc so_far.shown piece (word_lines (base + 4 * more) 0 (drop more words)));
 }
 
 pub differs : (base : ℕ) (words : List ℕ) (next more : ℕ) (text rest piece : List ℕ) → Matched base words next text rest →
     piece ++ word_lines (base + 4 * more) 0 (drop more words) ≡ word_lines (base + 4 * next) 0 (drop next words) →
-    ((after : List ℕ) → rest ≡ piece ++ after → ⊥) → (after : List ℕ) → text ≡ word_lines base 0 words ++ after → ⊥
+    pointwise (λ one other. one == other) (take (length piece) rest) piece ≡ false → (after : List ℕ) → text ≡ word_lines base 0 words ++ after → ⊥
 differs base words next more text rest piece so_far lines_are isnt after text_is =
     let later = word_lines (base + 4 * more) 0 (drop more words) in
-    isnt (later ++ after)
-    (append_cancel_left so_far.shown rest (piece ++ (later ++ after))
+    let same : rest ≡ piece ++ (later ++ after) =
+    append_cancel_left so_far.shown rest (piece ++ (later ++ after))
     (sym so_far.text_is ∙ text_is ∙ ap (λ (list : List ℕ). list ++ after) (so_far.lines_are ∙ ap (λ (list : List ℕ). so_far.shown ++ list) (sym lines_are))
-    ∙ append_assoc so_far.shown (piece ++ later) after ∙ ap (λ (list : List ℕ). so_far.shown ++ list) (append_assoc piece later after)))
+    ∙ append_assoc so_far.shown (piece ++ later) after ∙ ap (λ (list : List ℕ). so_far.shown ++ list) (append_assoc piece later after))
+    in
+    let front : take (length piece) rest ≡ piece = ap (take (length piece)) same ∙ take-append_seam piece (later ++ after) in
+    let is = (bytes_decides (take (length piece) rest) piece).1 front in
+    cc
 
 pub end : (base : ℕ) (words : List ℕ) (next : ℕ) (text rest : List ℕ) → Matched base words next text rest → length words ≤ next → text ≡ word_lines base 0 words ++ rest
 unfolding word_lines

@@ -11,7 +11,6 @@ ghost use Rattle.std.specs.List.{All};
 ghost use Rattle.std.specs.Prelude.{◌≡◌, ◌≢◌, ◌≤◌, ◌<◌, ◌^◌, ◌↔◌, false, IfErr, IfOk, IsTrue, Ok, Some, [], length, slice_index, take, ◌++◌, List, ℕ};
 
 use super::draft::{Draft, read_draft};
-use byteorder::{ByteOrder, LittleEndian};
 use capture_file::ProgramFile;
 use machine_model::MAX_WORDS;
 use page_table::{MAX_CHUNKS, PageFault, PageSet};
@@ -102,36 +101,13 @@ fn program_of(
     }
 }
 
-// Whether two texts begin with the same eight bytes.
-#[inline(always)]
-fn are_eight_alike(text: &[u8], other: &[u8]) -> bool
-    requires text { 8 ≤ length text.now }
-    requires other { 8 ≤ length other.now }
-    ensures { IsTrue result → take 8 text.now ≡ take 8 other.now }
-{
-    LittleEndian::read_u64(text) == LittleEndian::read_u64(other)
-}
-
-// As many bytes of a text as surely stand in front of another, a multiple of eight.
-fn eights_alike(text: &[u8], other: &[u8]) -> usize
-    ensures within { (result ≤ length text.now) × (result ≤ length other.now) }
-    ensures same { take result text.now ≡ take result other.now }
-{
-    let most = text.len().min(other.len());
-    let mut at = 0;
-    while most - at >= 8 && are_eight_alike(&text[at..], &other[at..]) {
-        at += 8;
-    }
-    at
-}
-
-// How many bytes of a text stand in front of another. Eight at once are compared first.
+// How many bytes of a text stand in front of another.
 fn alike(text: &[u8], other: &[u8]) -> usize
     ensures within { (result ≤ length text.now) × (result ≤ length other.now) }
     ensures same { take result text.now ≡ take result other.now }
     ensures longest { result < length text.now → result < length other.now → slice_index text.now result ≢ slice_index other.now result }
 {
-    let mut at = eights_alike(text, other);
+    let mut at = 0;
     while at < text.len() && at < other.len() && text[at] == other[at] {
         at += 1;
     }
@@ -150,11 +126,10 @@ fn after_words<'a>(text: &'a [u8], program: &Program) -> Result<&'a [u8], usize>
         lines.clear();
         next = push_words(&mut lines, program, next);
         let piece = lines.as_str().as_bytes();
-        let number = alike(rest, piece);
-        if number < piece.len() {
-            return Err(text.len() - rest.len() + number);
-        }
-        rest = &rest[number..];
+        let Some(left) = rest.strip_prefix(piece) else {
+            return Err(text.len() - rest.len() + alike(rest, piece));
+        };
+        rest = left;
     }
     Ok(rest)
 }

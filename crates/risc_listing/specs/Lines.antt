@@ -68,13 +68,6 @@ instr_text (Skip123 ctl ends counts) = codes "skip123" ++ (data_text ctl ends 0 
 instr_text (Write1S23 ctl ends off counts addr) =
     codes "write1s23" ++ (data_text ctl ends off ++ (counts_text counts ++ at_text addr))
 
--- a data instruction with an address
-abbrev pub is_write : Instr → Bool
-is_write (Write ctl ends off count addr) = true
-is_write (Write123 ctl ends off counts addrs) = true
-is_write (Write1S23 ctl ends off counts addr) = true
-is_write _ = false
-
 abbrev pub line_end : List ℕ
 line_end = 10 ∷ []
 

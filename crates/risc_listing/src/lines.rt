@@ -1,9 +1,9 @@
 //! The lines of instructions and of words.
 
 ghost use Rattle.arrayvec.specs.ArrayString.{array_string_len};
-ghost use Rattle.risc_word.specs.declared.Instr.TheVariants.{Sync};
-ghost use Rattle.risc_listing.specs.Lines.{address_text, addresses_text, at_text, code_name, control_text, count_text, counts_text, data_text, flag_text, instr_line, instr_text, is_write, nibble_text, word_line};
-ghost use Rattle.std.specs.Prelude.{◌≡◌, ◌+◌, ◌≤◌, ◌++◌, codes, length, true, Some};
+ghost use Rattle.risc_word.specs.declared.Instr.TheVariants.{Jump, Skip, Skip123, Sync, Write, Write123, Write1S23, WriteC};
+ghost use Rattle.risc_listing.specs.Lines.{address_text, addresses_text, at_text, code_name, control_text, count_text, counts_text, data_text, flag_text, instr_line, instr_text, nibble_text, word_line};
+ghost use Rattle.std.specs.Prelude.{◌≡◌, ◌+◌, ◌≤◌, ◌++◌, codes, length, Some};
 
 use crate::digits::{
     address_and_space, five_places, four_places, one_digit, one_place, space_and_address,
@@ -172,12 +172,13 @@ fn code_name(code: Code) -> &'static str
     }
 }
 
-// The text of a SYNC.
-#[inline(always)]
+// The text of a SYNC. It and those of the other instructions stay functions, so that the way from each opcode to
+// its line is short.
+#[inline(never)]
 fn push_sync<const CAP: usize>(text: &mut ArrayString<CAP>, ctl: Ctl, resync: bool, code: Code)
-    requires { array_string_len text.old + 35 ≤ CAP }
+    requires { array_string_len text.old + 88 ≤ CAP }
     ensures bytes { text.new.bytes ≡ text.old.bytes ++ instr_text (Sync ctl resync code) }
-    ensures long { array_string_len text.new ≤ array_string_len text.old + 35 }
+    ensures long { array_string_len text.new ≤ array_string_len text.old + 88 }
 {
     text.push_str("sync ");
     text.push_str(code_name(code));
@@ -185,49 +186,117 @@ fn push_sync<const CAP: usize>(text: &mut ArrayString<CAP>, ctl: Ctl, resync: bo
     push_control(text, ctl);
 }
 
-// A data instruction with an address: its name, its fields, its counts and its addresses.
-#[inline(always)]
-fn push_write<const CAP: usize>(text: &mut ArrayString<CAP>, instr: &Instr)
-    requires writes { is_write instr.now ≡ true }
-    requires room { array_string_len text.old + 88 ≤ CAP }
-    ensures bytes { text.new.bytes ≡ text.old.bytes ++ instr_text instr.now }
+// The text of a WRITE.
+#[inline(never)]
+fn push_write<const CAP: usize>(
+    text: &mut ArrayString<CAP>,
+    ctl: Ctl,
+    ends: Ends,
+    off: u8,
+    count: u16,
+    addr: u32,
+)
+    requires { array_string_len text.old + 88 ≤ CAP }
+    ensures bytes { text.new.bytes ≡ text.old.bytes ++ instr_text (Write ctl ends off count addr) }
     ensures long { array_string_len text.new ≤ array_string_len text.old + 88 }
 {
-    match instr {
-        Instr::Write {
-            ctl,
-            ends,
-            off,
-            count,
-            addr,
-        } => {
-            text.push_str("write");
-            push_data(text, *ctl, *ends, *off);
-            push_count(text, *count);
-            push_at(text, *addr);
-        }
-        Instr::Write123 {
-            ctl,
-            ends,
-            off,
-            counts,
-            addrs,
-        } => {
-            push_planar(text, "write123", *ctl, *ends, *off, counts);
-            push_addresses(text, addrs);
-        }
-        Instr::Write1S23 {
-            ctl,
-            ends,
-            off,
-            counts,
-            addr,
-        } => {
-            push_planar(text, "write1s23", *ctl, *ends, *off, counts);
-            push_at(text, *addr);
-        }
-        _ => unreachable!(),
-    }
+    text.push_str("write");
+    push_data(text, ctl, ends, off);
+    push_count(text, count);
+    push_at(text, addr);
+}
+
+// The text of a SKIP.
+#[inline(never)]
+fn push_skip<const CAP: usize>(text: &mut ArrayString<CAP>, ctl: Ctl, ends: Ends, count: u16)
+    requires { array_string_len text.old + 88 ≤ CAP }
+    ensures bytes { text.new.bytes ≡ text.old.bytes ++ instr_text (Skip ctl ends count) }
+    ensures long { array_string_len text.new ≤ array_string_len text.old + 88 }
+{
+    text.push_str("skip");
+    push_data(text, ctl, ends, 0);
+    push_count(text, count);
+}
+
+// The text of a WRITEC.
+#[inline(never)]
+fn push_write_c<const CAP: usize>(
+    text: &mut ArrayString<CAP>,
+    ctl: Ctl,
+    ends: Ends,
+    off: u8,
+    count: u16,
+)
+    requires { array_string_len text.old + 88 ≤ CAP }
+    ensures bytes { text.new.bytes ≡ text.old.bytes ++ instr_text (WriteC ctl ends off count) }
+    ensures long { array_string_len text.new ≤ array_string_len text.old + 88 }
+{
+    text.push_str("writec");
+    push_data(text, ctl, ends, off);
+    push_count(text, count);
+}
+
+// The text of a JUMP.
+#[inline(never)]
+fn push_jump<const CAP: usize>(text: &mut ArrayString<CAP>, ctl: Ctl, target: u32)
+    requires { array_string_len text.old + 88 ≤ CAP }
+    ensures bytes { text.new.bytes ≡ text.old.bytes ++ instr_text (Jump ctl target) }
+    ensures long { array_string_len text.new ≤ array_string_len text.old + 88 }
+{
+    text.push_str("jump");
+    push_control(text, ctl);
+    push_at(text, target);
+}
+
+// The text of a WRITE123.
+#[inline(never)]
+fn push_write_123<const CAP: usize>(
+    text: &mut ArrayString<CAP>,
+    ctl: Ctl,
+    ends: Ends,
+    off: u8,
+    counts: &[u16; 3],
+    addrs: &[u32; 3],
+)
+    requires { array_string_len text.old + 88 ≤ CAP }
+    ensures bytes { text.new.bytes ≡ text.old.bytes ++ instr_text (Write123 ctl ends off counts.now addrs.now) }
+    ensures long { array_string_len text.new ≤ array_string_len text.old + 88 }
+{
+    push_planar(text, "write123", ctl, ends, off, counts);
+    push_addresses(text, addrs);
+}
+
+// The text of a SKIP123.
+#[inline(never)]
+fn push_skip_123<const CAP: usize>(
+    text: &mut ArrayString<CAP>,
+    ctl: Ctl,
+    ends: Ends,
+    counts: &[u16; 3],
+)
+    requires { array_string_len text.old + 88 ≤ CAP }
+    ensures bytes { text.new.bytes ≡ text.old.bytes ++ instr_text (Skip123 ctl ends counts.now) }
+    ensures long { array_string_len text.new ≤ array_string_len text.old + 88 }
+{
+    push_planar(text, "skip123", ctl, ends, 0, counts);
+}
+
+// The text of a WRITE1S23.
+#[inline(never)]
+fn push_write_1_s_23<const CAP: usize>(
+    text: &mut ArrayString<CAP>,
+    ctl: Ctl,
+    ends: Ends,
+    off: u8,
+    counts: &[u16; 3],
+    addr: u32,
+)
+    requires { array_string_len text.old + 88 ≤ CAP }
+    ensures bytes { text.new.bytes ≡ text.old.bytes ++ instr_text (Write1S23 ctl ends off counts.now addr) }
+    ensures long { array_string_len text.new ≤ array_string_len text.old + 88 }
+{
+    push_planar(text, "write1s23", ctl, ends, off, counts);
+    push_at(text, addr);
 }
 
 // An instruction in words: its name, its fields, its counts and its addresses.
@@ -238,33 +307,37 @@ fn push_instr<const CAP: usize>(text: &mut ArrayString<CAP>, instr: &Instr)
     ensures long { array_string_len text.new ≤ array_string_len text.old + 88 }
 {
     match instr {
-        Instr::Write { .. } | Instr::Write123 { .. } | Instr::Write1S23 { .. } => {
-            push_write(text, instr);
-        }
-        Instr::Skip { ctl, ends, count } => {
-            text.push_str("skip");
-            push_data(text, *ctl, *ends, 0);
-            push_count(text, *count);
-        }
+        Instr::Write {
+            ctl,
+            ends,
+            off,
+            count,
+            addr,
+        } => push_write(text, *ctl, *ends, *off, *count, *addr),
+        Instr::Skip { ctl, ends, count } => push_skip(text, *ctl, *ends, *count),
         Instr::WriteC {
             ctl,
             ends,
             off,
             count,
-        } => {
-            text.push_str("writec");
-            push_data(text, *ctl, *ends, *off);
-            push_count(text, *count);
-        }
-        Instr::Jump { ctl, target } => {
-            text.push_str("jump");
-            push_control(text, *ctl);
-            push_at(text, *target);
-        }
+        } => push_write_c(text, *ctl, *ends, *off, *count),
+        Instr::Jump { ctl, target } => push_jump(text, *ctl, *target),
         Instr::Sync { ctl, resync, code } => push_sync(text, *ctl, *resync, *code),
-        Instr::Skip123 { ctl, ends, counts } => {
-            push_planar(text, "skip123", *ctl, *ends, 0, counts);
-        }
+        Instr::Write123 {
+            ctl,
+            ends,
+            off,
+            counts,
+            addrs,
+        } => push_write_123(text, *ctl, *ends, *off, counts, addrs),
+        Instr::Skip123 { ctl, ends, counts } => push_skip_123(text, *ctl, *ends, counts),
+        Instr::Write1S23 {
+            ctl,
+            ends,
+            off,
+            counts,
+            addr,
+        } => push_write_1_s_23(text, *ctl, *ends, *off, counts, *addr),
     }
 }
 
