@@ -1,0 +1,370 @@
+-- The fields of a program file, each with what it tells where it is right.
+use Rattle.std.proofs.Common.{◌≡◌, ℕ, zero, suc, ◌+◌, ◌*◌, ◌%◌, ◌^◌, ◌<◌, ◌≤◌, ◌⊎◌, inl, inr, Bool, true, false, cond, List, [], ◌∷◌, ◌++◌, length, take, drop, Option, Some, None, Result, Ok, Err, refl, sym, ap, subst, ◌∙◌, arith, length-append}
+use Rattle.std.specs.Prelude.{nat_le, nat_lt, not, ◌&&◌, ◌==◌}
+use Rattle.std.proofs.lemmas.Bool.{leb-true, le-leb}
+use Rattle.std.proofs.lemmas.List.{drop_at, length-take-le, take-append-drop}
+use Rattle.byteorder.specs.Endian.{little_number}
+use Rattle.page_table.specs.Grants.{Chunk, chunk}
+use Rattle.machine_model.specs.Paths.{RiscProgram, shares_byte}
+use Rattle.capture_file.specs.declared.FileKind.{FileKind}
+use Rattle.capture_file.specs.declared.FileKind.TheVariants as fault
+use Rattle.capture_file.specs.declared.FileFault.{FileFault}
+use Rattle.capture_file.specs.declared.program.Layout.{Layout}
+use Rattle.capture_file.specs.declared.program.Layout.TheVariants.{Paged, Chunked}
+use Rattle.capture_file.specs.Programs.{Field, ◌>>=◌, cut, wrong, judged, number_field, layout_field, layout_of, layout_or_magic, base_field, base_fault, word_count_field, word_count_fault, words_in, words_field, chunk_count_field, chunk_count_fault, page_field, page_fault, long_chunk_field, address_fault, length_fault, is_length, chunk_field, chunks_field}
+use Rattle.capture_file.proofs.Chunks.{IsBytes, IsBytes-drop}
+use Rattle.program_law.specs.Beginnings.{IsWhole, field_width, has_good_beginning}
+use Rattle.program_law.proofs.Judging.{Reader, FaultAt, FieldRead, FieldGoes, Inside, IsField, both, field_then}
+
+-- ---- a number that is judged by its value
+
+-- the kind of fault that a number may have
+pub record IsOfNumber (kind : FileKind) : Type 0 where
+  pub width : 4 ≡ field_width kind
+  pub whole : IsWhole kind
+  pub inside : kind ≡ fault.AfterEnd → ⊥
+
+abbrev pub AtFront : List ℕ → FileKind → Type 0
+AtFront before kind = (before ≡ []) × (kind ≡ fault.AfterEnd → ⊥)
+
+pub AtFront-inside : Inside AtFront
+AtFront-inside before kind noted late = noted.1 late
+
+number_low : (a b c d : ℕ) (rest : List ℕ) → IsBytes (a ∷ b ∷ c ∷ d ∷ rest) → little_number 4 (a ∷ b ∷ c ∷ d ∷ []) < 2 ^ 32
+number_low a b c d rest fits = omega (arith, fits 0, fits 1, fits 2, fits 3)
+
+module _ (A : Type 0) (value : ℕ → A) (wrongs : ℕ → Option FileKind) (Known : A → Type 0) (of : (n : ℕ) (kind : FileKind) → wrongs n ≡ Some kind → IsOfNumber kind) (known : (n : ℕ) → wrongs n ≡ None → n < 2 ^ 32 → Known (value n)) where
+  abbrev pub judged_number : Reader (A × List ℕ)
+  judged_number size bytes = number_field size bytes >>= λ x. judged (wrongs x.0) size bytes >>= λ _. Ok (value x.0, x.1)
+
+  pub number_goes : IsField A judged_number Known AtFront
+  number_goes size [] fits = inl refl
+  number_goes size (a ∷ []) fits = inl refl
+  number_goes size (a ∷ b ∷ []) fits = inl refl
+  number_goes size (a ∷ b ∷ c ∷ []) fits = inl refl
+  number_goes size (a ∷ b ∷ c ∷ d ∷ rest) fits = by_fault (wrongs n) refl
+    where
+      n : ℕ
+      n = little_number 4 (a ∷ b ∷ c ∷ d ∷ [])
+
+      by_fault : (k : Option FileKind) → wrongs (little_number 4 (a ∷ b ∷ c ∷ d ∷ [])) ≡ k →
+          FieldGoes A judged_number Known AtFront size (a ∷ b ∷ c ∷ d ∷ rest) (judged k size (a ∷ b ∷ c ∷ d ∷ rest) >>= λ _. Ok (value (little_number 4 (a ∷ b ∷ c ∷ d ∷ [])), rest))
+      by_fault None right =
+          record {
+            front = a ∷ b ∷ c ∷ d ∷ [];
+            parts = refl;
+            again = λ m more. ap (λ (k : Option FileKind). judged k m (a ∷ b ∷ c ∷ d ∷ more) >>= λ _. Ok (value (little_number 4 (a ∷ b ∷ c ∷ d ∷ [])), more)) right;
+            known = known (little_number 4 (a ∷ b ∷ c ∷ d ∷ [])) right (number_low a b c d rest fits);
+          }
+      by_fault (Some kind) is_wrong =
+          let number = of (little_number 4 (a ∷ b ∷ c ∷ d ∷ [])) kind is_wrong in
+          inr
+          (record {
+            before = [];
+            field = a ∷ b ∷ c ∷ d ∷ [];
+            rest = rest;
+            kind = kind;
+            parts = refl;
+            width = number.width;
+            is = refl;
+            whole = number.whole;
+            again = λ m more. ap (λ (k : Option FileKind). judged k m (a ∷ b ∷ c ∷ d ∷ more) >>= λ _. Ok (value (little_number 4 (a ∷ b ∷ c ∷ d ∷ [])), more)) is_wrong;
+            cut_before = λ other m. refl;
+            done_before = λ late m. absurd (number.inside late);
+            noted = (refl, number.inside);
+          })
+
+-- ---- the first word
+
+layout_goes_at : (size : ℕ) (a b c d : ℕ) (rest : List ℕ) (l : Option Layout) → layout_of (little_number 4 (a ∷ b ∷ c ∷ d ∷ [])) ≡ l →
+    FieldGoes Layout layout_field (λ layout. Unit {0}) AtFront size (a ∷ b ∷ c ∷ d ∷ rest) (layout_or_magic size (a ∷ b ∷ c ∷ d ∷ rest) l rest)
+unfolding layout_field
+layout_goes_at size a b c d rest (Some layout) named =
+    record {
+      front = a ∷ b ∷ c ∷ d ∷ [];
+      parts = refl;
+      again = λ m more. ap (λ (l : Option Layout). layout_or_magic m (a ∷ b ∷ c ∷ d ∷ more) l more) named;
+      known = tt;
+    }
+layout_goes_at size a b c d rest None unnamed =
+    inr
+    (record {
+      before = [];
+      field = a ∷ b ∷ c ∷ d ∷ [];
+      rest = rest;
+      kind = fault.Magic;
+      parts = refl;
+      width = refl;
+      is = refl;
+      whole = λ e. absurd (cc);
+      again = λ m more. ap (λ (l : Option Layout). layout_or_magic m (a ∷ b ∷ c ∷ d ∷ more) l more) unnamed;
+      cut_before = λ other m. refl;
+      done_before = λ late m. absurd (cc);
+      noted = (refl, λ late. absurd (cc));
+    })
+
+pub layout_goes : IsField Layout layout_field (λ layout. Unit {0}) AtFront
+unfolding layout_field
+layout_goes size [] fits = inl refl
+layout_goes size (a ∷ []) fits = inl refl
+layout_goes size (a ∷ b ∷ []) fits = inl refl
+layout_goes size (a ∷ b ∷ c ∷ []) fits = inl refl
+layout_goes size (a ∷ b ∷ c ∷ d ∷ rest) fits = layout_goes_at size a b c d rest (layout_of (little_number 4 (a ∷ b ∷ c ∷ d ∷ []))) refl
+
+-- ---- base and counts
+
+one_kind : (b : Bool) (kind other : FileKind) → cond b None (Some kind) ≡ Some other → kind ≡ other
+one_kind true kind other e = absurd (cc)
+one_kind false kind other e = cc
+
+base_is : IsOfNumber fault.Base
+base_is = record { width = refl; whole = λ e. absurd (cc); inside = λ e. absurd (cc) }
+
+count_is : IsOfNumber fault.Count
+count_is = record { width = refl; whole = λ e. absurd (cc); inside = λ e. absurd (cc) }
+
+pub base_goes : IsField ℕ base_field (λ base. (base_fault base ≡ None) × (base < 2 ^ 32)) AtFront
+unfolding base_field
+base_goes =
+    number_goes ℕ (λ n. n) base_fault (λ base. (base_fault base ≡ None) × (base < 2 ^ 32))
+    (λ n kind e. subst IsOfNumber (one_kind (n % 4 == 0) fault.Base kind e) base_is) (λ n right low. (right, low))
+
+pub word_count_goes : (base : ℕ) → IsField ℕ (λ size. word_count_field size base) (λ count. word_count_fault base count ≡ None) AtFront
+unfolding word_count_field
+word_count_goes base =
+    number_goes ℕ (λ n. n) (word_count_fault base) (λ count. word_count_fault base count ≡ None)
+    (λ n kind e. subst IsOfNumber (one_kind (nat_le n 1048576 && nat_le (base + 4 * n) (2 ^ 32)) fault.Count kind e) count_is) (λ n right low. right)
+
+pub chunk_count_goes : IsField ℕ chunk_count_field (λ count. Unit {0}) AtFront
+unfolding chunk_count_field
+chunk_count_goes =
+    number_goes ℕ (λ n. n) chunk_count_fault (λ count. Unit {0})
+    (λ n kind e. subst IsOfNumber (one_kind (nat_le n 4096) fault.Count kind e) count_is) (λ n right low. tt)
+
+-- ---- the words
+
+words_back : (count : ℕ) (bytes more : List ℕ) → 4 * count ≤ length bytes → words_in count (take (4 * count) bytes ++ more) ≡ words_in count bytes
+words_back zero bytes more long = refl
+words_back (suc count) [] more long = absurd (omega arith)
+words_back (suc count) (a ∷ []) more long = absurd (omega arith)
+words_back (suc count) (a ∷ b ∷ []) more long = absurd (omega arith)
+words_back (suc count) (a ∷ b ∷ c ∷ []) more long = absurd (omega arith)
+words_back (suc count) (a ∷ b ∷ c ∷ d ∷ rest) more long =
+    let four : 4 * suc count ≡ suc (suc (suc (suc (4 * count)))) = omega arith in
+    ap (λ (n : ℕ). words_in (suc count) (take n (a ∷ b ∷ c ∷ d ∷ rest) ++ more)) four
+    ∙ ap (λ (words : List ℕ). little_number 4 (a ∷ b ∷ c ∷ d ∷ []) ∷ words) (words_back count rest more (omega arith))
+
+words_length : (count : ℕ) (bytes : List ℕ) → length (words_in count bytes) ≡ count
+words_length zero bytes = refl
+words_length (suc count) bytes = ap suc (words_length count (drop 4 bytes))
+
+abbrev Never : List ℕ → FileKind → Type 0
+Never before kind = ⊥
+
+words_at : (size count : ℕ) (bytes : List ℕ) (b : Bool) → nat_le (4 * count) (length bytes) ≡ b →
+    FieldGoes (List ℕ) (λ n. words_field n count) (λ words. length words ≡ count) Never size bytes (cond b (Ok (words_in count bytes, drop (4 * count) bytes)) (Err (cut size)))
+unfolding words_field
+words_at size count bytes true long =
+    let le : 4 * count ≤ length bytes = leb-true (4 * count) (length bytes) long in
+    let front : List ℕ = take (4 * count) bytes in
+    let len : length front ≡ 4 * count = length-take-le (4 * count) bytes le in
+    record {
+      front = front;
+      parts = sym (take-append-drop (4 * count) bytes);
+      again =
+          λ n more.
+          let longer : 4 * count ≤ length (front ++ more) = omega (arith, length-append front more) in
+          rw (le-leb (4 * count) (length (front ++ more)) longer, words_back count bytes more le, drop_at front more (4 * count) len) refl;
+      known = words_length count bytes;
+    }
+words_at size count bytes false short = inl refl
+
+pub words_go : (count : ℕ) → IsField (List ℕ) (λ n. words_field n count) (λ words. length words ≡ count) Never
+unfolding words_field
+words_go count size bytes fits = words_at size count bytes (nat_le (4 * count) (length bytes)) refl
+
+-- ---- the chunks
+
+abbrev pub Crowded : List ℕ → FileKind → Type 0
+Crowded before kind = has_good_beginning kind ≡ false
+
+pub Crowded-inside : Inside Crowded
+Crowded-inside before kind crowded late = let no : false ≡ true = sym crowded ∙ ap has_good_beginning late in cc
+
+abbrev Any : {A : Type 0} → A → Type 0
+Any x = Unit {0}
+
+pub record IsOfChunk (kind : FileKind) : Type 0 where
+  pub number : IsOfNumber kind
+  pub crowded : has_good_beginning kind ≡ false
+
+page_is : IsOfChunk fault.Page
+page_is = record { number = record { width = refl; whole = λ e. absurd (cc); inside = λ e. absurd (cc) }; crowded = refl }
+
+order_is : IsOfChunk fault.Order
+order_is = record { number = record { width = refl; whole = λ e. absurd (cc); inside = λ e. absurd (cc) }; crowded = refl }
+
+overlap_is : IsOfChunk fault.Overlap
+overlap_is = record { number = record { width = refl; whole = λ e. absurd (cc); inside = λ e. absurd (cc) }; crowded = refl }
+
+length_is : IsOfChunk fault.Length
+length_is = record { number = record { width = refl; whole = λ e. absurd (cc); inside = λ e. absurd (cc) }; crowded = refl }
+
+-- a fault that is one of a chunk's, or one that is found after it
+first_or : (b : Bool) (kind other : FileKind) (later : Option FileKind) → IsOfChunk kind → (later ≡ Some other → IsOfChunk other) → cond b (Some kind) later ≡ Some other → IsOfChunk other
+first_or true kind other later is more e = let same : kind ≡ other = cc in subst IsOfChunk same is
+first_or false kind other later is more e = more e
+
+none_left : (kind : FileKind) → None ≡ Some kind → IsOfChunk kind
+none_left kind e = absurd (cc)
+
+page_of : (program : RiscProgram) (from at : ℕ) (kind : FileKind) → page_fault program from at ≡ Some kind → IsOfChunk kind
+page_of program from at kind e =
+    first_or (not (at % 4096 == 0)) fault.Page kind (cond (nat_lt at from) (Some fault.Order) (cond (shares_byte program (chunk at 4096)) (Some fault.Overlap) None)) page_is
+    (first_or (nat_lt at from) fault.Order kind (cond (shares_byte program (chunk at 4096)) (Some fault.Overlap) None) order_is
+    (first_or (shares_byte program (chunk at 4096)) fault.Overlap kind None overlap_is (none_left kind))) e
+
+address_of : (from at : ℕ) (kind : FileKind) → address_fault from at ≡ Some kind → IsOfChunk kind
+address_of from at kind e =
+    first_or (not (at % 4 == 0)) fault.Page kind (cond (nat_lt at from) (Some fault.Order) None) page_is
+    (first_or (nat_lt at from) fault.Order kind None order_is (none_left kind)) e
+
+length_of : (program : RiscProgram) (sum at len : ℕ) (kind : FileKind) → length_fault program sum at len ≡ Some kind → IsOfChunk kind
+length_of program sum at len kind e =
+    first_or (not (is_length sum at len)) fault.Length kind (cond (shares_byte program (chunk at len)) (Some fault.Overlap) None) length_is
+    (first_or (shares_byte program (chunk at len)) fault.Overlap kind None overlap_is (none_left kind)) e
+
+page_goes_at : (program : RiscProgram) (from size a b c d : ℕ) (rest : List ℕ) (k : Option FileKind) → page_fault program from (little_number 4 (a ∷ b ∷ c ∷ d ∷ [])) ≡ k →
+    FieldGoes Chunk (λ n. page_field n program from) Any Crowded size (a ∷ b ∷ c ∷ d ∷ rest)
+    (judged k size (a ∷ b ∷ c ∷ d ∷ rest) >>= λ _. Ok (chunk (little_number 4 (a ∷ b ∷ c ∷ d ∷ [])) 4096, rest))
+unfolding page_field
+page_goes_at program from size a b c d rest None right =
+    record {
+      front = a ∷ b ∷ c ∷ d ∷ [];
+      parts = refl;
+      again = λ m more. ap (λ (k : Option FileKind). judged k m (a ∷ b ∷ c ∷ d ∷ more) >>= λ _. Ok (chunk (little_number 4 (a ∷ b ∷ c ∷ d ∷ [])) 4096, more)) right;
+      known = tt;
+    }
+page_goes_at program from size a b c d rest (Some kind) is_wrong =
+    let of = page_of program from (little_number 4 (a ∷ b ∷ c ∷ d ∷ [])) kind is_wrong in
+    inr
+    (record {
+      before = [];
+      field = a ∷ b ∷ c ∷ d ∷ [];
+      rest = rest;
+      kind = kind;
+      parts = refl;
+      width = of.number.width;
+      is = refl;
+      whole = of.number.whole;
+      again = λ m more. ap (λ (k : Option FileKind). judged k m (a ∷ b ∷ c ∷ d ∷ more) >>= λ _. Ok (chunk (little_number 4 (a ∷ b ∷ c ∷ d ∷ [])) 4096, more)) is_wrong;
+      cut_before = λ other m. refl;
+      done_before = λ late m. absurd (of.number.inside late);
+      noted = of.crowded;
+    })
+
+page_goes : (program : RiscProgram) (from : ℕ) → IsField Chunk (λ n. page_field n program from) Any Crowded
+unfolding page_field
+page_goes program from size [] fits = inl refl
+page_goes program from size (a ∷ []) fits = inl refl
+page_goes program from size (a ∷ b ∷ []) fits = inl refl
+page_goes program from size (a ∷ b ∷ c ∷ []) fits = inl refl
+page_goes program from size (a ∷ b ∷ c ∷ d ∷ rest) fits = page_goes_at program from size a b c d rest (page_fault program from (little_number 4 (a ∷ b ∷ c ∷ d ∷ []))) refl
+
+-- an address, and the length behind it
+module _ (program : RiscProgram) (from sum a b c d : ℕ) where
+  abbrev at : ℕ
+  at = little_number 4 (a ∷ b ∷ c ∷ d ∷ [])
+
+  abbrev behind : ℕ → List ℕ → Field Chunk
+  behind size bytes = number_field size bytes >>= λ len. judged (length_fault program sum at len.0) size bytes >>= λ _. Ok (chunk at len.0, len.1)
+
+  abbrev Goes : ℕ → List ℕ → Field Chunk → Type 0
+  Goes size bytes r = FieldGoes Chunk (λ n. long_chunk_field n program from sum) Any Crowded size bytes r
+
+  length_at : (right : address_fault from at ≡ None) (size e f g h : ℕ) (rest : List ℕ) (k : Option FileKind) → length_fault program sum at (little_number 4 (e ∷ f ∷ g ∷ h ∷ [])) ≡ k →
+      Goes size (a ∷ b ∷ c ∷ d ∷ e ∷ f ∷ g ∷ h ∷ rest) (judged k size (e ∷ f ∷ g ∷ h ∷ rest) >>= λ _. Ok (chunk at (little_number 4 (e ∷ f ∷ g ∷ h ∷ [])), rest))
+  unfolding long_chunk_field
+  length_at right size e f g h rest None good =
+      record {
+        front = a ∷ b ∷ c ∷ d ∷ e ∷ f ∷ g ∷ h ∷ [];
+        parts = refl;
+        again =
+            λ m more. ap (λ (k : Option FileKind). judged k m (a ∷ b ∷ c ∷ d ∷ e ∷ f ∷ g ∷ h ∷ more) >>= λ _. behind m (e ∷ f ∷ g ∷ h ∷ more)) right
+            ∙ ap (λ (k : Option FileKind). judged k m (e ∷ f ∷ g ∷ h ∷ more) >>= λ _. Ok (chunk at (little_number 4 (e ∷ f ∷ g ∷ h ∷ [])), more)) good;
+        known = tt;
+      }
+  length_at right size e f g h rest (Some kind) is_wrong =
+      let of = length_of program sum at (little_number 4 (e ∷ f ∷ g ∷ h ∷ [])) kind is_wrong in
+      inr
+      (record {
+        before = a ∷ b ∷ c ∷ d ∷ [];
+        field = e ∷ f ∷ g ∷ h ∷ [];
+        rest = rest;
+        kind = kind;
+        parts = refl;
+        width = of.number.width;
+        is = refl;
+        whole = of.number.whole;
+        again =
+            λ m more. ap (λ (k : Option FileKind). judged k m (a ∷ b ∷ c ∷ d ∷ e ∷ f ∷ g ∷ h ∷ more) >>= λ _. behind m (e ∷ f ∷ g ∷ h ∷ more)) right
+            ∙ ap (λ (k : Option FileKind). judged k m (e ∷ f ∷ g ∷ h ∷ more) >>= λ _. Ok (chunk at (little_number 4 (e ∷ f ∷ g ∷ h ∷ [])), more)) is_wrong;
+        cut_before = λ other m. ap (λ (k : Option FileKind). judged k m (a ∷ b ∷ c ∷ d ∷ []) >>= λ _. behind m []) right;
+        done_before = λ late m. absurd (of.number.inside late);
+        noted = of.crowded;
+      })
+
+  behind_at : (right : address_fault from at ≡ None) (size : ℕ) (rest : List ℕ) → Goes size (a ∷ b ∷ c ∷ d ∷ rest) (behind size rest)
+  behind_at right size [] = inl refl
+  behind_at right size (e ∷ []) = inl refl
+  behind_at right size (e ∷ f ∷ []) = inl refl
+  behind_at right size (e ∷ f ∷ g ∷ []) = inl refl
+  behind_at right size (e ∷ f ∷ g ∷ h ∷ rest) = length_at right size e f g h rest (length_fault program sum at (little_number 4 (e ∷ f ∷ g ∷ h ∷ []))) refl
+
+  address_at : (size : ℕ) (rest : List ℕ) (k : Option FileKind) → address_fault from at ≡ k → Goes size (a ∷ b ∷ c ∷ d ∷ rest) (judged k size (a ∷ b ∷ c ∷ d ∷ rest) >>= λ _. behind size rest)
+  unfolding long_chunk_field
+  address_at size rest None right = behind_at right size rest
+  address_at size rest (Some kind) is_wrong =
+      let of = address_of from at kind is_wrong in
+      inr
+      (record {
+        before = [];
+        field = a ∷ b ∷ c ∷ d ∷ [];
+        rest = rest;
+        kind = kind;
+        parts = refl;
+        width = of.number.width;
+        is = refl;
+        whole = of.number.whole;
+        again = λ m more. ap (λ (k : Option FileKind). judged k m (a ∷ b ∷ c ∷ d ∷ more) >>= λ _. behind m more) is_wrong;
+        cut_before = λ other m. refl;
+        done_before = λ late m. absurd (of.number.inside late);
+        noted = of.crowded;
+      })
+
+long_chunk_goes : (program : RiscProgram) (from sum : ℕ) → IsField Chunk (λ n. long_chunk_field n program from sum) Any Crowded
+unfolding long_chunk_field
+long_chunk_goes program from sum size [] fits = inl refl
+long_chunk_goes program from sum size (a ∷ []) fits = inl refl
+long_chunk_goes program from sum size (a ∷ b ∷ []) fits = inl refl
+long_chunk_goes program from sum size (a ∷ b ∷ c ∷ []) fits = inl refl
+long_chunk_goes program from sum size (a ∷ b ∷ c ∷ d ∷ rest) fits =
+    address_at program from sum a b c d size rest (address_fault from (little_number 4 (a ∷ b ∷ c ∷ d ∷ []))) refl
+
+chunk_goes : (layout : Layout) (program : RiscProgram) (from sum : ℕ) → IsField Chunk (λ n. chunk_field layout n program from sum) Any Crowded
+chunk_goes Paged program from sum = page_goes program from
+chunk_goes Chunked program from sum = long_chunk_goes program from sum
+
+listed_goes : (c : Chunk) (chunks : List Chunk) → IsField (List Chunk) (λ n bytes. Ok (c ∷ chunks, bytes)) Any Crowded
+listed_goes c chunks size bytes fits = record { front = []; parts = refl; again = λ n more. refl; known = tt }
+
+pub chunks_go : (layout : Layout) (program : RiscProgram) (count from sum : ℕ) → IsField (List Chunk) (λ n. chunks_field layout n program count from sum) Any Crowded
+unfolding chunks_field
+chunks_go layout program zero from sum = λ size bytes fits. record { front = []; parts = refl; again = λ n more. refl; known = tt }
+chunks_go layout program (suc count) from sum =
+    field_then Chunk (List Chunk) (λ n. chunk_field layout n program from sum)
+    (λ c n bytes. chunks_field layout n program count (c.at + c.len) (sum + c.len) bytes >>= λ others. Ok (c ∷ others.0, others.1)) Any Any Crowded (chunk_goes layout program from sum)
+    (λ c known.
+    field_then (List Chunk) (List Chunk) (λ n. chunks_field layout n program count (c.at + c.len) (sum + c.len)) (λ others n bytes. Ok (c ∷ others, bytes)) Any Any Crowded
+    (chunks_go layout program count (c.at + c.len) (sum + c.len)) (λ others known. listed_goes c others) (λ front before kind noted. noted) Crowded-inside)
+    (λ front before kind noted. noted) Crowded-inside

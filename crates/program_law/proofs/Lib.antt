@@ -1,0 +1,5 @@
+pub mod Judging
+pub mod Fields
+pub mod Readings
+pub mod Faults
+pub mod Spellings
