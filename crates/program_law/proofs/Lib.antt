@@ -3,3 +3,4 @@ pub mod Fields
 pub mod Readings
 pub mod Faults
 pub mod Spellings
+pub mod LateFaults

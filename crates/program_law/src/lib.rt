@@ -2,15 +2,16 @@
 //! in it, and that each fault is decided by its field. The functions do nothing; their contracts are the laws.
 #![tactic(auto)]
 
-ghost use Rattle.std.specs.Prelude.{◌≡◌, ◌<◌, ◌≤◌, ◌++◌, ℕ, true, List, Ok, Err, length, slice_index, take};
+ghost use Rattle.std.specs.Prelude.{◌≡◌, ◌<◌, ◌≤◌, ◌++◌, ◌∷◌, [], ℕ, true, List, Ok, Err, drop, length, slice_index, take};
 ghost use Rattle.capture_file.specs.Programs.{HasProgram, program_of};
 ghost use Rattle.capture_file.specs.Streams.{fault_at};
 ghost use Rattle.capture_file.specs.declared.FileFault.{FileFault};
-ghost use Rattle.capture_file.specs.declared.FileKind.TheVariants.{AfterEnd, Short};
+ghost use Rattle.capture_file.specs.declared.FileKind.TheVariants.{AfterEnd, Base, Count, Length, Magic, Order, Overlap, Page, Pages, Short};
 ghost use Rattle.capture_file.specs.declared.program.Layout.{Layout};
 ghost use Rattle.capture_file.specs.declared.program.ProgramFile.{ProgramFile};
 ghost use Rattle.program_law.specs.Beginnings.{BeginsFile, IsWhole, before_field, has_good_beginning, with_field};
 ghost use Rattle.program_law.specs.Spelled.{IsSpelledIn, Spells, bytes_in};
+ghost use Rattle.program_law.specs.Worked.{IsAtFault, chunk_file, line_file, one_line, highest_first, without_chunks};
 
 /// What is spelled is read back: a program that can be made, with a fill, is read from its bytes in the form that is its
 /// own.
@@ -54,4 +55,26 @@ pub fn short_files_have_short_beginnings()
     ensures beginnings { (bytes : List ℕ) (found : FileFault) (count : ℕ) → ((i : ℕ) → slice_index bytes i < 256) →
         found.kind ≡ Short → program_of bytes ≡ Err found → count ≤ length bytes →
         program_of (take count bytes) ≡ Err (fault_at count Short) }
+{}
+
+/// Faults of files that differ from a good one in one field, each at this field.
+pub fn worked_files_are_at_fault()
+    ensures magic { IsAtFault (65 ∷ drop 1 one_line) 0 Magic }
+    ensures base { IsAtFault (line_file 4097 8 (1 ∷ 131072 ∷ [])) 4 Base }
+    ensures words { IsAtFault (line_file 4096 4294967295 (1 ∷ 131072 ∷ [])) 8 Count }
+    ensures pages { IsAtFault (line_file 4096 8 (4097 ∷ 131072 ∷ [])) 44 Count }
+    ensures page { IsAtFault (line_file 4096 8 (1 ∷ 131076 ∷ [])) 48 Page }
+    ensures overlap { IsAtFault (line_file 4096 8 (1 ∷ 4096 ∷ [])) 48 Overlap }
+    ensures order { IsAtFault (line_file 4096 8 (2 ∷ 131072 ∷ 131072 ∷ [])) 52 Order }
+    ensures after_end { IsAtFault (one_line ++ 0 ∷ []) 53 AfterEnd }
+    ensures short { IsAtFault (take 20 one_line) 20 Short }
+    ensures chunk_length { IsAtFault (chunk_file (1 ∷ 131072 ∷ 6 ∷ [])) 52 Length }
+    ensures all_pages { IsAtFault (chunk_file (1 ∷ 131072 ∷ 4096 ∷ [])) 56 Pages }
+{}
+
+/// Some faults are found late: no good file begins so, though each field is right up to there. A file in the form with
+/// chunks that has none is at fault at its fill, and one with a second page behind the highest at this page.
+pub fn some_faults_are_found_late()
+    ensures no_chunks { BeginsFile without_chunks → ⊥ }
+    ensures no_room { BeginsFile highest_first → ⊥ }
 {}

@@ -1,0 +1,32 @@
+-- Worked program files and their faults.
+use Rattle.std.specs.Prelude.{◌≡◌, ℕ, List, [], ◌∷◌, ◌++◌, drop, take, Err, codes}
+use Rattle.byteorder.specs.Endian.{little_bytes}
+use Rattle.capture_file.specs.declared.FileKind.{FileKind}
+use Rattle.capture_file.specs.Programs.{numbers_spelled, program_of}
+use Rattle.capture_file.specs.Streams.{fault_at}
+
+abbrev pub IsAtFault : List ℕ → ℕ → FileKind → Type 0
+IsAtFault bytes place kind = program_of bytes ≡ Err (fault_at place kind)
+
+-- the words of a program that captures one line of eight bytes: a SYNC for VRE and one for FM1, the WRITE and the JUMP
+abbrev pub line_words : List ℕ
+line_words = 2147516420 ∷ 0 ∷ 2147483654 ∷ 0 ∷ 469762056 ∷ 131072 ∷ 1910571008 ∷ 4096 ∷ []
+
+-- a file of these words at a base, with a number of words, and with what stands behind the words
+abbrev pub line_file : ℕ → ℕ → List ℕ → List ℕ
+line_file base count memory = codes "BRP1" ++ (numbers_spelled (base ∷ count ∷ line_words ++ memory) ++ 0 ∷ [])
+
+-- at 1000 hexadecimal, with one page at 20000: 53 bytes, of which the number of pages stands at 44 and the fill at 52
+abbrev pub one_line : List ℕ
+one_line = line_file 4096 8 (1 ∷ 131072 ∷ [])
+
+-- the same in the other form, with what stands behind the words
+abbrev pub chunk_file : List ℕ → List ℕ
+chunk_file memory = codes "BRP2" ++ (numbers_spelled (4096 ∷ 8 ∷ line_words ++ memory) ++ 0 ∷ [])
+
+-- the beginning of a file with chunks, but with none; and that of a file with two pages, of which the first is the highest
+abbrev pub without_chunks : List ℕ
+without_chunks = codes "BRP2" ++ numbers_spelled (0 ∷ 0 ∷ 0 ∷ [])
+
+abbrev pub highest_first : List ℕ
+highest_first = codes "BRP1" ++ numbers_spelled (0 ∷ 0 ∷ 2 ∷ 4294963200 ∷ [])
