@@ -1,14 +1,13 @@
 -- Where a program file is at fault: the bytes before the field, and those up to and with it.
-use Rattle.std.proofs.Common.{◌≡◌, ℕ, zero, suc, ◌+◌, ◌-◌, ◌<◌, ◌≤◌, ◌⊎◌, inl, inr, Bool, true, false, List, [], ◌∷◌, ◌++◌, get_or, length, take, drop, Result, Ok, Err, refl, sym, ap, subst, ◌∙◌, arith, append_assoc, length-append}
-use Rattle.std.proofs.lemmas.List.{append-nil, get_or-append-add, length-take-le, take-append-drop, take_all}
-use Rattle.std.proofs.Math.ListN.{get_or-append}
+use Rattle.std.proofs.Common.{◌≡◌, ℕ, zero, suc, ◌+◌, ◌-◌, ◌≤◌, inl, inr, true, false, List, [], ◌∷◌, ◌++◌, length, take, drop, Result, Ok, Err, refl, sym, ap, subst, ◌∙◌, arith, append_assoc, length-append}
+use Rattle.std.proofs.lemmas.List.{append-nil, length-take-le, take-append-drop}
 use Rattle.std.proofs.Math.Seq.{take-append-add, take-append_seam}
 use Rattle.capture_file.specs.declared.FileKind.{FileKind}
 use Rattle.capture_file.specs.declared.FileKind.TheVariants as fault
 use Rattle.capture_file.specs.declared.FileFault.{FileFault}
 use Rattle.capture_file.specs.declared.program.ProgramFile.{ProgramFile}
 use Rattle.capture_file.specs.Streams.{fault_at}
-use Rattle.capture_file.specs.Programs.{HasProgram, cut, program_of, wrong}
+use Rattle.capture_file.specs.Programs.{HasProgram, program_of}
 use Rattle.capture_file.proofs.Chunks.{IsBytes}
 use Rattle.capture_file.proofs.Faults.{program_and_fault}
 use Rattle.capture_file.proofs.Spelled.{field_by_field}

@@ -1,5 +1,5 @@
 -- The fields of a program file, each with what it tells where it is right.
-use Rattle.std.proofs.Common.{◌≡◌, ℕ, zero, suc, ◌+◌, ◌*◌, ◌%◌, ◌^◌, ◌<◌, ◌≤◌, ◌⊎◌, inl, inr, Bool, true, false, cond, List, [], ◌∷◌, ◌++◌, length, take, drop, Option, Some, None, Result, Ok, Err, refl, sym, ap, subst, ◌∙◌, arith, length-append}
+use Rattle.std.proofs.Common.{◌≡◌, ℕ, zero, suc, ◌+◌, ◌*◌, ◌%◌, ◌^◌, ◌<◌, ◌≤◌, inl, inr, Bool, true, false, cond, List, [], ◌∷◌, ◌++◌, length, take, drop, Option, Some, None, Ok, Err, refl, sym, ap, subst, ◌∙◌, arith, length-append}
 use Rattle.std.specs.Prelude.{nat_le, nat_lt, not, ◌&&◌, ◌==◌}
 use Rattle.std.proofs.lemmas.Bool.{leb-true, le-leb}
 use Rattle.std.proofs.lemmas.List.{drop_at, length-take-le, take-append-drop}
@@ -8,13 +8,12 @@ use Rattle.page_table.specs.Grants.{Chunk, chunk}
 use Rattle.machine_model.specs.Paths.{RiscProgram, shares_byte}
 use Rattle.capture_file.specs.declared.FileKind.{FileKind}
 use Rattle.capture_file.specs.declared.FileKind.TheVariants as fault
-use Rattle.capture_file.specs.declared.FileFault.{FileFault}
 use Rattle.capture_file.specs.declared.program.Layout.{Layout}
 use Rattle.capture_file.specs.declared.program.Layout.TheVariants.{Paged, Chunked}
-use Rattle.capture_file.specs.Programs.{Field, ◌>>=◌, cut, wrong, judged, number_field, layout_field, layout_of, layout_or_magic, base_field, base_fault, word_count_field, word_count_fault, words_in, words_field, chunk_count_field, chunk_count_fault, page_field, page_fault, long_chunk_field, address_fault, length_fault, is_length, chunk_field, chunks_field}
-use Rattle.capture_file.proofs.Chunks.{IsBytes, IsBytes-drop}
+use Rattle.capture_file.specs.Programs.{Field, ◌>>=◌, cut, judged, number_field, layout_field, layout_of, layout_or_magic, base_field, base_fault, word_count_field, word_count_fault, words_in, words_field, chunk_count_field, chunk_count_fault, page_field, page_fault, long_chunk_field, address_fault, length_fault, is_length, chunk_field, chunks_field}
+use Rattle.capture_file.proofs.Chunks.{IsBytes}
 use Rattle.program_law.specs.Beginnings.{IsWhole, field_width, has_good_beginning}
-use Rattle.program_law.proofs.Judging.{Reader, FaultAt, FieldRead, FieldGoes, Inside, IsField, both, field_then}
+use Rattle.program_law.proofs.Judging.{Reader, FieldGoes, Inside, IsField, field_then}
 
 -- ---- a number that is judged by its value
 

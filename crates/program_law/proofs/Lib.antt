@@ -4,3 +4,4 @@ pub mod Readings
 pub mod Faults
 pub mod Spellings
 pub mod LateFaults
+pub mod FreshChunks

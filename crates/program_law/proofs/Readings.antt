@@ -1,12 +1,12 @@
 -- A program file, read field by field: each fault is decided by its field and the bytes before it.
-use Rattle.std.proofs.Common.{◌≡◌, ℕ, zero, suc, ◌+◌, ◌-◌, ◌*◌, ◌%◌, ◌^◌, ◌<◌, ◌≤◌, max, min, inl, inr, Bool, true, false, cond, ◌&&◌, List, [], ◌∷◌, ◌++◌, length, Option, Some, None, Result, Ok, Err, refl, sym, ap, subst, ◌∙◌, arith}
+use Rattle.std.proofs.Common.{◌≡◌, ℕ, zero, suc, ◌+◌, ◌*◌, ◌%◌, ◌^◌, ◌<◌, ◌≤◌, max, min, inl, inr, Bool, true, false, cond, ◌&&◌, List, [], ◌∷◌, ◌++◌, length, Option, Some, None, Result, Ok, Err, refl, sym, ap, subst, ◌∙◌, arith}
 use Rattle.std.specs.Prelude.{nat_lt, nat_le, ◌==◌}
-use Rattle.std.specs.List.{All, flat_map, list_all}
+use Rattle.std.specs.List.{flat_map, list_all}
 use Rattle.std.proofs.lemmas.Bool.{and_parts, eqb-true, leb-true, le-ltb, ltb-false, ltb-true}
 use Rattle.std.proofs.lemmas.List.Elements.{All-cons, All-nil}
 use Rattle.byteorder.specs.Endian.{little_bytes}
 use Rattle.page_table.specs.Grants.{AreRising, Chunk, chunk, is_page, total}
-use Rattle.machine_model.specs.Paths.{RiscProgram, shares_byte}
+use Rattle.machine_model.specs.Paths.{shares_byte}
 use Rattle.capture_file.specs.declared.FileKind.{FileKind}
 use Rattle.capture_file.specs.declared.FileKind.TheVariants as fault
 use Rattle.capture_file.specs.declared.FileFault.{FileFault}
@@ -17,7 +17,7 @@ use Rattle.capture_file.specs.Programs.{Field, ◌>>=◌, cut, wrong, judged, la
 use Rattle.capture_file.proofs.Chunks.{IsBytes, some_fault}
 use Rattle.capture_file.proofs.Spelled.{layout_again, base_again, word_count_again, chunk_count_again, chunks_again, words_field_again, with_layout, with_base, with_count, with_words, with_chunk_count, with_chunks}
 use Rattle.program_law.specs.Beginnings.{IsWhole, field_width, has_good_beginning}
-use Rattle.program_law.proofs.Judging.{IsBytes-append, Reader, FaultAt, FileGoes, IsReader, CanEnd, EndsWell, both, file_then}
+use Rattle.program_law.proofs.Judging.{IsBytes-append, Reader, FileGoes, IsReader, CanEnd, EndsWell, both, file_then}
 use Rattle.program_law.proofs.Fields.{AtFront, AtFront-inside, Crowded, Crowded-inside, layout_goes, base_goes, word_count_goes, chunk_count_goes, words_go, chunks_go}
 
 -- ---- the fill, and the end

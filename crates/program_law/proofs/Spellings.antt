@@ -1,5 +1,5 @@
 -- A program file without a fault is the spelling of one program in one form.
-use Rattle.std.proofs.Common.{◌≡◌, ℕ, Bool, true, false, List, length, Result, Ok, Err, refl, sym, ap, ◌∙◌}
+use Rattle.std.proofs.Common.{◌≡◌, ℕ, List, length, Ok, refl, sym, ap, ◌∙◌}
 use Rattle.std.specs.List.{list_all}
 use Rattle.page_table.specs.Grants.{Chunk, is_page}
 use Rattle.capture_file.specs.declared.program.Layout.{Layout}

@@ -1,3 +1,4 @@
 pub mod Beginnings
 pub mod Spelled
 pub mod Worked
+pub mod Room

@@ -1,8 +1,8 @@
 -- The spelling of a program file in each form.
 use Rattle.std.specs.Prelude.{◌≡◌, ℕ, ◌^◌, ◌<◌, Bool, true, false, List}
 use Rattle.std.specs.List.{list_all}
-use Rattle.page_table.specs.Grants.{Chunk, is_page}
-use Rattle.machine_model.specs.Paths.{RiscProgram, IsProgram}
+use Rattle.page_table.specs.Grants.{is_page}
+use Rattle.machine_model.specs.Paths.{IsProgram}
 use Rattle.capture_file.specs.declared.program.Layout.{Layout}
 use Rattle.capture_file.specs.declared.program.Layout.TheVariants.{Paged, Chunked}
 use Rattle.capture_file.specs.declared.program.ProgramFile.{ProgramFile}

@@ -9,7 +9,9 @@ ghost use Rattle.capture_file.specs.declared.FileFault.{FileFault};
 ghost use Rattle.capture_file.specs.declared.FileKind.TheVariants.{AfterEnd, Base, Count, Length, Magic, Order, Overlap, Page, Pages, Short};
 ghost use Rattle.capture_file.specs.declared.program.Layout.{Layout};
 ghost use Rattle.capture_file.specs.declared.program.ProgramFile.{ProgramFile};
+ghost use Rattle.machine_model.specs.Paths.{RiscProgram};
 ghost use Rattle.program_law.specs.Beginnings.{BeginsFile, IsWhole, before_field, has_good_beginning, with_field};
+ghost use Rattle.program_law.specs.Room.{HasRoom, beginning};
 ghost use Rattle.program_law.specs.Spelled.{IsSpelledIn, Spells, bytes_in};
 ghost use Rattle.program_law.specs.Worked.{IsAtFault, chunk_file, line_file, one_line, highest_first, without_chunks};
 
@@ -55,6 +57,13 @@ pub fn short_files_have_short_beginnings()
     ensures beginnings { (bytes : List ℕ) (found : FileFault) (count : ℕ) → ((i : ℕ) → slice_index bytes i < 256) →
         found.kind ≡ Short → program_of bytes ≡ Err found → count ≤ length bytes →
         program_of (take count bytes) ≡ Err (fault_at count Short) }
+{}
+
+/// Where there is room for the chunks that are counted but not there yet, some good file begins with the bytes up to these
+/// chunks, whatever fault stands behind them.
+pub fn beginnings_with_room_go_on()
+    ensures { (layout : Layout) (program : RiscProgram) (count : ℕ) → HasRoom layout program count →
+        BeginsFile (beginning layout program count) }
 {}
 
 /// Faults of files that differ from a good one in one field, each at this field.
