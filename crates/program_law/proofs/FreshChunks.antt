@@ -1,5 +1,5 @@
 -- Where there is room, the beginning of a program file goes on to the end of a good file.
-use Rattle.std.proofs.Common.{◌≡◌, ℕ, zero, suc, ◌+◌, ◌-◌, ◌*◌, ◌/◌, ◌%◌, ◌^◌, max, min, ◌<◌, ◌≤◌, ◌⊎◌, inl, inr, Bool, true, false, cond, ◌&&◌, List, [], ◌∷◌, ◌++◌, length, refl, sym, ap, subst, ◌∙◌, arith, append_assoc, length-append}
+use Rattle.std.proofs.Common.{◌≡◌, ℕ, zero, suc, ◌+◌, ◌-◌, ◌*◌, ◌/◌, ◌%◌, ◌^◌, max, min, ◌<◌, ◌≤◌, ◌⊎◌, inl, inr, Bool, true, false, cond, ◌&&◌, List, [], ◌∷◌, ◌++◌, length, refl, sym, ap, ◌∙◌, arith, append_assoc, length-append}
 use Rattle.std.specs.Prelude.{nat_le, ◌==◌}
 use Rattle.std.specs.List.{All, flat_map, list_all}
 use Rattle.std.proofs.lemmas.Bool.{le-ltb, leb-true, leb-false}
@@ -8,13 +8,12 @@ use Rattle.std.proofs.lemmas.List.Elements.{All-append, All-cons, All-nil}
 use Rattle.std.proofs.lemmas.List.Folds.{list_all-append}
 use Rattle.std.proofs.lemmas.List.Sums.{sum_by-append}
 use Rattle.byteorder.specs.Endian.{little_bytes}
-use Rattle.page_table.specs.Grants.{AreRising, Chunk, IsChunk, chunk, is_page, total}
+use Rattle.page_table.specs.Grants.{AreRising, Chunk, chunk, is_page, total}
 use Rattle.page_table.proofs.Placing.{total-cons}
 use Rattle.machine_model.specs.Paths.{IsProgram, RiscProgram, shares_byte}
 use Rattle.capture_file.specs.declared.program.Layout.{Layout}
 use Rattle.capture_file.specs.declared.program.Layout.TheVariants.{Paged, Chunked}
-use Rattle.capture_file.specs.declared.program.ProgramFile.{ProgramFile}
-use Rattle.capture_file.specs.Programs.{HasProgram, IsFile, chunk_in, head_spelled, layout_for, numbers_spelled, spelled, spelled_as}
+use Rattle.capture_file.specs.Programs.{chunk_in, head_spelled, layout_for, numbers_spelled, spelled, spelled_as}
 use Rattle.program_law.specs.Beginnings.{BeginsFile}
 use Rattle.program_law.specs.Room.{HasRoom, StandIn, beginning, end_of, least_length}
 

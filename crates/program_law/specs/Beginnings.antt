@@ -26,7 +26,10 @@ before_field found bytes = take found.at bytes
 abbrev pub with_field : FileFault → List ℕ → List ℕ
 with_field found bytes = take (found.at + field_width found.kind) bytes
 
--- faults before whose field there is always a good file's beginning
+-- Faults before whose field there is always a good file's beginning. Of the others, Short stands at the end of the
+-- file and at no field, since a field that is cut isn't judged; Pages is found at the fill, though the chunks before it
+-- decide it; and a chunk can be at fault where the chunks that are counted find no room any more, whatever stands there
+-- (`beginnings_with_room_go_on` says where they do). The other kinds are those of streams.
 abbrev pub has_good_beginning : FileKind → Bool
 has_good_beginning fault.Magic = true
 has_good_beginning fault.Base = true

@@ -1,4 +1,4 @@
--- The beginning of a program file up to some of its chunks, and room for the chunks that are counted but not there yet.
+-- The beginning of a program file up to some of its chunks, and room for the others that are counted.
 use Rattle.std.specs.Prelude.{◌≡◌, ℕ, ◌+◌, ◌-◌, ◌*◌, ◌^◌, ◌<◌, ◌≤◌, true, List, [], ◌∷◌, ◌++◌, length}
 use Rattle.std.specs.List.{flat_map, list_all}
 use Rattle.byteorder.specs.Endian.{little_bytes}
@@ -28,8 +28,8 @@ abbrev pub StandIn : Layout → List Chunk → Type 0
 StandIn Paged chunks = list_all is_page chunks ≡ true
 StandIn Chunked chunks = Unit {0}
 
--- more chunks are counted than there are, and the others find room: the last stands in the lower half of the addresses,
--- and not all bytes that may be granted are
+-- more chunks are counted than there are, and the others find room: the last stands in the lower half of the
+-- addresses, and the shortest chunks in place of the others stay within the bytes that may be granted
 pub record HasRoom (layout : Layout) (program : RiscProgram) (count : ℕ) : Type 0 where
   pub made : IsProgram program
   pub base : program.base < 2 ^ 32

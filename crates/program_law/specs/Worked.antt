@@ -23,7 +23,7 @@ one_line = line_file 4096 8 (1 ∷ 131072 ∷ [])
 abbrev pub chunk_file : List ℕ → List ℕ
 chunk_file memory = codes "BRP2" ++ (numbers_spelled (4096 ∷ 8 ∷ line_words ++ memory) ++ 0 ∷ [])
 
--- the beginning of a file with chunks, but with none; and that of a file with two pages, of which the first is the highest
+-- the beginning of a file with chunks, but with none; and that of a file with two pages, the highest first
 abbrev pub without_chunks : List ℕ
 without_chunks = codes "BRP2" ++ numbers_spelled (0 ∷ 0 ∷ 0 ∷ [])
 
