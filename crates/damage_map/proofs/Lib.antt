@@ -7,5 +7,5 @@ mod Visits
 mod SectionTurns
 mod SectionSteps
 mod Compiled
-mod AnswersKept
+pub mod AnswersKept
 mod StillTurns
