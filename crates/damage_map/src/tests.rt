@@ -74,13 +74,15 @@ fn a_line_too_long_is_not_whole(rt: HostRuntime) -> Result<(), Fail> {
     ] {
         push(&mut m, nibble, dword);
     }
-    turns(&mut m, 16);
+    // the sixteenth turn is the signal; the next begins to wait, and all others do nothing
+    turns(&mut m, 10);
+    m.turns(1_000);
     assert!(rt; m.rows(Parity::Top) == Some([false, true].as_slice()));
     assert!(rt; m.rows(Parity::Bottom).is_none());
     let report = m.report();
     assert_eq!(rt;
         (report.turns, report.moved, report.int_stat),
-        (16, 16, 0x1000_4800)
+        (1_010, 16, 0x1000_4800)
     );
     assert!(rt; m.ram().pages() == 1);
     Ok(())
