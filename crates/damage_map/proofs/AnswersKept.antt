@@ -1,5 +1,5 @@
 -- What a track keeps over a run is what the definition says of the fields at their last signals.
-use Rattle.std.proofs.Common.{◌≡◌, ℕ, zero, suc, ◌+◌, ◌-◌, ◌*◌, ◌<◌, ◌≤◌, ◌⊎◌, inl, inr, Bool, true, false, not, ◌&&◌, ◌==◌, All, List, [], ◌∷◌, ◌++◌, append_assoc, drop, length, map, Option, Some, None, Ok, Err, refl, sym, ap, ap₂, ◌∙◌, subst, arith, option_map, if◌then◌else◌, eqb-true, eq-eqb}
+use Rattle.std.proofs.Common.{◌≡◌, ℕ, ◌+◌, ◌*◌, ◌≤◌, ◌⊎◌, inl, inr, Bool, true, false, ◌&&◌, ◌==◌, All, List, [], ◌∷◌, ◌++◌, append_assoc, drop, length, map, Option, Some, None, Ok, Err, refl, sym, ap, ap₂, ◌∙◌, subst, arith, option_map, if◌then◌else◌, eqb-true, eq-eqb}
 use Rattle.std.specs.Prelude.{is_some, option_and_then}
 use Rattle.std.specs.List.{list_any}
 use Rattle.std.proofs.lemmas.Bool.{and_from, ne_eqb}
@@ -38,9 +38,8 @@ use Rattle.machine_model.proofs.Runs.{run-append}
 use Rattle.capture_desc.specs.declared.desc.Desc.{Desc}
 use Rattle.capture_desc.specs.declared.desc.Fields.{Fields}
 use Rattle.capture_desc.specs.declared.desc.Fields.TheVariants as fields
-use Rattle.picture_model.specs.Described.{IsDescription, describes}
-use Rattle.picture_model.specs.Geometry.{IsValid}
-use Rattle.picture_model.specs.Programs.{begin_by, body, closing, compiled, next_by, no_control, opening, section, section_begin, section_next, signal, sync, vertical, words_of}
+use Rattle.picture_model.specs.Described.{describes}
+use Rattle.picture_model.specs.Programs.{begin_by, body, closing, compiled, next_by, no_control, opening, section_begin, section_next, signal, sync, vertical, words_of}
 use Rattle.picture_model.proofs.Right.{IsRight, IsFrame-IsRight, IsValid-IsFrame}
 use Rattle.picture_model.proofs.Sections.{good_body, section_stands}
 use Rattle.field_law.specs.Sections.{HoldsFrom, closing_at, words_in}
@@ -51,12 +50,12 @@ use Rattle.damage_law.specs.Takings.{Taking, left, retired_at, retires, step_ret
 use Rattle.damage_law.specs.Marks.{is_opening, is_synced, last_step, later_or, marks_to}
 use Rattle.damage_map.specs.Laws.{KeepsAnswers, TellsSignals, map_after}
 use Rattle.damage_map.specs.Maps.{rows_of}
-use Rattle.damage_map.specs.Tracks.{FieldTrack, field_of, fresh, lines_at_signal, max_lines, met, opened, opens, signalled, signals, through, track_next, tracked, turned, untold, with_loss, written}
+use Rattle.damage_map.specs.Tracks.{FieldTrack, field_of, fresh, lines_at_signal, max_lines, met, opened, opens, signalled, through, track_next, tracked, turned, untold, with_loss, written}
 use Rattle.damage_map.proofs.Compiled.{body_parts, few_lines, parts_cut, rows_dropped, section_lines, section_parts}
-use Rattle.damage_map.proofs.Histories.{Opened, marks_over, more_steps, next_opened, next_told, opened_if, told_after, told_after-answer, told_if}
-use Rattle.damage_map.proofs.Sections.{AreBelow, Past, TakenBelow, instrs_of, lines_at, whole_over}
+use Rattle.damage_map.proofs.Histories.{Opened, marks_over, next_opened, next_told, opened_if, told_after, told_after-answer, told_if}
+use Rattle.damage_map.proofs.Sections.{AreBelow, Past, TakenBelow, instrs_of, whole_over}
 use Rattle.damage_map.proofs.SectionSteps.{Unmoved, emptied_visit, push-Unmoved, push_control-Unmoved, unmoved_on}
-use Rattle.damage_map.proofs.SectionTurns.{Closed, Plainly, QueueKept, Turned, queue_same, turn_on}
+use Rattle.damage_map.proofs.SectionTurns.{Plainly, QueueKept, Turned, queue_same, turn_on}
 use Rattle.damage_map.proofs.Visits.{InGap, Visit}
 
 -- ---- what was taken over steps, and over one more

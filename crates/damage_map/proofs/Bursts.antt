@@ -1,5 +1,5 @@
 -- A burst to a queue keeps the mark of the queue true.
-use Rattle.std.proofs.Common.{◌≡◌, ℕ, zero, suc, ◌+◌, ◌-◌, ◌<◌, ◌≤◌, ◌⊎◌, inl, inr, min, Bool, true, false, not, ◌&&◌, ◌||◌, ◌==◌, List, [], ◌∷◌, ◌++◌, append_assoc, drop, length, Option, Some, None, if◌then◌else◌, refl, sym, ap, ap₂, ◌∙◌, subst, arith}
+use Rattle.std.proofs.Common.{◌≡◌, ℕ, zero, suc, ◌+◌, ◌<◌, ◌≤◌, ◌⊎◌, inl, inr, Bool, true, false, not, ◌&&◌, ◌||◌, ◌==◌, List, [], ◌∷◌, ◌++◌, append_assoc, drop, length, Option, Some, None, if◌then◌else◌, refl, sym, ap, ap₂, ◌∙◌, subst, arith}
 use Rattle.std.specs.List.{list_any}
 use Rattle.std.proofs.Math.Bool.{or-false}
 use Rattle.std.proofs.lemmas.Bool.{cond-true, eqb-true, eqb-false, not-false, or_from, or_parts}
@@ -19,12 +19,11 @@ use Rattle.picture_model.proofs.Each.{Each, each_append}
 use Rattle.machine_model.specs.declared.Demand.{Demand}
 use Rattle.machine_model.specs.declared.Demands.{Demands}
 use Rattle.machine_model.specs.declared.Job.{Job}
-use Rattle.machine_model.specs.declared.Job.TheVariants.{Idle, Waiting, Running}
-use Rattle.machine_model.specs.declared.Skipping.{Skipping}
-use Rattle.machine_model.specs.declared.Skipping.TheVariants.{Nothing, ToEol, ToSync}
+use Rattle.machine_model.specs.declared.Job.TheVariants.{Idle, Running}
+use Rattle.machine_model.specs.declared.Skipping.TheVariants.{Nothing, ToEol}
 use Rattle.machine_model.specs.Paths.{instr_ends}
 use Rattle.machine_model.specs.States.{State}
-use Rattle.machine_model.specs.Turns.{apply, apply_in, burst, demand_less, demand_on, ended, is_cut_short, judged, rest_of_line, served, took, verdict_at, with_demand}
+use Rattle.machine_model.specs.Turns.{apply, apply_in, burst, demand_less, demand_on, ended, is_cut_short, judged, served, took, verdict_at, with_demand}
 use Rattle.machine_model.specs.Seen.{Application, application, application_in, applications, discards_reserved, discards_reserved_by, ends, ends_by, gives_up, gives_up_by, served_application, takes, takes_by, verdict_of}
 use Rattle.machine_model.proofs.Fronts.{Takes, take-Takes, valid-some}
 use Rattle.field_law.specs.Arrivals.{is_queue}

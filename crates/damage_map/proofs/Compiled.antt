@@ -1,19 +1,16 @@
 -- The section of a field in its description's program, as parts and lines.
-use Rattle.std.proofs.Common.{◌≡◌, ℕ, zero, suc, ◌+◌, ◌-◌, ◌*◌, ◌/◌, ◌<◌, ◌≤◌, ◌⊎◌, inl, inr, Bool, true, false, not, ◌&&◌, ◌==◌, List, [], ◌∷◌, ◌++◌, append_assoc, drop, length, length-append, map, Option, Some, None, refl, sym, ap, ap₂, ◌∙◌, subst, arith, if◌then◌else◌}
+use Rattle.std.proofs.Common.{◌≡◌, ℕ, zero, suc, ◌+◌, ◌*◌, ◌/◌, ◌<◌, ◌≤◌, Bool, true, false, not, ◌&&◌, ◌==◌, List, [], ◌∷◌, ◌++◌, append_assoc, drop, length, length-append, map, Option, refl, sym, ap, ap₂, ◌∙◌, subst, arith, if◌then◌else◌}
 use Rattle.std.specs.Prelude.{nat_le, replicate}
 use Rattle.std.specs.List.{range_with_len}
 use Rattle.std.proofs.Math.Bool.{and-true}
 use Rattle.std.proofs.Math.Nat.{mul-pos}
 use Rattle.std.proofs.Math.Seq.{drop-append_seam}
-use Rattle.std.proofs.lemmas.Bool.{and_parts, cond-false, cond-true, eq-eqb, ne_eqb}
+use Rattle.std.proofs.lemmas.Bool.{and_parts, eq-eqb, ne_eqb}
 use Rattle.std.proofs.lemmas.Grind.{flat_map-append}
 use Rattle.std.proofs.lemmas.List.{length-replicate}
 use Rattle.std.proofs.lemmas.List.FromFn.{length-map-range_with_len}
-use Rattle.risc_word.specs.declared.Code.{Code}
 use Rattle.risc_word.specs.declared.Code.TheVariants.{Fm1}
-use Rattle.risc_word.specs.declared.Ends.{Ends}
 use Rattle.risc_word.specs.declared.Instr.{Instr}
-use Rattle.risc_word.specs.Words.{encoded}
 use Rattle.fifo_model.specs.declared.Queue.{Queue}
 use Rattle.fifo_model.specs.declared.Queue.TheVariants.{One, Two, Three}
 use Rattle.pixel_layout.specs.declared.Parity.{Parity}
@@ -24,10 +21,10 @@ use Rattle.capture_desc.specs.declared.desc.Desc.{Desc}
 use Rattle.picture_model.specs.declared.PieceKind.{PieceKind}
 use Rattle.picture_model.specs.declared.PieceKind.TheVariants.{Write, WriteLuma, Skip}
 use Rattle.picture_model.specs.declared.Piece.{Piece}
-use Rattle.picture_model.specs.Described.{IsDescription, both, describes, field_height, layout_of, memory_of, picture_row, rows_of}
+use Rattle.picture_model.specs.Described.{both, describes, field_height, layout_of, memory_of, picture_row, rows_of}
 use Rattle.picture_model.specs.Plans.{Cut, Follow, Strip, cuts_of, grain_bytes, grains_of, kind_of, piece_of, row_strip, skipped_strip, vbi_strip}
-use Rattle.picture_model.specs.Programs.{body, data_code, field_instrs, instr_by, instr_of, line_instrs, lines_instrs, opening, picture_strips, section_begin, sync, vbi_from, vbi_instrs, vbi_strips}
-use Rattle.picture_model.proofs.Each.{Each, each_append, each_flat_map, each_map, each_only, each_range, each_replicate}
+use Rattle.picture_model.specs.Programs.{body, data_code, instr_by, instr_of, line_instrs, lines_instrs, section_begin, sync, vbi_from, vbi_instrs, vbi_strips}
+use Rattle.picture_model.proofs.Each.{Each, each_map, each_range, each_replicate}
 use Rattle.picture_model.proofs.Grains.{row_grains}
 use Rattle.picture_model.proofs.Right.{IsRight}
 use Rattle.picture_model.proofs.Safe.{cuts_follow}
@@ -36,7 +33,7 @@ use Rattle.picture_model.proofs.Strips.{IsStrip, row-IsStrip, skipped-IsStrip, v
 use Rattle.field_law.specs.Sections.{words_in}
 use Rattle.picture_law.specs.Pictures.{has_plane, plane_of}
 use Rattle.picture_law.proofs.Cuts.{moves, on_queue, track_on}
-use Rattle.picture_law.proofs.Goes.{grain_some, queue_plane, row_track_on, some_factor}
+use Rattle.picture_law.proofs.Goes.{grain_some, queue_plane, row_track_on}
 use Rattle.damage_law.specs.Marks.{addresses_from, before_rows, lines_from, row_addresses}
 use Rattle.damage_map.specs.Tracks.{max_lines}
 use Rattle.damage_map.proofs.Sections as parts

@@ -1,5 +1,5 @@
 -- What a queue's mark tells of the line under way, and how applications to the queue's front keep it true.
-use Rattle.std.proofs.Common.{◌≡◌, ℕ, zero, suc, ◌+◌, ◌<◌, ◌≤◌, Bool, true, false, ◌&&◌, ◌||◌, ◌==◌, List, [], ◌∷◌, ◌++◌, append_assoc, Option, Some, None, if◌then◌else◌, refl, sym, ap, ap₂, ◌∙◌, subst, arith, length}
+use Rattle.std.proofs.Common.{◌≡◌, ℕ, zero, suc, ◌+◌, ◌<◌, ◌≤◌, Bool, true, false, ◌&&◌, ◌||◌, ◌==◌, List, [], ◌∷◌, ◌++◌, append_assoc, Option, Some, None, if◌then◌else◌, refl, sym, ap, ap₂, ◌∙◌, subst, arith}
 use Rattle.std.proofs.Math.Bool.{and-false, and-true}
 use Rattle.std.proofs.lemmas.Bool.{and_left, and_right, cond-true, cond-false, eq-eqb, ne_eqb}
 use Rattle.std.proofs.lemmas.List.{append-nil}
@@ -8,10 +8,10 @@ use Rattle.sync_status.specs.declared.StatusKind.TheVariants.{Control, Start, Pi
 use Rattle.sync_status.specs.Statuses.{is_end, kind_of, valid_bytes}
 use Rattle.fifo_model.specs.declared.Entry.{Entry}
 use Rattle.fifo_model.specs.Queues.{QueueState, front, removed}
-use Rattle.picture_model.proofs.Each.{Each, each_only}
+use Rattle.picture_model.proofs.Each.{Each}
 use Rattle.field_law.specs.Fields.{begins_line, ends_line, is_ending, is_line}
 use Rattle.damage_law.specs.Takings.{Taking}
-use Rattle.damage_law.specs.Lines.{are_line, entries_taken, go_on, make_line, no_takings}
+use Rattle.damage_law.specs.Lines.{entries_taken, go_on, make_line, no_takings}
 use Rattle.damage_map.specs.declared.mark.LineMark.{LineMark}
 use Rattle.damage_map.specs.declared.mark.LineMark.TheVariants.{Fresh, Within, Done, Spoilt}
 use Rattle.damage_map.specs.Tracks.{is_good, left_mark, met_mark, taken_mark}

@@ -1,5 +1,5 @@
 -- Pushes and host writes within a section keep what the track holds of its lines.
-use Rattle.std.proofs.Common.{◌≡◌, ℕ, zero, suc, ◌+◌, ◌-◌, ◌<◌, ◌≤◌, ◌⊎◌, inl, inr, Bool, true, false, List, [], ◌∷◌, ◌++◌, length, length-append, Option, Some, None, refl, sym, ap, ap₂, ◌∙◌, subst, arith, if◌then◌else◌}
+use Rattle.std.proofs.Common.{◌≡◌, ℕ, ◌+◌, ◌-◌, ◌<◌, ◌≤◌, ◌⊎◌, inl, inr, Bool, true, false, List, [], ◌∷◌, ◌++◌, length, length-append, Option, Some, None, refl, sym, ap, ap₂, ◌∙◌, subst, arith, if◌then◌else◌}
 use Rattle.std.specs.Prelude.{is_some}
 use Rattle.risc_word.specs.declared.Code.{Code}
 use Rattle.risc_word.specs.declared.Ctl.{Ctl}
@@ -9,16 +9,13 @@ use Rattle.fifo_model.specs.declared.Queue.{Queue}
 use Rattle.fifo_model.specs.declared.Queue.TheVariants.{One, Two, Three}
 use Rattle.fifo_model.specs.Queues.{IsFifo, IsQueue, QueueState, Queues, all_entered, cleared, control_entry, emptied, entered, first, front, is_full, more, overrun, queue_state, some_full, valid_of, with_queue_state}
 use Rattle.fifo_model.proofs.Kept.{IsQueue-queue_state}
-use Rattle.irq_status.specs.declared.HostWrite.{HostWrite}
-use Rattle.irq_status.specs.declared.HostWrite.TheVariants.{Ack, Enable, Trigger}
 use Rattle.machine_model.specs.declared.Demand.{Demand}
-use Rattle.machine_model.specs.declared.Demands.{Demands}
 use Rattle.machine_model.specs.declared.Job.{Job}
 use Rattle.machine_model.specs.declared.Job.TheVariants.{Idle, Waiting, Running}
 use Rattle.machine_model.specs.Paths.{RiscProgram}
 use Rattle.machine_model.specs.States.{State}
 use Rattle.machine_model.specs.Turns.{demand_on}
-use Rattle.machine_model.specs.Steps.{push, push_control, push_control_if, push_if, with_fbus_if, with_fifo}
+use Rattle.machine_model.specs.Steps.{push, push_control, push_control_if, push_if, with_fbus_if}
 use Rattle.damage_law.specs.Takings.{Taking, left}
 use Rattle.damage_law.specs.Marks.{addresses_from}
 use Rattle.dma_machine.specs.Looks.{holds}
@@ -29,7 +26,7 @@ use Rattle.damage_map.specs.Tracks.{FieldTrack, emptied_mark, emptied_marks, fre
 use Rattle.damage_map.proofs.LineTold.{Tells, kept-tells, left-tells}
 use Rattle.damage_map.proofs.Bursts.{Needs}
 use Rattle.damage_map.proofs.Sections.{Past, takes_in}
-use Rattle.damage_map.proofs.Visits.{GapJob, InGap, InLine, IsBegun, IsTold, LineJob, Visit}
+use Rattle.damage_map.proofs.Visits.{GapJob, IsBegun, IsTold, LineJob, Visit}
 use Rattle.damage_map.proofs.SectionTurns.{QueueKept, next_gone, queue_same, quiet}
 
 -- what a step that isn't a turn leaves as it is

@@ -1,6 +1,6 @@
 -- A turn within a section keeps what the track holds of the section's lines, up to the closing.
-use Rattle.std.proofs.Common.{◌≡◌, ℕ, zero, suc, ◌+◌, ◌-◌, ◌*◌, ◌<◌, ◌≤◌, ◌⊎◌, inl, inr, Bool, true, false, not, ◌&&◌, ◌||◌, ◌==◌, List, [], ◌∷◌, ◌++◌, append_assoc, length, length-append, map, Option, Some, None, Ok, Err, refl, sym, ap, ap₂, ◌∙◌, subst, arith, if◌then◌else◌, eqb-true}
-use Rattle.std.specs.List.{list_all, list_any}
+use Rattle.std.proofs.Common.{◌≡◌, ℕ, zero, suc, ◌+◌, ◌*◌, ◌<◌, ◌≤◌, ◌⊎◌, inl, inr, Bool, true, false, ◌&&◌, ◌==◌, List, [], ◌∷◌, ◌++◌, length, map, Option, Some, None, Ok, refl, sym, ap, ap₂, ◌∙◌, subst, arith, if◌then◌else◌, eqb-true}
+use Rattle.std.specs.List.{list_all}
 use Rattle.std.proofs.lemmas.Bool.{and_parts, cond-false, cond-true}
 use Rattle.std.proofs.lemmas.List.{append-nil}
 use Rattle.risc_word.specs.declared.Code.{Code}
@@ -11,7 +11,7 @@ use Rattle.risc_word.specs.Words.{Reading, code_number, encoded}
 use Rattle.fifo_model.specs.declared.Queue.{Queue}
 use Rattle.fifo_model.specs.declared.Queue.TheVariants.{One, Two, Three}
 use Rattle.fifo_model.specs.declared.Entry.{Entry}
-use Rattle.fifo_model.specs.Queues.{QueueState, Queues, front, more, queue_state}
+use Rattle.fifo_model.specs.Queues.{QueueState, front, more, queue_state}
 use Rattle.sync_status.specs.declared.Verdict.{Verdict}
 use Rattle.sync_status.specs.declared.Verdict.TheVariants.{Take, Discard, Broken, Missing}
 use Rattle.picture_model.specs.Programs.{sync}
@@ -20,7 +20,7 @@ use Rattle.machine_model.specs.declared.Cause.{Cause}
 use Rattle.machine_model.specs.declared.Demand.{Demand}
 use Rattle.machine_model.specs.declared.Demands.{Demands}
 use Rattle.machine_model.specs.declared.Did.{Did}
-use Rattle.machine_model.specs.declared.Did.TheVariants.{Still, Jumped, Synced, Passed, Begun, Dropped, Matched, Missed, Retired, Moved, GivenUp}
+use Rattle.machine_model.specs.declared.Did.TheVariants.{Still, Jumped, Synced, Passed, Begun, Matched, Missed, Retired, Moved, GivenUp}
 use Rattle.machine_model.specs.declared.Job.{Job}
 use Rattle.machine_model.specs.declared.Job.TheVariants.{Idle, Waiting, Running}
 use Rattle.machine_model.specs.declared.Seen.{Seen}
@@ -38,13 +38,13 @@ use Rattle.damage_law.specs.Takings.{Taking, burst_takings, left, ran_takings, r
 use Rattle.damage_law.specs.Marks.{addresses_from, is_among}
 use Rattle.damage_law.proofs.Orders.{queue_is}
 use Rattle.damage_map.specs.declared.mark.LineMark.{LineMark}
-use Rattle.damage_map.specs.declared.mark.LineMark.TheVariants.{Fresh, Within, Done, Spoilt}
+use Rattle.damage_map.specs.declared.mark.LineMark.TheVariants.{Fresh}
 use Rattle.damage_map.specs.declared.mark.LineMarks.{LineMarks}
 use Rattle.damage_map.specs.Tracks.{FieldTrack, ends_line, field_of, mark_on, max_lines, opened, opens, signalled, signals, through, turned, with_loss, with_mark}
 use Rattle.damage_map.proofs.LineTold.{Tells, kept-tells}
 use Rattle.damage_map.proofs.Bursts.{Flags, Needs, RunsOn, Served, burst-Served, flags_of, mark_by}
-use Rattle.damage_map.proofs.Sections.{AreBelow, AreParts, GoesIn, GoesOn, LineGoes, Part, Await, Cut, Past, TakenBelow, below_more, instrs_of, is_none, lines_at, lines_stay, retired_here, taken_here, taken_more, takes_in, unretired_here, whole_over}
-use Rattle.damage_map.proofs.Visits.{Behind, GapJob, InGap, InLine, IsBegun, IsTold, LineJob, Through, Visit, advance, enters}
+use Rattle.damage_map.proofs.Sections.{AreBelow, AreParts, GoesIn, GoesOn, Part, Await, Cut, Past, TakenBelow, below_more, instrs_of, is_none, lines_at, lines_stay, retired_here, taken_here, taken_more, takes_in, unretired_here, whole_over}
+use Rattle.damage_map.proofs.Visits.{Behind, GapJob, InGap, InLine, IsBegun, IsTold, LineJob, Visit, advance, enters}
 
 -- what keeps a queue's mark true where nothing leaves it
 pub record QueueKept (held after : QueueState) : Type 0 where

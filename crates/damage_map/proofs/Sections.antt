@@ -1,7 +1,7 @@
 -- The lines of a section, and what they keep while the machine goes on behind them.
-use Rattle.std.proofs.Common.{◌≡◌, ℕ, ◌+◌, ◌*◌, ◌<◌, ◌≤◌, Bool, true, false, ◌&&◌, ◌||◌, ◌==◌, List, [], ◌∷◌, ◌++◌, length, map, Option, refl, sym, ap, ap₂, ◌∙◌, arith, if◌then◌else◌}
+use Rattle.std.proofs.Common.{◌≡◌, ℕ, ◌+◌, ◌*◌, ◌<◌, ◌≤◌, Bool, true, false, ◌&&◌, ◌||◌, ◌==◌, List, [], ◌∷◌, ◌++◌, length, map, Option, refl, ap, ap₂, ◌∙◌, arith}
 use Rattle.std.specs.Prelude.{filter}
-use Rattle.std.specs.List.{list_all, list_any}
+use Rattle.std.specs.List.{list_all}
 use Rattle.std.proofs.Math.Bool.{or-false}
 use Rattle.std.proofs.lemmas.Bool.{and_from, cond-true, cond-false, eq-eqb, ne_eqb, or_from}
 use Rattle.std.proofs.lemmas.List.{append-nil}
@@ -13,8 +13,8 @@ use Rattle.risc_word.specs.Words.{encoded}
 use Rattle.fifo_model.specs.declared.Queue.{Queue}
 use Rattle.fifo_model.specs.declared.Queue.TheVariants.{One, Two, Three}
 use Rattle.picture_model.specs.Programs.{sync}
-use Rattle.picture_model.proofs.Each.{Each, each_append, each_only}
-use Rattle.machine_model.specs.Paths.{RiscProgram, demands_of, instr_ends, is_data}
+use Rattle.picture_model.proofs.Each.{Each, each_only}
+use Rattle.machine_model.specs.Paths.{demands_of, instr_ends, is_data}
 use Rattle.machine_model.specs.Turns.{demand_on}
 use Rattle.field_law.specs.Sections.{words_in}
 use Rattle.damage_law.specs.Takings.{Taking}

@@ -1,6 +1,5 @@
 -- Of turns that do nothing there is nothing to note.
-use Rattle.std.proofs.Common.{◌≡◌, ℕ, zero, suc, ◌+◌, ◌-◌, ◌<◌, Bool, true, false, List, [], ◌∷◌, ◌++◌, Option, Some, None, refl, sym, ap, ap₂, ◌∙◌, subst, arith}
-use Rattle.std.specs.Prelude.{replicate}
+use Rattle.std.proofs.Common.{◌≡◌, ℕ, zero, suc, ◌+◌, Bool, true, false, List, [], ◌∷◌, ◌++◌, Option, Some, None, refl, sym, ap, ap₂, ◌∙◌, arith}
 use Rattle.fifo_model.specs.declared.Queue.{Queue}
 use Rattle.machine_model.specs.declared.Demands.{Demands}
 use Rattle.machine_model.specs.declared.Did.{Did}
@@ -9,11 +8,11 @@ use Rattle.machine_model.specs.declared.Job.{Job}
 use Rattle.machine_model.specs.declared.Job.TheVariants.{Idle, Waiting, Running}
 use Rattle.machine_model.specs.declared.Seen.{Seen}
 use Rattle.machine_model.specs.States.{State}
-use Rattle.machine_model.specs.Seen.{Application, address_before, applications, seen, seen_burst, seen_if, seen_in, seen_running, seen_served}
+use Rattle.machine_model.specs.Seen.{Application, address_before, seen, seen_burst, seen_if, seen_in, seen_running, seen_served}
 use Rattle.machine_model.specs.Steps.{Step, Turn, run, step}
 use Rattle.machine_model.specs.Turns.{counted, is_done, lowest_served, turn}
 use Rattle.machine_model.proofs.Runs.{run-append}
-use Rattle.dma_machine.specs.Counts.{acted, with_turns}
+use Rattle.dma_machine.specs.Counts.{with_turns}
 use Rattle.dma_machine.specs.Facts.{IsMachine}
 use Rattle.dma_machine.proofs.Counting.{turn-acted}
 use Rattle.dma_machine.proofs.Machines.{IsMachine-step}

@@ -1,44 +1,33 @@
 -- A machine within a section of a field: what the track holds of the lines so far, and how a turn keeps it.
-use Rattle.std.proofs.Common.{◌≡◌, ℕ, zero, suc, ◌+◌, ◌-◌, ◌*◌, ◌<◌, ◌≤◌, ◌⊎◌, inl, inr, Bool, true, false, not, ◌&&◌, ◌||◌, ◌==◌, List, [], ◌∷◌, ◌++◌, append_assoc, length, length-append, map, Option, Some, None, Ok, Err, refl, sym, ap, ap₂, ◌∙◌, subst, arith, if◌then◌else◌}
+use Rattle.std.proofs.Common.{◌≡◌, ℕ, suc, ◌+◌, ◌*◌, ◌<◌, ◌≤◌, ◌⊎◌, inl, inr, Bool, true, false, not, ◌&&◌, List, [], ◌∷◌, ◌++◌, append_assoc, length, length-append, map, refl, sym, ap, ap₂, ◌∙◌, subst, arith}
 use Rattle.std.specs.Prelude.{nat_lt}
-use Rattle.std.specs.List.{list_all, list_any}
+use Rattle.std.specs.List.{list_all}
 use Rattle.std.proofs.lemmas.Bool.{cond-true, lt-ltb}
-use Rattle.std.proofs.lemmas.List.{append-nil, length-map, map-append}
-use Rattle.risc_word.specs.declared.Code.{Code}
+use Rattle.std.proofs.lemmas.List.{length-map, map-append}
 use Rattle.risc_word.specs.declared.Ctl.{Ctl}
 use Rattle.risc_word.specs.declared.Instr.{Instr}
-use Rattle.risc_word.specs.declared.Instr.TheVariants.{Write, Skip, WriteC, Jump, Sync, Write123, Skip123, Write1S23}
-use Rattle.risc_word.specs.Words.{Reading, encoded}
+use Rattle.risc_word.specs.Words.{encoded}
 use Rattle.fifo_model.specs.declared.Queue.{Queue}
 use Rattle.fifo_model.specs.declared.Queue.TheVariants.{One, Two, Three}
-use Rattle.fifo_model.specs.Queues.{QueueState, Queues, queue_state}
-use Rattle.picture_model.specs.Programs.{sync}
+use Rattle.fifo_model.specs.Queues.{Queues, queue_state}
 use Rattle.picture_model.proofs.Each.{Each, each_append, each_only}
-use Rattle.machine_model.specs.declared.Demand.{Demand}
-use Rattle.machine_model.specs.declared.Demands.{Demands}
-use Rattle.machine_model.specs.declared.Did.{Did}
-use Rattle.machine_model.specs.declared.Did.TheVariants.{Still, Jumped, Synced, Passed, Begun, Dropped, Matched, Missed, Retired, Moved, GivenUp}
 use Rattle.machine_model.specs.declared.Job.{Job}
 use Rattle.machine_model.specs.declared.Job.TheVariants.{Idle, Waiting, Running}
-use Rattle.machine_model.specs.declared.Seen.{Seen}
 use Rattle.machine_model.specs.declared.Skipping.{Skipping}
-use Rattle.machine_model.specs.declared.Skipping.TheVariants.{Nothing, ToEol, ToSync}
-use Rattle.machine_model.specs.Paths.{RiscProgram, demands_of, fetch, instr_ends, is_data}
+use Rattle.machine_model.specs.declared.Skipping.TheVariants.{Nothing}
+use Rattle.machine_model.specs.Paths.{RiscProgram, instr_ends}
 use Rattle.machine_model.specs.States.{State}
-use Rattle.machine_model.specs.Turns.{counted, demand_on}
-use Rattle.machine_model.proofs.Rows.{fetch-KnownAt}
+use Rattle.machine_model.specs.Turns.{demand_on}
 use Rattle.field_law.specs.Sections.{HoldsFrom, words_in}
-use Rattle.field_law.specs.Arrivals.{is_queue}
-use Rattle.damage_law.specs.Takings.{Taking, left, retired_at}
 use Rattle.damage_law.specs.Lines.{make_line}
 use Rattle.damage_law.specs.Marks.{addresses_from, is_among}
 use Rattle.damage_map.specs.declared.mark.LineMark.{LineMark}
-use Rattle.damage_map.specs.declared.mark.LineMark.TheVariants.{Fresh, Within, Done, Spoilt}
+use Rattle.damage_map.specs.declared.mark.LineMark.TheVariants.{Fresh}
 use Rattle.damage_map.specs.declared.mark.LineMarks.{LineMarks}
-use Rattle.damage_map.specs.Tracks.{FieldTrack, ends_line, fresh, is_good, is_whole, mark_on, max_lines, noted, through, turned, with_loss, with_mark}
+use Rattle.damage_map.specs.Tracks.{FieldTrack, fresh, is_good, is_whole, mark_on, max_lines, noted, through}
 use Rattle.damage_map.proofs.LineTold.{Tells, tells-good}
 use Rattle.damage_map.proofs.Bursts.{Needs}
-use Rattle.damage_map.proofs.Sections.{AreBelow, AreParts, GoesIn, GoesOn, IsCut, LineGoes, Part, Await, Cut, Past, TakenBelow, addresses_from_here, below_more, instrs_of, is_none, lines_at, lines_stay, none_yet, retired_here, taken_here, taken_more, takes_in, unretired_here, whole_over}
+use Rattle.damage_map.proofs.Sections.{AreBelow, AreParts, IsCut, LineGoes, Part, Cut, Past, TakenBelow, addresses_from_here, below_more, instrs_of, is_none, lines_at, none_yet, taken_more, takes_in, whole_over}
 
 -- before a line's first instruction no queue is moved; before a later one each that the line moves is
 abbrev pub IsBegun : Bool → Bool → LineMark → Type 0

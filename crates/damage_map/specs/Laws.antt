@@ -2,7 +2,7 @@
 use Rattle.std.specs.Prelude.{◌≡◌, ◌↔◌, ℕ, ◌+◌, true, All, List, None}
 use Rattle.pixel_layout.specs.declared.Parity.{Parity}
 use Rattle.machine_model.specs.Safety.{IsStep}
-use Rattle.machine_model.specs.States.{State, first_state}
+use Rattle.machine_model.specs.States.{first_state}
 use Rattle.machine_model.specs.Steps.{Step, run}
 use Rattle.capture_desc.specs.declared.desc.Desc.{Desc}
 use Rattle.picture_model.specs.Described.{IsDescription, describes}
