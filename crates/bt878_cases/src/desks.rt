@@ -294,3 +294,81 @@ pub fn field_desk(
         room,
     )
 }
+
+/// A file of a desk: its name and its bytes.
+fn file(alloc: Global, name: &[u8], bytes: &[u8]) -> Result<(Octets, Octets), AllocError>
+    ensures { IfOk result (λ file. file.0 ≡ name.now) }
+{
+    Ok((
+        Octets::from_list(alloc, name)?,
+        Octets::from_list(alloc, bytes)?,
+    ))
+}
+
+/// The desk of `ring ring stream program image`.
+pub fn ring_desk(alloc: Global, ring: &[u8], stream: &[u8]) -> Result<MemDesk, AllocError>
+    ensures opens { IfOk result (λ desk. (all_told desk).may_open ≡ Some (codes "ring" ∷ codes "stream" ∷ [])) }
+    ensures creates { IfOk result (λ desk. (all_told desk).may_create ≡ Some (codes "program" ∷ codes "image" ∷ [])) }
+{
+    let inputs = vec![in alloc;
+        file(alloc, b"ring", ring)?,
+        file(alloc, b"stream", stream)?,
+    ]?;
+    let opens = vec![in alloc;
+        Octets::from_list(alloc, b"ring")?,
+        Octets::from_list(alloc, b"stream")?,
+    ]?;
+    let creates = vec![in alloc;
+        Octets::from_list(alloc, b"program")?,
+        Octets::from_list(alloc, b"image")?,
+    ]?;
+    MemDesk::new(alloc, inputs, opens, creates, Vec::new(alloc), 65536, 10000)
+}
+
+/// The desk of `chain first second stream image`.
+pub fn chain_desk(
+    alloc: Global,
+    first: &[u8],
+    second: &[u8],
+    stream: &[u8],
+) -> Result<MemDesk, AllocError>
+    ensures opens { IfOk result (λ desk. (all_told desk).may_open ≡ Some (codes "first" ∷ codes "second" ∷ codes "stream" ∷ [])) }
+    ensures creates { IfOk result (λ desk. (all_told desk).may_create ≡ Some (codes "image" ∷ [])) }
+{
+    let inputs = vec![in alloc;
+        file(alloc, b"first", first)?,
+        file(alloc, b"second", second)?,
+        file(alloc, b"stream", stream)?,
+    ]?;
+    let opens = vec![in alloc;
+        Octets::from_list(alloc, b"first")?,
+        Octets::from_list(alloc, b"second")?,
+        Octets::from_list(alloc, b"stream")?,
+    ]?;
+    let creates = vec![in alloc; Octets::from_list(alloc, b"image")?]?;
+    MemDesk::new(alloc, inputs, opens, creates, Vec::new(alloc), 65536, 10000)
+}
+
+/// The desk of `damage description stream`.
+pub fn damage_desk(alloc: Global, description: &[u8], stream: &[u8]) -> Result<MemDesk, AllocError>
+    ensures opens { IfOk result (λ desk. (all_told desk).may_open ≡ Some (codes "description" ∷ codes "stream" ∷ [])) }
+    ensures creates { IfOk result (λ desk. (all_told desk).may_create ≡ Some []) }
+{
+    let inputs = vec![in alloc;
+        file(alloc, b"description", description)?,
+        file(alloc, b"stream", stream)?,
+    ]?;
+    let opens = vec![in alloc;
+        Octets::from_list(alloc, b"description")?,
+        Octets::from_list(alloc, b"stream")?,
+    ]?;
+    MemDesk::new(
+        alloc,
+        inputs,
+        opens,
+        Vec::new(alloc),
+        Vec::new(alloc),
+        65536,
+        1000,
+    )
+}

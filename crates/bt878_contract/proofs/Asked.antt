@@ -5,7 +5,7 @@ use Rattle.bt878_words.specs.declared.Command.TheVariants as command
 use Rattle.bt878_words.specs.Words.{command_of, inputs_of, outputs_of}
 use Rattle.bt878_words.proofs.Asked.{Asks, asked}
 use Rattle.command_steps.specs.Inputs.{Input}
-use Rattle.bt878_contract.specs.Tasks.{Task, Lists, Verifies, Runs, Compiles, Captures, Generates, Rings, Assembles, creates, meaning, task_of, task_with}
+use Rattle.bt878_contract.specs.Tasks.{Task, Lists, Verifies, Runs, Compiles, Captures, Generates, Chains, Damages, Rings, Assembles, creates, meaning, task_of, task_with}
 use Rattle.bt878_contract.proofs.Outputs.{AreApart, not_among}
 
 -- the inputs, in the order in which they are read
@@ -90,8 +90,24 @@ asked_by command.Assemble words e h =
       outputs = h.creates;
       distinct = one_apart h.program;
     }
-asked_by command.Chain words e h = absurd h
-asked_by command.Damage words e h = absurd h
+asked_by command.Chain words e h =
+    record {
+      task = Chains h.first h.second h.stream h.image;
+      is =
+          asks_for words (h.word ∷ h.first ∷ h.second ∷ h.stream ∷ h.image ∷ []) command.Chain (Chains h.first h.second h.stream h.image) e
+          h.are refl;
+      inputs = h.opens;
+      outputs = h.creates;
+      distinct = one_apart h.image;
+    }
+asked_by command.Damage words e h =
+    record {
+      task = Damages h.desc h.stream;
+      is = asks_for words (h.word ∷ h.desc ∷ h.stream ∷ []) command.Damage (Damages h.desc h.stream) e h.are refl;
+      inputs = h.opens;
+      outputs = h.creates;
+      distinct = tt;
+    }
 asked_by command.Ring words e h =
     record {
       task = Rings h.source h.stream h.program h.image;

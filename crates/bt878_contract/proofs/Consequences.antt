@@ -15,29 +15,33 @@ use Rattle.capture_file.specs.Programs.{program_of, spelled}
 use Rattle.capture_file.specs.Streams.{steps_of, steps_run}
 use Rattle.picture_model.specs.Programs.{compiled}
 use Rattle.field_stream.specs.Made.{made, made_entries, made_fields}
+use Rattle.dma_machine.specs.Facts.{report_of}
 use Rattle.risc_listing.specs.Listings.{listing}
 use Rattle.command_texts.specs.declared.answer.Answer.{Answer}
-use Rattle.command_texts.specs.declared.answer.Answer.TheVariants.{Done, Usage, ReadFault, WriteFault, Malformed, BadDesc, BadGeometry, BadRing, BadText, Rejected, NoMemory}
+use Rattle.command_texts.specs.declared.answer.Answer.TheVariants.{Done, Usage, ReadFault, WriteFault, Malformed, BadDesc, BadGeometry, BadChain, BadRing, BadText, Rejected, NoMemory}
 use Rattle.command_texts.specs.declared.refusal.Refusal.{Refusal}
 use Rattle.command_texts.specs.declared.refusal.Refusal.TheVariants as refusal
 use Rattle.command_texts.specs.Answers.{answer_of}
 use Rattle.command_steps.specs.Outputs.{EndsAtFault, Product, Says, delivered}
 use Rattle.command_steps.specs.Inputs.{OfInput, SameCounts, ReadsRose, WritesRose, apart}
-use Rattle.command_texts.specs.Texts.{answer_text, made_text}
+use Rattle.command_texts.specs.Texts.{answer_text, made_text, report_text}
 use Rattle.stream_play.specs.Plays.{longest_stream}
 use Rattle.command_inputs.specs.Programs.{GivesSound, HoldsProgram, HoldsSound}
 use Rattle.bt878_contract.specs.Tasks.{IsListed}
-use Rattle.stream_play.specs.Runs.{IsRun, OfRun, Ran}
+use Rattle.chain_model.specs.Chains.{Chain}
+use Rattle.chain_model.specs.Live.{LiveStep}
+use Rattle.chain_law.specs.Runs.{KeepsLivePromises}
+use Rattle.stream_play.specs.Runs.{IsRun, LiveRan, OfRun, Ran, last_of}
 use Rattle.stream_play.proofs.Fitting.{steps_fit}
 use Rattle.command_steps.proofs.Inputs.{OfInput-map}
-use Rattle.command_inputs.specs.Descriptions.{GivesCompiled, HoldsValid}
+use Rattle.command_inputs.specs.Descriptions.{GivesCompiled, GivesDescribed, HoldsValid}
 use Rattle.command_inputs.specs.Listings.{GivesAssembled, HoldsListing}
 use Rattle.command_inputs.specs.Rings.{GivesRing, GivesRingProgram, HoldsRing}
 use Rattle.ring_model.specs.Rings.{Ring}
-use Rattle.bt878_contract.specs.Tasks.{Task, Lists, Verifies, Runs, Compiles, Captures, Generates, Rings, Assembles, Answers, DescMakes, Ends, IsDone, IsPartDone, IsRefused, ListingMakes, Makes, Reports, ReportsBlocks, RunMakes, RunOf, compiled_text, creates, image_of_run, meaning, program_and_image, program_file, program_text, task_of, task_with}
-use Rattle.bt878_contract.specs.Clauses.{AreTold, CreatesNone, IsAssembled, IsBadInput, IsCompiled, IsCut, IsInOrder, IsGenerated, IsGood, IsOutput, IsRefusal, IsUnreadOf, IsUsage, OfDesc, OfRan, OfRingRun, OfSteps, OnlyOutputs, OnlySays, SameNames, SameOutput, SaysAccepted, SaysAll, SaysBlocks, SaysListing, ShowsImage, ShowsLast, ShowsProgram, StandsAt, StaysInside, TellsInput, UnlessCut}
+use Rattle.bt878_contract.specs.Tasks.{Task, Lists, Verifies, Runs, Compiles, Captures, Generates, Chains, Damages, Rings, Assembles, Answers, ChainMakes, ChainOf, DescMakes, Ends, IsDone, IsLiveRun, IsPartDone, IsRefused, ListingMakes, Makes, Reports, ReportsBlocks, TellsRows, RunMakes, RunOf, blocks_of, compiled_text, creates, image_of_run, meaning, no_file, program_and_image, program_file, rows_told, program_text, task_of, task_with}
+use Rattle.bt878_contract.specs.Clauses.{AreTold, CreatesNone, IsAssembled, IsBadInput, IsCompiled, IsCut, IsInOrder, IsGenerated, IsGood, IsOutput, IsRefusal, IsUnreadOf, IsUsage, OfDesc, OfDescRun, OfLive, OfLiveRun, OfLiveSteps, OfRan, OfRingRun, OfSteps, OnlyOutputs, OnlySays, SameNames, SameOutput, SaysAccepted, SaysAll, SaysBlocks, SaysDamage, SaysListing, ShowsImage, ShowsLast, ShowsLastLive, ShowsProgram, StandsAt, StaysInside, TellsInput, UnlessCut}
 use Rattle.bt878_contract.proofs.Asked.{IsAsked, is_asked}
-use Rattle.bt878_contract.proofs.Inputs.{both-map, run_file, run_stream}
+use Rattle.bt878_contract.proofs.Inputs.{both-map, first_good, run_file, run_stream, second_good, third_good, three-map}
 use Rattle.bt878_contract.proofs.Judges.{bad_in, bad_leads, good_leads, good_not_bad, judged, unread_in}
 use Rattle.bt878_contract.proofs.Outputs.{AreApart, AreOutputs, all_said, all_written, cut_off, done_names, done_other, no_files, only_says, part_done_other, part_names, rises, said_names, same_outputs, says_only}
 
@@ -100,6 +104,10 @@ module _ (Q : Ran → Type 0) (f : (files : List (List ℕ × List ℕ)) (Says :
   ran_by (Ok (Rings ring stream program image)) answer old new h e =
       let d = done_by (Rings ring stream program image) answer old new h e in
       of_run GivesRingProgram (program_and_image program image) ReportsBlocks d.product ring stream old.told.inputs d.made.0
+  ran_by (Ok (Damages desc stream)) answer old new h e =
+      let d = done_by (Damages desc stream) answer old new h e in
+      of_run GivesCompiled no_file TellsRows d.product desc stream old.told.inputs d.made.0
+  ran_by (Ok (Chains first second stream image)) answer old new h e = tt
   ran_by (Ok (Lists program)) answer old new h e = tt
   ran_by (Ok (Verifies program)) answer old new h e = tt
   ran_by (Ok (Compiles desc program)) answer old new h e = tt
@@ -121,6 +129,24 @@ module _ (P : State → List machine.Step → Type 0) (always : (program : RiscP
 
 pub done_sound : (r : Result Task UsageFault) (answer : Answer) (old new : Seen) → Answers r answer old new → answer ≡ Done → OfRan r old.told.inputs (λ ran. IsSound ran.program)
 done_sound = done_ran (λ ran. IsSound ran.program) (λ files Says product ran m. m.sound)
+
+-- what is so of every live run of a chain that `chain` ran
+module _ (P : Chain → ℕ → List LiveStep → Type 0) (promised : (chain : Chain) (fill : ℕ) (steps : List LiveStep) → KeepsLivePromises chain fill steps → P chain fill steps) where
+  pub done_live : (r : Result Task UsageFault) (answer : Answer) (old new : Seen) → Answers r answer old new → answer ≡ Done → OfLive r old.told.inputs (OfLiveSteps P)
+  done_live (Ok (Chains first second stream image)) answer old new h e =
+      let d = done_by (Chains first second stream image) answer old new h e in
+      three-map first second stream old.told.inputs (λ a b c. ChainOf image (a ∷ b ∷ c ∷ []) d.product) (λ a b c. (r : LiveRan) × IsLiveRun a b c r × OfLiveSteps P r)
+      (λ a b c m. (m.0, m.1, promised _ _ _ m.2.promises)) d.made.0
+  done_live (Ok (Runs program stream image)) answer old new h e = tt
+  done_live (Ok (Captures desc stream program image)) answer old new h e = tt
+  done_live (Ok (Damages desc stream)) answer old new h e = tt
+  done_live (Ok (Rings ring stream program image)) answer old new h e = tt
+  done_live (Ok (Lists program)) answer old new h e = tt
+  done_live (Ok (Verifies program)) answer old new h e = tt
+  done_live (Ok (Compiles desc program)) answer old new h e = tt
+  done_live (Ok (Generates desc seed frames stream)) answer old new h e = tt
+  done_live (Ok (Assembles text program)) answer old new h e = tt
+  done_live (Err fault) answer old new h e = tt
 
 -- its files and its text are there, and nothing else is created
 module _ (task : Task) (old new : Seen) (d : IsDone task old new) where
@@ -189,6 +215,27 @@ module _ (words : List (List ℕ)) (answer : Answer) (old new : Seen) (h : Answe
       (λ a b m.
       let written = its_program_and_image task d program image (Reports a m.0) m.0 (distinct task is) m.2 in
       (m.0, m.1, (written.0, (written.1, its_words task old new d _ m.2.says))))
+      d.made.0
+
+  pub done_chain : (first second stream image : List ℕ) → task_of words ≡ Ok (Chains first second stream image) →
+      OfLiveRun first second stream old.told.inputs (ShowsLastLive image old.told new.told)
+  done_chain first second stream image is =
+      let task = Chains first second stream image in
+      let d = task_done task is in
+      three-map first second stream old.told.inputs (λ a b c. ChainOf image (a ∷ b ∷ c ∷ []) d.product) (λ a b c. (r : LiveRan) × IsLiveRun a b c r × ShowsLastLive image old.told new.told r)
+      (λ a b c m.
+      let written = subst (λ fs. AreOutputs fs new.told.outputs) m.2.writes (its_files task old new d (distinct task is)) in
+      (m.0, m.1, (written.0, its_words task old new d _ m.2.says))) d.made.0
+
+  pub done_damage : (desc stream : List ℕ) → task_of words ≡ Ok (Damages desc stream) → OfDescRun desc stream old.told.inputs (SaysDamage old.told new.told)
+  done_damage desc stream is =
+      let task = Damages desc stream in
+      let d = task_done task is in
+      both-map desc stream old.told.inputs (λ a b. RunOf GivesCompiled no_file TellsRows (a ∷ b ∷ []) d.product)
+      (λ a b. (x : Desc) × (r : Ran) × IsRun (GivesDescribed x) a b r × SaysDamage old.told new.told x r)
+      (λ a b m.
+      let says = m.2.says in
+      (says.description, m.0, record { gives = says.gives; reads = m.1.reads }, (its_words task old new d _ says.says, its_text_alone task old new d refl)))
       d.made.0
 
   pub done_ring : (ring stream program image : List ℕ) → task_of words ≡ Ok (Rings ring stream program image) →
@@ -262,6 +309,7 @@ refusal_in ReadFault = refusal.ReadFault
 refusal_in (Malformed file fault) = refusal.Malformed file fault
 refusal_in (BadDesc fault) = refusal.BadDesc fault
 refusal_in (BadGeometry fault) = refusal.BadGeometry fault
+refusal_in (BadChain fault) = refusal.BadChain fault
 refusal_in (BadRing fault) = refusal.BadRing fault
 refusal_in (BadText fault) = refusal.BadText fault
 refusal_in (Rejected at nth cause) = refusal.Rejected at nth cause
@@ -273,6 +321,7 @@ refusal_back refusal.ReadFault = refl
 refusal_back (refusal.Malformed file fault) = refl
 refusal_back (refusal.BadDesc fault) = refl
 refusal_back (refusal.BadGeometry fault) = refl
+refusal_back (refusal.BadChain fault) = refl
 refusal_back (refusal.BadRing fault) = refl
 refusal_back (refusal.BadText fault) = refl
 refusal_back (refusal.Rejected at nth cause) = refl
@@ -293,6 +342,7 @@ is_other refusal.ReadFault = tt
 is_other (refusal.Malformed file fault) = tt
 is_other (refusal.BadDesc fault) = tt
 is_other (refusal.BadGeometry fault) = tt
+is_other (refusal.BadChain fault) = tt
 is_other (refusal.BadRing fault) = tt
 is_other (refusal.BadText fault) = tt
 is_other (refusal.Rejected at nth cause) = tt
@@ -339,6 +389,14 @@ makes_good (Captures desc stream program image) inputs product told h = (
   run_file GivesCompiled desc stream inputs (program_and_image program image) Reports product HoldsValid (λ bytes p fill is. (is.description, is.describes)) told h.0,
   (run_stream GivesCompiled desc stream inputs (program_and_image program image) Reports product told h.0, tt),
 )
+makes_good (Damages desc stream) inputs product told h = (
+  run_file GivesCompiled desc stream inputs no_file TellsRows product HoldsValid (λ bytes p fill is. (is.description, is.describes)) told h.0,
+  (run_stream GivesCompiled desc stream inputs no_file TellsRows product told h.0, tt),
+)
+makes_good (Chains first second stream image) inputs product told h = (
+  first_good first second stream image inputs product told h.0,
+  (second_good first second stream image inputs product told h.0, (third_good first second stream image inputs product told h.0, tt)),
+)
 makes_good (Rings ring stream program image) inputs product told h = (
   run_file GivesRingProgram ring stream inputs (program_and_image program image) ReportsBlocks product HoldsRing (λ bytes p fill is. (is.0, is.1.holds)) told h.0,
   (run_stream GivesRingProgram ring stream inputs (program_and_image program image) ReportsBlocks product told h.0, tt),
@@ -381,6 +439,7 @@ in_order (Ok task) answer old new h =
     refused_order (refusal.Malformed file fault) refused = refused.calls
     refused_order (refusal.BadDesc fault) refused = refused.calls
     refused_order (refusal.BadGeometry fault) refused = refused.calls
+    refused_order (refusal.BadChain fault) refused = refused.calls
     refused_order (refusal.BadRing fault) refused = refused.calls
     refused_order (refusal.BadText fault) refused = refused.calls
     refused_order (refusal.Rejected at nth cause) refused = refused.calls

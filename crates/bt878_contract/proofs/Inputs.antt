@@ -8,7 +8,9 @@ use Rattle.command_steps.specs.Inputs.{OfFile, OfInput, IsUnread}
 use Rattle.command_steps.specs.Outputs.{Product}
 use Rattle.stream_play.specs.Runs.{HoldsSteps, IsRun, OfRun, Ran}
 use Rattle.command_steps.proofs.Inputs.{OfInput-map}
-use Rattle.bt878_contract.specs.Tasks.{RunOf}
+use Rattle.capture_desc.specs.declared.desc.Desc.{Desc}
+use Rattle.command_inputs.specs.Chains.{GivesChain, HoldsFrame, HoldsSecond}
+use Rattle.bt878_contract.specs.Tasks.{ChainOf, RunOf}
 use Rattle.bt878_contract.specs.Clauses.{AreTold, IsCut}
 
 -- two facts of one input
@@ -44,6 +46,16 @@ pub cut_unread : (name : List ℕ) (old new : Seen) (P : List ℕ → Type 0) �
 cut_unread name old new P told there (inl rose) = inr (refl, rose)
 cut_unread name old new P told there (inr missing) = absurd (not_missing name old.told.inputs P told there missing)
 
+-- of two inputs either may come first
+pub exchanged : (first second : List ℕ) (inputs : Option Inputs) (R : List ℕ → List ℕ → Type 0) → OfInput first inputs (λ a. OfInput second inputs (R a)) → OfInput second inputs (λ b. OfInput first inputs (λ a. R a b))
+exchanged first second None R h = tt
+exchanged first second (Some inputs) R h = of_files (named first inputs) (named second inputs) h
+  where
+    of_files : (one two : Option (List ℕ)) → OfFile one (λ a. OfFile two (R a)) → OfFile two (λ b. OfFile one (λ a. R a b))
+    of_files None two h = absurd h
+    of_files (Some a) None h = h
+    of_files (Some a) (Some b) h = h
+
 -- ---- a run
 
 -- what holds of two inputs
@@ -51,6 +63,12 @@ pub both-map : (file stream : List ℕ) (inputs : Option Inputs) (P Q : List ℕ
     OfInput file inputs (λ a. OfInput stream inputs (Q a))
 both-map file stream inputs P Q f h =
     OfInput-map file inputs (λ a. OfInput stream inputs (P a)) (λ a. OfInput stream inputs (Q a)) (λ a k. OfInput-map stream inputs (P a) (Q a) (f a) k) h
+
+-- and of three
+pub three-map : (first second third : List ℕ) (inputs : Option Inputs) (P Q : List ℕ → List ℕ → List ℕ → Type 0) → ((a b c : List ℕ) → P a b c → Q a b c) →
+    OfInput first inputs (λ a. OfInput second inputs (λ b. OfInput third inputs (P a b))) → OfInput first inputs (λ a. OfInput second inputs (λ b. OfInput third inputs (Q a b)))
+three-map first second third inputs P Q f h =
+    both-map first second inputs (λ a b. OfInput third inputs (P a b)) (λ a b. OfInput third inputs (Q a b)) (λ a b. OfInput-map third inputs (P a b) (Q a b) (f a b)) h
 
 module _ (Gives : List ℕ → RiscProgram → ℕ → Type 0) (file stream : List ℕ) (inputs : Option Inputs) where
   abbrev Ran-of : (Ran → Type 0) → List ℕ → List ℕ → Type 0
@@ -75,3 +93,33 @@ module _ (Gives : List ℕ → RiscProgram → ℕ → Type 0) (file stream : Li
     run_stream told h =
         let some = told_some file inputs (λ a. OfInput stream inputs (Made a)) told h in
         OfInput-map stream inputs (Made some.0) (HoldsSteps false) (λ b m. (m.0.steps, m.1.reads)) some.1
+
+-- ---- a chain
+
+-- both descriptions of a chain and its stream are good
+module _ (first second stream image : List ℕ) (inputs : Option Inputs) (product : Product) (told : AreTold inputs)
+    (h : OfInput first inputs (λ a. OfInput second inputs (λ b. OfInput stream inputs (λ c. ChainOf image (a ∷ b ∷ c ∷ []) product)))) where
+  abbrev Made-of-chain : List ℕ → List ℕ → List ℕ → Type 0
+  Made-of-chain a b c = ChainOf image (a ∷ b ∷ c ∷ []) product
+
+  pub first_good : OfInput first inputs HoldsFrame
+  first_good =
+      OfInput-map first inputs (λ a. OfInput second inputs (λ b. OfInput stream inputs (Made-of-chain a b))) HoldsFrame
+      (λ a k.
+      let b = told_some second inputs (λ b. OfInput stream inputs (Made-of-chain a b)) told k in
+      let c = told_some stream inputs (Made-of-chain a b.0) told b.1 in
+      (c.1.0.first, c.1.1.gives.are.reads_first)) h
+
+  pub second_good : OfInput second inputs (HoldsSecond first inputs)
+  second_good =
+      OfInput-map second inputs (λ b. OfInput first inputs (λ a. OfInput stream inputs (Made-of-chain a b))) (HoldsSecond first inputs)
+      (λ b k.
+      OfInput-map first inputs (λ a. OfInput stream inputs (Made-of-chain a b)) (λ a. (d e : Desc) × GivesChain a b d e)
+      (λ a m. let c = told_some stream inputs (Made-of-chain a b) told m in (c.1.0.first, c.1.0.second, c.1.1.gives)) k)
+      (exchanged first second inputs (λ a b. OfInput stream inputs (Made-of-chain a b)) h)
+
+  pub third_good : OfInput stream inputs (HoldsSteps true)
+  third_good =
+      let a = told_some first inputs (λ a. OfInput second inputs (λ b. OfInput stream inputs (Made-of-chain a b))) told h in
+      let b = told_some second inputs (λ b. OfInput stream inputs (Made-of-chain a.0 b)) told a.1 in
+      OfInput-map stream inputs (Made-of-chain a.0 b.0) (HoldsSteps true) (λ c m. (m.0.steps, m.1.reads)) b.1

@@ -1,5 +1,5 @@
 -- Why an input is not taken: a told input is bad in one way only, and a good one isn't bad.
-use Rattle.std.proofs.Common.{◌≡◌, ℕ, ◌<◌, ◌⊎◌, inl, inr, Bool, false, List, [], ◌∷◌, map, Option, Result, Ok, Err, refl, sym, ap, subst, ◌∙◌, arith}
+use Rattle.std.proofs.Common.{◌≡◌, ℕ, ◌<◌, ◌⊎◌, inl, inr, Bool, true, false, List, [], ◌∷◌, map, Option, None, Some, Result, Ok, Err, refl, sym, ap, subst, ◌∙◌, arith}
 use Rattle.capture_desk.specs.Desks.{HasRisen, Inputs, Seen}
 use Rattle.machine_model.specs.declared.Cause.{Cause}
 use Rattle.machine_model.specs.Paths.{RiscProgram, IsSound, IsFirstBad}
@@ -11,23 +11,28 @@ use Rattle.capture_file.specs.declared.Step.{Step}
 use Rattle.capture_file.specs.Programs.{program_of}
 use Rattle.capture_file.specs.Streams.{steps_of}
 use Rattle.command_texts.specs.declared.refusal.Refusal.{Refusal}
-use Rattle.command_texts.specs.declared.refusal.Refusal.TheVariants.{ReadFault, Malformed, BadDesc, BadGeometry, BadRing, BadText, Rejected, NoMemory}
+use Rattle.command_texts.specs.declared.refusal.Refusal.TheVariants.{ReadFault, Malformed, BadDesc, BadGeometry, BadChain, BadRing, BadText, Rejected, NoMemory}
 use Rattle.command_texts.specs.Answers.{answer_of}
 use Rattle.command_steps.specs.Inputs.{AreGood, ByBytes, Input, IsFirstBadOf, OfInput, StopsAt, StopsIn}
 use Rattle.stream_play.specs.Plays.{longest_stream}
 use Rattle.command_inputs.specs.Programs.{HoldsProgram, HoldsSound, IsBadFile, IsBadProgram, Rejects, a_program, a_sound_program}
 use Rattle.stream_play.specs.Runs.{HoldsSteps, IsBadStream, a_stream_file}
 use Rattle.command_steps.proofs.Inputs.{OfInput-map}
-use Rattle.command_inputs.specs.Descriptions.{HoldsValid, IsBadDesc, a_description, description_of}
+use Rattle.command_inputs.specs.Descriptions.{HoldsValid, IsBadDesc, IsBadDescBy, a_description, description_by, description_of}
 use Rattle.risc_asm.specs.declared.AsmFault.{AsmFault}
 use Rattle.risc_asm.specs.declared.AsmError.TheVariants.{Bad}
 use Rattle.risc_asm.specs.Answers.{IsFault}
 use Rattle.risc_asm.proofs.OneAnswer.{one_answer}
 use Rattle.command_inputs.specs.Listings.{HoldsListing, IsBadText, a_listing}
+use Rattle.capture_desc.specs.declared.desc.Desc.{Desc}
+use Rattle.picture_model.specs.declared.BuildFault.{BuildFault}
+use Rattle.picture_model.specs.Geometry.{first_fault, frame_fault}
+use Rattle.double_buffer.specs.declared.faults.ChainFault.{ChainFault}
+use Rattle.command_inputs.specs.Chains.{GivesChain, HasFault, HoldsFrame, HoldsSecond, IsBadSecond, a_first_description, a_second_description, frame_of}
 use Rattle.command_inputs.specs.Rings.{HoldsRing, IsBadRing, a_ring, ring_of}
-use Rattle.bt878_contract.specs.Tasks.{Task, Lists, Verifies, Runs, Compiles, Captures, Generates, Rings, Assembles, meaning}
+use Rattle.bt878_contract.specs.Tasks.{Task, Lists, Verifies, Runs, Compiles, Captures, Generates, Chains, Damages, Rings, Assembles, meaning}
 use Rattle.bt878_contract.specs.Clauses.{AreTold, IsCut, IsUnreadOf, TellsInput, UnlessCut}
-use Rattle.bt878_contract.proofs.Inputs.{both_of, cut_unread}
+use Rattle.bt878_contract.proofs.Inputs.{both_of, cut_unread, told_some}
 use Rattle.bt878_contract.proofs.Outputs.{first_among, later_among}
 
 -- Why is what a refusal says of the bytes
@@ -208,19 +213,85 @@ module _ {X : Type 0} (read : List ℕ → Result X Refusal) where
   refused_once a b bytes one two = cc
 
 -- a description
-desc_tells : (name : List ℕ) (refusal : Refusal) (inputs : Option Inputs) → IsBadDesc name refusal inputs → OfInput name inputs (IsRefusedBy description_of refusal)
-desc_tells name (Malformed DescFile fault) inputs h = h
-desc_tells name (BadDesc fault) inputs h = h
-desc_tells name (BadGeometry fault) inputs h = h
-desc_tells name refusal inputs h = absurd h
+desc_tells : (fault_in : Desc → Option BuildFault) (name : List ℕ) (refusal : Refusal) (inputs : Option Inputs) → IsBadDescBy fault_in name refusal inputs →
+    OfInput name inputs (IsRefusedBy (description_by fault_in) refusal)
+desc_tells fault_in name (Malformed DescFile fault) inputs h = h
+desc_tells fault_in name (BadDesc fault) inputs h = h
+desc_tells fault_in name (BadGeometry fault) inputs h = h
+desc_tells fault_in name refusal inputs h = absurd h
 
 desc_judge : IsByteJudge IsBadDesc HoldsValid (IsRefusedBy description_of)
 desc_judge =
     record {
-      tells = desc_tells;
+      tells = desc_tells first_fault;
       excludes = λ refusal bytes good why. not_refused description_of refusal bytes good.0 good.1.reads why;
       once = refused_once description_of;
     }
+
+-- the first description of a chain
+frame_judge : IsByteJudge (IsBadDescBy frame_fault) HoldsFrame (IsRefusedBy frame_of)
+frame_judge =
+    record {
+      tells = desc_tells frame_fault;
+      excludes = λ refusal bytes good why. not_refused frame_of refusal bytes good.0 good.1 why;
+      once = refused_once frame_of;
+    }
+
+-- and the second
+module _ (first : List ℕ) where
+  pub record IsFaultyPair (refusal : Refusal) (told : Option Inputs) (bytes : List ℕ) : Type 0 where
+    fault : ChainFault
+    is : refusal ≡ BadChain fault
+    faulty : OfInput first told (λ first_bytes. HasFault first_bytes bytes fault)
+
+  abbrev WhySecond : Refusal → Option Inputs → List ℕ → Type 0
+  WhySecond refusal told bytes = IsRefusedBy frame_of refusal bytes ⊎ IsFaultyPair refusal told bytes
+
+  second_tells : (name : List ℕ) (refusal : Refusal) (inputs : Option Inputs) → IsBadSecond first name refusal inputs → OfInput name inputs (WhySecond refusal inputs)
+  second_tells name (BadChain fault) inputs h =
+      OfInput-map name inputs (λ bytes. OfInput first inputs (λ first_bytes. HasFault first_bytes bytes fault)) (WhySecond (BadChain fault) inputs)
+      (λ bytes bad. inr (record { fault = fault; is = refl; faulty = bad })) h
+  second_tells name refusal inputs h =
+      OfInput-map name inputs (IsRefusedBy frame_of refusal) (WhySecond refusal inputs) (λ bytes. inl) (desc_tells frame_fault name refusal inputs h)
+
+  second_excludes : (refusal : Refusal) (inputs : Option Inputs) (bytes : List ℕ) → AreTold inputs → HoldsSecond first inputs bytes → WhySecond refusal inputs bytes → ⊥
+  second_excludes refusal inputs bytes told good (inl why) =
+      let some = told_some first inputs (λ a. (d e : Desc) × GivesChain a bytes d e) told good in
+      not_refused frame_of refusal bytes some.1.1 some.1.2.are.reads_second why
+  second_excludes refusal inputs bytes told good (inr why) =
+      both_of first inputs (λ a. (d e : Desc) × GivesChain a bytes d e) (λ a. HasFault a bytes why.fault) ⊥ told
+      (λ a given bad.
+      let one = given.2.are.reads_first in
+      let two = given.2.are.reads_second in
+      let none = given.2.pair.no_fault in
+      let one' = bad.are.reads_first in
+      let two' = bad.are.reads_second in
+      let some = bad.faulty in
+      absurd (cc)) good why.faulty
+
+  second_once : (a b : Refusal) (inputs : Option Inputs) (bytes : List ℕ) → AreTold inputs → WhySecond a inputs bytes → WhySecond b inputs bytes → a ≡ b
+  second_once a b inputs bytes told (inl one) (inl two) = refused_once frame_of a b bytes one two
+  second_once a b inputs bytes told (inl one) (inr two) =
+      let some = told_some first inputs (λ x. HasFault x bytes two.fault) told two.faulty in
+      absurd (not_refused frame_of a bytes some.1.second some.1.are.reads_second one)
+  second_once a b inputs bytes told (inr one) (inl two) =
+      let some = told_some first inputs (λ x. HasFault x bytes one.fault) told one.faulty in
+      absurd (not_refused frame_of b bytes some.1.second some.1.are.reads_second two)
+  second_once a b inputs bytes told (inr one) (inr two) =
+      let same : one.fault ≡ two.fault =
+      both_of first inputs (λ x. HasFault x bytes one.fault) (λ x. HasFault x bytes two.fault) (one.fault ≡ two.fault) told
+      (λ x h k.
+      let r = h.are.reads_first in
+      let s = h.are.reads_second in
+      let f = h.faulty in
+      let r' = k.are.reads_first in
+      let s' = k.are.reads_second in
+      let f' = k.faulty in
+      cc) one.faulty two.faulty in
+      one.is ∙ ap BadChain same ∙ sym two.is
+
+  second_judge : IsJudge (IsBadSecond first) (HoldsSecond first) WhySecond
+  second_judge = record { tells = second_tells; excludes = second_excludes; once = second_once }
 
 -- a ring file
 ring_tells : (name : List ℕ) (refusal : Refusal) (inputs : Option Inputs) → IsBadRing name refusal inputs → OfInput name inputs (IsRefusedBy ring_of refusal)
@@ -282,6 +353,12 @@ description_judged name = record { Why = λ refusal inputs. IsRefusedBy descript
 pub stream_judged : (chained : Bool) (name : List ℕ) → IsJudged (a_stream_file chained name)
 stream_judged chained name = record { Why = λ refusal inputs. WhyStream chained refusal; judges = by_bytes (stream_judge chained) }
 
+pub first_judged : (name : List ℕ) → IsJudged (a_first_description name)
+first_judged name = record { Why = λ refusal inputs. IsRefusedBy frame_of refusal; judges = by_bytes frame_judge }
+
+pub second_judged : (first name : List ℕ) → IsJudged (a_second_description first name)
+second_judged first name = record { Why = WhySecond first; judges = second_judge first }
+
 pub ring_judged : (name : List ℕ) → IsJudged (a_ring name)
 ring_judged name = record { Why = λ refusal inputs. IsRefusedBy ring_of refusal; judges = by_bytes ring_judge }
 
@@ -295,6 +372,8 @@ judged (Runs program stream image) = (sound_program_judged program, (stream_judg
 judged (Compiles desc program) = (description_judged desc, tt)
 judged (Captures desc stream program image) = (description_judged desc, (stream_judged false stream, tt))
 judged (Generates desc seed frames stream) = (description_judged desc, tt)
+judged (Damages desc stream) = (description_judged desc, (stream_judged false stream, tt))
+judged (Chains first second stream image) = (first_judged first, (second_judged first second, (stream_judged true stream, tt)))
 judged (Rings ring stream program image) = (ring_judged ring, (stream_judged false stream, tt))
 judged (Assembles text program) = (listing_judged text, tt)
 

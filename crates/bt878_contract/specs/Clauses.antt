@@ -26,12 +26,15 @@ use Rattle.command_steps.specs.Reading.{Calls}
 use Rattle.command_steps.specs.Inputs.{AreGood, IsFirstBadOf, OfInput, ReadsRose, WritesRose}
 use Rattle.command_texts.specs.Texts.{accepted_text, answer_text, blocks_text, made_text, report_text}
 use Rattle.command_inputs.specs.Programs.{HoldsSound, GivesSound}
-use Rattle.stream_play.specs.Runs.{IsRun, Ran, first_of, last_of, OfRun}
-use Rattle.command_inputs.specs.Descriptions.{Describes, GivesCompiled}
+use Rattle.stream_play.specs.Runs.{IsRun, LiveRan, Ran, chain_ran, first_of, last_live_of, last_of, live_steps_of, OfRun}
+use Rattle.command_inputs.specs.Descriptions.{Describes, GivesCompiled, GivesDescribed}
+use Rattle.damage_text.specs.Texts.{damage_text}
 use Rattle.command_inputs.specs.Listings.{GivesAssembled}
 use Rattle.command_inputs.specs.Rings.{GivesRing, GivesRingProgram}
+use Rattle.chain_model.specs.Chains.{Chain}
+use Rattle.chain_model.specs.Live.{LiveStep}
 use Rattle.ring_model.specs.Rings.{Ring}
-use Rattle.bt878_contract.specs.Tasks.{Task, Lists, Verifies, Runs, Compiles, Captures, Generates, Rings, Assembles, IsPartOfWork, IsRefusedWork, IsWholeWork, Makes, blocks_of, compiled_text, creates, meaning, program_text}
+use Rattle.bt878_contract.specs.Tasks.{Task, Lists, Verifies, Runs, Compiles, Captures, Generates, Chains, Damages, Rings, Assembles, IsLiveRun, IsPartOfWork, IsRefusedWork, IsWholeWork, Makes, blocks_of, rows_told, compiled_text, creates, meaning, program_text}
 
 -- ---- the words
 
@@ -47,12 +50,14 @@ abbrev pub AreTold : Option Inputs → Type 0
 AreTold None = ⊥
 AreTold (Some inputs) = ⊤
 
--- P of what `run`, `capture` or `ring` ran: the program of the program file, of the description or of the ring, with its
--- fill, over the steps of the whole stream; the others run nothing
+-- P of what `run`, `capture`, `damage` or `ring` ran: the program of the program file, of the description or of the ring,
+-- with its fill, over the steps of the whole stream; the others run no program that stays the same
 abbrev pub OfRan : Result Task UsageFault → Option Inputs → (Ran → Type 0) → Type 0
 OfRan (Ok (Runs program stream image)) inputs P = OfRun GivesSound program stream inputs P
 OfRan (Ok (Captures desc stream program image)) inputs P = OfRun GivesCompiled desc stream inputs P
 OfRan (Ok (Rings ring stream program image)) inputs P = OfRun GivesRingProgram ring stream inputs P
+OfRan (Ok (Damages desc stream)) inputs P = OfRun GivesCompiled desc stream inputs P
+OfRan (Ok (Chains first second stream image)) inputs P = ⊤
 OfRan (Ok (Lists program)) inputs P = ⊤
 OfRan (Ok (Verifies program)) inputs P = ⊤
 OfRan (Ok (Compiles desc program)) inputs P = ⊤
@@ -64,6 +69,21 @@ OfRan (Err fault) inputs P = ⊥
 abbrev pub OfRingRun : List ℕ → List ℕ → Option Inputs → (Ring → Ran → Type 0) → Type 0
 OfRingRun ring stream inputs P =
     OfInput ring inputs (λ a. OfInput stream inputs (λ b. (x : Ring) × (r : Ran) × IsRun (GivesRing x) a b r × P x r))
+
+-- P of what `chain` ran: the chain of the two descriptions over the steps of the whole stream
+abbrev pub OfLiveRun : List ℕ → List ℕ → List ℕ → Option Inputs → (LiveRan → Type 0) → Type 0
+OfLiveRun first second stream inputs P =
+    OfInput first inputs (λ a. OfInput second inputs (λ b. OfInput stream inputs (λ c.
+    (r : LiveRan) × IsLiveRun a b c r × P r)))
+
+abbrev pub OfLive : Result Task UsageFault → Option Inputs → (LiveRan → Type 0) → Type 0
+OfLive (Ok (Chains first second stream image)) inputs P = OfLiveRun first second stream inputs P
+OfLive _ inputs P = ⊤
+
+-- P of the description that `damage` read, and of what it ran
+abbrev pub OfDescRun : List ℕ → List ℕ → Option Inputs → (Desc → Ran → Type 0) → Type 0
+OfDescRun desc stream inputs P =
+    OfInput desc inputs (λ a. OfInput stream inputs (λ b. (d : Desc) × (r : Ran) × IsRun (GivesDescribed d) a b r × P d r))
 
 -- P of the description that `compile` or `make` read
 abbrev pub OfDesc : List ℕ → Option Inputs → (Desc → Type 0) → Type 0
@@ -102,9 +122,23 @@ ShowsImage image new r = IsOutput image (image_of (last_of r).memory) new.output
 abbrev pub ShowsLast : List ℕ → Told → Told → Ran → Type 0
 ShowsLast image old new r = ShowsImage image new r × SaysAll (report_text (report_of (last_of r))) old new
 
+-- the image is that of the memory after all live steps, and the report that of the same state
+abbrev pub ShowsLastLive : List ℕ → Told → Told → LiveRan → Type 0
+ShowsLastLive image old new r =
+    IsOutput image (image_of (last_live_of r).machine.memory) new.outputs
+    × SaysAll (report_text (report_of (last_live_of r).machine)) old new
+
+-- P of the chain, of the byte that fills its memory, and of the live steps
+abbrev pub OfLiveSteps : (Chain → ℕ → List LiveStep → Type 0) → LiveRan → Type 0
+OfLiveSteps P r = P (chain_ran r) r.first.fill (live_steps_of r)
+
 -- the block ends over all steps are said, and then the report of the state after them
 abbrev pub SaysBlocks : Told → Told → Ring → Ran → Type 0
 SaysBlocks old new ring r = SaysAll (blocks_text (blocks_of ring r) (report_of (last_of r))) old new
+
+-- which rows are whole lines at the last signal of each field is said, and nothing is created
+abbrev pub SaysDamage : Told → Told → Desc → Ran → Type 0
+SaysDamage old new d r = SaysAll (damage_text d (rows_told d r)) old new × CreatesNone old new
 
 -- the program file of `capture` or `ring` is the one spelling of the program that ran and of its fill
 abbrev pub ShowsProgram : List ℕ → Told → Ran → Type 0
@@ -157,7 +191,7 @@ IsUnreadOf names old new =
     ⊎ ((name : List ℕ) × (is_among name names ≡ true) × (is_missing name old.told.inputs ≡ true))
 
 -- the cause of a refusal that tells what is bad about an input: `Malformed`, `Rejected`, `BadDesc`, `BadGeometry`,
--- `BadRing` or `BadText`
+-- `BadChain`, `BadRing` or `BadText`
 abbrev pub IsBadInput : Result Task UsageFault → Refusal → Option Inputs → Type 0
 IsBadInput (Ok task) refusal inputs = IsFirstBadOf (meaning task).inputs refusal inputs
 IsBadInput (Err fault) refusal inputs = ⊥

@@ -1,5 +1,5 @@
 -- What the words ask for, what each command means, what comes of it, and why it is refused.
-use Rattle.std.specs.Prelude.{◌≡◌, ℕ, ⊤, List, [], ◌∷◌, ◌++◌, map, length, Option, Some, None, MatchOption, Result, Ok, Err}
+use Rattle.std.specs.Prelude.{◌≡◌, ℕ, ⊤, Bool, List, [], ◌∷◌, ◌++◌, map, length, Option, Some, None, MatchOption, Result, Ok, Err, true}
 use Rattle.std.specs.Borrow.{Bor}
 use Rattle.bt878_words.specs.declared.Command.{Command}
 use Rattle.bt878_words.specs.declared.Command.TheVariants as command
@@ -15,8 +15,11 @@ use Rattle.machine_model.specs.Steps.{state_at}
 use Rattle.capture_file.specs.declared.program.ProgramFile.{ProgramFile}
 use Rattle.capture_file.specs.Images.{image_of}
 use Rattle.capture_file.specs.Programs.{program_of, spelled}
-use Rattle.capture_file.specs.Streams.{steps_run}
+use Rattle.capture_file.specs.Streams.{steps_of, steps_run}
 use Rattle.picture_model.specs.Programs.{compiled}
+use Rattle.pixel_layout.specs.declared.Parity.{Parity}
+use Rattle.damage_law.specs.Marks.{answer}
+use Rattle.damage_text.specs.Texts.{damage_text}
 use Rattle.field_stream.specs.Made.{made, made_entries, made_fields}
 use Rattle.dma_machine.specs.Facts.{report_of}
 use Rattle.risc_listing.specs.Listings.{listing}
@@ -29,12 +32,15 @@ use Rattle.command_steps.specs.Inputs.{Input, OfInput, SameCounts, StopsIn, apar
 use Rattle.command_steps.specs.Reading.{AreTaken, AreTakenUpTo, Calls}
 use Rattle.command_steps.specs.Outputs.{IsDeliveryPart, IsPart, Product, Says, SaysAtOnce, delivered, delivery, names_of}
 use Rattle.command_inputs.specs.Programs.{GivesSound, HoldsSound, a_program, a_sound_program}
-use Rattle.command_inputs.specs.Descriptions.{Describes, GivesCompiled, a_description}
+use Rattle.command_inputs.specs.Descriptions.{Describes, GivesCompiled, GivesDescribed, a_description}
 use Rattle.command_inputs.specs.Listings.{GivesAssembled, a_listing}
+use Rattle.command_inputs.specs.Chains.{GivesChain, a_first_description, a_second_description}
 use Rattle.command_inputs.specs.Rings.{GivesRing, GivesRingProgram, a_ring}
+use Rattle.chain_law.specs.Runs.{KeepsLivePromises}
 use Rattle.ring_model.specs.Rings.{Ring, ends}
 use Rattle.ring_model.specs.Runs.{block_ends}
-use Rattle.stream_play.specs.Runs.{IsRun, Ran, a_stream, first_of, last_of}
+use Rattle.stream_play.specs.Plays.{longest_stream}
+use Rattle.stream_play.specs.Runs.{IsRun, LiveRan, Ran, a_stream, a_stream_file, chain_ran, first_of, last_live_of, last_of, live_steps_of}
 
 -- ---- the words
 
@@ -46,6 +52,8 @@ pub data Task : Type 0 where
   Compiles : List ℕ → List ℕ → Task
   Captures : List ℕ → List ℕ → List ℕ → List ℕ → Task
   Generates : List ℕ → ℕ → ℕ → List ℕ → Task
+  Chains : List ℕ → List ℕ → List ℕ → List ℕ → Task
+  Damages : List ℕ → List ℕ → Task
   Rings : List ℕ → List ℕ → List ℕ → List ℕ → Task
   Assembles : List ℕ → List ℕ → Task
 
@@ -58,6 +66,8 @@ task_with (Ok command.Run) (_ ∷ program ∷ stream ∷ image ∷ _) = Ok (Runs
 task_with (Ok command.Compile) (_ ∷ desc ∷ program ∷ _) = Ok (Compiles desc program)
 task_with (Ok command.Capture) (_ ∷ desc ∷ stream ∷ program ∷ image ∷ _) = Ok (Captures desc stream program image)
 task_with (Ok (command.Make seed frames)) (_ ∷ desc ∷ _ ∷ _ ∷ stream ∷ _) = Ok (Generates desc seed frames stream)
+task_with (Ok command.Chain) (_ ∷ first ∷ second ∷ stream ∷ image ∷ _) = Ok (Chains first second stream image)
+task_with (Ok command.Damage) (_ ∷ desc ∷ stream ∷ _) = Ok (Damages desc stream)
 task_with (Ok command.Ring) (_ ∷ ring ∷ stream ∷ program ∷ image ∷ _) = Ok (Rings ring stream program image)
 task_with (Ok command.Assemble) (_ ∷ text ∷ program ∷ _) = Ok (Assembles text program)
 task_with (Ok _) words = Err UnknownCommand
@@ -97,6 +107,16 @@ pub record ReportsBlocks (file : List ℕ) (r : Ran) (text : List ℕ) : Type 0 
   pub gives : GivesRing ring file r.program r.fill
   pub says : text ≡ blocks_text (blocks_of ring r) (report_of (last_of r))
 
+-- which rows of a field are whole lines, at its last signal over all steps of a run
+abbrev pub rows_told : Desc → Ran → Parity → Option (List Bool)
+rows_told d r field = answer d field (first_of r) (steps_run r.steps)
+
+-- what `damage` says of a description file: which rows are whole
+pub record TellsRows (file : List ℕ) (r : Ran) (text : List ℕ) : Type 0 where
+  pub description : Desc
+  pub gives : GivesDescribed description file r.program r.fill
+  pub says : text ≡ damage_text description (rows_told description r)
+
 -- What a run makes: the program is sound; the files; a text as it is said of the run; and at every place of the steps the
 -- machine is inside: what a turn there writes is granted, what it fetches is a word of the program, and OCERR is 0.
 pub record RunMakes (files : List (List ℕ × List ℕ)) (Says : List ℕ → Type 0) (product : Product) (r : Ran) : Type 0 where
@@ -104,6 +124,18 @@ pub record RunMakes (files : List (List ℕ × List ℕ)) (Says : List ℕ → T
   pub writes : product.files ≡ files
   pub says : Says product.text
   pub inside : (place : ℕ) → IsInside r.program (state_at (first_of r) (steps_run r.steps) place)
+
+-- two description files gave the chain, and the steps are those of a whole stream
+pub record IsLiveRun (first second stream : List ℕ) (r : LiveRan) : Type 0 where
+  pub gives : GivesChain first second r.first r.second
+  pub reads : steps_of longest_stream true stream ≡ Ok r.steps
+
+-- What a run of a chain makes: the image of its memory after all steps, and the report of its machine; and at every place
+-- of the live run what a chain promises.
+pub record ChainMakes (image : List ℕ) (product : Product) (r : LiveRan) : Type 0 where
+  pub writes : product.files ≡ (image, image_of (last_live_of r).machine.memory) ∷ []
+  pub says : product.text ≡ report_text (report_of (last_live_of r).machine)
+  pub promises : KeepsLivePromises (chain_ran r) r.first.fill (live_steps_of r)
 
 -- a text is the listing of a file's program
 abbrev pub IsListed : List ℕ → List ℕ → Type 0
@@ -159,12 +191,19 @@ RunOf Gives files Says (file ∷ stream ∷ []) product =
     (r : Ran) × IsRun Gives file stream r × RunMakes (files r) (Says file r) product r
 RunOf Gives files Says _ product = ⊥
 
--- the image of a run, and its program file before it
+-- no file, the image of a run, and its program file before it
+abbrev pub no_file : Ran → List (List ℕ × List ℕ)
+no_file r = []
+
 abbrev pub image_of_run : List ℕ → Ran → List (List ℕ × List ℕ)
 image_of_run image r = image_file image r ∷ []
 
 abbrev pub program_and_image : List ℕ → List ℕ → Ran → List (List ℕ × List ℕ)
 program_and_image program image r = program_file program r.program r.fill ∷ image_file image r ∷ []
+
+abbrev pub ChainOf : List ℕ → List (List ℕ) → Product → Type 0
+ChainOf image (first ∷ second ∷ stream ∷ []) product = (r : LiveRan) × IsLiveRun first second stream r × ChainMakes image product r
+ChainOf image _ product = ⊥
 
 -- what is made of a description, by the file and the text for it
 abbrev pub MadeOf : (Desc → List ℕ × List ℕ) → (Desc → List ℕ) → List (List ℕ) → Product → Type 0
@@ -216,6 +255,20 @@ meaning (Generates desc seed frames stream) =
       inputs = a_description desc ∷ [];
       outputs = stream ∷ [];
       makes = MadeOf (λ d. (stream, made d seed frames)) (λ d. made_text (made_fields d frames) (made_entries d frames));
+      text = None;
+    }
+meaning (Chains first second stream image) =
+    record {
+      inputs = a_first_description first ∷ a_second_description first second ∷ a_stream_file true stream ∷ [];
+      outputs = image ∷ [];
+      makes = ChainOf image;
+      text = None;
+    }
+meaning (Damages desc stream) =
+    record {
+      inputs = a_description desc ∷ a_stream stream ∷ [];
+      outputs = [];
+      makes = RunOf GivesCompiled no_file TellsRows;
       text = None;
     }
 meaning (Rings ring stream program image) =

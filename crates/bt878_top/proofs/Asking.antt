@@ -3,9 +3,9 @@ use Rattle.std.proofs.Common.{◌≡◌, ℕ, true, List, [], ◌∷◌, map, Op
 use Rattle.std.proofs.Math.ListN.{get_or-map}
 use Rattle.bt878_words.specs.declared.Command.TheVariants as command
 use Rattle.bt878_words.specs.Words.{command_of, inputs_of, outputs_of}
-use Rattle.bt878_words.proofs.Asked.{AsksProgram, AsksRun, AsksBuilt, AsksCapture, AsksMake, asked}
+use Rattle.bt878_words.proofs.Asked.{AsksProgram, AsksRun, AsksBuilt, AsksCapture, AsksChain, AsksDamage, AsksMake, asked}
 use Rattle.capture_desk.specs.Desks.{IsAllowed, is_among}
-use Rattle.bt878_contract.specs.Tasks.{AreNames, Lists, Verifies, Runs, Compiles, Captures, Generates, Rings, Assembles, task_of, task_with}
+use Rattle.bt878_contract.specs.Tasks.{AreNames, Lists, Verifies, Runs, Compiles, Captures, Generates, Chains, Damages, Rings, Assembles, task_of, task_with}
 use Rattle.bt878_contract.proofs.Outputs.{first_among, later_among}
 
 -- a name may be used where it is one of those that are told
@@ -92,6 +92,31 @@ module _ {X : Type 0} (f : X → List ℕ) (xs : List X) (d : X) where
     pub capture_image_allowed : AreNames (outputs_of words) told → IsAllowed (word_at 4) told
     capture_image_allowed are = creates 4 (h.program ∷ h.image ∷ []) told h.creates (second (word_at 4) h.program h.image [] (at 4 _ h.are)) are
 
+  -- three inputs and an output
+  module _ (h : AsksChain words) (told : Option (List (List ℕ))) where
+    pub chain_first_allowed : AreNames (inputs_of words) told → IsAllowed (word_at 1) told
+    chain_first_allowed are = opens 1 (h.first ∷ h.second ∷ h.stream ∷ []) told h.opens (first (word_at 1) h.first (h.second ∷ h.stream ∷ []) (at 1 _ h.are)) are
+
+    pub chain_second_allowed : AreNames (inputs_of words) told → IsAllowed (word_at 2) told
+    chain_second_allowed are =
+        opens 2 (h.first ∷ h.second ∷ h.stream ∷ []) told h.opens (second (word_at 2) h.first h.second (h.stream ∷ []) (at 2 _ h.are)) are
+
+    pub chain_stream_allowed : AreNames (inputs_of words) told → IsAllowed (word_at 3) told
+    chain_stream_allowed are =
+        opens 3 (h.first ∷ h.second ∷ h.stream ∷ []) told h.opens
+        (later_among (word_at 3) h.first (h.second ∷ h.stream ∷ []) (second (word_at 3) h.second h.stream [] (at 3 _ h.are))) are
+
+    pub chain_image_allowed : AreNames (outputs_of words) told → IsAllowed (word_at 4) told
+    chain_image_allowed are = creates 4 (h.image ∷ []) told h.creates (first (word_at 4) h.image [] (at 4 _ h.are)) are
+
+  -- a description and a stream
+  module _ (h : AsksDamage words) (told : Option (List (List ℕ))) where
+    pub damage_desc_allowed : AreNames (inputs_of words) told → IsAllowed (word_at 1) told
+    damage_desc_allowed are = opens 1 (h.desc ∷ h.stream ∷ []) told h.opens (first (word_at 1) h.desc (h.stream ∷ []) (at 1 _ h.are)) are
+
+    pub damage_stream_allowed : AreNames (inputs_of words) told → IsAllowed (word_at 2) told
+    damage_stream_allowed are = opens 2 (h.desc ∷ h.stream ∷ []) told h.opens (second (word_at 2) h.desc h.stream [] (at 2 _ h.are)) are
+
   pub make_desc_allowed : (seed frames : ℕ) (told : Option (List (List ℕ))) → command_of words ≡ Ok (command.Make seed frames) → AreNames (inputs_of words) told → IsAllowed (word_at 1) told
   make_desc_allowed seed frames told e are =
       let h : AsksMake words = asked words (command.Make seed frames) e in
@@ -143,6 +168,22 @@ module _ {X : Type 0} (f : X → List ℕ) (xs : List X) (d : X) where
       ∙ ap (λ stream. Ok (Captures (word_at 1) stream h.program h.image)) (sym (at 2 _ h.are))
       ∙ ap (λ program. Ok (Captures (word_at 1) (word_at 2) program h.image)) (sym (at 3 _ h.are))
       ∙ ap (λ image. Ok (Captures (word_at 1) (word_at 2) (word_at 3) image)) (sym (at 4 _ h.are))
+
+  pub damage_task : command_of words ≡ Ok command.Damage → task_of words ≡ Ok (Damages (word_at 1) (word_at 2))
+  damage_task e =
+      let h : AsksDamage words = asked words command.Damage e in
+      ap (λ c. task_with c words) e ∙ ap (task_with (Ok command.Damage)) h.are
+      ∙ ap (λ desc. Ok (Damages desc h.stream)) (sym (at 1 _ h.are))
+      ∙ ap (λ stream. Ok (Damages (word_at 1) stream)) (sym (at 2 _ h.are))
+
+  pub chain_task : command_of words ≡ Ok command.Chain → task_of words ≡ Ok (Chains (word_at 1) (word_at 2) (word_at 3) (word_at 4))
+  chain_task e =
+      let h : AsksChain words = asked words command.Chain e in
+      ap (λ c. task_with c words) e ∙ ap (task_with (Ok command.Chain)) h.are
+      ∙ ap (λ one. Ok (Chains one h.second h.stream h.image)) (sym (at 1 _ h.are))
+      ∙ ap (λ two. Ok (Chains (word_at 1) two h.stream h.image)) (sym (at 2 _ h.are))
+      ∙ ap (λ stream. Ok (Chains (word_at 1) (word_at 2) stream h.image)) (sym (at 3 _ h.are))
+      ∙ ap (λ image. Ok (Chains (word_at 1) (word_at 2) (word_at 3) image)) (sym (at 4 _ h.are))
 
   pub ring_task : command_of words ≡ Ok command.Ring → task_of words ≡ Ok (Rings (word_at 1) (word_at 2) (word_at 3) (word_at 4))
   ring_task e =

@@ -1,5 +1,5 @@
 -- How the parts of a command make the whole.
-use Rattle.std.proofs.Common.{◌≡◌, ℕ, zero, suc, ◌<◌, ◌⊎◌, inl, inr, All, List, [], ◌∷◌, ◌++◌, length, take, slice_index_or, Option, refl, sym, ap, subst, ◌∙◌, arith}
+use Rattle.std.proofs.Common.{◌≡◌, ℕ, zero, suc, ◌<◌, ◌⊎◌, inl, inr, All, true, List, [], ◌∷◌, ◌++◌, length, take, slice_index_or, Option, refl, sym, ap, subst, ◌∙◌, arith}
 use Rattle.capture_desk.specs.Desks.{Inputs, IsAllowed, Seen, Tells, Told, after_say, counted, said_by}
 use Rattle.capture_desk.proofs.Telling.{tells_both}
 use Rattle.capture_file.specs.Images.{image_of}
@@ -26,19 +26,22 @@ use Rattle.command_steps.specs.Outputs.{AreCutOff, AreDelivered, Finishes, IsDel
 use Rattle.command_steps.proofs.Inputs.{OfInput-map}
 use Rattle.command_steps.proofs.Parts.{apart_part, apart_delivered}
 use Rattle.command_inputs.specs.Programs.{GivesSound}
-use Rattle.command_inputs.specs.Descriptions.{Describes, GivesCompiled}
+use Rattle.command_inputs.specs.Descriptions.{Describes, GivesCompiled, GivesDescribed}
+use Rattle.damage_text.specs.Texts.{damage_text}
 use Rattle.command_inputs.specs.Listings.{GivesAssembled}
 use Rattle.command_inputs.specs.Rings.{GivesRing, GivesRingProgram}
 use Rattle.ring_model.specs.Rings.{Ring}
 use Rattle.ring_model.proofs.Sound.{ring_sound}
 use Rattle.ring_machine.specs.States.{RingState}
-use Rattle.stream_play.specs.Runs.{IsRun, OfRun, Ran, first_of, last_of}
-use Rattle.stream_play.proofs.Fitting.{steps_fit}
-use Rattle.bt878_contract.specs.Tasks.{Task, Runs, Compiles, Captures, Generates, Rings, Assembles, DescMakes, Ends, IsDone, IsPartDone, IsRefused, ListingMakes, Makes, Reports, ReportsBlocks, RunMakes, RunOf, Stops, blocks_of, compiled_text, creates, image_file, image_of_run, meaning, program_and_image, program_file, program_text}
-use Rattle.bt878_contract.specs.Clauses.{OfRingRun}
+use Rattle.stream_play.specs.Runs.{IsRun, LiveRan, OfRun, Ran, first_of, last_live_of, last_of}
+use Rattle.stream_play.proofs.Fitting.{all_fit, steps_fit}
+use Rattle.bt878_contract.specs.Tasks.{Task, Runs, Compiles, Captures, Generates, Chains, Damages, Rings, Assembles, ChainOf, DescMakes, Ends, IsDone, IsLiveRun, IsPartDone, IsRefused, ListingMakes, Makes, Reports, ReportsBlocks, TellsRows, RunMakes, RunOf, Stops, blocks_of, compiled_text, creates, image_file, image_of_run, meaning, no_file, program_and_image, rows_told, program_file, program_text}
+use Rattle.bt878_contract.specs.Clauses.{OfDescRun, OfLiveRun, OfRingRun}
+use Rattle.chain_model.specs.Live.{Live}
+use Rattle.double_buffer.proofs.Promising.{plays_keep_promises}
 use Rattle.bt878_top.specs.Rings.{ShowsRing}
 use Rattle.bt878_contract.proofs.Judges.{stops_later}
-use Rattle.bt878_contract.proofs.Inputs.{both-map}
+use Rattle.bt878_contract.proofs.Inputs.{both-map, three-map}
 
 -- ---- refusals
 
@@ -54,6 +57,7 @@ ends_by task refusal.ReadFault old new h = (refusal.ReadFault, refl, h)
 ends_by task (refusal.Malformed file fault) old new h = (refusal.Malformed file fault, refl, h)
 ends_by task (refusal.BadDesc fault) old new h = (refusal.BadDesc fault, refl, h)
 ends_by task (refusal.BadGeometry fault) old new h = (refusal.BadGeometry fault, refl, h)
+ends_by task (refusal.BadChain fault) old new h = (refusal.BadChain fault, refl, h)
 ends_by task (refusal.BadRing fault) old new h = (refusal.BadRing fault, refl, h)
 ends_by task (refusal.BadText fault) old new h = (refusal.BadText fault, refl, h)
 ends_by task (refusal.Rejected at nth cause) old new h = (refusal.Rejected at nth cause, refl, h)
@@ -237,6 +241,45 @@ module _ (ring stream program image : List ℕ) (inputs : Option Inputs) (m : Ri
           is,
           run_makes r m.machine m.ring.fill sound shows.last GivesRingProgram a b is (program_and_image program image r)
               ((program, spelled m.machine.program m.ring.fill) ∷ (image, image_of m.machine.memory) ∷ []) (same_both r m.machine m.ring.fill sound shows.last shows.fills program image) (ReportsBlocks a r) ring_text says,
+        )) h,
+    tt,
+  )
+
+-- what a machine tells of the rows of a description
+module _ (desc stream : List ℕ) (inputs : Option Inputs) where
+  pub damage_product : (text : List ℕ) → OfDescRun desc stream inputs (λ d r. text ≡ damage_text d (rows_told d r)) → Makes (Damages desc stream) inputs (record { files = []; text = text })
+  damage_product text h = (
+    both-map desc stream inputs (λ a b. (d : Desc) × (r : Ran) × IsRun (GivesDescribed d) a b r × (text ≡ damage_text d (rows_told d r)))
+        (λ a b. RunOf GivesCompiled no_file TellsRows (a ∷ b ∷ []) (record { files = []; text = text }))
+        (λ a b k.
+        let d = k.0 in
+        let r = k.1 in
+        let gives = k.2.gives in
+        let given : GivesCompiled a r.program r.fill = record { description = d; describes = gives.describes; compiles = gives.compiles; fills = gives.fills } in
+        let sound : IsSound r.program = subst IsSound (sym gives.compiles) (checked_sound d gives.describes.checked) in (
+          r,
+          record { gives = given; reads = k.2.reads },
+          run_makes r (last_of r) r.fill sound refl GivesCompiled a b (record { gives = given; reads = k.2.reads }) (no_file r) [] refl (TellsRows a r) text
+              (record { description = d; gives = gives; says = k.3 }),
+        )) h,
+    tt,
+  )
+
+-- the chain of two descriptions after a stream
+module _ (first second stream image : List ℕ) (inputs : Option Inputs) (live : Live) where
+  pub chain_product : OfLiveRun first second stream inputs (λ r. live ≡ last_live_of r) →
+      Makes (Chains first second stream image) inputs (record { files = (image, image_of live.machine.memory) ∷ []; text = report_text (report_of live.machine) })
+  chain_product h = (
+    three-map first second stream inputs (λ a b c. (r : LiveRan) × IsLiveRun a b c r × (live ≡ last_live_of r))
+        (λ a b c. ChainOf image (a ∷ b ∷ c ∷ []) (record { files = (image, image_of live.machine.memory) ∷ []; text = report_text (report_of live.machine) }))
+        (λ a b c k. (
+          k.0,
+          k.1,
+          record {
+            writes = ap (λ (l : Live). (image, image_of l.machine.memory) ∷ []) k.2;
+            says = ap (λ (l : Live). report_text (report_of l.machine)) k.2;
+            promises = plays_keep_promises k.0.first k.0.second k.0.steps k.1.gives.pair (all_fit true c k.0.steps k.1.reads);
+          },
         )) h,
     tt,
   )

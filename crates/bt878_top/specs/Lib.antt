@@ -1,2 +1,3 @@
 pub mod Contents
 pub mod Rings
+pub mod Damage

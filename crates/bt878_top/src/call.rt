@@ -2,10 +2,11 @@
 
 ghost use Rattle.std.specs.Prelude.{◌≡◌, ℕ, ◌⊎◌, List, Ok};
 ghost use Rattle.bt878_words.specs.Words.{command_of, inputs_of, outputs_of};
-ghost use Rattle.bt878_contract.specs.Clauses.{AreTold, IsAssembled, IsBadInput, IsCompiled, IsGenerated, IsGood, IsInOrder, IsRefusal, IsUnreadOf, IsUsage, OfRan, OfRingRun, OfSteps, OnlyOutputs, OnlySays, SameNames, SaysAccepted, SaysBlocks, SaysListing, ShowsImage, ShowsLast, ShowsProgram, StandsAt, StaysInside, TellsInput, UnlessCut};
+ghost use Rattle.bt878_contract.specs.Clauses.{AreTold, IsAssembled, IsBadInput, IsCompiled, IsGenerated, IsGood, IsInOrder, IsRefusal, IsUnreadOf, IsUsage, OfDescRun, OfLive, OfLiveRun, OfLiveSteps, OfRan, OfRingRun, OfSteps, OnlyOutputs, OnlySays, SameNames, SaysAccepted, SaysBlocks, SaysDamage, SaysListing, ShowsImage, ShowsLast, ShowsLastLive, ShowsProgram, StandsAt, StaysInside, TellsInput, UnlessCut};
 ghost use Rattle.bt878_contract.specs.Pictures.{ShowsNoFault, ShowsPictures, SignalsInTime};
 ghost use Rattle.bt878_contract.specs.Rings.{RingsShowNoFault, ShowsRings};
-ghost use Rattle.bt878_contract.specs.Tasks.{Answers, AreNames, Assembles, Captures, Compiles, Generates, Lists, Rings, Runs, Verifies, task_of, texts};
+ghost use Rattle.bt878_contract.specs.Tasks.{Answers, AreNames, Assembles, Captures, Chains, Compiles, Damages, Generates, Lists, Rings, Runs, Verifies, task_of, texts};
+ghost use Rattle.chain_law.specs.Runs.{LiveRunShowsNoFault, LiveRunShowsPictures, LiveRunStaysInside};
 ghost use Rattle.command_texts.specs.declared.refusal.Refusal.{Refusal};
 ghost use Rattle.command_texts.specs.Answers.{answer_of};
 ghost use Rattle.command_steps.specs.Outputs.{EndsAtFault};
@@ -16,7 +17,9 @@ ghost use Rattle.machine_model.specs.Paths.{IsSound};
 ghost use Rattle.command_inputs.specs.Programs.{GivesSound};
 ghost use Rattle.stream_play.specs.Runs.{OfRun};
 
+use crate::chains::chain;
 use crate::commands::{list, run, verify};
+use crate::damage::damage;
 use crate::descriptions::{capture, make};
 use crate::programs::{assemble, compile};
 use crate::rings::ring;
@@ -43,10 +46,10 @@ fn answer_words<D: Desk>(alloc: Global, words: &[&str], desk: &mut D) -> Answer
         Command::Compile => compile(alloc, words[1], words[2], desk),
         Command::Capture => capture(alloc, words[1], words[2], words[3], words[4], desk),
         Command::Make { seed, frames } => make(alloc, words[1], seed, frames, words[4], desk),
+        Command::Chain => chain(alloc, words[1], words[2], words[3], words[4], desk),
+        Command::Damage => damage(alloc, words[1], words[2], desk),
         Command::Ring => ring(alloc, words[1], words[2], words[3], words[4], desk),
         Command::Assemble => assemble(alloc, words[1], words[2], desk),
-        Command::Chain => unreachable!(),
-        Command::Damage => unreachable!(),
     }
 }
 
@@ -68,7 +71,7 @@ pub fn bt878<D: Desk>(alloc: Global, words: &[&str], desk: &mut D) -> Answer
     // comes there.
     ensures usage { IsUsage (command_of (texts words.now)) result }
 
-    // At Done of `run`, `capture` and `ring` the program that ran is sound.
+    // At Done of `run`, `capture`, `damage` and `ring` the program that ran is sound.
     ensures sound { (result ≡ Answer.Done) →
         OfRan (task_of (texts words.now)) (D.seen desk.old).told.inputs (λ r. IsSound r.program) }
 
@@ -97,7 +100,7 @@ pub fn bt878<D: Desk>(alloc: Global, words: &[&str], desk: &mut D) -> Answer
         × ShowsImage image (D.seen desk.new).told r
         × SaysBlocks (D.seen desk.old).told (D.seen desk.new).told x r) }
 
-    // At Done of `run`, `capture` and `ring`: at every place of those steps, what the turn there writes is granted,
+    // At Done of `run`, `capture`, `damage` and `ring`: at every place of those steps, what the turn there writes is granted,
     // what it fetches is a word of the program, and OCERR is 0. That a turn stores nowhere else and reads no
     // other word are the laws `turns_store_what_is_listed` and `turns_read_what_is_listed` of machine_model.
     ensures inside { (result ≡ Answer.Done) →
@@ -126,6 +129,34 @@ pub fn bt878<D: Desk>(alloc: Global, words: &[&str], desk: &mut D) -> Answer
     ensures no_fault_in_rings { (result ≡ Answer.Done) →
         OfRan (task_of (texts words.now)) (D.seen desk.old).told.inputs (OfSteps RingsShowNoFault) }
 
+    // At Done of `damage` the text tells, for each described field, which of its rows are whole lines at the
+    // field's last signal over the steps of the whole stream, or that there was none; nothing is created.
+    ensures damaged { (result ≡ Answer.Done) → (desc stream : List ℕ) →
+        task_of (texts words.now) ≡ Ok (Damages desc stream) →
+        OfDescRun desc stream (D.seen desk.old).told.inputs
+        (SaysDamage (D.seen desk.old).told (D.seen desk.new).told) }
+
+    // At Done of `chain` the image and the report are those of the live run of the chain of both descriptions
+    // over exactly the steps of the whole stream, patches among them, from a memory in which every granted byte
+    // is the fill of the first description.
+    ensures chained { (result ≡ Answer.Done) → (first second stream image : List ℕ) →
+        task_of (texts words.now) ≡ Ok (Chains first second stream image) →
+        OfLiveRun first second stream (D.seen desk.old).told.inputs
+        (ShowsLastLive image (D.seen desk.old).told (D.seen desk.new).told) }
+
+    // At every place of that live run, what the turn there writes is granted, what it fetches is a word of the
+    // chain, and OCERR is 0. For every part that is the fragment of a description, every field of it, every
+    // picture and all places: after the first signal of a field that arrived in order and lost nothing, memory
+    // shows the picture and is as it was everywhere else, RISCI is set and the RISC status tells the field, and
+    // no turn up to the signal sets FDSR. (Which part is whose fragment is the law `pairs_make_sound_chains` of
+    // double_buffer.)
+    ensures live_inside { (result ≡ Answer.Done) →
+        OfLive (task_of (texts words.now)) (D.seen desk.old).told.inputs (OfLiveSteps LiveRunStaysInside) }
+    ensures live_pictures { (result ≡ Answer.Done) →
+        OfLive (task_of (texts words.now)) (D.seen desk.old).told.inputs (OfLiveSteps LiveRunShowsPictures) }
+    ensures live_no_fault { (result ≡ Answer.Done) →
+        OfLive (task_of (texts words.now)) (D.seen desk.old).told.inputs (OfLiveSteps LiveRunShowsNoFault) }
+
     // At Done of the other commands: what was written and said.
     ensures accepted { (result ≡ Answer.Done) → (program : List ℕ) →
         task_of (texts words.now) ≡ Ok (Verifies program) →
@@ -147,8 +178,8 @@ pub fn bt878<D: Desk>(alloc: Global, words: &[&str], desk: &mut D) -> Answer
     ensures done { (result ≡ Answer.Done) → SameCounts (D.seen desk.old) (D.seen desk.new) }
 
     // When each refusal comes, and, but for want of memory and faults of reading, that it must come:
-    // `Malformed`, `Rejected`, `BadDesc`, `BadGeometry`, `BadRing` and `BadText` exactly where the first bad
-    // input is so.
+    // `Malformed`, `Rejected`, `BadDesc`, `BadGeometry`, `BadChain`, `BadRing` and `BadText` exactly where the
+    // first bad input is so.
     ensures read_fault { (result ≡ Answer.ReadFault) →
         IsUnreadOf (inputs_of (texts words.now))
         (D.seen desk.old)

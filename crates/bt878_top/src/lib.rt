@@ -2,8 +2,10 @@
 #![tactic(auto)]
 
 mod call;
+mod chains;
 mod commands;
 mod contents;
+mod damage;
 mod descriptions;
 mod listings;
 mod programs;

@@ -10,7 +10,7 @@ use Rattle.bt878_words.specs.declared.UsageFault.{UsageFault}
 use Rattle.bt878_words.specs.declared.UsageFault.TheVariants.{Number}
 use Rattle.bt878_words.specs.declared.Verb.{Verb}
 use Rattle.bt878_words.specs.declared.Verb.TheVariants as verb
-use Rattle.bt878_words.specs.Words.{command_of, command_with, verb_named, with_verb, if_built, is_built, of_length, clash_after, unless_clash, has_clash, is_among, operands, inputs_of, outputs_of, names_if, names_of, names_with, input_names, output_names, make_of, made_with, number_of}
+use Rattle.bt878_words.specs.Words.{command_of, command_with, verb_named, with_verb, of_length, clash_after, unless_clash, has_clash, is_among, operands, inputs_of, outputs_of, names_if, names_of, names_with, input_names, output_names, make_of, made_with, number_of}
 
 -- the words after the command, of which there are as many as it takes, and no output has another's name
 pub record IsFound (words : List (List ℕ)) (c : Command) : Type 0 where
@@ -18,7 +18,6 @@ pub record IsFound (words : List (List ℕ)) (c : Command) : Type 0 where
   pub others : List (List ℕ)
   pub verb : Verb
   pub are : words ≡ word ∷ others
-  pub built : is_built verb ≡ true
   pub many : length others ≡ operands verb
   pub asks : command_with verb others ≡ Ok c
   pub apart : has_clash (input_names verb others) (output_names verb others) ≡ false
@@ -48,21 +47,15 @@ module _ (word : List ℕ) (others : List (List ℕ)) (c : Command) where
   as_many true v e = let j = judged v (command_with v others) e in (refl, j.0, j.1)
   as_many false v e = not_fault _ c e
 
-  known : (b : Bool) (v : Verb) → if_built b v others ≡ Ok c → (b ≡ true) × (of_length (length others == operands v) v others ≡ Ok c)
-  known true v e = (refl, e)
-  known false v e = not_fault _ c e
-
   found_with : (o : Option Verb) → verb_named word ≡ o → with_verb o others ≡ Ok c → command_of (word ∷ others) ≡ Ok c → IsFound (word ∷ others) c
   found_with None names e all = not_fault _ c e
   found_with (Some v) names e all =
-      let k = known (is_built v) v e in
-      let m = as_many (length others == operands v) v k.1 in
+      let m = as_many (length others == operands v) v e in
       record {
         word = word;
         others = others;
         verb = v;
         are = refl;
-        built = k.0;
         many = eqb-true (length others) (operands v) m.0;
         asks = m.1;
         apart = m.2;
@@ -132,6 +125,25 @@ pub record AsksCapture (words : List (List ℕ)) : Type 0 where
   pub creates : outputs_of words ≡ program ∷ image ∷ []
   pub apart : program ≢ image
 
+-- two descriptions and a stream, and the image
+pub record AsksChain (words : List (List ℕ)) : Type 0 where
+  pub word : List ℕ
+  pub first : List ℕ
+  pub second : List ℕ
+  pub stream : List ℕ
+  pub image : List ℕ
+  pub are : words ≡ word ∷ first ∷ second ∷ stream ∷ image ∷ []
+  pub opens : inputs_of words ≡ first ∷ second ∷ stream ∷ []
+  pub creates : outputs_of words ≡ image ∷ []
+
+pub record AsksDamage (words : List (List ℕ)) : Type 0 where
+  pub word : List ℕ
+  pub desc : List ℕ
+  pub stream : List ℕ
+  pub are : words ≡ word ∷ desc ∷ stream ∷ []
+  pub opens : inputs_of words ≡ desc ∷ stream ∷ []
+  pub creates : outputs_of words ≡ []
+
 pub record AsksMake (words : List (List ℕ)) : Type 0 where
   pub word : List ℕ
   pub desc : List ℕ
@@ -149,9 +161,10 @@ Asks words command.Run = AsksRun words
 Asks words command.Compile = AsksBuilt words
 Asks words command.Capture = AsksCapture words
 Asks words (command.Make seed frames) = AsksMake words
+Asks words command.Chain = AsksChain words
 Asks words command.Ring = AsksCapture words
+Asks words command.Damage = AsksDamage words
 Asks words command.Assemble = AsksBuilt words
-Asks words _ = ⊥
 
 pub or_false : (a b : Bool) → (a || b) ≡ false → (a ≡ false) × (b ≡ false)
 or_false true b e = absurd (cc)
@@ -182,7 +195,7 @@ unfolding or_made
 is_command words c made e a = subst (Asks words) {x = made} {y = c} (ap (or_made made) e) a
 
 asks_by : (v : Verb) (words : List (List ℕ)) (c : Command) (h : IsFound words c) → h.verb ≡ v → Asks words c
-asks_by v words c h e = of_verb v e (subst (λ w. is_built w ≡ true) e h.built) (subst (λ w. length h.others ≡ operands w) e h.many)
+asks_by v words c h e = of_verb v e (subst (λ w. length h.others ≡ operands w) e h.many)
     (subst (λ w. command_with w h.others ≡ Ok c) e h.asks)
   where
     opens_as : (v : Verb) → h.verb ≡ v → (others : List (List ℕ)) → h.others ≡ others → inputs_of words ≡ input_names v others
@@ -251,10 +264,10 @@ asks_by v words c h e = of_verb v e (subst (λ w. is_built w ≡ true) e h.built
           apart = unlike (o.0 ∷ o.1 ∷ []) o.2 o.3 apart;
         }
 
-    of_verb : (v : Verb) → h.verb ≡ v → is_built v ≡ true → length h.others ≡ operands v → command_with v h.others ≡ Ok c → Asks words c
-    of_verb verb.List e built many asks = is_command words c command.List asks (one_program verb.List e many (λ name. refl) (λ name. refl))
-    of_verb verb.Verify e built many asks = is_command words c command.Verify asks (one_program verb.Verify e many (λ name. refl) (λ name. refl))
-    of_verb verb.Run e built many asks =
+    of_verb : (v : Verb) → h.verb ≡ v → length h.others ≡ operands v → command_with v h.others ≡ Ok c → Asks words c
+    of_verb verb.List e many asks = is_command words c command.List asks (one_program verb.List e many (λ name. refl) (λ name. refl))
+    of_verb verb.Verify e many asks = is_command words c command.Verify asks (one_program verb.Verify e many (λ name. refl) (λ name. refl))
+    of_verb verb.Run e many asks =
         let o = three_of h.others many in
         let l : List (List ℕ) = o.0 ∷ o.1 ∷ o.2 ∷ [] in
         is_command words c command.Run asks
@@ -267,9 +280,9 @@ asks_by v words c h e = of_verb v e (subst (λ w. is_built w ≡ true) e h.built
           opens = opens_as verb.Run e l o.3;
           creates = creates_as verb.Run e l o.3;
         })
-    of_verb verb.Compile e built many asks = is_command words c command.Compile asks (one_built verb.Compile e many (λ source program. refl) (λ source program. refl))
-    of_verb verb.Capture e built many asks = is_command words c command.Capture asks (one_capture verb.Capture e many (λ a b c d. refl) (λ a b c d. refl))
-    of_verb verb.Make e built many asks =
+    of_verb verb.Compile e many asks = is_command words c command.Compile asks (one_built verb.Compile e many (λ source program. refl) (λ source program. refl))
+    of_verb verb.Capture e many asks = is_command words c command.Capture asks (one_capture verb.Capture e many (λ a b c d. refl) (λ a b c d. refl))
+    of_verb verb.Make e many asks =
         let o = four_of h.others many in
         let l : List (List ℕ) = o.0 ∷ o.1 ∷ o.2 ∷ o.3 ∷ [] in
         made_by (number_of o.1) (number_of o.2) (subst (λ others. make_of others ≡ Ok c) o.4 asks)
@@ -283,10 +296,34 @@ asks_by v words c h e = of_verb v e (subst (λ w. is_built w ≡ true) e h.built
           opens = opens_as verb.Make e l o.4;
           creates = creates_as verb.Make e l o.4;
         })
-    of_verb verb.Chain e built many asks = absurd (cc)
-    of_verb verb.Damage e built many asks = absurd (cc)
-    of_verb verb.Ring e built many asks = is_command words c command.Ring asks (one_capture verb.Ring e many (λ a b c d. refl) (λ a b c d. refl))
-    of_verb verb.Assemble e built many asks = is_command words c command.Assemble asks (one_built verb.Assemble e many (λ source program. refl) (λ source program. refl))
+    of_verb verb.Chain e many asks =
+        let o = four_of h.others many in
+        let l : List (List ℕ) = o.0 ∷ o.1 ∷ o.2 ∷ o.3 ∷ [] in
+        is_command words c command.Chain asks
+        (record {
+          word = h.word;
+          first = o.0;
+          second = o.1;
+          stream = o.2;
+          image = o.3;
+          are = are_as l o.4;
+          opens = opens_as verb.Chain e l o.4;
+          creates = creates_as verb.Chain e l o.4;
+        })
+    of_verb verb.Damage e many asks =
+        let o = two_of h.others many in
+        let l : List (List ℕ) = o.0 ∷ o.1 ∷ [] in
+        is_command words c command.Damage asks
+        (record {
+          word = h.word;
+          desc = o.0;
+          stream = o.1;
+          are = are_as l o.2;
+          opens = opens_as verb.Damage e l o.2;
+          creates = creates_as verb.Damage e l o.2;
+        })
+    of_verb verb.Ring e many asks = is_command words c command.Ring asks (one_capture verb.Ring e many (λ a b c d. refl) (λ a b c d. refl))
+    of_verb verb.Assemble e many asks = is_command words c command.Assemble asks (one_built verb.Assemble e many (λ source program. refl) (λ source program. refl))
 
 -- a stream is made of 1 to 16 frames
 frames_of : Result Command UsageFault → ℕ
@@ -325,6 +362,6 @@ few_of verb.Assemble others seed frames many e = absurd (cc)
 pub few_frames : (words : List (List ℕ)) (seed frames : ℕ) → command_of words ≡ Ok (command.Make seed frames) → (1 ≤ frames) × (frames ≤ 16)
 few_frames words seed frames e = let h = found words (command.Make seed frames) e in few_of h.verb h.others seed frames h.many h.asks
 
--- words without a fault are those of a command that this version has
+-- words without a fault are those of a command
 pub asked : (words : List (List ℕ)) (c : Command) → command_of words ≡ Ok c → Asks words c
 asked words c e = let h = found words c e in asks_by h.verb words c h refl

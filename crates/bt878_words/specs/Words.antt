@@ -24,18 +24,6 @@ verb_named word =
     else (if bytes_eq word (codes "assemble") then Some verb.Assemble
     else None)))))))))
 
--- the commands that this version has; the others are unknown
-abbrev pub is_built : Verb → Bool
-is_built verb.List = true
-is_built verb.Verify = true
-is_built verb.Run = true
-is_built verb.Compile = true
-is_built verb.Capture = true
-is_built verb.Make = true
-is_built verb.Ring = true
-is_built verb.Assemble = true
-is_built _ = false
-
 -- how many words follow the first, how many of these, from the front, are inputs, and how many, at the end, are
 -- outputs
 abbrev pub operands : Verb → ℕ
@@ -141,13 +129,9 @@ abbrev pub of_length : Bool → Verb → List (List ℕ) → Result Command Usag
 of_length true v others = clash_after v others (command_with v others)
 of_length false v others = Err WordCount
 
-abbrev pub if_built : Bool → Verb → List (List ℕ) → Result Command UsageFault
-if_built true v others = of_length (length others == operands v) v others
-if_built false v others = Err UnknownCommand
-
 abbrev pub with_verb : Option Verb → List (List ℕ) → Result Command UsageFault
 with_verb None others = Err UnknownCommand
-with_verb (Some v) others = if_built (is_built v) v others
+with_verb (Some v) others = of_length (length others == operands v) v others
 
 -- what the words ask for, or their first fault
 abbrev pub command_of : List (List ℕ) → Result Command UsageFault

@@ -2,14 +2,14 @@
 #![tactic(auto)]
 
 ghost use Rattle.std.specs.Prelude.{◌≡◌, ◌≤◌, map, length, IsTrue};
-ghost use Rattle.bt878_words.specs.Words.{clash_after, command_of, command_with, has_clash, input_names, inputs, is_among, is_built, made_with, make_of, number_from, number_of, operands, output_names, outputs, verb_named};
+ghost use Rattle.bt878_words.specs.Words.{clash_after, command_of, command_with, has_clash, input_names, inputs, is_among, made_with, make_of, number_from, number_of, operands, output_names, outputs, verb_named};
 
 /// What is wrong with the words, in the order in which it is looked for (this project's own rule).
 #[derive(Clone, Copy, Debug, PartialEq, Eq)]
 pub enum UsageFault {
     /// There are no words.
     NoCommand,
-    /// The first word is no command, or one that this version lacks.
+    /// The first word is no command.
     UnknownCommand,
     /// The command takes another number of words.
     WordCount,
@@ -78,17 +78,6 @@ fn verb_of(word: &str) -> Option<Verb>
 }
 
 impl Verb {
-    fn is_known(self) -> bool
-        ensures { result ≡ is_built self }
-    {
-        match self {
-            Verb::List | Verb::Verify | Verb::Run => true,
-            Verb::Compile | Verb::Capture | Verb::Make => true,
-            Verb::Ring | Verb::Assemble => true,
-            Verb::Chain | Verb::Damage => false,
-        }
-    }
-
     fn operand_count(self) -> usize
         ensures { result ≡ operands self }
     {
@@ -224,14 +213,14 @@ pub fn read_words(words: &[&str]) -> Result<Command, UsageFault>
     match words {
         [] => Err(UsageFault::NoCommand),
         [first, others @ ..] => match verb_of(first) {
-            Some(verb) if verb.is_known() => {
+            Some(verb) => {
                 if others.len() == verb.operand_count() {
                     judge(verb, others)
                 } else {
                     Err(UsageFault::WordCount)
                 }
             }
-            _ => Err(UsageFault::UnknownCommand),
+            None => Err(UsageFault::UnknownCommand),
         },
     }
 }
@@ -254,6 +243,16 @@ mod tests {
         assert_eq!(rt; read_words(&["list", "a"]), Ok(Command::List));
         assert_eq!(rt; read_words(&["compile", "d", "p"]), Ok(Command::Compile));
         assert_eq!(rt; read_words(&["assemble", "t", "p"]), Ok(Command::Assemble));
+        assert_eq!(rt;
+            read_words(&["chain", "d", "e", "s", "i"]),
+            Ok(Command::Chain)
+        );
+        assert_eq!(rt; read_words(&["damage", "d", "s"]), Ok(Command::Damage));
+        assert_eq!(rt; read_words(&["damage", "d"]), Err(UsageFault::WordCount));
+        assert_eq!(rt;
+            read_words(&["chain", "d", "e", "s", "e"]),
+            Err(UsageFault::SameName)
+        );
         assert_eq!(rt;
             read_words(&["ring", "r", "s", "p", "i"]),
             Ok(Command::Ring)

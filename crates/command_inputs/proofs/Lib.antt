@@ -1,3 +1,5 @@
 pub mod UpToLimit
+mod Described
+mod Ringed
 mod Lengths
 pub mod Whole

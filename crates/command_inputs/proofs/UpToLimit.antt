@@ -12,13 +12,12 @@ is_longer most bytes content e long =
     omega (arith, size, same, long)
 
 -- a file of which no more were read was read whole
-is_whole : (most : ℕ) (bytes content : List ℕ) → bytes ≡ take (most + 1) content → length bytes ≤ most → bytes ≡ content
+pub is_whole : (most : ℕ) (bytes content : List ℕ) → bytes ≡ take (most + 1) content → length bytes ≤ most → bytes ≡ content
 is_whole most bytes content e few =
     let size = length-take (most + 1) content in
     let same = ap length e in
     e ∙ take_all (most + 1) content (omega (arith, size, same, few))
 
-pub of_whole : (most : ℕ) (name : List ℕ) (inputs : Option Inputs) (bytes : List ℕ) → OfInput name inputs (λ content. bytes ≡ take (most + 1) content) → length bytes ≤ most →
-    (P : List ℕ → Type 0) → P bytes → OfInput name inputs P
-of_whole most name inputs bytes read few P h =
-    OfInput-map name inputs (λ content. bytes ≡ take (most + 1) content) P (λ content e. subst P (is_whole most bytes content e few) h) read
+-- what is so of the bytes that were read is so of the file
+pub of_whole : (name : List ℕ) (inputs : Option Inputs) (bytes : List ℕ) → OfInput name inputs (λ content. bytes ≡ content) → (P : List ℕ → Type 0) → P bytes → OfInput name inputs P
+of_whole name inputs bytes whole P h = OfInput-map name inputs (λ content. bytes ≡ content) P (λ content e. subst P e h) whole

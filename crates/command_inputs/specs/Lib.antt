@@ -2,3 +2,5 @@ pub mod Programs
 pub mod Descriptions
 pub mod Listings
 pub mod Rings
+pub mod Limits
+pub mod Chains

@@ -2,8 +2,6 @@
 use Rattle.std.specs.Prelude.{◌≡◌, ℕ, ⊤, List, length, Option, Result, Ok, Err, if◌then◌else◌, nat_lt}
 use Rattle.capture_desk.specs.Desks.{Inputs}
 use Rattle.machine_model.specs.Paths.{RiscProgram}
-use Rattle.capture_file.specs.declared.FileKind.TheVariants as kind
-use Rattle.capture_file.specs.declared.FileFault.{FileFault}
 use Rattle.capture_file.specs.declared.Input.TheVariants as input
 use Rattle.ring_model.specs.Rings.{IsRing, Ring, ring_program}
 use Rattle.ring_compile.specs.declared.fault.RingFault.{RingFault}
@@ -11,13 +9,11 @@ use Rattle.ring_compile.specs.Files.{described}
 use Rattle.command_texts.specs.declared.refusal.Refusal.{Refusal}
 use Rattle.command_texts.specs.declared.refusal.Refusal.TheVariants.{Malformed, BadRing, NoMemory}
 use Rattle.command_steps.specs.Inputs.{Always, ByBytes, Input, Judge, OfInput}
+use Rattle.command_inputs.specs.Limits.{too_long}
 
 -- the most bytes of a ring file, which is read to one byte beyond them at most
 abbrev pub longest_ring : ℕ
 longest_ring = 1048576
-
-abbrev pub ring_too_long : FileFault
-ring_too_long = record { at = longest_ring; kind = kind.TooLong }
 
 abbrev pub judged_reading : Result Ring RingFault → Result Ring Refusal
 judged_reading (Err fault) = Err (BadRing fault)
@@ -26,7 +22,7 @@ judged_reading (Ok r) = Ok r
 -- the ring of a file: it is short enough, and its text describes a ring; or the first refusal
 abbrev pub ring_of : List ℕ → Result Ring Refusal
 ring_of bytes =
-    if nat_lt longest_ring (length bytes) then Err (Malformed input.Ring ring_too_long) else judged_reading (described bytes)
+    if nat_lt longest_ring (length bytes) then Err (Malformed input.Ring (too_long longest_ring)) else judged_reading (described bytes)
 
 -- a file is that of a ring without a fault
 pub record IsRingFile (bytes : List ℕ) (r : Ring) : Type 0 where

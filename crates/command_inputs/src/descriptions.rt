@@ -1,37 +1,79 @@
 //! A description file, read and judged.
 
-ghost use Rattle.std.specs.Prelude.{◌≡◌, ◌≤◌, length, IfErr, IfOk};
+ghost use Rattle.std.specs.Prelude.{◌≡◌, ◌≤◌, length, IfErr, IfOk, Ok};
+ghost use Rattle.capture_desc.specs.Description.{described};
+ghost use Rattle.capture_desc.specs.WellFormed.{IsWellFormed};
 ghost use Rattle.capture_desk.specs.Desks.{IsAllowed};
 ghost use Rattle.command_steps.specs.Inputs.{Always, OfInput, StopsAt};
 ghost use Rattle.command_steps.specs.Reading.{OnlyReads};
-ghost use Rattle.command_inputs.specs.Descriptions.{Describes, IsBadDesc, IsRefused, longest_description};
+ghost use Rattle.command_inputs.specs.Chains.{IsFrameFile};
+ghost use Rattle.command_inputs.specs.Descriptions.{Describes, IsBadDesc, IsBadDescBy, IsRefused, Misreads, geometry_refusal, longest_description};
+ghost use Rattle.picture_model.specs.Geometry.{first_fault, frame_fault};
 
-use capture_desc::{DescError, read_desc};
+use crate::limited::read_limited;
+use capture_desc::{Desc, DescError, read_desc};
 use capture_desk::Desk;
-use capture_file::{FileFault, FileKind, Input};
-use command_steps::read_whole;
+use capture_file::Input;
 use command_texts::Refusal;
+use planar_plan::Frame;
 use program_build::{BuildError, Checked, check};
 use std::alloc::Global;
 
 /// The most bytes of a description file.
 const LONGEST_DESCRIPTION: usize = 1_048_576;
 
-/// Reads and judges the bytes of a description file.
+/// Reads the bytes of a description file.
+fn parse(alloc: Global, bytes: &[u8]) -> Result<Desc, Refusal>
+    ensures reads { IfOk result (λ desc. described bytes.now ≡ Ok desc) }
+    ensures formed { IfOk result IsWellFormed }
+    ensures refuses { IfErr result (Misreads (described bytes.now)) }
+{
+    match read_desc(alloc, bytes) {
+        Ok(desc) => Ok(desc),
+        Err(DescError::Bad(fault)) => Err(Refusal::BadDesc(fault)),
+        Err(DescError::Memory) => Err(Refusal::NoMemory),
+    }
+}
+
+/// Why a geometry is refused.
+fn geometry_refusal(error: BuildError) -> Refusal
+    ensures { result ≡ geometry_refusal error }
+{
+    match error {
+        BuildError::Bad(fault) => Refusal::BadGeometry(fault),
+        BuildError::Memory => Refusal::NoMemory,
+    }
+}
+
+/// Reads and judges the bytes of a description file, with its program.
 fn check_bytes(alloc: Global, bytes: &[u8]) -> Result<Checked, Refusal>
     requires { length bytes.now ≤ longest_description }
     ensures describes { IfOk result (Describes bytes.now) }
-    ensures refuses { IfErr result (IsRefused bytes.now) }
+    ensures refuses { IfErr result (IsRefused first_fault bytes.now) }
 {
-    let desc = match read_desc(alloc, bytes) {
+    let desc = match parse(alloc, bytes) {
         Ok(desc) => desc,
-        Err(DescError::Bad(fault)) => return Err(Refusal::BadDesc(fault)),
-        Err(DescError::Memory) => return Err(Refusal::NoMemory),
+        Err(refusal) => return Err(refusal),
     };
     match check(alloc, desc) {
         Ok(checked) => Ok(checked),
-        Err(BuildError::Bad(fault)) => Err(Refusal::BadGeometry(fault)),
-        Err(BuildError::Memory) => Err(Refusal::NoMemory),
+        Err(error) => Err(geometry_refusal(error)),
+    }
+}
+
+/// Reads and judges the bytes of a description file, without its program.
+fn frame_bytes(alloc: Global, bytes: &[u8]) -> Result<Frame, Refusal>
+    requires { length bytes.now ≤ longest_description }
+    ensures describes { IfOk result (IsFrameFile bytes.now) }
+    ensures refuses { IfErr result (IsRefused frame_fault bytes.now) }
+{
+    let desc = match parse(alloc, bytes) {
+        Ok(desc) => desc,
+        Err(refusal) => return Err(refusal),
+    };
+    match Frame::new(alloc, desc) {
+        Ok(frame) => Ok(frame),
+        Err(error) => Err(geometry_refusal(error)),
     }
 }
 
@@ -45,16 +87,26 @@ pub fn check_file<D: Desk>(alloc: Global, name: &str, desk: &mut D) -> Result<Ch
     ensures reads { OnlyReads name.now longest_description Always (D.seen desk.old) (D.seen desk.new) }
     ensures quiet { IfOk result (λ _. (D.seen desk.new).reads ≡ (D.seen desk.old).reads) }
 {
-    let bytes = read_whole(alloc, name, LONGEST_DESCRIPTION, desk)?;
-    if bytes.len() > LONGEST_DESCRIPTION {
-        let fault = FileFault {
-            at: LONGEST_DESCRIPTION as u64,
-            kind: FileKind::TooLong,
-        };
-        return Err(Refusal::Malformed(Input::Desc, fault));
-    }
+    let bytes = read_limited(alloc, name, LONGEST_DESCRIPTION, Input::Desc, desk)?;
     match check_bytes(alloc, &bytes) {
         Ok(checked) => Ok(checked),
+        Err(refusal) => Err(refusal),
+    }
+}
+
+/// Reads a description file of a chain, whose program isn't made: `Malformed` and `BadDesc` as `check_file`,
+/// and `BadGeometry` with the first fault of the geometry but those of the program's place (this project's
+/// own rules).
+pub fn frame_file<D: Desk>(alloc: Global, name: &str, desk: &mut D) -> Result<Frame, Refusal>
+    requires { IsAllowed name.now (D.seen desk.old).told.may_open }
+    ensures describes { IfOk result (λ frame. OfInput name.now (D.seen desk.old).told.inputs (λ bytes. IsFrameFile bytes frame)) }
+    ensures stops { IfErr result (λ refusal. StopsAt (IsBadDescBy frame_fault) name.now refusal (D.seen desk.old) (D.seen desk.new)) }
+    ensures reads { OnlyReads name.now longest_description Always (D.seen desk.old) (D.seen desk.new) }
+    ensures quiet { IfOk result (λ _. (D.seen desk.new).reads ≡ (D.seen desk.old).reads) }
+{
+    let bytes = read_limited(alloc, name, LONGEST_DESCRIPTION, Input::Desc, desk)?;
+    match frame_bytes(alloc, &bytes) {
+        Ok(frame) => Ok(frame),
         Err(refusal) => Err(refusal),
     }
 }

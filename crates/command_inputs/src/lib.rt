@@ -1,12 +1,15 @@
 //! Inputs that are read whole and judged: program files, description files, and texts of listings.
 #![tactic(auto)]
 
+mod chains;
 mod descriptions;
+mod limited;
 mod listings;
 mod programs;
 mod rings;
 
-pub use descriptions::check_file;
+pub use chains::{Paired, buffer_file};
+pub use descriptions::{check_file, frame_file};
 pub use listings::assemble_file;
 pub use programs::{Loaded, accept, read_file, verify_program};
 pub use rings::ring_file;

@@ -6,9 +6,9 @@ ghost use Rattle.command_steps.specs.Inputs.{Always, OfInput, StopsAt};
 ghost use Rattle.command_steps.specs.Reading.{OnlyReads};
 ghost use Rattle.command_inputs.specs.Rings.{IsBadRing, IsRefused, IsRingFile, longest_ring};
 
+use crate::limited::read_limited;
 use capture_desk::Desk;
-use capture_file::{FileFault, FileKind, Input};
-use command_steps::read_whole;
+use capture_file::Input;
 use command_texts::Refusal;
 use ring_compile::{Ring, RingError, read_ring};
 use std::alloc::Global;
@@ -38,14 +38,7 @@ pub fn ring_file<D: Desk>(alloc: Global, name: &str, desk: &mut D) -> Result<Rin
     ensures reads { OnlyReads name.now longest_ring Always (D.seen desk.old) (D.seen desk.new) }
     ensures quiet { IfOk result (λ _. (D.seen desk.new).reads ≡ (D.seen desk.old).reads) }
 {
-    let bytes = read_whole(alloc, name, LONGEST_RING, desk)?;
-    if bytes.len() > LONGEST_RING {
-        let fault = FileFault {
-            at: LONGEST_RING as u64,
-            kind: FileKind::TooLong,
-        };
-        return Err(Refusal::Malformed(Input::Ring, fault));
-    }
+    let bytes = read_limited(alloc, name, LONGEST_RING, Input::Ring, desk)?;
     match read_bytes(alloc, &bytes) {
         Ok(ring) => Ok(ring),
         Err(refusal) => Err(refusal),

@@ -9,8 +9,8 @@ ghost use Rattle.command_steps.specs.Outputs.{Refused, SaysAtOnce};
 use bt878_words::UsageFault;
 use capture_desk::{Desk, say_all};
 use command_texts::{
-    Answer, NO_MEMORY, READ_FAULT, Refusal, desc_text, geometry_text, listing_text, malformed_text,
-    rejected_text, ring_text, usage_text,
+    Answer, NO_MEMORY, READ_FAULT, Refusal, chain_text, desc_text, geometry_text, listing_text,
+    malformed_text, rejected_text, ring_text, usage_text,
 };
 use std::alloc::{AllocError, Global};
 
@@ -40,6 +40,7 @@ fn say_refusal<D: Desk>(alloc: Global, refusal: &Refusal, desk: &mut D) -> Resul
         Refusal::Malformed(input, fault) => malformed_text(alloc, *input, fault.at, fault.kind)?,
         Refusal::BadDesc(fault) => desc_text(alloc, fault)?,
         Refusal::BadGeometry(fault) => geometry_text(alloc, *fault)?,
+        Refusal::BadChain(fault) => chain_text(alloc, *fault)?,
         Refusal::BadRing(fault) => ring_text(alloc, fault)?,
         Refusal::BadText(fault) => listing_text(alloc, *fault)?,
         Refusal::Rejected { at, nth, cause } => rejected_text(alloc, *at, *nth, *cause)?,

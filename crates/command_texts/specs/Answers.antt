@@ -1,7 +1,7 @@
 -- The status of each answer, and the answer of each refusal.
 use Rattle.std.specs.Prelude.{ℕ}
 use Rattle.command_texts.specs.declared.answer.Answer.{Answer}
-use Rattle.command_texts.specs.declared.answer.Answer.TheVariants.{Done, Usage, ReadFault, WriteFault, Malformed, BadDesc, BadGeometry, BadRing, BadText, Rejected, NoMemory}
+use Rattle.command_texts.specs.declared.answer.Answer.TheVariants.{Done, Usage, ReadFault, WriteFault, Malformed, BadDesc, BadGeometry, BadChain, BadRing, BadText, Rejected, NoMemory}
 use Rattle.command_texts.specs.declared.refusal.Refusal.{Refusal}
 use Rattle.command_texts.specs.declared.refusal.Refusal.TheVariants as refusal
 
@@ -13,6 +13,7 @@ status_of WriteFault = 5
 status_of (Malformed file fault) = 3
 status_of (BadDesc fault) = 3
 status_of (BadGeometry fault) = 1
+status_of (BadChain fault) = 1
 status_of (BadRing fault) = 3
 status_of (BadText fault) = 3
 status_of (Rejected at nth cause) = 1
@@ -23,6 +24,7 @@ answer_of refusal.ReadFault = ReadFault
 answer_of (refusal.Malformed file fault) = Malformed file fault
 answer_of (refusal.BadDesc fault) = BadDesc fault
 answer_of (refusal.BadGeometry fault) = BadGeometry fault
+answer_of (refusal.BadChain fault) = BadChain fault
 answer_of (refusal.BadRing fault) = BadRing fault
 answer_of (refusal.BadText fault) = BadText fault
 answer_of (refusal.Rejected at nth cause) = Rejected at nth cause

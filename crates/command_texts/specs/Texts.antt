@@ -18,6 +18,8 @@ use Rattle.capture_desc.specs.declared.fault.DescFault.TheVariants.{NotToml, Unk
 use Rattle.capture_desc.specs.Keys.{name_of}
 use Rattle.picture_model.specs.declared.BuildFault.{BuildFault}
 use Rattle.picture_model.specs.declared.BuildFault.TheVariants as geometry
+use Rattle.double_buffer.specs.declared.faults.ChainFault.{ChainFault}
+use Rattle.double_buffer.specs.declared.faults.ChainFault.TheVariants as chain
 use Rattle.ring_compile.specs.declared.fault.RingKey.{RingKey}
 use Rattle.ring_compile.specs.declared.fault.RingFault.{RingFault}
 use Rattle.ring_compile.specs.declared.fault.RingFault.TheVariants as ring
@@ -25,7 +27,7 @@ use Rattle.ring_compile.specs.Files as ring_keys
 use Rattle.risc_asm.specs.declared.AsmFault.{AsmFault}
 use Rattle.risc_asm.specs.declared.AsmFault.TheVariants as listing
 use Rattle.command_texts.specs.declared.answer.Answer.{Answer}
-use Rattle.command_texts.specs.declared.answer.Answer.TheVariants.{Done, Usage, ReadFault, WriteFault, Malformed, BadDesc, BadGeometry, BadRing, BadText, Rejected, NoMemory}
+use Rattle.command_texts.specs.declared.answer.Answer.TheVariants.{Done, Usage, ReadFault, WriteFault, Malformed, BadDesc, BadGeometry, BadChain, BadRing, BadText, Rejected, NoMemory}
 
 abbrev pub byte_text : ℕ → List ℕ
 byte_text n = hex 2 n
@@ -115,6 +117,14 @@ geometry_words (geometry.TooFewBytes need have) = codes "too few bytes" ++ need_
 geometry_words geometry.ProgramBase = codes "program base"
 geometry_words geometry.ProgramOnPage = codes "program on page"
 
+-- a fault of two descriptions that make no chain
+abbrev pub chain_words : ChainFault → List ℕ
+chain_words chain.Base = codes "base"
+chain_words (chain.Shared number) = codes "shared " ++ decimal number
+chain_words chain.TooMany = codes "too many"
+chain_words chain.TooLong = codes "too long"
+chain_words chain.OnPage = codes "on page"
+
 -- a fault of a ring file: of the text and its keys as that of a description, of the ring's place as that of a geometry
 abbrev pub ring_key_text : List ℕ → RingKey → List ℕ
 ring_key_text fault key = key_text (codes "ring") fault (ring_keys.name_of key)
@@ -150,6 +160,7 @@ answer_text (Malformed file fault) =
     input_words file ++ (codes ": " ++ (kind_words fault.kind ++ (codes " at " ++ (decimal fault.at ++ line_end))))
 answer_text (BadDesc fault) = desc_text fault
 answer_text (BadGeometry fault) = codes "geometry: " ++ (geometry_words fault ++ line_end)
+answer_text (BadChain fault) = codes "chain: " ++ (chain_words fault ++ line_end)
 answer_text (BadRing fault) = ring_text fault
 answer_text (BadText fault) = codes "listing: " ++ (listing_words fault ++ line_end)
 answer_text (Rejected at nth cause) =

@@ -6,6 +6,7 @@ ghost use Rattle.command_texts.specs.Answers.{status_of};
 use bt878_words::UsageFault;
 use capture_desc::DescFault;
 use capture_file::{FileFault, Input};
+use double_buffer::ChainFault;
 use machine_model::Cause;
 use picture_model::BuildFault;
 use ring_compile::RingFault;
@@ -28,6 +29,8 @@ pub enum Answer {
     BadDesc(DescFault),
     /// The geometry of a description has a fault.
     BadGeometry(BuildFault),
+    /// Two descriptions make no chain.
+    BadChain(ChainFault),
     /// A ring file describes no ring.
     BadRing(RingFault),
     /// A text is not the listing of a program.
@@ -40,15 +43,15 @@ pub enum Answer {
 }
 
 impl Answer {
-    /// The status with which the program ends: 0 for `Done`, 1 for `Rejected` and `BadGeometry`, 2 for
-    /// `Usage`, 3 for `Malformed`, `BadDesc`, `BadRing` and `BadText`, 4 for `ReadFault`, 5 for `WriteFault`
+    /// The status with which the program ends: 0 for `Done`, 1 for `Rejected`, `BadGeometry` and
+    /// `BadChain`, 2 for `Usage`, 3 for `Malformed`, `BadDesc`, `BadRing` and `BadText`, 4 for `ReadFault`, 5 for `WriteFault`
     /// and 6 for `NoMemory`.
     pub fn status(&self) -> u8
         ensures { result ≡ status_of self.now }
     {
         match self {
             Answer::Done => 0,
-            Answer::BadGeometry(_) | Answer::Rejected { .. } => 1,
+            Answer::BadGeometry(_) | Answer::BadChain(_) | Answer::Rejected { .. } => 1,
             Answer::Usage(_) => 2,
             Answer::Malformed(..) | Answer::BadDesc(_) => 3,
             Answer::BadRing(_) | Answer::BadText(_) => 3,

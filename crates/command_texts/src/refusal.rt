@@ -6,6 +6,7 @@ ghost use Rattle.command_texts.specs.Answers.{answer_of};
 use crate::answer::Answer;
 use capture_desc::DescFault;
 use capture_file::{FileFault, Input};
+use double_buffer::ChainFault;
 use machine_model::Cause;
 use picture_model::BuildFault;
 use ring_compile::RingFault;
@@ -24,6 +25,8 @@ pub enum Refusal {
     BadDesc(DescFault),
     /// The geometry of a description has a fault.
     BadGeometry(BuildFault),
+    /// Two descriptions make no chain.
+    BadChain(ChainFault),
     /// A ring file describes no ring.
     BadRing(RingFault),
     /// A text is not the listing of a program.
@@ -56,6 +59,7 @@ impl Refusal {
             Refusal::Malformed(input, fault) => Answer::Malformed(input, fault),
             Refusal::BadDesc(fault) => Answer::BadDesc(fault),
             Refusal::BadGeometry(fault) => Answer::BadGeometry(fault),
+            Refusal::BadChain(fault) => Answer::BadChain(fault),
             Refusal::BadRing(fault) => Answer::BadRing(fault),
             Refusal::BadText(fault) => Answer::BadText(fault),
             Refusal::Rejected { at, nth, cause } => Answer::Rejected { at, nth, cause },

@@ -1,13 +1,14 @@
 //! The texts that are said.
 
 ghost use Rattle.std.specs.Prelude.{◌≡◌, IfOk, Some, codes, string_bytes};
-ghost use Rattle.command_texts.specs.Texts.{answer_text, blocks_text, built_text, cause_words, geometry_words, input_words, key_text, kind_words, listing_words, lost_words, made_text, need_words, not_toml_text, report_text, ring_place_text, usage_words};
+ghost use Rattle.command_texts.specs.Texts.{answer_text, blocks_text, built_text, cause_words, chain_words, geometry_words, input_words, key_text, kind_words, listing_words, lost_words, made_text, need_words, not_toml_text, report_text, ring_place_text, usage_words};
 
 use crate::answer::Answer;
 use bt878_words::UsageFault;
 use capture_desc::DescFault;
 use capture_file::{FileKind, Input};
 use dma_machine::Report;
+use double_buffer::ChainFault;
 use machine_model::Cause;
 use picture_model::BuildFault;
 use ring_compile::RingFault;
@@ -123,6 +124,24 @@ impl fmt::Display for GeometryWords {
             }
             BuildFault::ProgramBase => write!(f, "program base"),
             BuildFault::ProgramOnPage => write!(f, "program on page"),
+        }
+    }
+}
+
+/// A fault of two descriptions that make no chain, in words.
+#[derive(Drop)]
+struct ChainWords(ChainFault);
+
+impl fmt::Display for ChainWords {
+    ghost output = { λ words. Some (chain_words words.0) };
+
+    fn fmt<W: fmt::Write>(&self, f: &mut fmt::Formatter<W>) -> fmt::Result {
+        match self.0 {
+            ChainFault::Base => write!(f, "base"),
+            ChainFault::Shared(number) => write!(f, "shared {number}"),
+            ChainFault::TooMany => write!(f, "too many"),
+            ChainFault::TooLong => write!(f, "too long"),
+            ChainFault::OnPage => write!(f, "on page"),
         }
     }
 }
@@ -256,6 +275,15 @@ pub fn geometry_text(alloc: Global, fault: BuildFault) -> Result<Vec<u8>, AllocE
 {
     let fault = GeometryWords(fault);
     let text = format!(in alloc; "geometry: {fault}\n")?;
+    Ok(text.into_bytes())
+}
+
+/// The text of two descriptions that make no chain.
+pub fn chain_text(alloc: Global, fault: ChainFault) -> Result<Vec<u8>, AllocError>
+    ensures { IfOk result (λ text. text.items ≡ answer_text (Answer.BadChain fault)) }
+{
+    let fault = ChainWords(fault);
+    let text = format!(in alloc; "chain: {fault}\n")?;
     Ok(text.into_bytes())
 }
 

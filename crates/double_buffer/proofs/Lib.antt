@@ -4,4 +4,5 @@ mod Together
 mod Standing
 mod Pairs
 mod Behind
-mod Plays
+pub mod Plays
+pub mod Promising

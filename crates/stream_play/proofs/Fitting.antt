@@ -49,18 +49,18 @@ opened_fit (Some Bfs1) rest = records_fit Bfs1 0 4 0 rest
 opened_fit (Some Bfs2) rest = All-cons StepFits first_trigger _ (omega arith) (records_fit Bfs2 0 4 0 rest)
 opened_fit (Some Bfs3) rest = All-cons StepFits first_trigger _ (omega arith) (records_fit Bfs3 0 4 0 rest)
 
-judged_fit : (word : Option ℕ) (rest : List ℕ) → Fit (opened_by false word rest)
-judged_fit None rest = All-nil StepFits
-judged_fit (Some word) rest = opened_fit (form_of false word) rest
+judged_fit : (chained : Bool) (word : Option ℕ) (rest : List ℕ) → Fit (opened_by chained word rest)
+judged_fit chained None rest = All-nil StepFits
+judged_fit chained (Some word) rest = opened_fit (form_of chained word) rest
 
 within_fit : (over : Bool) (limit : ℕ) (below : Reading) → Fit below → Fit (within_if over limit below)
 within_fit true limit below h = h
 within_fit false limit below h = h
 
-stream_fit : (limit : ℕ) (bytes : List ℕ) → Fit (stream_of limit false bytes)
+stream_fit : (limit : ℕ) (chained : Bool) (bytes : List ℕ) → Fit (stream_of limit chained bytes)
 unfolding stream_of
-stream_fit limit bytes =
-    within_fit (nat_lt limit (length bytes)) limit (judged false (take limit bytes)) (judged_fit (number_at (take limit bytes)) (drop 4 (take limit bytes)))
+stream_fit limit chained bytes =
+    within_fit (nat_lt limit (length bytes)) limit (judged chained (take limit bytes)) (judged_fit chained (number_at (take limit bytes)) (drop 4 (take limit bytes)))
 
 -- the machine's steps
 atomic_fit : (step : Step) → StepFits step → All IsStep (atomic step)
@@ -85,7 +85,10 @@ whole_steps count found steps Unfinished is = ap (steps_in found) is
 whole_steps count found steps Ended is = ap (steps_in found) is
 whole_steps count found steps (Bad fault) is = ap (steps_in found) is
 
+pub all_fit : (chained : Bool) (bytes : List ℕ) (steps : List Step) → steps_of longest_stream chained bytes ≡ Ok steps → All StepFits steps
+all_fit chained bytes steps is =
+    let r : Reading = stream_of longest_stream chained bytes in
+    subst (All StepFits) (whole_steps (length bytes) r.steps steps r.ending is) (stream_fit longest_stream chained bytes)
+
 pub steps_fit : (bytes : List ℕ) (steps : List Step) → steps_of longest_stream false bytes ≡ Ok steps → All IsStep (steps_run steps)
-steps_fit bytes steps is =
-    let r : Reading = stream_of longest_stream false bytes in
-    subst (λ found. All IsStep (steps_run found)) (whole_steps (length bytes) r.steps steps r.ending is) (run_fit r.steps (stream_fit longest_stream bytes))
+steps_fit bytes steps is = run_fit steps (all_fit false bytes steps is)

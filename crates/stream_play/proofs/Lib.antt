@@ -5,3 +5,5 @@ mod Loading
 pub mod Fitting
 pub mod FewTurns
 pub mod Rings
+pub mod Chains
+pub mod Maps

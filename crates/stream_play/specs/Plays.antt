@@ -20,6 +20,7 @@ use Rattle.command_texts.specs.declared.refusal.Refusal.{Refusal}
 use Rattle.command_texts.specs.declared.refusal.Refusal.TheVariants.{ReadFault, Malformed}
 use Rattle.command_steps.specs.Inputs.{OfRest, ReadsRose}
 use Rattle.ring_machine.specs.States.{RingState, ran}
+use Rattle.damage_map.specs.Maps.{Map, mapped}
 
 -- the most bytes of a stream
 abbrev pub longest_stream : ℕ
@@ -37,6 +38,10 @@ machine_act step m = run m (atomic step)
 -- and of a machine that counts the blocks of its ring
 abbrev pub ring_act : Step → RingState → RingState
 ring_act step s = ran (atomic step) s
+
+-- and of a machine whose rows are told
+abbrev pub map_act : Step → Map → Map
+map_act step map = mapped (atomic step) map
 
 -- a player with what is left of a stream goes on to where it came from: to the same state, and the same end
 pub record GoesOn {S : Type 0} (act : Step → S → S) (p : S) (whole : Reading) (now : S) (left : Reading) : Type 0 where

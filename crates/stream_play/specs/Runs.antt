@@ -1,5 +1,5 @@
 -- The run of a program over a stream file.
-use Rattle.std.specs.Prelude.{◌≡◌, ℕ, ◌+◌, Bool, List, [], ◌∷◌, Option, Ok, Err, false}
+use Rattle.std.specs.Prelude.{◌≡◌, ℕ, ◌+◌, Bool, List, [], ◌∷◌, Option, Ok, Err, true, false}
 use Rattle.capture_desk.specs.Desks.{Inputs}
 use Rattle.machine_model.specs.Paths.{RiscProgram}
 use Rattle.machine_model.specs.States.{State, first_state}
@@ -10,9 +10,16 @@ use Rattle.capture_file.specs.Streams.{steps_of, steps_run, stream_of, turns_of}
 use Rattle.command_texts.specs.declared.refusal.Refusal.{Refusal}
 use Rattle.command_texts.specs.declared.refusal.Refusal.TheVariants.{Malformed}
 use Rattle.command_steps.specs.Inputs.{ByBytes, Input, Judge, OfInput}
+use Rattle.capture_desc.specs.declared.desc.Desc.{Desc}
+use Rattle.chain_model.specs.Chains.{Chain}
+use Rattle.chain_model.specs.Live.{Live, LiveStep, first_live, live_run}
+use Rattle.slot_chain.specs.States.{ChainState}
+use Rattle.double_buffer.specs.Pairs.{chain_of_two}
+use Rattle.double_buffer.specs.Plays.{all_live_steps}
 use Rattle.ring_model.specs.Rings.{Ring, ends}
 use Rattle.ring_model.specs.Runs.{block_ends}
 use Rattle.ring_machine.specs.States.{RingState}
+use Rattle.damage_map.specs.Maps.{Map, mapped}
 use Rattle.stream_play.specs.Plays.{EndsWell, longest_stream}
 
 -- ---- stream files
@@ -82,3 +89,34 @@ abbrev pub HasPlayedRing : List ℕ → Ring → State → RingState → Type 0
 HasPlayedRing bytes ring m now =
     (steps : List Step) × (steps_of longest_stream false bytes ≡ Ok steps)
     × (now ≡ record { ring = ring; machine = run m (steps_run steps); blocks = block_ends (ends ring) m (steps_run steps) })
+
+-- ---- runs of the chain of two descriptions
+
+-- two descriptions, whose chain ran over the steps of a stream, patches among them
+pub record LiveRan : Type 0 where
+  pub first : Desc
+  pub second : Desc
+  pub steps : List Step
+
+abbrev pub chain_ran : LiveRan → Chain
+chain_ran r = chain_of_two r.first r.second
+
+abbrev pub live_steps_of : LiveRan → List LiveStep
+live_steps_of r = all_live_steps r.steps
+
+-- the chain and its machine after all steps, from a memory that is filled as the first description says
+abbrev pub last_live_of : LiveRan → Live
+last_live_of r = live_run (chain_ran r) (first_live (chain_ran r) r.first.fill) (live_steps_of r)
+
+-- a chain took the steps of a whole stream
+abbrev pub HasPlayedChain : List ℕ → Desc → Desc → ChainState → Type 0
+HasPlayedChain bytes first second now =
+    (steps : List Step) × (steps_of longest_stream true bytes ≡ Ok steps)
+    × (now.live ≡ last_live_of (record { first = first; second = second; steps = steps }))
+
+-- ---- runs of a machine whose rows are told
+
+-- it took the steps of a whole stream
+abbrev pub HasPlayedMap : List ℕ → Map → Map → Type 0
+HasPlayedMap bytes map now =
+    (steps : List Step) × (steps_of longest_stream false bytes ≡ Ok steps) × (now ≡ mapped (steps_run steps) map)

@@ -1,14 +1,17 @@
 //! What takes the steps of a stream.
 
-ghost use Rattle.std.specs.Prelude.{◌≡◌, Bool, false};
+ghost use Rattle.std.specs.Prelude.{◌≡◌, Bool, false, true};
 ghost use Rattle.capture_file.specs.declared.Step.TheVariants as Step;
 ghost use Rattle.capture_file.specs.declared.Step.{Step as StepOf};
 ghost use Rattle.capture_file.specs.Readers.{fresh};
 ghost use Rattle.capture_file.specs.Records.{StepFits};
-ghost use Rattle.stream_play.specs.Plays.{machine_act, ring_act};
+ghost use Rattle.double_buffer.specs.Plays.{chain_act};
+ghost use Rattle.stream_play.specs.Plays.{machine_act, map_act, ring_act};
 
 use capture_file::StepReader;
+use damage_map::Mapped;
 use dma_machine::Machine;
+use double_buffer::DoubleBuffer;
 use fifo_model::{Entry, Queue};
 use irq_status::HostWrite;
 use page_ram::Ram;
@@ -117,4 +120,71 @@ impl<R: Ram> Player for RingMachine<R> {
         // the call tells that the count has 64 bits
         let _blocks = self.blocks();
     }
+}
+
+impl<R: Ram> Player for DoubleBuffer<R> {
+    ghost act = { chain_act };
+
+    ghost has_slots = { true };
+
+    fn reader(limit: u64) -> StepReader {
+        StepReader::chained(limit)
+    }
+
+    #[inline(always)]
+    fn push(&mut self, queue: Queue, entry: Entry) {
+        let _ = DoubleBuffer::push(self, queue, entry);
+    }
+
+    #[inline(always)]
+    fn push_control(&mut self, code: Code) {
+        let _ = DoubleBuffer::push_control(self, code);
+    }
+
+    #[inline(always)]
+    fn turns(&mut self, count: u32) {
+        DoubleBuffer::turns(self, count);
+    }
+
+    #[inline(always)]
+    fn host(&mut self, write: HostWrite) {
+        DoubleBuffer::host(self, write);
+    }
+
+    fn patch(&mut self, slot: u8, buffer: u8) {
+        DoubleBuffer::patch(self, slot, buffer);
+    }
+}
+
+impl<R: Ram> Player for Mapped<R> {
+    ghost act = { map_act };
+
+    ghost has_slots = { false };
+
+    fn reader(limit: u64) -> StepReader {
+        <Machine<R> as Player>::reader(limit)
+    }
+
+    #[inline(always)]
+    fn push(&mut self, queue: Queue, entry: Entry) {
+        let _ = Mapped::push(self, queue, entry);
+    }
+
+    #[inline(always)]
+    fn push_control(&mut self, code: Code) {
+        let _ = Mapped::push_control(self, code);
+    }
+
+    #[inline(always)]
+    fn turns(&mut self, count: u32) {
+        Mapped::turns(self, count);
+    }
+
+    #[inline(always)]
+    fn host(&mut self, write: HostWrite) {
+        Mapped::host(self, write);
+    }
+
+    // A machine whose rows are told has no slots either.
+    fn patch(&mut self, _slot: u8, _buffer: u8) {}
 }

@@ -2,7 +2,7 @@ use Rattle.std.proofs.Common.{◌∙◌, ap, map, sym, subst, Bor, List, ℕ, Ok
 use Rattle.bt878_words.proofs.Asked.{asked, few_frames}
 use Rattle.bt878_words.specs.declared.Command.TheVariants as command
 use Rattle.bt878_contract.specs.Tasks.{Answers}
-use Rattle.bt878_top.proofs.Asking.{assemble_program_allowed, assemble_task, assemble_text_allowed, capture_image_allowed, capture_program_allowed, capture_source_allowed, capture_stream_allowed, capture_task, compile_desc_allowed, compile_program_allowed, compile_task, list_allowed, list_task, make_desc_allowed, make_stream_allowed, make_task, ring_task, run_image_allowed, run_program_allowed, run_stream_allowed, run_task, verify_allowed, verify_task}
+use Rattle.bt878_top.proofs.Asking.{assemble_program_allowed, assemble_task, assemble_text_allowed, damage_desc_allowed, damage_stream_allowed, damage_task, chain_first_allowed, chain_image_allowed, chain_second_allowed, chain_stream_allowed, chain_task, capture_image_allowed, capture_program_allowed, capture_source_allowed, capture_stream_allowed, capture_task, compile_desc_allowed, compile_program_allowed, compile_task, list_allowed, list_task, make_desc_allowed, make_stream_allowed, make_task, ring_task, run_image_allowed, run_program_allowed, run_stream_allowed, run_task, verify_allowed, verify_task}
 use Rattle.bt878_top.proofs.call.answer_words.Goals as goal
 
 abbrev text : Bor (List ℕ) → List ℕ
@@ -76,6 +76,30 @@ pub ring-requires-clause-image : goal.ring-requires-clause-image
 ring-requires-clause-image g c =
     capture_image_allowed text c.args.words.now _ (asked (map text c.args.words.now) command.Ring (sym c.read_words.ensures ∙ c.in-Ok.is ∙ ap Ok c.in-Ring.is)) _ c.requires.creates
 
+pub chain-requires-clause-first : goal.chain-requires-clause-first
+chain-requires-clause-first g c =
+    chain_first_allowed text c.args.words.now _ (asked (map text c.args.words.now) command.Chain (sym c.read_words.ensures ∙ c.in-Ok.is ∙ ap Ok c.in-Chain.is)) _ c.requires.opens
+
+pub chain-requires-clause-second : goal.chain-requires-clause-second
+chain-requires-clause-second g c =
+    chain_second_allowed text c.args.words.now _ (asked (map text c.args.words.now) command.Chain (sym c.read_words.ensures ∙ c.in-Ok.is ∙ ap Ok c.in-Chain.is)) _ c.requires.opens
+
+pub chain-requires-clause-stream : goal.chain-requires-clause-stream
+chain-requires-clause-stream g c =
+    chain_stream_allowed text c.args.words.now _ (asked (map text c.args.words.now) command.Chain (sym c.read_words.ensures ∙ c.in-Ok.is ∙ ap Ok c.in-Chain.is)) _ c.requires.opens
+
+pub chain-requires-clause-image : goal.chain-requires-clause-image
+chain-requires-clause-image g c =
+    chain_image_allowed text c.args.words.now _ (asked (map text c.args.words.now) command.Chain (sym c.read_words.ensures ∙ c.in-Ok.is ∙ ap Ok c.in-Chain.is)) _ c.requires.creates
+
+pub damage-requires-clause-desc : goal.damage-requires-clause-desc
+damage-requires-clause-desc g c =
+    damage_desc_allowed text c.args.words.now _ (asked (map text c.args.words.now) command.Damage (sym c.read_words.ensures ∙ c.in-Ok.is ∙ ap Ok c.in-Damage.is)) _ c.requires.opens
+
+pub damage-requires-clause-stream : goal.damage-requires-clause-stream
+damage-requires-clause-stream g c =
+    damage_stream_allowed text c.args.words.now _ (asked (map text c.args.words.now) command.Damage (sym c.read_words.ensures ∙ c.in-Ok.is ∙ ap Ok c.in-Damage.is)) _ c.requires.opens
+
 pub make-requires-clause-desc : goal.make-requires-clause-desc
 make-requires-clause-desc g c =
     make_desc_allowed text c.args.words.now _ c.in-Make.seed c.in-Make.frames _ (sym c.read_words.ensures ∙ c.in-Ok.is ∙ ap Ok c.in-Make.is) c.requires.opens
@@ -135,3 +159,15 @@ returns-in-Ring g c =
     let see = g.D.Desk.seen in
     subst (λ task. Answers task c.ring.result (see c.args.desk.now) (see c.ring.new.desk))
     (sym (ring_task text c.args.words.now _ (sym c.read_words.ensures ∙ c.in-Ok.is ∙ ap Ok c.in-Ring.is))) c.ring.ensures
+
+pub returns-in-Chain : goal.returns-in-Chain
+returns-in-Chain g c =
+    let see = g.D.Desk.seen in
+    subst (λ task. Answers task c.chain.result (see c.args.desk.now) (see c.chain.new.desk))
+    (sym (chain_task text c.args.words.now _ (sym c.read_words.ensures ∙ c.in-Ok.is ∙ ap Ok c.in-Chain.is))) c.chain.ensures
+
+pub returns-in-Damage : goal.returns-in-Damage
+returns-in-Damage g c =
+    let see = g.D.Desk.seen in
+    subst (λ task. Answers task c.damage.result (see c.args.desk.now) (see c.damage.new.desk))
+    (sym (damage_task text c.args.words.now _ (sym c.read_words.ensures ∙ c.in-Ok.is ∙ ap Ok c.in-Damage.is))) c.damage.ensures

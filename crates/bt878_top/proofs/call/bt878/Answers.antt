@@ -6,7 +6,8 @@ use Rattle.bt878_contract.proofs.Pictures.{pictures_shown, no_fault_shown, signa
 use Rattle.bt878_contract.specs.Rings.{RingsShowNoFault, ShowsRings}
 use Rattle.bt878_contract.proofs.Rings.{no_fault_in_rings, rings_shown}
 use Rattle.machine_model.specs.States.{first_state}
-use Rattle.bt878_contract.proofs.Consequences.{bad_input_comes, bad_input_must, completes, done_assemble, done_capture, done_captured, done_compile, done_counts, done_inside, done_list, done_make, done_ring, done_run, done_sound, done_verify, ends_at_fault, in_order, names_kept, others_untouched, read_fault_comes, refused_only_says, usage_comes, write_fault_comes, write_fault_stands}
+use Rattle.chain_law.specs.Runs.{LiveRunShowsNoFault, LiveRunShowsPictures, LiveRunStaysInside}
+use Rattle.bt878_contract.proofs.Consequences.{bad_input_comes, bad_input_must, completes, done_assemble, done_capture, done_captured, done_chain, done_compile, done_counts, done_damage, done_inside, done_list, done_live, done_make, done_ring, done_run, done_sound, done_verify, ends_at_fault, in_order, names_kept, others_untouched, read_fault_comes, refused_only_says, usage_comes, write_fault_comes, write_fault_stands}
 use Rattle.bt878_top.proofs.call.bt878.Goals as goal
 
 abbrev text : Bor (List ℕ) → List ℕ
@@ -48,6 +49,34 @@ returns-clause-no_fault_in_rings g c =
     let see = g.D.Desk.seen in
     done_captured RingsShowNoFault (λ program fill steps made. no_fault_in_rings (first_state program fill) steps) (task_of (map text c.args.words.now)) c.answer_words.result (see c.args.desk.now)
     (see c.answer_words.new.desk) c.answer_words.ensures
+
+pub returns-clause-live_inside : goal.returns-clause-live_inside
+returns-clause-live_inside g c =
+    let see = g.D.Desk.seen in
+    done_live LiveRunStaysInside (λ chain fill steps kept. kept.inside) (task_of (map text c.args.words.now)) c.answer_words.result (see c.args.desk.now) (see c.answer_words.new.desk)
+    c.answer_words.ensures
+
+pub returns-clause-live_pictures : goal.returns-clause-live_pictures
+returns-clause-live_pictures g c =
+    let see = g.D.Desk.seen in
+    done_live LiveRunShowsPictures (λ chain fill steps kept. kept.shown) (task_of (map text c.args.words.now)) c.answer_words.result (see c.args.desk.now) (see c.answer_words.new.desk)
+    c.answer_words.ensures
+
+pub returns-clause-live_no_fault : goal.returns-clause-live_no_fault
+returns-clause-live_no_fault g c =
+    let see = g.D.Desk.seen in
+    done_live LiveRunShowsNoFault (λ chain fill steps kept. kept.quiet) (task_of (map text c.args.words.now)) c.answer_words.result (see c.args.desk.now) (see c.answer_words.new.desk)
+    c.answer_words.ensures
+
+pub returns-clause-chained : goal.returns-clause-chained
+returns-clause-chained g c =
+    let see = g.D.Desk.seen in
+    done_chain (map text c.args.words.now) c.answer_words.result (see c.args.desk.now) (see c.answer_words.new.desk) c.answer_words.ensures
+
+pub returns-clause-damaged : goal.returns-clause-damaged
+returns-clause-damaged g c =
+    let see = g.D.Desk.seen in
+    done_damage (map text c.args.words.now) c.answer_words.result (see c.args.desk.now) (see c.answer_words.new.desk) c.answer_words.ensures
 
 pub returns-clause-ringed : goal.returns-clause-ringed
 returns-clause-ringed g c =

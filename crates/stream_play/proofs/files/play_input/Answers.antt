@@ -2,7 +2,7 @@ use Rattle.std.proofs.Common.{◌∙◌, ap}
 use Rattle.command_steps.proofs.Inputs.{opened_input}
 use Rattle.stream_play.specs.Plays.{PlaysAll}
 use Rattle.command_steps.specs.Inputs.{apart}
-use Rattle.stream_play.proofs.Loading.{read_through}
+use Rattle.stream_play.proofs.Loading.{read_through, stops_at_stream}
 use Rattle.stream_play.proofs.files.play_input.Goals as goal
 
 pub returns-in-Ok-clause-played : goal.returns-in-Ok-clause-played

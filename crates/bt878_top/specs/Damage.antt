@@ -1,0 +1,13 @@
+-- What is said of the rows of a description after a whole stream.
+use Rattle.std.specs.Prelude.{◌≡◌, List, ℕ, []}
+use Rattle.capture_desc.specs.declared.desc.Desc.{Desc}
+use Rattle.damage_map.specs.Laws.{map_after}
+use Rattle.damage_map.specs.Maps.{Map, rows_of}
+use Rattle.damage_text.specs.Texts.{damage_text}
+use Rattle.stream_play.specs.Runs.{HasPlayedMap}
+
+-- a machine of the description took its steps, and the text tells of its rows
+pub record TellsPlayed (bytes : List ℕ) (d : Desc) (text : List ℕ) : Type 0 where
+  pub map : Map
+  pub played : HasPlayedMap bytes (map_after d d.fill []) map
+  pub tells : text ≡ damage_text d (λ field. rows_of field map)

@@ -1,0 +1,19 @@
+-- Files that may have so many bytes and no more.
+use Rattle.std.specs.Prelude.{◌≡◌, ℕ, ◌<◌, List, length, Option}
+use Rattle.capture_desk.specs.Desks.{Inputs}
+use Rattle.capture_file.specs.declared.FileKind.TheVariants as kind
+use Rattle.capture_file.specs.declared.FileFault.{FileFault}
+use Rattle.capture_file.specs.declared.Input.{Input as File}
+use Rattle.command_texts.specs.declared.refusal.Refusal.{Refusal}
+use Rattle.command_texts.specs.declared.refusal.Refusal.TheVariants.{Malformed}
+use Rattle.command_steps.specs.Inputs.{OfInput}
+
+-- the byte at the limit is one too many
+abbrev pub too_long : ℕ → FileFault
+too_long most = record { at = most; kind = kind.TooLong }
+
+-- an input has more bytes
+abbrev pub IsLonger : ℕ → File → List ℕ → Refusal → Option Inputs → Type 0
+IsLonger most file name (Malformed other fault) inputs =
+    (other ≡ file) × (fault ≡ too_long most) × OfInput name inputs (λ bytes. most < length bytes)
+IsLonger most file name _ inputs = ⊥

@@ -1,0 +1,40 @@
+//! Files that may have so many bytes and no more, read whole.
+
+ghost use Rattle.std.specs.Prelude.{◌≡◌, ◌<◌, ◌≤◌, ◌^◌, vec_len, IfErr, IfOk};
+ghost use Rattle.capture_desk.specs.Desks.{IsAllowed};
+ghost use Rattle.command_steps.specs.Inputs.{Always, OfInput, StopsAt};
+ghost use Rattle.command_steps.specs.Reading.{OnlyReads};
+ghost use Rattle.command_inputs.specs.Limits.{IsLonger};
+
+use capture_desk::Desk;
+use capture_file::{FileFault, FileKind, Input};
+use command_steps::read_whole;
+use command_texts::Refusal;
+use std::alloc::Global;
+
+/// Reads a whole file, to one byte beyond the most that it may have: `Malformed` there where it has more.
+pub fn read_limited<D: Desk>(
+    alloc: Global,
+    name: &str,
+    most: usize,
+    file: Input,
+    desk: &mut D,
+) -> Result<Vec<u8>, Refusal>
+    requires allowed { IsAllowed name.now (D.seen desk.old).told.may_open }
+    requires few { most < 2 ^ 32 }
+    ensures short { IfOk result (λ bytes. vec_len bytes ≤ most) }
+    ensures whole { IfOk result (λ bytes. OfInput name.now (D.seen desk.old).told.inputs (λ content. bytes.items ≡ content)) }
+    ensures stops { IfErr result (λ refusal. StopsAt (IsLonger most file) name.now refusal (D.seen desk.old) (D.seen desk.new)) }
+    ensures reads { OnlyReads name.now most Always (D.seen desk.old) (D.seen desk.new) }
+    ensures quiet { IfOk result (λ _. (D.seen desk.new).reads ≡ (D.seen desk.old).reads) }
+{
+    let bytes = read_whole(alloc, name, most, desk)?;
+    if bytes.len() > most {
+        let fault = FileFault {
+            at: most as u64,
+            kind: FileKind::TooLong,
+        };
+        return Err(Refusal::Malformed(file, fault));
+    }
+    Ok(bytes)
+}
