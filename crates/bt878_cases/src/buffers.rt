@@ -1,18 +1,16 @@
 // Worked cases of the commands over rings, over chains of two descriptions, and over the rows of a field. Their files and
 // answers were computed by hand from docs/FORMATS.md and docs/MACHINE.md.
 
+use crate::calls::{LONG, chained, damaged, ringed};
 use crate::cases::Parts;
-use crate::desks::{chain_desk, damage_desk, ring_desk};
-use crate::left::Left;
-use bt878_top::bt878;
 use std::alloc::{AllocError, Global};
 use std::test::Fail;
 
 /// Two blocks of a line of 8 bytes.
-const RING: &[u8] = b"blocks = 2\nlines = 1\nline_bytes = 8\npages = [0x20000]\n";
+pub const RING: &[u8] = b"blocks = 2\nlines = 1\nline_bytes = 8\npages = [0x20000]\n";
 
 /// FM1 and three lines, then ten turns.
-const RING_STREAM: &[u8] =
+pub const RING_STREAM: &[u8] =
     b"BFS1\x04\x06\x01\x02\x10\x11\x12\x13\x01\x01\x14\x15\x16\x17\x01\x02\x20\x21\x22\x23\x01\x01\x24\x25\x26\x27\x01\x02\x30\x31\x32\x33\x01\x01\x34\x35\x36\x37\x05\x0a\x00\x00\x00\x00";
 
 /// SYNC FM1, a WRITE for each line, which interrupts with the number of its block, and the JUMP behind the SYNC.
@@ -29,15 +27,15 @@ const RING_IMAGE: Parts = &[
 ];
 
 /// A row of 8 bytes on a page of its own, in the top field.
-const FIRST: &[u8] =
+pub const FIRST: &[u8] =
     b"format = \"y8\"\nwidth = 8\nheight = 1\nfields = \"top\"\npages = [0x20000]\n";
 
 /// The same row on another page.
-const SECOND: &[u8] =
+pub const SECOND: &[u8] =
     b"format = \"y8\"\nwidth = 8\nheight = 1\nfields = \"top\"\npages = [0x30000]\n";
 
 /// Slot 0 shows the first description for a field, and from the middle of it on the second for the next.
-const CHAIN_STREAM: &[u8] =
+pub const CHAIN_STREAM: &[u8] =
     b"BFS3\x09\x00\x00\x04\x04\x04\x06\x01\x02\x10\x11\x12\x13\x01\x01\x14\x15\x16\x17\x05\x06\x00\x00\x00\x09\x00\x01\x05\x03\x00\x00\x00\x04\x04\x04\x06\x01\x02\x20\x21\x22\x23\x01\x01\x24\x25\x26\x27\x05\x0b\x00\x00\x00\x00";
 
 /// Both rows.
@@ -52,7 +50,7 @@ const CHAIN_IMAGE: Parts = &[
 ];
 
 /// The field of `FIRST` with an entry of a reserved status in its line.
-const RESERVED_STREAM: &[u8] =
+pub const RESERVED_STREAM: &[u8] =
     b"BFS1\x04\x04\x04\x06\x01\x02\x10\x11\x12\x13\x01\x03\xa0\xa1\xa2\xa3\x01\x01\x14\x15\x16\x17\x05\x0a\x00\x00\x00\x00";
 
 /// The host empties the queues within a line, when they hold nothing.
@@ -61,14 +59,14 @@ const EMPTIED_STREAM: &[u8] =
 
 /// Each pixel format with the places of its planes, in bytes from the beginning of its page.
 static FORMATS: [(&str, &str); 12] = [
-    ("rgb32", "0"),
-    ("rgb24", "0"),
-    ("rgb16", "0"),
-    ("rgb15", "0"),
-    ("yuy2", "0"),
-    ("y8", "0"),
-    ("rgb8", "0"),
-    ("btyuv", "0"),
+    ("rgb32", "[0]"),
+    ("rgb24", "[0]"),
+    ("rgb16", "[0]"),
+    ("rgb15", "[0]"),
+    ("yuy2", "[0]"),
+    ("y8", "[0]"),
+    ("rgb8", "[0]"),
+    ("btyuv", "[0]"),
     ("yuv422p", "[0, 1024, 2048]"),
     ("yuv411p", "[0, 1024, 2048]"),
     ("yuv420p", "[0, 1024, 2048]"),
@@ -83,44 +81,22 @@ fn picture(alloc: Global, format: &(&str, &str), page: &str) -> Result<String, A
     )
 }
 
-fn ringed(alloc: Global, ring: &[u8], stream: &[u8]) -> Result<Left, AllocError> {
-    let mut desk = ring_desk(alloc, ring, stream)?;
-    let answer = bt878(
-        alloc,
-        &["ring", "ring", "stream", "program", "image"],
-        &mut desk,
-    );
-    Ok(Left {
-        status: answer.status(),
-        desk,
-    })
-}
-
-fn chained(alloc: Global, first: &[u8], second: &[u8], stream: &[u8]) -> Result<Left, AllocError> {
-    let mut desk = chain_desk(alloc, first, second, stream)?;
-    let answer = bt878(
-        alloc,
-        &["chain", "first", "second", "stream", "image"],
-        &mut desk,
-    );
-    Ok(Left {
-        status: answer.status(),
-        desk,
-    })
-}
-
-fn damaged(alloc: Global, description: &[u8], stream: &[u8]) -> Result<Left, AllocError> {
-    let mut desk = damage_desk(alloc, description, stream)?;
-    let answer = bt878(alloc, &["damage", "description", "stream"], &mut desk);
-    Ok(Left {
-        status: answer.status(),
-        desk,
-    })
+/// A row of 8 bytes and so many pages, one after the other from an address on.
+fn on_pages(alloc: Global, count: u32, first: u32) -> Result<String, AllocError> {
+    let mut text = format!(in alloc;
+        "format = \"y8\"\nwidth = 8\nheight = 1\nfields = \"top\"\npages = ["
+    )?;
+    for page in 0..count {
+        let address = first.saturating_add(page.saturating_mul(4096));
+        text.push_str(&format!(in alloc; "{address},")?)?;
+    }
+    text.push_str("]\n")?;
+    Ok(text)
 }
 
 #[test]
 fn a_ring_ends_two_blocks(rt: HostRuntime) -> Result<(), Fail> {
-    let left = ringed(rt.alloc(), RING, RING_STREAM)?;
+    let left = ringed(rt.alloc(), RING, RING_STREAM, &[], LONG)?;
     let said = b"blocks 2\nturns 10\nmoved 16\noverruns 0 0 0 0\nstatus 10000800\n";
     assert!(rt; left.has(0, said, RING_IMAGE));
     assert!(rt; left.wrote("program", RING_PROGRAM));
@@ -130,10 +106,10 @@ fn a_ring_ends_two_blocks(rt: HostRuntime) -> Result<(), Fail> {
 #[test]
 fn a_ring_file_is_refused(rt: HostRuntime) -> Result<(), Fail> {
     let short = b"blocks = 2\nlines = 1\nline_bytes = 4\npages = [0x20000]\n";
-    let left = ringed(rt.alloc(), short, b"BFS1\x00")?;
+    let left = ringed(rt.alloc(), short, b"BFS1\x00", &[], LONG)?;
     assert!(rt; left.has(3, b"ring: out of range key line_bytes\n", &[]));
     let wide = b"blocks = 3\nlines = 2\nline_bytes = 1000\npages = [0x20000]\n";
-    let left = ringed(rt.alloc(), wide, b"BFS1\x00")?;
+    let left = ringed(rt.alloc(), wide, b"BFS1\x00", &[], LONG)?;
     assert!(rt; left.has(3, b"ring: too few pages, need 2, have 1\n", &[]));
     assert!(rt; left.lacks("program"));
     Ok(())
@@ -141,7 +117,7 @@ fn a_ring_file_is_refused(rt: HostRuntime) -> Result<(), Fail> {
 
 #[test]
 fn a_chain_shows_both_descriptions(rt: HostRuntime) -> Result<(), Fail> {
-    let left = chained(rt.alloc(), FIRST, SECOND, CHAIN_STREAM)?;
+    let left = chained(rt.alloc(), FIRST, SECOND, CHAIN_STREAM, &[], LONG)?;
     let said = b"turns 20\nmoved 16\noverruns 0 0 0 0\nstatus 10000800\n";
     assert!(rt; left.has(0, said, CHAIN_IMAGE));
     Ok(())
@@ -149,22 +125,29 @@ fn a_chain_shows_both_descriptions(rt: HostRuntime) -> Result<(), Fail> {
 
 #[test]
 fn a_chain_is_refused(rt: HostRuntime) -> Result<(), Fail> {
-    let left = chained(rt.alloc(), FIRST, FIRST, b"BFS3\x00")?;
+    let left = chained(rt.alloc(), FIRST, FIRST, b"BFS3\x00", &[], LONG)?;
     assert!(rt; left.has(1, b"chain: shared 0\n", &[]));
-    let left = chained(rt.alloc(), FIRST, SECOND, b"BFS3\x09\x02\x00\x00")?;
+    let left = chained(
+        rt.alloc(),
+        FIRST,
+        SECOND,
+        b"BFS3\x09\x02\x00\x00",
+        &[],
+        LONG,
+    )?;
     assert!(rt; left.has(3, b"stream file: slot 02 at 5\n", &[]));
-    let left = chained(rt.alloc(), FIRST, SECOND, b"BFS1\x00")?;
+    let left = chained(rt.alloc(), FIRST, SECOND, b"BFS1\x00", &[], LONG)?;
     assert!(rt; left.has(3, b"stream file: magic at 0\n", &[]));
     Ok(())
 }
 
 #[test]
 fn rows_are_told(rt: HostRuntime) -> Result<(), Fail> {
-    let left = damaged(rt.alloc(), FIRST, b"BFS1\x00")?;
+    let left = damaged(rt.alloc(), FIRST, b"BFS1\x00", &[], LONG)?;
     assert!(rt; left.says(0, b"top none\n"));
-    let left = damaged(rt.alloc(), FIRST, RESERVED_STREAM)?;
+    let left = damaged(rt.alloc(), FIRST, RESERVED_STREAM, &[], LONG)?;
     assert!(rt; left.says(0, b"top 0 of 1\nbad 0\n"));
-    let left = damaged(rt.alloc(), FIRST, EMPTIED_STREAM)?;
+    let left = damaged(rt.alloc(), FIRST, EMPTIED_STREAM, &[], LONG)?;
     assert!(rt; left.says(0, b"top 1 of 1\n"));
     Ok(())
 }
@@ -176,9 +159,33 @@ fn every_format_is_paired_with_the_next(rt: HostRuntime) -> Result<(), Fail> {
     for format in &FORMATS {
         let first = picture(rt.alloc(), before, "0x20000")?;
         let second = picture(rt.alloc(), format, "0x30000")?;
-        let left = chained(rt.alloc(), first.as_bytes(), second.as_bytes(), b"BFS3\x00")?;
+        let left = chained(
+            rt.alloc(),
+            first.as_bytes(),
+            second.as_bytes(),
+            b"BFS3\x00",
+            &[],
+            LONG,
+        )?;
         assert!(rt; left.says(0, said));
         before = format;
     }
+    Ok(())
+}
+
+/// Both descriptions have 4,096 pages together at most.
+#[test]
+fn a_chain_of_too_many_pages_is_refused(rt: HostRuntime) -> Result<(), Fail> {
+    let first = on_pages(rt.alloc(), 2049, 0x1000_0000)?;
+    let second = on_pages(rt.alloc(), 2048, 0x2000_0000)?;
+    let left = chained(
+        rt.alloc(),
+        first.as_bytes(),
+        second.as_bytes(),
+        b"BFS3\x00",
+        &[],
+        LONG,
+    )?;
+    assert!(rt; left.has(1, b"chain: too many\n", &[]));
     Ok(())
 }

@@ -27,13 +27,17 @@ pub const ONE_LINE: &[u8] =
 pub const ONE_LINE_STREAM: &[u8] =
     b"BFS1\x04\x04\x04\x06\x01\x02\x10\x11\x12\x13\x01\x01\x14\x15\x16\x17\x05\x09\x00\x00\x00\x00";
 
+/// What `list` says of it.
+pub const ONE_LINE_LISTING: &[u8] =
+    b"base 00001000\n00001000 sync vre resync\n00001008 sync fm1\n00001010 write sol eol 8 00020000\n00001018 jump irq set=1 reset=e 00001000\npage 00020000\nfill 00\n";
+
 /// What `list` says.
 pub static LISTED: [Judged; 5] = [
     // instructions with the fields that aren't 0
     Judged {
         program: ONE_LINE,
         status: 0,
-        said: b"base 00001000\n00001000 sync vre resync\n00001008 sync fm1\n00001010 write sol eol 8 00020000\n00001018 jump irq set=1 reset=e 00001000\npage 00020000\nfill 00\n",
+        said: ONE_LINE_LISTING,
     },
     // a program that isn't sound, with words that are no spelling
     Judged {

@@ -4,11 +4,12 @@
 // edit of a body can show that it is wrong. These tests refuse it: they have ample memory, and each command
 // must give another answer.
 
+use crate::calls::{LONG, captured, compiled, made};
 use crate::descriptions::{
     CAPTURED, CHUNKED, CHUNKED_IMAGE, CHUNKED_PROGRAM, CHUNKED_REPORT, CHUNKED_STREAM, COMPILED,
     MADE, REFUSED, SEEDED_STREAM,
 };
-use crate::desks::{described, description_desk, empty_desk, field_desk, joined, program_file};
+use crate::desks::{described, description_desk, empty_desk, joined, program_file};
 use crate::left::Left;
 use crate::painting::{PAINTED, PICTURE, Painted, paint};
 use bt878_top::bt878;
@@ -16,59 +17,10 @@ use std::alloc::{AllocError, Global};
 use std::process::Abort;
 use std::test::Fail;
 
-/// The most bytes that a call moves where that is not what is tested.
-const LONG: usize = 65536;
-
-fn compiled(
-    alloc: Global,
-    description: &[u8],
-    longest: usize,
-    room: usize,
-) -> Result<Left, AllocError> {
-    let mut desk = description_desk(alloc, description, longest, room)?;
-    let answer = bt878(alloc, &["compile", "description", "out"], &mut desk);
-    Ok(Left {
-        status: answer.status(),
-        desk,
-    })
-}
-
-/// One frame of seed 1.
-fn made(
-    alloc: Global,
-    description: &[u8],
-    longest: usize,
-    room: usize,
-) -> Result<Left, AllocError> {
-    let mut desk = description_desk(alloc, description, longest, room)?;
-    let answer = bt878(alloc, &["make", "description", "1", "1", "out"], &mut desk);
-    Ok(Left {
-        status: answer.status(),
-        desk,
-    })
-}
-
 /// Two frames of seed 1.
 fn made_twice(alloc: Global, description: &[u8]) -> Result<Left, AllocError> {
-    let mut desk = description_desk(alloc, description, LONG, 100_000)?;
+    let mut desk = description_desk(alloc, description, &[], LONG, 100_000)?;
     let answer = bt878(alloc, &["make", "description", "1", "2", "out"], &mut desk);
-    Ok(Left {
-        status: answer.status(),
-        desk,
-    })
-}
-
-fn captured(
-    alloc: Global,
-    description: &[u8],
-    stream: &[u8],
-    failing: &[u64],
-    longest: usize,
-    room: usize,
-) -> Result<Left, AllocError> {
-    let mut desk = field_desk(alloc, description, stream, failing, longest, room)?;
-    let words = ["capture", "description", "stream", "program", "image"];
-    let answer = bt878(alloc, &words, &mut desk);
     Ok(Left {
         status: answer.status(),
         desk,
@@ -78,7 +30,7 @@ fn captured(
 fn compile_all(rt: &impl Abort, alloc: Global, longest: usize) -> Result<(), AllocError> {
     for case in &COMPILED {
         let description = described(alloc, case.changes)?;
-        let left = compiled(alloc, &description, longest, 5000)?;
+        let left = compiled(alloc, &description, &[], longest, 5000)?;
         let said = format!(in alloc; "words {} pages {}\n", case.words.len(), case.grants())?;
         assert!(rt; left.says(0, said.as_bytes()));
         let program = program_file(alloc, case)?;
@@ -91,9 +43,9 @@ fn compile_all(rt: &impl Abort, alloc: Global, longest: usize) -> Result<(), All
 fn refuse_all(rt: &impl Abort, alloc: Global, longest: usize) -> Result<(), AllocError> {
     for case in &REFUSED {
         let description = described(alloc, case.changes)?;
-        let left = compiled(alloc, &description, longest, 5000)?;
+        let left = compiled(alloc, &description, &[], longest, 5000)?;
         assert!(rt; left.says(case.status, case.said) && left.lacks("out"));
-        let left = made(alloc, &description, longest, 5000)?;
+        let left = made(alloc, &description, &[], longest, 5000)?;
         assert!(rt; left.says(case.status, case.said) && left.lacks("out"));
         let left = captured(alloc, &description, SEEDED_STREAM, &[], longest, 5000)?;
         assert!(rt; left.says(case.status, case.said));
@@ -108,7 +60,7 @@ fn capture_all(rt: &impl Abort, alloc: Global, longest: usize) -> Result<(), All
         let stream = joined(alloc, case.stream)?;
         let left = captured(alloc, &description, &stream, &[], longest, 5000)?;
         assert!(rt; left.has(0, case.said, case.image));
-        let program = compiled(alloc, &description, longest, 5000)?;
+        let program = compiled(alloc, &description, &[], longest, 5000)?;
         assert!(rt; left.desk.output("program") == program.desk.output("out"));
         assert_eq!(rt; left.desk.faults(), [0, 0]);
     }
@@ -118,7 +70,7 @@ fn capture_all(rt: &impl Abort, alloc: Global, longest: usize) -> Result<(), All
 fn make_all(rt: &impl Abort, alloc: Global, longest: usize) -> Result<(), AllocError> {
     for case in &MADE {
         let description = described(alloc, case.changes)?;
-        let left = made(alloc, &description, longest, 5000)?;
+        let left = made(alloc, &description, &[], longest, 5000)?;
         assert!(rt; left.says(0, case.said));
         let stream = left.desk.output("out").unwrap_or_default();
         assert_eq!(rt; stream.len(), case.length);
@@ -139,7 +91,7 @@ fn descriptions_are_compiled(rt: HostRuntime) -> Result<(), Fail> {
 fn descriptions_are_refused(rt: HostRuntime) -> Result<(), Fail> {
     refuse_all(&rt, rt.alloc(), LONG)?;
     refuse_all(&rt, rt.alloc(), 1)?;
-    let left = compiled(rt.alloc(), b"a = ", LONG, 5000)?;
+    let left = compiled(rt.alloc(), b"a = ", &[], LONG, 5000)?;
     assert!(rt; left.says(3, b"description: not toml\n") && left.lacks("out"));
     Ok(())
 }
@@ -156,7 +108,7 @@ fn streams_are_made(rt: HostRuntime) -> Result<(), Fail> {
     make_all(&rt, rt.alloc(), LONG)?;
     make_all(&rt, rt.alloc(), 1)?;
     let description = described(rt.alloc(), &[])?;
-    let left = made(rt.alloc(), &description, 1, 5000)?;
+    let left = made(rt.alloc(), &description, &[], 1, 5000)?;
     assert!(rt; left.wrote("out", SEEDED_STREAM));
     Ok(())
 }
@@ -169,10 +121,10 @@ fn descriptions_are_limited(rt: HostRuntime) -> Result<(), Fail> {
     let missing = 1_048_576usize.saturating_sub(description.len());
     let padding = Vec::from_elem(rt.alloc(), b' ', missing)?;
     description.extend_from_slice(&padding)?;
-    let left = compiled(rt.alloc(), &description, LONG, 5000)?;
+    let left = compiled(rt.alloc(), &description, &[], LONG, 5000)?;
     assert!(rt; left.says(0, b"words 8 pages 1\n"));
     description.push(b' ')?;
-    let left = compiled(rt.alloc(), &description, LONG, 5000)?;
+    let left = compiled(rt.alloc(), &description, &[], LONG, 5000)?;
     assert!(rt; left.says(3, b"description: too long at 1048576\n") && left.lacks("out"));
     Ok(())
 }
@@ -227,9 +179,9 @@ fn ordinary(alloc: Global) -> Result<Vec<u8>, AllocError> {
 fn an_ordinary_field_is_captured(rt: HostRuntime) -> Result<(), Fail> {
     let alloc = rt.alloc();
     let description = ordinary(alloc)?;
-    let left = compiled(alloc, &description, LONG, 10_000)?;
+    let left = compiled(alloc, &description, &[], LONG, 10_000)?;
     assert!(rt; left.says(0, b"words 1438 pages 200\n"));
-    let left = made(alloc, &description, LONG, 2_000_000)?;
+    let left = made(alloc, &description, &[], LONG, 2_000_000)?;
     assert!(rt; left.says(0, b"fields 2 entries 169952\n"));
     let stream = left.desk.output("out").unwrap_or_default();
     assert_eq!(rt; stream.len(), 1_869_519);

@@ -32,8 +32,15 @@ pub fn are_parts(bytes: &[u8], parts: Parts) -> bool {
     rest.is_empty()
 }
 
+/// The numbers of the calls that fail.
+fn failures(alloc: Global, failing: &[u64]) -> Result<Vec<u64>, AllocError> {
+    let mut failures = Vec::new(alloc);
+    failures.extend_from_slice(failing)?;
+    Ok(failures)
+}
+
 /// The desk of `run program stream image`. A call whose number is in `failing` fails, and a call moves
-/// at most `longest` bytes.
+/// at most `longest` bytes. So it is with the desks below.
 pub fn run_desk(
     alloc: Global,
     program: &[u8],
@@ -60,13 +67,17 @@ pub fn run_desk(
         Octets::from_list(alloc, b"stream")?,
     ]?;
     let creates = vec![in alloc; Octets::from_list(alloc, b"image")?]?;
-    let mut failures = Vec::new(alloc);
-    failures.extend_from_slice(failing)?;
+    let failures = failures(alloc, failing)?;
     MemDesk::new(alloc, inputs, opens, creates, failures, longest, 5000)
 }
 
 /// The desk of `list program` and `verify program`.
-pub fn program_desk(alloc: Global, program: &[u8]) -> Result<MemDesk, AllocError>
+pub fn program_desk(
+    alloc: Global,
+    program: &[u8],
+    failing: &[u64],
+    longest: usize,
+) -> Result<MemDesk, AllocError>
     ensures opens { IfOk result (λ desk. (all_told desk).may_open ≡ Some (codes "program" ∷ [])) }
     ensures creates { IfOk result (λ desk. (all_told desk).may_create ≡ Some []) }
 {
@@ -77,19 +88,25 @@ pub fn program_desk(alloc: Global, program: &[u8]) -> Result<MemDesk, AllocError
         ),
     ]?;
     let opens = vec![in alloc; Octets::from_list(alloc, b"program")?]?;
+    let failures = failures(alloc, failing)?;
     MemDesk::new(
         alloc,
         inputs,
         opens,
         Vec::new(alloc),
-        Vec::new(alloc),
-        65536,
+        failures,
+        longest.max(1),
         5000,
     )
 }
 
 /// The desk of `assemble text program`.
-pub fn text_desk(alloc: Global, text: &[u8]) -> Result<MemDesk, AllocError>
+pub fn text_desk(
+    alloc: Global,
+    text: &[u8],
+    failing: &[u64],
+    longest: usize,
+) -> Result<MemDesk, AllocError>
     ensures opens { IfOk result (λ desk. (all_told desk).may_open ≡ Some (codes "text" ∷ [])) }
     ensures creates { IfOk result (λ desk. (all_told desk).may_create ≡ Some (codes "program" ∷ [])) }
 {
@@ -101,7 +118,16 @@ pub fn text_desk(alloc: Global, text: &[u8]) -> Result<MemDesk, AllocError>
     ]?;
     let opens = vec![in alloc; Octets::from_list(alloc, b"text")?]?;
     let creates = vec![in alloc; Octets::from_list(alloc, b"program")?]?;
-    MemDesk::new(alloc, inputs, opens, creates, Vec::new(alloc), 65536, 1000)
+    let failures = failures(alloc, failing)?;
+    MemDesk::new(
+        alloc,
+        inputs,
+        opens,
+        creates,
+        failures,
+        longest.max(1),
+        1000,
+    )
 }
 
 /// The desk of `run a a b`.
@@ -226,6 +252,7 @@ pub fn program_file(alloc: Global, case: &Compiled) -> Result<Vec<u8>, AllocErro
 pub fn description_desk(
     alloc: Global,
     description: &[u8],
+    failing: &[u64],
     longest: usize,
     room: usize,
 ) -> Result<MemDesk, AllocError>
@@ -240,12 +267,13 @@ pub fn description_desk(
     ]?;
     let opens = vec![in alloc; Octets::from_list(alloc, b"description")?]?;
     let creates = vec![in alloc; Octets::from_list(alloc, b"out")?]?;
+    let failures = failures(alloc, failing)?;
     MemDesk::new(
         alloc,
         inputs,
         opens,
         creates,
-        Vec::new(alloc),
+        failures,
         longest.max(1),
         room,
     )
@@ -282,8 +310,7 @@ pub fn field_desk(
         Octets::from_list(alloc, b"program")?,
         Octets::from_list(alloc, b"image")?,
     ]?;
-    let mut failures = Vec::new(alloc);
-    failures.extend_from_slice(failing)?;
+    let failures = failures(alloc, failing)?;
     MemDesk::new(
         alloc,
         inputs,
@@ -306,7 +333,13 @@ fn file(alloc: Global, name: &[u8], bytes: &[u8]) -> Result<(Octets, Octets), Al
 }
 
 /// The desk of `ring ring stream program image`.
-pub fn ring_desk(alloc: Global, ring: &[u8], stream: &[u8]) -> Result<MemDesk, AllocError>
+pub fn ring_desk(
+    alloc: Global,
+    ring: &[u8],
+    stream: &[u8],
+    failing: &[u64],
+    longest: usize,
+) -> Result<MemDesk, AllocError>
     ensures opens { IfOk result (λ desk. (all_told desk).may_open ≡ Some (codes "ring" ∷ codes "stream" ∷ [])) }
     ensures creates { IfOk result (λ desk. (all_told desk).may_create ≡ Some (codes "program" ∷ codes "image" ∷ [])) }
 {
@@ -322,7 +355,16 @@ pub fn ring_desk(alloc: Global, ring: &[u8], stream: &[u8]) -> Result<MemDesk, A
         Octets::from_list(alloc, b"program")?,
         Octets::from_list(alloc, b"image")?,
     ]?;
-    MemDesk::new(alloc, inputs, opens, creates, Vec::new(alloc), 65536, 10000)
+    let failures = failures(alloc, failing)?;
+    MemDesk::new(
+        alloc,
+        inputs,
+        opens,
+        creates,
+        failures,
+        longest.max(1),
+        10000,
+    )
 }
 
 /// The desk of `chain first second stream image`.
@@ -331,6 +373,8 @@ pub fn chain_desk(
     first: &[u8],
     second: &[u8],
     stream: &[u8],
+    failing: &[u64],
+    longest: usize,
 ) -> Result<MemDesk, AllocError>
     ensures opens { IfOk result (λ desk. (all_told desk).may_open ≡ Some (codes "first" ∷ codes "second" ∷ codes "stream" ∷ [])) }
     ensures creates { IfOk result (λ desk. (all_told desk).may_create ≡ Some (codes "image" ∷ [])) }
@@ -346,11 +390,26 @@ pub fn chain_desk(
         Octets::from_list(alloc, b"stream")?,
     ]?;
     let creates = vec![in alloc; Octets::from_list(alloc, b"image")?]?;
-    MemDesk::new(alloc, inputs, opens, creates, Vec::new(alloc), 65536, 10000)
+    let failures = failures(alloc, failing)?;
+    MemDesk::new(
+        alloc,
+        inputs,
+        opens,
+        creates,
+        failures,
+        longest.max(1),
+        10000,
+    )
 }
 
 /// The desk of `damage description stream`.
-pub fn damage_desk(alloc: Global, description: &[u8], stream: &[u8]) -> Result<MemDesk, AllocError>
+pub fn damage_desk(
+    alloc: Global,
+    description: &[u8],
+    stream: &[u8],
+    failing: &[u64],
+    longest: usize,
+) -> Result<MemDesk, AllocError>
     ensures opens { IfOk result (λ desk. (all_told desk).may_open ≡ Some (codes "description" ∷ codes "stream" ∷ [])) }
     ensures creates { IfOk result (λ desk. (all_told desk).may_create ≡ Some []) }
 {
@@ -362,13 +421,14 @@ pub fn damage_desk(alloc: Global, description: &[u8], stream: &[u8]) -> Result<M
         Octets::from_list(alloc, b"description")?,
         Octets::from_list(alloc, b"stream")?,
     ]?;
+    let failures = failures(alloc, failing)?;
     MemDesk::new(
         alloc,
         inputs,
         opens,
         Vec::new(alloc),
-        Vec::new(alloc),
-        65536,
+        failures,
+        longest.max(1),
         1000,
     )
 }

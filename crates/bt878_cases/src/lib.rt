@@ -4,6 +4,8 @@
 #[cfg(test)]
 mod buffers;
 #[cfg(test)]
+mod calls;
+#[cfg(test)]
 mod cases;
 #[cfg(test)]
 mod description_tests;
@@ -11,6 +13,8 @@ mod description_tests;
 mod descriptions;
 #[cfg(test)]
 mod desks;
+#[cfg(test)]
+mod failing;
 #[cfg(test)]
 mod left;
 #[cfg(test)]

@@ -1,7 +1,6 @@
+use crate::calls::{LONG, assembled, judged, listed, played};
 use crate::cases::{JUDGED, LISTED, ONE_LINE, ONE_LINE_STREAM, PLAYED, Parts, UNASSEMBLED};
-use crate::desks::{
-    are_parts, bare_desk, empty_desk, joined, program_desk, run_desk, text_desk, twice_desk,
-};
+use crate::desks::{are_parts, bare_desk, empty_desk, joined, twice_desk};
 use crate::left::Left;
 use bt878_top::bt878;
 use capture_desk::OsDesk;
@@ -9,48 +8,6 @@ use std::alloc::{AllocError, Global};
 use std::fs;
 use std::process::Abort;
 use std::test::Fail;
-
-fn listed(alloc: Global, program: &[u8]) -> Result<Left, AllocError> {
-    let mut desk = program_desk(alloc, program)?;
-    let answer = bt878(alloc, &["list", "program"], &mut desk);
-    Ok(Left {
-        status: answer.status(),
-        desk,
-    })
-}
-
-fn judged(alloc: Global, program: &[u8]) -> Result<Left, AllocError> {
-    let mut desk = program_desk(alloc, program)?;
-    let answer = bt878(alloc, &["verify", "program"], &mut desk);
-    Ok(Left {
-        status: answer.status(),
-        desk,
-    })
-}
-
-fn assembled(alloc: Global, text: &[u8]) -> Result<Left, AllocError> {
-    let mut desk = text_desk(alloc, text)?;
-    let answer = bt878(alloc, &["assemble", "text", "program"], &mut desk);
-    Ok(Left {
-        status: answer.status(),
-        desk,
-    })
-}
-
-fn played(
-    alloc: Global,
-    program: &[u8],
-    stream: &[u8],
-    failing: &[u64],
-    longest: usize,
-) -> Result<Left, AllocError> {
-    let mut desk = run_desk(alloc, program, stream, failing, longest.max(1))?;
-    let answer = bt878(alloc, &["run", "program", "stream", "image"], &mut desk);
-    Ok(Left {
-        status: answer.status(),
-        desk,
-    })
-}
 
 fn play_all(rt: &impl Abort, alloc: Global, longest: usize) -> Result<(), AllocError> {
     for case in &PLAYED {
@@ -65,7 +22,7 @@ fn play_all(rt: &impl Abort, alloc: Global, longest: usize) -> Result<(), AllocE
 #[test]
 fn programs_are_listed(rt: HostRuntime) -> Result<(), Fail> {
     for case in &LISTED {
-        let left = listed(rt.alloc(), case.program)?;
+        let left = listed(rt.alloc(), case.program, &[], LONG)?;
         assert!(rt; left.has(case.status, case.said, &[]));
     }
     Ok(())
@@ -80,7 +37,7 @@ fn listings_are_assembled(rt: HostRuntime) -> Result<(), Fail> {
         b"words 8 pages 1\n",
     ];
     for (case, said) in LISTED.iter().zip(words) {
-        let left = assembled(rt.alloc(), case.said)?;
+        let left = assembled(rt.alloc(), case.said, &[], LONG)?;
         assert!(rt; left.says(0, said));
         assert!(rt; left.wrote("program", case.program));
     }
@@ -90,7 +47,7 @@ fn listings_are_assembled(rt: HostRuntime) -> Result<(), Fail> {
 #[test]
 fn other_texts_are_refused(rt: HostRuntime) -> Result<(), Fail> {
     for (text, said) in &UNASSEMBLED {
-        let left = assembled(rt.alloc(), text)?;
+        let left = assembled(rt.alloc(), text, &[], LONG)?;
         assert!(rt; left.says(3, said));
         assert!(rt; left.lacks("program"));
     }
@@ -100,7 +57,7 @@ fn other_texts_are_refused(rt: HostRuntime) -> Result<(), Fail> {
 #[test]
 fn programs_are_judged(rt: HostRuntime) -> Result<(), Fail> {
     for case in &JUDGED {
-        let left = judged(rt.alloc(), case.program)?;
+        let left = judged(rt.alloc(), case.program, &[], LONG)?;
         assert!(rt; left.has(case.status, case.said, &[]));
     }
     Ok(())

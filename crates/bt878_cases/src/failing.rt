@@ -1,0 +1,213 @@
+// Each call of a desk fails, alone and with all that come after it, for each command.
+
+use crate::buffers::{CHAIN_STREAM, FIRST, RING, RING_STREAM, SECOND};
+use crate::calls::{
+    LONG, assembled, captured, chained, compiled, damaged, judged, listed, made, played, ringed,
+};
+use crate::cases::{ONE_LINE, ONE_LINE_LISTING, ONE_LINE_STREAM};
+use crate::left::Left;
+use std::alloc::{AllocError, Global};
+use std::process::Abort;
+use std::test::Fail;
+
+/// More calls than a command makes whose calls move many bytes.
+const CALLS: u64 = 60;
+
+/// A field of `FIRST` in which nothing comes.
+const STILL_STREAM: &[u8] = b"BFS1\x04\x04\x04\x06\x00";
+
+#[derive(Clone, Copy)]
+enum Command {
+    List,
+    Verify,
+    Assemble,
+    Compile,
+    Make,
+    Run,
+    Capture,
+    Damage,
+    Chain,
+    Ring,
+}
+
+static COMMANDS: [Command; 10] = [
+    Command::List,
+    Command::Verify,
+    Command::Assemble,
+    Command::Compile,
+    Command::Make,
+    Command::Run,
+    Command::Capture,
+    Command::Damage,
+    Command::Chain,
+    Command::Ring,
+];
+
+impl Command {
+    /// What the command leaves, on files that it takes.
+    fn tried(self, alloc: Global, failing: &[u64], longest: usize) -> Result<Left, AllocError> {
+        match self {
+            Command::List => listed(alloc, ONE_LINE, failing, longest),
+            Command::Verify => judged(alloc, ONE_LINE, failing, longest),
+            Command::Assemble => assembled(alloc, ONE_LINE_LISTING, failing, longest),
+            Command::Compile => compiled(alloc, FIRST, failing, longest, 5000),
+            Command::Make => made(alloc, FIRST, failing, longest, 5000),
+            Command::Run => played(alloc, ONE_LINE, ONE_LINE_STREAM, failing, longest),
+            Command::Capture => captured(alloc, FIRST, STILL_STREAM, failing, longest, 5000),
+            Command::Damage => damaged(alloc, FIRST, STILL_STREAM, failing, longest),
+            Command::Chain => chained(alloc, FIRST, SECOND, CHAIN_STREAM, failing, longest),
+            Command::Ring => ringed(alloc, RING, RING_STREAM, failing, longest),
+        }
+    }
+
+    /// The inputs of the command.
+    fn inputs(self) -> &'static [&'static [u8]] {
+        match self {
+            Command::List | Command::Verify => &[ONE_LINE],
+            Command::Assemble => &[ONE_LINE_LISTING],
+            Command::Compile | Command::Make => &[FIRST],
+            Command::Run => &[ONE_LINE, ONE_LINE_STREAM],
+            Command::Capture | Command::Damage => &[FIRST, STILL_STREAM],
+            Command::Chain => &[FIRST, SECOND, CHAIN_STREAM],
+            Command::Ring => &[RING, RING_STREAM],
+        }
+    }
+
+    /// How many outputs the command writes.
+    fn outputs(self) -> u64 {
+        match self {
+            Command::List | Command::Verify | Command::Damage => 0,
+            Command::Capture | Command::Ring => 2,
+            _ => 1,
+        }
+    }
+
+    /// How many calls read: each input is opened, read, in one call or byte by byte, and once more at its end.
+    fn reading_calls(self, longest: usize) -> u64 {
+        let mut calls = 0_u64;
+        for input in self.inputs() {
+            let pieces = if longest == 1 { input.len() } else { 1 };
+            calls = calls.saturating_add(2).saturating_add(pieces as u64);
+        }
+        calls
+    }
+}
+
+/// Whether a fault of reading was answered with this text: no output is created.
+fn ended_reading(left: &Left, said: &[u8]) -> bool {
+    left.says(4, said) && left.lacks("out") && left.lacks("program") && left.lacks("image")
+}
+
+/// Whether an output is not there, or is the beginning of what the command writes.
+fn began(left: &Left, whole: &Left, name: &str) -> bool {
+    left.began(name, whole.desk.output(name).unwrap_or_default())
+}
+
+/// Whether a fault of writing was answered: nothing is written but beginnings of what the command writes and says.
+fn ended_writing(left: &Left, whole: &Left) -> bool {
+    left.status == 5
+        && began(left, whole, "out")
+        && began(left, whole, "program")
+        && began(left, whole, "image")
+        && whole.desk.said().starts_with(left.desk.said())
+}
+
+/// Whether the command did all that it does.
+fn is_whole(left: &Left, whole: &Left) -> bool {
+    left.says(whole.status, whole.desk.said())
+        && left.desk.output("out") == whole.desk.output("out")
+        && left.desk.output("program") == whole.desk.output("program")
+        && left.desk.output("image") == whole.desk.output("image")
+}
+
+/// The numbers of a call and of those after it.
+fn from_there_on(alloc: Global, first: u64) -> Result<Vec<u64>, AllocError> {
+    let mut numbers = Vec::new(alloc);
+    for number in first..CALLS {
+        numbers.push(number)?;
+    }
+    Ok(numbers)
+}
+
+/// A call that reads fails alone: a fault of reading is said, and nothing else.
+fn each_reading_call_fails(
+    rt: &impl Abort,
+    alloc: Global,
+    command: Command,
+    longest: usize,
+) -> Result<(), AllocError> {
+    for number in 1..=command.reading_calls(longest) {
+        let left = command.tried(alloc, &[number], longest)?;
+        assert!(rt; ended_reading(&left, b"read fault\n"));
+        assert_eq!(rt; left.desk.faults(), [1, 0]);
+    }
+    Ok(())
+}
+
+/// A call that writes fails alone, up to the last: each output is created, written and finished, and a text is said.
+fn each_writing_call_fails(
+    rt: &impl Abort,
+    alloc: Global,
+    command: Command,
+) -> Result<(), AllocError> {
+    let whole = command.tried(alloc, &[], LONG)?;
+    let first = command.reading_calls(LONG).saturating_add(1);
+    let mut count = 0_u64;
+    for number in first..CALLS {
+        let left = command.tried(alloc, &[number], LONG)?;
+        if is_whole(&left, &whole) {
+            break;
+        }
+        assert!(rt; ended_writing(&left, &whole));
+        assert_eq!(rt; left.desk.faults(), [0, 1]);
+        count = count.saturating_add(1);
+    }
+    assert!(rt; command.outputs().saturating_mul(3).saturating_add(1) <= count);
+    Ok(())
+}
+
+/// All calls fail from one on: no text can be said of a fault of reading.
+fn all_calls_fail(rt: &impl Abort, alloc: Global, command: Command) -> Result<(), AllocError> {
+    let whole = command.tried(alloc, &[], LONG)?;
+    let reads = command.reading_calls(LONG);
+    let writes = command.outputs().saturating_mul(3).saturating_add(1);
+    for first in 1..=reads.saturating_add(writes) {
+        let failing = from_there_on(alloc, first)?;
+        let left = command.tried(alloc, &failing, LONG)?;
+        if first <= reads {
+            assert!(rt; ended_reading(&left, b""));
+        } else {
+            assert!(rt; ended_writing(&left, &whole));
+        }
+    }
+    Ok(())
+}
+
+#[test]
+fn one_call_of_each_command_fails(rt: HostRuntime) -> Result<(), Fail> {
+    for command in &COMMANDS {
+        each_reading_call_fails(&rt, rt.alloc(), *command, LONG)?;
+        each_writing_call_fails(&rt, rt.alloc(), *command)?;
+    }
+    Ok(())
+}
+
+#[test]
+fn all_calls_of_each_command_fail(rt: HostRuntime) -> Result<(), Fail> {
+    for command in &COMMANDS {
+        all_calls_fail(&rt, rt.alloc(), *command)?;
+    }
+    Ok(())
+}
+
+/// Where each call moves a byte, the same is written and said, and each call that reads can fail.
+#[test]
+fn each_command_works_byte_by_byte(rt: HostRuntime) -> Result<(), Fail> {
+    for command in &COMMANDS {
+        let whole = command.tried(rt.alloc(), &[], LONG)?;
+        let left = command.tried(rt.alloc(), &[], 1)?;
+        assert!(rt; is_whole(&left, &whole));
+        each_reading_call_fails(&rt, rt.alloc(), *command, 1)?;
+    }
+    Ok(())
+}
