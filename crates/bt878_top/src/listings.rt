@@ -42,7 +42,8 @@ pub fn list_file<D: Desk>(alloc: Global, name: &str, desk: &mut D) -> Result<Lis
     }
 }
 
-/// Says the lines of a program's words, piece by piece.
+/// Says the lines of a program's words, piece by piece. Its piece of text stands on the stack, so it is never inlined: a frame
+/// is touched page by page when it begins.
 #[inline(never)]
 fn say_words<D: Desk>(program: &Program, desk: &mut D) -> Result<(), Failed>
     ensures says { Puts (word_lines program.now.base 0 program.now.words) result after_say (D.seen desk.old).told (D.seen desk.new).told }
@@ -58,7 +59,7 @@ fn say_words<D: Desk>(program: &Program, desk: &mut D) -> Result<(), Failed>
     Ok(())
 }
 
-/// Says the first line of a listing.
+/// Says the first line of a listing; never inlined either.
 #[inline(never)]
 fn say_base<D: Desk>(base: u32, desk: &mut D) -> Result<(), Failed>
     ensures says { Puts (base_line base) result after_say (D.seen desk.old).told (D.seen desk.new).told }

@@ -1,8 +1,6 @@
 //! A machine that tells which rows of its fields are whole lines.
-ghost use Rattle.std.specs.Prelude.{◌≡◌, ◌+◌, true, false, IfOk, option_map};
-ghost use Rattle.dma_machine.specs.Facts.{IsMachine, report_of};
-ghost use Rattle.machine_model.specs.Seen.{seen};
-ghost use Rattle.machine_model.specs.declared.Did.TheVariants as Did;
+ghost use Rattle.std.specs.Prelude.{◌≡◌, ◌+◌, false, IfOk, option_map};
+ghost use Rattle.dma_machine.specs.Facts.{report_of};
 ghost use Rattle.irq_status.specs.Writes.{IsWrite};
 ghost use Rattle.machine_model.specs.Steps.{Control, Host, Push, Turn, control_pushed_as, host, push, push_control, pushed_as};
 ghost use Rattle.machine_model.specs.Turns.{turn};
@@ -11,7 +9,7 @@ ghost use Rattle.damage_map.specs.Maps.{mapped, rows_of, turns};
 ghost use Rattle.damage_map.specs.Tracks.{track_next, untold};
 
 use crate::track::Track;
-use dma_machine::{Did, Machine, Report};
+use dma_machine::{Machine, Report};
 use fifo_model::{Entry, Pushed, Queue};
 use irq_status::HostWrite;
 use page_ram::Ram;
@@ -82,24 +80,14 @@ impl<R: Ram> Mapped<R> {
         self.track.turn(self.machine.program(), &seen);
     }
 
-    // One turn, and whether it does nothing.
-    fn turn_is_still(&mut self) -> bool
-        ensures state { self.new ≡ mapped (turns 1) self.old }
-        ensures still { result ≡ true → (seen self.new.machine).did ≡ Did.Still }
-        ensures facts { IsMachine self.new.machine }
-    {
-        let seen = self.machine.turn_seen();
-        self.track.turn(self.machine.program(), &seen);
-        matches!(seen.did, Did::Still)
-    }
-
-    /// So many turns, as `Machine::turns`. From one on that does nothing the others do nothing either, and nothing is to
-    /// be noted of them.
+    /// So many turns, as `Machine::turns`. Where the machine stands still the others only count, and nothing is to be noted
+    /// of them.
     pub fn turns(&mut self, count: u32)
         ensures { self.new ≡ mapped (turns count) self.old }
     {
         for turn in 0..count {
-            if self.turn_is_still() {
+            self.turn();
+            if self.machine.stands_still() {
                 self.machine.turns(count - turn - 1);
                 return;
             }

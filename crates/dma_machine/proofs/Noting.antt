@@ -1,16 +1,21 @@
 -- What is noted of a burst, application by application, is what is seen of it.
-use Rattle.std.proofs.Common.{◌≡◌, ℕ, zero, suc, ◌-◌, ◌<◌, ◌++◌, Bool, true, false, List, [], ◌∷◌, Option, Some, None, refl, sym, ap, ◌∙◌, arith, if◌then◌else◌}
-use Rattle.std.specs.Prelude.{◌||◌}
+use Rattle.std.proofs.Common.{◌≡◌, ℕ, zero, suc, ◌-◌, ◌<◌, ◌++◌, Bool, true, false, not, List, [], ◌∷◌, Option, Some, None, refl, sym, ap, ◌∙◌, arith, if◌then◌else◌}
+use Rattle.std.specs.Prelude.{◌&&◌, ◌||◌, ◌==◌, ◌+◌}
 use Rattle.std.specs.List.{list_any}
 use Rattle.fifo_model.specs.declared.Queue.{Queue}
 use Rattle.machine_model.specs.declared.Did.{Did}
 use Rattle.machine_model.specs.declared.Did.TheVariants.{GivenUp, Moved}
 use Rattle.machine_model.specs.declared.Seen.{Seen}
-use Rattle.machine_model.specs.Seen.{Application, application, applications, discards_reserved, ends, gives_up, seen_alone, seen_burst, takes}
+use Rattle.sync_status.specs.declared.Verdict.{Verdict}
+use Rattle.sync_status.specs.declared.Verdict.TheVariants.{Take}
+use Rattle.sync_status.specs.Statuses.{is_end, kind_of, valid_bytes}
+use Rattle.machine_model.specs.Seen.{Application, application, applications, discards_reserved, discards_reserved_by, ends, ends_by, gives_up, gives_up_by, seen_alone, seen_burst, takes, takes_by, verdict_of}
 use Rattle.machine_model.specs.States.{State}
 use Rattle.machine_model.specs.Turns.{apply}
 use Rattle.dma_machine.specs.Needs.{Applied}
 use Rattle.dma_machine.specs.Noted.{all_noted, noted}
+use Rattle.dma_machine.specs.WholeTakes.{takes_whole}
+use Rattle.dma_machine.proofs.WholeTakes.{IsWhole, plain_whole}
 
 all_noted-append : (q : Queue) (first rest : List Application) (seen : Seen) → all_noted q (first ++ rest) seen ≡ all_noted q rest (all_noted q first seen)
 all_noted-append q [] rest seen = refl
@@ -76,3 +81,22 @@ all_noted-with_all q (a ∷ made) seen =
 
 pub all_noted-seen_burst : (q : Queue) (at : ℕ) (made : List Application) → all_noted q made (seen_alone (Moved q) at) ≡ seen_burst q at made
 all_noted-seen_burst q at made = all_noted-with_all q made (seen_alone (Moved q) at)
+
+-- what is noted of a front that is taken whole
+
+or_true : (one : Bool) → true ≡ (one || true)
+or_true true = refl
+or_true false = refl
+
+pub whole_noted : (q : Queue) (a : Application) (seen : Seen) → takes_whole (kind_of a.entry.status) a.demand.needs_sol a.taken a.demand.rest ≡ true →
+    record seen { took = true } ≡ noted q a seen
+whole_noted q a seen e =
+    let whole : IsWhole (kind_of a.entry.status) a.demand.needs_sol a.taken a.demand.rest = plain_whole _ _ _ _ e in
+    let verdict : Take 4 ≡ verdict_of a = sym whole.verdict in
+    let no_end : false ≡ is_end (kind_of a.entry.status) = sym whole.no_end in
+    same_seen _ _ seen.at _ _ _ _ _ _
+    (ap (λ (b : Bool). if b && a.taken + 4 == valid_bytes a.entry.status && not (a.demand.rest == 4) then GivenUp q else seen.did) no_end
+    ∙ ap (λ (v : Verdict). if gives_up_by v a then GivenUp q else seen.did) verdict)
+    (or_true seen.took ∙ ap (λ (v : Verdict). seen.took || takes_by v) verdict)
+    (sym (or_false seen.ended) ∙ ap (λ (b : Bool). seen.ended || (b && a.taken + 4 == valid_bytes a.entry.status)) no_end ∙ ap (λ (v : Verdict). seen.ended || ends_by v a) verdict)
+    (sym (or_false seen.reserved) ∙ ap (λ (v : Verdict). seen.reserved || discards_reserved_by v a) verdict)

@@ -15,7 +15,7 @@ use Rattle.dma_machine.specs.Counts.{acted, with_turns}
 use Rattle.dma_machine.specs.Stills.{StillIf, is_still, none_served, works_still}
 
 -- no queue is served where none of the three is
-none_lowest : (one two three : Bool) → (not one && not two && not three) ≡ true →
+pub none_lowest : (one two three : Bool) → (not one && not two && not three) ≡ true →
     (if one then Some One else (if two then Some Two else (if three then Some Three else None))) ≡ None
 none_lowest true two three e = absurd cc
 none_lowest false true three e = absurd cc
@@ -58,7 +58,7 @@ works_still-turns t Idle m = refl
 works_still-turns t (Waiting ctl resync code) m = refl
 works_still-turns t (Running instr ds) m = refl
 
-is_still-turns : (t : ℕ) (m : State) → is_still (with_turns t m) ≡ is_still m
+pub is_still-turns : (t : ℕ) (m : State) → is_still (with_turns t m) ≡ is_still m
 is_still-turns t m = ap (λ still. if m.risc_on then still else true) (works_still-turns t m.job m)
 
 -- counting leaves a flag that tells of it right
@@ -71,7 +71,10 @@ works_still-program program Idle m = refl
 works_still-program program (Waiting ctl resync code) m = refl
 works_still-program program (Running instr ds) m = refl
 
--- and so does another program
+-- with another program it stands still as before
+pub is_still-program : (program : RiscProgram) (m : State) → is_still (with_program program m) ≡ is_still m
+is_still-program program m = ap (λ still. if m.risc_on then still else true) (works_still-program program m.job m)
+
 pub StillIf-program : (program : RiscProgram) (flag : Bool) (m : State) → StillIf flag m → StillIf flag (with_program program m)
-StillIf-program program true m e = ap (λ still. if m.risc_on then still else true) (works_still-program program m.job m) ∙ e
+StillIf-program program true m e = is_still-program program m ∙ e
 StillIf-program program false m e = tt

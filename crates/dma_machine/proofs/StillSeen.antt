@@ -1,4 +1,4 @@
--- A turn that is seen to do nothing only counts.
+-- A turn that is seen to do nothing only counts, and that is seen wherever the machine stands still.
 use Rattle.std.proofs.Common.{◌≡◌, ℕ, Bool, true, false, not, Option, Some, None, Ok, refl, sym, ap, ◌∙◌, if◌then◌else◌, ◌==◌}
 use Rattle.std.specs.Prelude.{◌&&◌, is_none}
 use Rattle.std.specs.List.{list_any}
@@ -17,12 +17,13 @@ use Rattle.machine_model.specs.declared.Skipping.TheVariants.{Nothing, ToEol, To
 use Rattle.machine_model.specs.Paths.{fetch}
 use Rattle.machine_model.specs.Seen.{address_before, applications, data_did, fetched_did, gives_up, instr_did, seen, seen_if, seen_in, seen_running, seen_served, waited_did}
 use Rattle.machine_model.specs.States.{State}
-use Rattle.machine_model.specs.Turns.{common_code, is_done, is_served, lowest_stray}
+use Rattle.machine_model.specs.Turns.{common_code, counted, is_done, is_served, lowest_stray, turn}
 use Rattle.machine_model.proofs.Rows.{idle-IsFine}
-use Rattle.dma_machine.specs.Counts.{acted}
+use Rattle.dma_machine.specs.Counts.{acted, with_turns}
 use Rattle.dma_machine.specs.Facts.{IsMachine}
-use Rattle.dma_machine.specs.Stills.{none_served, works_still}
-use Rattle.dma_machine.proofs.Standing.{still_acted}
+use Rattle.dma_machine.specs.Stills.{is_still, none_served, works_still}
+use Rattle.dma_machine.proofs.Counting.{turn-acted}
+use Rattle.dma_machine.proofs.Standing.{none_lowest, still_acted}
 
 data_acts : (skipping : Skipping) → data_did skipping ≡ Still → ⊥
 data_acts Nothing e = cc
@@ -80,3 +81,29 @@ module _ (m : State) (machine : IsMachine m) where
 
   pub seen-acted : (seen m).did ≡ Still → acted m ≡ m
   seen-acted e = still_acted m (still_if m.risc_on e)
+
+-- where it stands still
+
+waiting_still : (stray : Option Queue) (code : Option Code) (awaited : Code) → (is_none stray && is_none code) ≡ true → waited_did stray code awaited ≡ Still
+waiting_still (Some q) code awaited e = absurd cc
+waiting_still None (Some code) awaited e = absurd cc
+waiting_still None None awaited e = refl
+
+running_still : (done : Bool) (at : ℕ) (ds : Demands) (m : State) → (not done && none_served ds m) ≡ true → (seen_running done at ds m).did ≡ Still
+running_still true at ds m e = absurd cc
+running_still false at ds m e = ap (λ q. (seen_served q at m).did) (none_lowest (is_served One ds m) (is_served Two ds m) (is_served Three ds m) e)
+
+job_still : (job : Job) (m : State) → works_still job m ≡ true → (seen_in job m).did ≡ Still
+job_still Idle m e = absurd cc
+job_still (Waiting ctl resync code) m e = waiting_still (lowest_stray m.queues) (common_code m.queues) code e
+job_still (Running instr ds) m e = running_still (is_done ds) (address_before m.pc instr) ds m e
+
+still_seen_if : (on : Bool) (m : State) → (if on then works_still m.job m else true) ≡ true → (seen_if on m).did ≡ Still
+still_seen_if false m e = refl
+still_seen_if true m e = job_still m.job m e
+
+pub still_seen : (m : State) → is_still m ≡ true → (seen m).did ≡ Still
+still_seen m e = still_seen_if m.risc_on m e
+
+pub still_counts : (m : State) → is_still m ≡ true → turn m ≡ counted m
+still_counts m e = turn-acted m ∙ ap (with_turns (counted m).turns) (still_acted m e)

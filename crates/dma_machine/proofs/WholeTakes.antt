@@ -5,7 +5,7 @@ use Rattle.std.proofs.lemmas.Bool.{and_parts}
 use Rattle.sync_status.specs.declared.StatusKind.{StatusKind}
 use Rattle.sync_status.specs.declared.StatusKind.TheVariants.{Pixels, Start, End, Control, Reserved}
 use Rattle.sync_status.specs.declared.Verdict.TheVariants.{Take}
-use Rattle.sync_status.specs.Statuses.{valid_lanes, verdict_on}
+use Rattle.sync_status.specs.Statuses.{is_end, valid_lanes, verdict_on}
 use Rattle.dma_machine.specs.WholeTakes.{takes_whole}
 
 -- it has four bytes, none of which is taken, and they are asked for
@@ -14,6 +14,7 @@ pub record IsWhole (kind : StatusKind) (sol : Bool) (taken rest : ℕ) : Type 0 
   pub none : taken ≡ 0
   pub valid : valid_lanes kind ≡ 4
   pub asked : 4 ≤ rest
+  pub no_end : is_end kind ≡ false
 
 pub plain_whole : (kind : StatusKind) (sol : Bool) (taken rest : ℕ) → takes_whole kind sol taken rest ≡ true → IsWhole kind sol taken rest
 plain_whole Pixels false taken rest e =
@@ -21,7 +22,7 @@ plain_whole Pixels false taken rest e =
     let none : taken ≡ 0 = grind (arith, parts.0) in
     let asked : 4 ≤ rest = grind (arith, parts.1) in
     let four : min rest (4 - taken) ≡ 4 = omega arith in
-    record { verdict = ap Take four; none = none; valid = refl; asked = asked }
+    record { verdict = ap Take four; none = none; valid = refl; asked = asked; no_end = refl }
 plain_whole Pixels true taken rest e = absurd cc
 plain_whole Start sol taken rest e = absurd cc
 plain_whole (End count) sol taken rest e = absurd cc

@@ -4,11 +4,13 @@ use Rattle.fifo_model.specs.declared.Queue.{Queue}
 use Rattle.fifo_model.specs.Queues.{front, queue_state}
 use Rattle.risc_word.specs.declared.Instr.{Instr}
 use Rattle.machine_model.specs.declared.Demands.{Demands}
+use Rattle.machine_model.specs.declared.Did.{Did}
+use Rattle.machine_model.specs.declared.Did.TheVariants.{Retired}
 use Rattle.machine_model.specs.declared.Job.{Job}
 use Rattle.machine_model.specs.declared.Job.TheVariants.{Idle, Running}
 use Rattle.machine_model.specs.Paths.{RiscProgram}
 use Rattle.machine_model.specs.Safety.{IsSafe}
-use Rattle.machine_model.specs.Seen.{StandsAt}
+use Rattle.machine_model.specs.Seen.{StandsAt, seen}
 use Rattle.machine_model.specs.States.{State}
 use Rattle.machine_model.specs.Steps.{with_program}
 use Rattle.machine_model.specs.Turns.{is_done}
@@ -20,6 +22,14 @@ fetches_at _ _ pc = None
 
 abbrev pub next_fetch : State → Option ℕ
 next_fetch m = fetches_at m.risc_on m.job m.pc
+
+-- where the instruction stands that the next turn retires, if it retires one
+abbrev pub retired_at : Did → ℕ → Option ℕ
+retired_at Retired at = Some at
+retired_at _ at = None
+
+abbrev pub next_retirement : State → Option ℕ
+next_retirement m = retired_at (seen m).did (seen m).at
 
 -- whether a queue holds an entry
 abbrev pub holds : Queue → State → Bool

@@ -31,7 +31,7 @@ pub struct Wait {
     pub code: Code,
 }
 
-/// The machine's parts, those that each turn asks for first. `wait` means something while it waits, `instr`
+/// The machine's parts, those that each turn asks for first: near the front they are reached by shorter instructions. `wait` means something while it waits, `instr`
 /// and `demands` while it runs.
 #[derive(Drop)]
 pub struct Engine<R> {
@@ -46,7 +46,7 @@ pub struct Engine<R> {
     pub moved: u64,
     pub queues: Fifo,
     pub instr: Instr,
-    /// The lanes that the instruction has off.
+    /// The lanes that the instruction has off, found once when it begins.
     pub off: u8,
     pub wait: Wait,
     pub interrupts: IntStat,
@@ -59,7 +59,8 @@ pub struct Engine<R> {
     ghost lanes: { off ≡ instr_off instr },
 }
 
-/// Rows of a turn, each on its own.
+/// Rows of a turn, each on its own. What happens once an instruction or less is cold, so that the compiler lays out the
+/// moves of a DWORD in a row.
 impl<R: Ram> Engine<R> {
     ghost use Rattle.dma_machine.specs.Needs.{CanBegin, CtlFits, IsAddress};
     ghost use Rattle.dma_machine.specs.Views.{state_of};

@@ -4,17 +4,19 @@
 
 ghost use Rattle.dma_machine.specs.Counts.{acted, with_turns};
 ghost use Rattle.dma_machine.specs.Facts.{IsMachine, report_of};
-ghost use Rattle.dma_machine.specs.Looks.{CanGoOn, RetiresAt, holds, next_fetch};
+ghost use Rattle.dma_machine.specs.Looks.{CanGoOn, RetiresAt, holds, next_fetch, next_retirement};
+ghost use Rattle.dma_machine.specs.Stills.{is_still};
 ghost use Rattle.fifo_model.specs.Queues.{empty_queues, more, empty_fifo};
 ghost use Rattle.irq_status.specs.Register.{has_ocerr};
 ghost use Rattle.irq_status.specs.Writes.{IsWrite};
 ghost use Rattle.machine_model.specs.Safety.{StaysInside};
+ghost use Rattle.machine_model.specs.declared.Did.TheVariants.{Still};
 ghost use Rattle.machine_model.specs.Seen.{seen};
 ghost use Rattle.machine_model.specs.States.{started};
 ghost use Rattle.machine_model.specs.Steps.{Turn, control_pushed_as, host, push, push_control, pushed_as, run, with_program};
 ghost use Rattle.machine_model.specs.Turns.{counted, turn};
 ghost use Rattle.page_table.specs.Blocks.{chunks_of};
-ghost use Rattle.std.specs.Prelude.{◌≡◌, ◌<◌, ◌^◌, false, replicate};
+ghost use Rattle.std.specs.Prelude.{◌≡◌, ◌<◌, ◌^◌, false, replicate, true};
 ghost use Rattle.sync_status.specs.Statuses.{is_control, kind_of};
 
 mod engine;
@@ -194,6 +196,28 @@ impl<R: Ram> Machine<R> {
         ensures facts { IsMachine self.now }
     {
         self.engine.next_fetch()
+    }
+
+    /// The address of the instruction that the next turn retires. None exactly where the next turn retires none.
+    #[inline]
+    pub fn next_retirement(&self) -> Option<u32>
+        ensures address { result ≡ next_retirement self.now }
+        ensures facts { IsMachine self.now }
+    {
+        self.engine.next_retirement()
+    }
+
+    /// Whether turns only count until a push or a write of the host comes: RISC is disabled, a SYNC waits and no queue has
+    /// a front that it could drop or match, or a data instruction runs and none of the queues of which it asks something is
+    /// ready.
+    #[inline]
+    pub fn stands_still(&self) -> bool
+        ensures still { result ≡ is_still self.now }
+        ensures counts { result ≡ true → turn self.now ≡ counted self.now }
+        ensures seen { result ≡ true → (seen self.now).did ≡ Still }
+        ensures facts { IsMachine self.now }
+    {
+        self.engine.stands_still()
     }
 
     /// Whether a queue holds an entry, which a host write that disables the FIFO would lose.

@@ -6,7 +6,7 @@ ghost use Rattle.std.specs.Prelude.{◌≡◌, ◌+◌, ◌<◌, ◌≤◌, ◌�
 ghost use Rattle.sync_status.specs.Statuses.{is_end, kind_of, valid_bytes};
 
 use crate::engine::{Engine, Phase};
-use crate::parts::{demand_on, is_cut_short, is_done, length_in_words};
+use crate::parts::{demand_on, is_cut_short, is_done, length_in_words, takes_whole};
 use crate::program::instr_at;
 use fifo_model::{Entry, Queue};
 use machine_model::{Demand, Did, Seen, Skipping};
@@ -57,8 +57,10 @@ fn ends_line(entry: Entry, taken: u8, count: u8) -> bool
     }
 }
 
-/// What is seen, with an application to an entry of which `taken` bytes were taken before.
-fn with_application(seen: Seen, q: Queue, entry: Entry, taken: u8, demand: Demand) -> Seen
+/// What is seen, with an application to an entry of which `taken` bytes were taken before, by its verdict.
+#[cold]
+#[inline(never)]
+fn with_verdict(seen: Seen, q: Queue, entry: Entry, taken: u8, demand: Demand) -> Seen
     requires asked { 1 ≤ demand.rest }
     requires within { (taken ≡ 0) ⊎ (taken < valid_bytes entry.status) }
     ensures { result ≡ noted q (record { entry = entry; taken = taken; demand = demand }) seen }
@@ -85,9 +87,24 @@ fn with_application(seen: Seen, q: Queue, entry: Entry, taken: u8, demand: Deman
     }
 }
 
+/// The same, quick where the entry is taken whole.
+#[inline(always)]
+fn with_application(seen: Seen, q: Queue, entry: Entry, taken: u8, demand: Demand) -> Seen
+    requires asked { 1 ≤ demand.rest }
+    requires within { (taken ≡ 0) ⊎ (taken < valid_bytes entry.status) }
+    ensures { result ≡ noted q (record { entry = entry; taken = taken; demand = demand }) seen }
+{
+    if takes_whole(entry.status, demand.needs_sol, taken, demand.rest) {
+        Seen { took: true, ..seen }
+    } else {
+        with_verdict(seen, q, entry, taken, demand)
+    }
+}
+
 impl<R: Ram> Engine<R> {
     ghost use Rattle.dma_machine.specs.Counts.{acted};
     ghost use Rattle.dma_machine.specs.Needs.{Applied, CanWork, IsAddress};
+    ghost use Rattle.dma_machine.specs.Looks.{next_retirement};
     ghost use Rattle.dma_machine.specs.Noted.{all_noted};
     ghost use Rattle.dma_machine.specs.Stills.{StillIf};
     ghost use Rattle.dma_machine.specs.Views.{state_of};
@@ -128,6 +145,7 @@ impl<R: Ram> Engine<R> {
     }
 
     /// What is seen, with the next application to a queue, if there is one.
+    #[inline(always)]
     fn with_next(&self, seen: Seen, q: Queue) -> Seen
         ensures { result ≡ all_noted q (application q (state_of R.memory self.now)) seen }
     {
@@ -144,6 +162,7 @@ impl<R: Ram> Engine<R> {
     }
 
     /// Makes the next application to a queue and notes it; whether there was one.
+    #[inline(always)]
     fn apply_seen(&mut self, q: Queue, seen: &mut Seen) -> bool
         requires { demands_cause (chunks_of (R.memory self.old.ram)) self.old.demands ≡ None }
         ensures seen { seen.new ≡ all_noted q (application q (state_of R.memory self.old)) seen.old }
@@ -155,7 +174,8 @@ impl<R: Ram> Engine<R> {
     }
 
     /// A burst from a queue that is served, up to the trigger point, by the instruction at an address.
-    fn burst_seen(&mut self, q: Queue, at: u32) -> Seen
+    #[inline(always)]
+    fn burst_seen_on(&mut self, q: Queue, at: u32) -> Seen
         requires { demands_cause (chunks_of (R.memory self.old.ram)) self.old.demands ≡ None }
         ensures state { state_of R.memory self.new ≡ burst self.old.trigger q (state_of R.memory self.old) }
         ensures seen { result ≡ seen_burst q at (applications self.old.trigger q (state_of R.memory self.old)) }
@@ -166,6 +186,19 @@ impl<R: Ram> Engine<R> {
             left -= 1;
         }
         seen
+    }
+
+    /// The same, by a loop of its own for each queue.
+    fn burst_seen(&mut self, q: Queue, at: u32) -> Seen
+        requires { demands_cause (chunks_of (R.memory self.old.ram)) self.old.demands ≡ None }
+        ensures state { state_of R.memory self.new ≡ burst self.old.trigger q (state_of R.memory self.old) }
+        ensures seen { result ≡ seen_burst q at (applications self.old.trigger q (state_of R.memory self.old)) }
+    {
+        match q {
+            Queue::One => self.burst_seen_on(Queue::One, at),
+            Queue::Two => self.burst_seen_on(Queue::Two, at),
+            Queue::Three => self.burst_seen_on(Queue::Three, at),
+        }
     }
 
     /// A turn of a machine that runs the instruction at an address.
@@ -182,6 +215,20 @@ impl<R: Ram> Engine<R> {
         match self.lowest_served() {
             Some(q) => self.burst_seen(q, at),
             None => seen_alone(Did::Still, at),
+        }
+    }
+
+    /// Where the instruction stands that the next turn retires, if it retires one.
+    #[inline]
+    pub fn next_retirement(&self) -> Option<u32>
+        requires { self.now.pc < 2 ^ 32 }
+        ensures { result ≡ next_retirement (state_of R.memory self.now) }
+    {
+        match self.phase {
+            Phase::Running if self.risc_on && is_done(&self.demands) => {
+                Some(self.address_before(length_in_words(&self.instr)))
+            }
+            _ => None,
         }
     }
 

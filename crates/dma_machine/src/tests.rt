@@ -344,14 +344,18 @@ fn saw_alone(did: Did, at: u32) -> Seen {
 // Whether this is seen of the next turns.
 fn sees(m: &mut Machine<MapRam>, want: &[Seen]) -> bool {
     for seen in want {
-        if m.turn_seen() != *seen {
+        let is_still = matches!(seen.did, Did::Still);
+        let retires = matches!(seen.did, Did::Retired).then_some(seen.at);
+        if m.stands_still() != is_still
+            || m.next_retirement() != retires
+            || m.turn_seen() != *seen
+        {
             return false;
         }
     }
     true
 }
 
-// All turns of a line, and what is asked between them.
 #[test]
 fn turns_are_seen(rt: HostRuntime) -> Result<(), Fail> {
     let mut m = machine::<Brand>(rt.alloc(), &ONE_LINE, 0, Blank::new(1))?;

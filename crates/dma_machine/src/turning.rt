@@ -66,6 +66,15 @@ impl<R: Ram> Engine<R> {
         }
     }
 
+    /// Whether turns do nothing but count, also where the flag doesn't tell it yet.
+    #[inline]
+    pub fn stands_still(&self) -> bool
+        requires { StillIf self.now.still (state_of R.memory self.now) }
+        ensures { result ≡ is_still (state_of R.memory self.now) }
+    {
+        self.still || self.is_still()
+    }
+
     /// Counts turns, which are taken then.
     #[inline(always)]
     pub fn count(&mut self, count: u32)
@@ -76,7 +85,8 @@ impl<R: Ram> Engine<R> {
         self.turns = self.turns.saturating_add(u64::from(count));
     }
 
-    /// Takes a turn that is counted, and finds out whether those after it do nothing.
+    /// Takes a turn that is counted, and finds out whether those after it do nothing. It is never inlined: within the loop
+    /// over the records of a piece the compiler has too few registers for it.
     #[inline(never)]
     fn act_anew(&mut self)
         requires { CanWork (state_of R.memory self.old).job (state_of R.memory self.old) }

@@ -1,8 +1,9 @@
--- One turn of a ring's machine: the block that is seen to end is the block that ends.
-use Rattle.std.proofs.Common.{◌≡◌, ℕ, ◌+◌, List, [], ◌∷◌, None, sym, ap, ◌∙◌, arith}
+-- One turn of a ring's machine: the block at the address that retires is the block that ends.
+use Rattle.std.proofs.Common.{◌≡◌, ℕ, ◌+◌, List, [], ◌∷◌, Option, Some, None, refl, sym, ap, ◌∙◌, arith}
+use Rattle.std.specs.Prelude.{option_and_then}
 use Rattle.fifo_model.specs.Queues.{more}
-use Rattle.machine_model.specs.declared.Did.TheVariants.{Still}
-use Rattle.machine_model.specs.declared.Seen.{Seen}
+use Rattle.machine_model.specs.declared.Did.{Did}
+use Rattle.machine_model.specs.declared.Did.TheVariants.{Retired, Still}
 use Rattle.machine_model.specs.Safety.{IsSafe}
 use Rattle.machine_model.specs.Seen.{seen}
 use Rattle.machine_model.specs.States.{State}
@@ -10,35 +11,38 @@ use Rattle.machine_model.specs.Steps.{Step, Turn, run}
 use Rattle.machine_model.specs.Turns.{counted, turn}
 use Rattle.machine_model.proofs.Runs.{program-run}
 use Rattle.ring_model.specs.Rings.{Ring, ends}
-use Rattle.ring_model.specs.Runs.{block_end, end_by, end_seen, one_if}
+use Rattle.dma_machine.specs.Looks.{next_retirement, retired_at}
+use Rattle.ring_model.specs.Runs.{BlockAt, block_end, end_by, end_seen, one_if}
 use Rattle.ring_law.proofs.Seeing.{turns_seen_end_blocks}
 use Rattle.ring_machine.specs.States.{IsRingMachine, RingState, StandsStill, ran}
-use Rattle.ring_machine.proofs.Standing.{counted_stands}
 
 -- the program stays
 pub ran_stays : (ring : Ring) (m after : State) (steps : List Step) → IsRingMachine ring m → after ≡ run m steps → IsRingMachine ring after
 ran_stays ring m after steps is e =
     record { is_ring = is.is_ring; same = ap (λ (s : State). s.program) e ∙ program-run m steps ∙ is.same }
 
-module _ (ring : Ring) (m : State) (blocks : ℕ) (is : IsRingMachine ring m) (safe : IsSafe m) (was : Seen) (saw : was ≡ seen m) where
-  abbrev before : RingState
-  before = record { ring = ring; machine = m; blocks = blocks }
+-- what retires at an address ends the block there
+ended_there : (at : BlockAt) (did : Did) (address : ℕ) → option_and_then at (retired_at did address) ≡ end_by at did address
+ended_there at Retired address = refl
+ended_there at did address = refl
 
-  end_is : end_seen (ends ring) was ≡ block_end (ends ring) m Turn
-  end_is = ap (end_seen (ends ring)) saw ∙ turns_seen_end_blocks ring m is.is_ring is.same safe
+module _ (ring : Ring) (m : State) (is : IsRingMachine ring m) (safe : IsSafe m) where
+  end_is : end_seen (ends ring) (seen m) ≡ block_end (ends ring) m Turn
+  end_is = turns_seen_end_blocks ring m is.is_ring is.same safe
 
-  pub turn_ran : (after : State) → after ≡ turn m → record { ring = ring; machine = after; blocks = more blocks (one_if (end_seen (ends ring) was)) } ≡ ran (Turn ∷ []) before
-  turn_ran after e =
-      let one : one_if (end_seen (ends ring) was) ≡ one_if (block_end (ends ring) m Turn) + 0 = ap one_if end_is ∙ (omega arith) in
-      ap (λ (s : State). record { ring = ring; machine = s; blocks = more blocks (one_if (end_seen (ends ring) was)) }) e
-      ∙ ap (λ (n : ℕ). record { ring = ring; machine = turn m; blocks = more blocks n }) one
+  -- the block that the next turn ends
+  pub next_end_is : option_and_then (ends ring) (next_retirement m) ≡ block_end (ends ring) m Turn
+  next_end_is = ended_there (ends ring) (seen m).did (seen m).at ∙ end_is
 
-  -- a turn that is seen to do nothing leaves a machine that stands still
-  pub turn_stands : (after : State) (n : ℕ) → after ≡ counted m → after ≡ turn m → was.did ≡ Still → StandsStill (record { ring = ring; machine = after; blocks = n })
-  turn_stands after n still e did =
-      let stood : turn m ≡ counted m = sym e ∙ still in
-      let none : block_end (ends ring) m Turn ≡ None = sym end_is ∙ ap (λ d. end_by (ends ring) d was.at) did in
-      record {
-        still = ap turn still ∙ counted_stands m stood ∙ ap counted (sym still);
-        ends_none = ap (λ (s : State). block_end (ends ring) s Turn) still ∙ none;
-      }
+  -- a turn that does nothing ends none
+  pub stands : (blocks : ℕ) → turn m ≡ counted m → (seen m).did ≡ Still → StandsStill (record { ring = ring; machine = m; blocks = blocks })
+  stands blocks still did =
+      record { still = still; ends_none = sym end_is ∙ ap (λ (d : Did). end_by (ends ring) d (seen m).at) did }
+
+-- one turn
+pub turn_ran : (ring : Ring) (m after : State) (blocks : ℕ) (ended : Option ℕ) → ended ≡ block_end (ends ring) m Turn → after ≡ turn m →
+    record { ring = ring; machine = after; blocks = more blocks (one_if ended) } ≡ ran (Turn ∷ []) (record { ring = ring; machine = m; blocks = blocks })
+turn_ran ring m after blocks ended is e =
+    let one : one_if ended ≡ one_if (block_end (ends ring) m Turn) + 0 = ap one_if is ∙ (omega arith) in
+    ap (λ (s : State). record { ring = ring; machine = s; blocks = more blocks (one_if ended) }) e
+    ∙ ap (λ (n : ℕ). record { ring = ring; machine = turn m; blocks = more blocks n }) one

@@ -9,10 +9,10 @@ ghost use Rattle.machine_model.specs.Steps.{Control, Host, Push, Turn};
 ghost use Rattle.machine_model.specs.States.{State};
 ghost use Rattle.ring_machine.specs.States.{StandsStill, ran};
 ghost use Rattle.ring_model.specs.Rings.{ends, ring_program};
-ghost use Rattle.ring_model.specs.Runs.{end_seen, one_if};
+ghost use Rattle.ring_model.specs.Runs.{block_end, one_if};
 ghost use Rattle.sync_status.specs.Statuses.{is_control, kind_of};
 
-use dma_machine::{Did, Machine, Report, Seen};
+use dma_machine::{Machine, Report};
 use fifo_model::{Entry, Queue};
 use irq_status::HostWrite;
 use page_ram::Ram;
@@ -80,17 +80,17 @@ impl<R: Ram> RingMachine<R> {
         self.machine.host(write);
     }
 
-    /// The block that a turn has ended.
-    fn block_ended(&self, seen: &Seen) -> Option<u8>
-        ensures { result ≡ end_seen (ends self.now.ring) seen.now }
+    /// The block that the next turn ends.
+    #[inline]
+    fn next_end(&self) -> Option<u8>
+        ensures { result ≡ block_end (ends self.now.ring) self.now.machine Turn }
     {
-        match seen.did {
-            Did::Retired => self.ring.ends(seen.at),
-            _ => None,
-        }
+        let address = self.machine.next_retirement()?;
+        self.ring.ends(address)
     }
 
-    /// Counts a block, where one was ended.
+    /// Counts a block, where one is ended.
+    #[inline]
     fn count_block(&mut self, ended: Option<u8>)
         ensures { self.new ≡ record self.old { blocks = more self.old.blocks (one_if ended) } }
     {
@@ -99,17 +99,22 @@ impl<R: Ram> RingMachine<R> {
         }
     }
 
-    /// Takes one turn; whether those after it do nothing.
-    fn turn(&mut self) -> bool
-        ensures state { self.new ≡ ran (Turn ∷ []) self.old }
-        ensures still { result ≡ true → StandsStill self.new }
+    /// Takes one turn, and counts the block that it ends.
+    #[inline]
+    fn turn(&mut self)
+        ensures { self.new ≡ ran (Turn ∷ []) self.old }
     {
-        // the call tells that the machine is safe
-        let _program = self.machine.program();
-        let seen = self.machine.turn_seen();
-        let ended = self.block_ended(&seen);
+        let ended = self.next_end();
         self.count_block(ended);
-        matches!(seen.did, Did::Still)
+        self.machine.turn();
+    }
+
+    /// Whether the machine stands still.
+    #[inline]
+    fn stands_still(&self) -> bool
+        ensures { result ≡ true → StandsStill self.now }
+    {
+        self.machine.stands_still()
     }
 
     /// Takes so many turns of a machine that stands still: they are counted.
@@ -131,7 +136,8 @@ impl<R: Ram> RingMachine<R> {
         let mut left = count;
         while left > 0 {
             left -= 1;
-            if self.turn() {
+            self.turn();
+            if self.stands_still() {
                 self.stand(left);
                 return;
             }

@@ -1,4 +1,5 @@
 pub mod Wheels
+pub mod StillTurns
 pub mod Turning
 pub mod Counted
 pub mod Counting

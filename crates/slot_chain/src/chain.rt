@@ -96,11 +96,12 @@ impl<R: Ram + Drop> Chain<R> {
 }
 
 impl<R: Ram> Chain<R> {
-    ghost use Rattle.std.specs.Prelude.{◌≡◌, ◌<◌, false};
+    ghost use Rattle.std.specs.Prelude.{◌≡◌, ◌<◌, false, true};
     ghost use Rattle.sync_status.specs.Statuses.{is_control, kind_of};
     ghost use Rattle.irq_status.specs.Writes.{IsWrite};
     ghost use Rattle.machine_model.specs.Steps.{Control, Host, Push, Turn, control_pushed_as, pushed_as};
     ghost use Rattle.dma_machine.specs.Facts.{report_of};
+    ghost use Rattle.dma_machine.specs.Stills.{is_still};
     ghost use Rattle.chain_model.specs.Chains.{Belongs};
     ghost use Rattle.chain_model.specs.Live.{LiveInside, Patch, Plain};
     ghost use Rattle.slot_chain.specs.States.{lived, turned};
@@ -137,12 +138,33 @@ impl<R: Ram> Chain<R> {
         self.wheel.machine.turn();
     }
 
+    /// Whether the machine stands still: it fetches nothing, so no slot is asked for.
+    #[inline]
+    fn stands_still(&self) -> bool
+        ensures { result ≡ is_still self.now.live.machine }
+    {
+        self.wheel.machine.stands_still()
+    }
+
+    /// So many turns of a machine that stands still.
+    #[inline]
+    fn stand(&mut self, count: u32)
+        requires { is_still self.old.live.machine ≡ true }
+        ensures { self.new ≡ turned count self.old }
+    {
+        self.wheel.machine.turns(count);
+    }
+
     /// So many turns of the controller.
     pub fn turns(&mut self, count: u32)
         ensures { self.new ≡ turned count self.old }
     {
-        for _turn in 0..count {
+        for turn in 0..count {
             self.turn();
+            if self.stands_still() {
+                self.stand(count - turn - 1);
+                return;
+            }
         }
     }
 

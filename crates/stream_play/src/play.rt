@@ -56,7 +56,8 @@ fn hand_plain<P: Player>(player: &mut P, reader: &mut StepReader, piece: &[u8]) 
 }
 
 /// Hands the data pushes and the turns at the front of a piece to the player, up to where another
-/// record stands or the piece ends, and answers how many bytes their records have.
+/// record stands or the piece ends, and answers how many bytes their records have. Meanwhile the reader stands in a place of
+/// the function's own, so that what it counts is at hand for each record.
 #[inline(never)]
 fn hand_run<P: Player>(player: &mut P, reader: &mut StepReader, piece: &[u8]) -> usize
     requires form { ReadsForm P.has_slots reader.old }

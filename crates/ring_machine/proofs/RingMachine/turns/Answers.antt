@@ -19,14 +19,14 @@ loop-left-init g c = record { taken = refl; few = omega (arith, c.blocks-blocks.
 pub loop-left-preserved : goal.loop-left-preserved
 loop-left-preserved g c =
     record {
-      taken = taken c.args.count c.loop-left.left c.loop-left.self c.turn.new.self c.args.self.now (omega (arith, c.loop-left-test.true)) c.turn.ensures.state c.loop-left.invariant.taken;
-      few = few_after c.loop-left.self c.turn.new.self c.turn.ensures.state;
+      taken = taken c.args.count c.loop-left.left c.loop-left.self c.turn.new.self c.args.self.now (omega (arith, c.loop-left-test.true)) c.turn.ensures c.loop-left.invariant.taken;
+      few = few_after c.loop-left.self c.turn.new.self c.turn.ensures;
     }
 
-pub returns-then-turn : goal.returns-then-turn
-returns-then-turn g c =
+pub returns-then-stands_still : goal.returns-then-stands_still
+returns-then-stands_still g c =
     c.stand.ensures
-    ∙ taken c.args.count c.loop-left.left c.loop-left.self c.turn.new.self c.args.self.now (omega (arith, c.loop-left-test.true)) c.turn.ensures.state c.loop-left.invariant.taken
+    ∙ taken c.args.count c.loop-left.left c.loop-left.self c.turn.new.self c.args.self.now (omega (arith, c.loop-left-test.true)) c.turn.ensures c.loop-left.invariant.taken
 
 pub returns : goal.returns
 returns g c =

@@ -4,7 +4,7 @@ use Rattle.dma_machine.specs.Noted.{all_noted}
 use Rattle.dma_machine.specs.Views.{state_of}
 use Rattle.dma_machine.proofs.Bursts.{burst-applied}
 use Rattle.dma_machine.proofs.Noting.{all_noted-seen_burst, noted-applied}
-use Rattle.dma_machine.proofs.engine.Engine.burst_seen.Goals as goal
+use Rattle.dma_machine.proofs.engine.Engine.burst_seen_on.Goals as goal
 
 pub loop-left-preserved : goal.loop-left-preserved
 loop-left-preserved g c =

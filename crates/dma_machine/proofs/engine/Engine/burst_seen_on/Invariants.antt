@@ -6,7 +6,7 @@ use Rattle.machine_model.specs.Turns.{burst}
 use Rattle.page_table.specs.Blocks.{chunks_of}
 use Rattle.dma_machine.specs.Noted.{all_noted}
 use Rattle.dma_machine.specs.Views.{state_of}
-use Rattle.dma_machine.proofs.engine.Engine.burst_seen.Given as goal
+use Rattle.dma_machine.proofs.engine.Engine.burst_seen_on.Given as goal
 
 abbrev pub invariant-loop-left : goal.invariant-loop-left
 invariant-loop-left g l =

@@ -3,4 +3,4 @@ use Rattle.slot_chain.specs.States.{turned}
 use Rattle.slot_chain.proofs.chain.Chain.turns.Given as goal
 
 abbrev pub invariant-loop-turn : goal.invariant-loop-turn
-invariant-loop-turn g l = l.self ≡ turned l._turn l.fn.self
+invariant-loop-turn g l = l.self ≡ turned l.turn l.fn.self
