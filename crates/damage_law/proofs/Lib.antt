@@ -1,3 +1,4 @@
 mod Leaving
 mod WholeLines
 pub mod Orders
+pub mod ArrivedTakes
