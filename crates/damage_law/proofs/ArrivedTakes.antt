@@ -131,6 +131,7 @@ module _ (Stands : ℕ → List Instr → Type 0) (Comes : List Block → (Queue
   pub record Took (ds : Demands) (after : State) (made : List Application) : Type 0 where
     pub left : Demands
     pub job : after.job ≡ Running instr left
+    pub there : after.pc ≡ pc
     pub others : (p : Queue) → is_queue p q ≡ false → demand_on p left ≡ demand_on p ds
     pub reserved : list_any discards_reserved made ≡ false
     pub gave : list_any gives_up made ≡ false
@@ -139,11 +140,12 @@ module _ (Stands : ℕ → List Instr → Type 0) (Comes : List Block → (Queue
     pub ended : list_any ends made ≡ true → left_on left ≡ 0
     pub unended : list_any takes made ≡ true → list_any ends made ≡ false → 0 < left_on left
 
-  nothing : (ds : Demands) (m : State) → m.job ≡ Running instr ds → Took ds m []
-  nothing ds m j =
+  nothing : (ds : Demands) (m : State) → m.job ≡ Running instr ds → m.pc ≡ pc → Took ds m []
+  nothing ds m j at =
       record {
         left = ds;
         job = j;
+        there = at;
         others = λ p apart. refl;
         reserved = refl;
         gave = refl;
@@ -169,6 +171,7 @@ module _ (Stands : ℕ → List Instr → Type 0) (Comes : List Block → (Queue
         record {
           left = r.left;
           job = r.job;
+          there = r.there;
           others = λ p apart. r.others p apart ∙ demand_apart p q (demand_less count (demand_on q ds)) ds apart;
           reserved = or_from (discards_reserved a) (list_any discards_reserved made) keeps_it r.reserved;
           gave = or_from (gives_up a) (list_any gives_up made) stays r.gave;
@@ -277,18 +280,18 @@ module _ (Stands : ℕ → List Instr → Type 0) (Comes : List Block → (Queue
 
     at_demand : (entry : Entry) (none : Bool) → front held ≡ Some entry → ((demand_on q ds).rest == 0) ≡ none →
         After (if none then [] else record { entry = entry; taken = held.taken; demand = demand_on q ds } ∷ []) (if none then None else Some (judged (verdict_at q ds entry m) q instr ds entry m))
-    at_demand entry true there is = nothing ds m j
+    at_demand entry true there is = nothing ds m j at
     at_demand entry false there is =
         let split = some_front held.entries entry there in taken_on entry split.0 there split.1 (some_rest (demand_on q ds).rest is)
 
     at_front : (top : Option Entry) → front held ≡ top → After (served_application top q ds m) (served top q instr ds m)
-    at_front None there = nothing ds m j
+    at_front None there = nothing ds m j at
     at_front (Some entry) there = at_demand entry ((demand_on q ds).rest == 0) there refl
 
     one_more : Took ds (burst (suc n) q m) (applications (suc n) q m)
     one_more = subst (λ (job : Job). After (application_in job q m) (apply_in job q m)) (sym j) (at_front (front held) refl)
 
   pub burst-Took : (n bound : ℕ) (ds : Demands) (m : State) → m.job ≡ Running instr ds → m.pc ≡ pc → IsWithin IsUsedUp AnyRest Stands Comes later bound m → Took ds (burst n q m) (applications n q m)
-  burst-Took zero bound ds m j at h = nothing ds m j
+  burst-Took zero bound ds m j at h = nothing ds m j at
   burst-Took (suc n) bound ds m j at h =
       one_more n (burst-Took n) bound ds m j at (subst (λ (job : Job). WithinJob IsUsedUp AnyRest Stands Comes later bound job m) j h)

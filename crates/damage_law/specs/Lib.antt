@@ -3,3 +3,4 @@ pub mod Lines
 pub mod Marks
 pub mod Worked
 pub mod Orders
+pub mod Arrived

@@ -156,7 +156,7 @@ abbrev instr_read : Reading → Instr
 instr_read (Ok (instr, count)) = instr
 instr_read (Err fault) = sync true Vre
 
-same_read : (i j : Instr) (n k : ℕ) (r : Reading) → r ≡ Ok (i, n) → r ≡ Ok (j, k) → i ≡ j
+pub same_read : (i j : Instr) (n k : ℕ) (r : Reading) → r ≡ Ok (i, n) → r ≡ Ok (j, k) → i ≡ j
 same_read i j n k r one two = ap instr_read (sym one ∙ two)
 
 data_jump : (i : Instr) (ctl : Ctl) (to : ℕ) → is_data i ≡ true → i ≡ Jump ctl to → ⊥
@@ -294,13 +294,13 @@ holds_end program ctl to at (i ∷ rest) holds =
     ap (fetch program) there ∙ holds_end program ctl to (at + 4 * length (encoded i)) rest holds.3
 
 module _ (d : Desc) (right : IsRight d) where
-  abbrev begin_of : Parity → ℕ
+  abbrev pub begin_of : Parity → ℕ
   begin_of f = section_begin d d.base f
 
-  abbrev next_of : Parity → ℕ
+  abbrev pub next_of : Parity → ℕ
   next_of f = section_next d d.base d.base f
 
-  abbrev end_of : Parity → ℕ
+  abbrev pub end_of : Parity → ℕ
   end_of f = closing_at (section_of d f)
 
   opens_there : (f : Parity) → describes d.fields f ≡ true → fetch (compiled d) (begin_of f) ≡ Ok (opening f, 2)
@@ -318,7 +318,7 @@ module _ (d : Desc) (right : IsRight d) where
   ends_parts : (f : Parity) → begin_of f + 8 + 4 * words_in (instrs_of (section_parts d f)) ≡ end_of f
   ends_parts f = ap (λ (instrs : List Instr). begin_of f + 8 + 4 * words_in instrs) (body_parts d f)
 
-  closes_there : (f : Parity) → describes d.fields f ≡ true → fetch (compiled d) (end_of f) ≡ Ok (Jump (signal f) (next_of f), 2)
+  pub closes_there : (f : Parity) → describes d.fields f ≡ true → fetch (compiled d) (end_of f) ≡ Ok (Jump (signal f) (next_of f), 2)
   closes_there f is = holds_end (compiled d) (signal f) (next_of f) (begin_of f + 8) (body d f) (section_holds d f right is)
 
 -- ---- a run
@@ -329,7 +329,7 @@ field_same Top Bottom = inr (λ same. cc)
 field_same Bottom Top = inr (λ same. cc)
 field_same Bottom Bottom = inl refl
 
-told_here : (f : Parity) (t : FieldTrack) → lines_at_signal f (signalled (field_of (signal f).set) t) ≡ Some t.lines
+pub told_here : (f : Parity) (t : FieldTrack) → lines_at_signal f (signalled (field_of (signal f).set) t) ≡ Some t.lines
 told_here Top t = refl
 told_here Bottom t = refl
 
@@ -343,7 +343,7 @@ abbrev set_of : Instr → ℕ
 set_of (Jump ctl to) = ctl.set
 set_of _ = 0
 
-signals_apart : (f g : Parity) (to other : ℕ) → Jump (signal f) to ≡ Jump (signal g) other → f ≡ g
+pub signals_apart : (f g : Parity) (to other : ℕ) → Jump (signal f) to ≡ Jump (signal g) other → f ≡ g
 signals_apart Top Top to other same = refl
 signals_apart Top Bottom to other same = let set : true ≡ false = ap (λ (i : Instr). set_of i == 1) same in cc
 signals_apart Bottom Top to other same = let set : false ≡ true = ap (λ (i : Instr). set_of i == 1) same in cc
@@ -354,37 +354,37 @@ untold_none Top n = refl
 untold_none Bottom n = refl
 
 module _ (d : Desc) (right : IsRight d) (skips : d.skip_lines ≤ 255) where
-  abbrev before_rows_count : ℕ
+  abbrev pub before_rows_count : ℕ
   before_rows_count = d.vbi_lines + d.skip_lines
 
-  few : (f : Parity) → length (section_lines d f) ≤ max_lines
+  pub few : (f : Parity) → length (section_lines d f) ≤ max_lines
   few f = few_lines d f right skips
 
   -- about to open a section
-  record Outside (m : State) : Type 0 where
-    field : Parity
-    described : describes d.fields field ≡ true
-    idle : m.job ≡ Idle
-    there : m.pc ≡ begin_of d right field
+  pub record Outside (m : State) : Type 0 where
+    pub field : Parity
+    pub described : describes d.fields field ≡ true
+    pub idle : m.job ≡ Idle
+    pub there : m.pc ≡ begin_of d right field
 
   -- within one since its opening
-  record Inside (m : State) (t : FieldTrack) (opens_since : Parity → Opened) : Type 0 where
-    field : Parity
-    described : describes d.fields field ≡ true
-    first : State
-    done : List Step
-    opened_at : opens_since field ≡ Some (first, done)
-    there : m ≡ run first done
-    visit : Visit (compiled d) (signal field) (next_of d right field) (end_of d right field) (section_lines d field) m t (past_of first done) (gone_of first done)
+  pub record Inside (m : State) (t : FieldTrack) (opens_since : Parity → Opened) : Type 0 where
+    pub field : Parity
+    pub described : describes d.fields field ≡ true
+    pub first : State
+    pub done : List Step
+    pub opened_at : opens_since field ≡ Some (first, done)
+    pub there : m ≡ run first done
+    pub visit : Visit (compiled d) (signal field) (next_of d right field) (end_of d right field) (section_lines d field) m t (past_of first done) (gone_of first done)
 
-  abbrev Place : State → FieldTrack → (Parity → Opened) → Type 0
+  abbrev pub Place : State → FieldTrack → (Parity → Opened) → Type 0
   Place m t opens_since = Outside m ⊎ Inside m t opens_since
 
-  record Keeps (m : State) (t : FieldTrack) (opens_since : Parity → Opened) (tolds : Parity → Option (List Bool)) : Type 0 where
-    program : m.program ≡ compiled d
-    orderly : IsOrderly m
-    told : (g : Parity) → describes d.fields g ≡ true → option_map (drop before_rows_count) (lines_at_signal g t) ≡ tolds g
-    place : Place m t opens_since
+  pub record Keeps (m : State) (t : FieldTrack) (opens_since : Parity → Opened) (tolds : Parity → Option (List Bool)) : Type 0 where
+    pub program : m.program ≡ compiled d
+    pub orderly : IsOrderly m
+    pub told : (g : Parity) → describes d.fields g ≡ true → option_map (drop before_rows_count) (lines_at_signal g t) ≡ tolds g
+    pub place : Place m t opens_since
 
   module _ (m : State) (t : FieldTrack) (opens_since : Parity → Opened) (tolds : Parity → Option (List Bool)) (h : Keeps m t opens_since tolds) (s : Step) where
     abbrev opens_next : Parity → Opened
@@ -440,7 +440,7 @@ module _ (d : Desc) (right : IsRight d) (skips : d.skip_lines ≤ 255) where
         (past_next past gone m s) (λ q. gone q + left q m after)) (sym same)
         (subst (λ (p : Past). Visit (compiled d) (signal i.field) (next_of d right i.field) (end_of d right i.field) (section_lines d i.field) after t p (λ q. gone q + left q m after)) (sym (nothing past gone)) visit)))
 
-  abbrev After : (m : State) (t : FieldTrack) (opens_since : Parity → Opened) (tolds : Parity → Option (List Bool)) → Step → Type 0
+  abbrev pub After : (m : State) (t : FieldTrack) (opens_since : Parity → Opened) (tolds : Parity → Option (List Bool)) → Step → Type 0
   After m t opens_since tolds s =
       Keeps (step s m) (track_next m s t) (λ g. next_opened d g m s (opens_since g)) (λ g. next_told d g m s (opens_since g) (tolds g))
 
@@ -710,7 +710,7 @@ module _ (d : Desc) (right : IsRight d) (skips : d.skip_lines ≤ 255) where
     turns_by (inl o) = turns_outside o m.risc_on refl
     turns_by (inr i) = turns_inside i
 
-    after_step : (s : Step) → IsStep s → After m t opens_since tolds s
+    pub after_step : (s : Step) → IsStep s → After m t opens_since tolds s
     after_step (Push q entry) is = pushes q entry is
     after_step (Control code) is = controls code
     after_step Turn is = turns_by h.place
@@ -723,7 +723,7 @@ module _ (d : Desc) (right : IsRight d) (skips : d.skip_lines ≤ 255) where
       keeps_told steps (step s m) (track_next m s t) (λ x. next_opened d x m s (opens_since x)) (λ x. next_told d x m s (opens_since x) (tolds x)) (All-tail IsStep s steps made)
       (after_step m t opens_since tolds h s (All-head IsStep s steps made)) g is
 
-  at_first : (fill : ℕ) → Keeps (first_state (compiled d) fill) untold (λ g. None) (λ g. None)
+  pub at_first : (fill : ℕ) → Keeps (first_state (compiled d) fill) untold (λ g. None) (λ g. None)
   at_first fill =
       let first = first_field d.fields d d.base in
       record {
@@ -735,7 +735,7 @@ module _ (d : Desc) (right : IsRight d) (skips : d.skip_lines ≤ 255) where
 
 -- ---- nothing is told exactly before the first signal
 
-pc_at : (on : Bool) (job : Job) (pc c : ℕ) → (on && is_idle job && pc == c) ≡ true → (on ≡ true) × (job ≡ Idle) × (pc ≡ c)
+pub pc_at : (on : Bool) (job : Job) (pc c : ℕ) → (on && is_idle job && pc == c) ≡ true → (on ≡ true) × (job ≡ Idle) × (pc ≡ c)
 pc_at true Idle pc c is = (refl, refl, eqb-true pc c is)
 pc_at true (Waiting ctl resync code) pc c is = cc
 pc_at true (Running instr ds) pc c is = cc

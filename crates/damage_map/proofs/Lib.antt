@@ -9,3 +9,5 @@ mod SectionSteps
 mod Compiled
 pub mod AnswersKept
 mod StillTurns
+pub mod ArrivedTurns
+pub mod ArrivedSteps

@@ -59,7 +59,7 @@ queue_same held = record { taken = refl; top = λ some. refl; more = omega arith
 abbrev pub IsQuiet : Did → Type 0
 IsQuiet did = (program : RiscProgram) (s : Seen) (t : FieldTrack) (at : ℕ) → (turned program did s t ≡ t) × (retired_at did at ≡ [])
 
-waited-quiet : (stray : Option Queue) (common : Option Code) (code : Code) → IsQuiet (waited_did stray common code)
+pub waited-quiet : (stray : Option Queue) (common : Option Code) (code : Code) → IsQuiet (waited_did stray common code)
 waited-quiet (Some q) common code = λ program s t at. (refl, refl)
 waited-quiet None None code = λ program s t at. (refl, refl)
 waited-quiet None (Some seen_code) code = by_code (code_number seen_code == code_number code)
@@ -107,12 +107,12 @@ queue_apart Three One apart = refl
 queue_apart Three Two apart = refl
 queue_apart Three Three apart = apart
 
-mark_same : (q : Queue) (mark : LineMark) (marks : LineMarks) → mark_on q (with_mark q mark marks) ≡ mark
+pub mark_same : (q : Queue) (mark : LineMark) (marks : LineMarks) → mark_on q (with_mark q mark marks) ≡ mark
 mark_same One mark marks = refl
 mark_same Two mark marks = refl
 mark_same Three mark marks = refl
 
-mark_other : (p q : Queue) (mark : LineMark) (marks : LineMarks) → is_queue p q ≡ false → mark_on p (with_mark q mark marks) ≡ mark_on p marks
+pub mark_other : (p q : Queue) (mark : LineMark) (marks : LineMarks) → is_queue p q ≡ false → mark_on p (with_mark q mark marks) ≡ mark_on p marks
 mark_other One One mark marks apart = cc
 mark_other One Two mark marks apart = refl
 mark_other One Three mark marks apart = refl

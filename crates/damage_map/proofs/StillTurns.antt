@@ -21,7 +21,7 @@ use Rattle.damage_map.specs.Maps.{Map, mapped, turns}
 use Rattle.damage_map.specs.Tracks.{FieldTrack, track_next, tracked, turned}
 use Rattle.damage_map.proofs.SectionTurns.{uncounted}
 
-tracked-append : (m : State) (first later : List Step) (t : FieldTrack) → tracked m (first ++ later) t ≡ tracked (run m first) later (tracked m first t)
+pub tracked-append : (m : State) (first later : List Step) (t : FieldTrack) → tracked m (first ++ later) t ≡ tracked (run m first) later (tracked m first t)
 tracked-append m [] later t = refl
 tracked-append m (s ∷ first) later t = tracked-append (step s m) first later (track_next m s t)
 
