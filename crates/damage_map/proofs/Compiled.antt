@@ -369,7 +369,7 @@ module _ (d : Desc) where
   height_by true false height = omega arith
   height_by false two height = omega arith
 
-  lines_many : (rows : List ℕ) (here : ℕ) → length (lines_from here (map (λ row. line_instrs d (row_strip d row)) rows)) ≡ length rows
+  pub lines_many : (rows : List ℕ) (here : ℕ) → length (lines_from here (map (λ row. line_instrs d (row_strip d row)) rows)) ≡ length rows
   lines_many [] here = refl
   lines_many (row ∷ rows) here = let rest = lines_many rows (here + 4 * words_in (line_instrs d (row_strip d row))) in omega arith
 

@@ -11,3 +11,4 @@ pub mod AnswersKept
 mod StillTurns
 pub mod ArrivedTurns
 pub mod ArrivedSteps
+pub mod ArrivedFields

@@ -3,6 +3,7 @@
 ghost use Rattle.std.specs.Prelude.{◌≡◌, true, false, [], ◌∷◌, Some, None};
 ghost use Rattle.picture_model.specs.Worked.{smallest};
 ghost use Rattle.damage_law.specs.Worked.{chroma_long, chroma_short, clipped, cut_short, emptied_empty, emptied_full, interrupted, planar_rows, reserved, restarted, too_long, two_rows, unkept_short};
+ghost use Rattle.damage_law.specs.Arrived.{ArrivedRowsAreWhole};
 ghost use Rattle.damage_map.specs.Laws.{KeepsAnswers, TellsSignals};
 ghost use Rattle.damage_map.specs.Worked.{kept_of};
 
@@ -12,6 +13,11 @@ ghost use Rattle.damage_map.specs.Worked.{kept_of};
 pub fn tracks_tell_whole_rows()
     ensures rows { KeepsAnswers }
     ensures none { TellsSignals }
+{}
+
+/// Where a picture of a field arrives, every row of the field is whole at its signal.
+pub fn arrived_rows_are_whole()
+    ensures { ArrivedRowsAreWhole }
 {}
 
 /// Over the worked fields of damage_law a track keeps what the definition says of their rows (its law
