@@ -1,5 +1,5 @@
--- Every run shows the pictures that it captures, by the law of the picture.
-use Rattle.std.proofs.Common.{◌≡◌, ℕ, ◌+◌, ◌*◌, ◌<◌, ◌≤◌, false, List, length, All, sym, subst}
+-- Every run shows the pictures that it captures, by the law of the picture, and all their rows are whole.
+use Rattle.std.proofs.Common.{◌≡◌, ℕ, ◌+◌, ◌*◌, ◌<◌, ◌≤◌, true, false, List, length, replicate, Some, All, sym, ◌∙◌, subst}
 use Rattle.fifo_model.specs.declared.Queue.{Queue}
 use Rattle.fifo_model.specs.Queues.{queue_state}
 use Rattle.pixel_layout.specs.declared.Parity.{Parity}
@@ -9,12 +9,17 @@ use Rattle.machine_model.specs.Turns.{sets_fdsr}
 use Rattle.machine_model.specs.Steps.{Step, Turn, state_at}
 use Rattle.machine_model.specs.Safety.{IsStep}
 use Rattle.capture_desc.specs.declared.desc.Desc.{Desc}
+use Rattle.picture_model.specs.Described.{field_height}
 use Rattle.picture_model.specs.Programs.{compiled, size}
-use Rattle.field_law.specs.Arrivals.{meeting, coming, entries_of, over_queues, turns_in}
+use Rattle.field_law.specs.Arrivals.{meeting, coming, entries_of, is_signal, over_queues, turns_in}
 use Rattle.picture_law.specs.Pictures.{Picture}
 use Rattle.picture_law.specs.Sections.{section_of}
 use Rattle.picture_law.specs.Runs.{ArrivesAt, IsCapture, IsFirstSignal, IsSignalled, between, step_at}
 use Rattle.picture_law.proofs.Places.{run_shows_picture, run_shows_no_fault, run_tells_field, run_signals_in_time}
+use Rattle.damage_law.specs.Marks.{answer, last_step}
+use Rattle.damage_law.proofs.LastSignals.{answers_stay}
+use Rattle.damage_map.proofs.ArrivedFields.{arrived_rows_are_whole}
+use Rattle.bt878_contract.specs.Rows.{HasArrivedRows}
 use Rattle.bt878_contract.specs.Pictures.{ArrivesUpTo, IsCompiled, IsShown, ShowsPictures, ShowsNoFault, SignalsInTime}
 
 module _ (program : RiscProgram) (fill : ℕ) (steps : List Step) (made : All IsStep steps) where
@@ -59,3 +64,13 @@ module _ (program : RiscProgram) (fill : ℕ) (steps : List Step) (made : All Is
       5 * size d field + over_queues (entries_of arrives.before arrives.entries) ≤ turns_in (meeting (compiled d) (between i l steps)) →
       (k : ℕ) × IsFirstSignal (section_of d field) (first_state p fill) steps j k × (k < l))
       (sym c.same) (run_signals_in_time d field picture fill steps j i l (capture d field picture c))
+
+  pub rows_arrived : HasArrivedRows (first_state program fill) steps
+  rows_arrived d field picture j k c =
+      subst
+      (λ (p : RiscProgram).
+      ArrivesUpTo d field picture (first_state p fill) steps j k → last_step (is_signal (section_of d field)) (first_state p fill) steps ≡ Some k →
+      answer d field (first_state p fill) steps ≡ Some (replicate (field_height d field) true))
+      (sym c.same) (λ a last.
+      answers_stay d field (first_state (compiled d) fill) steps k last
+      ∙ arrived_rows_are_whole d field picture fill steps j k (signalled d field picture j k c a))

@@ -1,4 +1,5 @@
 pub mod Tasks
 pub mod Clauses
 pub mod Pictures
+pub mod Rows
 pub mod Rings

@@ -4,6 +4,7 @@ ghost use Rattle.std.specs.Prelude.{◌≡◌, ℕ, ◌⊎◌, List, Ok};
 ghost use Rattle.bt878_words.specs.Words.{command_of, inputs_of, outputs_of};
 ghost use Rattle.bt878_contract.specs.Clauses.{AreTold, IsAssembled, IsBadInput, IsCompiled, IsGenerated, IsGood, IsInOrder, IsRefusal, IsUnreadOf, IsUsage, OfDescRun, OfLive, OfLiveRun, OfLiveSteps, OfRan, OfRingRun, OfSteps, OnlyOutputs, OnlySays, SameNames, SaysAccepted, SaysBlocks, SaysDamage, SaysListing, ShowsImage, ShowsLast, ShowsLastLive, ShowsProgram, StandsAt, StaysInside, TellsInput, UnlessCut};
 ghost use Rattle.bt878_contract.specs.Pictures.{ShowsNoFault, ShowsPictures, SignalsInTime};
+ghost use Rattle.bt878_contract.specs.Rows.{HasArrivedRows};
 ghost use Rattle.bt878_contract.specs.Rings.{RingsShowNoFault, ShowsRings};
 ghost use Rattle.bt878_contract.specs.Tasks.{Answers, AreNames, Assembles, Captures, Chains, Compiles, Damages, Generates, Lists, Rings, Runs, Verifies, task_of, texts};
 ghost use Rattle.chain_law.specs.Runs.{LiveRunShowsNoFault, LiveRunShowsPictures, LiveRunStaysInside};
@@ -135,6 +136,11 @@ pub fn bt878<D: Desk>(alloc: Global, words: &[&str], desk: &mut D) -> Answer
         task_of (texts words.now) ≡ Ok (Damages desc stream) →
         OfDescRun desc stream (D.seen desk.old).told.inputs
         (SaysDamage (D.seen desk.old).told (D.seen desk.new).told) }
+
+    // At Done of `run`, `capture`, `damage` and `ring`, for every description and picture as above: where the
+    // field that arrived is the last one that is signalled, every row of it is whole (so `damage` says it).
+    ensures arrived_rows { (result ≡ Answer.Done) →
+        OfRan (task_of (texts words.now)) (D.seen desk.old).told.inputs (OfSteps HasArrivedRows) }
 
     // At Done of `chain` the image and the report are those of the live run of the chain of both descriptions
     // over exactly the steps of the whole stream, patches among them, from a memory in which every granted byte

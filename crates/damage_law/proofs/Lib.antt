@@ -2,3 +2,4 @@ mod Leaving
 mod WholeLines
 pub mod Orders
 pub mod ArrivedTakes
+pub mod LastSignals

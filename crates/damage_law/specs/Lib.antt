@@ -4,3 +4,4 @@ pub mod Marks
 pub mod Worked
 pub mod Orders
 pub mod Arrived
+pub mod LastSignals

@@ -9,6 +9,7 @@ ghost use Rattle.fifo_model.specs.declared.Entry.{Entry};
 ghost use Rattle.picture_model.specs.Worked.{smallest};
 ghost use Rattle.damage_law.specs.Takings.{Taking, left};
 ghost use Rattle.damage_law.specs.Lines.{AreInOrder, IsWholeLine, are_line};
+ghost use Rattle.damage_law.specs.LastSignals.{AnswersStay};
 ghost use Rattle.damage_law.specs.Orders.{LinesAreWhole, TakesInOrder};
 ghost use Rattle.damage_law.specs.Worked.{chroma_long, chroma_short, clipped, cut_short, emptied_empty, emptied_full, interrupted, marks_of, planar_rows, reserved, restarted, too_long, two_rows, unkept_short};
 
@@ -31,6 +32,11 @@ pub fn takings_are_in_order()
 /// before.
 pub fn entries_leave_at_the_front()
     ensures { (q : Queue) (m : State) → (queue_state q (turn m).queues).entries ≡ drop (left q m (turn m)) (queue_state q m.queues).entries }
+{}
+
+/// What is said of a field after all steps is what is said right after its last signal.
+pub fn answers_stay_after_the_last_signal()
+    ensures { AnswersStay }
 {}
 
 /// Worked fields of small descriptions, and which of their rows are whole: a row whose line is too short isn't, nor is one
