@@ -1,10 +1,10 @@
 #!/usr/bin/env python3
-"""Tries the examples of this folder on the program.
+"""Tries the examples of this folder on the program; the gate tries fewer (cases.py).
 
     check.py --bin PATH
 
-Each file is made anew and must be as it stands here; each program must be accepted and leave the image that was painted
-by the rules; the lists of the driver's programs must be the compiled ones of their descriptions; each planted bug must
+Each file is made anew and must be as it stands; each program must be accepted and leave the image that was painted by
+the rules; the lists of the driver's programs must be the compiled ones of their descriptions; each planted bug must
 be told as broken.py says. And each command that README.md and docs/* show behind `$ ` must print what stands below it.
 A command that the program doesn't know is skipped. A line is printed for each check that fails, and last `N passed,
 M failed`.
@@ -20,41 +20,24 @@ import sys
 import tempfile
 
 import broken
+import cases
 import descriptions
 import emulator
 import make_examples
 import rings_and_chains
 from as_compiled import as_compiled
+from cases import CHAINED, DAMAGED, IMAGES, REPORTS, RINGED, VERDICTS, report
 from description import Description
 from formats import image, program, read_program
 from machine import Machine, Program
 from make_examples import BASE, HERE
 
 
-def report(turns, moved, overruns, status):
-    return f"turns {turns}\nmoved {moved}\noverruns {overruns} 0 0 0\nstatus {status}\n"
-
-
-REPORTS = {  # turns, moved, overruns, status
-    ("main_loop", "main_loop"): (1120, 256, 0, "20000800"),
-    ("scattered", "scattered"): (33664, 8400, 0, "20000800"),
-    ("chroma", "chroma"): (4160, 768, 0, "20000800"),
-    ("overlay", "overlay"): (1184, 240, 0, "10000800"),
-    ("one_line", "one_line"): (9, 8, 0, "10000800"),
-    ("one_line", "overrun"): (84, 8, 32, "10005800"),
-    ("two_lines", "early_eol"): (15, 23, 0, "10004800"),
-    ("one_line", "resync"): (12, 8, 0, "10000800"),
-    ("one_line", "stray"): (10, 8, 0, "10004800"),
-    ("no_eol", "scattered"): (33664, 8400, 0, "20000800"),
-}
 LATER = {  # commands that an older program doesn't know: words, what is said, and the outputs
-    "ring": ("@ring.toml @ring.bfs program image", "blocks 3\n" + report(36016, 9000, 0, "00000800"), "ring"),
-    "chain": ("@chain_first.toml @chain_second.toml @chain.bfs image", report(128, 16, 0, "10000800"), "chain"),
-    "damage": ("@two_lines.toml @early_eol.bfs", "top 1 of 2\nbad 0\n", None),
+    "ring": ("@ring.toml @ring.bfs program image", RINGED, "ring"),
+    "chain": ("@chain_first.toml @chain_second.toml @chain.bfs image", CHAINED, "chain"),
+    "damage": ("@two_lines.toml @early_eol.bfs", DAMAGED["two_lines", "early_eol"], None),
 }
-IMAGES = {"overrun": "one_line", "resync": "one_line", "stray": "one_line"}  # where it isn't the stream's own name
-VERDICTS = {"into_operand": "rejected at 00001004, step 2: ungranted 70000000"}
-VERDICTS |= {name: broken.BUGS[number].verdict for name, number in broken.FILES.items()}
 
 
 class Check:
@@ -98,6 +81,8 @@ def check_files(check):
         for name in names:
             at = os.path.relpath(os.path.join(folder, name), fresh)
             check.same(at, check.read(os.path.join("fresh", at)), check.read(os.path.join(HERE, at)))
+    for name, data in cases.all_files().items():
+        check.same(name, data, check.read(os.path.join(cases.CRATE, name)))
 
 
 def check_runs(check):

@@ -48,6 +48,55 @@ def read_program(data):
     return base, words, chunks, data[-1]
 
 
+NAMES = {
+    WRITE: "write", SKIP: "skip", WRITEC: "writec", JUMP: "jump", SYNC: "sync", WRITE123: "write123",
+    SKIP123: "skip123", WRITE1S23: "write1s23",
+}  # fmt: skip
+CODES = {VRE: "vre", VRO: "vro", FM1: "fm1", FM3: "fm3"}
+
+
+def parts(words):
+    """The parts of an instruction's line, and the words that these parts are spelled with."""
+    first, opcode = words[0], words[0] >> 28
+    fields, kept = [], 0xF << 28 | IS_IRQ | 0xFF << 16  # of the first word
+    if opcode == SYNC:
+        fields, kept = [CODES.get(first & 15, ""), "resync" if first & RESYNC else ""], kept | RESYNC | 15
+    elif opcode != JUMP:
+        fields = ["sol" if first & IS_SOL else "", "eol" if first & IS_EOL else ""]
+        kept |= IS_SOL | IS_EOL | 0xFFF
+    fields += ["irq" if first & IS_IRQ else ""]
+    for name, at in (("set", 16), ("reset", 20), ("off", 12)):
+        if name != "off" or opcode in (WRITE, WRITEC, WRITE123, WRITE1S23):
+            kept |= 15 << at
+            fields += [f"{name}={first >> at & 15:x}" if first >> at & 15 else ""]
+    spelled, further = [first & kept], list(words[1:])
+    if opcode == SYNC:
+        return [NAMES[opcode], *filter(None, fields)], spelled + [0] if first & 15 in CODES else []
+    counts = [first & 0xFFF] if opcode != JUMP else []
+    if opcode in (WRITE123, SKIP123, WRITE1S23):
+        counts += [further[0] & 0xFFF, further[0] >> 16 & 0xFFF]
+        spelled, further = spelled + [further[0] & 0x0FFF0FFF], further[1:]
+    rest = [*map(str, counts), *(f"{word:08x}" for word in further)]
+    return [NAMES[opcode], *filter(None, fields), *rest], spelled + further
+
+
+def listing(base, words, chunks, fill):
+    """What `list` says of a program (docs/FORMATS.md, "Listings")."""
+    lines, at = [f"base {base:08x}"], 0
+    while at < len(words):
+        length = LENGTHS.get(words[at] >> 28, 0)
+        here = words[at : at + length]
+        told, spelled = parts(here) if length and len(here) == length else ([], [])
+        if not spelled or spelled != here:
+            told, length = ["word", f"{words[at]:08x}"], 1
+        lines.append(" ".join([f"{base + 4 * at:08x}", *told]))
+        at += length
+    for address, count in sorted(chunks):
+        is_page = address % 4096 == 0 and count == 4096
+        lines.append(f"page {address:08x}" if is_page else f"chunk {address:08x} {count}")
+    return "\n".join([*lines, f"fill {fill:02x}"]) + "\n"
+
+
 def image(memory):
     """An image file of {address of a chunk: its bytes}."""
     chunks = sorted(memory.items())
