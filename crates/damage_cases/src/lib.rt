@@ -1,0 +1,15 @@
+//! Tests of damage maps: drawn streams, told against a plain reading of which rows are whole.
+#![tactic(auto)]
+
+#[cfg(test)]
+mod lanes;
+#[cfg(test)]
+mod plain;
+#[cfg(test)]
+mod programs;
+#[cfg(test)]
+mod rows;
+#[cfg(test)]
+mod streams;
+#[cfg(test)]
+mod tests;
