@@ -106,14 +106,14 @@ fn assert_variety(rt: &impl Abort, seen: Seen) {
 
 #[test]
 fn rows_of_drawn_packed_streams_are_told(rt: HostRuntime) -> Result<(), Fail> {
-    let seen = play_all(&rt, rt.alloc(), packed(), 120)?;
+    let seen = play_all(&rt, rt.alloc(), packed(), 1_000)?;
     assert_variety(&rt, seen);
     Ok(())
 }
 
 #[test]
 fn rows_of_drawn_planar_streams_are_told(rt: HostRuntime) -> Result<(), Fail> {
-    let seen = play_all(&rt, rt.alloc(), planar(), 120)?;
+    let seen = play_all(&rt, rt.alloc(), planar(), 1_000)?;
     assert_variety(&rt, seen);
     Ok(())
 }
