@@ -1,8 +1,8 @@
 -- While a field arrives, a burst to a queue only takes bytes, and the last entry of a line is taken to its end exactly
 -- where nothing more is asked of the queue in the line.
-use Rattle.std.proofs.Common.{◌≡◌, ℕ, zero, suc, ◌+◌, ◌-◌, ◌<◌, ◌≤◌, ◌⊎◌, inl, inr, min, Bool, true, false, ◌&&◌, ◌||◌, ◌==◌, List, [], ◌∷◌, ◌++◌, drop, length, length-drop, Option, Some, None, if◌then◌else◌, refl, sym, ap, ◌∙◌, subst, arith, eqb-true}
+use Rattle.std.proofs.Common.{◌≡◌, ℕ, zero, suc, ◌+◌, ◌-◌, ◌<◌, ◌⊎◌, inl, inr, min, Bool, true, false, ◌&&◌, ◌==◌, List, [], ◌∷◌, ◌++◌, drop, length, length-drop, Option, Some, None, if◌then◌else◌, refl, sym, ap, ◌∙◌, subst, arith, eqb-true}
 use Rattle.std.specs.List.{list_any}
-use Rattle.std.proofs.lemmas.Bool.{and_from, eqb-false, or_cases, or_from, or_parts}
+use Rattle.std.proofs.lemmas.Bool.{eqb-false, or_cases, or_from, or_parts}
 use Rattle.risc_word.specs.declared.Instr.{Instr}
 use Rattle.sync_status.specs.declared.Verdict.{Verdict}
 use Rattle.sync_status.specs.declared.Verdict.TheVariants.{Take}
@@ -17,7 +17,7 @@ use Rattle.machine_model.specs.declared.Demands.{Demands}
 use Rattle.machine_model.specs.declared.Job.{Job}
 use Rattle.machine_model.specs.declared.Job.TheVariants.{Running}
 use Rattle.machine_model.specs.States.{State}
-use Rattle.machine_model.specs.Turns.{Store, apply_in, burst, demand_less, demand_on, ended, is_cut_short, judged, served, took, verdict_at, with_demand}
+use Rattle.machine_model.specs.Turns.{Store, apply_in, burst, demand_less, demand_on, ended, judged, served, took, verdict_at, with_demand}
 use Rattle.machine_model.specs.Seen.{Application, application_in, applications, discards_reserved, discards_reserved_by, ends, ends_by, gives_up, gives_up_by, served_application, takes, takes_by}
 use Rattle.field_law.specs.Arrivals.{is_queue}
 use Rattle.field_law.specs.Fields.{Mark, Row, Token, carried, is_ending}

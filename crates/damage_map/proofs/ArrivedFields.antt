@@ -1,12 +1,10 @@
 -- Where a picture arrived, every row of its field is whole at the signal.
-use Rattle.std.proofs.Common.{◌≡◌, ℕ, zero, suc, ◌+◌, ◌-◌, ◌*◌, ◌<◌, ◌≤◌, ◌⊎◌, inl, inr, Bool, true, false, ◌&&◌, ◌||◌, ◌==◌, All, List, [], ◌∷◌, ◌++◌, drop, length, map, replicate, take, take-add, Option, Some, None, Ok, Err, option_map, refl, sym, ap, ap₂, ◌∙◌, subst, arith}
+use Rattle.std.proofs.Common.{◌≡◌, ℕ, zero, suc, ◌+◌, ◌-◌, ◌*◌, ◌≤◌, inl, inr, Bool, true, false, All, List, [], ◌∷◌, ◌++◌, drop, length, map, replicate, take, take-add, Option, Some, None, Ok, option_map, refl, sym, ap, ap₂, ◌∙◌, subst, arith}
 use Rattle.std.specs.Prelude.{option_and_then}
 use Rattle.std.proofs.lemmas.Bool.{or_from, or_parts}
 use Rattle.std.proofs.lemmas.List.{length-map}
 use Rattle.std.proofs.lemmas.List.Elements.{All-cons, All-drop, All-head, All-nil, All-tail, All-take}
 use Rattle.std.proofs.lemmas.List.FromFn.{length-map-range_with_len}
-use Rattle.risc_word.specs.declared.Ctl.{Ctl}
-use Rattle.risc_word.specs.declared.Instr.{Instr}
 use Rattle.risc_word.specs.declared.Instr.TheVariants.{Jump}
 use Rattle.risc_word.specs.Words.{Reading, encoded}
 use Rattle.fifo_model.specs.declared.Entry.{Entry}
@@ -17,7 +15,7 @@ use Rattle.machine_model.specs.declared.Job.{Job}
 use Rattle.machine_model.specs.declared.Job.TheVariants.{Waiting}
 use Rattle.machine_model.specs.declared.Seen.{Seen}
 use Rattle.machine_model.specs.Paths.{RiscProgram, fetch}
-use Rattle.machine_model.specs.Safety.{IsOrderly, IsStep, JobFits}
+use Rattle.machine_model.specs.Safety.{IsStep, JobFits}
 use Rattle.machine_model.specs.Seen.{fetched_did, seen, seen_alone, seen_if, seen_in}
 use Rattle.machine_model.specs.States.{State, first_state}
 use Rattle.machine_model.specs.Steps.{Step, Push, Control, Turn, Host, run, state_at, step, with_program}
@@ -34,13 +32,13 @@ use Rattle.field_law.specs.Sections.{Holds, HoldsFrom, Section, Uses, closing_at
 use Rattle.field_law.proofs.Meeting.{meeting-append}
 use Rattle.field_law.proofs.Runs.{ReachedWith, runs}
 use Rattle.picture_law.specs.Pictures.{IsField, Picture, field_tokens}
-use Rattle.picture_law.specs.Runs.{ArrivesAt, IsSignalled, between, state_of, step_at}
+use Rattle.picture_law.specs.Runs.{IsSignalled, between, state_of, step_at}
 use Rattle.picture_law.specs.Sections.{section_of}
 use Rattle.picture_law.proofs.Between.{between_last, no_signal, state_between}
 use Rattle.picture_law.proofs.Body.{section_uses}
 use Rattle.picture_law.proofs.Program.{section_holds}
 use Rattle.damage_law.specs.Arrived.{ArrivedRowsAreWhole}
-use Rattle.damage_law.specs.Marks.{addresses_from, answer, before_rows, last_step, marks, marks_to, row_addresses}
+use Rattle.damage_law.specs.Marks.{addresses_from, answer, last_step, marks, marks_to, row_addresses}
 use Rattle.damage_map.specs.Laws.{map_after}
 use Rattle.damage_map.specs.Maps.{rows_of}
 use Rattle.damage_map.specs.Tracks.{FieldTrack, field_of, lines_at_signal, signalled, signals, track_next, tracked, turned, untold}

@@ -1,5 +1,5 @@
 -- While a field arrives, each step keeps every line whole, as the track has it.
-use Rattle.std.proofs.Common.{◌≡◌, ℕ, zero, suc, ◌+◌, ◌-◌, ◌*◌, ◌<◌, ◌≤◌, ◌⊎◌, inl, inr, Bool, true, false, not, ◌&&◌, ◌||◌, ◌==◌, All, List, [], ◌∷◌, ◌++◌, length, Option, Some, None, Ok, Err, if◌then◌else◌, refl, sym, ap, ap₂, ◌∙◌, subst, arith, eq-eqb}
+use Rattle.std.proofs.Common.{◌≡◌, ℕ, ◌+◌, ◌-◌, ◌*◌, ◌<◌, ◌≤◌, inl, inr, Bool, true, false, ◌&&◌, ◌==◌, List, [], ◌∷◌, ◌++◌, length, Option, Some, None, Ok, if◌then◌else◌, refl, sym, ap, ap₂, ◌∙◌, subst, arith, eq-eqb}
 use Rattle.std.specs.List.{list_any}
 use Rattle.std.proofs.lemmas.Bool.{and_from, both_ways}
 use Rattle.risc_word.specs.declared.Code.{Code}
@@ -12,12 +12,10 @@ use Rattle.fifo_model.specs.declared.Queue.{Queue}
 use Rattle.irq_status.specs.declared.HostWrite.TheVariants.{Ack, Enable, Trigger}
 use Rattle.page_table.specs.Blocks.{Block}
 use Rattle.pixel_layout.specs.declared.Parity.{Parity}
-use Rattle.picture_model.proofs.Each.{Each}
 use Rattle.machine_model.specs.declared.Cause.{Cause}
 use Rattle.machine_model.specs.declared.Demand.{Demand}
 use Rattle.machine_model.specs.declared.Demands.{Demands}
-use Rattle.machine_model.specs.declared.Did.{Did}
-use Rattle.machine_model.specs.declared.Did.TheVariants.{Still, Synced, Begun, Retired, Moved, GivenUp}
+use Rattle.machine_model.specs.declared.Did.TheVariants.{Moved, GivenUp}
 use Rattle.machine_model.specs.declared.Job.{Job}
 use Rattle.machine_model.specs.declared.Job.TheVariants.{Idle, Waiting, Running}
 use Rattle.machine_model.specs.declared.Seen.{Seen}
@@ -27,9 +25,9 @@ use Rattle.machine_model.specs.Paths.{RiscProgram, data_cause, demands_cause, de
 use Rattle.machine_model.specs.States.{State}
 use Rattle.machine_model.specs.Steps.{Step, Push, Control, Turn, Host, host, push, push_control, step, with_program}
 use Rattle.machine_model.specs.Turns.{Store, begun_with, burst, burst_of, common_code, counted, data_fetched, demand_on, fetched, instr_fetched, is_done, lowest_served, lowest_stray, ran, retired, synced, turn, turn_if, worked}
-use Rattle.machine_model.specs.Seen.{Application, address_before, applications, data_did, discards_reserved, ends, fetched_did, gives_up, instr_did, seen, seen_alone, seen_burst, seen_if, seen_in, seen_running, seen_served, takes, waited_did}
+use Rattle.machine_model.specs.Seen.{Application, address_before, applications, data_did, discards_reserved, ends, fetched_did, instr_did, seen, seen_alone, seen_burst, seen_if, seen_in, seen_running, seen_served, takes, waited_did}
 use Rattle.capture_desc.specs.declared.desc.Desc.{Desc}
-use Rattle.picture_model.specs.Programs.{compiled, signal}
+use Rattle.picture_model.specs.Programs.{compiled}
 use Rattle.picture_model.proofs.Right.{IsRight}
 use Rattle.field_law.specs.Arrivals.{IsKept, is_idle, is_queue, is_signal}
 use Rattle.field_law.specs.Fields.{Token}
@@ -43,15 +41,15 @@ use Rattle.damage_law.proofs.ArrivedTakes.{Took, burst-Took, left_in_line}
 use Rattle.damage_law.proofs.Orders.{queue_is}
 use Rattle.damage_map.specs.declared.mark.LineMark.{LineMark}
 use Rattle.damage_map.specs.declared.mark.LineMark.TheVariants.{Fresh, Done}
-use Rattle.damage_map.specs.Tracks.{FieldTrack, ends_line, fresh, is_good, mark_on, met, met_mark, opened, opens, taken_mark, through, track_next, turned, with_mark}
-use Rattle.damage_map.proofs.AnswersKept.{Inside, Keeps, Outside, Place}
-use Rattle.damage_map.proofs.ArrivedTurns.{GoesWell, IsMarked, left_first, left_later, marked_good, marked_taken, parts_left, same_body, well_fetched, well_fresh, well_still, well_through}
+use Rattle.damage_map.specs.Tracks.{FieldTrack, ends_line, fresh, is_good, mark_on, met, met_mark, opened, opens, through, track_next, turned, with_mark}
+use Rattle.damage_map.proofs.AnswersKept.{Keeps, Place}
+use Rattle.damage_map.proofs.ArrivedTurns.{GoesWell, IsMarked, left_later, marked_good, marked_taken, parts_left, same_body, well_fetched, well_fresh, well_still, well_through}
 use Rattle.damage_map.proofs.Bursts.{Needs}
 use Rattle.damage_map.proofs.Histories.{Opened}
 use Rattle.damage_map.proofs.Sections.{Past, instrs_of, is_none}
 use Rattle.damage_map.proofs.SectionSteps.{push-Unmoved, push_control-Unmoved}
 use Rattle.damage_map.proofs.SectionTurns.{mark_other, mark_same, uncounted, waited-quiet}
-use Rattle.damage_map.proofs.Visits.{GapJob, InGap, InLine, LineJob, Visit}
+use Rattle.damage_map.proofs.Visits.{GapJob, InLine, LineJob}
 
 -- nothing is known of the stores
 abbrev pub Unknown : List Block → (Queue → List Store) → Type 0

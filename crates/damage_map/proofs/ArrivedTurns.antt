@@ -1,34 +1,26 @@
 -- While a field arrives, a turn keeps every line whole, as the track has it.
-use Rattle.std.proofs.Common.{◌≡◌, ℕ, zero, suc, ◌+◌, ◌-◌, ◌*◌, ◌<◌, ◌≤◌, ◌⊎◌, inl, inr, Bool, true, false, not, ◌&&◌, ◌==◌, List, [], ◌∷◌, ◌++◌, length, Option, Some, None, Ok, Err, if◌then◌else◌, refl, sym, ap, ap₂, ◌∙◌, subst, arith, eqb-true}
+use Rattle.std.proofs.Common.{◌≡◌, ℕ, ◌+◌, ◌*◌, ◌<◌, Bool, true, false, not, ◌&&◌, List, [], ◌∷◌, ◌++◌, length, Option, None, if◌then◌else◌, refl, sym, ap, ap₂, ◌∙◌, subst, arith}
 use Rattle.std.specs.Prelude.{nat_lt}
-use Rattle.std.specs.List.{list_any}
-use Rattle.risc_word.specs.declared.Code.{Code}
 use Rattle.risc_word.specs.declared.Ctl.{Ctl}
 use Rattle.risc_word.specs.declared.Instr.{Instr}
 use Rattle.risc_word.specs.declared.Instr.TheVariants.{Write, Skip, WriteC, Jump, Sync, Write123, Skip123, Write1S23}
-use Rattle.risc_word.specs.Words.{Reading, encoded}
+use Rattle.risc_word.specs.Words.{encoded}
 use Rattle.fifo_model.specs.declared.Queue.{Queue}
 use Rattle.fifo_model.specs.declared.Queue.TheVariants.{One, Two, Three}
 use Rattle.picture_model.proofs.Each.{Each, each_append}
-use Rattle.machine_model.specs.declared.Cause.{Cause}
-use Rattle.machine_model.specs.declared.Demand.{Demand}
-use Rattle.machine_model.specs.declared.Demands.{Demands}
 use Rattle.machine_model.specs.declared.Job.{Job}
-use Rattle.machine_model.specs.declared.Job.TheVariants.{Idle, Waiting, Running}
-use Rattle.machine_model.specs.Paths.{RiscProgram, demands_of, fetch, instr_ends, is_data}
+use Rattle.machine_model.specs.declared.Job.TheVariants.{Idle}
+use Rattle.machine_model.specs.Paths.{RiscProgram, demands_of, fetch, is_data}
 use Rattle.machine_model.specs.States.{State}
-use Rattle.machine_model.specs.Turns.{begun_with, counted, demand_on}
-use Rattle.machine_model.specs.Seen.{applications, ends, takes}
-use Rattle.field_law.specs.Arrivals.{is_queue}
+use Rattle.machine_model.specs.Turns.{demand_on}
 use Rattle.field_law.specs.Sections.{Ask, HoldsFrom, IsPlain, ask, ask_of, asked, asks}
 use Rattle.field_law.proofs.Within.{job_asks}
 use Rattle.damage_law.proofs.ArrivedTakes.{left_in_line}
 use Rattle.damage_map.specs.declared.mark.LineMark.{LineMark}
 use Rattle.damage_map.specs.declared.mark.LineMark.TheVariants.{Fresh, Within, Done, Spoilt}
-use Rattle.damage_map.specs.declared.mark.LineMarks.{LineMarks}
 use Rattle.damage_map.specs.Tracks.{FieldTrack, fresh, is_good, is_whole, mark_on, max_lines, noted, taken_mark}
 use Rattle.damage_map.proofs.AnswersKept.{same_read}
-use Rattle.damage_map.proofs.Sections.{AreParts, GoesIn, IsCut, LineGoes, Part, Await, Cut, instrs_of, is_none}
+use Rattle.damage_map.proofs.Sections.{AreParts, GoesIn, LineGoes, Part, Await, Cut, instrs_of, is_none}
 
 -- ---- one list of instructions stands from an address on up to a JUMP
 
