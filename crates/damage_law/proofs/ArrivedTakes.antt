@@ -96,12 +96,12 @@ module _ (sol : Bool) (count : ℕ) (address : Option ℕ) (list : List Ask) (st
 
 -- ---- demands
 
-demand_there : (q : Queue) (d : Demand) (ds : Demands) → demand_on q (with_demand q d ds) ≡ d
+pub demand_there : (q : Queue) (d : Demand) (ds : Demands) → demand_on q (with_demand q d ds) ≡ d
 demand_there One d ds = refl
 demand_there Two d ds = refl
 demand_there Three d ds = refl
 
-demand_apart : (p q : Queue) (d : Demand) (ds : Demands) → is_queue p q ≡ false → demand_on p (with_demand q d ds) ≡ demand_on p ds
+pub demand_apart : (p q : Queue) (d : Demand) (ds : Demands) → is_queue p q ≡ false → demand_on p (with_demand q d ds) ≡ demand_on p ds
 demand_apart One One d ds apart = cc
 demand_apart One Two d ds apart = refl
 demand_apart One Three d ds apart = refl

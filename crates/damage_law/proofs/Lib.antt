@@ -3,3 +3,4 @@ mod WholeLines
 pub mod Orders
 pub mod ArrivedTakes
 pub mod LastSignals
+pub mod StoredTakes
