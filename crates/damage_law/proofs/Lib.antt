@@ -4,3 +4,5 @@ pub mod Orders
 pub mod ArrivedTakes
 pub mod LastSignals
 pub mod StoredTakes
+pub mod LineBytes
+pub mod PlacedTakes
