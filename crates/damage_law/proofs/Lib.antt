@@ -6,3 +6,4 @@ pub mod LastSignals
 pub mod StoredTakes
 pub mod LineBytes
 pub mod PlacedTakes
+pub mod Pieces
