@@ -6,7 +6,7 @@ use Rattle.risc_word.specs.declared.Instr.{Instr}
 use Rattle.risc_word.specs.Words.{encoded}
 use Rattle.fifo_model.specs.declared.Queue.{Queue}
 use Rattle.fifo_model.specs.declared.Queue.TheVariants.{One, Two, Three}
-use Rattle.page_table.specs.Grants.{Chunk}
+use Rattle.page_table.specs.Grants.{Chunk, granted}
 use Rattle.pixel_layout.specs.Layouts.{chroma_row}
 use Rattle.pixel_layout.specs.declared.Parity.{Parity}
 use Rattle.machine_model.specs.Paths.{demands_of, fetch}
@@ -319,3 +319,72 @@ module _ (d : Desc) (right : IsRight d) (field : Parity) (described : describes 
           goes = there;
           kept = kept_on p.kind q (p.k.at * t.size + y) (s + y) p.within moved (omega arith) there;
         }
+
+    -- ---- no two write to one address
+
+    same_line : (one two : Kind) (p q : Queue) (x y : ℕ) → (one ≡ OfSkipped → ⊥) → (two ≡ OfSkipped → ⊥) → moves (strip_of one).planar p ≡ true → moves (strip_of two).planar q ≡ true →
+        byte_of one p x ≡ byte_of two q y → (one ≡ two) × (p ≡ q) × (x ≡ y)
+    same_line OfSkipped two p q x y some other moved moved' same = absurd (some refl)
+    same_line (OfVbi line) OfSkipped p q x y some other moved moved' same = absurd (other refl)
+    same_line (OfRow row) OfSkipped p q x y some other moved moved' same = absurd (other refl)
+    same_line (OfVbi line) (OfRow row) p q x y some other moved moved' same = cc
+    same_line (OfRow row) (OfVbi line) p q x y some other moved moved' same = cc
+    same_line (OfRow row) (OfRow row') p q x y some other moved moved' same = let number : row ≡ row' = cc in (ap OfRow number, cc, cc)
+    same_line (OfVbi line) (OfVbi line') p q x y some other moved moved' same =
+        let number : line ≡ line' = cc in (ap OfVbi number, packed p q moved moved', cc)
+      where
+        packed : (p q : Queue) → moves false p ≡ true → moves false q ≡ true → p ≡ q
+        packed One One moved moved' = refl
+        packed One Two moved moved' = cc
+        packed One Three moved moved' = cc
+        packed Two q moved moved' = cc
+        packed Three q moved moved' = cc
+
+    never_skipped : (kind : Kind) (q : Queue) (x address : ℕ) → address_in (line_parts_of (memory_of d) (track_on q (strip_of kind)) (cuts_on kind)) x ≡ Some address → kind ≡ OfSkipped → ⊥
+    never_skipped (OfVbi line) q x address goes is = cc
+    never_skipped (OfRow row) q x address goes is = cc
+    never_skipped OfSkipped q x address goes is = let nowhere = skipped_goes d q x (cuts_on OfSkipped) in let none : None ≡ Some address = sym nowhere ∙ goes in cc
+
+    same_place : (kind : Kind) (a b : ℕ) (before before' : List Cut) → (kind ≡ OfSkipped → ⊥) → before ≡ before' → IsPlace kind a before → IsPlace kind b before' → a ≡ b
+    same_place OfSkipped a b before before' some same one two = absurd (some refl)
+    same_place (OfVbi line) a b before before' some same one two = one ∙ ap (λ (cuts : List Cut). begin_of (OfVbi line) + words_before (OfVbi line) cuts) same ∙ sym two
+    same_place (OfRow row) a b before before' some same one two = one ∙ ap (λ (cuts : List Cut). begin_of (OfRow row) + words_before (OfRow row) cuts) same ∙ sym two
+
+    same_piece : (kind : Kind) (a b : ℕ) (p q : Queue) (before before' after after' : List Cut) (k k' : Cut) (x y : ℕ) → IsLineOf kind → (kind ≡ OfSkipped → ⊥) → p ≡ q →
+        cuts_on kind ≡ before ++ k ∷ after → cuts_on kind ≡ before' ++ k' ∷ after' → IsPlace kind a before → IsPlace kind b before' →
+        x < k.n * (track_on p (strip_of kind)).size → y < k'.n * (track_on q (strip_of kind)).size →
+        k.at * (track_on p (strip_of kind)).size + x ≡ k'.at * (track_on q (strip_of kind)).size + y → (a ≡ b) × (p ≡ q) × (x ≡ y)
+    same_piece kind a b p q before before' after after' k k' x y within some queue split split' there there' inside inside' same =
+        let size = (track_on p (strip_of kind)).size in
+        let sizes : (track_on q (strip_of kind)).size ≡ size = ap (λ (r : Queue). (track_on r (strip_of kind)).size) (sym queue) in
+        let inside_y : y < k'.n * size = subst (λ (n : ℕ). y < k'.n * n) sizes inside' in
+        let same_x : k.at * size + x ≡ k'.at * size + y = same ∙ ap (λ (n : ℕ). k'.at * n + y) sizes in
+        let both = both_cuts size (strip_of kind).grains 0 before before' k k' after after' x y
+        (subst (Follow (strip_of kind).grains 0) split (cuts_follow (memory_of d) (strip_of kind) (fit_of kind within))) (sym split ∙ split') inside inside_y same_x in
+        let at : k.at * size ≡ k'.at * size = ap (λ (c : Cut). c.at * size) both.1 in
+        (same_place kind a b before before' some both.0 there there', queue, omega arith)
+
+    pub pieces_apart : (a b : ℕ) (i j : Instr) (p q : Queue) (s t x y : ℕ) → PieceAt a i → PieceAt b j → address_on p i ≡ Some s → address_on q j ≡ Some t → x < count_on p i → y < count_on q j →
+        s + x ≡ t + y → (a ≡ b) × (p ≡ q) × (x ≡ y)
+    pieces_apart a b i j p q s t x y one two goes goes' inside inside' same =
+        let w = written a i p s x one goes inside in
+        let v = written b j q t y two goes' inside' in
+        let size = (track_on p (strip_of one.kind)).size in
+        let size' = (track_on q (strip_of two.kind)).size in
+        let some = never_skipped one.kind p (one.k.at * size + x) (s + x) w.goes in
+        let other = never_skipped two.kind q (two.k.at * size' + y) (t + y) v.goes in
+        let once =
+        kept_once d right field described (byte_of one.kind p (one.k.at * size + x)) (byte_of two.kind q (two.k.at * size' + y)) (s + x) w.kept
+        (subst (λ (n : ℕ). IsKeptAt d field (byte_of two.kind q (two.k.at * size' + y)) n) (sym same) v.kept) in
+        let line = same_line one.kind two.kind p q (one.k.at * size + x) (two.k.at * size' + y) some other w.moved v.moved once in
+        let back = sym line.0 in
+        let sizes : (track_on q (strip_of one.kind)).size ≡ size' = ap (λ (kind : Kind). (track_on q (strip_of kind)).size) line.0 in
+        same_piece one.kind a b p q one.before two.before one.after two.after one.k two.k x y one.within some line.1 one.split
+        (subst (λ (kind : Kind). cuts_on kind ≡ two.before ++ two.k ∷ two.after) back two.split) one.there (subst (λ (kind : Kind). IsPlace kind b two.before) back two.there)
+        w.inside (subst (λ (kind : Kind). y < two.k.n * (track_on q (strip_of kind)).size) back v.inside) (line.2 ∙ ap (λ (n : ℕ). two.k.at * n + y) (sym sizes))
+
+    -- each writes to granted memory
+    pub pieces_granted : (a : ℕ) (i : Instr) (p : Queue) (s x : ℕ) → PieceAt a i → address_on p i ≡ Some s → x < count_on p i → granted (compiled d).grants (s + x) ≡ true
+    pieces_granted a i p s x one goes inside =
+        let w = written a i p s x one goes inside in
+        kept_granted d right field described (byte_of one.kind p (one.k.at * (track_on p (strip_of one.kind)).size + x)) (s + x) w.kept
