@@ -1,6 +1,6 @@
 -- What a burst stores are the bytes that it takes, in their order, from the address on where the running instruction goes
 -- on to write.
-use Rattle.std.proofs.Common.{◌≡◌, ℕ, zero, suc, ◌+◌, ◌-◌, ◌≤◌, min, Bool, true, false, ◌==◌, List, [], ◌∷◌, ◌++◌, append_assoc, drop, length, length-append, length-drop, length-take, take, Option, Some, None, option_map, if◌then◌else◌, refl, sym, ap, ap₂, ◌∙◌, subst, arith}
+use Rattle.std.proofs.Common.{◌≡◌, ℕ, zero, suc, ◌+◌, ◌-◌, ◌≤◌, ◌⊎◌, inl, inr, min, Bool, true, false, ◌==◌, List, [], ◌∷◌, ◌++◌, append_assoc, drop, length, length-append, length-drop, length-take, take, Option, Some, None, option_map, if◌then◌else◌, refl, sym, ap, ap₂, ◌∙◌, subst, arith}
 use Rattle.std.proofs.lemmas.List.{append-nil}
 use Rattle.risc_word.specs.declared.Instr.{Instr}
 use Rattle.sync_status.specs.declared.Verdict.{Verdict}
@@ -80,7 +80,12 @@ module _ (q : Queue) (instr : Instr) (plain : instr_off instr ≡ 0) (at : ℕ) 
     pub address : (demand_on q left).address ≡ option_map (λ at. at + count) (demand_on q ds).address
     pub others : (p : Queue) → is_queue p q ≡ false → demand_on p left ≡ demand_on p ds
 
+  -- it runs on, or was given up
+  abbrev pub Ends : Job → Type 0
+  Ends job = (job ≡ Idle) ⊎ ((left : Demands) × (job ≡ Running instr left))
+
   pub record Laid (ds : Demands) (after : State) (stores : List Store) (ts : List Taking) : Type 0 where
+    pub ends : Ends after.job
     pub stored : stores ≡ laid (demand_on q ds).address (taken_bytes ts)
     pub few : length (taken_bytes ts) ≤ (demand_on q ds).rest
     pub goes_on : (left : Demands) → after.job ≡ Running instr left → GoesFrom ds left (length (taken_bytes ts))
@@ -88,6 +93,7 @@ module _ (q : Queue) (instr : Instr) (plain : instr_off instr ≡ 0) (at : ℕ) 
   nothing : (ds : Demands) (m : State) → m.job ≡ Running instr ds → Laid ds m [] []
   nothing ds m j =
       record {
+        ends = inr (ds, j);
         stored = sym (laid_nothing (demand_on q ds).address);
         few = omega arith;
         goes_on = λ left is.
@@ -139,6 +145,7 @@ module _ (q : Queue) (instr : Instr) (plain : instr_off instr ≡ 0) (at : ℕ) 
         let long = bytes_long entry (demand_on q ds).needs_sol taken (demand_on q ds).rest count is in
         let nothing_more = length-append bytes [] in
         record {
+          ends = inl idle;
           stored = append-nil first_stores ∙ first_laid ∙ ap (laid (demand_on q ds).address) (sym (append-nil bytes));
           few = let all = long.0 in let most = long.1 in omega (arith, nothing_more);
           goes_on = λ left runs. let never : Idle ≡ Running instr left = sym idle ∙ runs in cc;
@@ -155,6 +162,7 @@ module _ (q : Queue) (instr : Instr) (plain : instr_off instr ≡ 0) (at : ℕ) 
         let all = length-append bytes (taken_bytes ts) in
         let few = l.few in
         record {
+          ends = l.ends;
           stored =
               ap₂ (λ (xs ys : List Store). xs ++ ys) first_laid
               (l.stored ∙ ap (λ (address : Option ℕ). laid address (taken_bytes ts)) (address_there ∙ ap (λ (n : ℕ). option_map (λ at. at + n) (demand_on q ds).address) (sym size)))
@@ -188,6 +196,7 @@ module _ (q : Queue) (instr : Instr) (plain : instr_off instr ≡ 0) (at : ℕ) 
         subst (λ (stores : List Store). Laid ds (burst n q after) stores (burst_takings n q at (place + left q m after) after)) (sym stops.0)
         (subst (Laid ds (burst n q after) []) (sym stops.1)
         (record {
+          ends = inl stops.2;
           stored = sym (laid_nothing (demand_on q ds).address);
           few = omega arith;
           goes_on = λ left runs. let never : Idle ≡ Running instr left = sym stops.2 ∙ runs in cc;

@@ -256,18 +256,18 @@ module _ (d : Desc) (right : IsRight d) where
 -- ---- the parts of a section
 
 module _ (d : Desc) where
-  abbrev line_part : Strip → Part
+  abbrev pub line_part : Strip → Part
   line_part strip = parts.Cut (moves strip.planar) (line_instrs d strip)
 
-  abbrev line_parts : List Strip → List Part
+  abbrev pub line_parts : List Strip → List Part
   line_parts strips = map line_part strips
 
-  abbrev vbi_parts_from : ℕ → Parity → List Part
+  abbrev pub vbi_parts_from : ℕ → Parity → List Part
   vbi_parts_from zero field = []
   vbi_parts_from (suc more) field = Await Fm1 ∷ line_parts (vbi_strips d field)
 
   -- those before the rows
-  abbrev parts_before : Parity → List Part
+  abbrev pub parts_before : Parity → List Part
   parts_before field = vbi_parts_from d.vbi_lines field ++ Await (data_code (layout_of d).planar) ∷ line_parts (replicate d.skip_lines (skipped_strip d))
 
   abbrev row_parts : Parity → List Part
@@ -283,7 +283,7 @@ module _ (d : Desc) where
   instrs_append (parts.Cut moved line ∷ xs) ys =
       ap (λ (is : List Instr). line ++ is) (instrs_append xs ys) ∙ sym (append_assoc line (instrs_of xs) (instrs_of ys))
 
-  lines_instrs_of : (strips : List Strip) → instrs_of (line_parts strips) ≡ lines_instrs d strips
+  pub lines_instrs_of : (strips : List Strip) → instrs_of (line_parts strips) ≡ lines_instrs d strips
   lines_instrs_of [] = refl
   lines_instrs_of (strip ∷ strips) = ap (λ (is : List Instr). line_instrs d strip ++ is) (lines_instrs_of strips)
 
@@ -291,7 +291,7 @@ module _ (d : Desc) where
   vbi_instrs_of field zero = refl
   vbi_instrs_of field (suc more) = ap (λ (is : List Instr). sync false Fm1 ∷ is) (lines_instrs_of (vbi_strips d field))
 
-  before_instrs : (field : Parity) → instrs_of (parts_before field) ≡ vbi_instrs d field ++ sync false (data_code (layout_of d).planar) ∷ lines_instrs d (replicate d.skip_lines (skipped_strip d))
+  pub before_instrs : (field : Parity) → instrs_of (parts_before field) ≡ vbi_instrs d field ++ sync false (data_code (layout_of d).planar) ∷ lines_instrs d (replicate d.skip_lines (skipped_strip d))
   before_instrs field =
       instrs_append (vbi_parts_from d.vbi_lines field) (Await (data_code (layout_of d).planar) ∷ line_parts (replicate d.skip_lines (skipped_strip d)))
       ∙ ap₂ (λ (xs ys : List Instr). xs ++ sync false (data_code (layout_of d).planar) ∷ ys) (vbi_instrs_of field d.vbi_lines) (lines_instrs_of (replicate d.skip_lines (skipped_strip d)))
@@ -311,7 +311,7 @@ module _ (d : Desc) where
   words_append [] ys = omega arith
   words_append (i ∷ xs) ys = let rest = words_append xs ys in omega arith
 
-  lines_append : (xs ys : List Part) (here : ℕ) → lines_at here (xs ++ ys) ≡ lines_at here xs ++ lines_at (here + 4 * words_in (instrs_of xs)) ys
+  pub lines_append : (xs ys : List Part) (here : ℕ) → lines_at here (xs ++ ys) ≡ lines_at here xs ++ lines_at (here + 4 * words_in (instrs_of xs)) ys
   lines_append [] ys here = ap (λ (n : ℕ). lines_at n ys) (omega arith)
   lines_append (Await code ∷ xs) ys here =
       let there : here + 8 + 4 * words_in (instrs_of xs) ≡ here + 4 * words_in (instrs_of (Await code ∷ xs)) = omega arith in
@@ -348,7 +348,7 @@ module _ (d : Desc) where
   abbrev pub section_lines : Parity → List (List ℕ)
   section_lines field = lines_at (section_begin d d.base field + 8) (section_parts field)
 
-  lines_split : (field : Parity) → section_lines field ≡ lines_at (section_begin d d.base field + 8) (parts_before field) ++ row_addresses d field
+  pub lines_split : (field : Parity) → section_lines field ≡ lines_at (section_begin d d.base field + 8) (parts_before field) ++ row_addresses d field
   lines_split field =
       let begin = section_begin d d.base field + 8 in
       let words = ap words_in (before_instrs field) in

@@ -12,3 +12,4 @@ mod StillTurns
 pub mod ArrivedTurns
 pub mod ArrivedSteps
 pub mod ArrivedFields
+pub mod PlacedLines
