@@ -13,3 +13,4 @@ pub mod ArrivedTurns
 pub mod ArrivedSteps
 pub mod ArrivedFields
 pub mod PlacedLines
+pub mod PlacedTurns

@@ -102,7 +102,7 @@ addresses_above here at (instr ∷ rest) less = (less, addresses_above here (at 
 pub addresses_from_here : (here : ℕ) (instrs : List Instr) → AreFrom here (addresses_from here instrs)
 addresses_from_here here instrs = addresses_above here here instrs (omega arith)
 
-not_below : (here at : ℕ) (addresses : List ℕ) → here ≤ at → AreBelow here addresses → is_among addresses at ≡ false
+pub not_below : (here at : ℕ) (addresses : List ℕ) → here ≤ at → AreBelow here addresses → is_among addresses at ≡ false
 not_below here at [] less below = refl
 not_below here at (a ∷ rest) less below =
     let lt = below.0 in or_from (at == a) (is_among rest at) (ne_eqb at a (λ same. absurd (omega arith))) (not_below here at rest less below.1)
