@@ -62,7 +62,7 @@ count_on q i = (demand_on q (demands_of i None)).rest
 abbrev pub Had : Type 0
 Had = ℕ → Queue → List ℕ
 
-same_queue_or : (p q : Queue) → (p ≡ q) ⊎ (p ≡ q → ⊥)
+pub same_queue_or : (p q : Queue) → (p ≡ q) ⊎ (p ≡ q → ⊥)
 same_queue_or One One = inl refl
 same_queue_or One Two = inr (λ same. cc)
 same_queue_or One Three = inr (λ same. cc)

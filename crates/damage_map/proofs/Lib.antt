@@ -14,3 +14,4 @@ pub mod ArrivedSteps
 pub mod ArrivedFields
 pub mod PlacedLines
 pub mod PlacedTurns
+pub mod PlacedSteps

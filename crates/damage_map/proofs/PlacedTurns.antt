@@ -43,7 +43,7 @@ use Rattle.damage_map.proofs.Sections.{AreBelow, Past, TakenBelow, none_yet, not
 
 -- ---- what a burst keeps
 
-burst_ats : (q : Queue) (at n place : ℕ) (m : State) → Each (λ t. t.at ≡ at) (burst_takings n q at place m)
+pub burst_ats : (q : Queue) (at n place : ℕ) (m : State) → Each (λ t. t.at ≡ at) (burst_takings n q at place m)
 burst_ats q at zero place m = tt
 burst_ats q at (suc n) place m =
     each_append (λ t. t.at ≡ at) (takings_of at place (application q m)) (elim (apply q m) as (λ _. List Taking) [ None ↦ [] | Some after ↦ burst_takings n q at (place + left q m after) after ])
@@ -132,7 +132,7 @@ none_at a here (t ∷ new) different at =
     cond-false (is_among (a ∷ []) t.at) (t ∷ takes_in (a ∷ []) new) (takes_in (a ∷ []) new) (or_from (t.at == a) false (ne_eqb t.at a (λ same. let first = at.0 in different (omega arith))) refl)
     ∙ none_at a here new different at.1
 
-takes_apart : (a here : ℕ) (ts new : List Taking) → (a ≡ here → ⊥) → Each (λ t. t.at ≡ here) new → takes_in (a ∷ []) (ts ++ new) ≡ takes_in (a ∷ []) ts
+pub takes_apart : (a here : ℕ) (ts new : List Taking) → (a ≡ here → ⊥) → Each (λ t. t.at ≡ here) new → takes_in (a ∷ []) (ts ++ new) ≡ takes_in (a ∷ []) ts
 takes_apart a here [] new different at = none_at a here new different at
 takes_apart a here (t ∷ ts) new different at = by_test (is_among (a ∷ []) t.at) (takes_apart a here ts new different at)
   where
@@ -144,7 +144,7 @@ moved_nowhere : (address : Option ℕ) → address ≡ option_map (λ s. s + 0) 
 moved_nowhere None = refl
 moved_nowhere (Some at) = ap (λ (a : ℕ). Some a) (omega arith)
 
-moved_twice : (n k : ℕ) (address : Option ℕ) → option_map (λ at. at + k) (option_map (λ at. at + n) address) ≡ option_map (λ at. at + (n + k)) address
+pub moved_twice : (n k : ℕ) (address : Option ℕ) → option_map (λ at. at + k) (option_map (λ at. at + n) address) ≡ option_map (λ at. at + (n + k)) address
 moved_twice n k None = refl
 moved_twice n k (Some at) = ap (λ (a : ℕ). Some a) (omega arith)
 
