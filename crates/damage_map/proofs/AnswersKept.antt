@@ -16,6 +16,8 @@ use Rattle.fifo_model.specs.declared.Queue.{Queue}
 use Rattle.fifo_model.specs.Queues.{Queues, cleared, queue_state}
 use Rattle.irq_status.specs.declared.HostWrite.{HostWrite}
 use Rattle.irq_status.specs.declared.HostWrite.TheVariants.{Ack, Enable, Trigger}
+use Rattle.page_table.specs.Blocks.{chunks_of}
+use Rattle.page_table.proofs.Memory.{chunks_of-filled}
 use Rattle.pixel_layout.specs.declared.Parity.{Parity}
 use Rattle.pixel_layout.specs.declared.Parity.TheVariants.{Top, Bottom}
 use Rattle.machine_model.specs.declared.Demands.{Demands}
@@ -32,7 +34,7 @@ use Rattle.machine_model.specs.States.{State, first_state}
 use Rattle.machine_model.specs.Steps.{Step, Push, Control, Turn, Host, host, run, step, with_fifo, with_risc}
 use Rattle.machine_model.specs.Turns.{common_code, counted, fetched, is_done, lowest_served, lowest_stray, turn, turn_if, worked}
 use Rattle.machine_model.specs.Seen.{address_before, applications, code_did, data_did, fetched_did, gives_up, instr_did, seen, seen_alone, seen_if, seen_in, seen_running, seen_served, waited_did}
-use Rattle.machine_model.proofs.Fixed.{program-step}
+use Rattle.machine_model.proofs.Fixed.{chunks-step, program-step}
 use Rattle.machine_model.proofs.Orderly.{IsOrderly-first_state, IsOrderly-step}
 use Rattle.machine_model.proofs.Runs.{run-append}
 use Rattle.capture_desc.specs.declared.desc.Desc.{Desc}
@@ -53,6 +55,8 @@ use Rattle.damage_map.specs.Maps.{rows_of}
 use Rattle.damage_map.specs.Tracks.{FieldTrack, field_of, fresh, lines_at_signal, max_lines, met, opened, opens, signalled, through, track_next, tracked, turned, untold, with_loss, written}
 use Rattle.damage_map.proofs.Compiled.{body_parts, few_lines, parts_cut, rows_dropped, section_lines, section_parts}
 use Rattle.damage_map.proofs.Histories.{Opened, marks_over, next_opened, next_told, opened_if, told_after, told_after-answer, told_if}
+use Rattle.damage_map.proofs.PlacedSteps.{fresh_bytes, turn_bytes}
+use Rattle.damage_map.proofs.PlacedTurns.{JobHas, KeepsBytes, bytes_with}
 use Rattle.damage_map.proofs.Sections.{AreBelow, Past, TakenBelow, instrs_of, whole_over}
 use Rattle.damage_map.proofs.SectionSteps.{Unmoved, emptied_visit, push-Unmoved, push_control-Unmoved, unmoved_on}
 use Rattle.damage_map.proofs.SectionTurns.{Plainly, QueueKept, Turned, queue_same, turn_on}
@@ -376,6 +380,7 @@ module _ (d : Desc) (right : IsRight d) (skips : d.skip_lines ≤ 255) where
     pub opened_at : opens_since field ≡ Some (first, done)
     pub there : m ≡ run first done
     pub visit : Visit (compiled d) (signal field) (next_of d right field) (end_of d right field) (section_lines d field) m t (past_of first done) (gone_of first done)
+    pub bytes : KeepsBytes d right field described m (past_of first done)
 
   abbrev pub Place : State → FieldTrack → (Parity → Opened) → Type 0
   Place m t opens_since = Outside m ⊎ Inside m t opens_since
@@ -383,6 +388,7 @@ module _ (d : Desc) (right : IsRight d) (skips : d.skip_lines ≤ 255) where
   pub record Keeps (m : State) (t : FieldTrack) (opens_since : Parity → Opened) (tolds : Parity → Option (List Bool)) : Type 0 where
     pub program : m.program ≡ compiled d
     pub orderly : IsOrderly m
+    pub chunks : chunks_of m.memory ≡ (compiled d).grants
     pub told : (g : Parity) → describes d.fields g ≡ true → option_map (drop before_rows_count) (lines_at_signal g t) ≡ tolds g
     pub place : Place m t opens_since
 
@@ -402,8 +408,9 @@ module _ (d : Desc) (right : IsRight d) (skips : d.skip_lines ≤ 255) where
 
     goes_inside : (i : Inside m t opens_since) (after : State) (next : FieldTrack) → step s m ≡ after → is_opening d i.field m s ≡ false →
         Visit (compiled d) (signal i.field) (next_of d right i.field) (end_of d right i.field) (section_lines d i.field) after next
-        (past_next (past_of i.first i.done) (gone_of i.first i.done) m s) (λ q. gone_of i.first i.done q + left q m after) → Inside after next opens_next
-    goes_inside i after next steps closed visit =
+        (past_next (past_of i.first i.done) (gone_of i.first i.done) m s) (λ q. gone_of i.first i.done q + left q m after) →
+        KeepsBytes d right i.field i.described after (past_next (past_of i.first i.done) (gone_of i.first i.done) m s) → Inside after next opens_next
+    goes_inside i after next steps closed visit bytes =
         let there : step s m ≡ after = steps in
         let run_there : after ≡ run i.first (i.done ++ s ∷ []) = sym steps ∙ ap (step s) i.there ∙ sym (run-append i.first i.done (s ∷ [])) in
         let past_there : past_of i.first (i.done ++ s ∷ []) ≡ past_next (past_of i.first i.done) (gone_of i.first i.done) m s =
@@ -422,7 +429,17 @@ module _ (d : Desc) (right : IsRight d) (skips : d.skip_lines ≤ 255) where
               subst (λ (p : Past). Visit (compiled d) (signal i.field) (next_of d right i.field) (end_of d right i.field) (section_lines d i.field) after next p (gone_of i.first (i.done ++ s ∷ []))) (sym past_there)
               (subst (λ (gone : Queue → ℕ). Visit (compiled d) (signal i.field) (next_of d right i.field) (end_of d right i.field) (section_lines d i.field) after next
               (past_next (past_of i.first i.done) (gone_of i.first i.done) m s) gone) (sym gone_there) visit);
+          bytes = subst (KeepsBytes d right i.field i.described after) (sym past_there) bytes;
         }
+
+    -- where memory stays, and the machine stands where it stood
+    bytes_still : (i : Inside m t opens_since) (after : State) → after.memory ≡ m.memory → after.job ≡ m.job → after.pc ≡ m.pc →
+        past_next (past_of i.first i.done) (gone_of i.first i.done) m s ≡ past_of i.first i.done → KeepsBytes d right i.field i.described after (past_next (past_of i.first i.done) (gone_of i.first i.done) m s)
+    bytes_still i after memory job pc same =
+        let past = past_of i.first i.done in
+        subst (KeepsBytes d right i.field i.described after) (sym same)
+        (bytes_with d right i.field i.described m after past memory
+        (subst (λ (j : Job). JobHas d right i.field i.described after.pc j past) (sym job) (subst (λ (at : ℕ). JobHas d right i.field i.described at m.job past) (sym pc) i.bytes.job)) i.bytes)
 
     outside_still : (o : Outside m) (after : State) → after.job ≡ m.job → after.pc ≡ m.pc → Outside after
     outside_still o after j p = record { field = o.field; described = o.described; idle = j ∙ o.idle; there = p ∙ o.there }
@@ -438,7 +455,8 @@ module _ (d : Desc) (right : IsRight d) (skips : d.skip_lines ≤ 255) where
         inr (goes_inside i after next steps (closed i.field)
         (subst (λ (x : FieldTrack). Visit (compiled d) (signal i.field) (next_of d right i.field) (end_of d right i.field) (section_lines d i.field) after x
         (past_next past gone m s) (λ q. gone q + left q m after)) (sym same)
-        (subst (λ (p : Past). Visit (compiled d) (signal i.field) (next_of d right i.field) (end_of d right i.field) (section_lines d i.field) after t p (λ q. gone q + left q m after)) (sym (nothing past gone)) visit)))
+        (subst (λ (p : Past). Visit (compiled d) (signal i.field) (next_of d right i.field) (end_of d right i.field) (section_lines d i.field) after t p (λ q. gone q + left q m after)) (sym (nothing past gone)) visit))
+        (bytes_still i after u.memory u.job u.pc (nothing past gone)))
 
   abbrev pub After : (m : State) (t : FieldTrack) (opens_since : Parity → Opened) (tolds : Parity → Option (List Bool)) → Step → Type 0
   After m t opens_since tolds s =
@@ -450,6 +468,7 @@ module _ (d : Desc) (right : IsRight d) (skips : d.skip_lines ≤ 255) where
         record {
           program = program-step (Push q entry) m ∙ h.program;
           orderly = IsOrderly-step (Push q entry) m data_is h.orderly;
+          chunks = chunks-step (Push q entry) m ∙ h.chunks;
           told = tolds_stay m t opens_since tolds h (Push q entry) t (λ g. refl) (λ g is. refl);
           place = unmoved_place m t opens_since tolds h (Push q entry) (step (Push q entry) m) t refl refl (push-Unmoved q entry m h.orderly.queues) (λ g. refl) (λ past gone. nothing_past past) h.place;
         }
@@ -459,6 +478,7 @@ module _ (d : Desc) (right : IsRight d) (skips : d.skip_lines ≤ 255) where
         record {
           program = program-step (Control code) m ∙ h.program;
           orderly = IsOrderly-step (Control code) m tt h.orderly;
+          chunks = chunks-step (Control code) m ∙ h.chunks;
           told = tolds_stay m t opens_since tolds h (Control code) t (λ g. refl) (λ g is. refl);
           place = unmoved_place m t opens_since tolds h (Control code) (step (Control code) m) t refl refl (push_control-Unmoved code m h.orderly.queues) (λ g. refl) (λ past gone. nothing_past past) h.place;
         }
@@ -470,21 +490,22 @@ module _ (d : Desc) (right : IsRight d) (skips : d.skip_lines ≤ 255) where
     same_queues : (after : State) → after.queues ≡ m.queues → (q : Queue) → QueueKept (queue_state q m.queues) (queue_state q after.queues)
     same_queues after same q = subst (λ (qs : Queues). QueueKept (queue_state q m.queues) (queue_state q qs)) (sym same) (queue_same (queue_state q m.queues))
 
-    filled : (risc on : Bool) (after : State) → step (Host (Enable true risc)) m ≡ after → after.job ≡ m.job → after.pc ≡ m.pc → after.skipping ≡ m.skipping → after.queues ≡ m.queues →
+    filled : (risc on : Bool) (after : State) → step (Host (Enable true risc)) m ≡ after → after.job ≡ m.job → after.pc ≡ m.pc → after.skipping ≡ m.skipping → after.memory ≡ m.memory → after.queues ≡ m.queues →
         Place after t (λ g. next_opened d g m (Host (Enable true risc)) (opens_since g))
-    filled risc on after steps j p k qs =
-        unmoved_place m t opens_since tolds h (Host (Enable true risc)) after t steps refl (record { job = j; pc = p; skipping = k; queues = same_queues after qs }) (λ g. refl) (λ past gone. nothing_past past) h.place
+    filled risc on after steps j p k mem qs =
+        unmoved_place m t opens_since tolds h (Host (Enable true risc)) after t steps refl (record { job = j; pc = p; skipping = k; memory = mem; queues = same_queues after qs }) (λ g. refl) (λ past gone. nothing_past past) h.place
 
-    emptied_place : (risc : Bool) (after : State) → step (Host (Enable false risc)) m ≡ after → after.job ≡ m.job → after.pc ≡ m.pc → after.skipping ≡ m.skipping → after.queues ≡ cleared m.queues →
+    emptied_place : (risc : Bool) (after : State) → step (Host (Enable false risc)) m ≡ after → after.job ≡ m.job → after.pc ≡ m.pc → after.skipping ≡ m.skipping → after.memory ≡ m.memory → after.queues ≡ cleared m.queues →
         Place m t opens_since → Place after (written (Enable false risc) m t) (λ g. next_opened d g m (Host (Enable false risc)) (opens_since g))
-    emptied_place risc after steps j p k qs (inl o) = inl (outside_still m t opens_since tolds h (Host (Enable false risc)) o after j p)
-    emptied_place risc after steps j p k qs (inr i) =
+    emptied_place risc after steps j p k mem qs (inl o) = inl (outside_still m t opens_since tolds h (Host (Enable false risc)) o after j p)
+    emptied_place risc after steps j p k mem qs (inr i) =
         let past = past_of i.first i.done in
         let gone = gone_of i.first i.done in
         let visit = emptied_visit (compiled d) (signal i.field) (next_of d right i.field) (end_of d right i.field) (section_lines d i.field) (few i.field) m t past gone h.orderly.queues after qs j p k i.visit in
         inr (goes_inside m t opens_since tolds h (Host (Enable false risc)) i after (written (Enable false risc) m t) steps refl
         (subst (λ (x : Past). Visit (compiled d) (signal i.field) (next_of d right i.field) (end_of d right i.field) (section_lines d i.field) after (written (Enable false risc) m t) x
-        (λ q. gone q + left q m after)) (sym (nothing_past past)) visit))
+        (λ q. gone q + left q m after)) (sym (nothing_past past)) visit)
+        (bytes_still m t opens_since tolds h (Host (Enable false risc)) i after mem j p (nothing_past past)))
 
     restarts : (after : State) → after.job ≡ Idle → after.pc ≡ m.program.base → Outside after
     restarts after j p =
@@ -492,20 +513,20 @@ module _ (d : Desc) (right : IsRight d) (skips : d.skip_lines ≤ 255) where
         record { field = first.0; described = first.1; idle = j; there = p ∙ ap (λ (program : RiscProgram). program.base) h.program ∙ sym first.2 }
 
     enabled : (fifo risc on : Bool) → m.risc_on ≡ on → PlaceBy fifo risc on
-    enabled true true true is = filled true true _ (ap (λ (b : Bool). with_risc true b (with_fifo true m)) is) refl refl refl refl
-    enabled true false on is = filled false on _ (ap (λ (b : Bool). with_risc false b (with_fifo true m)) is) refl refl refl refl
-    enabled false true true is = emptied_place true _ (ap (λ (b : Bool). with_risc true b (with_fifo false m)) is) refl refl refl refl h.place
-    enabled false false on is = emptied_place false _ (ap (λ (b : Bool). with_risc false b (with_fifo false m)) is) refl refl refl refl h.place
+    enabled true true true is = filled true true _ (ap (λ (b : Bool). with_risc true b (with_fifo true m)) is) refl refl refl refl refl
+    enabled true false on is = filled false on _ (ap (λ (b : Bool). with_risc false b (with_fifo true m)) is) refl refl refl refl refl
+    enabled false true true is = emptied_place true _ (ap (λ (b : Bool). with_risc true b (with_fifo false m)) is) refl refl refl refl refl h.place
+    enabled false false on is = emptied_place false _ (ap (λ (b : Bool). with_risc false b (with_fifo false m)) is) refl refl refl refl refl h.place
     enabled true true false is = inl (restarts (with_risc true false (with_fifo true m)) refl refl)
     enabled false true false is = inl (restarts (with_risc true false (with_fifo false m)) refl refl)
 
     host_place : (write : HostWrite) → Place (host write m) (written write m t) (λ g. next_opened d g m (Host write) (opens_since g))
     host_place (Ack mask) =
         unmoved_place m t opens_since tolds h (Host (Ack mask)) (host (Ack mask) m) t refl refl
-        (record { job = refl; pc = refl; skipping = refl; queues = λ q. queue_same (queue_state q m.queues) }) (λ g. refl) (λ past gone. nothing_past past) h.place
+        (record { job = refl; pc = refl; skipping = refl; memory = refl; queues = λ q. queue_same (queue_state q m.queues) }) (λ g. refl) (λ past gone. nothing_past past) h.place
     host_place (Trigger number) =
         unmoved_place m t opens_since tolds h (Host (Trigger number)) (host (Trigger number) m) t refl refl
-        (record { job = refl; pc = refl; skipping = refl; queues = λ q. queue_same (queue_state q m.queues) }) (λ g. refl) (λ past gone. nothing_past past) h.place
+        (record { job = refl; pc = refl; skipping = refl; memory = refl; queues = λ q. queue_same (queue_state q m.queues) }) (λ g. refl) (λ past gone. nothing_past past) h.place
     host_place (Enable fifo risc) = enabled fifo risc m.risc_on refl
 
     writes_on : (write : HostWrite) → After m t opens_since tolds (Host write)
@@ -513,6 +534,7 @@ module _ (d : Desc) (right : IsRight d) (skips : d.skip_lines ≤ 255) where
         record {
           program = program-step (Host write) m ∙ h.program;
           orderly = IsOrderly-step (Host write) m tt h.orderly;
+          chunks = chunks-step (Host write) m ∙ h.chunks;
           told = tolds_stay m t opens_since tolds h (Host write) (written write m t) (λ g. written_calm write m t g) (λ g is. refl);
           place = host_place write;
         }
@@ -539,6 +561,7 @@ module _ (d : Desc) (right : IsRight d) (skips : d.skip_lines ≤ 255) where
           record {
             program = program-step Turn m ∙ h.program;
             orderly = IsOrderly-step Turn m tt h.orderly;
+            chunks = chunks-step Turn m ∙ h.chunks;
             told =
                 tolds_stay m t opens_since tolds h Turn (track_next m Turn t) (λ g. calm (seen m).did m.program (seen m) t g within.unjumped)
                 (λ g is.
@@ -546,7 +569,8 @@ module _ (d : Desc) (right : IsRight d) (skips : d.skip_lines ≤ 255) where
                 (λ on idle same. plain_jump (fetch (compiled d) m.pc) (signal g) (next_of d right g) 2 (plainly on idle) (ap (fetch (compiled d)) same ∙ closes_there d right g is)));
             place =
                 inr (goes_inside m t opens_since tolds h Turn i (turn m) (track_next m Turn t) refl (closed f i.described)
-                (subst (λ (p : RiscProgram). VisitTo (turned p (seen m).did (seen m) t)) (sym h.program) visit));
+                (subst (λ (p : RiscProgram). VisitTo (turned p (seen m).did (seen m) t)) (sym h.program) visit)
+                (turn_bytes d right f i.described m (past_of i.first i.done) i.bytes (gone_of i.first i.done) (signal f) (next_of d right f) (end_of d right f) t h.program plainly i.visit));
           }
 
       module _ (on : m.risc_on ≡ true) (idle : m.job ≡ Idle) (at_end : m.pc ≡ end_of d right f) (lines : t.lines ≡ map (whole_over (past_of i.first i.done)) (section_lines d f))
@@ -585,6 +609,7 @@ module _ (d : Desc) (right : IsRight d) (skips : d.skip_lines ≤ 255) where
             record {
               program = program-step Turn m ∙ h.program;
               orderly = IsOrderly-step Turn m tt h.orderly;
+              chunks = chunks-step Turn m ∙ h.chunks;
               told = λ g is. told_by g is (field_same f g);
               place = inl (record { field = next.0; described = next.1; idle = after_idle; there = after_there ∙ next.2 });
             }
@@ -611,6 +636,7 @@ module _ (d : Desc) (right : IsRight d) (skips : d.skip_lines ≤ 255) where
           record {
             program = program-step Turn m ∙ h.program;
             orderly = IsOrderly-step Turn m tt h.orderly;
+            chunks = chunks-step Turn m ∙ h.chunks;
             told =
                 tolds_stay m t opens_since tolds h Turn (track_next m Turn t) (λ g. ap (lines_at_signal g) same)
                 (λ g is. signal_by m.risc_on m.job m.pc (end_of d right g) (λ on. let never : true ≡ false = sym on ∙ off in cc));
@@ -683,6 +709,7 @@ module _ (d : Desc) (right : IsRight d) (skips : d.skip_lines ≤ 255) where
             record {
               program = program-step Turn m ∙ h.program;
               orderly = IsOrderly-step Turn m tt h.orderly;
+              chunks = chunks-step Turn m ∙ h.chunks;
               told =
                   tolds_stay m t opens_since tolds h Turn (track_next m Turn t) (λ g. ap (lines_at_signal g) track_is ∙ fresh_calm g)
                   (λ g is.
@@ -699,6 +726,10 @@ module _ (d : Desc) (right : IsRight d) (skips : d.skip_lines ≤ 255) where
                     opened_at = ap (λ (b : Bool). opened_if b m Turn (opens_since opened_field)) opens_here;
                     there = refl;
                     visit = visit_by (turn m) (track_next m Turn t) turn_is track_is;
+                    bytes =
+                        fresh_bytes d right opened_field o.described (turn m) (past_of m (Turn ∷ [])) (chunks-step Turn m ∙ h.chunks) nothing_taken none_retired
+                        (subst (λ (x : State). JobHas d right opened_field o.described x.pc x.job (past_of m (Turn ∷ []))) (sym turn_is)
+                        (λ q. subst (λ (ts : List Taking). TakenBelow (m.pc + 8) ts) (sym (nothing_taken q)) tt));
                   });
             }
 
@@ -729,6 +760,7 @@ module _ (d : Desc) (right : IsRight d) (skips : d.skip_lines ≤ 255) where
       record {
         program = refl;
         orderly = IsOrderly-first_state (compiled d) fill;
+        chunks = chunks_of-filled fill (compiled d).grants;
         told = λ g is. untold_none g before_rows_count;
         place = inl (record { field = first.0; described = first.1; idle = refl; there = sym first.2 });
       }

@@ -34,6 +34,7 @@ pub record Unmoved (m after : State) : Type 0 where
   pub job : after.job ≡ m.job
   pub pc : after.pc ≡ m.pc
   pub skipping : after.skipping ≡ m.skipping
+  pub memory : after.memory ≡ m.memory
   pub queues : (q : Queue) → QueueKept (queue_state q m.queues) (queue_state q after.queues)
 
 -- ---- pushes
@@ -79,6 +80,7 @@ push_by true q entry m is =
       job = refl;
       pc = refl;
       skipping = refl;
+      memory = refl;
       queues = λ p. one_changed p q (overrun (queue_state q m.queues)) m.queues (record { taken = refl; top = λ some. refl; more = omega arith });
     }
 push_by false q entry m is =
@@ -86,11 +88,12 @@ push_by false q entry m is =
       job = refl;
       pc = refl;
       skipping = refl;
+      memory = refl;
       queues = λ p. one_changed p q (entered entry (queue_state q m.queues)) m.queues (entered_kept entry (queue_state q m.queues) (IsQueue-queue_state q m.queues is));
     }
 
 unmoved_same : (m : State) → Unmoved m m
-unmoved_same m = record { job = refl; pc = refl; skipping = refl; queues = λ q. queue_same (queue_state q m.queues) }
+unmoved_same m = record { job = refl; pc = refl; skipping = refl; memory = refl; queues = λ q. queue_same (queue_state q m.queues) }
 
 push_if_by : (on : Bool) (q : Queue) (entry : Entry) (m : State) → IsFifo m.queues → Unmoved m (push_if on q entry m)
 push_if_by true q entry m is = push_by (is_full (queue_state q m.queues)) q entry m is
@@ -101,8 +104,8 @@ push-Unmoved q entry m is = push_if_by m.fifo_on q entry m is
 
 control_by : (full : Bool) (code : Code) (m : State) → IsFifo m.queues →
     Unmoved m (record (with_fbus_if full m) { queues = if full then record m.queues { control_overruns = more m.queues.control_overruns 1 } else all_entered (control_entry code) m.queues })
-control_by true code m is = record { job = refl; pc = refl; skipping = refl; queues = none_changed m.queues (more m.queues.control_overruns 1) }
-control_by false code m is = record { job = refl; pc = refl; skipping = refl; queues = all_changed (control_entry code) m.queues is }
+control_by true code m is = record { job = refl; pc = refl; skipping = refl; memory = refl; queues = none_changed m.queues (more m.queues.control_overruns 1) }
+control_by false code m is = record { job = refl; pc = refl; skipping = refl; memory = refl; queues = all_changed (control_entry code) m.queues is }
 
 control_if_by : (on : Bool) (code : Code) (m : State) → IsFifo m.queues → Unmoved m (push_control_if on code m)
 control_if_by true code m is = control_by (some_full m.queues) code m is
