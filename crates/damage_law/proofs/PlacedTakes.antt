@@ -41,12 +41,12 @@ laid_there memory at (byte ∷ bytes) (suc y) inside allowed =
     let there : at + 1 + z ≡ at + suc z = omega arith in
     ap (λ (chunks : List Chunk). granted chunks (at + 1 + z)) (chunks_of-stored memory at byte) ∙ ap (granted (chunks_of memory)) there ∙ allowed (suc z) (omega arith))
 
-index_first : (xs ys : List ℕ) (y : ℕ) → y < length xs → slice_index (xs ++ ys) y ≡ slice_index xs y
+pub index_first : (xs ys : List ℕ) (y : ℕ) → y < length xs → slice_index (xs ++ ys) y ≡ slice_index xs y
 index_first [] ys y inside = absurd (omega arith)
 index_first (x ∷ xs) ys zero inside = refl
 index_first (x ∷ xs) ys (suc y) inside = index_first xs ys y (omega arith)
 
-index_later : (xs ys : List ℕ) (y : ℕ) → slice_index (xs ++ ys) (length xs + y) ≡ slice_index ys y
+pub index_later : (xs ys : List ℕ) (y : ℕ) → slice_index (xs ++ ys) (length xs + y) ≡ slice_index ys y
 index_later [] ys y = ap (slice_index ys) (omega arith)
 index_later (x ∷ xs) ys y = let next : length (x ∷ xs) + y ≡ suc (length xs + y) = omega arith in ap (slice_index (x ∷ (xs ++ ys))) next ∙ index_later xs ys y
 

@@ -5,3 +5,4 @@ pub mod Worked
 pub mod Orders
 pub mod Arrived
 pub mod LastSignals
+pub mod Standing

@@ -15,3 +15,4 @@ pub mod ArrivedFields
 pub mod PlacedLines
 pub mod PlacedTurns
 pub mod PlacedSteps
+pub mod PlacedRows

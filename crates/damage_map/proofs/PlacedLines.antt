@@ -47,7 +47,7 @@ address_split x (i ∷ instrs) (a ∷ done) more here is =
     let there = later.4 in
     (i ∷ later.0, later.1, later.2, ap (λ (l : List Instr). i ∷ l) later.3, omega arith)
 
-holds_behind : (program : RiscProgram) (at : ℕ) (first later : List Instr) (ctl : Ctl) (to : ℕ) → HoldsFrom program at (first ++ later) ctl to → HoldsFrom program (at + 4 * words_in first) later ctl to
+pub holds_behind : (program : RiscProgram) (at : ℕ) (first later : List Instr) (ctl : Ctl) (to : ℕ) → HoldsFrom program at (first ++ later) ctl to → HoldsFrom program (at + 4 * words_in first) later ctl to
 holds_behind program at [] later ctl to holds = let same : at ≡ at + 4 * 0 = omega arith in subst (λ (n : ℕ). HoldsFrom program n later ctl to) same holds
 holds_behind program at (i ∷ first) later ctl to holds =
     let same : at + 4 * length (encoded i) + 4 * words_in first ≡ at + 4 * words_in (i ∷ first) = omega arith in
@@ -61,14 +61,14 @@ pub instr_of_read : (i j : Instr) (n k : ℕ) (program : RiscProgram) (at : ℕ)
 instr_of_read i j n k program at one two = ap (read_or i) (sym one ∙ two)
 
 module _ (d : Desc) (right : IsRight d) (field : Parity) (described : describes d.fields field ≡ true) where
-  abbrev line_of : Kind → List Instr
+  abbrev pub line_of : Kind → List Instr
   line_of kind = line_instrs d (strip_of d right field described kind)
 
-  abbrev IsOne : Kind → Type 0
+  abbrev pub IsOne : Kind → Type 0
   IsOne kind = IsLineOf d right field described kind
 
   -- the words of the first so many lines
-  abbrev words_to : (ℕ → List Instr) → ℕ → ℕ
+  abbrev pub words_to : (ℕ → List Instr) → ℕ → ℕ
   words_to lines zero = 0
   words_to lines (suc n) = words_to lines n + words_in (lines n)
 
@@ -86,7 +86,7 @@ module _ (d : Desc) (right : IsRight d) (field : Parity) (described : describes 
   abbrev pub PieceThere : ℕ → Instr → Type 0
   PieceThere a i = PieceAt d right field described begin_of words_before a i
 
-  abbrev IsBegin : Kind → ℕ → Type 0
+  abbrev pub IsBegin : Kind → ℕ → Type 0
   IsBegin OfSkipped x = Unit {0}
   IsBegin (OfVbi line) x = x ≡ begin_of (OfVbi line)
   IsBegin (OfRow row) x = x ≡ begin_of (OfRow row)
@@ -97,7 +97,7 @@ module _ (d : Desc) (right : IsRight d) (field : Parity) (described : describes 
   place_by (OfRow row) x here before begins is = is ∙ ap (λ (n : ℕ). n + words_before (OfRow row) before) begins
 
   -- an instruction of a line
-  on_line : (kind : Kind) (x : ℕ) (tail : List Instr) (ctl : Ctl) (to : ℕ) (done more : List ℕ) (here : ℕ) (instr : Instr) → IsOne kind → IsBegin kind x →
+  pub on_line : (kind : Kind) (x : ℕ) (tail : List Instr) (ctl : Ctl) (to : ℕ) (done more : List ℕ) (here : ℕ) (instr : Instr) → IsOne kind → IsBegin kind x →
       HoldsFrom (compiled d) x (line_of kind ++ tail) ctl to → addresses_from x (line_of kind) ≡ done ++ here ∷ more → fetch (compiled d) here ≡ Ok (instr, length (encoded instr)) → PieceThere here instr
   on_line kind x tail ctl to done more here instr within begins holds is read =
       let strip = strip_of d right field described kind in
@@ -121,11 +121,11 @@ module _ (d : Desc) (right : IsRight d) (field : Parity) (described : describes 
       }
 
   -- lines one after another
-  abbrev BeginAt : ℕ → List Kind → Type 0
+  abbrev pub BeginAt : ℕ → List Kind → Type 0
   BeginAt x [] = Unit {0}
   BeginAt x (kind ∷ kinds) = IsBegin kind x × BeginAt (x + 4 * words_in (line_of kind)) kinds
 
-  abbrev lines_of : List Kind → List Instr
+  abbrev pub lines_of : List Kind → List Instr
   lines_of kinds = flat_map line_of kinds
 
   on_lines : (kinds : List Kind) (x : ℕ) (tail : List Instr) (ctl : Ctl) (to : ℕ) (lines later : List (List ℕ)) (done more : List ℕ) (here : ℕ) (instr : Instr) → Each IsOne kinds → BeginAt x kinds →
@@ -144,10 +144,10 @@ module _ (d : Desc) (right : IsRight d) (field : Parity) (described : describes 
 
   -- ---- the rows
 
-  abbrev rows_from : ℕ → ℕ → List Kind
+  abbrev pub rows_from : ℕ → ℕ → List Kind
   rows_from n count = map OfRow (range_with_len n count)
 
-  rows_begin_at : (n count : ℕ) → BeginAt (rows_begin + 4 * words_to (λ k. line_of (OfRow k)) n) (rows_from n count)
+  pub rows_begin_at : (n count : ℕ) → BeginAt (rows_begin + 4 * words_to (λ k. line_of (OfRow k)) n) (rows_from n count)
   rows_begin_at n zero = tt
   rows_begin_at n (suc count) =
       let next : suc n ≡ n + 1 = omega arith in
@@ -212,13 +212,13 @@ module _ (d : Desc) (right : IsRight d) (field : Parity) (described : describes 
   abbrev code_sync : Instr
   code_sync = sync false (data_code (layout_of d).planar)
 
-  abbrev row_kinds : List Kind
+  abbrev pub row_kinds : List Kind
   row_kinds = rows_from d right field described 0 (field_height d field)
 
   abbrev skipped_kinds : List Kind
   skipped_kinds = replicate d.skip_lines OfSkipped
 
-  abbrev to : ℕ
+  abbrev pub to : ℕ
   to = section_next d d.base d.base field
 
   rows_flat : lines_instrs d (map (row_strip d) (rows_of d field)) ≡ lines_of d right field described row_kinds
@@ -226,7 +226,7 @@ module _ (d : Desc) (right : IsRight d) (field : Parity) (described : describes 
       lines_by (line_instrs d) (row_strip d) (rows_of d field) ∙ lines_by (λ row. line_instrs d (row_strip d row)) (picture_row (both d) field) (range_with_len 0 (field_height d field))
       ∙ sym (lines_by (line_of d right field described) OfRow (range_with_len 0 (field_height d field)))
 
-  rows_map : map (λ row. line_instrs d (row_strip d row)) (rows_of d field) ≡ map (line_of d right field described) row_kinds
+  pub rows_map : map (λ row. line_instrs d (row_strip d row)) (rows_of d field) ≡ map (line_of d right field described) row_kinds
   rows_map =
       map-map (λ row. line_instrs d (row_strip d row)) (picture_row (both d) field) (range_with_len 0 (field_height d field))
       ∙ sym (map-map (line_of d right field described) OfRow (range_with_len 0 (field_height d field)))
@@ -238,7 +238,7 @@ module _ (d : Desc) (right : IsRight d) (field : Parity) (described : describes 
       ∙ ap (λ (is : List Instr). vbi_instrs d field ++ code_sync ∷ (lines_instrs d (replicate d.skip_lines (skipped_strip d)) ++ is)) rows_flat
       ∙ sym (append_assoc (vbi_instrs d field) (code_sync ∷ lines_instrs d (replicate d.skip_lines (skipped_strip d))) (lines_of d right field described row_kinds))
 
-  rows_hold : HoldsFrom (compiled d) (rows_begin d right field described) (lines_of d right field described row_kinds ++ []) (signal field) to
+  pub rows_hold : HoldsFrom (compiled d) (rows_begin d right field described) (lines_of d right field described row_kinds ++ []) (signal field) to
   rows_hold =
       let first = vbi_instrs d field ++ code_sync ∷ lines_instrs d (replicate d.skip_lines (skipped_strip d)) in
       let there : begin + 8 + 4 * words_in first ≡ rows_begin d right field described = omega arith in

@@ -1,0 +1,46 @@
+-- The bytes of whole rows stand in memory.
+use Rattle.std.specs.Prelude.{◌≡◌, ℕ, ◌+◌, ◌<◌, true, false, All, List, [], length, take, Some, slice_index, slice_index_or}
+use Rattle.fifo_model.specs.declared.Entry.{Entry}
+use Rattle.fifo_model.specs.declared.Queue.{Queue}
+use Rattle.page_table.specs.Blocks.{byte_at}
+use Rattle.pixel_layout.specs.declared.Parity.{Parity}
+use Rattle.machine_model.specs.Safety.{IsStep}
+use Rattle.machine_model.specs.States.{State, first_state}
+use Rattle.machine_model.specs.Steps.{Step}
+use Rattle.capture_desc.specs.declared.desc.Desc.{Desc}
+use Rattle.picture_model.specs.Described.{IsDescription, describes}
+use Rattle.picture_model.specs.Geometry.{IsValid}
+use Rattle.picture_model.specs.Programs.{compiled}
+use Rattle.field_law.specs.Fields.{carried, is_line}
+use Rattle.picture_law.specs.Pictures.{of_row, IsKeptAt}
+use Rattle.picture_law.specs.Runs.{between, signals_at, state_of}
+use Rattle.picture_law.specs.Sections.{section_of}
+use Rattle.damage_law.specs.Lines.{entries_taken}
+use Rattle.damage_law.specs.Marks.{is_opening, last_step, marks, row_addresses, takings_at}
+
+-- the entries of which the instructions of a row take a byte, over steps from a state
+abbrev pub row_entries : Desc → Parity → ℕ → Queue → State → List Step → List Entry
+row_entries d field number q m steps = entries_taken (takings_at (slice_index_or (row_addresses d field) number []) q m steps)
+
+-- in a run of a valid description's program from the first state step k is a signal of a field, which was last opened at
+-- step j before it
+pub record IsSignalSince (d : Desc) (field : Parity) (fill : ℕ) (steps : List Step) (j k : ℕ) : Type 0 where
+  pub description : IsDescription d
+  pub valid : IsValid d
+  pub described : describes d.fields field ≡ true
+  pub made : All IsStep steps
+  pub there : k < length steps
+  pub signal : signals_at (section_of d field) (first_state (compiled d) fill) steps k ≡ true
+  pub opened : last_step (is_opening d field) (first_state (compiled d) fill) (take k steps) ≡ Some j
+
+-- byte x of the line that entries make stands at an address
+pub record StandsAt (entries : List Entry) (x address : ℕ) (m : State) : Type 0 where
+  pub line : is_line entries ≡ true
+  pub inside : x < length (carried entries)
+  pub byte : byte_at m.memory address ≡ slice_index (carried entries) x
+
+-- right after the signal each byte of a row that is whole stands at its place, where it has one
+abbrev pub WholeRowsStand : Type 0
+WholeRowsStand = (d : Desc) (field : Parity) (fill : ℕ) (steps : List Step) (j k : ℕ) → IsSignalSince d field fill steps j k → (q : Queue) (number x address : ℕ) →
+    slice_index_or (marks d field (state_of d fill steps j) (between j k steps)) number false ≡ true → IsKeptAt d field (of_row q number x) address →
+    StandsAt (row_entries d field number q (state_of d fill steps j) (between j k steps)) x address (state_of d fill steps (k + 1))
