@@ -169,7 +169,7 @@ data_jump i ctl to data_is is = let none : false ≡ true = ap is_data (sym is) 
 data_sync : (i : Instr) (ctl : Ctl) (resync : Bool) (code : Code) → is_data i ≡ true → i ≡ Sync ctl resync code → ⊥
 data_sync i ctl resync code data_is is = let none : false ≡ true = ap is_data (sym is) ∙ data_is in cc
 
-plain_jump : (r : Reading) (ctl : Ctl) (to n : ℕ) → Plainly r → r ≡ Ok (Jump ctl to, n) → ⊥
+pub plain_jump : (r : Reading) (ctl : Ctl) (to n : ℕ) → Plainly r → r ≡ Ok (Jump ctl to, n) → ⊥
 plain_jump r ctl to n p is = by_plain p.plain
   where
     same : p.instr ≡ Jump ctl to
@@ -307,7 +307,7 @@ module _ (d : Desc) (right : IsRight d) where
   abbrev pub end_of : Parity → ℕ
   end_of f = closing_at (section_of d f)
 
-  opens_there : (f : Parity) → describes d.fields f ≡ true → fetch (compiled d) (begin_of f) ≡ Ok (opening f, 2)
+  pub opens_there : (f : Parity) → describes d.fields f ≡ true → fetch (compiled d) (begin_of f) ≡ Ok (opening f, 2)
   opens_there f is =
       let stands = section_stands d d.base d.base f is in
       let rest = words_of (body d f ++ closing f (next_of f) ∷ []) in

@@ -16,3 +16,4 @@ pub mod PlacedLines
 pub mod PlacedTurns
 pub mod PlacedSteps
 pub mod PlacedRows
+pub mod StandingRows

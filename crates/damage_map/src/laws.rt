@@ -4,6 +4,7 @@ ghost use Rattle.std.specs.Prelude.{◌≡◌, true, false, [], ◌∷◌, Some,
 ghost use Rattle.picture_model.specs.Worked.{smallest};
 ghost use Rattle.damage_law.specs.Worked.{chroma_long, chroma_short, clipped, cut_short, emptied_empty, emptied_full, interrupted, planar_rows, reserved, restarted, too_long, two_rows, unkept_short};
 ghost use Rattle.damage_law.specs.Arrived.{ArrivedRowsAreWhole};
+ghost use Rattle.damage_law.specs.Standing.{WholeRowsStand};
 ghost use Rattle.damage_map.specs.Laws.{KeepsAnswers, TellsSignals};
 ghost use Rattle.damage_map.specs.Worked.{kept_of};
 
@@ -18,6 +19,12 @@ pub fn tracks_tell_whole_rows()
 /// Where a picture of a field arrives, every row of the field is whole at its signal.
 pub fn arrived_rows_are_whole()
     ensures { ArrivedRowsAreWhole }
+{}
+
+/// Over every list of steps from the first state, right after a signal of a field: each byte of a row that is whole stands at
+/// its place, where it has one, and is that byte of the line that the row's instructions took from the plane's queue.
+pub fn whole_rows_stand()
+    ensures { WholeRowsStand }
 {}
 
 /// Over the worked fields of damage_law a track keeps what the definition says of their rows (its law
