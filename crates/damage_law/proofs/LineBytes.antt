@@ -1,5 +1,5 @@
 -- The bytes that are taken of a whole line are those of its entries.
-use Rattle.std.proofs.Common.{◌≡◌, ℕ, zero, suc, ◌+◌, ◌-◌, ◌<◌, ◌≤◌, Bool, true, false, ◌&&◌, ◌==◌, List, [], ◌∷◌, ◌++◌, append_assoc, drop, drop-drop, length, length-drop, take, take-append-drop, refl, sym, ap, ap₂, ◌∙◌, subst, arith, if◌then◌else◌, eqb-true}
+use Rattle.std.proofs.Common.{◌≡◌, ℕ, zero, suc, ◌+◌, ◌<◌, Bool, true, false, ◌&&◌, ◌==◌, List, [], ◌∷◌, ◌++◌, append_assoc, drop, drop-drop, length-drop, take, take-append-drop, refl, sym, ap, ap₂, ◌∙◌, arith, if◌then◌else◌, eqb-true}
 use Rattle.std.proofs.lemmas.Bool.{and_parts, cond-false, cond-true, ne_eqb}
 use Rattle.std.proofs.lemmas.List.{take_all}
 use Rattle.sync_status.specs.Statuses.{valid_bytes}
@@ -7,7 +7,7 @@ use Rattle.fifo_model.specs.declared.Entry.{Entry}
 use Rattle.fifo_model.specs.Queues.{bytes_taken}
 use Rattle.field_law.specs.Fields.{carried, valid_part}
 use Rattle.field_law.proofs.Lines.{bytes_taken-part, length-valid_part}
-use Rattle.damage_law.specs.Lines.{AreInOrder, are_line, entries_taken, follow_on, go_on}
+use Rattle.damage_law.specs.Lines.{AreInOrder, entries_taken, follow_on, go_on}
 use Rattle.damage_law.specs.Takings.{Taking}
 use Rattle.damage_law.proofs.StoredTakes.{taken_bytes}
 

@@ -1,5 +1,5 @@
 -- The instructions of a field's lines, and the bytes of the field to whose places they write.
-use Rattle.std.proofs.Common.{◌≡◌, ℕ, zero, suc, ◌+◌, ◌-◌, ◌*◌, ◌<◌, ◌≤◌, Bool, true, false, List, [], ◌∷◌, ◌++◌, length, map, Option, Some, None, Ok, option_map, if◌then◌else◌, refl, sym, ap, ap₂, ◌∙◌, subst, arith, ◌==◌, nat_le}
+use Rattle.std.proofs.Common.{◌≡◌, ℕ, ◌+◌, ◌-◌, ◌*◌, ◌<◌, ◌≤◌, Bool, true, false, List, [], ◌∷◌, ◌++◌, length, Option, Some, None, Ok, option_map, if◌then◌else◌, refl, sym, ap, ap₂, ◌∙◌, subst, arith, ◌==◌, nat_le}
 use Rattle.std.proofs.Math.Nat.{mul-le-mul_left}
 use Rattle.risc_word.specs.declared.Ends.{Ends}
 use Rattle.risc_word.specs.declared.Instr.{Instr}

@@ -1,5 +1,5 @@
 -- Bytes that instructions took stand where the instructions write, whatever is taken after them.
-use Rattle.std.proofs.Common.{◌≡◌, ℕ, zero, suc, ◌+◌, ◌-◌, ◌<◌, ◌≤◌, ◌⊎◌, inl, inr, true, false, Bool, List, [], ◌∷◌, ◌++◌, length, length-append, Option, Some, None, option_map, refl, sym, ap, ◌∙◌, subst, arith, ⊎_elim, slice_index_or}
+use Rattle.std.proofs.Common.{◌≡◌, ℕ, zero, suc, ◌+◌, ◌-◌, ◌<◌, ◌≤◌, ◌⊎◌, inl, inr, true, List, [], ◌∷◌, ◌++◌, length, length-append, Option, Some, None, option_map, refl, sym, ap, ◌∙◌, subst, arith, ⊎_elim}
 use Rattle.std.proofs.lemmas.Bool.{cases_eq, cases_lt}
 use Rattle.std.specs.Prelude.{slice_index}
 use Rattle.risc_word.specs.declared.Instr.{Instr}
@@ -10,9 +10,7 @@ use Rattle.page_table.specs.Blocks.{Block, byte_at, chunks_of, stored}
 use Rattle.page_table.proofs.Memory.{byte_at-stored_other, byte_at-stored_same, chunks_of-stored}
 use Rattle.machine_model.specs.Paths.{demands_of}
 use Rattle.machine_model.specs.Turns.{demand_on, stored_all}
-use Rattle.field_law.specs.Arrivals.{is_queue}
 use Rattle.field_law.specs.Sections.{laid, laid_from}
-use Rattle.damage_law.proofs.Orders.{queue_is}
 
 -- ---- bytes laid in memory
 

@@ -1,14 +1,13 @@
 -- What a burst stores are the bytes that it takes, in their order, from the address on where the running instruction goes
 -- on to write.
-use Rattle.std.proofs.Common.{◌≡◌, ℕ, zero, suc, ◌+◌, ◌-◌, ◌≤◌, ◌⊎◌, inl, inr, min, Bool, true, false, ◌==◌, List, [], ◌∷◌, ◌++◌, append_assoc, drop, length, length-append, length-drop, length-take, take, Option, Some, None, option_map, if◌then◌else◌, refl, sym, ap, ap₂, ◌∙◌, subst, arith}
+use Rattle.std.proofs.Common.{◌≡◌, ℕ, zero, suc, ◌+◌, ◌-◌, ◌≤◌, ◌⊎◌, inl, inr, Bool, true, false, ◌==◌, List, [], ◌∷◌, ◌++◌, append_assoc, drop, length, length-append, length-drop, length-take, Option, Some, None, option_map, if◌then◌else◌, refl, sym, ap, ap₂, ◌∙◌, subst, arith}
 use Rattle.std.proofs.lemmas.List.{append-nil}
 use Rattle.risc_word.specs.declared.Instr.{Instr}
 use Rattle.sync_status.specs.declared.Verdict.{Verdict}
 use Rattle.sync_status.specs.declared.Verdict.TheVariants.{Take, Discard, Broken, Missing}
-use Rattle.sync_status.specs.Statuses.{kind_of, valid_bytes, verdict_on}
+use Rattle.sync_status.specs.Statuses.{kind_of, verdict_on}
 use Rattle.fifo_model.specs.declared.Entry.{Entry}
 use Rattle.fifo_model.specs.declared.Queue.{Queue}
-use Rattle.fifo_model.specs.declared.Queue.TheVariants.{One, Two, Three}
 use Rattle.fifo_model.specs.Queues.{bytes_taken, front, lane_bytes, queue_state}
 use Rattle.machine_model.specs.declared.Demand.{Demand}
 use Rattle.machine_model.specs.declared.Demands.{Demands}
@@ -18,7 +17,7 @@ use Rattle.machine_model.specs.Accesses.{burst_stores, judged_stores, served_sto
 use Rattle.machine_model.specs.Paths.{instr_off}
 use Rattle.machine_model.specs.States.{State}
 use Rattle.machine_model.specs.Turns.{Store, apply, apply_in, burst, demand_less, demand_on, ended, is_cut_short, judged, served, stores_at, took, verdict_at, with_demand}
-use Rattle.machine_model.specs.Seen.{Application, application, application_in, served_application}
+use Rattle.machine_model.specs.Seen.{Application, application_in, served_application}
 use Rattle.machine_model.proofs.Fronts.{take-Takes}
 use Rattle.field_law.specs.Arrivals.{is_queue}
 use Rattle.field_law.specs.Sections.{laid, laid_from}
@@ -112,7 +111,7 @@ module _ (q : Queue) (instr : Instr) (plain : instr_off instr ≡ 0) (at : ℕ) 
     ap₂ (λ (made : List Store) (next : Option State). made ++ (elim next as (λ _. List Store) [ None ↦ [] | Some after ↦ burst_stores n q after ])) (ap (λ (job : Job). stores_in job q m) j) none,
     ap₂ (λ (made : List Application) (next : Option State).
         takings_of at place made ++ (elim next as (λ _. List Taking) [ None ↦ [] | Some after ↦ burst_takings n q at (place + left q m after) after ]))
-    (ap (λ (job : Job). application_in job q m) j) none,
+        (ap (λ (job : Job). application_in job q m) j) none,
     ap (λ (next : Option State). (elim next as (λ _. State) [ None ↦ m | Some after ↦ burst n q after ]).job) none ∙ j,
   )
     where

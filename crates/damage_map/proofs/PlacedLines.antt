@@ -1,11 +1,10 @@
 -- Where the lines of a field stand in its section.
-use Rattle.std.proofs.Common.{◌≡◌, ℕ, zero, suc, ◌+◌, ◌-◌, ◌*◌, ◌<◌, ◌≤◌, ◌⊎◌, inl, inr, List, [], ◌∷◌, ◌++◌, append_assoc, length, map, replicate, true, false, Ok, Err, refl, sym, ap, ap₂, ◌∙◌, subst, arith}
+use Rattle.std.proofs.Common.{◌≡◌, ℕ, zero, suc, ◌+◌, ◌*◌, ◌<◌, ◌⊎◌, inl, inr, List, [], ◌∷◌, ◌++◌, append_assoc, length, map, replicate, true, false, Ok, Err, refl, sym, ap, ap₂, ◌∙◌, subst, arith}
 use Rattle.std.specs.List.{flat_map, range_with_len}
 use Rattle.std.proofs.lemmas.Grind.{flat_map-append}
 use Rattle.std.proofs.lemmas.List.{append-nil}
 use Rattle.std.proofs.lemmas.Simd.{map-map}
 use Rattle.risc_word.specs.declared.Ctl.{Ctl}
-use Rattle.risc_word.specs.declared.Code.TheVariants.{Fm1}
 use Rattle.risc_word.specs.declared.Instr.{Instr}
 use Rattle.risc_word.specs.Words.{Reading, encoded}
 use Rattle.pixel_layout.specs.declared.Parity.{Parity}
@@ -13,13 +12,13 @@ use Rattle.machine_model.specs.Paths.{RiscProgram, fetch}
 use Rattle.capture_desc.specs.declared.desc.Desc.{Desc}
 use Rattle.picture_model.specs.Described.{both, describes, field_height, layout_of, memory_of, picture_row, rows_of}
 use Rattle.picture_model.specs.Plans.{Cut, Strip, piece_of, row_strip, skipped_strip, vbi_strip}
-use Rattle.picture_model.specs.Programs.{body, compiled, data_code, instr_of, line_instrs, lines_instrs, picture_strips, section_begin, section_next, signal, sync, vbi_from, vbi_instrs, vbi_strips}
+use Rattle.picture_model.specs.Programs.{body, compiled, data_code, instr_of, line_instrs, lines_instrs, section_begin, section_next, signal, sync, vbi_from, vbi_instrs, vbi_strips}
 use Rattle.picture_model.proofs.Each.{Each, each_map, each_range, each_replicate}
 use Rattle.picture_model.proofs.Right.{IsRight}
 use Rattle.field_law.specs.Sections.{HoldsFrom, words_in}
 use Rattle.picture_law.proofs.Program.{section_holds}
 use Rattle.damage_law.specs.Marks.{addresses_from, before_rows, lines_from, row_addresses}
-use Rattle.damage_law.proofs.Pieces.{IsLineOf, IsPlace, Kind, OfVbi, OfSkipped, OfRow, PieceAt, cuts_on, instr_on, strip_of}
+use Rattle.damage_law.proofs.Pieces.{IsLineOf, IsPlace, Kind, OfVbi, OfSkipped, OfRow, PieceAt, cuts_on, strip_of}
 use Rattle.damage_map.proofs.Compiled.{line_parts, lines_append, lines_instrs_of, lines_split, parts_before, section_lines, vbi_parts_from}
 use Rattle.damage_map.proofs.Sections.{Part, Await, instrs_of, lines_at}
 
@@ -301,14 +300,14 @@ module _ (d : Desc) (right : IsRight d) (field : Parity) (described : describes 
       sym (lines_append d first (code ∷ skipped_parts) x) ∙ ap (λ (at : ℕ). lines_at at (first ++ code ∷ skipped_parts)) (sym there) ∙ is in
       elim (append_member (lines_at x first) (lines_at (x + 4 * words_in (instrs_of first)) (code ∷ skipped_parts)) lines (done ++ here ∷ more) later both) [
         | inl found ↦ on_lines d right field described vbi_kinds x behind_vbi (signal field) to lines found.0 done more here instr
-          (each_map (λ k. k < d.vbi_lines) (IsLineOf d right field described) OfVbi (range_with_len 0 d.vbi_lines) (λ k less. less) (each_range 0 d.vbi_lines d.vbi_lines (omega arith)))
-          (let start : x + 4 * 0 ≡ x = omega arith in subst (λ (at : ℕ). BeginAt d right field described at vbi_kinds) start (vbi_begin_at d right field described 0 d.vbi_lines))
-          (subst (λ (is : List Instr). HoldsFrom (compiled d) x (is ++ behind_vbi) (signal field) to) vbi_flat behind)
-          (ap (lines_from x) (sym vbi_map) ∙ sym (parts_lines d (vbi_strips d field) x) ∙ found.1) read
+            (each_map (λ k. k < d.vbi_lines) (IsLineOf d right field described) OfVbi (range_with_len 0 d.vbi_lines) (λ k less. less) (each_range 0 d.vbi_lines d.vbi_lines (omega arith)))
+            (let start : x + 4 * 0 ≡ x = omega arith in subst (λ (at : ℕ). BeginAt d right field described at vbi_kinds) start (vbi_begin_at d right field described 0 d.vbi_lines))
+            (subst (λ (is : List Instr). HoldsFrom (compiled d) x (is ++ behind_vbi) (signal field) to) vbi_flat behind)
+            (ap (lines_from x) (sym vbi_map) ∙ sym (parts_lines d (vbi_strips d field) x) ∙ found.1) read
         | inr found ↦ in_skipped (x + 4 * words_in (instrs_of first)) found.0 later done more here instr
-          (subst (λ (is : List Instr). HoldsFrom (compiled d) (x + 4 * words_in is) behind_vbi (signal field) to) (sym (lines_instrs_of d (vbi_strips d field)))
-          (holds_behind (compiled d) x (lines_instrs d (vbi_strips d field)) behind_vbi (signal field) to behind))
-          found.1 read
+            (subst (λ (is : List Instr). HoldsFrom (compiled d) (x + 4 * words_in is) behind_vbi (signal field) to) (sym (lines_instrs_of d (vbi_strips d field)))
+            (holds_behind (compiled d) x (lines_instrs d (vbi_strips d field)) behind_vbi (signal field) to behind))
+            found.1 read
       ]
 
   -- an instruction whose address is among those of the section's lines

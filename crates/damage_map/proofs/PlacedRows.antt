@@ -1,16 +1,14 @@
 -- The bytes that the instructions of a row took stand at the row's places.
-use Rattle.std.proofs.Common.{◌≡◌, ℕ, zero, suc, ◌+◌, ◌-◌, ◌*◌, ◌<◌, ◌≤◌, ◌⊎◌, inl, inr, Bool, true, false, ◌&&◌, ◌||◌, ◌==◌, List, [], ◌∷◌, ◌++◌, append_assoc, length, length-append, map, Option, Some, None, Ok, option_map, if◌then◌else◌, refl, sym, ap, ap₂, ◌∙◌, subst, arith, eqb-true, eq-eqb, slice_index_or}
+use Rattle.std.proofs.Common.{◌≡◌, ℕ, ◌+◌, ◌-◌, ◌*◌, ◌<◌, ◌≤◌, ◌⊎◌, inl, inr, Bool, true, false, ◌||◌, ◌==◌, List, [], ◌∷◌, ◌++◌, append_assoc, length, length-append, map, Option, Some, None, option_map, refl, sym, ap, ap₂, ◌∙◌, subst, arith, eqb-true}
 use Rattle.std.specs.Prelude.{slice_index}
 use Rattle.std.specs.List.{list_all}
-use Rattle.std.proofs.lemmas.Bool.{and_parts, cases_lt, cond-false, cond-true, eqb-false, ne_eqb, or_from}
-use Rattle.std.proofs.lemmas.List.{append-nil}
+use Rattle.std.proofs.lemmas.Bool.{and_parts, cases_lt, cond-false, cond-true, ne_eqb, or_from}
 use Rattle.risc_word.specs.declared.Ctl.{Ctl}
 use Rattle.risc_word.specs.declared.Instr.{Instr}
 use Rattle.risc_word.specs.Words.{encoded}
 use Rattle.fifo_model.specs.declared.Queue.{Queue}
 use Rattle.page_table.specs.Blocks.{byte_at}
 use Rattle.pixel_layout.specs.declared.Parity.{Parity}
-use Rattle.machine_model.specs.Paths.{fetch}
 use Rattle.machine_model.specs.States.{State}
 use Rattle.machine_model.proofs.Rows.{fetch-KnownAt}
 use Rattle.capture_desc.specs.declared.desc.Desc.{Desc}
@@ -20,15 +18,15 @@ use Rattle.picture_model.specs.Programs.{compiled, instr_of}
 use Rattle.picture_model.proofs.Each.{Each, each_only}
 use Rattle.picture_model.proofs.Right.{IsRight}
 use Rattle.field_law.specs.CutLines.{address_in}
-use Rattle.field_law.specs.Sections.{HoldsFrom, IsPlain, words_in}
+use Rattle.field_law.specs.Sections.{HoldsFrom}
 use Rattle.field_law.proofs.CutLines.{address_behind, address_here}
 use Rattle.picture_law.proofs.Cuts.{cut_address, line_part_of, line_parts_of, moves, track_on}
 use Rattle.damage_law.specs.Marks.{addresses_from, is_among}
 use Rattle.damage_law.specs.Takings.{Taking}
-use Rattle.damage_law.proofs.Pieces.{Kind, address_is, count_is, cuts_on, instr_on, strip_of}
-use Rattle.damage_law.proofs.PlacedTakes.{address_on, count_on, index_first, index_later}
+use Rattle.damage_law.proofs.Pieces.{Kind, address_is, count_is, instr_on, strip_of}
+use Rattle.damage_law.proofs.PlacedTakes.{address_on, index_first, index_later}
 use Rattle.damage_law.proofs.StoredTakes.{taken_bytes, taken_bytes-append}
-use Rattle.damage_map.proofs.PlacedLines.{IsBegin, IsOne, holds_behind, line_of, on_line}
+use Rattle.damage_map.proofs.PlacedLines.{IsBegin, IsOne, line_of, on_line}
 use Rattle.damage_map.proofs.PlacedTurns.{IsIn, KeepsBytes, Sorted, had_of}
 use Rattle.damage_map.proofs.Sections.{Past, takes_in}
 
@@ -156,8 +154,8 @@ module _ (d : Desc) (right : IsRight d) (field : Parity) (described : describes 
       elim (cases_lt z (c.n * t.size)) [
         | inl low ↦ here_stands c cuts a all.0 parts.0 z address low (sym (address_here (line_part_of (memory_of d) t c) (line_parts_of (memory_of d) t cuts) z low) ∙ goes)
         | inr high ↦ later_stands c cuts a all.0 parts.0 z address high
-          (cuts_stand cuts (a + 4 * length (encoded (instr_on d right field described kind c))) (z - c.n * t.size) address all.1 parts.1
-          (sym (address_behind (line_part_of (memory_of d) t c) (line_parts_of (memory_of d) t cuts) z high) ∙ goes))
+            (cuts_stand cuts (a + 4 * length (encoded (instr_on d right field described kind c))) (z - c.n * t.size) address all.1 parts.1
+            (sym (address_behind (line_part_of (memory_of d) t c) (line_parts_of (memory_of d) t cuts) z high) ∙ goes))
       ]
 
   -- a line's instructions stand in it

@@ -1,5 +1,5 @@
 -- Each turn within a section keeps in memory the bytes that the section's instructions took.
-use Rattle.std.proofs.Common.{◌≡◌, ℕ, zero, suc, ◌+◌, ◌-◌, ◌*◌, ◌<◌, ◌≤◌, ◌⊎◌, inl, inr, Bool, true, false, ◌||◌, ◌==◌, List, [], ◌∷◌, ◌++◌, length, length-append, Option, Some, None, Ok, option_map, if◌then◌else◌, refl, sym, ap, ap₂, ◌∙◌, subst, arith, eqb-true}
+use Rattle.std.proofs.Common.{◌≡◌, ℕ, ◌+◌, ◌*◌, ◌<◌, ◌≤◌, ◌⊎◌, inl, inr, Bool, true, false, ◌||◌, ◌==◌, List, [], ◌∷◌, ◌++◌, length, length-append, Option, Some, None, Ok, option_map, if◌then◌else◌, refl, sym, ap, ap₂, ◌∙◌, subst, arith, eqb-true}
 use Rattle.std.specs.List.{list_any}
 use Rattle.std.proofs.lemmas.Bool.{both_ways, cases_lt, cond-false, cond-true, or_cases}
 use Rattle.std.proofs.lemmas.List.{append-nil}
@@ -8,27 +8,24 @@ use Rattle.risc_word.specs.declared.Code.{Code}
 use Rattle.risc_word.specs.declared.Ctl.{Ctl}
 use Rattle.risc_word.specs.declared.Instr.{Instr}
 use Rattle.risc_word.specs.declared.Instr.TheVariants.{Jump, Sync, Write, Skip, WriteC, Write123, Skip123, Write1S23}
-use Rattle.risc_word.specs.Words.{Reading, code_number, encoded}
+use Rattle.risc_word.specs.Words.{Reading, encoded}
 use Rattle.fifo_model.specs.declared.Queue.{Queue}
 use Rattle.fifo_model.specs.declared.Queue.TheVariants.{One, Two, Three}
 use Rattle.page_table.specs.Blocks.{Block, chunks_of}
-use Rattle.page_table.specs.Grants.{Chunk}
 use Rattle.pixel_layout.specs.declared.Parity.{Parity}
 use Rattle.picture_model.proofs.Each.{Each, each_append, each_only}
 use Rattle.machine_model.specs.declared.Demands.{Demands}
-use Rattle.machine_model.specs.declared.Did.{Did}
 use Rattle.machine_model.specs.declared.Did.TheVariants.{Moved, GivenUp}
 use Rattle.machine_model.specs.declared.Job.{Job}
 use Rattle.machine_model.specs.declared.Job.TheVariants.{Idle, Waiting, Running}
-use Rattle.machine_model.specs.declared.Seen.{Seen}
 use Rattle.machine_model.specs.declared.Skipping.{Skipping}
 use Rattle.machine_model.specs.declared.Skipping.TheVariants.{Nothing, ToEol, ToSync}
-use Rattle.machine_model.specs.Accesses.{burst_stores, burst_stores_of, ran_stores, stores, stores_if, worked_stores}
+use Rattle.machine_model.specs.Accesses.{burst_stores, burst_stores_of, ran_stores, stores_if, worked_stores}
 use Rattle.machine_model.specs.Paths.{RiscProgram, fetch, instr_off, is_data}
-use Rattle.machine_model.specs.Seen.{address_before, applications, data_did, fetched_did, gives_up, instr_did, seen, seen_alone, seen_burst, seen_if, seen_in, seen_running, seen_served, waited_did}
+use Rattle.machine_model.specs.Seen.{address_before, applications, data_did, fetched_did, gives_up, instr_did, seen_if, seen_in, seen_running, seen_served}
 use Rattle.machine_model.specs.States.{State}
 use Rattle.machine_model.specs.Steps.{Turn}
-use Rattle.machine_model.specs.Turns.{Store, burst, burst_of, code_seen, common_code, counted, demand_on, fetched, instr_fetched, is_done, lowest_served, lowest_stray, met, ran, retired, stored_all, stray_seen, turn, turn_if, waited, with_fdsr_unless, without_codes, worked}
+use Rattle.machine_model.specs.Turns.{burst, burst_of, code_seen, common_code, counted, fetched, is_done, lowest_served, lowest_stray, met, ran, retired, stored_all, stray_seen, turn, turn_if, with_fdsr_unless, without_codes, worked}
 use Rattle.machine_model.proofs.Memory.{chunks-stored_all}
 use Rattle.machine_model.proofs.Rows.{fetch-KnownAt}
 use Rattle.machine_model.proofs.Stored.{memory-turn}
@@ -48,9 +45,9 @@ use Rattle.damage_map.specs.Tracks.{FieldTrack, untold}
 use Rattle.damage_map.proofs.Compiled.{section_lines}
 use Rattle.damage_map.proofs.PlacedLines.{begin_of, instr_of_read, piece_there, words_before}
 use Rattle.damage_map.proofs.PlacedTurns.{IsIn, JobHas, KeepsBytes, PlacedIn, RunsFrom, Sorted, burst_ats, burst_pc, bytes_with, fetched_has, had_of, moved_twice, plain_off, sorted_more, takes_apart}
-use Rattle.damage_map.proofs.Sections.{AreBelow, Past, TakenBelow, instrs_of, lines_at, not_below, taken_here, taken_more, takes_in}
+use Rattle.damage_map.proofs.Sections.{Past, TakenBelow, instrs_of, lines_at, not_below, taken_here, taken_more, takes_in}
 use Rattle.damage_map.proofs.SectionTurns.{Plainly, waited-quiet}
-use Rattle.damage_map.proofs.Visits.{GapJob, InGap, InLine, LineJob, Visit}
+use Rattle.damage_map.proofs.Visits.{GapJob, InLine, LineJob, Visit}
 
 queue_self : (q : Queue) → is_queue q q ≡ true
 queue_self One = refl
@@ -344,8 +341,8 @@ module _ (d : Desc) (right : IsRight d) (field : Parity) (described : describes 
             (elim made.ends [
               | inl idle ↦ subst (λ (job : Job). JobHas d right field described (turn m).pc job next_past) (sym idle) below_after
               | inr runs ↦ subst (λ (job : Job). JobHas d right field described (turn m).pc job next_past) (sym runs.1)
-                (λ p.
-                subst (λ (a : ℕ). RunsFrom d right field described a l.instr runs.0 next_past p) (sym (ap (λ (pc : ℕ). address_before pc l.instr) pc_after ∙ at_here)) (runs_by runs.0 runs.1 p (same_queue_or p q)))
+                  (λ p.
+                  subst (λ (a : ℕ). RunsFrom d right field described a l.instr runs.0 next_past p) (sym (ap (λ (pc : ℕ). address_before pc l.instr) pc_after ∙ at_here)) (runs_by runs.0 runs.1 p (same_queue_or p q)))
             ])
 
         full_after : (a : ℕ) (i : Instr) (p : Queue) → IsIn d right field described a i → is_among next_past.retired a ≡ true → length (had_next a p) ≡ count_on p i

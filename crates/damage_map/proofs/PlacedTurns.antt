@@ -1,18 +1,15 @@
 -- Within a section memory keeps the bytes that the section's instructions took.
-use Rattle.std.proofs.Common.{◌≡◌, ℕ, zero, suc, ◌+◌, ◌-◌, ◌*◌, ◌<◌, ◌≤◌, ◌⊎◌, inl, inr, Bool, true, false, ◌||◌, ◌==◌, List, [], ◌∷◌, ◌++◌, length, length-append, Option, Some, None, Ok, option_map, if◌then◌else◌, refl, sym, ap, ap₂, ◌∙◌, subst, arith}
-use Rattle.std.proofs.lemmas.Bool.{cases_eq, cases_lt, cond-false, cond-true, ne_eqb, or_cases, or_from}
-use Rattle.std.proofs.lemmas.List.{append-nil}
-use Rattle.risc_word.specs.declared.Ctl.{Ctl}
+use Rattle.std.proofs.Common.{◌≡◌, ℕ, zero, suc, ◌+◌, ◌-◌, ◌*◌, ◌≤◌, Bool, true, false, ◌==◌, List, [], ◌∷◌, ◌++◌, length, Option, Some, None, option_map, if◌then◌else◌, refl, sym, ap, ◌∙◌, subst, arith}
+use Rattle.std.proofs.lemmas.Bool.{cond-false, ne_eqb, or_from}
 use Rattle.risc_word.specs.declared.Instr.{Instr}
 use Rattle.risc_word.specs.declared.Instr.TheVariants.{Write, Skip, WriteC, Jump, Sync, Write123, Skip123, Write1S23}
-use Rattle.risc_word.specs.Words.{Reading, encoded}
+use Rattle.risc_word.specs.Words.{encoded}
 use Rattle.sync_status.specs.declared.Verdict.{Verdict}
 use Rattle.sync_status.specs.declared.Verdict.TheVariants.{Take, Discard, Broken, Missing}
 use Rattle.fifo_model.specs.declared.Entry.{Entry}
 use Rattle.fifo_model.specs.declared.Queue.{Queue}
 use Rattle.fifo_model.specs.Queues.{front, queue_state}
 use Rattle.page_table.specs.Blocks.{Block, chunks_of}
-use Rattle.page_table.specs.Grants.{Chunk}
 use Rattle.pixel_layout.specs.declared.Parity.{Parity}
 use Rattle.picture_model.proofs.Each.{Each, each_append, each_only}
 use Rattle.machine_model.specs.declared.Cause.{Cause}
@@ -22,24 +19,22 @@ use Rattle.machine_model.specs.declared.Job.{Job}
 use Rattle.machine_model.specs.declared.Job.TheVariants.{Idle, Waiting, Running}
 use Rattle.machine_model.specs.declared.Skipping.{Skipping}
 use Rattle.machine_model.specs.declared.Skipping.TheVariants.{Nothing, ToEol, ToSync}
-use Rattle.machine_model.specs.Paths.{RiscProgram, demands_of, fetch, instr_off}
+use Rattle.machine_model.specs.Paths.{demands_of, instr_off}
 use Rattle.machine_model.specs.Seen.{Application, address_before, application}
 use Rattle.machine_model.specs.States.{State}
-use Rattle.machine_model.specs.Turns.{Store, apply, apply_in, begun_with, burst, counted, data_fetched, demand_on, ended, instr_fetched, is_cut_short, judged, served, stored_all, took, verdict_at}
+use Rattle.machine_model.specs.Turns.{apply, apply_in, begun_with, burst, counted, data_fetched, demand_on, ended, instr_fetched, is_cut_short, judged, served, took, verdict_at}
 use Rattle.capture_desc.specs.declared.desc.Desc.{Desc}
 use Rattle.picture_model.specs.Described.{describes}
 use Rattle.picture_model.specs.Programs.{compiled}
 use Rattle.picture_model.proofs.Right.{IsRight}
-use Rattle.field_law.specs.Arrivals.{is_queue}
-use Rattle.field_law.specs.Sections.{IsPlain, laid}
+use Rattle.field_law.specs.Sections.{IsPlain}
 use Rattle.damage_law.specs.Marks.{is_among}
 use Rattle.damage_law.specs.Takings.{Taking, burst_takings, left, taking_by, takings_of}
-use Rattle.damage_law.proofs.Orders.{queue_is}
 use Rattle.damage_law.proofs.Pieces.{pieces_apart, pieces_granted}
-use Rattle.damage_law.proofs.PlacedTakes.{Placed, address_on, count_on, placed_more}
-use Rattle.damage_law.proofs.StoredTakes.{GoesFrom, taken_bytes, taken_bytes-append}
-use Rattle.damage_map.proofs.PlacedLines.{PieceThere, begin_of, instr_of_read, words_before}
-use Rattle.damage_map.proofs.Sections.{AreBelow, Past, TakenBelow, none_yet, not_below, taken_here, taken_more, takes_in}
+use Rattle.damage_law.proofs.PlacedTakes.{Placed, address_on, count_on}
+use Rattle.damage_law.proofs.StoredTakes.{taken_bytes}
+use Rattle.damage_map.proofs.PlacedLines.{PieceThere, begin_of, words_before}
+use Rattle.damage_map.proofs.Sections.{Past, TakenBelow, none_yet, taken_more, takes_in}
 
 -- ---- what a burst keeps
 

@@ -1,15 +1,13 @@
 -- The bytes of whole rows stand in memory right after a signal of their field.
-use Rattle.std.proofs.Common.{◌≡◌, ℕ, zero, suc, ◌+◌, ◌-◌, ◌*◌, ◌<◌, ◌≤◌, ◌⊎◌, inl, inr, Bool, true, false, ◌&&◌, ◌||◌, ◌==◌, if◌then◌else◌, nat_le, All, List, [], ◌∷◌, ◌++◌, append_assoc, drop, length, length-take, map, take, take-take, Option, Some, None, Ok, option_map, refl, sym, ap, ap₂, ◌∙◌, subst, arith, slice_index_or}
+use Rattle.std.proofs.Common.{◌≡◌, ℕ, zero, suc, ◌+◌, ◌-◌, ◌*◌, ◌<◌, ◌≤◌, inl, inr, Bool, true, false, ◌&&◌, if◌then◌else◌, nat_le, All, List, [], ◌∷◌, ◌++◌, append_assoc, drop, length, length-take, map, take, take-take, Option, Some, None, Ok, option_map, refl, sym, ap, ap₂, ◌∙◌, subst, arith, slice_index_or}
 use Rattle.std.specs.Prelude.{slice_index}
-use Rattle.std.specs.List.{flat_map, list_all, range_with_len}
+use Rattle.std.specs.List.{list_all, range_with_len}
 use Rattle.std.proofs.lemmas.Bool.{and_parts, cond-false}
 use Rattle.std.proofs.lemmas.List.{append-nil, drop-take}
 use Rattle.std.proofs.lemmas.List.Elements.{All-drop, All-head, All-tail, All-take}
 use Rattle.std.proofs.lemmas.List.FromFn.{get_or-map-range_with_len}
-use Rattle.risc_word.specs.declared.Ctl.{Ctl}
 use Rattle.risc_word.specs.declared.Instr.{Instr}
 use Rattle.risc_word.specs.declared.Instr.TheVariants.{Jump}
-use Rattle.fifo_model.specs.declared.Entry.{Entry}
 use Rattle.fifo_model.specs.declared.Queue.{Queue}
 use Rattle.fifo_model.specs.declared.Queue.TheVariants.{One, Two, Three}
 use Rattle.page_table.specs.Blocks.{byte_at}
@@ -27,7 +25,7 @@ use Rattle.machine_model.proofs.Orderly.{IsOrderly-first_state}
 use Rattle.machine_model.proofs.Runs.{IsOrderly-run}
 use Rattle.machine_model.proofs.Stored.{memory-turn}
 use Rattle.capture_desc.specs.declared.desc.Desc.{Desc}
-use Rattle.picture_model.specs.Described.{both, describes, field_height, layout_of, memory_of, picture_row, plane_row_bytes}
+use Rattle.picture_model.specs.Described.{both, describes, field_height, layout_of, memory_of, picture_row}
 use Rattle.picture_model.specs.Places.{byte_clipped, place}
 use Rattle.picture_model.specs.Programs.{compiled, opening, section_next, signal}
 use Rattle.picture_model.proofs.Each.{Each, each_map, each_range}
@@ -36,14 +34,14 @@ use Rattle.field_law.specs.Arrivals.{is_signal}
 use Rattle.field_law.specs.CutLines.{address_in}
 use Rattle.field_law.specs.Fields.{carried, is_line}
 use Rattle.field_law.specs.Sections.{HoldsFrom, closing_at, words_in}
-use Rattle.picture_law.specs.Pictures.{of_row, IsKeptAt, has_plane, plane_of}
-use Rattle.picture_law.specs.Runs.{between, signals_at, state_of, step_at}
+use Rattle.picture_law.specs.Pictures.{of_row, IsKeptAt, plane_of}
+use Rattle.picture_law.specs.Runs.{between, state_of, step_at}
 use Rattle.picture_law.specs.Sections.{section_of}
 use Rattle.picture_law.proofs.Between.{signal_turn, state_next}
 use Rattle.picture_law.proofs.Body.{row_below}
 use Rattle.picture_law.proofs.Cuts.{line_parts_of, moves, track_on}
 use Rattle.picture_law.proofs.Goes.{queue_row_goes}
-use Rattle.damage_law.specs.Lines.{are_line, entries_taken, follow_on, make_line, no_takings}
+use Rattle.damage_law.specs.Lines.{are_line, entries_taken, follow_on, make_line}
 use Rattle.damage_law.specs.Marks.{addresses_from, is_among, is_opening, is_whole, last_step, later_or, lines_from, marks, row_addresses, takings_at}
 use Rattle.damage_law.specs.Orders.{stream}
 use Rattle.damage_law.specs.Standing.{IsSignalSince, StandsAt, WholeRowsStand, row_entries}
@@ -53,14 +51,13 @@ use Rattle.damage_law.proofs.Orders.{at, filtered, takes_in_order}
 use Rattle.damage_law.proofs.Pieces.{Kind, OfSkipped, OfRow, cuts_on, strip_of}
 use Rattle.damage_law.proofs.StoredTakes.{taken_bytes}
 use Rattle.damage_map.specs.Tracks.{FieldTrack, track_next, tracked, untold}
-use Rattle.damage_map.proofs.AnswersKept.{Inside, Keeps, Place, after_step, at_first, begin_of, closes_there, end_of, few, gone_of, next_of, opens_there, past_of, pc_at, plain_jump, signals_apart}
+use Rattle.damage_map.proofs.AnswersKept.{Inside, Keeps, Place, after_step, at_first, closes_there, end_of, few, gone_of, next_of, opens_there, past_of, pc_at, plain_jump, signals_apart}
 use Rattle.damage_map.proofs.Compiled.{section_lines}
 use Rattle.damage_map.proofs.Histories.{Opened, next_opened, opened_if}
 use Rattle.damage_map.proofs.PlacedLines.{BeginAt, IsBegin, IsOne, holds_behind, instr_of_read, line_of, lines_of, row_kinds, rows_begin, rows_begin_at, rows_hold, rows_map, to}
 use Rattle.damage_map.proofs.PlacedRows.{all_in, cuts_stand}
 use Rattle.damage_map.proofs.PlacedTurns.{KeepsBytes}
-use Rattle.damage_map.proofs.Sections.{Past}
-use Rattle.damage_map.proofs.SectionTurns.{Plainly, Turned, turn_on}
+use Rattle.damage_map.proofs.SectionTurns.{Turned, turn_on}
 
 -- ---- lists
 
@@ -263,9 +260,12 @@ module _ (d : Desc) (right : IsRight d) (skips : d.skip_lines ≤ 255) (field : 
       let other : opening o.field ≡ Jump (signal field) (section_next d d.base d.base field) =
       instr_of_read (opening o.field) (Jump (signal field) (section_next d d.base d.base field)) 2 2 (compiled d) m.pc (ap (fetch (compiled d)) o.there ∙ opens_there d right o.field o.described) read in
       cc
-  found (inr i) =
-      (i.first, i.done, inside_found i (turn_on (compiled d) (signal i.field) (next_of d right i.field) (end_of d right i.field) (section_lines d i.field) (few d right skips i.field) m t (past_of i.first i.done) (gone_of i.first i.done)
-      h.program i.visit))
+  found (inr i) = (
+    i.first,
+    i.done,
+    inside_found i (turn_on (compiled d) (signal i.field) (next_of d right i.field) (end_of d right i.field) (section_lines d i.field) (few d right skips i.field) m t (past_of i.first i.done) (gone_of i.first i.done)
+        h.program i.visit),
+  )
 
   pub memory_stays : (turn m).memory ≡ m.memory
   memory_stays =
