@@ -1,5 +1,6 @@
--- Every run shows the pictures that it captures, by the law of the picture, and all their rows are whole.
-use Rattle.std.proofs.Common.{◌≡◌, ℕ, ◌+◌, ◌*◌, ◌<◌, ◌≤◌, true, false, List, length, replicate, Some, All, sym, ◌∙◌, subst}
+-- Every run shows the pictures that it captures, by the law of the picture; all their rows are whole, and the bytes of whole
+-- rows stand in memory.
+use Rattle.std.proofs.Common.{◌≡◌, ℕ, ◌+◌, ◌*◌, ◌<◌, ◌≤◌, true, false, List, length, replicate, slice_index_or, Some, All, sym, ◌∙◌, subst}
 use Rattle.fifo_model.specs.declared.Queue.{Queue}
 use Rattle.fifo_model.specs.Queues.{queue_state}
 use Rattle.pixel_layout.specs.declared.Parity.{Parity}
@@ -12,14 +13,16 @@ use Rattle.capture_desc.specs.declared.desc.Desc.{Desc}
 use Rattle.picture_model.specs.Described.{field_height}
 use Rattle.picture_model.specs.Programs.{compiled, size}
 use Rattle.field_law.specs.Arrivals.{meeting, coming, entries_of, is_signal, over_queues, turns_in}
-use Rattle.picture_law.specs.Pictures.{Picture}
+use Rattle.picture_law.specs.Pictures.{IsKeptAt, Picture, of_row}
 use Rattle.picture_law.specs.Sections.{section_of}
 use Rattle.picture_law.specs.Runs.{ArrivesAt, IsCapture, IsFirstSignal, IsSignalled, between, step_at}
 use Rattle.picture_law.proofs.Places.{run_shows_picture, run_shows_no_fault, run_tells_field, run_signals_in_time}
-use Rattle.damage_law.specs.Marks.{answer, last_step}
+use Rattle.damage_law.specs.Marks.{answer, last_step, marks}
 use Rattle.damage_law.proofs.LastSignals.{answers_stay}
 use Rattle.damage_map.proofs.ArrivedFields.{arrived_rows_are_whole}
-use Rattle.bt878_contract.specs.Rows.{HasArrivedRows}
+use Rattle.damage_map.proofs.StandingRows.{whole_rows_stand}
+use Rattle.damage_law.specs.Standing.{StandsAt, row_entries}
+use Rattle.bt878_contract.specs.Rows.{HasArrivedRows, HoldsWholeRows, IsSignalFrom}
 use Rattle.bt878_contract.specs.Pictures.{ArrivesUpTo, IsCompiled, IsShown, ShowsPictures, ShowsNoFault, SignalsInTime}
 
 module _ (program : RiscProgram) (fill : ℕ) (steps : List Step) (made : All IsStep steps) where
@@ -74,3 +77,22 @@ module _ (program : RiscProgram) (fill : ℕ) (steps : List Step) (made : All Is
       (sym c.same) (λ a last.
       answers_stay d field (first_state (compiled d) fill) steps k last
       ∙ arrived_rows_are_whole d field picture fill steps j k (signalled d field picture j k c a))
+
+  pub whole_rows_held : HoldsWholeRows (first_state program fill) steps
+  whole_rows_held d field j k c =
+      subst
+      (λ (p : RiscProgram).
+      IsSignalFrom d field (first_state p fill) steps j k → (q : Queue) (number x address : ℕ) →
+      slice_index_or (marks d field (state_at (first_state p fill) steps j) (between j k steps)) number false ≡ true → IsKeptAt d field (of_row q number x) address →
+      StandsAt (row_entries d field number q (state_at (first_state p fill) steps j) (between j k steps)) x address (state_at (first_state p fill) steps (k + 1)))
+      (sym c.same) (λ s.
+      whole_rows_stand d field fill steps j k
+      (record {
+        description = c.description;
+        valid = c.valid;
+        described = c.described;
+        made = made;
+        there = s.there;
+        signal = s.signal;
+        opened = s.opened;
+      }))

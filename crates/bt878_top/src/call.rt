@@ -4,7 +4,7 @@ ghost use Rattle.std.specs.Prelude.{◌≡◌, ℕ, ◌⊎◌, List, Ok};
 ghost use Rattle.bt878_words.specs.Words.{command_of, inputs_of, outputs_of};
 ghost use Rattle.bt878_contract.specs.Clauses.{AreTold, IsAssembled, IsBadInput, IsCompiled, IsGenerated, IsGood, IsInOrder, IsRefusal, IsUnreadOf, IsUsage, OfDescRun, OfLive, OfLiveRun, OfLiveSteps, OfRan, OfRingRun, OfSteps, OnlyOutputs, OnlySays, SameNames, SaysAccepted, SaysBlocks, SaysDamage, SaysListing, ShowsImage, ShowsLast, ShowsLastLive, ShowsProgram, StandsAt, StaysInside, TellsInput, UnlessCut};
 ghost use Rattle.bt878_contract.specs.Pictures.{ShowsNoFault, ShowsPictures, SignalsInTime};
-ghost use Rattle.bt878_contract.specs.Rows.{HasArrivedRows};
+ghost use Rattle.bt878_contract.specs.Rows.{HasArrivedRows, HoldsWholeRows};
 ghost use Rattle.bt878_contract.specs.Rings.{RingsShowNoFault, ShowsRings};
 ghost use Rattle.bt878_contract.specs.Tasks.{Answers, AreNames, Assembles, Captures, Chains, Compiles, Damages, Generates, Lists, Rings, Runs, Verifies, task_of, texts};
 ghost use Rattle.chain_law.specs.Runs.{LiveRunShowsNoFault, LiveRunShowsPictures, LiveRunStaysInside};
@@ -141,6 +141,12 @@ pub fn bt878<D: Desk>(alloc: Global, words: &[&str], desk: &mut D) -> Answer
     // field that arrived is the last one that is signalled, every row of it is whole (so `damage` says it).
     ensures arrived_rows { (result ≡ Answer.Done) →
         OfRan (task_of (texts words.now)) (D.seen desk.old).told.inputs (OfSteps HasArrivedRows) }
+
+    // At Done of these four, for every valid description whose program is the one that ran, every field of it and
+    // every signal of the field, whatever came before: right after the signal each byte of a row that is whole stands
+    // at its place, where it has one, and is that byte of the line that the row's instructions took.
+    ensures whole_rows { (result ≡ Answer.Done) →
+        OfRan (task_of (texts words.now)) (D.seen desk.old).told.inputs (OfSteps HoldsWholeRows) }
 
     // At Done of `chain` the image and the report are those of the live run of the chain of both descriptions
     // over exactly the steps of the whole stream, patches among them, from a memory in which every granted byte

@@ -2,8 +2,8 @@
 use Rattle.std.proofs.Common.{Bor, List, ℕ, map}
 use Rattle.bt878_contract.specs.Tasks.{task_of}
 use Rattle.bt878_contract.specs.Pictures.{ShowsPictures, ShowsNoFault, SignalsInTime}
-use Rattle.bt878_contract.specs.Rows.{HasArrivedRows}
-use Rattle.bt878_contract.proofs.Pictures.{pictures_shown, no_fault_shown, rows_arrived, signals_come}
+use Rattle.bt878_contract.specs.Rows.{HasArrivedRows, HoldsWholeRows}
+use Rattle.bt878_contract.proofs.Pictures.{pictures_shown, no_fault_shown, rows_arrived, signals_come, whole_rows_held}
 use Rattle.bt878_contract.specs.Rings.{RingsShowNoFault, ShowsRings}
 use Rattle.bt878_contract.proofs.Rings.{no_fault_in_rings, rings_shown}
 use Rattle.machine_model.specs.States.{first_state}
@@ -43,6 +43,11 @@ pub returns-clause-arrived_rows : goal.returns-clause-arrived_rows
 returns-clause-arrived_rows g c =
     let see = g.D.Desk.seen in
     done_captured HasArrivedRows rows_arrived (task_of (map text c.args.words.now)) c.answer_words.result (see c.args.desk.now) (see c.answer_words.new.desk) c.answer_words.ensures
+
+pub returns-clause-whole_rows : goal.returns-clause-whole_rows
+returns-clause-whole_rows g c =
+    let see = g.D.Desk.seen in
+    done_captured HoldsWholeRows whole_rows_held (task_of (map text c.args.words.now)) c.answer_words.result (see c.args.desk.now) (see c.answer_words.new.desk) c.answer_words.ensures
 
 pub returns-clause-blocks : goal.returns-clause-blocks
 returns-clause-blocks g c =
