@@ -1,5 +1,5 @@
 -- Worked fields of small descriptions, in the top field.
-use Rattle.std.specs.Prelude.{ℕ, Bool, true, false, List, [], ◌∷◌, ◌++◌, map, replicate, Option}
+use Rattle.std.specs.Prelude.{ℕ, Bool, true, false, List, [], ◌∷◌, ◌++◌, map, replicate, take, Option, option_and_then, option_map}
 use Rattle.risc_word.specs.declared.Code.TheVariants.{Vre, Fm1, Fm3}
 use Rattle.fifo_model.specs.declared.Entry.{Entry}
 use Rattle.fifo_model.specs.declared.Queue.{Queue}
@@ -7,17 +7,31 @@ use Rattle.fifo_model.specs.declared.Queue.TheVariants.{One, Two, Three}
 use Rattle.irq_status.specs.declared.HostWrite.TheVariants.{Enable}
 use Rattle.pixel_layout.specs.declared.Format.TheVariants.{Yuv420p}
 use Rattle.pixel_layout.specs.declared.Parity.TheVariants.{Top}
-use Rattle.machine_model.specs.States.{first_state}
-use Rattle.machine_model.specs.Steps.{Step, Push, Control, Turn, Host}
+use Rattle.machine_model.specs.States.{State, first_state}
+use Rattle.machine_model.specs.Steps.{Step, Push, Control, Turn, Host, state_at}
 use Rattle.capture_desc.specs.declared.desc.Desc.{Desc}
 use Rattle.picture_model.specs.Programs.{compiled}
 use Rattle.picture_model.specs.Worked.{smallest}
+use Rattle.field_law.specs.Arrivals.{is_signal}
+use Rattle.field_law.specs.Fields.{carried}
 use Rattle.field_law.specs.Worked.{entry}
-use Rattle.damage_law.specs.Marks.{answer}
+use Rattle.picture_law.specs.Runs.{between}
+use Rattle.picture_law.specs.Sections.{section_of}
+use Rattle.damage_law.specs.Marks.{answer, is_opening, last_step}
+use Rattle.damage_law.specs.Standing.{row_entries}
 
 -- what is said of the rows of the top field after steps from the first state
 abbrev pub marks_of : Desc → List Step → Option (List Bool)
 marks_of d steps = answer d Top (first_state (compiled d) d.fill) steps
+
+-- the bytes of the entries that a row of it took of the first queue, at the field's last signal
+abbrev pub taken_to : Desc → ℕ → State → List Step → ℕ → Option (List ℕ)
+taken_to d number m steps k =
+    option_map (λ j. carried (row_entries d Top number One (state_at m steps j) (between j k steps))) (last_step (is_opening d Top) m (take k steps))
+
+abbrev pub taken_by : Desc → ℕ → List Step → Option (List ℕ)
+taken_by d number steps =
+    option_and_then (taken_to d number (first_state (compiled d) d.fill) steps) (last_step (is_signal (section_of d Top)) (first_state (compiled d) d.fill) steps)
 
 abbrev pub pushed : List Entry → List Step
 pushed entries = map (Push One) entries

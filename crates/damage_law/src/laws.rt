@@ -1,6 +1,7 @@
 //! Laws of damage maps. The functions do nothing; their contracts are the laws.
 
 ghost use Rattle.std.specs.Prelude.{◌≡◌, ℕ, List, true, false, [], ◌∷◌, Some, None, drop};
+ghost use Rattle.std.specs.List.{range_with_len};
 ghost use Rattle.fifo_model.specs.declared.Queue.{Queue};
 ghost use Rattle.fifo_model.specs.Queues.{queue_state};
 ghost use Rattle.machine_model.specs.States.{State};
@@ -11,7 +12,7 @@ ghost use Rattle.damage_law.specs.Takings.{Taking, left};
 ghost use Rattle.damage_law.specs.Lines.{AreInOrder, IsWholeLine, are_line};
 ghost use Rattle.damage_law.specs.LastSignals.{AnswersStay};
 ghost use Rattle.damage_law.specs.Orders.{LinesAreWhole, TakesInOrder};
-ghost use Rattle.damage_law.specs.Worked.{chroma_long, chroma_short, clipped, cut_short, emptied_empty, emptied_full, interrupted, marks_of, planar_rows, reserved, restarted, too_long, two_rows, unkept_short};
+ghost use Rattle.damage_law.specs.Worked.{chroma_long, chroma_short, clipped, cut_short, emptied_empty, emptied_full, interrupted, marks_of, planar_rows, reserved, restarted, taken_by, too_long, two_rows, unkept_short};
 
 /// Takings in their order make a line by their places exactly where the entries of which a byte is taken follow one
 /// another among those that enter the queue, each is taken whole, and they are a line.
@@ -43,7 +44,7 @@ pub fn answers_stay_after_the_last_signal()
 /// whose line is too long; a field that is broken off says nothing of the next; no field was signalled; an entry of a
 /// reserved status within a line is one too many, and so is one that the host's emptying of the queues takes from it; a row
 /// whose chroma is a byte too short or too long isn't whole, also where its chroma isn't kept; a field that is opened again
-/// within a row is told from there on.
+/// within a row is told from there on. The instructions of a whole row took the bytes of its line.
 pub fn worked_fields_are_marked()
     ensures too_short { marks_of clipped cut_short ≡ Some (false ∷ true ∷ []) }
     ensures too_long { marks_of two_rows too_long ≡ Some (false ∷ true ∷ []) }
@@ -56,4 +57,5 @@ pub fn worked_fields_are_marked()
     ensures chroma_too_long { marks_of planar_rows chroma_long ≡ Some (false ∷ true ∷ []) }
     ensures chroma_not_kept { marks_of planar_rows unkept_short ≡ Some (true ∷ false ∷ []) }
     ensures opened_again { marks_of smallest restarted ≡ Some (true ∷ []) }
+    ensures line_of_a_row { taken_by clipped 1 cut_short ≡ Some (range_with_len 0xb0 16) }
 {}
