@@ -371,7 +371,7 @@ module _ (d : Desc) (right : IsRight d) (skips : d.skip_lines ≤ 255) where
     pub idle : m.job ≡ Idle
     pub there : m.pc ≡ begin_of d right field
 
-  -- within one since its opening
+  -- within one since its opening; memory has the bytes that its instructions took since then
   pub record Inside (m : State) (t : FieldTrack) (opens_since : Parity → Opened) : Type 0 where
     pub field : Parity
     pub described : describes d.fields field ≡ true
