@@ -3,3 +3,4 @@ pub mod Decimal
 pub mod Hexadecimal
 pub mod OneSpelling
 pub mod Passing
+mod Settled

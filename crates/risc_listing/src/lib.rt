@@ -6,7 +6,7 @@ ghost use Rattle.arrayvec.specs.ArrayString.{array_string_len};
 ghost use Rattle.risc_listing.specs.Listings.{base_line, chunk_line, fill_line, line_of, listing, spelled, word_lines, words_of};
 ghost use Rattle.risc_listing.specs.Unnamed.{TellsPlain};
 ghost use Rattle.std.specs.List.{flat_map};
-ghost use Rattle.std.specs.Prelude.{◌≡◌, ◌+◌, ◌*◌, ◌<◌, ◌≤◌, ◌++◌, drop, length, slice_index, string_bytes, IfOk, IfSome};
+ghost use Rattle.std.specs.Prelude.{◌≡◌, ◌+◌, ◌*◌, ◌<◌, ◌^◌, ◌≤◌, ◌++◌, List, drop, length, slice_index, string_bytes, ℕ, IfOk, IfSome};
 
 mod digits;
 mod lines;
@@ -27,6 +27,9 @@ use unnamed::{
 
 /// How many bytes of lines are made at once, at most.
 pub const ROOM: usize = 65_536;
+
+/// No instruction has more words.
+pub const LONGEST_INSTR: usize = 5;
 
 /// Lines that are made at once.
 pub type Lines = ArrayString<ROOM>;
@@ -105,6 +108,22 @@ fn push_line<const CAP: usize>(text: &mut ArrayString<CAP>, at: u32, words: &[u3
     }
 }
 
+// Appends the lines of words from one on, counted from 0, as many as surely have room, and answers the number
+// of the first word that has no line yet.
+fn push_lines(text: &mut Lines, base: u32, words: &[u32], from: usize) -> usize
+    requires from { from ≤ length words.now }
+    requires ends { base + 4 * length words.now ≤ 2 ^ 32 }
+    ensures lines { text.new.bytes ++ word_lines (base + 4 * result) 0 (drop result words.now) ≡ text.old.bytes ++ word_lines (base + 4 * from) 0 (drop from words.now) }
+    ensures within { (from ≤ result) × (result ≤ length words.now) }
+    ensures more { array_string_len text.old + 98 ≤ 65536 → from < length words.now → from < result }
+{
+    let mut next = from;
+    while next < words.len() && text.len() <= ROOM - LONGEST_LINE {
+        next += push_line(text, base + 4 * next as u32, &words[next..]);
+    }
+    next
+}
+
 /// Appends the lines of a program's words from one on, counted from 0, as many as surely have room, and
 /// answers the number of the first word that has no line yet. Where another line has room and there is
 /// another word, it appends a line at least. It takes no memory.
@@ -114,13 +133,22 @@ pub fn push_words(text: &mut Lines, program: &Program, from: usize) -> usize
     ensures within { (from ≤ result) × (result ≤ length program.now.words) }
     ensures more { array_string_len text.old + 98 ≤ 65536 → from < length program.now.words → from < result }
 {
-    let base = program.base();
-    let words = program.words();
-    let mut next = from;
-    while next < words.len() && text.len() <= ROOM - LONGEST_LINE {
-        next += push_line(text, base + 4 * next as u32, &words[next..]);
+    push_lines(text, program.base(), program.words(), from)
+}
+
+/// Appends the lines of words from one on, counted from 0, that stay what they are whatever words follow, as
+/// many as surely have room, and answers the number of the first word that has no line yet. It takes no memory.
+pub fn push_settled(text: &mut Lines, base: u32, words: &[u32], from: usize) -> usize
+    requires from { from ≤ length words.now }
+    requires ends { base + 4 * length words.now ≤ 2 ^ 32 }
+    ensures lines { (later : List ℕ) → text.new.bytes ++ word_lines (base + 4 * result) 0 (drop result (words.now ++ later)) ≡ text.old.bytes ++ word_lines (base + 4 * from) 0 (drop from (words.now ++ later)) }
+    ensures within { (from ≤ result) × (result ≤ length words.now) }
+{
+    let mut told = from;
+    while words.len() - told >= LONGEST_INSTR && text.len() <= ROOM - LONGEST_LINE {
+        told += push_line(text, base + 4 * told as u32, &words[told..]);
     }
-    next
+    told
 }
 
 /// Appends the first line of a listing, which tells the base.
@@ -163,15 +191,16 @@ pub fn memory_lines(alloc: Global, chunks: &PageSet, fill: u8) -> Result<Vec<u8>
     Ok(text.into_bytes())
 }
 
-// Appends the lines of a program's words.
-fn put_words(text: &mut Vec<u8>, program: &Program) -> Result<(), AllocError>
-    ensures { IfOk result (λ _. text.new.items ≡ text.old.items ++ word_lines program.now.base 0 program.now.words) }
+/// Appends the lines of words that stand from an address on. The error is want of memory.
+pub fn put_words(text: &mut Vec<u8>, base: u32, words: &[u32]) -> Result<(), AllocError>
+    requires { base + 4 * length words.now ≤ 2 ^ 32 }
+    ensures { IfOk result (λ _. text.new.items ≡ text.old.items ++ word_lines base 0 words.now) }
 {
     let mut lines = Lines::new();
     let mut next = 0;
-    while next < program.words().len() {
+    while next < words.len() {
         lines.clear();
-        next = push_words(&mut lines, program, next);
+        next = push_lines(&mut lines, base, words, next);
         text.extend_from_slice(lines.as_str().as_bytes())?;
     }
     Ok(())
@@ -187,7 +216,7 @@ pub fn list(alloc: Global, program: &Program, fill: u8) -> Result<Vec<u8>, Alloc
     let mut lines = Lines::new();
     push_base(&mut lines, program.base());
     let mut text = Vec::from_slice(alloc, lines.as_str().as_bytes())?;
-    put_words(&mut text, program)?;
+    put_words(&mut text, program.base(), program.words())?;
     text.extend_from_slice(&memory_lines(alloc, program.grants(), fill)?)?;
     Ok(text)
 }

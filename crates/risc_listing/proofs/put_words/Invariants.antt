@@ -5,10 +5,10 @@ use Rattle.risc_listing.proofs.put_words.Given as goal
 abbrev pub invariant-loop-next : goal.invariant-loop-next
 invariant-loop-next l =
     record {
-      within : l.next ≤ length l.program.words;
-      lines : l.text.items ++ word_lines (l.program.base + 4 * l.next) 0 (drop l.next l.program.words)
-          ≡ l.fn.text.items ++ word_lines l.program.base 0 l.program.words;
+      within : l.next ≤ length l.words;
+      lines : l.text.items ++ word_lines (l.base + 4 * l.next) 0 (drop l.next l.words)
+          ≡ l.fn.text.items ++ word_lines l.base 0 l.words;
     }
 
 abbrev pub decreases-loop-next : goal.decreases-loop-next
-decreases-loop-next l = length l.program.words - l.next
+decreases-loop-next l = length l.words - l.next

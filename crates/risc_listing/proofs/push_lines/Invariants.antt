@@ -1,6 +1,6 @@
 use Rattle.std.proofs.Common.{length, drop, ◌-◌, ◌≡◌, ◌<◌, ◌+◌, ◌*◌, ◌≤◌, ◌++◌, ◌⊎◌}
 use Rattle.risc_listing.specs.Listings.{word_lines}
-use Rattle.risc_listing.proofs.push_words.Given as goal
+use Rattle.risc_listing.proofs.push_lines.Given as goal
 
 abbrev pub invariant-loop-next : goal.invariant-loop-next
 invariant-loop-next l =
