@@ -8,3 +8,6 @@ pub mod NoFields
 pub mod Agreeing
 pub mod DigitTable
 pub mod ShortName
+mod Telling
+mod Reaching
+mod Settling

@@ -3,3 +3,4 @@ pub mod Fields
 pub mod Limits
 pub mod Verdicts
 pub mod Answers
+pub mod Texts

@@ -27,7 +27,7 @@ pub struct Draft {
 }
 
 impl Draft {
-    fn new(alloc: Global) -> Draft
+    pub fn new(alloc: Global) -> Draft
         ensures { seen result ≡ blank }
     {
         Draft {
@@ -122,7 +122,7 @@ impl Draft {
     // The line of an instruction or a word, after its address and a space.
     #[inline(always)]
     #[tactic(auto, unfolding(risc_text::specs::Readers::words_line))]
-    fn take_words_line<'a>(&mut self, text: &'a [u8]) -> Result<Option<&'a [u8]>, AllocError>
+    pub fn take_words_line<'a>(&mut self, text: &'a [u8]) -> Result<Option<&'a [u8]>, AllocError>
         ensures taken { IfOk result (λ left. Takes (seen self.old) (to_end (words_line text.now)) (seen self.new) left) }
         ensures rest { IfOk result (λ left. IfSome left (λ y. length y.now < length text.now)) }
     {

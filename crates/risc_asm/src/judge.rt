@@ -75,8 +75,8 @@ fn grants_of(alloc: Global, chunks: &[(u32, u32)]) -> Result<Option<PageSet>, Al
     }
 }
 
-// The program with these parts, where there is one, and else the words.
-fn program_of(
+/// The program with these parts, where there is one, and else the words.
+pub fn program_of(
     alloc: Global,
     base: u32,
     words: Vec<u32>,
@@ -84,6 +84,8 @@ fn program_of(
 ) -> Result<Result<Program, Vec<u32>>, AllocError>
     ensures program { IfOk result (λ found. (program : RiscProgram) → IsProgram program → program.base ≡ base → program.words ≡ words.items → program.grants ≡ listed chunks.now → found ≡ Ok program) }
     ensures words { IfOk result (λ found. IfErr found (λ left. left.items ≡ words.items)) }
+    ensures base { IfOk result (λ _. base < 2 ^ 32) }
+    ensures parts { IfOk result (λ found. IfOk found (λ program. (program.base ≡ base) × (program.words ≡ words.items))) }
 {
     if base % 4 != 0
         || words.len() > MAX_WORDS as usize

@@ -10,11 +10,13 @@ mod judge;
 mod lines;
 mod readers;
 mod search;
+mod text;
 
 use capture_file::ProgramFile;
 use judge::{Verdict, judge};
 use search::{count_lines, first_wrong, whole_lines};
 use std::alloc::{AllocError, Global};
+pub use text::Text;
 
 const MOST_BYTES: usize = 67_108_864;
 
