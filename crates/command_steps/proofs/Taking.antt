@@ -1,11 +1,11 @@
 -- The calls by which an input is taken.
-use Rattle.std.proofs.Common.{◌≡◌, ℕ, ◌+◌, inl, inr, true, false, List, [], ◌∷◌, ◌++◌, take, Option, Some, None, Ok, Err, refl, sym, ap, subst, append_assoc}
+use Rattle.std.proofs.Common.{◌≡◌, ℕ, ◌+◌, true, false, List, [], ◌∷◌, ◌++◌, take, Option, Some, None, Ok, Err, refl, sym, ap, subst, append_assoc}
 use Rattle.capture_desk.specs.declared.calls.Call.{Call}
 use Rattle.capture_desk.specs.declared.calls.Call.TheVariants.{OpenIn, Read, CreateOut, Finish, Say}
 use Rattle.capture_desk.specs.Desks.{Seen, Tells, is_missing, after_open}
 use Rattle.capture_desk.proofs.Telling.{tells_both, tells_none}
 use Rattle.command_steps.specs.Inputs.{Always, OfInput, OfRest}
-use Rattle.command_steps.specs.Reading.{AreReads, Calls, IsNextRead, IsTaking, OpensBy, ReadsBy}
+use Rattle.command_steps.specs.Reading.{AreReads, Calls, IsNextRead, IsTaking, OpensBy}
 use Rattle.command_steps.proofs.Inputs.{opened_input}
 
 -- reads that may come so far, whatever reads come later
@@ -24,10 +24,6 @@ append_nil (call ∷ calls) = ap (λ rest. call ∷ rest) (append_nil calls)
 
 pub reads_end : (MayGoOn : ℕ → Type 0) (most at : ℕ) (old new : Seen) → ReadSoFar MayGoOn most at old new → Calls (AreReads MayGoOn most 0) old new
 reads_end MayGoOn most at old new h = (h.made, subst (AreReads MayGoOn most 0) (append_nil h.made) (h.goes_on [] tt), h.tells)
-
--- a piece was read
-pub read_by : (E : Type 0) (size n : ℕ) (old new : Seen) → Calls (ReadsBy {E = E} size (Ok n)) old new → Tells (Read size (Some n) ∷ []) old.calls new.calls
-read_by E size n old new (calls, is, tells) = subst (λ made. Tells made old.calls new.calls) is tells
 
 -- one more read
 pub read_more : (MayGoOn : ℕ → Type 0) (most at size n : ℕ) (old mid new : Seen) → ReadSoFar MayGoOn most at old mid → IsNextRead MayGoOn most at size → (n ≡ 0 → ⊥) →
@@ -58,18 +54,6 @@ read_failed MayGoOn most at size old mid new h next tells = (
   h.goes_on (Read size None ∷ []) (next, refl),
   tells_both h.made (Read size None ∷ []) old.calls mid.calls new.calls h.tells tells,
 )
-
--- or nothing was read, for want of memory, or it failed
-pub read_stops : (E : Type 0) (e : E) (MayGoOn : ℕ → Type 0) (most at size : ℕ) (old mid new : Seen) → ReadSoFar MayGoOn most at old mid → IsNextRead MayGoOn most at size →
-    Calls (ReadsBy {E = E} size (Err e)) mid new → Calls (AreReads MayGoOn most 0) old new
-read_stops E e MayGoOn most at size old mid new h next (calls, inl none, tells) = (
-  h.made,
-  subst (AreReads MayGoOn most 0) (append_nil h.made) (h.goes_on [] tt),
-  subst (λ made. Tells made old.calls new.calls) (append_nil h.made)
-      (tells_both h.made [] old.calls mid.calls new.calls h.tells (subst (λ made. Tells made mid.calls new.calls) none tells)),
-)
-read_stops E e MayGoOn most at size old mid new h next (calls, inr one, tells) =
-    read_failed MayGoOn most at size old mid new h next (subst (λ made. Tells made mid.calls new.calls) one tells)
 
 -- ---- what is so of the rest of an input that was opened is so of the input
 

@@ -90,11 +90,6 @@ abbrev pub OpensBy : {A E : Type 0} → List ℕ → Result A E → List Call �
 OpensBy name (Ok _) calls = calls ≡ OpenIn name true ∷ []
 OpensBy name (Err _) calls = calls ≡ OpenIn name false ∷ []
 
--- a read of so many bytes, or none for want of memory
-abbrev pub ReadsBy : {E : Type 0} → ℕ → Result ℕ E → List Call → Type 0
-ReadsBy size (Ok n) calls = calls ≡ Read size (Some n) ∷ []
-ReadsBy size (Err _) calls = (calls ≡ []) ⊎ (calls ≡ Read size None ∷ [])
-
 -- what a piece that was read added to the bytes before it
 abbrev pub Grows : ℕ → ℕ → List ℕ → List ℕ → List ℕ → Type 0
 Grows at n rest bytes new_bytes =

@@ -1,11 +1,13 @@
-//! The steps at a desk that all commands share: to read an input whole, to write outputs and say a text, and
+//! The steps at a desk that all commands share: to read an input, to write outputs and say a text, and
 //! to say a refusal.
 #![tactic(auto)]
 
+mod keeps;
 mod outputs;
 mod read;
 mod refusals;
 
+pub use keeps::Keeps;
 pub use outputs::{Content, Output, finish};
-pub use read::{PIECE, open, read_into, read_whole};
+pub use read::{PIECE, open, read_into, read_pieces, read_whole};
 pub use refusals::{refuse, refuse_words};

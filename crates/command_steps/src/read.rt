@@ -1,11 +1,12 @@
-//! Inputs, read whole.
+//! Inputs, read to their ends.
 
-ghost use Rattle.std.specs.Prelude.{◌≡◌, ◌+◌, ◌-◌, ◌<◌, ◌≤◌, ◌^◌, [], ◌∷◌, length, take, IfErr, IfOk, IsTrue, vec_len};
+ghost use Rattle.std.specs.Prelude.{◌≡◌, ◌+◌, ◌-◌, ◌<◌, ◌≤◌, ◌^◌, ◌++◌, [], ◌∷◌, length, take, IfErr, IfOk, IsTrue};
 ghost use Rattle.capture_desk.specs.declared.calls.Call.TheVariants as Call;
 ghost use Rattle.capture_desk.specs.Desks.{IsAllowed, ReadCounts, Tells, after_read, moved_by};
 ghost use Rattle.command_steps.specs.Inputs.{Always, OfInput, OfRest, StopsAtRead, StopsReading, apart};
-ghost use Rattle.command_steps.specs.Reading.{AreReads, Calls, Grows, OnlyReads, Opened, OpensBy, ReadsBy};
+ghost use Rattle.command_steps.specs.Reading.{AreReads, Calls, Grows, OnlyReads, Opened, OpensBy};
 
+use crate::keeps::Keeps;
 use capture_desk::{Desk, Failed, OpenFault};
 use command_texts::Refusal;
 use std::alloc::Global;
@@ -28,18 +29,6 @@ pub fn open<D: Desk>(name: &str, desk: &mut D) -> Result<(), Refusal>
     }
 }
 
-/// Makes a vector at least so long.
-fn make_room(bytes: &mut Vec<u8>, end: usize) -> Result<(), Refusal>
-    ensures kept { IfOk result (λ _. take (vec_len bytes.old) bytes.new.items ≡ bytes.old.items) }
-    ensures long { IfOk result (λ _. (end ≤ vec_len bytes.new) × (vec_len bytes.old ≤ vec_len bytes.new)) }
-    ensures memory { IfErr result (λ refusal. refusal ≡ Refusal.NoMemory) }
-{
-    if bytes.len() < end && bytes.resize(end, 0).is_err() {
-        return Err(Refusal::NoMemory);
-    }
-    Ok(())
-}
-
 /// Reads a piece of the open input into the bytes from `at` to `end`, and answers its length.
 pub fn read_into<D: Desk>(
     bytes: &mut [u8],
@@ -60,56 +49,84 @@ pub fn read_into<D: Desk>(
     desk.read(&mut bytes[at..end])
 }
 
-/// Reads a piece of the open input behind the first `at` bytes, up to `end`, and answers its length.
-fn read_piece<D: Desk>(
-    bytes: &mut Vec<u8>,
-    at: usize,
-    end: usize,
+/// Reads the open input until it ends or one byte more than `most` was read, and gives each piece to its
+/// keeper. Each read asks for a piece, or for what is left up to that byte (this project's own rule).
+fn keep_rest<D: Desk, K: Keeps>(
+    alloc: Global,
+    most: usize,
     desk: &mut D,
-) -> Result<usize, Refusal>
-    requires open { IsTrue (D.seen desk.old).told.input_open }
-    requires filled { at ≤ vec_len bytes.old }
-    requires some { at < end }
-    ensures few { IfOk result (λ n. (n ≤ end - at) × (at + n ≤ vec_len bytes.new)) }
-    ensures grows { IfOk result (λ n. OfRest (D.seen desk.old).told.rest (λ rest. Grows at n rest bytes.old.items bytes.new.items)) }
-    ensures told { IfOk result (λ n. (D.seen desk.new).told ≡ after_read n (D.seen desk.old).told) }
-    ensures same { IfErr result (λ _. (D.seen desk.new).told ≡ (D.seen desk.old).told) }
-    ensures stops { IfErr result (λ refusal. StopsAtRead refusal (D.seen desk.old) (D.seen desk.new)) }
-    ensures writes { (D.seen desk.new).writes ≡ (D.seen desk.old).writes }
-    ensures quiet { IfOk result (λ _. (D.seen desk.new).reads ≡ (D.seen desk.old).reads) }
-    ensures calls { Calls (ReadsBy (end - at) result) (D.seen desk.old) (D.seen desk.new) }
-{
-    make_room(bytes, end)?;
-    match read_into(bytes, at, end, desk) {
-        Ok(count) => Ok(count),
-        Err(_) => Err(Refusal::ReadFault),
-    }
-}
-
-/// Reads the open input until it ends or one byte more than `most` was read. Each read asks for a piece, or
-/// for what is left up to that byte (this project's own rule).
-fn read_rest<D: Desk>(alloc: Global, most: usize, desk: &mut D) -> Result<Vec<u8>, Refusal>
+    keeper: &mut K,
+    buffer: &mut [u8],
+) -> Result<(), Refusal>
     requires open { IsTrue (D.seen desk.old).told.input_open }
     requires few { most < 2 ^ 32 }
-    ensures bytes { IfOk result (λ bytes. OfRest (D.seen desk.old).told.rest (λ rest. bytes.items ≡ take (most + 1) rest)) }
+    requires room { length buffer.old ≡ 65536 }
+    ensures bytes { IfOk result (λ _. OfRest (D.seen desk.old).told.rest (λ rest. K.kept keeper.new ≡ K.kept keeper.old ++ take (most + 1) rest)) }
     ensures told { apart (D.seen desk.new).told ≡ apart (D.seen desk.old).told }
     ensures stops { IfErr result (λ refusal. StopsAtRead refusal (D.seen desk.old) (D.seen desk.new)) }
     ensures writes { (D.seen desk.new).writes ≡ (D.seen desk.old).writes }
     ensures quiet { IfOk result (λ _. (D.seen desk.new).reads ≡ (D.seen desk.old).reads) }
     ensures calls { Calls (AreReads (λ at. Always []) most 0) (D.seen desk.old) (D.seen desk.new) }
 {
-    let mut bytes = Vec::new(alloc);
     let mut at = 0;
     while at <= most {
-        let end = (at + PIECE).min(most + 1);
-        let count = read_piece(&mut bytes, at, end, desk)?;
+        let end = (most + 1 - at).min(PIECE);
+        let count = match read_into(buffer, 0, end, desk) {
+            Ok(count) => count,
+            Err(_) => return Err(Refusal::ReadFault),
+        };
         if count == 0 {
-            break;
+            return Ok(());
         }
-        at += count;
+        match keeper.keep(alloc, &buffer[..count]) {
+            Ok(()) => at += count,
+            Err(_) => return Err(Refusal::NoMemory),
+        }
     }
-    bytes.truncate(at);
-    Ok(bytes)
+    Ok(())
+}
+
+/// Opens an input and gives its pieces to their keeper.
+fn keep_input<D: Desk, K: Keeps>(
+    alloc: Global,
+    name: &str,
+    most: usize,
+    desk: &mut D,
+    keeper: &mut K,
+    buffer: &mut [u8],
+) -> Result<(), Refusal>
+    requires allowed { IsAllowed name.now (D.seen desk.old).told.may_open }
+    requires few { most < 2 ^ 32 }
+    requires room { length buffer.old ≡ 65536 }
+    ensures bytes { IfOk result (λ _. OfInput name.now (D.seen desk.old).told.inputs (λ content. K.kept keeper.new ≡ K.kept keeper.old ++ take (most + 1) content)) }
+    ensures stops { IfErr result (λ refusal. StopsReading name.now refusal (D.seen desk.old) (D.seen desk.new)) }
+    ensures reads { OnlyReads name.now most Always (D.seen desk.old) (D.seen desk.new) }
+    ensures quiet { IfOk result (λ _. (D.seen desk.new).reads ≡ (D.seen desk.old).reads) }
+{
+    open(name, desk)?;
+    keep_rest(alloc, most, desk, keeper, buffer)
+}
+
+/// Reads an input until it ends or one byte more than `most` was read, and gives each piece to its keeper.
+pub fn read_pieces<D: Desk, K: Keeps>(
+    alloc: Global,
+    name: &str,
+    most: usize,
+    desk: &mut D,
+    keeper: &mut K,
+) -> Result<(), Refusal>
+    requires allowed { IsAllowed name.now (D.seen desk.old).told.may_open }
+    requires few { most < 2 ^ 32 }
+    ensures bytes { IfOk result (λ _. OfInput name.now (D.seen desk.old).told.inputs (λ content. K.kept keeper.new ≡ K.kept keeper.old ++ take (most + 1) content)) }
+    ensures stops { IfErr result (λ refusal. StopsReading name.now refusal (D.seen desk.old) (D.seen desk.new)) }
+    ensures reads { OnlyReads name.now most Always (D.seen desk.old) (D.seen desk.new) }
+    ensures quiet { IfOk result (λ _. (D.seen desk.new).reads ≡ (D.seen desk.old).reads) }
+{
+    let mut buffer = match vec![in alloc; 0; PIECE] {
+        Ok(buffer) => buffer,
+        Err(_) => return Err(Refusal::NoMemory),
+    };
+    keep_input(alloc, name, most, desk, keeper, &mut buffer)
 }
 
 /// Reads an input until it ends or one byte more than `most` was read.
@@ -126,6 +143,7 @@ pub fn read_whole<D: Desk>(
     ensures reads { OnlyReads name.now most Always (D.seen desk.old) (D.seen desk.new) }
     ensures quiet { IfOk result (λ _. (D.seen desk.new).reads ≡ (D.seen desk.old).reads) }
 {
-    open(name, desk)?;
-    read_rest(alloc, most, desk)
+    let mut bytes = Vec::new(alloc);
+    read_pieces(alloc, name, most, desk, &mut bytes)?;
+    Ok(bytes)
 }
