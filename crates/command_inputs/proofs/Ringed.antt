@@ -1,5 +1,5 @@
 -- Why a ring file is refused, in its reading or its judging.
-use Rattle.std.proofs.Common.{◌≡◌, ◌≤◌, ◌<◌, ℕ, List, Option, length, Ok, Err, sym, ap, subst, ◌∙◌, cond}
+use Rattle.std.proofs.Common.{◌≡◌, ◌<◌, ℕ, List, length, Err, sym, ap, subst, ◌∙◌, cond}
 use Rattle.std.proofs.lemmas.Bool.{lt-ltb}
 use Rattle.capture_file.specs.declared.Input.TheVariants as input
 use Rattle.capture_desk.specs.Desks.{Seen}

@@ -1,8 +1,7 @@
 -- Two description files that are read and judged, and make a chain.
-use Rattle.std.specs.Prelude.{◌≡◌, ℕ, ⊤, List, Option, Some, None, Result, Ok, Err}
+use Rattle.std.specs.Prelude.{◌≡◌, ℕ, ⊤, List, Option, Some, Result, Ok}
 use Rattle.capture_desk.specs.Desks.{Inputs}
 use Rattle.capture_desc.specs.declared.desc.Desc.{Desc}
-use Rattle.picture_model.specs.declared.BuildFault.{BuildFault}
 use Rattle.picture_model.specs.Geometry.{frame_fault}
 use Rattle.double_buffer.specs.declared.faults.ChainFault.{ChainFault}
 use Rattle.double_buffer.specs.Faults.{chain_fault}

@@ -1,21 +1,53 @@
 //! A text, read and assembled.
 
-ghost use Rattle.std.specs.Prelude.{◌≡◌, IfErr, IfOk};
+ghost use Rattle.std.specs.Prelude.{◌≡◌, ◌+◌, ◌++◌, take, IfErr, IfOk};
 ghost use Rattle.capture_desk.specs.Desks.{IsAllowed};
-ghost use Rattle.command_steps.specs.Inputs.{Always, OfInput, StopsAt};
+ghost use Rattle.command_steps.specs.Inputs.{Always, OfInput, StopsAt, StopsReading};
 ghost use Rattle.command_steps.specs.Reading.{OnlyReads};
 ghost use Rattle.risc_asm.specs.Answers.{most_bytes};
 ghost use Rattle.command_inputs.specs.Listings.{GivesAssembled, IsBadText};
 
 use capture_desk::Desk;
 use capture_file::ProgramFile;
-use command_steps::read_whole;
+use command_steps::{Keeps, read_pieces};
 use command_texts::Refusal;
-use risc_asm::{AsmError, assemble};
-use std::alloc::Global;
+use risc_asm::{AsmError, Text};
+use std::alloc::{AllocError, Global};
+use std::mem::replace;
 
 /// The most bytes of a text.
 const LONGEST_TEXT: usize = 67_108_864;
+
+// A text of which pieces are read.
+#[derive(Drop)]
+struct Pieces {
+    text: Text,
+}
+
+impl Keeps for Pieces {
+    ghost kept = { λ pieces. pieces.text };
+
+    fn keep(&mut self, alloc: Global, piece: &[u8]) -> Result<(), AllocError> {
+        let text = replace(&mut self.text, Text::new(alloc));
+        self.text = text.append(alloc, piece)?;
+        Ok(())
+    }
+}
+
+// Reads a text to its end, or to one byte beyond the longest.
+fn read_text<D: Desk>(alloc: Global, name: &str, desk: &mut D) -> Result<Text, Refusal>
+    requires { IsAllowed name.now (D.seen desk.old).told.may_open }
+    ensures bytes { IfOk result (λ text. OfInput name.now (D.seen desk.old).told.inputs (λ content. text ≡ take (most_bytes + 1) content)) }
+    ensures stops { IfErr result (λ refusal. StopsReading name.now refusal (D.seen desk.old) (D.seen desk.new)) }
+    ensures reads { OnlyReads name.now most_bytes Always (D.seen desk.old) (D.seen desk.new) }
+    ensures quiet { IfOk result (λ _. (D.seen desk.new).reads ≡ (D.seen desk.old).reads) }
+{
+    let mut pieces = Pieces {
+        text: Text::new(alloc),
+    };
+    read_pieces(alloc, name, LONGEST_TEXT, desk, &mut pieces)?;
+    Ok(pieces.text)
+}
 
 /// Reads a text to its end, or to one byte beyond 67,108,864 bytes, and assembles it: the program and the
 /// fill whose listing it is, or `BadText` with its first fault (this project's own rules). The program need
@@ -31,8 +63,8 @@ pub fn assemble_file<D: Desk>(
     ensures reads { OnlyReads name.now most_bytes Always (D.seen desk.old) (D.seen desk.new) }
     ensures quiet { IfOk result (λ _. (D.seen desk.new).reads ≡ (D.seen desk.old).reads) }
 {
-    let text = read_whole(alloc, name, LONGEST_TEXT, desk)?;
-    match assemble(alloc, &text) {
+    let text = read_text(alloc, name, desk)?;
+    match text.assemble(alloc) {
         Ok(file) => Ok(file),
         Err(AsmError::Bad(fault)) => Err(Refusal::BadText(fault)),
         Err(AsmError::Memory) => Err(Refusal::NoMemory),

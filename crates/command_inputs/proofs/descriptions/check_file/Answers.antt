@@ -1,8 +1,8 @@
-use Rattle.std.proofs.Common.{List, ℕ, subst}
+use Rattle.std.proofs.Common.{subst}
 use Rattle.picture_model.specs.Geometry.{first_fault}
 use Rattle.command_inputs.specs.Descriptions.{Describes, IsRefused}
 use Rattle.command_inputs.proofs.UpToLimit.{of_whole}
-use Rattle.command_inputs.proofs.Described.{longer_stops, refused_stops}
+use Rattle.command_inputs.proofs.Described.{refused_stops}
 use Rattle.command_inputs.proofs.descriptions.check_file.Goals as goal
 
 pub returns-in-Ok-clause-describes : goal.returns-in-Ok-clause-describes

@@ -1,9 +1,9 @@
-use Rattle.std.proofs.Common.{List, ℕ, subst}
+use Rattle.std.proofs.Common.{subst}
 use Rattle.picture_model.specs.Geometry.{frame_fault}
 use Rattle.command_inputs.specs.Chains.{IsFrameFile}
 use Rattle.command_inputs.specs.Descriptions.{IsRefused}
 use Rattle.command_inputs.proofs.UpToLimit.{of_whole}
-use Rattle.command_inputs.proofs.Described.{longer_stops, refused_stops}
+use Rattle.command_inputs.proofs.Described.{refused_stops}
 use Rattle.command_inputs.proofs.descriptions.frame_file.Goals as goal
 
 pub returns-in-Ok-clause-describes : goal.returns-in-Ok-clause-describes

@@ -31,13 +31,12 @@ module _ (text content : List ℕ) (e : text ≡ take (most_bytes + 1) content) 
 
 pub returns-in-Ok-clause-assembles : goal.returns-in-Ok-clause-assembles
 returns-in-Ok-clause-assembles g c =
-    OfInput-map c.args.name.now (g.D.Desk.seen c.args.desk.now).told.inputs (λ content. c.in_ok-text.text.items ≡ take (most_bytes + 1) content) (λ content. GivesAssembled content c.in-Ok.file)
-    (λ content e. assembled c.in_ok-text.text.items content e c.in-Ok.file
-    (subst (λ t. GivesAssembled t c.in-Ok.file) c.deref.ensures.value c.in-Ok.ensures)) c.in_ok-text.ensures.bytes
+    OfInput-map c.args.name.now (g.D.Desk.seen c.args.desk.now).told.inputs (λ content. c.in_ok-text.text ≡ take (most_bytes + 1) content) (λ content. GivesAssembled content c.in-Ok.file)
+    (λ content e. assembled c.in_ok-text.text content e c.in-Ok.file
+    c.in-Ok.ensures) c.in_ok-text.ensures.bytes
 
 pub returns-in-Err-Bad-clause-stops : goal.returns-in-Err-Bad-clause-stops
 returns-in-Err-Bad-clause-stops g c =
-    OfInput-map c.args.name.now (g.D.Desk.seen c.args.desk.now).told.inputs (λ content. c.in_ok-text.text.items ≡ take (most_bytes + 1) content) (λ content. IsFault content c.in-Err-Bad.fault)
-    (λ content e. at_fault c.in_ok-text.text.items content e c.in-Err-Bad.fault
-    (subst (λ t. IsFault t c.in-Err-Bad.fault) c.deref.ensures.value
-    (subst (λ (error : AsmError). Answers c.deref.result.now (Err error)) c.in-Err-Bad.field-0-is c.in-Err-Bad.ensures))) c.in_ok-text.ensures.bytes
+    OfInput-map c.args.name.now (g.D.Desk.seen c.args.desk.now).told.inputs (λ content. c.in_ok-text.text ≡ take (most_bytes + 1) content) (λ content. IsFault content c.in-Err-Bad.fault)
+    (λ content e. at_fault c.in_ok-text.text content e c.in-Err-Bad.fault
+    (subst (λ (error : AsmError). Answers c.in_ok-text.text (Err error)) c.in-Err-Bad.field-0-is c.in-Err-Bad.ensures)) c.in_ok-text.ensures.bytes

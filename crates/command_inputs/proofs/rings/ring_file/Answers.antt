@@ -1,7 +1,7 @@
-use Rattle.std.proofs.Common.{List, ℕ, subst}
+use Rattle.std.proofs.Common.{subst}
 use Rattle.command_inputs.specs.Rings.{IsRefused, IsRingFile}
 use Rattle.command_inputs.proofs.UpToLimit.{of_whole}
-use Rattle.command_inputs.proofs.Ringed.{longer_stops, refused_stops}
+use Rattle.command_inputs.proofs.Ringed.{refused_stops}
 use Rattle.command_inputs.proofs.rings.ring_file.Goals as goal
 
 pub returns-in-Ok-clause-ring : goal.returns-in-Ok-clause-ring
