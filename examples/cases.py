@@ -270,8 +270,14 @@ def streams():
     return {"stdin": "".join(map(given, cases())).encode(), "stdout": "".join(map(printed, cases())).encode()}
 
 
+def examples():
+    """The files of this folder, of which the crate has copies: the gate runs on what lies in crates/."""
+    names = [name for name in sorted(os.listdir(HERE)) if name.endswith((".brp", ".bfs", ".bmi", ".toml"))]
+    return {name: open(os.path.join(HERE, name), "rb").read() for name in names}
+
+
 def all_files():
-    return {"data/" + name: data for name, data in files().items()} | streams()
+    return {"data/" + name: data for name, data in (examples() | files()).items()} | streams()
 
 
 def main(folder=CRATE):
