@@ -82,6 +82,8 @@ pub fn one_answer_fits_a_text()
 {}
 
 #[cfg(test)]
+mod piecewise;
+#[cfg(test)]
 mod round_trips;
 #[cfg(test)]
 mod tests;
