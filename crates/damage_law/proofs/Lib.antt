@@ -1,3 +1,4 @@
+mod QueuesShrink
 mod Leaving
 mod WholeLines
 pub mod Orders

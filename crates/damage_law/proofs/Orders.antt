@@ -1,14 +1,11 @@
 -- Over steps the takings of a queue are in the order of its entries.
-use Rattle.std.proofs.Common.{◌≡◌, ℕ, zero, suc, ◌+◌, ◌-◌, ◌<◌, ◌≤◌, ◌⊎◌, inl, inr, ◌==◌, Bool, true, false, All, List, [], ◌∷◌, ◌++◌, append_assoc, drop, length, length-append, Option, Some, None, Ok, Err, if◌then◌else◌, refl, sym, ap, subst, ◌∙◌, arith, slice_index_or}
+use Rattle.std.proofs.Common.{◌≡◌, ℕ, zero, suc, ◌+◌, ◌-◌, ◌<◌, ◌≤◌, ◌⊎◌, inl, inr, ◌==◌, Bool, true, false, All, List, [], ◌∷◌, ◌++◌, append_assoc, drop, length, length-append, Option, Some, None, if◌then◌else◌, refl, sym, ap, subst, ◌∙◌, arith, slice_index_or}
 use Rattle.std.specs.Prelude.{filter}
 use Rattle.std.proofs.lemmas.Bool.{cond-true, cond-false, eqb-false}
 use Rattle.std.proofs.lemmas.List.{append-nil, drop-append-le, drop-drop, drop_all, length-drop}
 use Rattle.std.proofs.lemmas.List.Elements.{All-head, All-tail}
 use Rattle.risc_word.specs.declared.Code.{Code}
-use Rattle.risc_word.specs.declared.Ctl.{Ctl}
 use Rattle.risc_word.specs.declared.Instr.{Instr}
-use Rattle.risc_word.specs.declared.Instr.TheVariants.{Write, Skip, WriteC, Jump, Sync, Write123, Skip123, Write1S23}
-use Rattle.risc_word.specs.Words.{Reading}
 use Rattle.sync_status.specs.declared.Verdict.{Verdict}
 use Rattle.sync_status.specs.declared.Verdict.TheVariants.{Take, Discard, Broken, Missing}
 use Rattle.sync_status.specs.Statuses.{TakesWithin, kind_of, valid_bytes, valid_lanes, verdict_on}
@@ -16,7 +13,7 @@ use Rattle.sync_status.proofs.Verdicts.{end-has_bytes, verdict-takes}
 use Rattle.fifo_model.specs.declared.Entry.{Entry}
 use Rattle.fifo_model.specs.declared.Queue.{Queue}
 use Rattle.fifo_model.specs.declared.Queue.TheVariants.{One, Two, Three}
-use Rattle.fifo_model.specs.Queues.{IsQueue, QueueState, Queues, all_entered, all_removed, cleared, control_answer, control_entry, emptied, entered, first, front, is_full, more, overrun, push_answer, queue_state, removed, some_full, taken_from, taken_more, valid_of, with_queue_state}
+use Rattle.fifo_model.specs.Queues.{IsQueue, QueueState, Queues, all_entered, cleared, control_answer, control_entry, emptied, entered, first, front, is_full, more, overrun, push_answer, queue_state, removed, some_full, taken_from, taken_more, valid_of, with_queue_state}
 use Rattle.fifo_model.specs.declared.Pushed.TheVariants.{Held, Overrun}
 use Rattle.fifo_model.proofs.Kept.{IsQueue-queue_state}
 use Rattle.irq_status.specs.declared.HostWrite.{HostWrite}
@@ -25,13 +22,8 @@ use Rattle.fifo_model.proofs.QueueStates.{queue_state-with_queue_state}
 use Rattle.machine_model.specs.declared.Demands.{Demands}
 use Rattle.machine_model.specs.declared.Job.{Job}
 use Rattle.machine_model.specs.declared.Job.TheVariants.{Idle, Waiting, Running}
-use Rattle.machine_model.specs.declared.Cause.{Cause}
-use Rattle.machine_model.specs.declared.Skipping.{Skipping}
-use Rattle.machine_model.specs.declared.Skipping.TheVariants.{Nothing, ToEol, ToSync}
-use Rattle.machine_model.specs.Paths.{fetch}
 use Rattle.machine_model.specs.States.{State}
-use Rattle.machine_model.specs.Turns.{apply_in, begun_with, burst, burst_of, code_seen, counted, data_fetched, demand_on, ended, fetched, instr_fetched, is_cut_short, is_done, judged, jumped, lowest_served, met, ran, served, stray_seen, took, turn, turn_if, verdict_at, with_fdsr_unless, without_codes, worked}
-use Rattle.machine_model.proofs.Turning.{IsKept, turn-kept}
+use Rattle.machine_model.specs.Turns.{apply_in, burst, burst_of, counted, demand_on, ended, is_cut_short, is_done, judged, lowest_served, ran, served, took, turn, turn_if, verdict_at, worked}
 use Rattle.machine_model.specs.Safety.{IsOrderly, IsStep}
 use Rattle.machine_model.specs.Steps.{Step, Push, Control, Turn, Host, answer_if, host, push_control_if, push_if, step, with_fifo, with_risc}
 use Rattle.machine_model.proofs.Orderly.{IsOrderly-step}
@@ -43,6 +35,7 @@ use Rattle.damage_law.specs.Lines.{AreInOrder, IsFrom}
 use Rattle.damage_law.specs.Marks.{is_among, takings_at}
 use Rattle.damage_law.specs.Orders.{LinesAreWhole, TakesInOrder, entering, entering_over, entry_at, held_as, no_entry, stream}
 use Rattle.damage_law.proofs.Leaving.{turn-drops}
+use Rattle.damage_law.proofs.QueuesShrink.{turn-keeps}
 use Rattle.damage_law.proofs.WholeLines.{from_from, line-whole, whole-line}
 
 module _ (entries : List Entry) where
@@ -270,10 +263,7 @@ pub record Shrunk (before after : QueueState) : Type 0 where
   pub fewer : length after.entries ≤ length before.entries
   pub taken : length before.entries ≡ length after.entries → before.taken ≤ after.taken
 
-module _ (p : Queue) (before : QueueState) (empty : length before.entries ≡ 0 → before.taken ≡ 0) where
-  abbrev IsShrunk : Queues → Type 0
-  IsShrunk queues = Shrunk before (queue_state p queues)
-
+module _ (before : QueueState) (empty : length before.entries ≡ 0 → before.taken ≡ 0) where
   shrunk_removed : (h : QueueState) → Shrunk before h → Shrunk before (removed h)
   shrunk_removed h s =
       let fewer = s.fewer in
@@ -282,94 +272,8 @@ module _ (p : Queue) (before : QueueState) (empty : length before.entries ≡ 0 
         taken = λ same. let long = length-drop 1 h.entries in let none = empty (omega arith) in omega arith;
       }
 
-  with_queue : (p q : Queue) (h : QueueState) (queues : Queues) → Shrunk before (queue_state p queues) → (Shrunk before (queue_state q queues) → Shrunk before h) → Shrunk before (queue_state p (with_queue_state q h queues))
-  with_queue One One h queues s next = next s
-  with_queue One Two h queues s next = s
-  with_queue One Three h queues s next = s
-  with_queue Two One h queues s next = s
-  with_queue Two Two h queues s next = next s
-  with_queue Two Three h queues s next = s
-  with_queue Three One h queues s next = s
-  with_queue Three Two h queues s next = s
-  with_queue Three Three h queues s next = next s
-
-  taken_if : (whole : Bool) (h : QueueState) (count : ℕ) → Shrunk before h → Shrunk before (if whole then removed h else record h { taken = h.taken + count })
-  taken_if true h count s = shrunk_removed h s
-  taken_if false h count s = record { fewer = s.fewer; taken = λ same. let less = s.taken same in omega arith }
-
-  taken_shrunk : (h : QueueState) (count : ℕ) (es : List Entry) → Shrunk before h → Shrunk before (taken_more count h es)
-  taken_shrunk h count [] s = s
-  taken_shrunk h count (e ∷ rest) s = taken_if (h.taken + count == valid_bytes e.status) h count s
-
-  all_removed_shrunk : (p : Queue) (queues : Queues) → Shrunk before (queue_state p queues) → Shrunk before (queue_state p (all_removed queues))
-  all_removed_shrunk One queues s = shrunk_removed queues.one s
-  all_removed_shrunk Two queues s = shrunk_removed queues.two s
-  all_removed_shrunk Three queues s = shrunk_removed queues.three s
-
-  begins : (cause : Option Cause) (instr : Instr) (count : ℕ) (target : Option ℕ) (m : State) → IsShrunk m.queues → IsShrunk (begun_with cause instr count target m).queues
-  begins (Some cause) instr count target m s = s
-  begins None instr count target m s = s
-
-  data_shrunk : (skipping : Skipping) (instr : Instr) (count : ℕ) (m : State) → IsShrunk m.queues → IsShrunk (data_fetched skipping instr count m).queues
-  data_shrunk Nothing instr count m s = begins _ instr count _ m s
-  data_shrunk ToEol instr count m s = s
-  data_shrunk ToSync instr count m s = s
-
-  jumps : (inside : Bool) (ctl : Ctl) (addr : ℕ) (m : State) → IsShrunk m.queues → IsShrunk (jumped inside ctl addr m).queues
-  jumps true ctl addr m s = s
-  jumps false ctl addr m s = s
-
-  instr_shrunk : (instr : Instr) (count : ℕ) (m : State) → IsShrunk m.queues → IsShrunk (instr_fetched instr count m).queues
-  instr_shrunk (Jump ctl addr) count m s = jumps _ ctl addr m s
-  instr_shrunk (Sync ctl resync code) count m s = s
-  instr_shrunk (Write ctl ends off n addr) count m s = data_shrunk m.skipping _ count m s
-  instr_shrunk (Skip ctl ends n) count m s = data_shrunk m.skipping _ count m s
-  instr_shrunk (WriteC ctl ends off n) count m s = data_shrunk m.skipping _ count m s
-  instr_shrunk (Write123 ctl ends off counts addrs) count m s = data_shrunk m.skipping _ count m s
-  instr_shrunk (Skip123 ctl ends counts) count m s = data_shrunk m.skipping _ count m s
-  instr_shrunk (Write1S23 ctl ends off counts addr) count m s = data_shrunk m.skipping _ count m s
-
-  fetches : (r : Reading) (m : State) → IsShrunk m.queues → IsShrunk (fetched r m).queues
-  fetches (Err fault) m s = s
-  fetches (Ok (instr, count)) m s = instr_shrunk instr count m s
-
-  signals : (resync : Bool) (m : State) → IsShrunk m.queues → IsShrunk (with_fdsr_unless resync m).queues
-  signals true m s = s
-  signals false m s = s
-
-  meets : (same : Bool) (ctl : Ctl) (resync : Bool) (m : State) → IsShrunk m.queues → IsShrunk (met same ctl resync m).queues
-  meets true ctl resync m s = all_removed_shrunk p m.queues s
-  meets false ctl resync m s = signals resync (without_codes m) (all_removed_shrunk p m.queues s)
-
-  sees : (seen_code : Option Code) (ctl : Ctl) (resync : Bool) (code : Code) (m : State) → IsShrunk m.queues → IsShrunk (code_seen seen_code ctl resync code m).queues
-  sees None ctl resync code m s = s
-  sees (Some seen_code) ctl resync code m s = meets _ ctl resync m s
-
-  waits : (stray : Option Queue) (ctl : Ctl) (resync : Bool) (code : Code) (m : State) → IsShrunk m.queues → IsShrunk (stray_seen stray ctl resync code m).queues
-  waits None ctl resync code m s = sees _ ctl resync code m s
-  waits (Some q) ctl resync code m s = signals resync _ (with_queue p q (removed (queue_state q m.queues)) m.queues s (λ here. shrunk_removed _ here))
-
-  ends_shrunk : (cut : Bool) (instr : Instr) (m : State) → IsShrunk m.queues → IsShrunk (ended cut instr m).queues
-  ends_shrunk true instr m s = s
-  ends_shrunk false instr m s = s
-
-  judges : (verdict : Verdict) (q : Queue) (instr : Instr) (ds : Demands) (entry : Entry) (m : State) → IsShrunk m.queues → IsShrunk (judged verdict q instr ds entry m).queues
-  judges Broken q instr ds entry m s = s
-  judges Missing q instr ds entry m s = s
-  judges Discard q instr ds entry m s = with_queue p q (removed (queue_state q m.queues)) m.queues s (λ here. shrunk_removed _ here)
-  judges (Take count) q instr ds entry m s =
-      ends_shrunk _ instr (took q count instr ds entry m)
-      (with_queue p q (taken_from count (queue_state q m.queues)) m.queues s (λ here. taken_shrunk (queue_state q m.queues) count (queue_state q m.queues).entries here))
-
-  each_part : IsKept (λ m. IsShrunk m.queues)
-  each_part =
-      record {
-        counts = λ m s. s;
-        fetches = λ m e s. fetches (fetch m.program m.pc) m s;
-        waits = λ ctl resync code m e s. waits _ ctl resync code m s;
-        retires = λ instr ds m e d s. s;
-        judges = λ q instr ds entry m e f n s. judges _ q instr ds entry m s;
-      }
+  shrunk_taken : (h : QueueState) (count : ℕ) → Shrunk before h → Shrunk before (record h { taken = h.taken + count })
+  shrunk_taken h count s = record { fewer = s.fewer; taken = λ same. let less = s.taken same in omega arith }
 
 by_entries : (es : List Entry) (taken : ℕ) → (taken ≡ 0) ⊎ (taken < valid_of (first es)) → length es ≡ 0 → taken ≡ 0
 by_entries [] taken (inl none) long = none
@@ -381,7 +285,9 @@ empty_none h is long = by_entries h.entries h.taken is.part long
 
 pub turn-Shrunk : (q : Queue) (m : State) → IsQueue (queue_state q m.queues) → Shrunk (queue_state q m.queues) (queue_state q (turn m).queues)
 turn-Shrunk q m is =
-    turn-kept (λ x. Shrunk (queue_state q m.queues) (queue_state q x.queues)) (each_part q (queue_state q m.queues) (empty_none (queue_state q m.queues) is)) m
+    let held = queue_state q m.queues in
+    let empty = empty_none held is in
+    turn-keeps (Shrunk held) (record { removes = shrunk_removed held empty; takes = shrunk_taken held empty }) q m
     (record { fewer = omega arith; taken = λ same. omega arith })
 
 -- ---- which queue
