@@ -1,9 +1,9 @@
 -- A live run is one in which each step of the machine meets the words as they are then.
-use Rattle.std.proofs.Common.{◌≡◌, ℕ, suc, ◌+◌, ◌-◌, ◌<◌, ◌≤◌, Bool, false, ◌||◌, List, [], ◌∷◌, ◌++◌, length, take, drop, All, refl, sym, ap, ◌∙◌, arith}
+use Rattle.std.proofs.Common.{◌≡◌, ℕ, ◌+◌, ◌-◌, ◌<◌, ◌≤◌, Bool, false, ◌||◌, List, [], ◌∷◌, ◌++◌, length, take, All, refl, sym, ap, ◌∙◌, arith}
 use Rattle.std.specs.Prelude.{slice_set}
 use Rattle.std.proofs.Math.Seq.{take-add}
 use Rattle.std.proofs.lemmas.Bool.{or_parts}
-use Rattle.std.proofs.lemmas.List.{drop-drop, drop_more, take_more}
+use Rattle.std.proofs.lemmas.List.{take_more}
 use Rattle.std.proofs.lemmas.List.Elements.{All-nil, All-cons, All-head, All-tail}
 use Rattle.machine_model.specs.Paths.{RiscProgram}
 use Rattle.machine_model.specs.States.{State}
@@ -16,21 +16,6 @@ use Rattle.chain_model.specs.Chains.{Chain, IsChain, IsPatching, IsSoundChain, P
 use Rattle.chain_model.specs.Live.{IsLiveStep, Live, LiveStep, Patch, Plain, live_at, live_run, live_step, mets}
 use Rattle.chain_model.proofs.Live.{IsPatching-patch}
 use Rattle.chain_law.specs.Pictures.{between, step_at}
-
--- ---- places
-
-pub between_both : (j i l : ℕ) (steps : List LiveStep) → j ≤ i → i ≤ l → between j l steps ≡ between j i steps ++ between i l steps
-between_both j i l steps first later =
-    let all : l - j ≡ i - j + (l - i) = omega arith in
-    let there : j + (i - j) ≡ i = omega arith in
-    ap (λ (n : ℕ). take n (drop j steps)) all
-    ∙ take-add (i - j) (l - i) (drop j steps)
-    ∙ ap (λ (rest : List LiveStep). between j i steps ++ take (l - i) rest) (drop-drop (i - j) j steps ∙ ap (λ (n : ℕ). drop n steps) there)
-
-pub between_first : (i l : ℕ) (steps : List LiveStep) → i < l → i < length steps → between i l steps ≡ step_at steps i ∷ between (i + 1) l steps
-between_first i l steps before within =
-    let more : l - i ≡ suc (l - (i + 1)) = omega arith in
-    ap (λ (n : ℕ). take n (drop i steps)) more ∙ ap (λ (rest : List LiveStep). take (suc (l - (i + 1))) rest) (drop_more steps i (Plain Turn) within)
 
 module _ (chain : Chain) where
   pub live_run-append : (live : Live) (first second : List LiveStep) → live_run chain live (first ++ second) ≡ live_run chain (live_run chain live first) second

@@ -16,13 +16,14 @@ use Rattle.field_law.specs.Arrivals.{Met, has_signal, is_signal}
 use Rattle.picture_model.specs.Programs.{section_begin, section_next}
 use Rattle.picture_law.specs.Pictures.{After, HasPlaces, Picture}
 use Rattle.picture_law.specs.Laws.{Captures, IsPictured, TellsField}
+use Rattle.picture_law.proofs.Between.{range_first, range_split}
 use Rattle.picture_law.proofs.Laws.{grants_places, shows_no_fault, shows_picture, signals_field}
 use Rattle.chain_model.specs.Chains.{Chain, alone, alone_in, head, next, part_of, patched}
 use Rattle.chain_model.specs.Live.{IsLive, IsLiveStep, Live, LiveStep, Plain, first_live, live_step, mets}
 use Rattle.chain_model.proofs.Live.{IsLive-at}
 use Rattle.chain_model.proofs.Slots.{length-alone}
 use Rattle.chain_law.specs.Pictures.{IsLiveCapture, IsSignalled, LiveShowsNoFault, LiveShowsPicture, LiveTellsField, between, live_of, section_in, step_at}
-use Rattle.chain_law.proofs.Meets.{between_both, between_first, live_between, live_next, live_run-mets, mets-append, mets_made, mets_meet, silent_first}
+use Rattle.chain_law.proofs.Meets.{live_between, live_next, live_run-mets, mets-append, mets_made, mets_meet, silent_first}
 use Rattle.chain_law.proofs.Standing.{patched_holds}
 
 module _ (chain : Chain) (part : ℕ) (d : Desc) (field : Parity) (picture : Picture) (fill : ℕ) (steps : List LiveStep) (j k : ℕ)
@@ -93,7 +94,7 @@ module _ (chain : Chain) (part : ℕ) (d : Desc) (field : Parity) (picture : Pic
 
   cut : (i l : ℕ) → j ≤ i → i ≤ l → before l ≡ before i ++ mets chain (live i).patching (between i l steps)
   cut i l from to =
-      ap (mets chain (live j).patching) (between_both j i l steps from to)
+      ap (mets chain (live j).patching) (range_split j i l steps from to)
       ∙ mets-append chain (live j) (between j i steps) (between i l steps)
       ∙ ap (λ (l' : Live). before i ++ mets chain l'.patching (between i l steps)) (live_between chain (first_live chain fill) steps j i from)
 
@@ -102,7 +103,7 @@ module _ (chain : Chain) (part : ℕ) (d : Desc) (field : Parity) (picture : Pic
       let within = s.signal.there in
       cut i (k + 1) from (omega arith)
       ∙ ap (λ (rest : List LiveStep). before i ++ mets chain (live i).patching rest)
-      (between_first i (k + 1) steps (omega arith) (omega arith) ∙ ap (λ (st : LiveStep). st ∷ between (i + 1) (k + 1) steps) is_turn)
+      (range_first i (k + 1) steps (Plain Turn) (omega arith) (omega arith) ∙ ap (λ (st : LiveStep). st ∷ between (i + 1) (k + 1) steps) is_turn)
 
   captured : (i : ℕ) → j ≤ i → i ≤ k → step_at steps i ≡ Plain Turn → Captures d field begin target picture (live j).machine (before i ++ turn_at i ∷ later_from i)
   captured i from to is_turn = subst (Captures d field begin target picture (live j).machine) (split i from to is_turn) captures

@@ -3,12 +3,12 @@ use Rattle.std.proofs.Common.{◌≡◌, ℕ, suc, ◌+◌, ◌*◌, ◌<◌, �
 use Rattle.std.proofs.lemmas.List.{append-nil}
 use Rattle.risc_word.specs.declared.Ctl.{Ctl}
 use Rattle.risc_word.specs.declared.Instr.{Instr}
-use Rattle.risc_word.specs.declared.Instr.TheVariants.{Write, Skip, WriteC, Jump, Sync, Write123, Skip123, Write1S23}
+use Rattle.risc_word.specs.declared.Instr.TheVariants.{Jump}
 use Rattle.risc_word.specs.Words.{IsInstr, encoded}
 use Rattle.pixel_layout.specs.declared.Parity.{Parity}
 use Rattle.pixel_layout.specs.declared.Parity.TheVariants.{Top, Bottom}
 use Rattle.machine_model.specs.Accesses.{AreFetchedAlike}
-use Rattle.machine_model.specs.Paths.{RiscProgram, Place, IsSound, fetch, path, place_after, demands_cause, demands_of}
+use Rattle.machine_model.specs.Paths.{RiscProgram, Place, IsSound, fetch, path, demands_cause, demands_of}
 use Rattle.machine_model.proofs.Places.{path-suc}
 use Rattle.capture_desc.specs.declared.desc.Desc.{Desc}
 use Rattle.capture_desc.specs.declared.desc.Fields.{Fields}
@@ -16,13 +16,11 @@ use Rattle.capture_desc.specs.declared.desc.Fields.TheVariants as fields
 use Rattle.picture_model.specs.Described.{describes}
 use Rattle.picture_model.specs.Programs.{begin_by, body, closing, compiled, next_by, opening, section, section_begin, section_next, sections, signal, words_of}
 use Rattle.picture_model.proofs.Circle.{words_split}
-use Rattle.picture_model.proofs.Each.{Each}
-use Rattle.picture_model.proofs.Fine.{IsGoodInstr}
 use Rattle.picture_model.proofs.Right.{IsRight, IsFrame-IsRight}
 use Rattle.picture_model.proofs.Sections.{good_body, section_stands, signal_spelled}
 use Rattle.field_law.specs.Sections.{Holds, HoldsFrom, IsPlain, Stands, StandsFrom}
-use Rattle.field_law.proofs.OnPath.{sound_holds}
-use Rattle.picture_law.proofs.Program.{body_plain, fetched_at}
+use Rattle.field_law.proofs.OnPath.{pc_after, sound_holds}
+use Rattle.picture_law.proofs.Program.{body_plain, fetched_at, stands_from}
 use Rattle.chain_model.specs.Chains.{Chain, IsChain, IsSoundChain, Patching, alone, alone_in, head, next, part_of, patched, slot_at}
 use Rattle.chain_model.proofs.Slots.{length-alone, path_to_head}
 use Rattle.chain_model.proofs.Words.{behind_alike}
@@ -30,34 +28,7 @@ use Rattle.chain_law.specs.Fragments.{IsFragment}
 use Rattle.chain_law.specs.Pictures.{section_in}
 use Rattle.chain_law.proofs.Splits.{head_there, part_split, words_after, words_before}
 
--- ---- instructions that stand in a program
-
-module _ (program other : RiscProgram) (ctl : Ctl) (target : ℕ) (spelled : IsInstr (Jump ctl target)) (after : List ℕ) where
-  stands_from : (instrs : List Instr) (before : List ℕ) (address : ℕ) → program.words ≡ before ++ (words_of instrs ++ (encoded (Jump ctl target) ++ after)) →
-      address ≡ program.base + 4 * length before → Each (IsGoodInstr other) instrs → Each IsPlain instrs → StandsFrom program address instrs ctl target
-  stands_from [] before address words at good plain =
-      fetched_at program before after (Jump ctl target) address words at spelled (omega arith)
-  stands_from (i ∷ rest) before address words at good plain =
-      let later : List ℕ = words_of rest ++ (encoded (Jump ctl target) ++ after) in
-      let split : program.words ≡ before ++ (encoded i ++ later) =
-      words ∙ ap (λ (ws : List ℕ). before ++ ws) (append_assoc (encoded i) (words_of rest) (encoded (Jump ctl target) ++ after)) in (
-        fetched_at program before later i address split at good.0.fine.spelled good.0.fine.some,
-        plain.0,
-        stands_from rest (before ++ encoded i) (address + 4 * length (encoded i)) (split ∙ sym (append_assoc before (encoded i) later))
-            (omega (arith, length-append before (encoded i))) good.1 plain.1,
-      )
-
 -- ---- the path walks through a section that stands on it
-
-pc_after : (instr : Instr) (count : ℕ) (place : Place) → IsPlain instr → (place_after instr count place).pc ≡ place.pc + 4 * count
-pc_after (Write ctl ends off count' addr) count place plain = refl
-pc_after (Skip ctl ends count') count place plain = refl
-pc_after (WriteC ctl ends off count') count place plain = refl
-pc_after (Jump ctl addr) count place plain = absurd plain
-pc_after (Sync ctl resync code) count place plain = refl
-pc_after (Write123 ctl ends off counts addrs) count place plain = refl
-pc_after (Skip123 ctl ends counts) count place plain = refl
-pc_after (Write1S23 ctl ends off counts addr) count place plain = refl
 
 -- a place of the path stands at an address
 abbrev ComesTo : RiscProgram → ℕ → Type 0

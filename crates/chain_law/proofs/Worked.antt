@@ -1,5 +1,5 @@
 -- The worked chain meets the premises of the laws, with a patch while the old part runs.
-use Rattle.std.proofs.Common.{◌≡◌, ℕ, zero, suc, ◌^◌, ◌<◌, ◌||◌, Bool, true, false, All, List, [], ◌∷◌, ◌++◌, length, None, IsTrue, refl, arith}
+use Rattle.std.proofs.Common.{◌≡◌, zero, suc, ◌^◌, ◌<◌, ◌||◌, Bool, true, false, All, [], ◌∷◌, ◌++◌, None, IsTrue, refl, arith}
 use Rattle.std.proofs.lemmas.List.Elements.{All-nil, All-from_recursion}
 use Rattle.risc_word.specs.declared.Code.TheVariants.{Vre}
 use Rattle.fifo_model.specs.declared.Entry.{Entry}
@@ -9,13 +9,11 @@ use Rattle.fifo_model.specs.Queues.{queue_state}
 use Rattle.page_table.specs.Grants.{Chunk, covers}
 use Rattle.pixel_layout.specs.declared.Parity.TheVariants.{Top}
 use Rattle.machine_model.specs.Paths.{shares_byte}
-use Rattle.picture_model.specs.Described.{IsDescription, field_height}
+use Rattle.picture_model.specs.Described.{IsDescription}
 use Rattle.picture_model.specs.Worked.{smallest}
-use Rattle.field_law.specs.Fields.{Mark, Brings}
-use Rattle.field_law.specs.Worked.{line}
 use Rattle.field_law.specs.Arrivals.{HasCode, coming}
 use Rattle.field_law.proofs.Worked as worked
-use Rattle.picture_law.specs.Pictures.{AreLines, AreRows, HoldBytes, IsPicture, field_tokens, rows_on}
+use Rattle.picture_law.specs.Pictures.{IsPicture}
 use Rattle.picture_law.specs.Worked.{picture}
 use Rattle.picture_law.proofs.Worked as pictures
 use Rattle.chain_model.specs.declared.PartWords.{PartWords}
@@ -122,46 +120,8 @@ made =
 
 -- ---- the picture of both fields
 
-no_lines : (bytes : ℕ) → AreLines 0 bytes []
-no_lines bytes = record { many = refl; long = All-nil (λ line. length line ≡ bytes) }
-
-one_line : AreLines 1 8 (line ∷ [])
-one_line = record { many = refl; long = All-from_recursion (λ line. length line ≡ 8) (line ∷ []) (refl, tt) }
-
-abbrev IsByte : ℕ → Type 0
-IsByte byte = byte < 256
-
-abbrev HoldsBytes : List ℕ → Type 0
-HoldsBytes line = All IsByte line
-
-line_bytes : All IsByte line
-line_bytes = All-from_recursion IsByte line (omega arith, (omega arith, (omega arith, (omega arith, (omega arith, (omega arith, (omega arith, (omega arith, tt))))))))
-
-rows : (q : Queue) → AreRows smallest q (field_height smallest Top) (rows_on picture q)
-rows One = one_line
-rows Two = no_lines 8
-rows Three = no_lines 8
-
-row_bytes : (q : Queue) → HoldBytes (rows_on picture q)
-row_bytes One = All-from_recursion HoldsBytes (line ∷ []) (line_bytes, tt)
-row_bytes Two = All-nil HoldsBytes
-row_bytes Three = All-nil HoldsBytes
-
-first_picture : IsPicture smallest Top picture
-first_picture = record { vbi = no_lines 2044; rows = rows; vbi_bytes = All-nil HoldsBytes; row_bytes = row_bytes }
-
 second_picture : IsPicture other Top picture
-second_picture = record { vbi = no_lines 2044; rows = rows; vbi_bytes = All-nil HoldsBytes; row_bytes = row_bytes }
-
-no_skips : (q : Queue) → AreRows smallest q 0 []
-no_skips One = no_lines 8
-no_skips Two = no_lines 8
-no_skips Three = no_lines 8
-
-brings : (q : Queue) → Brings (Mark Vre ∷ field_tokens smallest picture (λ q. []) q) (worked.entries q)
-brings One = worked.brings One
-brings Two = worked.brings Two
-brings Three = worked.brings Three
+second_picture = let first = pictures.pictured in record { vbi = first.vbi; rows = first.rows; vbi_bytes = first.vbi_bytes; row_bytes = first.row_bytes }
 
 abbrev IsOther : Entry → Type 0
 IsOther entry = HasCode Vre entry → ⊥
@@ -186,7 +146,7 @@ first_arrives =
       rest = worked.entries;
       order = first_order;
       unmarked = λ q. All-nil IsOther;
-      brought = record { skipped = λ q. []; lines = no_skips; brings = brings };
+      brought = record { skipped = λ q. []; lines = pictures.no_skips; brings = pictures.brings };
     }
 
 pub first_signalled : IsSignalled two_slots 0 smallest Top picture 0 steps 7 19
@@ -198,7 +158,7 @@ first_signalled =
         is_part = omega arith;
         fragment = fragment_0;
         described = refl;
-        pictured = first_picture;
+        pictured = pictures.pictured;
         made = made;
       };
       signal = record { later = omega arith; there = omega arith; turn = refl; signal = refl; silent = refl };
@@ -225,7 +185,7 @@ second_arrives =
       rest = λ q. [];
       order = second_order;
       unmarked = λ q. All-nil IsOther;
-      brought = record { skipped = λ q. []; lines = no_skips; brings = brings };
+      brought = record { skipped = λ q. []; lines = pictures.no_skips; brings = pictures.brings };
     }
 
 pub second_signalled : IsSignalled two_slots 1 other Top picture 0 steps 24 31

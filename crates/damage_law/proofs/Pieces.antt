@@ -1,7 +1,6 @@
 -- The instructions of a field's lines, and the bytes of the field to whose places they write.
 use Rattle.std.proofs.Common.{◌≡◌, ℕ, ◌+◌, ◌-◌, ◌*◌, ◌<◌, ◌≤◌, Bool, true, false, List, [], ◌∷◌, ◌++◌, length, Option, Some, None, Ok, option_map, if◌then◌else◌, refl, sym, ap, ap₂, ◌∙◌, subst, arith, ◌==◌, nat_le}
 use Rattle.std.proofs.Math.Nat.{mul-le-mul_left}
-use Rattle.risc_word.specs.declared.Ends.{Ends}
 use Rattle.risc_word.specs.declared.Instr.{Instr}
 use Rattle.risc_word.specs.Words.{encoded}
 use Rattle.fifo_model.specs.declared.Queue.{Queue}
@@ -17,7 +16,7 @@ use Rattle.picture_model.specs.declared.PieceKind.{PieceKind}
 use Rattle.picture_model.specs.declared.PieceKind.TheVariants.{Write, WriteLuma, Skip}
 use Rattle.picture_model.specs.Described.{both, describes, field_height, layout_of, memory_of, offset, picture_row, plane_row_bytes, stride}
 use Rattle.picture_model.specs.Places.{byte_clipped, place}
-use Rattle.picture_model.specs.Plans.{Cut, Follow, Strip, Track, address_of, cuts_of, ends_of, grain_bytes, grains_of, kind_of, piece_of, skipped_strip, track, vbi_strip}
+use Rattle.picture_model.specs.Plans.{Cut, Follow, Strip, Track, cuts_of, ends_of, grain_bytes, grains_of, kind_of, piece_of, skipped_strip, vbi_strip}
 use Rattle.picture_model.specs.Programs.{compiled, instr_by, instr_of}
 use Rattle.picture_model.proofs.Grains.{row_grains}
 use Rattle.picture_model.proofs.Right.{IsRight}
@@ -29,51 +28,12 @@ use Rattle.field_law.specs.Sections.{Ask, Await, Begin, GoOn, ask, ask_of, asked
 use Rattle.field_law.proofs.CutLines.{address_behind, address_here}
 use Rattle.picture_law.specs.Pictures.{FieldByte, of_row, of_vbi, IsKeptAt, has_plane, plane_of}
 use Rattle.picture_law.proofs.Body.{field_row_strip, row_below, row_starts, skipped_starts}
-use Rattle.picture_law.proofs.Cuts.{Starts, cut_address, cut_asks, line_part_of, line_parts_of, moves, on_queue, track_on}
+use Rattle.picture_law.proofs.Cuts.{Starts, cut_address, cut_asks, line_part_of, line_parts_of, moves, piece_asks, track_on}
 use Rattle.picture_law.proofs.Goes.{queue_plane, queue_row_goes, row_track_on, skipped_goes, vbi_goes}
-use Rattle.picture_law.proofs.Kept.{kept_granted, kept_once}
+use Rattle.picture_law.proofs.Kept.{kept_granted, kept_once, unless_clipped}
 use Rattle.damage_law.proofs.PlacedTakes.{address_on, count_on}
 
 -- ---- what an instruction of a line asks
-
-module _ (memory : List Chunk) (ends : Ends) (at n size size' size'' : ℕ) where
-  piece_asks : (q : Queue) (planar clipped : Bool) (kind : PieceKind) (start start' start'' : Option ℕ) → Starts planar kind start start' start'' → moves planar q ≡ true →
-      asked q (instr_by planar (kind_of clipped kind) (record {
-        kind = kind_of clipped kind;
-        ends = ends;
-        counts = n * size ∷ n * size' ∷ n * size'' ∷ [];
-        addrs = address_of memory clipped size start at ∷ address_of memory clipped size' start' at ∷ address_of memory clipped size'' start'' at ∷ [];
-      }))
-      ≡ cut_asks memory ends.sol clipped at n (on_queue q (track size start) (track size' start') (track size'' start''))
-  piece_asks One true true kind start start' start'' starts moved = refl
-  piece_asks Two true true kind start start' start'' starts moved = refl
-  piece_asks Three true true kind start start' start'' starts moved = refl
-  piece_asks One false true kind start start' start'' starts moved = refl
-  piece_asks Two false clipped kind start start' start'' starts moved = cc
-  piece_asks Three false clipped kind start start' start'' starts moved = cc
-  piece_asks One true false Skip None None None starts moved = refl
-  piece_asks Two true false Skip None None None starts moved = refl
-  piece_asks Three true false Skip None None None starts moved = refl
-  piece_asks q true false Skip (Some a) start' start'' starts moved = absurd starts
-  piece_asks q true false Skip None (Some b) start'' starts moved = absurd starts
-  piece_asks q true false Skip None None (Some c) starts moved = absurd starts
-  piece_asks One true false Write (Some a) (Some b) (Some c) starts moved = refl
-  piece_asks Two true false Write (Some a) (Some b) (Some c) starts moved = refl
-  piece_asks Three true false Write (Some a) (Some b) (Some c) starts moved = refl
-  piece_asks q true false Write None start' start'' starts moved = absurd starts
-  piece_asks q true false Write (Some a) None start'' starts moved = absurd starts
-  piece_asks q true false Write (Some a) (Some b) None starts moved = absurd starts
-  piece_asks One true false WriteLuma (Some a) None None starts moved = refl
-  piece_asks Two true false WriteLuma (Some a) None None starts moved = refl
-  piece_asks Three true false WriteLuma (Some a) None None starts moved = refl
-  piece_asks q true false WriteLuma None start' start'' starts moved = absurd starts
-  piece_asks q true false WriteLuma (Some a) (Some b) start'' starts moved = absurd starts
-  piece_asks q true false WriteLuma (Some a) None (Some c) starts moved = absurd starts
-  piece_asks One false false Write (Some a) start' start'' starts moved = refl
-  piece_asks One false false Write None start' start'' starts moved = absurd starts
-  piece_asks One false false Skip None start' start'' starts moved = refl
-  piece_asks One false false Skip (Some a) start' start'' starts moved = absurd starts
-  piece_asks One false false WriteLuma start start' start'' starts moved = absurd starts
 
 abbrev ask_count : Ask → ℕ
 ask_count (Await code) = 0
@@ -114,7 +74,7 @@ unmoved_piece Three false Skip p still = refl
 
 -- ---- bytes in cuts
 
-cuts_further : (end at : ℕ) (cuts : List Cut) → Follow end at cuts → at ≤ end
+pub cuts_further : (end at : ℕ) (cuts : List Cut) → Follow end at cuts → at ≤ end
 cuts_further end at [] follow = omega arith
 cuts_further end at (k ∷ rest) follow = let later = cuts_further end (at + k.n) rest follow.2 in omega arith
 
@@ -169,17 +129,13 @@ pub data Kind : Type 0 where
   OfSkipped : Kind
   OfRow : ℕ → Kind
 
-plane_moves : (planar : Bool) (q : Queue) → moves planar q ≡ true → nat_le (plane_of q) (if planar then 3 else 1) ≡ true
+pub plane_moves : (planar : Bool) (q : Queue) → moves planar q ≡ true → nat_le (plane_of q) (if planar then 3 else 1) ≡ true
 plane_moves true One does = refl
 plane_moves true Two does = refl
 plane_moves true Three does = refl
 plane_moves false One does = refl
 plane_moves false Two does = cc
 plane_moves false Three does = cc
-
-unless_clipped : (clipped : Bool) (to : Option ℕ) (address : ℕ) → (if clipped then None else to) ≡ Some address → (clipped ≡ false) × (to ≡ Some address)
-unless_clipped true to address h = cc
-unless_clipped false to address h = (refl, h)
 
 moved_from : (start : Option ℕ) (s y : ℕ) → start ≡ Some s → option_map (λ a. a + y) start ≡ Some (s + y)
 moved_from None s y is = cc

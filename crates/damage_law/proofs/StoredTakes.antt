@@ -20,9 +20,9 @@ use Rattle.machine_model.specs.Turns.{Store, apply, apply_in, burst, demand_less
 use Rattle.machine_model.specs.Seen.{Application, application_in, served_application}
 use Rattle.machine_model.proofs.Fronts.{take-Takes}
 use Rattle.field_law.specs.Arrivals.{is_queue}
-use Rattle.field_law.specs.Sections.{laid, laid_from}
+use Rattle.field_law.specs.Sections.{laid}
 use Rattle.field_law.proofs.Lines.{valid-most}
-use Rattle.field_law.proofs.Served.{stores_at-laid}
+use Rattle.field_law.proofs.Served.{laid-append, stores_at-laid}
 use Rattle.damage_law.specs.Takings.{Taking, burst_takings, left, taking_by, takings_of}
 use Rattle.damage_law.proofs.ArrivedTakes.{demand_apart, demand_there}
 
@@ -51,22 +51,11 @@ laid_nothing : (address : Option ℕ) → laid address [] ≡ []
 laid_nothing None = refl
 laid_nothing (Some at) = refl
 
-laid_from-append : (address : ℕ) (xs ys : List ℕ) → laid_from address (xs ++ ys) ≡ laid_from address xs ++ laid_from (address + length xs) ys
-laid_from-append address [] ys = let same : address ≡ address + 0 = omega arith in ap (λ (at : ℕ). laid_from at ys) same
-laid_from-append address (x ∷ xs) ys =
-    let same : address + 1 + length xs ≡ address + suc (length xs) = omega arith in
-    ap (λ (stores : List Store). record { address = address; byte = x } ∷ stores)
-    (laid_from-append (address + 1) xs ys ∙ ap (λ (at : ℕ). laid_from (address + 1) xs ++ laid_from at ys) same)
-
-laid-append : (address : Option ℕ) (xs ys : List ℕ) → laid address (xs ++ ys) ≡ laid address xs ++ laid (option_map (λ at. at + length xs) address) ys
-laid-append None xs ys = refl
-laid-append (Some address) xs ys = laid_from-append address xs ys
-
 moved_nowhere : (address : Option ℕ) → option_map (λ at. at + 0) address ≡ address
 moved_nowhere None = refl
 moved_nowhere (Some at) = ap (λ (a : ℕ). Some a) (omega arith)
 
-moved_twice : (n k : ℕ) (address : Option ℕ) → option_map (λ at. at + k) (option_map (λ at. at + n) address) ≡ option_map (λ at. at + (n + k)) address
+pub moved_twice : (n k : ℕ) (address : Option ℕ) → option_map (λ at. at + k) (option_map (λ at. at + n) address) ≡ option_map (λ at. at + (n + k)) address
 moved_twice n k None = refl
 moved_twice n k (Some at) = ap (λ (a : ℕ). Some a) (omega arith)
 

@@ -22,7 +22,7 @@ granted_demands program (Skip123 ctl ends counts) target plain fine = fine
 granted_demands program (Write1S23 ctl ends off counts addr) target plain fine = fine
 
 -- the next place follows it
-pc_after : (instr : Instr) (count : ℕ) (place : Place) → IsPlain instr → (place_after instr count place).pc ≡ place.pc + 4 * count
+pub pc_after : (instr : Instr) (count : ℕ) (place : Place) → IsPlain instr → (place_after instr count place).pc ≡ place.pc + 4 * count
 pc_after (Write ctl ends off count' addr) count place plain = refl
 pc_after (Skip ctl ends count') count place plain = refl
 pc_after (WriteC ctl ends off count') count place plain = refl

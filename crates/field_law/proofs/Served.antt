@@ -37,7 +37,7 @@ laid_from-append address (x ∷ xs) ys =
     ap (λ (stores : List Store). record { address = address; byte = x } ∷ stores)
     (laid_from-append (address + 1) xs ys ∙ ap (λ (at : ℕ). laid_from (address + 1) xs ++ laid_from at ys) same)
 
-laid-append : (address : Option ℕ) (xs ys : List ℕ) → laid address (xs ++ ys) ≡ laid address xs ++ laid (option_map (λ at. at + length xs) address) ys
+pub laid-append : (address : Option ℕ) (xs ys : List ℕ) → laid address (xs ++ ys) ≡ laid address xs ++ laid (option_map (λ at. at + length xs) address) ys
 laid-append None xs ys = refl
 laid-append (Some address) xs ys = laid_from-append address xs ys
 

@@ -1,5 +1,6 @@
 -- Parts of a run from one place to another.
 use Rattle.std.proofs.Common.{◌≡◌, ℕ, zero, suc, ◌+◌, ◌-◌, ◌<◌, ◌≤◌, Bool, true, false, ◌||◌, List, [], ◌∷◌, ◌++◌, length, take, drop, refl, sym, ap, ◌∙◌, subst, arith, ⊎_elim}
+use Rattle.std.specs.Prelude.{slice_index_or}
 use Rattle.std.proofs.Math.Seq.{take-add}
 use Rattle.std.proofs.lemmas.Bool.{cases_Bool, cases_lt, or_cases, or_from, or_parts}
 use Rattle.std.proofs.lemmas.List.{drop-drop, drop_more, take_more}
@@ -11,20 +12,29 @@ use Rattle.field_law.specs.Sections.{Section}
 use Rattle.field_law.specs.Arrivals.{meeting, has_signal, is_signal}
 use Rattle.picture_law.specs.Runs.{IsFirstSignal, between, signals_at, step_at}
 
+-- ---- what stands from a place up to another
+
+pub range_split : {A : Type 0} (j i l : ℕ) (xs : List A) → j ≤ i → i ≤ l → take (l - j) (drop j xs) ≡ take (i - j) (drop j xs) ++ take (l - i) (drop i xs)
+range_split {A} j i l xs first later =
+    let all : l - j ≡ i - j + (l - i) = omega arith in
+    let there : j + (i - j) ≡ i = omega arith in
+    ap (λ (n : ℕ). take n (drop j xs)) all
+    ∙ take-add (i - j) (l - i) (drop j xs)
+    ∙ ap (λ (rest : List A). take (i - j) (drop j xs) ++ take (l - i) rest) (drop-drop (i - j) j xs ∙ ap (λ (n : ℕ). drop n xs) there)
+
+pub range_first : {A : Type 0} (i l : ℕ) (xs : List A) (other : A) → i < l → i < length xs →
+    take (l - i) (drop i xs) ≡ slice_index_or xs i other ∷ take (l - (i + 1)) (drop (i + 1) xs)
+range_first {A} i l xs other before within =
+    let more : l - i ≡ suc (l - (i + 1)) = omega arith in
+    ap (λ (n : ℕ). take n (drop i xs)) more ∙ ap (λ (rest : List A). take (suc (l - (i + 1))) rest) (drop_more xs i other within)
+
 -- ---- steps
 
 pub between_both : (j i l : ℕ) (steps : List Step) → j ≤ i → i ≤ l → between j l steps ≡ between j i steps ++ between i l steps
-between_both j i l steps first later =
-    let all : l - j ≡ i - j + (l - i) = omega arith in
-    let there : j + (i - j) ≡ i = omega arith in
-    ap (λ (n : ℕ). take n (drop j steps)) all
-    ∙ take-add (i - j) (l - i) (drop j steps)
-    ∙ ap (λ (rest : List Step). between j i steps ++ take (l - i) rest) (drop-drop (i - j) j steps ∙ ap (λ (n : ℕ). drop n steps) there)
+between_both j i l steps first later = range_split j i l steps first later
 
 pub between_first : (i l : ℕ) (steps : List Step) → i < l → i < length steps → between i l steps ≡ step_at steps i ∷ between (i + 1) l steps
-between_first i l steps before within =
-    let more : l - i ≡ suc (l - (i + 1)) = omega arith in
-    ap (λ (n : ℕ). take n (drop i steps)) more ∙ ap (λ (rest : List Step). take (suc (l - (i + 1))) rest) (drop_more steps i Turn within)
+between_first i l steps before within = range_first i l steps Turn before within
 
 pub between_none : (i : ℕ) (steps : List Step) → between i i steps ≡ []
 between_none i steps = let none : i - i ≡ 0 = omega arith in ap (λ (n : ℕ). take n (drop i steps)) none

@@ -51,7 +51,7 @@ abbrev pub cut_asks : List Chunk → Bool → Bool → ℕ → ℕ → Track →
 cut_asks memory sol clipped at n t = ask (sol && not (n * t.size == 0)) (n * t.size) (cut_address memory clipped t at)
 
 module _ (memory : List Chunk) (ends : Ends) (at n size size' size'' : ℕ) where
-  piece_asks : (q : Queue) (planar clipped : Bool) (kind : PieceKind) (start start' start'' : Option ℕ) → Starts planar kind start start' start'' → moves planar q ≡ true →
+  pub piece_asks : (q : Queue) (planar clipped : Bool) (kind : PieceKind) (start start' start'' : Option ℕ) → Starts planar kind start start' start'' → moves planar q ≡ true →
       asked q (instr_by planar (kind_of clipped kind) (record {
         kind = kind_of clipped kind;
         ends = ends;

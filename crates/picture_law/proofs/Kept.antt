@@ -30,7 +30,7 @@ pub record IsOfPicture (d : Desc) (field : Parity) (picture : Picture) (store : 
   pub kept : IsKeptAt d field byte store.address
   pub shown : shown_as picture byte ≡ store.byte
 
-unless_clipped : (clipped : Bool) (to : Option ℕ) (address : ℕ) → (if clipped then None else to) ≡ Some address → (clipped ≡ false) × (to ≡ Some address)
+pub unless_clipped : (clipped : Bool) (to : Option ℕ) (address : ℕ) → (if clipped then None else to) ≡ Some address → (clipped ≡ false) × (to ≡ Some address)
 unless_clipped true to address h = cc
 unless_clipped false to address h = (refl, h)
 

@@ -24,7 +24,7 @@ use Rattle.picture_model.proofs.Each.{Each, each_append}
 use Rattle.picture_model.proofs.Fine.{IsGoodInstr}
 use Rattle.picture_model.proofs.Right.{IsRight}
 use Rattle.picture_model.proofs.Sections.{good_body, section_stands, signal_spelled}
-use Rattle.field_law.specs.Sections.{IsPlain, HoldsFrom, Holds, closing_at, words_in}
+use Rattle.field_law.specs.Sections.{IsPlain, HoldsFrom, Holds, StandsFrom, closing_at, words_in}
 use Rattle.field_law.proofs.OnPath.{granted_demands}
 use Rattle.picture_law.specs.Sections.{section_of}
 
@@ -69,20 +69,31 @@ fetched_at program before after i address words at is some =
     ∙ ap (λ (words : List ℕ). instr_at words (length before)) (words ∙ sym (append_assoc before (encoded i) after))
     ∙ reads_back i is before after
 
-module _ (program : RiscProgram) (ctl : Ctl) (target : ℕ) (spelled : IsInstr (instr.Jump ctl target)) (word : is_word program target ≡ true) (after : List ℕ) where
-  pub holds_from : (instrs : List Instr) (before : List ℕ) (address : ℕ) → program.words ≡ before ++ (words_of instrs ++ (encoded (instr.Jump ctl target) ++ after)) →
-      address ≡ program.base + 4 * length before → Each (IsGoodInstr program) instrs → Each IsPlain instrs → HoldsFrom program address instrs ctl target
-  holds_from [] before address words at good plain = (fetched_at program before after (instr.Jump ctl target) address words at spelled (omega arith), word)
-  holds_from (i ∷ rest) before address words at good plain =
+-- instructions that are good for any program stand where their words do
+module _ (program other : RiscProgram) (ctl : Ctl) (target : ℕ) (spelled : IsInstr (instr.Jump ctl target)) (after : List ℕ) where
+  pub stands_from : (instrs : List Instr) (before : List ℕ) (address : ℕ) → program.words ≡ before ++ (words_of instrs ++ (encoded (instr.Jump ctl target) ++ after)) →
+      address ≡ program.base + 4 * length before → Each (IsGoodInstr other) instrs → Each IsPlain instrs → StandsFrom program address instrs ctl target
+  stands_from [] before address words at good plain = fetched_at program before after (instr.Jump ctl target) address words at spelled (omega arith)
+  stands_from (i ∷ rest) before address words at good plain =
       let later : List ℕ = words_of rest ++ (encoded (instr.Jump ctl target) ++ after) in
       let split : program.words ≡ before ++ (encoded i ++ later) =
       words ∙ ap (λ (ws : List ℕ). before ++ ws) (append_assoc (encoded i) (words_of rest) (encoded (instr.Jump ctl target) ++ after)) in (
         fetched_at program before later i address split at good.0.fine.spelled good.0.fine.some,
         plain.0,
-        granted_demands program i None plain.0 (good.0.fine.fine None),
-        holds_from rest (before ++ encoded i) (address + 4 * length (encoded i)) (split ∙ sym (append_assoc before (encoded i) later))
+        stands_from rest (before ++ encoded i) (address + 4 * length (encoded i)) (split ∙ sym (append_assoc before (encoded i) later))
             (omega (arith, length-append before (encoded i))) good.1 plain.1,
       )
+
+-- those that are good for the program itself write where it may
+holds_from : (program : RiscProgram) (ctl : Ctl) (target : ℕ) → is_word program target ≡ true → (instrs : List Instr) (address : ℕ) → Each (IsGoodInstr program) instrs →
+    StandsFrom program address instrs ctl target → HoldsFrom program address instrs ctl target
+holds_from program ctl target word [] address good stands = (stands, word)
+holds_from program ctl target word (i ∷ rest) address good stands = (
+  stands.0,
+  stands.1,
+  granted_demands program i None stands.1 (good.0.fine.fine None),
+  holds_from program ctl target word rest (address + 4 * length (encoded i)) good.1 stands.2,
+)
 
 -- ---- the closing
 
@@ -126,11 +137,12 @@ section_holds d field right is =
     let end = encoded (closing field target) in
     let good = good_body d right (compiled d) refl field is in
     let at = stands.at in
-    holds_from (compiled d) (signal field) target (signal_spelled field target) (next_is_word d field is) stands.after (body d field) (stands.before ++ start) (section_of d field).at
+    holds_from (compiled d) (signal field) target (next_is_word d field is) (body d field) (section_of d field).at good.1
+    (stands_from (compiled d) (compiled d) (signal field) target (signal_spelled field target) stands.after (body d field) (stands.before ++ start) (section_of d field).at
     (stands.split
     ∙ ap (λ (words : List ℕ). stands.before ++ ((start ++ words) ++ stands.after)) (words_split (body d field) (closing field target) [])
     ∙ regrouped stands.before start (words_of (body d field)) end stands.after)
-    (omega (arith, length-append stands.before start)) good.1 (body_plain d field)
+    (omega (arith, length-append stands.before start)) good.1 (body_plain d field))
 
 pub words_in-words_of : (instrs : List Instr) → words_in instrs ≡ length (words_of instrs)
 words_in-words_of [] = refl

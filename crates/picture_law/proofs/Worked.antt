@@ -58,7 +58,7 @@ row_bytes One = All-from_recursion HoldsBytes (line ∷ []) (line_bytes, tt)
 row_bytes Two = All-nil HoldsBytes
 row_bytes Three = All-nil HoldsBytes
 
-pictured : IsPicture smallest Top picture
+pub pictured : IsPicture smallest Top picture
 pictured = record { vbi = no_lines 2044; rows = rows; vbi_bytes = All-nil HoldsBytes; row_bytes = row_bytes }
 
 order : (q : Queue) → (queue_state q machine.queues).entries ++ coming (meeting (compiled smallest) (moves ++ Turn ∷ [])) q ≡ before q ++ (entries q ++ [])
@@ -66,12 +66,12 @@ order One = refl
 order Two = refl
 order Three = refl
 
-no_skips : (q : Queue) → AreRows smallest q 0 []
+pub no_skips : (q : Queue) → AreRows smallest q 0 []
 no_skips One = no_lines 8
 no_skips Two = no_lines 8
 no_skips Three = no_lines 8
 
-brings : (q : Queue) → Brings (Mark Vre ∷ field_tokens smallest picture (λ q. []) q) (entries q)
+pub brings : (q : Queue) → Brings (Mark Vre ∷ field_tokens smallest picture (λ q. []) q) (entries q)
 brings One = worked.brings One
 brings Two = worked.brings Two
 brings Three = worked.brings Three
