@@ -10,7 +10,7 @@ use Rattle.sync_status.specs.Statuses.{is_end, kind_of, valid_bytes}
 use Rattle.fifo_model.specs.declared.Entry.{Entry}
 use Rattle.fifo_model.specs.declared.Queue.{Queue}
 use Rattle.fifo_model.specs.declared.Queue.TheVariants.{One, Two, Three}
-use Rattle.fifo_model.specs.Queues.{QueueState, first, front, queue_state}
+use Rattle.fifo_model.specs.Queues.{QueueState, front, queue_state}
 use Rattle.page_table.specs.Blocks.{Block}
 use Rattle.machine_model.specs.declared.Demand.{Demand}
 use Rattle.machine_model.specs.declared.Demands.{Demands}
@@ -23,8 +23,9 @@ use Rattle.field_law.specs.Arrivals.{is_queue}
 use Rattle.field_law.specs.Fields.{Mark, Row, Token, carried, is_ending}
 use Rattle.field_law.specs.Sections.{Ask, Await, Begin, GoOn, IsUsedUp, UsesTo, ask_of, asks}
 use Rattle.field_law.proofs.Lines.{Follows, ending-UnderWay, part-last, part-length}
+use Rattle.field_law.proofs.Running.{some_rest}
 use Rattle.field_law.proofs.Served.{AnyRest, Front, Takes, application, front as front_of}
-use Rattle.field_law.proofs.Within.{IsMade, IsWithin, WithinJob, judged-Within}
+use Rattle.field_law.proofs.Within.{IsMade, IsWithin, WithinJob, front_entries, judged-Within}
 
 -- how many bytes are still asked of a queue in the line under way
 abbrev pub left_in_line : List Ask → ℕ
@@ -111,14 +112,6 @@ demand_apart Two Three d ds apart = refl
 demand_apart Three One d ds apart = refl
 demand_apart Three Two d ds apart = refl
 demand_apart Three Three d ds apart = cc
-
-some_front : (entries : List Entry) (entry : Entry) → first entries ≡ Some entry → (es : List Entry) × (entries ≡ entry ∷ es)
-some_front [] entry is = cc
-some_front (top ∷ es) entry is = (es, cc)
-
-some_rest : (n : ℕ) → (n == 0) ≡ false → 0 < n
-some_rest zero is = cc
-some_rest (suc n) is = omega arith
 
 -- ---- bursts within a section, behind whose instruction this is its body
 
@@ -282,7 +275,7 @@ module _ (Stands : ℕ → List Instr → Type 0) (Comes : List Block → (Queue
         After (if none then [] else record { entry = entry; taken = held.taken; demand = demand_on q ds } ∷ []) (if none then None else Some (judged (verdict_at q ds entry m) q instr ds entry m))
     at_demand entry true there is = nothing ds m j at
     at_demand entry false there is =
-        let split = some_front held.entries entry there in taken_on entry split.0 there split.1 (some_rest (demand_on q ds).rest is)
+        let split = front_entries held.entries entry there in taken_on entry split.0 there split.1 (some_rest (demand_on q ds).rest is)
 
     at_front : (top : Option Entry) → front held ≡ top → After (served_application top q ds m) (served top q instr ds m)
     at_front None there = nothing ds m j at

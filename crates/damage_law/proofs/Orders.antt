@@ -38,6 +38,13 @@ use Rattle.damage_law.proofs.Leaving.{turn-drops}
 use Rattle.damage_law.proofs.QueuesShrink.{turn-keeps}
 use Rattle.damage_law.proofs.WholeLines.{from_from, line-whole, whole-line}
 
+-- what is taken of the front
+pub taken_front : (count : ℕ) (h : QueueState) (es : List Entry) (entry : Entry) → first es ≡ Some entry →
+    taken_more count h es ≡ (if h.taken + count == valid_bytes entry.status then removed h else record h { taken = h.taken + count })
+taken_front count h [] entry there = cc
+taken_front count h (e ∷ rest) entry there =
+    let same : e ≡ entry = cc in ap (λ (x : Entry). if h.taken + count == valid_bytes x.status then removed h else record h { taken = h.taken + count }) same
+
 module _ (entries : List Entry) where
   abbrev pub at : ℕ → Entry
   at = entry_at entries
@@ -162,12 +169,6 @@ module _ (entries : List Entry) where
         taken_by : (whole : Bool) → (h.taken + count == valid_bytes entry.status) ≡ whole → Went h (if whole then removed h else record h { taken = h.taken + count }) place (taking ∷ [])
         taken_by true is = whole_goes
         taken_by false is = part_goes (eqb-false (h.taken + count) (valid_bytes entry.status) is)
-
-    taken_front : (count : ℕ) (h : QueueState) (es : List Entry) (entry : Entry) → first es ≡ Some entry →
-        taken_more count h es ≡ (if h.taken + count == valid_bytes entry.status then removed h else record h { taken = h.taken + count })
-    taken_front count h [] entry there = cc
-    taken_front count h (e ∷ rest) entry there =
-        let same : e ≡ entry = cc in ap (λ (x : Entry). if h.taken + count == valid_bytes x.status then removed h else record h { taken = h.taken + count }) same
 
     takes_within : (v : Verdict) (entry : Entry) (sol : Bool) (taken rest count : ℕ) → verdict_on (kind_of entry.status) sol taken rest ≡ v → v ≡ Take count → (rest == 0) ≡ false →
         (taken ≡ 0) ⊎ (taken < valid_bytes entry.status) → (1 ≤ count) × (taken + count ≤ valid_bytes entry.status)
@@ -302,6 +303,11 @@ queue_is Two Three is = cc
 queue_is Three One is = cc
 queue_is Three Two is = cc
 queue_is Three Three is = refl
+
+pub cleared_queue : (p : Queue) (queues : Queues) → queue_state p (cleared queues) ≡ emptied (queue_state p queues)
+cleared_queue One queues = refl
+cleared_queue Two queues = refl
+cleared_queue Three queues = refl
 
 -- ---- a turn
 
@@ -459,11 +465,6 @@ module _ (entries later : List Entry) (q : Queue) (place : ℕ) (m : State) (ord
         sym (drop-drop (length h.entries - 0) place entries) ∙ ap (drop (length h.entries - 0)) stands
             ∙ drop-append-le (length h.entries - 0) h.entries later (omega arith) ∙ ap (λ (es : List Entry). es ++ later) (drop_all (length h.entries - 0) h.entries (omega arith)),
       )
-
-  cleared_queue : (p : Queue) (queues : Queues) → queue_state p (cleared queues) ≡ emptied (queue_state p queues)
-  cleared_queue One queues = refl
-  cleared_queue Two queues = refl
-  cleared_queue Three queues = refl
 
   enabled_steps : (fifo risc on : Bool) → drop place entries ≡ (queue_state q m.queues).entries ++ later → HostSteps (queue_state q (with_risc risc on (with_fifo fifo m)).queues)
   enabled_steps true true true stands = same_steps stands

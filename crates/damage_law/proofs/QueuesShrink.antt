@@ -21,7 +21,7 @@ use Rattle.machine_model.specs.States.{State}
 use Rattle.machine_model.specs.Turns.{begun_with, code_seen, data_fetched, ended, fetched, instr_fetched, judged, jumped, met, stray_seen, took, turn, with_fdsr_unless, without_codes}
 use Rattle.machine_model.proofs.Turning.{IsKept, turn-kept}
 
--- the fact stays true where a queue becomes shorter at its front
+-- the fact stays true where the front leaves a queue, and where more of the front is taken
 pub record IsKeptShrinking (P : QueueState → Type 0) : Type 0 where
   pub removes : (held : QueueState) → P held → P (removed held)
   pub takes : (held : QueueState) (count : ℕ) → P held → P (record held { taken = held.taken + count })

@@ -41,13 +41,13 @@ use Rattle.capture_desc.specs.declared.desc.Desc.{Desc}
 use Rattle.capture_desc.specs.declared.desc.Fields.{Fields}
 use Rattle.capture_desc.specs.declared.desc.Fields.TheVariants as fields
 use Rattle.picture_model.specs.Described.{describes}
-use Rattle.picture_model.specs.Programs.{begin_by, body, closing, compiled, next_by, no_control, opening, section_begin, section_next, signal, sync, vertical, words_of}
+use Rattle.picture_model.specs.Programs.{begin_by, body, closing, compiled, no_control, opening, section_begin, section_next, signal, sync, vertical, words_of}
 use Rattle.picture_model.proofs.Right.{IsRight, IsFrame-IsRight, IsValid-IsFrame}
 use Rattle.picture_model.proofs.Sections.{good_body, section_stands}
 use Rattle.field_law.specs.Sections.{HoldsFrom, closing_at, words_in}
 use Rattle.field_law.specs.Arrivals.{is_idle, is_signal}
 use Rattle.picture_law.specs.Sections.{section_of}
-use Rattle.picture_law.proofs.Program.{fetched_at, section_holds}
+use Rattle.picture_law.proofs.Program.{fetched_at, next_field, section_holds}
 use Rattle.damage_law.specs.Takings.{Taking, left, retired_at, retires, step_retires, step_takings, takings, takings_if, worked_takings}
 use Rattle.damage_law.specs.Marks.{is_opening, is_synced, last_step, later_or, marks_to}
 use Rattle.damage_map.specs.Laws.{KeepsAnswers, TellsSignals, map_after}
@@ -282,14 +282,6 @@ first_field : (which : Fields) (d : Desc) (from : ℕ) → (f : Parity) × (desc
 first_field fields.Top d from = (Top, refl, refl)
 first_field fields.Bottom d from = (Bottom, refl, refl)
 first_field fields.Both d from = (Top, refl, refl)
-
-next_field : (which : Fields) (d : Desc) (from : ℕ) (f : Parity) → describes which f ≡ true → (g : Parity) × (describes which g ≡ true) × (next_by which d from from f ≡ begin_by which d from g)
-next_field fields.Top d from Top is = (Top, refl, refl)
-next_field fields.Top d from Bottom is = cc
-next_field fields.Bottom d from Top is = cc
-next_field fields.Bottom d from Bottom is = (Bottom, refl, refl)
-next_field fields.Both d from Top is = (Bottom, refl, refl)
-next_field fields.Both d from Bottom is = (Top, refl, refl)
 
 holds_end : (program : RiscProgram) (ctl : Ctl) (to at : ℕ) (instrs : List Instr) → HoldsFrom program at instrs ctl to → fetch program (at + 4 * words_in instrs) ≡ Ok (Jump ctl to, 2)
 holds_end program ctl to at [] holds = ap (fetch program) (omega arith) ∙ holds.0

@@ -21,6 +21,7 @@ use Rattle.damage_map.specs.declared.mark.LineMark.TheVariants.{Fresh, Within, D
 use Rattle.damage_map.specs.Tracks.{FieldTrack, fresh, is_good, is_whole, mark_on, max_lines, noted, taken_mark}
 use Rattle.damage_map.proofs.AnswersKept.{same_read}
 use Rattle.damage_map.proofs.Sections.{AreParts, GoesIn, LineGoes, Part, Await, Cut, instrs_of, is_none}
+use Rattle.damage_map.proofs.Visits.{fresh_on}
 
 -- ---- one list of instructions stands from an address on up to a JUMP
 
@@ -125,11 +126,6 @@ marked_taken false before after Within marked open_line last goes = goes refl
 marked_taken false before after Done marked open_line last goes = absurd (open_line refl marked)
 marked_taken false before after Spoilt marked open_line last goes = marked
 
-fresh_mark : (q : Queue) → mark_on q fresh ≡ Fresh
-fresh_mark One = refl
-fresh_mark Two = refl
-fresh_mark Three = refl
-
 -- ---- all is well so far: every line is whole, no instruction was lost, and the marks are those of whole lines
 
 pub record GoesWell (program : RiscProgram) (m : State) (t : FieldTrack) : Type 0 where
@@ -140,7 +136,7 @@ pub record GoesWell (program : RiscProgram) (m : State) (t : FieldTrack) : Type 
 module _ (program : RiscProgram) where
   pub well_fresh : (after : State) (t : FieldTrack) → Each (λ whole. whole ≡ true) t.lines → t.lost ≡ false → t.marks ≡ fresh → GoesWell program after t
   well_fresh after t lines lost marks =
-      record { lines = lines; lost = lost; marks = λ q ctl to body holds. marked_fresh (left_in_line (job_asks q after.job (asks q body))) (mark_on q t.marks) (ap (mark_on q) marks ∙ fresh_mark q) }
+      record { lines = lines; lost = lost; marks = λ q ctl to body holds. marked_fresh (left_in_line (job_asks q after.job (asks q body))) (mark_on q t.marks) (ap (mark_on q) marks ∙ fresh_on q) }
 
   pub well_still : (m after : State) (t : FieldTrack) → after.job ≡ m.job → after.pc ≡ m.pc → GoesWell program m t → GoesWell program after t
   well_still m after t job pc g =

@@ -13,7 +13,7 @@ use Rattle.sync_status.specs.Statuses.{is_end, kind_of, taken_of, valid_bytes, v
 use Rattle.fifo_model.specs.declared.Entry.{Entry}
 use Rattle.fifo_model.specs.declared.Queue.{Queue}
 use Rattle.fifo_model.specs.declared.Queue.TheVariants.{One, Two, Three}
-use Rattle.fifo_model.specs.Queues.{QueueState, Queues, first, front, queue_state, removed, taken_from, taken_more, with_queue_state}
+use Rattle.fifo_model.specs.Queues.{QueueState, Queues, first, front, queue_state, removed, taken_from, with_queue_state}
 use Rattle.fifo_model.proofs.QueueStates.{queue_state-with_queue_state}
 use Rattle.picture_model.proofs.Each.{Each, each_append}
 use Rattle.machine_model.specs.declared.Demand.{Demand}
@@ -28,6 +28,8 @@ use Rattle.machine_model.specs.Seen.{Application, application, application_in, a
 use Rattle.machine_model.proofs.Fronts.{Takes, take-Takes, valid-some}
 use Rattle.field_law.specs.Arrivals.{is_queue}
 use Rattle.damage_law.specs.Takings.{Taking, burst_takings, left, taking_by, takings_of}
+use Rattle.damage_law.proofs.ArrivedTakes.{demand_apart, demand_there}
+use Rattle.damage_law.proofs.Orders.{taken_front}
 use Rattle.damage_map.specs.declared.mark.LineMark.{LineMark}
 use Rattle.damage_map.specs.declared.mark.LineMark.TheVariants.{Fresh, Within, Done, Spoilt}
 use Rattle.damage_map.specs.Tracks.{left_mark, met_mark, taken_mark}
@@ -81,32 +83,9 @@ other_queue Three One held queues apart = refl
 other_queue Three Two held queues apart = refl
 other_queue Three Three held queues apart = cc
 
-same_demand : (q : Queue) (d : Demand) (ds : Demands) → demand_on q (with_demand q d ds) ≡ d
-same_demand One d ds = refl
-same_demand Two d ds = refl
-same_demand Three d ds = refl
-
-other_demand : (p q : Queue) (d : Demand) (ds : Demands) → is_queue p q ≡ false → demand_on p (with_demand q d ds) ≡ demand_on p ds
-other_demand One One d ds apart = cc
-other_demand One Two d ds apart = refl
-other_demand One Three d ds apart = refl
-other_demand Two One d ds apart = refl
-other_demand Two Two d ds apart = cc
-other_demand Two Three d ds apart = refl
-other_demand Three One d ds apart = refl
-other_demand Three Two d ds apart = refl
-other_demand Three Three d ds apart = cc
-
 one_less : (entries : List Entry) (entry : Entry) → first entries ≡ Some entry → suc (length (drop 1 entries)) ≡ length entries
 one_less [] entry there = cc
 one_less (e ∷ rest) entry there = refl
-
-taken_front : (count : ℕ) (held : QueueState) (entries : List Entry) (entry : Entry) → first entries ≡ Some entry →
-    taken_more count held entries ≡ (if held.taken + count == valid_bytes entry.status then removed held else record held { taken = held.taken + count })
-taken_front count held [] entry there = cc
-taken_front count held (e ∷ rest) entry there =
-    let same : e ≡ entry = cc in
-    ap (λ (x : Entry). if held.taken + count == valid_bytes x.status then removed held else record held { taken = held.taken + count }) same
 
 -- ---- what a verdict to take says
 
@@ -411,8 +390,8 @@ module _ (q : Queue) (moved : Bool) (instr : Instr) (at : ℕ) where
           job_by false = (
             with_demand q (demand_less count (demand_on q ds)) ds,
             refl,
-            subst (λ (d : Demand). Needs moved (taken_mark (is_end (kind_of entry.status) && whole) mark) d) (sym (same_demand q (demand_less count (demand_on q ds)) ds)) less,
-            λ p apart. other_demand p q (demand_less count (demand_on q ds)) ds apart,
+            subst (λ (d : Demand). Needs moved (taken_mark (is_end (kind_of entry.status) && whole) mark) d) (sym (demand_there q (demand_less count (demand_on q ds)) ds)) less,
+            λ p apart. demand_apart p q (demand_less count (demand_on q ds)) ds apart,
           )
 
           spent_by : (cut : Bool) → is_cut_short entry held.taken count (demand_on q ds).rest ≡ cut → (is_end (kind_of entry.status) && whole) ≡ true → cut ≡ false →
@@ -422,7 +401,7 @@ module _ (q : Queue) (moved : Bool) (instr : Instr) (at : ℕ) where
               let all : (demand_on q ds).rest ≡ count = not_cut (is_end (kind_of entry.status)) whole (demand_on q ds).rest count last is in (
                 with_demand q (demand_less count (demand_on q ds)) ds,
                 refl,
-                ap (λ (d : Demand). d.rest) (same_demand q (demand_less count (demand_on q ds)) ds) ∙ (omega arith),
+                ap (λ (d : Demand). d.rest) (demand_there q (demand_less count (demand_on q ds)) ds) ∙ (omega arith),
               )
 
       takes_some : One_by (Take count)

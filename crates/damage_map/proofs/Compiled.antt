@@ -1,6 +1,6 @@
 -- The section of a field in its description's program, as parts and lines.
 use Rattle.std.proofs.Common.{◌≡◌, ℕ, zero, suc, ◌+◌, ◌*◌, ◌/◌, ◌<◌, ◌≤◌, Bool, true, false, not, ◌&&◌, ◌==◌, List, [], ◌∷◌, ◌++◌, append_assoc, drop, length, length-append, map, Option, refl, sym, ap, ap₂, ◌∙◌, subst, arith, if◌then◌else◌}
-use Rattle.std.specs.Prelude.{nat_le, replicate}
+use Rattle.std.specs.Prelude.{replicate}
 use Rattle.std.specs.List.{range_with_len}
 use Rattle.std.proofs.Math.Bool.{and-true}
 use Rattle.std.proofs.Math.Nat.{mul-pos}
@@ -35,6 +35,7 @@ use Rattle.picture_law.specs.Pictures.{has_plane, plane_of}
 use Rattle.picture_law.proofs.Cuts.{moves, on_queue, track_on}
 use Rattle.picture_law.proofs.Goes.{grain_some, queue_plane, row_track_on}
 use Rattle.damage_law.specs.Marks.{addresses_from, before_rows, lines_from, row_addresses}
+use Rattle.damage_law.proofs.Pieces.{cuts_further, plane_moves}
 use Rattle.damage_map.specs.Tracks.{max_lines}
 use Rattle.damage_map.proofs.Sections as parts
 use Rattle.damage_map.proofs.Sections.{AreParts, GoesIn, IsCut, LineGoes, Part, Await, instrs_of, is_none, lines_at}
@@ -156,10 +157,6 @@ module _ (memory : List Chunk) (strip : Strip) (laid : IsLaid memory strip) wher
   counts_some : (k : Cut) → 0 < k.n → (q : Queue) → moves strip.planar q ≡ true → 0 < on_queue q (k.n * strip.one.size) (k.n * strip.two.size) (k.n * strip.three.size)
   counts_some k some q does = subst (λ (n : ℕ). 0 < n) (sym (count_on k q)) (mul-pos some (laid.sizes q does))
 
-  further : (end at : ℕ) (cuts : List Cut) → Follow end at cuts → at ≤ end
-  further end at [] follow = omega arith
-  further end at (k ∷ rest) follow = let later = further end (at + k.n) rest follow.2 in omega arith
-
   abbrev instrs : List Cut → List Instr
   instrs cuts = map (instr_of strip.planar) (map (piece_of memory strip) cuts)
 
@@ -167,7 +164,7 @@ module _ (memory : List Chunk) (strip : Strip) (laid : IsLaid memory strip) wher
   last_cut at k [] here follow = eq-eqb (k.at + k.n) strip.grains (ap (λ (n : ℕ). n + k.n) here ∙ follow)
   last_cut at k (next ∷ rest) here follow =
       let some = follow.1 in
-      let later = further strip.grains (at + k.n + next.n) rest follow.2 in
+      let later = cuts_further strip.grains (at + k.n + next.n) rest follow.2 in
       ne_eqb (k.at + k.n) strip.grains (λ same. absurd (omega arith))
 
   cuts_go : (begins : Bool) (at : ℕ) (cuts : List Cut) → begins ≡ (at == 0) → Follow strip.grains at cuts → LineGoes begins (moves strip.planar) (instrs cuts)
@@ -190,14 +187,6 @@ module _ (memory : List Chunk) (strip : Strip) (laid : IsLaid memory strip) wher
   laid_cut = cut_line (cuts_of memory strip strip.spans) refl (cuts_follow memory strip laid.fit)
 
 -- ---- the lines of a description
-
-plane_moves : (planar : Bool) (q : Queue) → moves planar q ≡ true → nat_le (plane_of q) (if planar then 3 else 1) ≡ true
-plane_moves true One does = refl
-plane_moves true Two does = refl
-plane_moves true Three does = refl
-plane_moves false One does = refl
-plane_moves false Two does = cc
-plane_moves false Three does = cc
 
 one_moves : (planar : Bool) → moves planar One ≡ true
 one_moves planar = refl

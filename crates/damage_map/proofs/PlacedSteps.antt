@@ -40,19 +40,14 @@ use Rattle.damage_law.specs.Marks.{addresses_from, is_among}
 use Rattle.damage_law.specs.Takings.{Taking, burst_takings, ran_takings, retired_at, served_takings, step_retires, step_takings, takings_if, worked_takings}
 use Rattle.damage_law.proofs.Pieces.{pieces_apart, pieces_granted}
 use Rattle.damage_law.proofs.PlacedTakes.{address_on, count_on, placed_more, same_queue_or}
-use Rattle.damage_law.proofs.StoredTakes.{Laid, burst-Laid, taken_bytes, taken_bytes-append}
+use Rattle.damage_law.proofs.StoredTakes.{Laid, burst-Laid, moved_twice, taken_bytes, taken_bytes-append}
 use Rattle.damage_map.specs.Tracks.{FieldTrack, untold}
 use Rattle.damage_map.proofs.Compiled.{section_lines}
 use Rattle.damage_map.proofs.PlacedLines.{begin_of, instr_of_read, piece_there, words_before}
-use Rattle.damage_map.proofs.PlacedTurns.{IsIn, JobHas, KeepsBytes, PlacedIn, RunsFrom, Sorted, burst_ats, burst_pc, bytes_with, fetched_has, had_of, moved_twice, plain_off, sorted_more, takes_apart}
+use Rattle.damage_map.proofs.PlacedTurns.{IsIn, JobHas, KeepsBytes, PlacedIn, RunsFrom, Sorted, burst_ats, burst_pc, bytes_with, fetched_has, had_of, plain_off, sorted_more, takes_apart}
 use Rattle.damage_map.proofs.Sections.{Past, TakenBelow, instrs_of, lines_at, not_below, taken_here, taken_more, takes_in}
-use Rattle.damage_map.proofs.SectionTurns.{Plainly, waited-quiet}
+use Rattle.damage_map.proofs.SectionTurns.{Plainly, queue_itself, waited-quiet}
 use Rattle.damage_map.proofs.Visits.{GapJob, InLine, LineJob, Visit}
-
-queue_self : (q : Queue) → is_queue q q ≡ true
-queue_self One = refl
-queue_self Two = refl
-queue_self Three = refl
 
 queue_other : (q p : Queue) → (p ≡ q → ⊥) → is_queue q p ≡ false
 queue_other One One apart = absurd (apart refl)
@@ -251,7 +246,7 @@ module _ (d : Desc) (right : IsRight d) (field : Parity) (described : describes 
         new_on p = served_takings (Some q) p here (gone p) (counted m)
 
         new_here : new_on q ≡ taken
-        new_here = cond-true (is_queue q q) (burst_takings m.trigger q here (gone q) (counted m)) [] (queue_self q)
+        new_here = cond-true (is_queue q q) (burst_takings m.trigger q here (gone q) (counted m)) [] (queue_itself q)
 
         new_none : (p : Queue) → (p ≡ q → ⊥) → new_on p ≡ []
         new_none p apart = cond-false (is_queue q p) (burst_takings m.trigger p here (gone p) (counted m)) [] (queue_other q p apart)

@@ -139,10 +139,6 @@ moved_nowhere : (address : Option ℕ) → address ≡ option_map (λ s. s + 0) 
 moved_nowhere None = refl
 moved_nowhere (Some at) = ap (λ (a : ℕ). Some a) (omega arith)
 
-pub moved_twice : (n k : ℕ) (address : Option ℕ) → option_map (λ at. at + k) (option_map (λ at. at + n) address) ≡ option_map (λ at. at + (n + k)) address
-moved_twice n k None = refl
-moved_twice n k (Some at) = ap (λ (a : ℕ). Some a) (omega arith)
-
 -- ---- what is known of memory
 
 module _ (d : Desc) (right : IsRight d) (field : Parity) (described : describes d.fields field ≡ true) where

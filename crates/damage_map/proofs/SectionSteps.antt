@@ -18,6 +18,7 @@ use Rattle.machine_model.specs.Turns.{demand_on}
 use Rattle.machine_model.specs.Steps.{push, push_control, push_control_if, push_if, with_fbus_if}
 use Rattle.damage_law.specs.Takings.{Taking, left}
 use Rattle.damage_law.specs.Marks.{addresses_from}
+use Rattle.damage_law.proofs.Orders.{cleared_queue}
 use Rattle.dma_machine.specs.Looks.{holds}
 use Rattle.damage_map.specs.declared.mark.LineMark.{LineMark}
 use Rattle.damage_map.specs.declared.mark.LineMark.TheVariants.{Fresh, Within, Done, Spoilt}
@@ -26,7 +27,7 @@ use Rattle.damage_map.specs.Tracks.{FieldTrack, emptied_mark, emptied_marks, fre
 use Rattle.damage_map.proofs.LineTold.{Tells, kept-tells, left-tells}
 use Rattle.damage_map.proofs.Bursts.{Needs}
 use Rattle.damage_map.proofs.Sections.{Past, takes_in}
-use Rattle.damage_map.proofs.Visits.{GapJob, IsBegun, IsTold, LineJob, Visit}
+use Rattle.damage_map.proofs.Visits.{IsBegun, IsTold, LineJob, Visit, gap_job-same, gap_stays, line_job-same, line_stays}
 use Rattle.damage_map.proofs.SectionTurns.{QueueKept, next_gone, queue_same, quiet}
 
 -- what a step that isn't a turn leaves as it is
@@ -166,11 +167,6 @@ tells_emptied place held mark ts (Some entry) is queue tells =
     first_some [] is = cc
     first_some (e ∷ rest) is = omega arith
 
-cleared_queue : (q : Queue) (queues : Queues) → queue_state q (cleared queues) ≡ emptied (queue_state q queues)
-cleared_queue One queues = refl
-cleared_queue Two queues = refl
-cleared_queue Three queues = refl
-
 emptied_holds : (q : Queue) (m : State) (marks : LineMarks) →
     mark_on q (emptied_marks (holds One m) (holds Two m) (holds Three m) marks) ≡ emptied_mark (is_some (front (queue_state q m.queues))) (mark_on q marks)
 emptied_holds One m marks = refl
@@ -208,9 +204,6 @@ module _ (program : RiscProgram) (closing : Ctl) (target end : ℕ) (all : List 
   job_still here begins moved instr (Running runs ds) h = (h.0, h.1, h.2, λ q. needs_still (moved q) q (demand_on q ds) (h.3 q))
 
   module _ (orderly : IsFifo m.queues) (after : State) (queues : after.queues ≡ cleared m.queues) where
-    gone_after : Queue → ℕ
-    gone_after = next_gone program closing target end all few m t past gone after
-
     left_all : (q : Queue) → gone q + (length (queue_state q m.queues).entries - 0) ≡ gone q + left q m after
     left_all q =
         let none : length (queue_state q after.queues).entries ≡ 0 = ap (λ (qs : Queues). length (queue_state q qs).entries) queues ∙ ap (λ (h : QueueState). length h.entries) (cleared_queue q m.queues) in
@@ -233,39 +226,9 @@ module _ (program : RiscProgram) (closing : Ctl) (target end : ℕ) (all : List 
     pub emptied_visit : after.job ≡ m.job → after.pc ≡ m.pc → after.skipping ≡ m.skipping → Visit program closing target end all m t past gone →
         Visit program closing target end all after emptied_track past (next_gone program closing target end all few m t past gone after)
     emptied_visit j p s (inl g) =
-        inl (record {
-          here = g.here;
-          lines = g.lines;
-          parts = g.parts;
-          whole = g.whole;
-          stands = g.stands;
-          ends = g.ends;
-          are = g.are;
-          through = g.through;
-          fresh = ap (emptied_marks (holds One m) (holds Two m) (holds Three m)) g.fresh ∙ all_fresh (holds One m) (holds Two m) (holds Three m);
-          unlost = g.unlost;
-          job = subst (λ (job : Job). GapJob g.here after.pc job) (sym j) (subst (λ (pc : ℕ). GapJob g.here pc m.job) (sym p) g.job);
-        })
+        inl (gap_stays program closing target end all m after t marks_emptied past g
+        (ap (emptied_marks (holds One m) (holds Two m) (holds Three m)) g.fresh ∙ all_fresh (holds One m) (holds Two m) (holds Three m)) (gap_job-same g.here m after j p g.job))
     emptied_visit j p s (inr l) =
-        inr (record {
-          here = l.here;
-          lines = l.lines;
-          parts = l.parts;
-          done = l.done;
-          begins = l.begins;
-          moved = l.moved;
-          instr = l.instr;
-          rest = l.rest;
-          whole = l.whole;
-          stands = l.stands;
-          ends = l.ends;
-          goes = l.goes;
-          are = l.are;
-          through = l.through;
-          before = l.before;
-          told = told_still t.lost l.done (l.done ++ addresses_from l.here (l.instr ∷ l.rest)) l.told;
-          job =
-              subst (λ (job : Job). LineJob l.here l.begins l.moved l.instr after.pc after.skipping t.lost marks_emptied job) (sym j)
-              (subst (λ (pc : ℕ). LineJob l.here l.begins l.moved l.instr pc after.skipping t.lost marks_emptied m.job) (sym p)
-              (subst (λ skipping. LineJob l.here l.begins l.moved l.instr m.pc skipping t.lost marks_emptied m.job) (sym s) (job_still l.here l.begins l.moved l.instr m.job l.job)));
-        })
+        inr (line_stays program closing target end all m after t marks_emptied past past gone (next_gone program closing target end all few m t past gone after) l l.through
+        (told_still t.lost l.done (l.done ++ addresses_from l.here (l.instr ∷ l.rest)) l.told)
+        (line_job-same l.here l.begins l.moved l.instr t.lost marks_emptied m after j p s (job_still l.here l.begins l.moved l.instr m.job l.job)))

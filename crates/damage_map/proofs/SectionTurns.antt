@@ -1,7 +1,7 @@
 -- A turn within a section keeps what the track holds of the section's lines, up to the closing.
-use Rattle.std.proofs.Common.{◌≡◌, ℕ, zero, suc, ◌+◌, ◌*◌, ◌<◌, ◌≤◌, ◌⊎◌, inl, inr, Bool, true, false, ◌&&◌, ◌==◌, List, [], ◌∷◌, ◌++◌, length, map, Option, Some, None, Ok, refl, sym, ap, ap₂, ◌∙◌, subst, arith, if◌then◌else◌, eqb-true}
+use Rattle.std.proofs.Common.{◌≡◌, ℕ, zero, suc, ◌+◌, ◌*◌, ◌<◌, ◌≤◌, ◌⊎◌, inl, inr, Bool, true, false, ◌==◌, List, [], ◌∷◌, ◌++◌, length, map, Option, Some, None, Ok, refl, sym, ap, ap₂, ◌∙◌, subst, arith, if◌then◌else◌}
 use Rattle.std.specs.List.{list_all}
-use Rattle.std.proofs.lemmas.Bool.{and_parts, cond-false, cond-true}
+use Rattle.std.proofs.lemmas.Bool.{cond-false, cond-true}
 use Rattle.std.proofs.lemmas.List.{append-nil}
 use Rattle.risc_word.specs.declared.Code.{Code}
 use Rattle.risc_word.specs.declared.Ctl.{Ctl}
@@ -34,6 +34,7 @@ use Rattle.machine_model.specs.Steps.{Turn}
 use Rattle.machine_model.proofs.Rows.{fetch-KnownAt}
 use Rattle.field_law.specs.Sections.{HoldsFrom, IsPlain, words_in}
 use Rattle.field_law.specs.Arrivals.{is_queue}
+use Rattle.field_law.proofs.Running.{done_rest}
 use Rattle.damage_law.specs.Takings.{Taking, burst_takings, left, ran_takings, retired_at, served_takings, step_takings, takings_if, worked_takings}
 use Rattle.damage_law.specs.Marks.{addresses_from, is_among}
 use Rattle.damage_law.proofs.Orders.{queue_is}
@@ -44,7 +45,7 @@ use Rattle.damage_map.specs.Tracks.{FieldTrack, ends_line, field_of, mark_on, ma
 use Rattle.damage_map.proofs.LineTold.{Tells, kept-tells}
 use Rattle.damage_map.proofs.Bursts.{Flags, Needs, RunsOn, Served, burst-Served, flags_of, mark_by}
 use Rattle.damage_map.proofs.Sections.{AreBelow, AreParts, GoesIn, GoesOn, Part, Await, Cut, Past, TakenBelow, below_more, instrs_of, is_none, lines_at, lines_stay, retired_here, taken_here, taken_more, takes_in, unretired_here, whole_over}
-use Rattle.damage_map.proofs.Visits.{Behind, GapJob, InGap, InLine, IsBegun, IsTold, LineJob, Visit, advance, enters}
+use Rattle.damage_map.proofs.Visits.{Behind, GapJob, InGap, InLine, IsBegun, IsTold, LineJob, Visit, advance, enters, gap_job-same, gap_stays, line_job-same, line_stays}
 
 -- what keeps a queue's mark true where nothing leaves it
 pub record QueueKept (held after : QueueState) : Type 0 where
@@ -91,7 +92,7 @@ module _ (here : ℕ) where
 
 -- ---- which queue
 
-queue_itself : (q : Queue) → is_queue q q ≡ true
+pub queue_itself : (q : Queue) → is_queue q q ≡ true
 queue_itself One = refl
 queue_itself Two = refl
 queue_itself Three = refl
@@ -184,17 +185,6 @@ module _ (q : Queue) where
   pub uncounted : (number : ℕ) (m : State) → applications number q (counted m) ≡ applications number q m
   uncounted number m = alike number m (more m.turns 1)
 
-rest_none : (ds : Demands) → is_done ds ≡ true → (q : Queue) → (demand_on q ds).rest ≡ 0
-rest_none ds done q =
-    let parts = and_parts (ds.one.rest == 0 && ds.two.rest == 0) (ds.three.rest == 0) done in
-    let two = and_parts (ds.one.rest == 0) (ds.two.rest == 0) parts.0 in
-    by_queue q (eqb-true ds.one.rest 0 two.0) (eqb-true ds.two.rest 0 two.1) (eqb-true ds.three.rest 0 parts.1)
-  where
-    by_queue : (q : Queue) → ds.one.rest ≡ 0 → ds.two.rest ≡ 0 → ds.three.rest ≡ 0 → (demand_on q ds).rest ≡ 0
-    by_queue One one two three = one
-    by_queue Two one two three = two
-    by_queue Three one two three = three
-
 -- what an idle machine fetches that isn't about to close the section
 pub record Plainly (r : Reading) : Type 0 where
   pub instr : Instr
@@ -247,43 +237,10 @@ module _ (program : RiscProgram) (closing : Ctl) (target end : ℕ) (all : List 
 
   pub quiet : (after : State) → after.job ≡ m.job → after.pc ≡ m.pc → after.skipping ≡ m.skipping → ((q : Queue) → QueueKept (queue_state q m.queues) (queue_state q after.queues)) →
       Visit program closing target end all m t past gone → Visit program closing target end all after t past (next_gone after)
-  quiet after j p s kept (inl g) =
-      inl (record {
-        here = g.here;
-        lines = g.lines;
-        parts = g.parts;
-        whole = g.whole;
-        stands = g.stands;
-        ends = g.ends;
-        are = g.are;
-        through = g.through;
-        fresh = g.fresh;
-        unlost = g.unlost;
-        job = subst (λ (job : Job). GapJob g.here after.pc job) (sym j) (subst (λ (pc : ℕ). GapJob g.here pc m.job) (sym p) g.job);
-      })
+  quiet after j p s kept (inl g) = inl (gap_stays program closing target end all m after t t.marks past g g.fresh (gap_job-same g.here m after j p g.job))
   quiet after j p s kept (inr l) =
-      inr (record {
-        here = l.here;
-        lines = l.lines;
-        parts = l.parts;
-        done = l.done;
-        begins = l.begins;
-        moved = l.moved;
-        instr = l.instr;
-        rest = l.rest;
-        whole = l.whole;
-        stands = l.stands;
-        ends = l.ends;
-        goes = l.goes;
-        are = l.are;
-        through = l.through;
-        before = l.before;
-        told = kept_told t.lost after l.done (l.done ++ addresses_from l.here (l.instr ∷ l.rest)) kept l.told;
-        job =
-            subst (λ (job : Job). LineJob l.here l.begins l.moved l.instr after.pc after.skipping t.lost t.marks job) (sym j)
-            (subst (λ (pc : ℕ). LineJob l.here l.begins l.moved l.instr pc after.skipping t.lost t.marks m.job) (sym p)
-            (subst (λ (skipping : Skipping). LineJob l.here l.begins l.moved l.instr m.pc skipping t.lost t.marks m.job) (sym s) l.job));
-      })
+      inr (line_stays program closing target end all m after t t.marks past past gone (next_gone after) l l.through
+      (kept_told t.lost after l.done (l.done ++ addresses_from l.here (l.instr ∷ l.rest)) kept l.told) (line_job-same l.here l.begins l.moved l.instr t.lost t.marks m after j p s l.job))
 
   -- with a quiet turn
   as_quiet : (after : State) (s : Seen) → IsQuiet s.did → Visit program closing target end all after t past (next_gone after) → Result after s (λ q. [])
@@ -297,29 +254,13 @@ module _ (program : RiscProgram) (closing : Ctl) (target end : ℕ) (all : List 
 
   -- ---- waiting
 
-  gap_moved : (after : State) (g : InGap program closing target end all m t past) → GapJob g.here after.pc after.job → InGap program closing target end all after t past
-  gap_moved after g job =
-      record {
-        here = g.here;
-        lines = g.lines;
-        parts = g.parts;
-        whole = g.whole;
-        stands = g.stands;
-        ends = g.ends;
-        are = g.are;
-        through = g.through;
-        fresh = g.fresh;
-        unlost = g.unlost;
-        job = job;
-      }
-
   pub waited_on : (ctl : Ctl) (resync : Bool) (code : Code) (at : ℕ) → m.job ≡ Waiting ctl resync code → Visit program closing target end all m t past gone →
       Result (waited ctl resync code (counted m)) (seen_alone (waited_did (lowest_stray m.queues) (common_code m.queues) code) at) (λ q. [])
   waited_on ctl resync code at j (inl g) =
       let after = waited ctl resync code (counted m) in
       let there : m.pc ≡ g.here = subst (λ (job : Job). GapJob g.here m.pc job) j g.job in
       as_quiet after (seen_alone (waited_did (lowest_stray m.queues) (common_code m.queues) code) at) (waited-quiet (lowest_stray m.queues) (common_code m.queues) code)
-      (inl (gap_moved after g (waits g.here (lowest_stray m.queues) ctl resync code (counted m) there g.job)))
+      (inl (gap_stays program closing target end all m after t t.marks past g g.fresh (waits g.here (lowest_stray m.queues) ctl resync code (counted m) there g.job)))
   waited_on ctl resync code at j (inr l) =
       absurd (subst (λ (job : Job). LineJob l.here l.begins l.moved l.instr m.pc m.skipping t.lost t.marks job) j l.job)
 
@@ -437,25 +378,9 @@ module _ (program : RiscProgram) (closing : Ctl) (target end : ℕ) (all : List 
         let lost = idle_job.1 unskipped in
         let after = begun_with None l.instr many before (counted m) in
         as_quiet after (seen_alone Begun m.pc) (λ program s t at. (refl, refl))
-        (inr (record {
-          here = l.here;
-          lines = l.lines;
-          parts = l.parts;
-          done = l.done;
-          begins = l.begins;
-          moved = l.moved;
-          instr = l.instr;
-          rest = l.rest;
-          whole = l.whole;
-          stands = l.stands;
-          ends = l.ends;
-          goes = l.goes;
-          are = l.are;
-          through = l.through;
-          before = l.before;
-          told = kept_told t.lost after l.done (l.done ++ addresses_from l.here (l.instr ∷ l.rest)) (λ q. queue_same (queue_state q m.queues)) l.told;
-          job = (refl, ap (λ (pc : ℕ). pc + 4 * many) idle_job.0, lost, λ q. needed l.begins q before l.goes.0 (idle_job.2 lost q));
-        }))
+        (inr (line_stays program closing target end all m after t t.marks past past gone (next_gone after) l l.through
+        (kept_told t.lost after l.done (l.done ++ addresses_from l.here (l.instr ∷ l.rest)) (λ q. queue_same (queue_state q m.queues)) l.told)
+        (refl, ap (λ (pc : ℕ). pc + 4 * many) idle_job.0, lost, λ q. needed l.begins q before l.goes.0 (idle_job.2 lost q))))
 
     never_skips : (skipping : Skipping) (eol : Bool) → (skipping ≡ Nothing → ⊥) → eol ≡ false → skipping_after skipping eol ≡ Nothing → ⊥
     never_skips Nothing eol skips goes_on same = skips refl
@@ -569,7 +494,7 @@ module _ (program : RiscProgram) (closing : Ctl) (target end : ℕ) (all : List 
                 retired_here l.here past.retired l.done told.0 l.before,
                 λ q. subst (λ (ts : List Taking). Tells (next_gone after q) (queue_state q after.queues) (takes_in line ts) (mark_on q t.marks)) (sym (append-nil (past.takes q))) (kept.1 q),
               );
-          begun = λ lost q does same. begun_by (demand_on q ds).needs_sol q refl (rest_none ds done_is q) does same;
+          begun = λ lost q does same. begun_by (demand_on q ds).needs_sol q refl (done_rest ds done_is q) does same;
         }
         in
         let through_is : through (is_none l.rest) t ≡ turned program Retired s t =
@@ -653,36 +578,19 @@ module _ (program : RiscProgram) (closing : Ctl) (target end : ℕ) (all : List 
       by_gave false is =
           let runs : RunsOn q (l.moved q) l.instr l.here ds (mark_by f (mark_on q t.marks)) false after = subst (λ (b : Bool). RunsOn q (l.moved q) l.instr l.here ds (mark_by f (mark_on q t.marks)) b after) is served.job in
           let lost = running_job.2 in
-          inr (record {
-            here = l.here;
-            lines = l.lines;
-            parts = l.parts;
-            done = l.done;
-            begins = l.begins;
-            moved = l.moved;
-            instr = l.instr;
-            rest = l.rest;
-            whole = l.whole;
-            stands = l.stands;
-            ends = l.ends;
-            goes = l.goes;
-            are = l.are;
-            through = record {
-              told = lines_same false;
-              below = l.through.below;
-              taken = next_takes;
-              retired = subst (AreBelow l.here) (sym (retired_same false)) l.through.retired;
-            };
-            before = l.before;
-            told =
-                subst (λ (b : Bool). IsTold b (next_of false) (next_gone after) after.queues (with_mark q (mark_by f (mark_on q t.marks)) t.marks) l.done line) (sym lost) (
-                  ap (λ (r : List ℕ). list_all (is_among r) l.done) (retired_same false) ∙ (line_told false lost l).0,
-                  told_all,
-                );
-            job =
-                subst (λ (job : Job). LineJob l.here l.begins l.moved l.instr after.pc after.skipping t.lost (with_mark q (mark_by f (mark_on q t.marks)) t.marks) job) (sym runs.1)
-                (refl, pc_there, lost, λ p. needs_by runs.0 runs.2 runs.3 p (is_queue p q) refl);
+          inr (line_stays program closing target end all m after t (with_mark q (mark_by f (mark_on q t.marks)) t.marks) past (next_of false) gone (next_gone after) l
+          (record {
+            told = lines_same false;
+            below = l.through.below;
+            taken = next_takes;
+            retired = subst (AreBelow l.here) (sym (retired_same false)) l.through.retired;
           })
+          (subst (λ (b : Bool). IsTold b (next_of false) (next_gone after) after.queues (with_mark q (mark_by f (mark_on q t.marks)) t.marks) l.done line) (sym lost) (
+            ap (λ (r : List ℕ). list_all (is_among r) l.done) (retired_same false) ∙ (line_told false lost l).0,
+            told_all,
+          ))
+          (subst (λ (job : Job). LineJob l.here l.begins l.moved l.instr after.pc after.skipping t.lost (with_mark q (mark_by f (mark_on q t.marks)) t.marks) job) (sym runs.1)
+          (refl, pc_there, lost, λ p. needs_by runs.0 runs.2 runs.3 p (is_queue p q) refl)))
         where
           needs_by : (asks : Demands) → Needs (l.moved q) (mark_by f (mark_on q t.marks)) (demand_on q asks) → ((p : Queue) → is_queue p q ≡ false → demand_on p asks ≡ demand_on p ds) →
               (p : Queue) (same : Bool) → is_queue p q ≡ same → Needs (l.moved p) (mark_on p (with_mark q (mark_by f (mark_on q t.marks)) t.marks)) (demand_on p asks)

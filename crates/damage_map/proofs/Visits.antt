@@ -62,6 +62,22 @@ LineJob here begins moved instr pc skipping lost marks (Waiting ctl resync code)
 LineJob here begins moved instr pc skipping lost marks (Running runs ds) =
     (runs ≡ instr) × (pc ≡ here + 4 * length (encoded instr)) × (lost ≡ false) × ((q : Queue) → Needs (moved q) (mark_on q marks) (demand_on q ds))
 
+-- with the same job at the same place
+pub gap_job-same : (here : ℕ) (m after : State) → after.job ≡ m.job → after.pc ≡ m.pc → GapJob here m.pc m.job → GapJob here after.pc after.job
+gap_job-same here m after j p job = subst (λ (job : Job). GapJob here after.pc job) (sym j) (subst (λ (pc : ℕ). GapJob here pc m.job) (sym p) job)
+
+pub line_job-same : (here : ℕ) (begins : Bool) (moved : Queue → Bool) (instr : Instr) (lost : Bool) (marks : LineMarks) (m after : State) → after.job ≡ m.job → after.pc ≡ m.pc → after.skipping ≡ m.skipping →
+    LineJob here begins moved instr m.pc m.skipping lost marks m.job → LineJob here begins moved instr after.pc after.skipping lost marks after.job
+line_job-same here begins moved instr lost marks m after j p s job =
+    subst (λ (job : Job). LineJob here begins moved instr after.pc after.skipping lost marks job) (sym j)
+    (subst (λ (pc : ℕ). LineJob here begins moved instr pc after.skipping lost marks m.job) (sym p)
+    (subst (λ (skipping : Skipping). LineJob here begins moved instr m.pc skipping lost marks m.job) (sym s) job))
+
+pub fresh_on : (q : Queue) → mark_on q fresh ≡ Fresh
+fresh_on One = refl
+fresh_on Two = refl
+fresh_on Three = refl
+
 module _ (program : RiscProgram) (closing : Ctl) (target end : ℕ) (all : List (List ℕ)) where
   pub record InGap (m : State) (t : FieldTrack) (past : Past) : Type 0 where
     pub here : ℕ
@@ -98,12 +114,50 @@ module _ (program : RiscProgram) (closing : Ctl) (target end : ℕ) (all : List 
   abbrev pub Visit : State → FieldTrack → Past → (Queue → ℕ) → Type 0
   Visit m t past gone = InGap m t past ⊎ InLine m t past gone
 
-  -- ---- a line begins
+  -- ---- the machine stays where it is
 
-  fresh_on : (q : Queue) → mark_on q fresh ≡ Fresh
-  fresh_on One = refl
-  fresh_on Two = refl
-  fresh_on Three = refl
+  pub gap_stays : (m after : State) (t : FieldTrack) (marks : LineMarks) (past : Past) (g : InGap m t past) → marks ≡ fresh → GapJob g.here after.pc after.job →
+      InGap after (record t { marks = marks }) past
+  gap_stays m after t marks past g are_fresh job =
+      record {
+        here = g.here;
+        lines = g.lines;
+        parts = g.parts;
+        whole = g.whole;
+        stands = g.stands;
+        ends = g.ends;
+        are = g.are;
+        through = g.through;
+        fresh = are_fresh;
+        unlost = g.unlost;
+        job = job;
+      }
+
+  pub line_stays : (m after : State) (t : FieldTrack) (marks : LineMarks) (past next : Past) (gone next_gone : Queue → ℕ) (l : InLine m t past gone) → Through next t.lines l.lines l.here (l.here + 1) →
+      IsTold t.lost next next_gone after.queues marks l.done (l.done ++ addresses_from l.here (l.instr ∷ l.rest)) → LineJob l.here l.begins l.moved l.instr after.pc after.skipping t.lost marks after.job →
+      InLine after (record t { marks = marks }) next next_gone
+  line_stays m after t marks past next gone next_gone l through told job =
+      record {
+        here = l.here;
+        lines = l.lines;
+        parts = l.parts;
+        done = l.done;
+        begins = l.begins;
+        moved = l.moved;
+        instr = l.instr;
+        rest = l.rest;
+        whole = l.whole;
+        stands = l.stands;
+        ends = l.ends;
+        goes = l.goes;
+        are = l.are;
+        through = through;
+        before = l.before;
+        told = told;
+        job = job;
+      }
+
+  -- ---- a line begins
 
   pub enters : (m : State) (t : FieldTrack) (past : Past) (gone : Queue → ℕ) (g : InGap m t past) (moved : Queue → Bool) (line : List Instr) (rest : List Part) → m.job ≡ Idle →
       g.parts ≡ Cut moved line ∷ rest → InLine m t past gone

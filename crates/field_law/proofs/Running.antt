@@ -25,7 +25,7 @@ use Rattle.field_law.proofs.Lines.{has_waking}
 use Rattle.field_law.proofs.Asked.{outlook_done, outlook_wakes}
 use Rattle.field_law.proofs.Within.{WithinJob, IsWithin, IsMade, Fewer, GoesOn, goes_refl, goes_trans, judged-Within}
 
-some_rest : (n : ℕ) → (n == 0) ≡ false → 0 < n
+pub some_rest : (n : ℕ) → (n == 0) ≡ false → 0 < n
 some_rest zero h = cc
 some_rest (suc n) h = omega arith
 

@@ -87,7 +87,7 @@ less_over One d left ds all_left h = omega arith
 less_over Two d left ds all_left h = omega arith
 less_over Three d left ds all_left h = omega arith
 
-front_entries : (entries : List Entry) (entry : Entry) → first entries ≡ Some entry → (es : List Entry) × (entries ≡ entry ∷ es)
+pub front_entries : (entries : List Entry) (entry : Entry) → first entries ≡ Some entry → (es : List Entry) × (entries ≡ entry ∷ es)
 front_entries [] entry h = cc
 front_entries (top ∷ es) entry h = (es, cc)
 

@@ -98,7 +98,7 @@ holds_from program ctl target word (i ∷ rest) address good stands = (
 -- ---- the closing
 
 -- it leads to the beginning of a section
-next_field : (which : Fields) (d : Desc) (from : ℕ) (field : Parity) → describes which field ≡ true →
+pub next_field : (which : Fields) (d : Desc) (from : ℕ) (field : Parity) → describes which field ≡ true →
     (next : Parity) × (describes which next ≡ true) × (next_by which d from from field ≡ begin_by which d from next)
 next_field fields.Top d from Top is = (Top, refl, refl)
 next_field fields.Top d from Bottom is = cc
