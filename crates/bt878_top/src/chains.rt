@@ -71,6 +71,7 @@ fn run_second<D: Desk>(
     ensures report { IfOk result (λ played. string_bytes played.report ≡ report_text (report_of played.buffer.live.machine)) }
     ensures takes { Takes (a_second_description first_file.now second_file.now ∷ a_stream_file true stream.now ∷ []) result (D.seen desk.old) (D.seen desk.new) }
 {
+    // the contract alone asks for this name: the second file is judged with the first
     let _ = first_file;
     let paired = match buffer_file(alloc, first, second_file, desk) {
         Ok(paired) => paired,

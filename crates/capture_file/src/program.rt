@@ -85,55 +85,25 @@ impl<T: Drop> From<AllocFailed<T>> for ProgramError {
     }
 }
 
-// Answers whether the field at the front of these last bytes of a file of `size` bytes is right.
-fn judge(wrong: Option<FileKind>, size: usize, bytes: &[u8]) -> Result<(), ProgramError>
-    requires { length bytes.now ≤ size }
-    ensures { Gives (λ x. x) result (judged wrong size bytes.now) }
-{
-    match wrong {
-        None => Ok(()),
-        Some(kind) => Err(ProgramError::File(FileFault {
-            at: (size - bytes.len()) as u64,
-            kind,
-        })),
-    }
+/// What is left of a file, and the size of the whole file.
+#[derive(Clone, Copy)]
+struct Rest<'a> {
+    size: usize,
+    bytes: &'a [u8],
 }
 
-// The fault of a file of `size` bytes whose end cuts a field.
-fn short(size: usize) -> ProgramError
-    ensures { result ≡ File (cut size) }
-{
-    ProgramError::File(FileFault {
-        at: size as u64,
-        kind: FileKind::Short,
-    })
+/// The words of a program and where they stand.
+#[derive(Clone, Copy)]
+struct Placed<'a> {
+    base: u32,
+    words: &'a [u32],
 }
 
-fn read_number(size: usize, bytes: &[u8]) -> Result<(u32, &[u8]), ProgramError>
-    ensures value { Gives (λ x. (x.0, x.1.now)) result (number_field size bytes.now) }
-    ensures rest { IfOk result (λ x. length x.1.now ≤ length bytes.now) }
-{
-    match number(bytes) {
-        Some(n) => Ok((n, &bytes[4..])),
-        None => Err(short(size)),
-    }
-}
-
-#[tactic(auto, unfolding(crate::specs::Programs::layout_field))]
-fn read_layout(size: usize, bytes: &[u8]) -> Result<(Layout, &[u8]), ProgramError>
-    requires { length bytes.now ≤ size }
-    ensures value { Gives (λ x. (x.0, x.1.now)) result (layout_field size bytes.now) }
-    ensures rest { IfOk result (λ x. length x.1.now ≤ length bytes.now) }
-{
-    let (word, rest) = read_number(size, bytes)?;
-    match word {
-        BRP1 => Ok((Layout::Paged, rest)),
-        BRP2 => Ok((Layout::Chunked, rest)),
-        _ => Err(ProgramError::File(FileFault {
-            at: (size - bytes.len()) as u64,
-            kind: FileKind::Magic,
-        })),
-    }
+/// Where the chunks before one end, and how many bytes they have.
+#[derive(Clone, Copy)]
+struct Before {
+    end: u64,
+    bytes: u64,
 }
 
 fn base_wrong(base: u32) -> Option<FileKind>
@@ -146,18 +116,6 @@ fn base_wrong(base: u32) -> Option<FileKind>
     }
 }
 
-#[tactic(auto, unfolding(crate::specs::Programs::base_field))]
-fn read_base(size: usize, bytes: &[u8]) -> Result<(u32, &[u8]), ProgramError>
-    requires { length bytes.now ≤ size }
-    ensures value { Gives (λ x. (x.0, x.1.now)) result (base_field size bytes.now) }
-    ensures rest { IfOk result (λ x. length x.1.now ≤ length bytes.now) }
-    ensures aligned { IfOk result (λ x. x.0 % 4 ≡ 0) }
-{
-    let (base, rest) = read_number(size, bytes)?;
-    judge(base_wrong(base), size, bytes)?;
-    Ok((base, rest))
-}
-
 fn word_count_wrong(base: u32, count: u32) -> Option<FileKind>
     ensures { result ≡ word_count_fault base count }
 {
@@ -168,19 +126,6 @@ fn word_count_wrong(base: u32, count: u32) -> Option<FileKind>
     }
 }
 
-#[tactic(auto, unfolding(crate::specs::Programs::word_count_field))]
-fn read_word_count(size: usize, base: u32, bytes: &[u8]) -> Result<(u32, &[u8]), ProgramError>
-    requires { length bytes.now ≤ size }
-    ensures value { Gives (λ x. (x.0, x.1.now)) result (word_count_field size base bytes.now) }
-    ensures rest { IfOk result (λ x. length x.1.now ≤ length bytes.now) }
-    ensures few { IfOk result (λ x. x.0 ≤ max_words) }
-    ensures ends { IfOk result (λ x. base + 4 * x.0 ≤ 2 ^ 32) }
-{
-    let (count, rest) = read_number(size, bytes)?;
-    judge(word_count_wrong(base, count), size, bytes)?;
-    Ok((count, rest))
-}
-
 fn chunk_count_wrong(count: u32) -> Option<FileKind>
     ensures { result ≡ chunk_count_fault count }
 {
@@ -189,18 +134,6 @@ fn chunk_count_wrong(count: u32) -> Option<FileKind>
     } else {
         Some(FileKind::Count)
     }
-}
-
-#[tactic(auto, unfolding(crate::specs::Programs::chunk_count_field))]
-fn read_chunk_count(size: usize, bytes: &[u8]) -> Result<(u32, &[u8]), ProgramError>
-    requires { length bytes.now ≤ size }
-    ensures value { Gives (λ x. (x.0, x.1.now)) result (chunk_count_field size bytes.now) }
-    ensures rest { IfOk result (λ x. length x.1.now ≤ length bytes.now) }
-    ensures few { IfOk result (λ x. x.0 ≤ max_chunks) }
-{
-    let (count, rest) = read_number(size, bytes)?;
-    judge(chunk_count_wrong(count), size, bytes)?;
-    Ok((count, rest))
 }
 
 // The number in four bytes from a place on.
@@ -241,48 +174,45 @@ fn words_of(alloc: Global, count: u32, bytes: &[u8]) -> Result<Vec<u32>, Program
     Ok(words)
 }
 
-#[tactic(auto, unfolding(crate::specs::Programs::words_field))]
-fn read_words(
-    alloc: Global,
-    size: usize,
-    count: u32,
-    bytes: &[u8],
-) -> Result<(Vec<u32>, &[u8]), ProgramError>
-    ensures value { Gives (λ x. (x.0.items, x.1.now)) result (words_field size count bytes.now) }
-    ensures rest { IfOk result (λ x. length x.1.now ≤ length bytes.now) }
-    ensures len { IfOk result (λ x. length x.0.items ≡ count) }
-{
-    let long = 4 * u64::from(count);
-    if (bytes.len() as u64) < long {
-        return Err(short(size));
+impl<'a> Placed<'a> {
+    // Whether a chunk shares a byte with the program.
+    fn shares(self, at: u32, len: u32) -> bool
+        requires { length self.words.now ≤ max_words }
+        ensures { result ≡ shares_byte (without_grants self.entry.base self.entry.words.now) (chunk at len) }
+    {
+        let end = u64::from(self.base) + 4 * self.words.len() as u64;
+        let low = self.base.max(at);
+        let high = end.min(u64::from(at) + u64::from(len));
+        u64::from(low) < high
     }
-    let words = words_of(alloc, count, bytes)?;
-    Ok((words, &bytes[long as usize..]))
-}
 
-// Whether a chunk shares a byte with a program of so many words.
-fn shares(base: u32, words: &[u32], at: u32, len: u32) -> bool
-    requires { length words.now ≤ max_words }
-    ensures { result ≡ shares_byte (without_grants base words.now) (chunk at len) }
-{
-    let end = u64::from(base) + 4 * words.len() as u64;
-    let low = base.max(at);
-    let high = end.min(u64::from(at) + u64::from(len));
-    u64::from(low) < high
-}
+    fn page_wrong(self, from: u64, at: u32) -> Option<FileKind>
+        requires { length self.words.now ≤ max_words }
+        ensures { result ≡ page_fault (without_grants self.entry.base self.entry.words.now) from at }
+    {
+        if at % PAGE_SIZE != 0 {
+            Some(FileKind::Page)
+        } else if u64::from(at) < from {
+            Some(FileKind::Order)
+        } else if self.shares(at, PAGE_SIZE) {
+            Some(FileKind::Overlap)
+        } else {
+            None
+        }
+    }
 
-fn page_wrong(base: u32, words: &[u32], from: u64, at: u32) -> Option<FileKind>
-    requires { length words.now ≤ max_words }
-    ensures { result ≡ page_fault (without_grants base words.now) from at }
-{
-    if at % PAGE_SIZE != 0 {
-        Some(FileKind::Page)
-    } else if u64::from(at) < from {
-        Some(FileKind::Order)
-    } else if shares(base, words, at, PAGE_SIZE) {
-        Some(FileKind::Overlap)
-    } else {
-        None
+    fn length_wrong(self, sum: u64, at: u32, len: u32) -> Option<FileKind>
+        requires few { length self.words.now ≤ max_words }
+        requires small { sum < 2 ^ 62 }
+        ensures { result ≡ length_fault (without_grants self.entry.base self.entry.words.now) sum at len }
+    {
+        if !is_right_length(sum, at, len) {
+            Some(FileKind::Length)
+        } else if self.shares(at, len) {
+            Some(FileKind::Overlap)
+        } else {
+            None
+        }
     }
 }
 
@@ -308,117 +238,6 @@ fn is_right_length(sum: u64, at: u32, len: u32) -> bool
         && sum + u64::from(len) <= MAX_BYTES
 }
 
-fn length_wrong(base: u32, words: &[u32], sum: u64, at: u32, len: u32) -> Option<FileKind>
-    requires few { length words.now ≤ max_words }
-    requires small { sum < 2 ^ 62 }
-    ensures { result ≡ length_fault (without_grants base words.now) sum at len }
-{
-    if !is_right_length(sum, at, len) {
-        Some(FileKind::Length)
-    } else if shares(base, words, at, len) {
-        Some(FileKind::Overlap)
-    } else {
-        None
-    }
-}
-
-#[tactic(auto, unfolding(crate::specs::Programs::page_field))]
-fn read_page<'a>(
-    size: usize,
-    base: u32,
-    words: &[u32],
-    from: u64,
-    bytes: &'a [u8],
-) -> Result<((u32, u32), &'a [u8]), ProgramError>
-    requires inside { length bytes.now ≤ size }
-    requires few { length words.now ≤ max_words }
-    ensures value { Gives (λ x. (pair_chunk x.0, x.1.now)) result (page_field size (without_grants base words.now) from bytes.now) }
-    ensures rest { IfOk result (λ x. length x.1.now ≤ length bytes.now) }
-    ensures wide { IfOk result (λ x. x.0.1 < 2 ^ 32) }
-{
-    let (at, rest) = read_number(size, bytes)?;
-    judge(page_wrong(base, words, from, at), size, bytes)?;
-    Ok(((at, PAGE_SIZE), rest))
-}
-
-#[tactic(auto, unfolding(crate::specs::Programs::long_chunk_field))]
-fn read_long_chunk<'a>(
-    size: usize,
-    base: u32,
-    words: &[u32],
-    from: u64,
-    sum: u64,
-    bytes: &'a [u8],
-) -> Result<((u32, u32), &'a [u8]), ProgramError>
-    requires inside { length bytes.now ≤ size }
-    requires few { length words.now ≤ max_words }
-    requires small { sum < 2 ^ 62 }
-    ensures value { Gives (λ x. (pair_chunk x.0, x.1.now)) result (long_chunk_field size (without_grants base words.now) from sum bytes.now) }
-    ensures rest { IfOk result (λ x. length x.1.now ≤ length bytes.now) }
-    ensures wide { IfOk result (λ x. x.0.1 < 2 ^ 32) }
-{
-    let (at, rest) = read_number(size, bytes)?;
-    judge(address_wrong(from, at), size, bytes)?;
-    let (len, after) = read_number(size, rest)?;
-    judge(length_wrong(base, words, sum, at, len), size, rest)?;
-    Ok(((at, len), after))
-}
-
-fn read_chunk<'a>(
-    layout: Layout,
-    size: usize,
-    base: u32,
-    words: &[u32],
-    from: u64,
-    sum: u64,
-    bytes: &'a [u8],
-) -> Result<((u32, u32), &'a [u8]), ProgramError>
-    requires inside { length bytes.now ≤ size }
-    requires few { length words.now ≤ max_words }
-    requires small { sum < 2 ^ 62 }
-    ensures value { Gives (λ x. (pair_chunk x.0, x.1.now)) result (chunk_field layout size (without_grants base words.now) from sum bytes.now) }
-    ensures rest { IfOk result (λ x. length x.1.now ≤ length bytes.now) }
-    ensures wide { IfOk result (λ x. x.0.1 < 2 ^ 32) }
-{
-    match layout {
-        Layout::Paged => read_page(size, base, words, from, bytes),
-        Layout::Chunked => read_long_chunk(size, base, words, from, sum, bytes),
-    }
-}
-
-fn read_chunks<'a>(
-    alloc: Global,
-    layout: Layout,
-    size: usize,
-    base: u32,
-    words: &[u32],
-    count: u32,
-    bytes: &'a [u8],
-) -> Result<(Vec<(u32, u32)>, &'a [u8]), ProgramError>
-    requires inside { length bytes.now ≤ size }
-    requires few { length words.now ≤ max_words }
-    requires count { count ≤ max_chunks }
-    ensures value { Gives (λ x. (listed x.0.items, x.1.now)) result (chunks_field layout size (without_grants base words.now) count 0 0 bytes.now) }
-    ensures rest { IfOk result (λ x. length x.1.now ≤ length bytes.now) }
-    ensures rising { IfOk result (λ x. AreRising 0 (listed x.0.items)) }
-    ensures small { IfOk result (λ x. total (listed x.0.items) ≤ max_bytes) }
-    ensures apart { IfOk result (λ x. All (λ c. shares_byte (without_grants base words.now) c ≡ false) (listed x.0.items)) }
-    ensures len { IfOk result (λ x. length x.0.items ≡ count) }
-{
-    let mut chunks = Vec::new(alloc);
-    let mut rest = bytes;
-    let mut from = 0u64;
-    let mut sum = 0u64;
-    for _ in 0..count {
-        let (chunk, after) = read_chunk(layout, size, base, words, from, sum, rest)?;
-        chunks.push(chunk)?;
-        from = u64::from(chunk.0) + u64::from(chunk.1);
-        sum += u64::from(chunk.1);
-        rest = after;
-    }
-    Ok((chunks, rest))
-}
-
 fn are_pages(chunks: &[(u32, u32)]) -> bool
     ensures { result ≡ list_all (λ pair. is_page (pair_chunk pair)) chunks.now }
 {
@@ -442,28 +261,231 @@ fn fill_wrong(layout: Layout, chunks: &[(u32, u32)]) -> Option<FileKind>
     }
 }
 
-#[tactic(auto, unfolding(crate::specs::Programs::fill_field))]
-fn read_fill(
-    layout: Layout,
-    size: usize,
-    chunks: &[(u32, u32)],
-    bytes: &[u8],
-) -> Result<u8, ProgramError>
-    requires { length bytes.now ≤ size }
-    ensures { Gives (λ x. x) result (fill_field layout size (listed chunks.now) bytes.now) }
-{
-    match bytes {
-        [] => Err(short(size)),
-        [fill, rest @ ..] => {
-            judge(fill_wrong(layout, chunks), size, bytes)?;
-            if rest.is_empty() {
-                Ok(*fill)
-            } else {
-                judge(Some(FileKind::AfterEnd), size, rest)?;
-                unreachable!()
+/// Fields at the front of what is left of a file, each with what is left behind it.
+impl<'a> Rest<'a> {
+    // The end cuts a field.
+    fn short(self) -> ProgramError
+        ensures { result ≡ File (cut self.entry.size) }
+    {
+        ProgramError::File(FileFault {
+            at: self.size as u64,
+            kind: FileKind::Short,
+        })
+    }
+
+    // The field is at fault at its first byte.
+    fn fault(self, kind: FileKind) -> ProgramError
+        requires { length self.bytes.now ≤ self.size }
+        ensures { result ≡ File (wrong self.entry.size self.entry.bytes.now kind) }
+    {
+        ProgramError::File(FileFault {
+            at: (self.size - self.bytes.len()) as u64,
+            kind,
+        })
+    }
+
+    // Whether the field is right.
+    fn judge(self, wrong: Option<FileKind>) -> Result<(), ProgramError>
+        requires { length self.bytes.now ≤ self.size }
+        ensures { Gives (λ x. x) result (judged wrong self.entry.size self.entry.bytes.now) }
+    {
+        match wrong {
+            None => Ok(()),
+            Some(kind) => Err(self.fault(kind)),
+        }
+    }
+
+    // What is left from a place on.
+    fn after(self, count: usize) -> Rest<'a>
+        requires { count ≤ length self.bytes.now }
+        ensures bytes { result.bytes.now ≡ drop count self.entry.bytes.now }
+        ensures size { result.size ≡ self.entry.size }
+    {
+        Rest {
+            size: self.size,
+            bytes: &self.bytes[count..],
+        }
+    }
+
+    fn number(self) -> Result<(u32, Rest<'a>), ProgramError>
+        ensures value { Gives (λ x. (x.0, x.1.bytes.now)) result (number_field self.entry.size self.entry.bytes.now) }
+        ensures rest { IfOk result (λ x. (x.1.size ≡ self.entry.size) × (length x.1.bytes.now ≤ length self.entry.bytes.now)) }
+    {
+        match number(self.bytes) {
+            Some(n) => Ok((n, self.after(4))),
+            None => Err(self.short()),
+        }
+    }
+
+    #[tactic(auto, unfolding(crate::specs::Programs::layout_field))]
+    fn layout(self) -> Result<(Layout, Rest<'a>), ProgramError>
+        requires { length self.bytes.now ≤ self.size }
+        ensures value { Gives (λ x. (x.0, x.1.bytes.now)) result (layout_field self.entry.size self.entry.bytes.now) }
+        ensures rest { IfOk result (λ x. (x.1.size ≡ self.entry.size) × (length x.1.bytes.now ≤ length self.entry.bytes.now)) }
+    {
+        let (word, rest) = self.number()?;
+        match word {
+            BRP1 => Ok((Layout::Paged, rest)),
+            BRP2 => Ok((Layout::Chunked, rest)),
+            _ => Err(self.fault(FileKind::Magic)),
+        }
+    }
+
+    #[tactic(auto, unfolding(crate::specs::Programs::base_field))]
+    fn base(self) -> Result<(u32, Rest<'a>), ProgramError>
+        requires { length self.bytes.now ≤ self.size }
+        ensures value { Gives (λ x. (x.0, x.1.bytes.now)) result (base_field self.entry.size self.entry.bytes.now) }
+        ensures rest { IfOk result (λ x. (x.1.size ≡ self.entry.size) × (length x.1.bytes.now ≤ length self.entry.bytes.now)) }
+        ensures aligned { IfOk result (λ x. x.0 % 4 ≡ 0) }
+    {
+        let (base, rest) = self.number()?;
+        self.judge(base_wrong(base))?;
+        Ok((base, rest))
+    }
+
+    #[tactic(auto, unfolding(crate::specs::Programs::word_count_field))]
+    fn word_count(self, base: u32) -> Result<(u32, Rest<'a>), ProgramError>
+        requires { length self.bytes.now ≤ self.size }
+        ensures value { Gives (λ x. (x.0, x.1.bytes.now)) result (word_count_field self.entry.size base self.entry.bytes.now) }
+        ensures rest { IfOk result (λ x. (x.1.size ≡ self.entry.size) × (length x.1.bytes.now ≤ length self.entry.bytes.now)) }
+        ensures few { IfOk result (λ x. x.0 ≤ max_words) }
+        ensures ends { IfOk result (λ x. base + 4 * x.0 ≤ 2 ^ 32) }
+    {
+        let (count, rest) = self.number()?;
+        self.judge(word_count_wrong(base, count))?;
+        Ok((count, rest))
+    }
+
+    #[tactic(auto, unfolding(crate::specs::Programs::words_field))]
+    fn words(self, alloc: Global, count: u32) -> Result<(Vec<u32>, Rest<'a>), ProgramError>
+        ensures value { Gives (λ x. (x.0.items, x.1.bytes.now)) result (words_field self.entry.size count self.entry.bytes.now) }
+        ensures rest { IfOk result (λ x. (x.1.size ≡ self.entry.size) × (length x.1.bytes.now ≤ length self.entry.bytes.now)) }
+        ensures len { IfOk result (λ x. length x.0.items ≡ count) }
+    {
+        let long = 4 * u64::from(count);
+        if (self.bytes.len() as u64) < long {
+            return Err(self.short());
+        }
+        let words = words_of(alloc, count, self.bytes)?;
+        Ok((words, self.after(long as usize)))
+    }
+
+    #[tactic(auto, unfolding(crate::specs::Programs::chunk_count_field))]
+    fn chunk_count(self) -> Result<(u32, Rest<'a>), ProgramError>
+        requires { length self.bytes.now ≤ self.size }
+        ensures value { Gives (λ x. (x.0, x.1.bytes.now)) result (chunk_count_field self.entry.size self.entry.bytes.now) }
+        ensures rest { IfOk result (λ x. (x.1.size ≡ self.entry.size) × (length x.1.bytes.now ≤ length self.entry.bytes.now)) }
+        ensures few { IfOk result (λ x. x.0 ≤ max_chunks) }
+    {
+        let (count, rest) = self.number()?;
+        self.judge(chunk_count_wrong(count))?;
+        Ok((count, rest))
+    }
+
+    #[tactic(auto, unfolding(crate::specs::Programs::page_field))]
+    fn page(self, program: Placed<'_>, from: u64) -> Result<((u32, u32), Rest<'a>), ProgramError>
+        requires inside { length self.bytes.now ≤ self.size }
+        requires few { length program.words.now ≤ max_words }
+        ensures value { Gives (λ x. (pair_chunk x.0, x.1.bytes.now)) result (page_field self.entry.size (without_grants program.entry.base program.entry.words.now) from self.entry.bytes.now) }
+        ensures rest { IfOk result (λ x. (x.1.size ≡ self.entry.size) × (length x.1.bytes.now ≤ length self.entry.bytes.now)) }
+        ensures wide { IfOk result (λ x. x.0.1 < 2 ^ 32) }
+    {
+        let (at, rest) = self.number()?;
+        self.judge(program.page_wrong(from, at))?;
+        Ok(((at, PAGE_SIZE), rest))
+    }
+
+    #[tactic(auto, unfolding(crate::specs::Programs::long_chunk_field))]
+    fn long_chunk(
+        self,
+        program: Placed<'_>,
+        before: Before,
+    ) -> Result<((u32, u32), Rest<'a>), ProgramError>
+        requires inside { length self.bytes.now ≤ self.size }
+        requires few { length program.words.now ≤ max_words }
+        requires small { before.bytes < 2 ^ 62 }
+        ensures value { Gives (λ x. (pair_chunk x.0, x.1.bytes.now)) result (long_chunk_field self.entry.size (without_grants program.entry.base program.entry.words.now) before.end before.bytes self.entry.bytes.now) }
+        ensures rest { IfOk result (λ x. (x.1.size ≡ self.entry.size) × (length x.1.bytes.now ≤ length self.entry.bytes.now)) }
+        ensures wide { IfOk result (λ x. x.0.1 < 2 ^ 32) }
+    {
+        let (at, rest) = self.number()?;
+        self.judge(address_wrong(before.end, at))?;
+        let (len, after) = rest.number()?;
+        rest.judge(program.length_wrong(before.bytes, at, len))?;
+        Ok(((at, len), after))
+    }
+
+    fn chunk(
+        self,
+        layout: Layout,
+        program: Placed<'_>,
+        before: Before,
+    ) -> Result<((u32, u32), Rest<'a>), ProgramError>
+        requires inside { length self.bytes.now ≤ self.size }
+        requires few { length program.words.now ≤ max_words }
+        requires small { before.bytes < 2 ^ 62 }
+        ensures value { Gives (λ x. (pair_chunk x.0, x.1.bytes.now)) result (chunk_field layout self.entry.size (without_grants program.entry.base program.entry.words.now) before.end before.bytes self.entry.bytes.now) }
+        ensures rest { IfOk result (λ x. (x.1.size ≡ self.entry.size) × (length x.1.bytes.now ≤ length self.entry.bytes.now)) }
+        ensures wide { IfOk result (λ x. x.0.1 < 2 ^ 32) }
+    {
+        match layout {
+            Layout::Paged => self.page(program, before.end),
+            Layout::Chunked => self.long_chunk(program, before),
+        }
+    }
+
+    // The last byte of a file.
+    #[tactic(auto, unfolding(crate::specs::Programs::fill_field))]
+    fn fill(self, layout: Layout, chunks: &[(u32, u32)]) -> Result<u8, ProgramError>
+        requires { length self.bytes.now ≤ self.size }
+        ensures { Gives (λ x. x) result (fill_field layout self.entry.size (listed chunks.now) self.entry.bytes.now) }
+    {
+        match self.bytes {
+            [] => Err(self.short()),
+            [fill, rest @ ..] => {
+                self.judge(fill_wrong(layout, chunks))?;
+                if rest.is_empty() {
+                    Ok(*fill)
+                } else {
+                    Err(self.after(1).fault(FileKind::AfterEnd))
+                }
             }
         }
     }
+}
+
+// The chunks at the front of these last bytes of a file of `size` bytes, and what is left behind them.
+fn read_chunks<'a>(
+    alloc: Global,
+    layout: Layout,
+    program: Placed<'_>,
+    count: u32,
+    size: usize,
+    bytes: &'a [u8],
+) -> Result<(Vec<(u32, u32)>, Rest<'a>), ProgramError>
+    requires inside { length bytes.now ≤ size }
+    requires few { length program.words.now ≤ max_words }
+    requires count { count ≤ max_chunks }
+    ensures value { Gives (λ x. (listed x.0.items, x.1.bytes.now)) result (chunks_field layout size (without_grants program.entry.base program.entry.words.now) count 0 0 bytes.now) }
+    ensures rest { IfOk result (λ x. (x.1.size ≡ size) × (length x.1.bytes.now ≤ length bytes.now)) }
+    ensures rising { IfOk result (λ x. AreRising 0 (listed x.0.items)) }
+    ensures small { IfOk result (λ x. total (listed x.0.items) ≤ max_bytes) }
+    ensures apart { IfOk result (λ x. All (λ c. shares_byte (without_grants program.entry.base program.entry.words.now) c ≡ false) (listed x.0.items)) }
+    ensures len { IfOk result (λ x. length x.0.items ≡ count) }
+{
+    let mut chunks = Vec::new(alloc);
+    let mut rest = Rest { size, bytes };
+    let mut before = Before { end: 0, bytes: 0 };
+    for _ in 0..count {
+        let (chunk, after) = rest.chunk(layout, program, before)?;
+        chunks.push(chunk)?;
+        before = Before {
+            end: u64::from(chunk.0) + u64::from(chunk.1),
+            bytes: before.bytes + u64::from(chunk.1),
+        };
+        rest = after;
+    }
+    Ok((chunks, rest))
 }
 
 // The grants of chunks that rise.
@@ -491,14 +513,21 @@ fn grants_of(alloc: Global, chunks: &[(u32, u32)]) -> Result<PageSet, ProgramErr
 pub fn read_program(alloc: Global, bytes: &[u8]) -> Result<ProgramFile, ProgramError>
     ensures { Gives (λ x. x) result (program_of bytes.now) }
 {
-    let size = bytes.len();
-    let (layout, rest) = read_layout(size, bytes)?;
-    let (base, rest) = read_base(size, rest)?;
-    let (count, rest) = read_word_count(size, base, rest)?;
-    let (words, rest) = read_words(alloc, size, count, rest)?;
-    let (count, rest) = read_chunk_count(size, rest)?;
-    let (chunks, rest) = read_chunks(alloc, layout, size, base, &words, count, rest)?;
-    let fill = read_fill(layout, size, &chunks, rest)?;
+    let file = Rest {
+        size: bytes.len(),
+        bytes,
+    };
+    let (layout, rest) = file.layout()?;
+    let (base, rest) = rest.base()?;
+    let (count, rest) = rest.word_count(base)?;
+    let (words, rest) = rest.words(alloc, count)?;
+    let (count, rest) = rest.chunk_count()?;
+    let program = Placed {
+        base,
+        words: &words,
+    };
+    let (chunks, rest) = read_chunks(alloc, layout, program, count, rest.size, rest.bytes)?;
+    let fill = rest.fill(layout, &chunks)?;
     let grants = grants_of(alloc, &chunks)?;
     Ok(ProgramFile {
         program: Program::new(base, words, grants),

@@ -112,6 +112,17 @@ fn below(piece: &[u8], room: u64) -> &[u8]
     }
 }
 
+/// Ends a reader at a fault, up to which so many bytes were used.
+fn fail(state: &mut State, held: &mut Held, used: usize, fault: FileFault) -> (usize, Got)
+    ensures state { state.new ≡ State.Failed fault }
+    ensures held { held.new ≡ [] }
+    ensures answer { (result.0 ≡ used) × (result.1 ≡ Got.Bad fault) }
+{
+    held.clear();
+    *state = State::Failed(fault);
+    (used, Got::Bad(fault))
+}
+
 /// The turns so far and those of a step.
 fn turns_with(turns: u32, step: &Step) -> u32
     requires { turns + turns_of step.now ≤ most_turns }
@@ -277,9 +288,7 @@ impl StepReader {
             Found::Cut => {
                 if piece.len() as u64 > room {
                     let fault = fault(self.limit, FileKind::TooLong);
-                    self.held.clear();
-                    self.state = State::Failed(fault);
-                    return (room as usize + 1, Got::Bad(fault));
+                    return fail(&mut self.state, &mut self.held, room as usize + 1, fault);
                 }
                 self.room -= piece.len() as u64;
                 if !piece.is_empty() {
@@ -289,9 +298,8 @@ impl StepReader {
             }
             Found::Wrong(from, to, kind) => {
                 let fault = fault(start + u64::from(from), kind);
-                self.held.clear();
-                self.state = State::Failed(fault);
-                (usize::from(to) - before, Got::Bad(fault))
+                let used = usize::from(to) - before;
+                fail(&mut self.state, &mut self.held, used, fault)
             }
             Found::Last => {
                 self.held.clear();
@@ -323,23 +331,20 @@ impl StepReader {
             None => {
                 if piece.len() as u64 > room {
                     let fault = fault(self.limit, FileKind::TooLong);
-                    self.held.clear();
-                    self.state = State::Failed(fault);
-                    return (room as usize + 1, Got::Bad(fault));
+                    return fail(&mut self.state, &mut self.held, room as usize + 1, fault);
                 }
                 self.room -= piece.len() as u64;
                 (piece.len(), Got::More)
             }
             Some(word) => {
                 let used = 4 - before;
-                self.held.clear();
                 match form_named(self.chained, word) {
                     None => {
                         let fault = fault(0, FileKind::Magic);
-                        self.state = State::Failed(fault);
-                        (used, Got::Bad(fault))
+                        fail(&mut self.state, &mut self.held, used, fault)
                     }
                     Some(form) => {
+                        self.held.clear();
                         self.room = self.limit - 4;
                         self.state = State::Between(form);
                         self.after_word(form, used, &piece[used..])
@@ -380,8 +385,7 @@ impl StepReader {
             FileKind::TooLong
         };
         let fault = fault(self.limit - self.room, kind);
-        self.state = State::Failed(fault);
-        (1, Got::Bad(fault))
+        fail(&mut self.state, &mut self.held, 1, fault)
     }
 
     /// Goes on with a piece.

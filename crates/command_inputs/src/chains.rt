@@ -55,8 +55,5 @@ pub fn buffer_file<D: Desk>(
     ensures quiet { IfOk result (λ _. (D.seen desk.new).reads ≡ (D.seen desk.old).reads) }
 {
     let second = frame_file(alloc, name, desk)?;
-    match pair(alloc, first, second) {
-        Ok(paired) => Ok(paired),
-        Err(refusal) => Err(refusal),
-    }
+    pair(alloc, first, second)
 }

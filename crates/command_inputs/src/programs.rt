@@ -80,10 +80,7 @@ pub fn verify_program(alloc: Global, program: Program) -> Result<Accepted, Why>
     ensures refused { IfErr result (λ why. Refuses program why) }
     ensures sound { IfOk result IsSound }
 {
-    match verify_over::<Brand>(alloc, program, Blank::new(1)) {
-        Ok(accepted) => Ok(accepted),
-        Err(why) => Err(why),
-    }
+    verify_over::<Brand>(alloc, program, Blank::new(1))
 }
 
 /// Judges the program of a program file.
@@ -107,12 +104,6 @@ pub fn accept<D: Desk>(alloc: Global, name: &str, desk: &mut D) -> Result<Loaded
     ensures reads { OnlyReads name.now longest_program Always (D.seen desk.old) (D.seen desk.new) }
     ensures quiet { IfOk result (λ _. (D.seen desk.new).reads ≡ (D.seen desk.old).reads) }
 {
-    let file = match read_file(alloc, name, desk) {
-        Ok(file) => file,
-        Err(refusal) => return Err(refusal),
-    };
-    match judge(alloc, file) {
-        Ok(loaded) => Ok(loaded),
-        Err(refusal) => Err(refusal),
-    }
+    let file = read_file(alloc, name, desk)?;
+    judge(alloc, file)
 }

@@ -209,7 +209,7 @@ pub fn put_words(text: &mut Vec<u8>, base: u32, words: &[u32]) -> Result<(), All
 /// The listing of a program whose memory is filled with `fill` at first, as the bytes of its lines: the
 /// base, the instructions, the granted chunks in rising order, the fill. A word with a bit that no field
 /// of its instruction names has a line `word`, and so has a word where no instruction stands. The error
-/// is want of memory.
+/// is want of memory. It is for callers of the library: the program says a listing piece by piece.
 pub fn list(alloc: Global, program: &Program, fill: u8) -> Result<Vec<u8>, AllocError>
     ensures { IfOk result (λ text. text.items ≡ listing program.now fill) }
 {

@@ -366,7 +366,7 @@ pub fn push_word_line<const CAP: usize>(text: &mut ArrayString<CAP>, at: u32, wo
     text.push_str("\n");
 }
 
-/// The line of an instruction that stands at an address, for messages.
+/// The line of an instruction that stands at an address, for messages of callers of the library.
 #[derive(Drop)]
 pub struct InstrLine<'a> {
     pub at: u32,
