@@ -230,7 +230,7 @@ pub fn bt878<D: Desk>(alloc: Global, words: &[&str], desk: &mut D) -> Answer
     ensures stands { (result ≡ Answer.WriteFault) →
         StandsAt (task_of (texts words.now)) (D.seen desk.old).told (D.seen desk.new).told }
 
-    // The order of work, where the desk tells its calls. Each input is opened once, in the order of the
+    // The order of work, where the desk tells its calls. Each input is opened at most once, in the order of the
     // words, after the one before it was found good. It is read by 65,536 bytes, or by what is left up to
     // one byte beyond its limit; each piece of a stream only where those before it hold no fault. The outputs
     // are created in their order, each once and each finished before the next, after all inputs were found
