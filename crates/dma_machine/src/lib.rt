@@ -138,6 +138,26 @@ impl<R: Ram> Machine<R> {
         self.act();
     }
 
+    /// Whether the machine is known to stand still: what ended the last turn tells it.
+    #[inline(always)]
+    fn is_known_still(&self) -> bool
+        ensures { result ≡ true → is_still self.now ≡ true }
+    {
+        self.engine.still
+    }
+
+    /// Takes so many turns, which are counted, of a machine that stands still: they do nothing. In a loop of their own the
+    /// compiler sees it.
+    #[inline(always)]
+    fn stay(&mut self, count: u32)
+        requires { is_still self.old ≡ true }
+        ensures { self.new ≡ self.old }
+    {
+        for _turn in 0..count {
+            self.act();
+        }
+    }
+
     /// So many turns of the controller: they are counted, and then taken one after the other.
     #[inline(never)]
     pub fn turns(&mut self, count: u32)
@@ -145,9 +165,24 @@ impl<R: Ram> Machine<R> {
         ensures facts { IsMachine self.new }
     {
         self.count(count);
-        for _turn in 0..count {
+        for turn in 0..count {
             self.act();
+            if self.is_known_still() {
+                self.stay(count - turn - 1);
+                return;
+            }
         }
+    }
+
+    /// So many turns of a machine that stands still: beside being counted they do nothing.
+    #[inline]
+    pub fn stand(&mut self, count: u32)
+        requires { is_still self.old ≡ true }
+        ensures state { self.new ≡ run self.old (replicate count Turn) }
+        ensures facts { IsMachine self.new }
+    {
+        self.count(count);
+        self.stay(count);
     }
 
     /// One turn of the controller, and what it did. It is the same turn as `turn` takes.
