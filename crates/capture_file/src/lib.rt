@@ -11,6 +11,7 @@ mod pieces;
 mod program;
 mod reader;
 mod records;
+pub mod tags;
 #[cfg(test)]
 mod tests;
 mod writing;

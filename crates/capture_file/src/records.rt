@@ -6,7 +6,7 @@ ghost use Rattle.capture_file.specs.declared.records.Form.{Form};
 ghost use Rattle.capture_file.specs.declared.records.Found.TheVariants.{Whole};
 ghost use Rattle.std.specs.Prelude.{◌≡◌, ◌≤◌, ◌+◌, ℕ, IfNone, IfSome, None, length};
 
-use super::{FileKind, Step};
+use super::{FileKind, Step, tags};
 use byteorder::{ByteOrder, LittleEndian};
 use fifo_model::{Entry, Queue};
 use irq_status::HostWrite;
@@ -88,19 +88,19 @@ fn kind_tagged(form: Form, tag: u8) -> RecordKind
     ensures { result ≡ kind_of_tag form tag }
 {
     match tag {
-        0 => RecordKind::End,
-        1 => RecordKind::Push(Queue::One),
-        2 => RecordKind::Push(Queue::Two),
-        3 => RecordKind::Push(Queue::Three),
-        4 => RecordKind::Control,
-        5 => RecordKind::Turns,
-        6 => RecordKind::Ack,
-        7 => RecordKind::Enable,
-        8 => match form {
+        tags::END => RecordKind::End,
+        tags::PUSH_ONE => RecordKind::Push(Queue::One),
+        tags::PUSH_TWO => RecordKind::Push(Queue::Two),
+        tags::PUSH_THREE => RecordKind::Push(Queue::Three),
+        tags::CONTROL => RecordKind::Control,
+        tags::TURNS => RecordKind::Turns,
+        tags::ACK => RecordKind::Ack,
+        tags::ENABLE => RecordKind::Enable,
+        tags::TRIGGER => match form {
             Form::Bfs1 => RecordKind::Unknown,
             Form::Bfs2 | Form::Bfs3 => RecordKind::Trigger,
         },
-        9 => match form {
+        tags::PATCH => match form {
             Form::Bfs1 | Form::Bfs2 => RecordKind::Unknown,
             Form::Bfs3 => RecordKind::Patch,
         },
@@ -268,9 +268,9 @@ pub fn find_push(bytes: &[u8]) -> Option<(Queue, Entry)>
         return None;
     };
     let queue = match *tag {
-        1 => Queue::One,
-        2 => Queue::Two,
-        3 => Queue::Three,
+        tags::PUSH_ONE => Queue::One,
+        tags::PUSH_TWO => Queue::Two,
+        tags::PUSH_THREE => Queue::Three,
         _ => return None,
     };
     match push(queue, &bytes[1..]) {
@@ -288,7 +288,7 @@ pub fn find_turns(before: u32, bytes: &[u8]) -> Option<u32>
     ensures none { IfNone result ((form : Form) → turns_in (record_at form before bytes.now) ≡ None) }
 {
     match bytes {
-        [5, rest @ ..] => match turns_after(before, rest) {
+        [tags::TURNS, rest @ ..] => match turns_after(before, rest) {
             Found::Whole(Step::Turns(count), _) => Some(count),
             _ => None,
         },

@@ -88,7 +88,7 @@ impl<R: Ram> Mapped<R> {
         for turn in 0..count {
             self.turn();
             if self.machine.stands_still() {
-                self.machine.turns(count - turn - 1);
+                self.machine.stand(count - turn - 1);
                 return;
             }
         }

@@ -400,6 +400,10 @@ fn turns_are_seen(rt: HostRuntime) -> Result<(), Fail> {
     act(&mut m, Host(off));
     assert!(rt; sees(&mut m, &[saw_alone(Did::Still, 0x1000)]));
     assert_eq!(rt; m.next_fetch(), None);
+    if m.stands_still() {
+        m.stand(100);
+    }
+    assert_eq!(rt; m.report(), report(113, 8, [0; 4], 0x1000_0800));
     Ok(())
 }
 

@@ -10,6 +10,7 @@ ghost use Rattle.field_stream.specs.Drafts.{Drafted, pushed, pushed_all};
 
 use crate::generator::Generator;
 use crate::lines::{Line, line_entries, status};
+use capture_file::tags;
 use fifo_model::Queue;
 use risc_word::Code;
 use std::marker::Model;
@@ -46,9 +47,9 @@ fn tag(queue: Queue) -> u8
     ensures { result ≡ tag_of queue }
 {
     match queue {
-        Queue::One => 1,
-        Queue::Two => 2,
-        Queue::Three => 3,
+        Queue::One => tags::PUSH_ONE,
+        Queue::Two => tags::PUSH_TWO,
+        Queue::Three => tags::PUSH_THREE,
     }
 }
 
@@ -92,7 +93,7 @@ impl Draft {
         requires { length self.old.bytes + 7 ≤ 32768 }
         ensures { self.new ≡ pushed (Mark code) self.old }
     {
-        self.append(&[4, code.nibble(), 5, 16, 0, 0, 0]);
+        self.append(&[tags::CONTROL, code.nibble(), tags::TURNS, 16, 0, 0, 0]);
     }
 
     // An entry with drawn bytes, and 16 turns.
@@ -104,7 +105,19 @@ impl Draft {
         ensures length { length self.new.bytes ≡ length self.old.bytes + 11 }
     {
         let [a, b, c, d] = self.generator.draw(valid(status));
-        self.append(&[tag(queue), status.nibble(), a, b, c, d, 5, 16, 0, 0, 0]);
+        self.append(&[
+            tag(queue),
+            status.nibble(),
+            a,
+            b,
+            c,
+            d,
+            tags::TURNS,
+            16,
+            0,
+            0,
+            0,
+        ]);
     }
 
     // A line of a packed format. Its last entry stands apart, so that those in the loop are known to be full.

@@ -15,6 +15,7 @@ use crate::draft::{Draft, LINE, ROOM};
 use crate::lines::{Line, picture_line, vbi_line};
 use capture_desc::Fields;
 use capture_desk::{Desk, Failed, put};
+use capture_file::tags;
 use pixel_layout::Parity;
 use planar_plan::Frame;
 use risc_word::Code;
@@ -172,7 +173,7 @@ fn put_end<D: Desk>(draft: &mut Draft, desk: &mut D) -> Result<(), Failed>
     ensures counts { WriteCounts result (D.seen desk.old) (D.seen desk.new) }
 {
     make_room(draft, desk)?;
-    draft.append(&[0]);
+    draft.append(&[tags::END]);
     put(desk, draft.as_slice())
 }
 

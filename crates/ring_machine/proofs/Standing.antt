@@ -6,6 +6,7 @@ use Rattle.machine_model.specs.Steps.{Turn}
 use Rattle.machine_model.specs.Turns.{counted, turn}
 use Rattle.dma_machine.specs.Counts.{acted, with_turns}
 use Rattle.dma_machine.proofs.Counting.{acted-turns, turn-acted}
+use Rattle.dma_machine.proofs.StillSeen.{still_counts}
 use Rattle.ring_model.specs.Rings.{ends}
 use Rattle.ring_model.specs.Runs.{BlockAt, block_end, block_ends, one_if}
 use Rattle.ring_machine.specs.States.{RingState, StandsStill}
@@ -30,4 +31,4 @@ module _ (at : BlockAt) where
       omega (arith, first, later, same)
 
 pub standing_ends_none : (count : ℕ) (s : RingState) → StandsStill s → block_ends (ends s.ring) s.machine (replicate count Turn) ≡ 0
-standing_ends_none count s stands = ends_none (ends s.ring) count s.machine stands.still stands.ends_none
+standing_ends_none count s stands = ends_none (ends s.ring) count s.machine (still_counts s.machine stands.still) stands.ends_none

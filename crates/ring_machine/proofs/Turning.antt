@@ -1,5 +1,5 @@
 -- One turn of a ring's machine: the block at the address that retires is the block that ends.
-use Rattle.std.proofs.Common.{◌≡◌, ℕ, ◌+◌, List, [], ◌∷◌, Option, Some, None, refl, sym, ap, ◌∙◌, arith}
+use Rattle.std.proofs.Common.{◌≡◌, ℕ, ◌+◌, true, List, [], ◌∷◌, Option, Some, None, refl, sym, ap, ◌∙◌, arith}
 use Rattle.std.specs.Prelude.{option_and_then}
 use Rattle.fifo_model.specs.Queues.{more}
 use Rattle.machine_model.specs.declared.Did.{Did}
@@ -8,10 +8,11 @@ use Rattle.machine_model.specs.Safety.{IsSafe}
 use Rattle.machine_model.specs.Seen.{seen}
 use Rattle.machine_model.specs.States.{State}
 use Rattle.machine_model.specs.Steps.{Step, Turn, run}
-use Rattle.machine_model.specs.Turns.{counted, turn}
+use Rattle.machine_model.specs.Turns.{turn}
 use Rattle.machine_model.proofs.Runs.{program-run}
 use Rattle.ring_model.specs.Rings.{Ring, ends}
 use Rattle.dma_machine.specs.Looks.{next_retirement, retired_at}
+use Rattle.dma_machine.specs.Stills.{is_still}
 use Rattle.ring_model.specs.Runs.{BlockAt, block_end, end_by, end_seen, one_if}
 use Rattle.ring_law.proofs.Seeing.{turns_seen_end_blocks}
 use Rattle.ring_machine.specs.States.{IsRingMachine, RingState, StandsStill, ran}
@@ -35,7 +36,7 @@ module _ (ring : Ring) (m : State) (is : IsRingMachine ring m) (safe : IsSafe m)
   next_end_is = ended_there (ends ring) (seen m).did (seen m).at ∙ end_is
 
   -- a turn that does nothing ends none
-  pub stands : (blocks : ℕ) → turn m ≡ counted m → (seen m).did ≡ Still → StandsStill (record { ring = ring; machine = m; blocks = blocks })
+  pub stands : (blocks : ℕ) → is_still m ≡ true → (seen m).did ≡ Still → StandsStill (record { ring = ring; machine = m; blocks = blocks })
   stands blocks still did =
       record { still = still; ends_none = sym end_is ∙ ap (λ (d : Did). end_by (ends ring) d (seen m).at) did }
 

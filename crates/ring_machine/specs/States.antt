@@ -1,9 +1,9 @@
 -- What contracts see of a machine that runs a ring's program: the ring, the machine, and the blocks that it has ended.
-use Rattle.std.specs.Prelude.{◌≡◌, ℕ, List, None}
+use Rattle.std.specs.Prelude.{◌≡◌, ℕ, List, None, true}
 use Rattle.fifo_model.specs.Queues.{more}
 use Rattle.machine_model.specs.States.{State}
 use Rattle.machine_model.specs.Steps.{Step, Turn, run}
-use Rattle.machine_model.specs.Turns.{counted, turn}
+use Rattle.dma_machine.specs.Stills.{is_still}
 use Rattle.ring_model.specs.Rings.{IsRing, Ring, ends, ring_program}
 use Rattle.ring_model.specs.Runs.{block_end, block_ends}
 
@@ -25,7 +25,7 @@ pub record IsRingMachine (ring : Ring) (m : State) : Type 0 where
   pub is_ring : IsRing ring
   pub same : m.program ≡ ring_program ring
 
--- a turn only counts and ends no block, so none after it does more
+-- turns only count and end no block
 pub record StandsStill (s : RingState) : Type 0 where
-  pub still : turn s.machine ≡ counted s.machine
+  pub still : is_still s.machine ≡ true
   pub ends_none : block_end (ends s.ring) s.machine Turn ≡ None

@@ -118,13 +118,14 @@ impl<R: Ram> RingMachine<R> {
     }
 
     /// Takes so many turns of a machine that stands still: they are counted.
+    #[inline]
     fn stand(&mut self, count: u32)
         requires { StandsStill self.old }
         ensures { self.new ≡ ran (replicate count Turn) self.old }
     {
         // the call tells that the count has 64 bits
         let _blocks = self.blocks();
-        self.machine.turns(count);
+        self.machine.stand(count);
     }
 
     /// So many turns of the controller, one after the other.

@@ -152,7 +152,7 @@ impl<R: Ram> Chain<R> {
         requires { is_still self.old.live.machine ≡ true }
         ensures { self.new ≡ turned count self.old }
     {
-        self.wheel.machine.turns(count);
+        self.wheel.machine.stand(count);
     }
 
     /// So many turns of the controller.

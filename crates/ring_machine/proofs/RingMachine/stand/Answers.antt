@@ -14,13 +14,16 @@ stood count s after few stands e =
     ap (λ (m : State). record s { machine = m }) e
     ∙ ap (λ (n : ℕ). record s { machine = run s.machine (replicate count Turn); blocks = n }) (same ∙ ap (more s.blocks) (sym none))
 
+pub stand-requires : goal.stand-requires
+stand-requires g c = (subst StandsStill (sym c.self.view_is) c.requires).still
+
 pub invariant_of-self : goal.invariant_of-self
-invariant_of-self g c = ran_stays c.self.inside.ring c.self.inside.machine c.turns.new.self (replicate c.args.count Turn) c.self.invariant c.turns.ensures.state
+invariant_of-self g c = ran_stays c.self.inside.ring c.self.inside.machine c.stand.new.self (replicate c.args.count Turn) c.self.invariant c.stand.ensures.state
 
 pub returns : goal.returns
 returns g c =
     let here : RingState = record { ring = c.self.inside.ring; machine = c.self.inside.machine; blocks = c.self.inside.blocks } in
-    subst (λ (s : RingState). record { ring = here.ring; machine = c.turns.new.self; blocks = here.blocks } ≡ ran (replicate c.args.count Turn) s) c.self.view_is
-    (stood c.args.count here c.turns.new.self
+    subst (λ (s : RingState). record { ring = here.ring; machine = c.stand.new.self; blocks = here.blocks } ≡ ran (replicate c.args.count Turn) s) c.self.view_is
+    (stood c.args.count here c.stand.new.self
     (let same = ap (λ (s : RingState). s.blocks) c.self.view_is in omega (arith, same, c.blocks-blocks.type_inv, c.blocks-blocks.ensures))
-    (subst StandsStill (sym c.self.view_is) c.requires) c.turns.ensures.state)
+    (subst StandsStill (sym c.self.view_is) c.requires) c.stand.ensures.state)

@@ -8,12 +8,15 @@ use Rattle.damage_map.proofs.mapped.Mapped.turns.Goals as goal
 pub loop-turn-preserved : goal.loop-turn-preserved
 loop-turn-preserved g c = one-more c.args.self.now c.loop-turn.self c.turn.new.self c.loop-turn.turn c.loop-turn.invariant c.turn.ensures
 
+pub stand-requires : goal.stand-requires
+stand-requires g c = sym c.stands_still.ensures.still ∙ c.if-stands_still.true
+
 pub returns-then-stands_still : goal.returns-then-stands_still
 returns-then-stands_still g c =
     let at : Map = record { machine = c.self.inside.machine; track = c.self.inside.track; lines_before = c.self.inside.lines_before } in
     let view : at ≡ c.turn.new.self = c.self.view_is in
     let below = c.loop-turn-test.true in
     let all : c.loop-turn.turn + 1 + (c.args.count - c.loop-turn.turn - 1) ≡ c.args.count = omega arith in
-    rest-still c.args.self.now c.loop-turn.self at c.args.count c.loop-turn.turn (c.args.count - c.loop-turn.turn - 1) c.turns.new.self c.loop-turn.invariant (view ∙ c.turn.ensures)
+    rest-still c.args.self.now c.loop-turn.self at c.args.count c.loop-turn.turn (c.args.count - c.loop-turn.turn - 1) c.stand.new.self c.loop-turn.invariant (view ∙ c.turn.ensures)
     c.stands_still.ensures.facts (c.stands_still.ensures.seen c.if-stands_still.true)
-    c.turns.ensures.state all
+    c.stand.ensures.state all
