@@ -7,7 +7,6 @@ ghost use Rattle.std.specs.Prelude.{◌≡◌};
 use crate::parts::{
     ctl_of, demands_of, ends_of, off_of, skipping_after, target_after, target_before,
 };
-use crate::program::word_at;
 use fifo_model::{Fifo, Queue};
 use irq_status::{FDSR, IntStat, OCERR};
 use machine_model::{Demands, Skipping};
@@ -114,7 +113,7 @@ impl<R: Ram> Engine<R> {
         ensures { state_of R.memory self.new ≡ jumped (is_word self.old.accepted addr) ctl addr (state_of R.memory self.old) }
     {
         let addr = u64::from(addr);
-        if word_at(self.accepted.program(), addr).is_some() {
+        if self.accepted.program().word_at(addr).is_some() {
             self.interrupts.apply(ctl);
             self.pc = addr;
             self.target = None;

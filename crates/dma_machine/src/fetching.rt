@@ -1,7 +1,6 @@
 //! Turns of a machine that fetches or waits.
 
 use crate::engine::Engine;
-use crate::program::instr_at;
 use fifo_model::Queue;
 use machine_model::Skipping;
 use page_ram::Ram;
@@ -56,7 +55,7 @@ impl<R: Ram> Engine<R> {
         requires { CanFetch (fetch self.old.accepted self.old.pc) (state_of R.memory self.old) }
         ensures { state_of R.memory self.new ≡ fetched (fetch self.old.accepted self.old.pc) (state_of R.memory self.old) }
     {
-        match instr_at(self.accepted.program(), self.pc) {
+        match self.accepted.program().instr_at(self.pc) {
             Ok((instr, count)) => self.execute(instr, count),
             Err(_) => self.halt(),
         }
