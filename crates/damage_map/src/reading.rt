@@ -1,11 +1,11 @@
 //! What the instruction at an address tells.
 ghost use Rattle.std.specs.Prelude.{◌≡◌};
-ghost use Rattle.machine_model.specs.Paths.{fetch, instr_ends};
+ghost use Rattle.machine_model.specs.Paths.{fetch};
 ghost use Rattle.damage_map.specs.Tracks.{ends_line, field_of, opens, signals};
 
 use pixel_layout::Parity;
 use risc_verify::Program;
-use risc_word::{Ends, Instr};
+use risc_word::Instr;
 
 /// Whether a SYNC with RESYNC stands there, which opens a field.
 pub(crate) fn opens(program: &Program, at: u32) -> bool
@@ -37,29 +37,12 @@ pub(crate) fn signals(program: &Program, at: u32) -> Option<Parity>
     }
 }
 
-fn ends(instr: &Instr) -> Ends
-    ensures { result ≡ instr_ends instr.now }
-{
-    match *instr {
-        Instr::Write { ends, .. }
-        | Instr::Skip { ends, .. }
-        | Instr::WriteC { ends, .. }
-        | Instr::Write123 { ends, .. }
-        | Instr::Skip123 { ends, .. }
-        | Instr::Write1S23 { ends, .. } => ends,
-        Instr::Jump { .. } | Instr::Sync { .. } => Ends {
-            sol: false,
-            eol: false,
-        },
-    }
-}
-
 /// Whether the instruction there ends a line.
 pub(crate) fn ends_line(program: &Program, at: u32) -> bool
     ensures { result ≡ ends_line (fetch program.now at) }
 {
     match program.instr_at(u64::from(at)) {
-        Ok((instr, _)) => ends(&instr).eol,
+        Ok((instr, _)) => instr.ends().eol,
         Err(_) => false,
     }
 }

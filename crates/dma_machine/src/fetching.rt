@@ -11,7 +11,8 @@ impl<R: Ram> Engine<R> {
     ghost use Rattle.dma_machine.specs.Needs.{CanBegin, CanExecute, CanFetch, CtlFits};
     ghost use Rattle.dma_machine.specs.Views.{state_of};
     ghost use Rattle.fifo_model.specs.Queues.{front_code, queue_state};
-    ghost use Rattle.machine_model.specs.Paths.{fetch, instr_ctl};
+    ghost use Rattle.machine_model.specs.Paths.{fetch};
+    ghost use Rattle.risc_word.specs.Parts.{instr_ctl};
     ghost use Rattle.machine_model.specs.Turns.{code_seen, common_code, data_fetched, fetched, instr_fetched, is_stray, lowest_stray, waited};
     ghost use Rattle.std.specs.Prelude.{◌≡◌, ◌<◌, ◌^◌, IfSome, IsSome};
 
