@@ -14,7 +14,7 @@ use Rattle.machine_model.specs.declared.Demands.{Demands}
 use Rattle.machine_model.specs.declared.Job.{Job}
 use Rattle.machine_model.specs.declared.Job.TheVariants.{Idle, Running}
 use Rattle.machine_model.specs.Accesses.{burst_stores, judged_stores, served_stores, stores_in}
-use Rattle.machine_model.specs.Paths.{instr_off}
+use Rattle.risc_word.specs.Parts.{instr_off}
 use Rattle.machine_model.specs.States.{State}
 use Rattle.machine_model.specs.Turns.{Store, apply, apply_in, burst, demand_less, demand_on, ended, is_cut_short, judged, served, stores_at, took, verdict_at, with_demand}
 use Rattle.machine_model.specs.Seen.{Application, application_in, served_application}

@@ -21,7 +21,7 @@ use Rattle.machine_model.specs.declared.Demands.{Demands}
 use Rattle.machine_model.specs.declared.Job.{Job}
 use Rattle.machine_model.specs.declared.Job.TheVariants.{Idle, Running}
 use Rattle.machine_model.specs.declared.Skipping.TheVariants.{Nothing, ToEol}
-use Rattle.machine_model.specs.Paths.{instr_ends}
+use Rattle.risc_word.specs.Parts.{instr_ends}
 use Rattle.machine_model.specs.States.{State}
 use Rattle.machine_model.specs.Turns.{apply, apply_in, burst, demand_less, demand_on, ended, is_cut_short, judged, served, took, verdict_at, with_demand}
 use Rattle.machine_model.specs.Seen.{Application, application, application_in, applications, discards_reserved, discards_reserved_by, ends, ends_by, gives_up, gives_up_by, served_application, takes, takes_by, verdict_of}

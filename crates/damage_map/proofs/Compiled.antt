@@ -15,7 +15,8 @@ use Rattle.fifo_model.specs.declared.Queue.{Queue}
 use Rattle.fifo_model.specs.declared.Queue.TheVariants.{One, Two, Three}
 use Rattle.pixel_layout.specs.declared.Parity.{Parity}
 use Rattle.page_table.specs.Grants.{Chunk}
-use Rattle.machine_model.specs.Paths.{demands_of, instr_ends, is_data}
+use Rattle.machine_model.specs.Paths.{demands_of, is_data}
+use Rattle.risc_word.specs.Parts.{instr_ends}
 use Rattle.machine_model.specs.Turns.{demand_on}
 use Rattle.capture_desc.specs.declared.desc.Desc.{Desc}
 use Rattle.picture_model.specs.declared.PieceKind.{PieceKind}

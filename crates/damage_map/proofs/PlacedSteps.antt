@@ -21,7 +21,8 @@ use Rattle.machine_model.specs.declared.Job.TheVariants.{Idle, Waiting, Running}
 use Rattle.machine_model.specs.declared.Skipping.{Skipping}
 use Rattle.machine_model.specs.declared.Skipping.TheVariants.{Nothing, ToEol, ToSync}
 use Rattle.machine_model.specs.Accesses.{burst_stores, burst_stores_of, ran_stores, stores_if, worked_stores}
-use Rattle.machine_model.specs.Paths.{RiscProgram, fetch, instr_off, is_data}
+use Rattle.machine_model.specs.Paths.{RiscProgram, fetch, is_data}
+use Rattle.risc_word.specs.Parts.{instr_off}
 use Rattle.machine_model.specs.Seen.{address_before, applications, data_did, fetched_did, gives_up, instr_did, seen_if, seen_in, seen_running, seen_served}
 use Rattle.machine_model.specs.States.{State}
 use Rattle.machine_model.specs.Steps.{Turn}

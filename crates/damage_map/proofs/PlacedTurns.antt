@@ -19,7 +19,8 @@ use Rattle.machine_model.specs.declared.Job.{Job}
 use Rattle.machine_model.specs.declared.Job.TheVariants.{Idle, Waiting, Running}
 use Rattle.machine_model.specs.declared.Skipping.{Skipping}
 use Rattle.machine_model.specs.declared.Skipping.TheVariants.{Nothing, ToEol, ToSync}
-use Rattle.machine_model.specs.Paths.{demands_of, instr_off}
+use Rattle.machine_model.specs.Paths.{demands_of}
+use Rattle.risc_word.specs.Parts.{instr_off}
 use Rattle.machine_model.specs.Seen.{Application, address_before, application}
 use Rattle.machine_model.specs.States.{State}
 use Rattle.machine_model.specs.Turns.{apply, apply_in, begun_with, burst, counted, data_fetched, demand_on, ended, instr_fetched, is_cut_short, judged, served, took, verdict_at}

@@ -14,7 +14,8 @@ use Rattle.fifo_model.specs.declared.Queue.{Queue}
 use Rattle.fifo_model.specs.declared.Queue.TheVariants.{One, Two, Three}
 use Rattle.picture_model.specs.Programs.{sync}
 use Rattle.picture_model.proofs.Each.{Each, each_only}
-use Rattle.machine_model.specs.Paths.{demands_of, instr_ends, is_data}
+use Rattle.machine_model.specs.Paths.{demands_of, is_data}
+use Rattle.risc_word.specs.Parts.{instr_ends}
 use Rattle.machine_model.specs.Turns.{demand_on}
 use Rattle.field_law.specs.Sections.{words_in}
 use Rattle.damage_law.specs.Takings.{Taking}

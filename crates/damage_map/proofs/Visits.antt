@@ -15,7 +15,8 @@ use Rattle.machine_model.specs.declared.Job.{Job}
 use Rattle.machine_model.specs.declared.Job.TheVariants.{Idle, Waiting, Running}
 use Rattle.machine_model.specs.declared.Skipping.{Skipping}
 use Rattle.machine_model.specs.declared.Skipping.TheVariants.{Nothing}
-use Rattle.machine_model.specs.Paths.{RiscProgram, instr_ends}
+use Rattle.machine_model.specs.Paths.{RiscProgram}
+use Rattle.risc_word.specs.Parts.{instr_ends}
 use Rattle.machine_model.specs.States.{State}
 use Rattle.machine_model.specs.Turns.{demand_on}
 use Rattle.field_law.specs.Sections.{HoldsFrom, words_in}

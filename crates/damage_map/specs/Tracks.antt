@@ -11,7 +11,8 @@ use Rattle.pixel_layout.specs.declared.Parity.TheVariants.{Top, Bottom}
 use Rattle.machine_model.specs.declared.Did.{Did}
 use Rattle.machine_model.specs.declared.Did.TheVariants.{Synced, Jumped, Passed, Retired, Moved, GivenUp}
 use Rattle.machine_model.specs.declared.Seen.{Seen}
-use Rattle.machine_model.specs.Paths.{RiscProgram, fetch, instr_ends}
+use Rattle.machine_model.specs.Paths.{RiscProgram, fetch}
+use Rattle.risc_word.specs.Parts.{instr_ends}
 use Rattle.machine_model.specs.Seen.{seen}
 use Rattle.machine_model.specs.States.{State}
 use Rattle.machine_model.specs.Steps.{Step, Turn, Host, step}

@@ -1,13 +1,10 @@
 //! The machine's parts, and what each row of a turn does to them.
 
 ghost use Rattle.dma_machine.specs.Needs.{AreParts};
-ghost use Rattle.machine_model.specs.Paths.{instr_ctl, instr_off};
+ghost use Rattle.risc_word.specs.Parts.{instr_ctl, instr_off};
 ghost use Rattle.std.specs.Prelude.{◌≡◌};
 
-use crate::parts::{
-    ctl_of, demands_of, ends_of, off_of, skipping_after, target_after, target_before,
-};
-use crate::program::word_at;
+use crate::parts::{demands_of, skipping_after, target_after, target_before};
 use fifo_model::{Fifo, Queue};
 use irq_status::{FDSR, IntStat, OCERR};
 use machine_model::{Demands, Skipping};
@@ -64,7 +61,8 @@ pub struct Engine<R> {
 impl<R: Ram> Engine<R> {
     ghost use Rattle.dma_machine.specs.Needs.{CanBegin, CtlFits, IsAddress};
     ghost use Rattle.dma_machine.specs.Views.{state_of};
-    ghost use Rattle.machine_model.specs.Paths.{instr_ctl, is_word};
+    ghost use Rattle.machine_model.specs.Paths.{is_word};
+    ghost use Rattle.risc_word.specs.Parts.{instr_ctl};
     ghost use Rattle.machine_model.specs.Turns.{begun, dropped, given_up, halted, jumped, met, passed, retired, synced, with_fdsr, with_fdsr_unless};
     ghost use Rattle.std.specs.Prelude.{◌≡◌, ◌<◌, ◌^◌, IsSome, None};
     ghost use Rattle.fifo_model.specs.Queues.{front, front_code, queue_state};
@@ -114,7 +112,7 @@ impl<R: Ram> Engine<R> {
         ensures { state_of R.memory self.new ≡ jumped (is_word self.old.accepted addr) ctl addr (state_of R.memory self.old) }
     {
         let addr = u64::from(addr);
-        if word_at(self.accepted.program(), addr).is_some() {
+        if self.accepted.program().word_at(addr).is_some() {
             self.interrupts.apply(ctl);
             self.pc = addr;
             self.target = None;
@@ -140,7 +138,7 @@ impl<R: Ram> Engine<R> {
         ensures { state_of R.memory self.new ≡ passed instr.now count (state_of R.memory self.old) }
     {
         self.pc += 4 * u64::from(count);
-        self.skipping = skipping_after(self.skipping, ends_of(instr).eol);
+        self.skipping = skipping_after(self.skipping, instr.ends().eol);
     }
 
     pub fn begin(&mut self, instr: Instr, count: u8)
@@ -152,7 +150,7 @@ impl<R: Ram> Engine<R> {
         let target = target_before(&instr, self.target);
         self.target = target;
         self.demands = demands_of(&instr, target);
-        self.off = off_of(&instr);
+        self.off = instr.off();
         self.instr = instr;
         self.phase = Phase::Running;
         self.pc += 4 * u64::from(count);
@@ -191,7 +189,7 @@ impl<R: Ram> Engine<R> {
         requires { IsAddress self.old.target }
         ensures { state_of R.memory self.new ≡ retired self.old.instr (state_of R.memory self.old) }
     {
-        self.interrupts.apply(ctl_of(&self.instr));
+        self.interrupts.apply(self.instr.ctl());
         self.target = target_after(&self.instr, self.target);
         self.phase = Phase::Idle;
     }

@@ -1,7 +1,6 @@
 //! Turns of a machine that fetches or waits.
 
 use crate::engine::Engine;
-use crate::program::instr_at;
 use fifo_model::Queue;
 use machine_model::Skipping;
 use page_ram::Ram;
@@ -12,7 +11,8 @@ impl<R: Ram> Engine<R> {
     ghost use Rattle.dma_machine.specs.Needs.{CanBegin, CanExecute, CanFetch, CtlFits};
     ghost use Rattle.dma_machine.specs.Views.{state_of};
     ghost use Rattle.fifo_model.specs.Queues.{front_code, queue_state};
-    ghost use Rattle.machine_model.specs.Paths.{fetch, instr_ctl};
+    ghost use Rattle.machine_model.specs.Paths.{fetch};
+    ghost use Rattle.risc_word.specs.Parts.{instr_ctl};
     ghost use Rattle.machine_model.specs.Turns.{code_seen, common_code, data_fetched, fetched, instr_fetched, is_stray, lowest_stray, waited};
     ghost use Rattle.std.specs.Prelude.{◌≡◌, ◌<◌, ◌^◌, IfSome, IsSome};
 
@@ -56,7 +56,7 @@ impl<R: Ram> Engine<R> {
         requires { CanFetch (fetch self.old.accepted self.old.pc) (state_of R.memory self.old) }
         ensures { state_of R.memory self.new ≡ fetched (fetch self.old.accepted self.old.pc) (state_of R.memory self.old) }
     {
-        match instr_at(self.accepted.program(), self.pc) {
+        match self.accepted.program().instr_at(self.pc) {
             Ok((instr, count)) => self.execute(instr, count),
             Err(_) => self.halt(),
         }

@@ -23,7 +23,6 @@ mod engine;
 mod fetching;
 mod host;
 mod parts;
-mod program;
 mod running;
 mod seeing;
 mod stores;

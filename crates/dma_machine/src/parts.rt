@@ -1,7 +1,7 @@
 //! Parts of an instruction, and what it asks of the queues.
 
 ghost use Rattle.dma_machine.specs.Needs.{IsAddress};
-ghost use Rattle.machine_model.specs.Paths.{demand, demands_of, first_demand, instr_ctl, instr_ends, instr_off, no_demand, target_after, target_before, target_moved, three_demands};
+ghost use Rattle.machine_model.specs.Paths.{demand, demands_of, first_demand, no_demand, target_after, target_before, target_moved, three_demands};
 ghost use Rattle.machine_model.specs.Turns.{demand_less, demand_on, is_cut_short, is_done, rest_of_line, skipping_after, with_demand};
 ghost use Rattle.dma_machine.specs.WholeTakes.{takes_whole};
 ghost use Rattle.risc_word.specs.Words.{encoded};
@@ -10,58 +10,8 @@ ghost use Rattle.sync_status.specs.Statuses.{kind_of};
 
 use fifo_model::{Entry, Queue};
 use machine_model::{Demand, Demands, Skipping};
-use risc_word::{Ctl, Ends, Instr};
+use risc_word::Instr;
 use sync_status::{Status, StatusKind, kind};
-
-/// The control bits.
-#[inline]
-pub fn ctl_of(instr: &Instr) -> Ctl
-    ensures { result ≡ instr_ctl instr.now }
-{
-    match *instr {
-        Instr::Write { ctl, .. }
-        | Instr::Skip { ctl, .. }
-        | Instr::WriteC { ctl, .. }
-        | Instr::Jump { ctl, .. }
-        | Instr::Sync { ctl, .. }
-        | Instr::Write123 { ctl, .. }
-        | Instr::Skip123 { ctl, .. }
-        | Instr::Write1S23 { ctl, .. } => ctl,
-    }
-}
-
-/// Where it stands in its line.
-#[inline]
-pub fn ends_of(instr: &Instr) -> Ends
-    ensures { result ≡ instr_ends instr.now }
-{
-    match *instr {
-        Instr::Write { ends, .. }
-        | Instr::Skip { ends, .. }
-        | Instr::WriteC { ends, .. }
-        | Instr::Write123 { ends, .. }
-        | Instr::Skip123 { ends, .. }
-        | Instr::Write1S23 { ends, .. } => ends,
-        Instr::Jump { .. } | Instr::Sync { .. } => Ends {
-            sol: false,
-            eol: false,
-        },
-    }
-}
-
-/// The lanes that are off.
-#[inline]
-pub fn off_of(instr: &Instr) -> u8
-    ensures { result ≡ instr_off instr.now }
-{
-    match *instr {
-        Instr::Write { off, .. }
-        | Instr::WriteC { off, .. }
-        | Instr::Write123 { off, .. }
-        | Instr::Write1S23 { off, .. } => off,
-        Instr::Skip { .. } | Instr::Jump { .. } | Instr::Sync { .. } | Instr::Skip123 { .. } => 0,
-    }
-}
 
 /// The length in words of a planar instruction: its first word has one count, the next two, and its addresses follow.
 fn planar_length(counts: &[u16; 3], addrs: &[u32]) -> u8
@@ -178,7 +128,7 @@ pub fn demands_of(instr: &Instr, target: Option<u64>) -> Demands
 pub fn target_before(instr: &Instr, target: Option<u64>) -> Option<u64>
     ensures { result ≡ target_before instr.now target }
 {
-    if ends_of(instr).sol { None } else { target }
+    if instr.ends().sol { None } else { target }
 }
 
 /// What is passed over after an instruction was given up within its line.
@@ -186,7 +136,7 @@ pub fn target_before(instr: &Instr, target: Option<u64>) -> Option<u64>
 pub fn rest_of_line(instr: &Instr) -> Skipping
     ensures { result ≡ rest_of_line instr.now }
 {
-    if ends_of(instr).eol {
+    if instr.ends().eol {
         Skipping::Nothing
     } else {
         Skipping::ToEol
@@ -238,7 +188,7 @@ pub fn target_after(instr: &Instr, target: Option<u64>) -> Option<u64>
     requires { IsAddress target }
     ensures { result ≡ target_after instr.now target }
 {
-    if ends_of(instr).eol {
+    if instr.ends().eol {
         None
     } else {
         target_moved(instr, target)

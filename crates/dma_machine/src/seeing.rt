@@ -7,7 +7,6 @@ ghost use Rattle.sync_status.specs.Statuses.{is_end, kind_of, valid_bytes};
 
 use crate::engine::{Engine, Phase};
 use crate::parts::{demand_on, is_cut_short, is_done, length_in_words, takes_whole};
-use crate::program::instr_at;
 use fifo_model::{Entry, Queue};
 use machine_model::{Demand, Did, Seen, Skipping};
 use page_ram::Ram;
@@ -126,7 +125,7 @@ impl<R: Ram> Engine<R> {
     fn fetched_did(&self) -> Did
         ensures { result ≡ fetched_did (fetch self.now.accepted self.now.pc) self.now.skipping }
     {
-        match instr_at(self.accepted.program(), self.pc) {
+        match self.accepted.program().instr_at(self.pc) {
             Ok((instr, _)) => instr_did(&instr, self.skipping),
             Err(_) => Did::Still,
         }

@@ -10,23 +10,16 @@ ghost use Rattle.std.specs.Prelude.{◌≡◌, ◌++◌, ◌^◌, ◌<◌, true,
 ghost use Rattle.field_compile.specs.Kept.{BeginsWith};
 ghost use Rattle.picture_model.specs.Described.{IsDescription, describes, is_both, picture_row, rows_of};
 ghost use Rattle.picture_model.specs.Plans.{row_strip, skipped_strip};
-ghost use Rattle.picture_model.specs.Programs.{data_code, field_words, line_instrs, lines_instrs, words_of};
+ghost use Rattle.picture_model.specs.Programs.{field_words, line_instrs, lines_instrs, words_of};
 ghost use Rattle.planar_plan.specs.Lines.{AreSpansOf};
 
 use capture_desc::Fields;
+use picture_model::data_code;
 use pixel_layout::Parity;
 use planar_plan::{Frame, Pieces, RowSpans};
-use risc_word::Code;
 use std::alloc::{AllocError, Global};
 pub use words::{push_instr, push_pieces, sync};
 use words::{ROW_WORDS, push_spans};
-
-// The code that announces packed or planar data.
-fn data_code(planar: bool) -> Code
-    ensures { result ≡ data_code planar }
-{
-    if planar { Code::Fm3 } else { Code::Fm1 }
-}
 
 // Appends the lines that are skipped, which are all the same.
 fn push_skipped_lines(alloc: Global, frame: &Frame, out: &mut Vec<u32>) -> Result<(), AllocError>

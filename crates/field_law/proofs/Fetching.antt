@@ -15,7 +15,8 @@ use Rattle.machine_model.specs.declared.Job.{Job}
 use Rattle.machine_model.specs.declared.Job.TheVariants.{Idle}
 use Rattle.machine_model.specs.declared.Skipping.{Skipping}
 use Rattle.machine_model.specs.declared.Skipping.TheVariants.{Nothing}
-use Rattle.machine_model.specs.Paths.{instr_off, demands_of, demands_cause, data_cause, target_before}
+use Rattle.machine_model.specs.Paths.{demands_of, demands_cause, data_cause, target_before}
+use Rattle.risc_word.specs.Parts.{instr_off}
 use Rattle.machine_model.specs.States.{State}
 use Rattle.machine_model.specs.Turns.{Store, demand_on, synced, begun_with, data_fetched, instr_fetched}
 use Rattle.field_law.specs.Fields.{Token}

@@ -14,7 +14,7 @@ use Rattle.page_table.specs.Blocks.{Block}
 use Rattle.machine_model.specs.declared.Demands.{Demands}
 use Rattle.machine_model.specs.declared.Job.{Job}
 use Rattle.machine_model.specs.declared.Job.TheVariants.{Idle, Waiting, Running}
-use Rattle.machine_model.specs.Paths.{instr_ctl}
+use Rattle.risc_word.specs.Parts.{instr_ctl}
 use Rattle.machine_model.specs.States.{State}
 use Rattle.machine_model.specs.Turns.{Store, demand_on, judged, verdict_at, served, apply_in, apply, burst, burst_of, is_served, lowest_served, is_done, retired}
 use Rattle.machine_model.proofs.Rows.{three_parts}

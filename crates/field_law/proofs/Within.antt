@@ -15,7 +15,7 @@ use Rattle.machine_model.specs.declared.Job.{Job}
 use Rattle.machine_model.specs.declared.Job.TheVariants.{Idle, Waiting, Running}
 use Rattle.machine_model.specs.declared.Skipping.{Skipping}
 use Rattle.machine_model.specs.declared.Skipping.TheVariants.{Nothing}
-use Rattle.machine_model.specs.Paths.{instr_off}
+use Rattle.risc_word.specs.Parts.{instr_off}
 use Rattle.machine_model.specs.States.{State}
 use Rattle.machine_model.specs.Turns.{Store, stored_all, stores_at, stores_of, demand_on, with_demand, demand_less, took, ended, judged, verdict_at}
 use Rattle.field_law.specs.Fields.{Token}

@@ -2,8 +2,7 @@
 
 ghost use Rattle.std.specs.Prelude.{◌≡◌, ◌+◌, ◌<◌, ◌≤◌, [], ◌∷◌, ◌++◌, length, IsTrue, IfOk};
 ghost use Rattle.capture_desk.specs.Desks.{Puts, WriteCounts, after_write};
-ghost use Rattle.picture_model.specs.Described.{describes, fields_of, layout_of};
-ghost use Rattle.picture_model.specs.Programs.{data_code, vertical};
+ghost use Rattle.picture_model.specs.Described.{describes, fields_of};
 ghost use Rattle.planar_plan.specs.Frames.{IsFramed};
 ghost use Rattle.field_stream.specs.Pushes.{Mark, field_pushes, frame_pushes, picture_pushes, repeated, stream_pushes, vbi_pushes};
 ghost use Rattle.field_stream.specs.Lines.{IsShort, line_pushes};
@@ -16,6 +15,7 @@ use crate::lines::{Line, picture_line, vbi_line};
 use capture_desc::Fields;
 use capture_desk::{Desk, Failed, put};
 use capture_file::tags;
+use picture_model::{data_code, vertical};
 use pixel_layout::Parity;
 use planar_plan::Frame;
 use risc_word::Code;
@@ -82,27 +82,6 @@ fn put_vbi<D: Desk>(draft: &mut Draft, desk: &mut D, frame: &Frame) -> Result<()
     put_lines(draft, desk, count, vbi_line(frame))
 }
 
-// The vertical code of a field.
-fn vertical(field: Parity) -> Code
-    ensures { result ≡ vertical field }
-{
-    match field {
-        Parity::Top => Code::Vre,
-        Parity::Bottom => Code::Vro,
-    }
-}
-
-// The code that announces the data of a frame.
-fn data_code(frame: &Frame) -> Code
-    ensures { result ≡ data_code (layout_of frame.now).planar }
-{
-    if frame.format().is_planar() {
-        Code::Fm3
-    } else {
-        Code::Fm1
-    }
-}
-
 // The skipped lines and the rows of a field.
 fn put_picture<D: Desk>(
     draft: &mut Draft,
@@ -114,7 +93,7 @@ fn put_picture<D: Desk>(
     ensures moves { Moves (pushed_all (picture_pushes frame.now field) draft.old) result draft.new (D.seen desk.old).told (D.seen desk.new).told }
     ensures counts { WriteCounts result (D.seen desk.old) (D.seen desk.new) }
 {
-    put_mark(draft, desk, data_code(frame))?;
+    put_mark(draft, desk, data_code(frame.format().is_planar()))?;
     let count = u32::from(frame.desc().skip_lines) + frame.rows_of(field);
     put_lines(draft, desk, count, picture_line(frame))
 }

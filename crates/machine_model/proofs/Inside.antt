@@ -14,7 +14,8 @@ use Rattle.page_table.specs.Grants.{Chunk, granted}
 use Rattle.machine_model.specs.declared.Demands.{Demands}
 use Rattle.machine_model.specs.declared.Job.{Job}
 use Rattle.machine_model.specs.declared.Job.TheVariants.{Idle, Waiting, Running}
-use Rattle.machine_model.specs.Paths.{RiscProgram, word_number, is_word, fetch, instr_off, range_cause, demand_cause, path, IsSound}
+use Rattle.machine_model.specs.Paths.{RiscProgram, word_number, is_word, fetch, range_cause, demand_cause, path, IsSound}
+use Rattle.risc_word.specs.Parts.{instr_off}
 use Rattle.machine_model.specs.States.{State}
 use Rattle.machine_model.specs.Turns.{Store, is_off, stores_from, stores_at, demand_on, verdict_at, counted, apply, lowest_served, is_done}
 use Rattle.machine_model.specs.Accesses.{judged_stores, served_stores, stores_in, apply_stores, burst_stores, burst_stores_of, ran_stores, worked_stores, stores_if, writes, word_addresses, words_read, fetched_by, fetches_if, fetches}

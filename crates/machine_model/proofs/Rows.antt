@@ -14,7 +14,8 @@ use Rattle.machine_model.specs.declared.Job.{Job}
 use Rattle.machine_model.specs.declared.Job.TheVariants.{Idle, Waiting, Running}
 use Rattle.machine_model.specs.declared.Skipping.{Skipping}
 use Rattle.machine_model.specs.declared.Skipping.TheVariants.{Nothing, ToEol, ToSync}
-use Rattle.machine_model.specs.Paths.{RiscProgram, IsProgram, Place, word_number, is_word, fetch, is_data, instr_ends, instr_cause, data_cause, first_cause, range_cause, target_before, target_moved, place_after, path, IsSound}
+use Rattle.machine_model.specs.Paths.{RiscProgram, IsProgram, Place, word_number, is_word, fetch, is_data, instr_cause, data_cause, first_cause, range_cause, target_before, target_moved, place_after, path, IsSound}
+use Rattle.risc_word.specs.Parts.{instr_ends}
 use Rattle.machine_model.specs.States.{State}
 use Rattle.machine_model.specs.Turns.{demand_on}
 use Rattle.machine_model.specs.Safety.{TargetAt, RunsAt, IsSafe}

@@ -1,11 +1,10 @@
 -- The path of a program, and when a program is sound.
 use Rattle.std.specs.Prelude.{◌≡◌, ℕ, zero, suc, ◌+◌, ◌-◌, ◌*◌, ◌/◌, ◌%◌, ◌^◌, ◌<◌, ◌≤◌, Bool, true, false, not, ◌&&◌, min, max, IsTrue, All, List, length, Option, Some, None, Ok, Err, option_map, if◌then◌else◌, ◌==◌, nat_lt, nat_le, slice_index}
-use Rattle.risc_word.specs.declared.Ctl.{Ctl}
-use Rattle.risc_word.specs.declared.Ends.{Ends}
 use Rattle.risc_word.specs.declared.Instr.{Instr}
 use Rattle.risc_word.specs.declared.Instr.TheVariants.{Write, Skip, WriteC, Jump, Sync, Write123, Skip123, Write1S23}
 use Rattle.risc_word.specs.declared.WordFault.{WordFault}
 use Rattle.risc_word.specs.declared.WordFault.TheVariants as fault
+use Rattle.risc_word.specs.Parts.{instr_ends}
 use Rattle.risc_word.specs.Words.{Reading, instr_at}
 use Rattle.page_table.specs.Grants.{Chunk, AreGrants, granted, first_ungranted}
 use Rattle.machine_model.specs.declared.Cause.{Cause}
@@ -60,40 +59,7 @@ word_at program address =
 abbrev pub fetch : RiscProgram → ℕ → Reading
 fetch program pc = if is_word program pc then instr_at program.words (word_number program pc) else Err fault.Cut
 
--- parts of an instruction
-abbrev pub instr_ctl : Instr → Ctl
-instr_ctl (Write ctl ends off count addr) = ctl
-instr_ctl (Skip ctl ends count) = ctl
-instr_ctl (WriteC ctl ends off count) = ctl
-instr_ctl (Jump ctl target) = ctl
-instr_ctl (Sync ctl resync code) = ctl
-instr_ctl (Write123 ctl ends off counts addrs) = ctl
-instr_ctl (Skip123 ctl ends counts) = ctl
-instr_ctl (Write1S23 ctl ends off counts addr) = ctl
-
-abbrev pub no_ends : Ends
-no_ends = record { sol = false; eol = false }
-
-abbrev pub instr_ends : Instr → Ends
-instr_ends (Write ctl ends off count addr) = ends
-instr_ends (Skip ctl ends count) = ends
-instr_ends (WriteC ctl ends off count) = ends
-instr_ends (Jump ctl target) = no_ends
-instr_ends (Sync ctl resync code) = no_ends
-instr_ends (Write123 ctl ends off counts addrs) = ends
-instr_ends (Skip123 ctl ends counts) = ends
-instr_ends (Write1S23 ctl ends off counts addr) = ends
-
-abbrev pub instr_off : Instr → ℕ
-instr_off (Write ctl ends off count addr) = off
-instr_off (Skip ctl ends count) = 0
-instr_off (WriteC ctl ends off count) = off
-instr_off (Jump ctl target) = 0
-instr_off (Sync ctl resync code) = 0
-instr_off (Write123 ctl ends off counts addrs) = off
-instr_off (Skip123 ctl ends counts) = 0
-instr_off (Write1S23 ctl ends off counts addr) = off
-
+-- whether an instruction is one of data
 abbrev pub is_data : Instr → Bool
 is_data (Jump ctl target) = false
 is_data (Sync ctl resync code) = false

@@ -22,7 +22,8 @@ use Rattle.machine_model.specs.declared.Job.{Job}
 use Rattle.machine_model.specs.declared.Job.TheVariants.{Idle, Waiting, Running}
 use Rattle.machine_model.specs.declared.Skipping.{Skipping}
 use Rattle.machine_model.specs.declared.Skipping.TheVariants.{Nothing, ToEol, ToSync}
-use Rattle.machine_model.specs.Paths.{is_word, fetch, instr_ctl, instr_ends, instr_off, demands_of, target_before, target_after, data_cause}
+use Rattle.machine_model.specs.Paths.{is_word, fetch, demands_of, target_before, target_after, data_cause}
+use Rattle.risc_word.specs.Parts.{instr_ctl, instr_ends, instr_off}
 use Rattle.machine_model.specs.States.{State}
 
 abbrev pub counted : State → State

@@ -3,28 +3,19 @@
 ghost use Rattle.std.specs.Prelude.{◌≡◌, ◌++◌, ◌+◌, ◌*◌, ◌%◌, ◌^◌, ◌∷◌, ◌<◌, IfOk, IsTrue, OnOk, true};
 ghost use Rattle.capture_desc.specs.declared.desc.Fields.TheVariants as fields;
 ghost use Rattle.picture_model.specs.Described.{IsDescription, describes};
-ghost use Rattle.picture_model.specs.Programs.{body, closing, opening, section, vertical, words_of};
+ghost use Rattle.picture_model.specs.Programs.{body, closing, opening, section, words_of};
 ghost use Rattle.planar_plan.specs.Frames.{IsFramed};
 ghost use Rattle.program_build.specs.Checks.{AreSections};
 ghost use Rattle.risc_word.specs.Words.{fits};
 
 use capture_desc::Fields;
 use field_compile::{compile_field, push_instr, sync};
+use picture_model::vertical;
 use pixel_layout::Parity;
 use planar_plan::Frame;
-use risc_word::{Code, Ctl, Instr};
+use risc_word::{Ctl, Instr};
 use std::alloc::{AllocError, Global};
 use vbi_compile::compile_vbi;
-
-// The vertical code of a field, which opens its section.
-fn vertical(field: Parity) -> Code
-    ensures { result ≡ vertical field }
-{
-    match field {
-        Parity::Top => Code::Vre,
-        Parity::Bottom => Code::Vro,
-    }
-}
 
 // The JUMP that closes a field's section: it interrupts, and leaves the RISC status 1 for the top field
 // and 2 for the bottom one.

@@ -9,7 +9,8 @@ use Rattle.picture_model.proofs.Circle.{IsFineInstr, words_split, fetch_at}
 use Rattle.ring_law.proofs.Walks.{IsOfRing, Walks, end_list, ends_at, next_at}
 use Rattle.ring_model.specs.Rings.{IsRing, Ring, block_instrs, blocks_instrs, closing, last_with, last_write, line_instrs, lines_instrs, mark, opening, ring_program, round, with_control, ends, ring_instrs}
 use Rattle.risc_word.specs.declared.Instr.TheVariants.{Jump, Skip, Skip123, Sync, Write, Write123, Write1S23, WriteC}
-use Rattle.machine_model.specs.Paths.{RiscProgram, fetch, instr_ctl}
+use Rattle.machine_model.specs.Paths.{RiscProgram, fetch}
+use Rattle.risc_word.specs.Parts.{instr_ctl}
 use Rattle.ring_law.proofs.Addresses.{block_begin, block_some, blocks_append, ends_here, ends_nowhere, last_there, next_begin, one_block}
 use Rattle.ring_model.proofs.Sound.{closing_word, ring_fine}
 use Rattle.risc_word.specs.Words.{encoded}

@@ -10,7 +10,8 @@ use Rattle.risc_word.specs.declared.Instr.{Instr}
 use Rattle.machine_model.specs.declared.Job.{Job}
 use Rattle.risc_word.specs.declared.Instr.TheVariants.{Jump, Skip, Skip123, Sync, Write, Write123, Write1S23, WriteC}
 use Rattle.fifo_model.specs.declared.Queue.{Queue}
-use Rattle.machine_model.specs.Paths.{RiscProgram, demands_cause, demands_of, fetch, instr_ctl, is_word}
+use Rattle.machine_model.specs.Paths.{RiscProgram, demands_cause, demands_of, fetch, is_word}
+use Rattle.risc_word.specs.Parts.{instr_ctl}
 use Rattle.machine_model.specs.States.{State}
 use Rattle.risc_word.specs.Words.{code_number, encoded}
 use Rattle.machine_model.specs.Turns.{code_seen, common_code, is_done, lowest_stray, met, stray_seen, waited, with_fdsr_unless, with_queue, without_codes}

@@ -193,7 +193,7 @@ pub(crate) fn step(
     requires { word ≡ word_of program.now place.now.pc }
     ensures { MatchResult result (λ next. (cause_at program.now place.now ≡ None) × (next_place program.now place.now ≡ next)) (λ cause. cause_at program.now place.now ≡ Some cause) }
 {
-    let (instr, count) = match program.instr_at(place.pc, word) {
+    let (instr, count) = match program.instr_of(place.pc, word) {
         Ok(read) => read,
         Err(fault) => return Err(fault_cause(fault)),
     };

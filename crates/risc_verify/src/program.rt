@@ -2,8 +2,9 @@
 
 ghost use Rattle.machine_model.specs.Paths.{IsProgram, IsSound, fetch, shares_byte, max_words};
 ghost use Rattle.risc_verify.specs.Programs.{word_of};
+ghost use Rattle.risc_word.specs.Words.{IsInstr};
 ghost use Rattle.std.specs.List.{All};
-ghost use Rattle.std.specs.Prelude.{◌≡◌, ◌+◌, ◌*◌, ◌%◌, ◌^◌, ◌<◌, ◌≤◌, false, length, IfSome, OnOk};
+ghost use Rattle.std.specs.Prelude.{◌≡◌, ◌+◌, ◌*◌, ◌%◌, ◌^◌, ◌<◌, ◌≤◌, false, length, IfOk, IfSome};
 
 use page_table::PageSet;
 use risc_word::{Instr, WordFault, decode};
@@ -69,9 +70,9 @@ impl Program {
         &self.grants
     }
 
-    // The number of the word at an address.
+    /// The number of the word that stands at an address, counted from the program's first.
     #[inline]
-    pub(crate) fn word_at(&self, address: u64) -> Option<usize>
+    pub fn word_at(&self, address: u64) -> Option<usize>
         ensures value { result ≡ word_of self.now address }
         ensures inside { IfSome result (λ word. (address < 2 ^ 32) × (word < length self.now.words) × (address ≡ self.now.base + 4 * word)) }
     {
@@ -87,17 +88,32 @@ impl Program {
         }
     }
 
-    // The instruction at an address, whose word is known, and its length in words.
+    // The instruction at an address whose word is known, and its length in words.
     #[inline]
-    pub(crate) fn instr_at(&self, pc: u64, word: Option<usize>) -> Result<(Instr, u8), WordFault>
-        requires { word ≡ word_of self.now pc }
-        ensures value { result ≡ fetch self.now pc }
-        ensures inside { OnOk result (pc < 2 ^ 32) }
+    pub(crate) fn instr_of(
+        &self,
+        address: u64,
+        word: Option<usize>,
+    ) -> Result<(Instr, u8), WordFault>
+        requires { word ≡ word_of self.now address }
+        ensures value { result ≡ fetch self.now address }
+        ensures instr { IfOk result (λ read. IsInstr read.0) }
+        ensures inside { IfOk result (λ _. address < 2 ^ 32) }
     {
         match word {
             Some(number) => decode(&self.words, number),
             None => Err(WordFault::Cut),
         }
+    }
+
+    /// The instruction at an address and its length in words.
+    #[inline]
+    pub fn instr_at(&self, address: u64) -> Result<(Instr, u8), WordFault>
+        ensures value { result ≡ fetch self.now address }
+        ensures instr { IfOk result (λ read. IsInstr read.0) }
+        ensures inside { IfOk result (λ _. address < 2 ^ 32) }
+    {
+        self.instr_of(address, self.word_at(address))
     }
 }
 

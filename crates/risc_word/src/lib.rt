@@ -6,6 +6,7 @@ mod fields;
 mod reading;
 mod spelling;
 
+ghost use Rattle.risc_word.specs.Parts.{instr_ctl, instr_ends, instr_off};
 ghost use Rattle.risc_word.specs.Words.{code_number, code_numbered, control_fits, counts_fit, fits};
 ghost use Rattle.std.specs.Prelude.{◌≡◌};
 
@@ -176,6 +177,57 @@ impl Instr {
                 ..
             } => { ctl.fits() && *off < 16 && counts_fit(counts) }
             Instr::Skip123 { ctl, counts, .. } => ctl.fits() && counts_fit(counts),
+        }
+    }
+
+    /// The control bits.
+    #[inline]
+    pub fn ctl(&self) -> Ctl
+        ensures { result ≡ instr_ctl self.now }
+    {
+        match *self {
+            Instr::Write { ctl, .. }
+            | Instr::Skip { ctl, .. }
+            | Instr::WriteC { ctl, .. }
+            | Instr::Jump { ctl, .. }
+            | Instr::Sync { ctl, .. }
+            | Instr::Write123 { ctl, .. }
+            | Instr::Skip123 { ctl, .. }
+            | Instr::Write1S23 { ctl, .. } => ctl,
+        }
+    }
+
+    /// Where the instruction stands in its line. A JUMP and a SYNC stand in none: neither first nor last.
+    #[inline]
+    pub fn ends(&self) -> Ends
+        ensures { result ≡ instr_ends self.now }
+    {
+        match *self {
+            Instr::Write { ends, .. }
+            | Instr::Skip { ends, .. }
+            | Instr::WriteC { ends, .. }
+            | Instr::Write123 { ends, .. }
+            | Instr::Skip123 { ends, .. }
+            | Instr::Write1S23 { ends, .. } => ends,
+            Instr::Jump { .. } | Instr::Sync { .. } => Ends {
+                sol: false,
+                eol: false,
+            },
+        }
+    }
+
+    /// The lanes of a DWORD that are not written, bit k for lane k. 0 for an instruction that writes nothing.
+    #[inline]
+    pub fn off(&self) -> u8
+        ensures { result ≡ instr_off self.now }
+    {
+        match *self {
+            Instr::Write { off, .. }
+            | Instr::WriteC { off, .. }
+            | Instr::Write123 { off, .. }
+            | Instr::Write1S23 { off, .. } => off,
+            Instr::Skip { .. } | Instr::Jump { .. } | Instr::Sync { .. } | Instr::Skip123 { .. } =>
+                0,
         }
     }
 }
