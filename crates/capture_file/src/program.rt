@@ -13,7 +13,7 @@ use super::records::number;
 use super::{FileFault, FileKind};
 use byteorder::{ByteOrder, LittleEndian};
 use machine_model::MAX_WORDS;
-use page_table::{MAX_BYTES, MAX_CHUNKS, PAGE_SIZE, PageFault, PageSet};
+use page_table::{MAX_BYTES, MAX_CHUNKS, PAGE_SIZE, PageFault, PageSet, is_page};
 use risc_verify::Program;
 use std::alloc::{AllocError, AllocFailed, Global};
 
@@ -238,12 +238,10 @@ fn is_right_length(sum: u64, at: u32, len: u32) -> bool
         && sum + u64::from(len) <= MAX_BYTES
 }
 
-fn are_pages(chunks: &[(u32, u32)]) -> bool
+pub(super) fn are_pages(chunks: &[(u32, u32)]) -> bool
     ensures { result ≡ list_all (λ pair. is_page (pair_chunk pair)) chunks.now }
 {
-    chunks
-        .iter()
-        .all(|pair| pair.0 % PAGE_SIZE == 0 && pair.1 == PAGE_SIZE)
+    chunks.iter().all(|pair| is_page(pair.0, pair.1))
 }
 
 fn fill_wrong(layout: Layout, chunks: &[(u32, u32)]) -> Option<FileKind>

@@ -8,10 +8,10 @@ ghost use Rattle.page_table.specs.Grants.{chunk_at, is_page, max_chunks};
 ghost use Rattle.std.specs.List.{flat_map, list_all};
 ghost use Rattle.std.specs.Prelude.{◌≡◌, ◌+◌, ◌*◌, ◌≤◌, ◌++◌, List, ℕ, [], drop, length, map, take, IsTrue};
 
-use super::program::Layout;
+use super::program::{Layout, are_pages};
 use byteorder::{ByteOrder, LittleEndian};
 use capture_desk::{Desk, Failed, put};
-use page_table::{PAGE_SIZE, PageSet};
+use page_table::PageSet;
 use risc_verify::Program;
 
 // How many bytes are put at once where there are few, and where there are many.
@@ -100,12 +100,11 @@ fn put_head<D: Desk>(desk: &mut D, layout: Layout, base: u32, count: u32) -> Res
 fn layout_of_grants(grants: &PageSet) -> Layout
     ensures { result ≡ layout_for grants.now }
 {
-    for i in 0..grants.len() {
-        if grants.get(i) % PAGE_SIZE != 0 || grants.size(i) != PAGE_SIZE {
-            return Layout::Chunked;
-        }
+    if are_pages(grants.as_slice()) {
+        Layout::Paged
+    } else {
+        Layout::Chunked
     }
-    Layout::Paged
 }
 
 // Puts the addresses of so many chunks, from one on, into a buffer.

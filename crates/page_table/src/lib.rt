@@ -4,7 +4,7 @@
 ghost use Rattle.std.specs.Prelude.{◌≡◌, ◌+◌, ◌*◌, ◌^◌, ◌<◌, ◌≤◌, ◌↔◌, true, false, not, [], length, map, nat_le, IfOk, IfSome, IsTrue, MatchResult, Some, None};
 ghost use Rattle.std.specs.List.{list_any, position, prefix_len, All};
 ghost use Rattle.std.specs.Result.{result_err};
-ghost use Rattle.page_table.specs.Grants.{AreGrants, AreRising, IsChunk, chunk, chunk_at, first_ungranted, max_bytes, max_chunks, page_size, total};
+ghost use Rattle.page_table.specs.Grants.{AreGrants, AreRising, IsChunk, chunk, chunk_at, first_ungranted, is_page, max_bytes, max_chunks, page_size, total};
 ghost use Rattle.page_table.specs.Taken.{Answers, first_shared, is_aligned, is_page_address, listed, page_at, pair_chunk, shares, taken_chunks, taken_pages, unless_shared};
 ghost use Rattle.page_table.specs.declared.PageFault.TheVariants.{Memory};
 
@@ -57,6 +57,14 @@ impl Model for PageSet {
     ghost view = { λ set. listed set.chunks.items };
 
     ghost invariant = { λ set. AreGrants (listed set.chunks.items) };
+}
+
+/// Whether a chunk, so many bytes from the address `at` on, is a page.
+#[inline]
+pub fn is_page(at: u32, len: u32) -> bool
+    ensures { result ≡ is_page (chunk at len) }
+{
+    at % PAGE_SIZE == 0 && len == PAGE_SIZE
 }
 
 fn is_aligned(at: u32, len: u32) -> bool
@@ -262,6 +270,14 @@ impl PageSet {
         self.chunks[i].1
     }
 
+    /// The address and the length in bytes of each chunk, in rising order.
+    pub fn as_slice(&self) -> &[(u32, u32)]
+        ensures value { listed result.now ≡ self.now }
+        ensures grants { AreGrants self.now }
+    {
+        &self.chunks
+    }
+
     /// Whether a range of so many bytes is granted. The error is the first byte of the range that is
     /// in no chunk.
     pub fn covers(&self, addr: u32, len: u32) -> Result<(), u32>
@@ -287,6 +303,9 @@ mod tests {
         let set = PageSet::from_list(rt.alloc(), &[0x20000, 0x30000])?;
         assert_eq!(rt; set.len(), 2);
         assert_eq!(rt; set.get(1), 0x30000);
+        assert!(rt; set.as_slice() == [(0x20000, 4096), (0x30000, 4096)].as_slice());
+        assert!(rt; is_page(0x30000, 4096));
+        assert!(rt; !is_page(0x30004, 4096));
         Ok(())
     }
 

@@ -15,7 +15,7 @@ mod unnamed;
 use arrayvec::ArrayString;
 pub use lines::InstrLine;
 use lines::{LONGEST_LINE, push_at, push_instr_line, push_word_line};
-use page_table::{PAGE_SIZE, PageSet};
+use page_table::{PageSet, is_page};
 use risc_verify::Program;
 use risc_word::{Instr, decode};
 use std::alloc::{AllocError, Global};
@@ -164,7 +164,7 @@ pub fn push_base(text: &mut Lines, base: u32)
 fn put_chunk(text: &mut String, at: u32, len: u32) -> Result<(), AllocError>
     ensures { IfOk result (λ _. string_bytes text.new ≡ string_bytes text.old ++ chunk_line (record { at = at; len = len })) }
 {
-    if at % PAGE_SIZE == 0 && len == PAGE_SIZE {
+    if is_page(at, len) {
         writeln!(text, "page {at:08x}")
     } else {
         writeln!(text, "chunk {at:08x} {len}")
@@ -174,8 +174,8 @@ fn put_chunk(text: &mut String, at: u32, len: u32) -> Result<(), AllocError>
 fn put_chunks(text: &mut String, chunks: &PageSet) -> Result<(), AllocError>
     ensures { IfOk result (λ _. string_bytes text.new ≡ string_bytes text.old ++ flat_map chunk_line chunks.now) }
 {
-    for i in 0..chunks.len() {
-        put_chunk(text, chunks.get(i), chunks.size(i))?;
+    for &(at, len) in chunks.as_slice() {
+        put_chunk(text, at, len)?;
     }
     Ok(())
 }

@@ -33,17 +33,8 @@ fn is_within(grants: &PageSet, place: usize, addr: u32, len: u32) -> bool
 
 // The place of the last chunk that begins at an address or before it, or else 0.
 fn search_place(grants: &PageSet, addr: u32) -> u16 {
-    let mut low = 0;
-    let mut high = grants.len();
-    while high - low > 1 {
-        let middle = low + (high - low) / 2;
-        if grants.get(middle) <= addr {
-            low = middle;
-        } else {
-            high = middle;
-        }
-    }
-    low as u16
+    let begun = grants.as_slice().partition_point(|&(at, _)| at <= addr);
+    begun.saturating_sub(1) as u16
 }
 
 impl ChunkMemo {
