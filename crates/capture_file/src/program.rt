@@ -13,7 +13,7 @@ use super::records::number;
 use super::{FileFault, FileKind};
 use byteorder::{ByteOrder, LittleEndian};
 use machine_model::MAX_WORDS;
-use page_table::{MAX_BYTES, MAX_CHUNKS, PAGE_SIZE, PageFault, PageSet, is_page};
+use page_table::{MAX_BYTES, MAX_CHUNKS, PAGE_SIZE, PageFault, PageSet, is_met, is_page};
 use risc_verify::Program;
 use std::alloc::{AllocError, AllocFailed, Global};
 
@@ -181,9 +181,7 @@ impl<'a> Placed<'a> {
         ensures { result ≡ shares_byte (without_grants self.entry.base self.entry.words.now) (chunk at len) }
     {
         let end = u64::from(self.base) + 4 * self.words.len() as u64;
-        let low = self.base.max(at);
-        let high = end.min(u64::from(at) + u64::from(len));
-        u64::from(low) < high
+        is_met(self.base, end, at, len)
     }
 
     fn page_wrong(self, from: u64, at: u32) -> Option<FileKind>

@@ -1,5 +1,5 @@
 -- Granted memory: a list of chunks.
-use Rattle.std.specs.Prelude.{ℕ, zero, suc, ◌+◌, ◌%◌, ◌^◌, ◌≤◌, ◌≡◌, Bool, ◌&&◌, List, [], ◌∷◌, length, Option, Some, None, if◌then◌else◌, nat_lt, nat_le, ◌==◌, slice_index_or}
+use Rattle.std.specs.Prelude.{ℕ, zero, suc, ◌+◌, ◌%◌, ◌^◌, ◌≤◌, ◌≡◌, Bool, ◌&&◌, List, [], ◌∷◌, length, min, max, Option, Some, None, if◌then◌else◌, nat_lt, nat_le, ◌==◌, slice_index_or}
 use Rattle.std.specs.List.{list_any, sum_by}
 
 -- a chunk: the address of its first byte, and its length in bytes
@@ -26,6 +26,10 @@ abbrev pub first_ungranted : List Chunk → ℕ → ℕ → Option ℕ
 first_ungranted chunks address zero = None
 first_ungranted chunks address (suc count) =
     if granted chunks address then first_ungranted chunks (address + 1) count else Some address
+
+-- a chunk shares a byte with the addresses from one up to another
+abbrev pub is_met : ℕ → ℕ → Chunk → Bool
+is_met from to c = nat_lt (max from c.at) (min to (c.at + c.len))
 
 -- the bytes of a page
 abbrev pub page_size : ℕ

@@ -4,7 +4,7 @@
 ghost use Rattle.std.specs.Prelude.{◌≡◌, ◌+◌, ◌*◌, ◌^◌, ◌<◌, ◌≤◌, ◌↔◌, true, false, not, [], length, map, nat_le, IfOk, IfSome, IsTrue, MatchResult, Some, None};
 ghost use Rattle.std.specs.List.{list_any, position, prefix_len, All};
 ghost use Rattle.std.specs.Result.{result_err};
-ghost use Rattle.page_table.specs.Grants.{AreGrants, AreRising, IsChunk, chunk, chunk_at, first_ungranted, is_page, max_bytes, max_chunks, page_size, total};
+ghost use Rattle.page_table.specs.Grants.{AreGrants, AreRising, IsChunk, chunk, chunk_at, first_ungranted, is_met, is_page, max_bytes, max_chunks, page_size, total};
 ghost use Rattle.page_table.specs.Taken.{Answers, first_shared, is_aligned, is_page_address, listed, page_at, pair_chunk, shares, taken_chunks, taken_pages, unless_shared};
 ghost use Rattle.page_table.specs.declared.PageFault.TheVariants.{Memory};
 
@@ -65,6 +65,15 @@ pub fn is_page(at: u32, len: u32) -> bool
     ensures { result ≡ is_page (chunk at len) }
 {
     at % PAGE_SIZE == 0 && len == PAGE_SIZE
+}
+
+/// Whether a chunk, so many bytes from the address `at` on, shares a byte with the addresses from `begin` up
+/// to `end`.
+#[inline]
+pub fn is_met(begin: u32, end: u64, at: u32, len: u32) -> bool
+    ensures { result ≡ is_met begin end (chunk at len) }
+{
+    u64::from(begin.max(at)) < end.min(u64::from(at) + u64::from(len))
 }
 
 fn is_aligned(at: u32, len: u32) -> bool

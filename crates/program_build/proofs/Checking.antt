@@ -14,7 +14,8 @@ use Rattle.picture_model.proofs.Made.{compiled_program}
 use Rattle.picture_model.proofs.Right.{IsFrame-IsRight, IsValid-IsFrame}
 use Rattle.picture_model.proofs.Sections.{compiled_sound}
 use Rattle.planar_plan.proofs.Faults.{none_front}
-use Rattle.program_build.specs.Checks.{IsChecked, is_met}
+use Rattle.page_table.specs.Grants.{is_met}
+use Rattle.program_build.specs.Checks.{IsChecked}
 
 pub checked_program : (d : Desc) → IsChecked d → IsProgram (compiled d)
 checked_program d is = compiled_program d is.description is.valid

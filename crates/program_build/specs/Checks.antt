@@ -1,6 +1,5 @@
 -- What a checked description meets, and the words of its sections.
-use Rattle.std.specs.Prelude.{◌≡◌, ◌+◌, ◌*◌, ◌^◌, ◌≤◌, Bool, List, ℕ, length, max, min, nat_lt}
-use Rattle.page_table.specs.Grants.{Chunk}
+use Rattle.std.specs.Prelude.{◌≡◌, ◌+◌, ◌*◌, ◌^◌, ◌≤◌, List, ℕ, length}
 use Rattle.capture_desc.specs.declared.desc.Desc.{Desc}
 use Rattle.picture_model.specs.Described.{IsDescription}
 use Rattle.picture_model.specs.Geometry.{IsValid}
@@ -21,7 +20,3 @@ pub record AreSections (d : Desc) (at back : ℕ) (words : List ℕ) : Type 0 wh
 pub record HasWords (d : Desc) (kept : List ℕ) : Type 0 where
   pub checked : IsChecked d
   pub words : kept ≡ (compiled d).words
-
--- a chunk shares a byte with the addresses from one up to another
-abbrev pub is_met : ℕ → ℕ → Chunk → Bool
-is_met from to c = nat_lt (max from c.at) (min to (c.at + c.len))

@@ -3,17 +3,16 @@
 ghost use Rattle.std.specs.Prelude.{◌≡◌, ◌+◌, ◌*◌, ◌^◌, not, ◌&&◌, nat_le, IfOk, OnOk, None};
 ghost use Rattle.std.specs.List.{list_any};
 ghost use Rattle.std.specs.Result.{result_err};
-ghost use Rattle.page_table.specs.Grants.{chunk};
+ghost use Rattle.page_table.specs.Grants.{is_met};
 ghost use Rattle.page_table.specs.Taken.{page_at, pair_chunk};
 ghost use Rattle.picture_model.specs.Described.{IsDescription, memory_of};
 ghost use Rattle.picture_model.specs.Geometry.{first_after, is_multiple, program_faults, when};
 ghost use Rattle.picture_model.specs.Programs.{compiled};
 ghost use Rattle.planar_plan.specs.Frames.{Judges};
-ghost use Rattle.program_build.specs.Checks.{is_met};
 
 use crate::sections::sections_words;
 use capture_desc::Desc;
-use page_table::PAGE_SIZE;
+use page_table::{PAGE_SIZE, is_met};
 use picture_model::BuildFault;
 use planar_plan::{BuildError, Frame};
 use std::alloc::Global;
@@ -27,13 +26,6 @@ fn program_base(base: u32, end: u64) -> Result<(), BuildFault>
     } else {
         Err(BuildFault::ProgramBase)
     }
-}
-
-// Whether a chunk shares a byte with a program.
-fn is_met(base: u32, end: u64, at: u32, len: u32) -> bool
-    ensures { result ≡ is_met base end (chunk at len) }
-{
-    u64::from(base.max(at)) < end.min(u64::from(at) + u64::from(len))
 }
 
 fn meets_pages(base: u32, end: u64, pages: &[u32]) -> bool

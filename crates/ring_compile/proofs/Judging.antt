@@ -11,7 +11,8 @@ use Rattle.picture_model.specs.Programs.{words_of}
 use Rattle.ring_compile.specs.declared.fault.RingFault.{RingFault}
 use Rattle.ring_compile.specs.declared.fault.RingFault.TheVariants.{ProgramBase, ProgramOnPage}
 use Rattle.ring_compile.specs.Files.{program_base, program_on_page, when}
-use Rattle.ring_compile.specs.Placed.{is_met, program_end}
+use Rattle.page_table.specs.Grants.{is_met}
+use Rattle.ring_compile.specs.Placed.{program_end}
 use Rattle.std.proofs.lemmas.List.{get_or_default}
 use Rattle.std.proofs.lemmas.List.FromFn.{length-map-range_with_len}
 use Rattle.page_table.specs.Grants.{Chunk, total}

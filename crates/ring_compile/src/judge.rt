@@ -1,5 +1,5 @@
 //! The faults of a ring's place in memory.
-ghost use Rattle.page_table.specs.Grants.{max_chunks};
+ghost use Rattle.page_table.specs.Grants.{is_met, max_chunks};
 ghost use Rattle.std.specs.Prelude.{◌≡◌, ◌∷◌, ◌^◌, ◌<◌, ◌≤◌, length, IfOk};
 ghost use Rattle.std.specs.List.{All, list_any};
 ghost use Rattle.page_table.specs.Scattered.{ArePages, IsScatterList};
@@ -8,14 +8,14 @@ ghost use Rattle.picture_model.specs.Programs.{words_of};
 ghost use Rattle.ring_model.specs.Rings.{IsRing, memory_of, opening, round};
 ghost use Rattle.ring_compile.specs.Files.{◌or◌, Judges, page_fault, page_twice, page_unaligned, place_fault, program_base, program_on_page, too_few_pages};
 ghost use Rattle.ring_compile.specs.Kept.{IsInBounds, IsKept};
-ghost use Rattle.ring_compile.specs.Placed.{is_met, program_end};
+ghost use Rattle.ring_compile.specs.Placed.{program_end};
 ghost use Rattle.ring_compile.specs.Writes.{scattered};
 
 use crate::fault::{RingError, RingFault};
 use crate::ring::{Ring, Values};
 use crate::words::{closing, front_words};
 use field_compile::push_instr;
-use page_table::{PAGE_SIZE, PageFault, PageSet, Scatter, ScatterFault};
+use page_table::{PAGE_SIZE, PageFault, PageSet, Scatter, ScatterFault, is_met};
 use std::alloc::Global;
 
 fn taken(alloc: Global, pages: &[u32]) -> Result<PageSet, PageFault>
@@ -95,8 +95,7 @@ fn judged_base(values: &Values, end: u64) -> Result<(), RingError>
 fn meets_pages(base: u32, end: u64, pages: &[u32]) -> bool
     ensures { result ≡ list_any (λ page. is_met base end (page_at page)) pages.now }
 {
-    pages.iter().any(|page| u64::from(base.max(*page))
-        < end.min(u64::from(*page) + u64::from(PAGE_SIZE)))
+    pages.iter().any(|page| is_met(base, end, *page, PAGE_SIZE))
 }
 
 // Judges a program against the pages.

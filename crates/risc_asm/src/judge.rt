@@ -13,7 +13,7 @@ ghost use Rattle.std.specs.Prelude.{◌≡◌, ◌≢◌, ◌≤◌, ◌<◌, �
 use super::draft::{Draft, read_draft};
 use capture_file::ProgramFile;
 use machine_model::MAX_WORDS;
-use page_table::{MAX_CHUNKS, PageFault, PageSet};
+use page_table::{MAX_CHUNKS, PageFault, PageSet, is_met};
 use risc_listing::{Lines, memory_lines, push_base, push_words};
 use risc_verify::Program;
 use std::alloc::{AllocError, Global};
@@ -52,10 +52,7 @@ fn is_apart(base: u32, words: &[u32], grants: &PageSet) -> bool
 {
     let end = u64::from(base) + 4 * words.len() as u64;
     for i in 0..grants.len() {
-        let at = grants.get(i);
-        let low = base.max(at);
-        let high = end.min(u64::from(at) + u64::from(grants.size(i)));
-        if u64::from(low) < high {
+        if is_met(base, end, grants.get(i), grants.size(i)) {
             return false;
         }
     }

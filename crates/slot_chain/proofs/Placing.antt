@@ -8,7 +8,7 @@ use Rattle.page_table.specs.declared.PageFault.{PageFault}
 use Rattle.page_table.specs.declared.PageFault.TheVariants.{Memory}
 use Rattle.capture_file.proofs.Chunks.{listed_length, not_taken, taken_is}
 use Rattle.machine_model.specs.Paths.{max_words}
-use Rattle.program_build.specs.Checks.{is_met}
+use Rattle.page_table.specs.Grants.{is_met}
 use Rattle.chain_model.specs.Chains.{Chain, chain_limit, unpatched, words_of_parts}
 use Rattle.chain_model.proofs.Slots.{length-alone}
 use Rattle.chain_model.proofs.Words.{length-patched}

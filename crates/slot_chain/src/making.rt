@@ -3,11 +3,10 @@
 ghost use Rattle.std.specs.Prelude.{◌≡◌, ◌+◌, ◌*◌, ◌<◌, ◌≤◌, ◌^◌, ◌++◌, IfErr, IfOk, OnOk, List, length, slice_set, if◌then◌else◌, nat_le, Some, None};
 ghost use Rattle.std.specs.List.{All, list_any};
 ghost use Rattle.std.specs.Result.{result_err};
-ghost use Rattle.page_table.specs.Grants.{AreGrants, Chunk};
+ghost use Rattle.page_table.specs.Grants.{AreGrants, Chunk, is_met};
 ghost use Rattle.page_table.specs.Taken.{listed};
 ghost use Rattle.machine_model.specs.Paths.{IsSound, max_words};
 ghost use Rattle.chain_model.specs.Chains.{Chain as ChainOf, alone, loop_words, max_parts, max_slots, unpatched, words_of_parts};
-ghost use Rattle.program_build.specs.Checks.{is_met};
 ghost use Rattle.risc_verify.specs.Verdicts.{Refuses as RefusesProgram};
 ghost use Rattle.slot_chain.specs.Making.{AreAlone, IsPlaced, RefusesPart, place_fault, refusal};
 ghost use Rattle.slot_chain.specs.States.{chain_of};
@@ -15,7 +14,7 @@ ghost use Rattle.slot_chain.specs.declared.making.ChainError.TheVariants.{Memory
 
 use chain_model::PartWords;
 use machine_model::{Cause, MAX_WORDS};
-use page_table::{PageFault, PageSet};
+use page_table::{PageFault, PageSet, is_met};
 use risc_verify::{Accepted, Program, Steps, Why, verify};
 use std::alloc::{AllocError, Global};
 use std::sync::ledger::Ledger;
@@ -113,10 +112,7 @@ fn meets_chunks(base: u32, count: u32, grants: &PageSet) -> bool
 {
     let end = u64::from(base) + 4 * u64::from(count);
     for i in 0..grants.len() {
-        let at = grants.get(i);
-        let low = base.max(at);
-        let high = end.min(u64::from(at) + u64::from(grants.size(i)));
-        if u64::from(low) < high {
+        if is_met(base, end, grants.get(i), grants.size(i)) {
             return true;
         }
     }

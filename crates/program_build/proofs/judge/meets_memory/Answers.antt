@@ -2,7 +2,7 @@ use Rattle.std.proofs.Common.{◌∙◌, ℕ, List, Option, map, sym, ap}
 use Rattle.std.specs.List.{list_any}
 use Rattle.page_table.specs.Taken.{listed, page_at, pair_chunk}
 use Rattle.picture_model.specs.Described.{memory_from}
-use Rattle.program_build.specs.Checks.{is_met}
+use Rattle.page_table.specs.Grants.{is_met}
 use Rattle.program_build.proofs.Checking.{any_map}
 use Rattle.program_build.proofs.judge.meets_memory.Goals as goal
 

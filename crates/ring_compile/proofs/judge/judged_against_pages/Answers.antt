@@ -2,7 +2,7 @@ use Rattle.std.proofs.Common.{ℕ, ◌∙◌, List, ap}
 use Rattle.std.specs.List.{list_any}
 use Rattle.page_table.specs.Taken.{page_at}
 use Rattle.ring_model.specs.Rings.{Ring}
-use Rattle.ring_compile.specs.Placed.{is_met}
+use Rattle.page_table.specs.Grants.{is_met}
 use Rattle.ring_compile.proofs.Judging.{meets, meets_none, pages_met}
 use Rattle.ring_compile.proofs.judge.judged_against_pages.Goals as goal
 

@@ -1,6 +1,6 @@
 use Rattle.std.proofs.Common.{◌≡◌, ◌+◌, ◌*◌, drop}
 use Rattle.std.specs.List.{list_any}
-use Rattle.program_build.specs.Checks.{is_met}
+use Rattle.page_table.specs.Grants.{is_met}
 use Rattle.slot_chain.proofs.making.meets_chunks.Given as goal
 
 abbrev pub invariant-loop-i : goal.invariant-loop-i
