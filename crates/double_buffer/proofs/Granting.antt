@@ -8,6 +8,7 @@ use Rattle.std.proofs.lemmas.List.Elements.{All-head, All-tail}
 use Rattle.std.proofs.lemmas.List.Folds.{list_any-append}
 use Rattle.std.proofs.lemmas.List.Quantifiers.{position-Some}
 use Rattle.std.proofs.lemmas.List.Sums.{prefix_len_passes}
+use Rattle.page_table.proofs.Listed.{any_listed}
 use Rattle.page_table.specs.Grants.{Chunk}
 use Rattle.page_table.specs.Taken.{all_placed, first_shared, is_aligned, listed, pair_chunk, placed, shares}
 use Rattle.page_table.proofs.Placing.{list_any-placed}
@@ -63,10 +64,6 @@ not_not true = refl
 not_not false = refl
 
 -- ---- tests of chunks that are told by their addresses and lengths
-
-pub any_listed : (p : Chunk → Bool) (pairs : List (ℕ × ℕ)) → list_any p (listed pairs) ≡ list_any (λ pair. p (pair_chunk pair)) pairs
-any_listed p [] = refl
-any_listed p (pair ∷ pairs) = ap (λ (b : Bool). p (pair_chunk pair) || b) (any_listed p pairs)
 
 position-map : {A B : Type 0} (p : B → Bool) (f : A → B) (xs : List A) → position_or_len p (map f xs) ≡ position_or_len (λ x. p (f x)) xs
 position-map p f [] = refl

@@ -5,6 +5,7 @@ use Rattle.std.specs.List.{list_any}
 use Rattle.std.proofs.lemmas.Bool.{eq-eqb, eqb-true, le-ltb, lt-ltb, or_from}
 use Rattle.std.proofs.lemmas.List.Elements.{All-from_recursion, All-head, All-tail}
 use Rattle.std.proofs.lemmas.List.Folds.{list_any-append}
+use Rattle.std.proofs.lemmas.List.Folds.{list_any_none}
 use Rattle.page_table.specs.Grants.{Chunk, covers, granted}
 use Rattle.page_table.specs.Taken.{in_order}
 use Rattle.machine_model.specs.Paths.{max_words, shares_byte}
@@ -133,18 +134,13 @@ clear_by true None false true page e = absurd cc
 clear_by true None false false true e = absurd cc
 clear_by true None false false false e = record { right = refl; apart = refl; few = refl; short = refl; beside = refl }
 
-none_any : (test : Chunk → Bool) (chunks : List Chunk) → All (λ c. test c ≡ false) chunks → list_any test chunks ≡ false
-none_any test [] none = refl
-none_any test (c ∷ rest) none =
-    or_from (test c) (list_any test rest) (All-head (λ c. test c ≡ false) c rest none) (none_any test rest (All-tail (λ c. test c ≡ false) c rest none))
-
 is_short : (c : Chain) → IsChain c → is_too_long c ≡ false
 is_short c is =
     or_from (nat_lt max_words (word_count c)) (nat_lt chain_limit (c.base + 4 * word_count c)) (le-ltb max_words (word_count c) is.few)
     (le-ltb chain_limit (c.base + 4 * word_count c) is.ends)
 
 is_beside : (c : Chain) → IsChain c → is_on_page c ≡ false
-is_beside c is = none_any (shares_byte (alone c None)) c.grants is.apart
+is_beside c is = list_any_none (shares_byte (alone c None)) c.grants is.apart
 
 pub no_fault : (first second : Desc) → first.base % 4 ≡ 0 → shared_chunk first second ≡ None → are_too_many first second ≡ false → IsChain (chain_of_two first second) → chain_fault first second ≡ None
 no_fault first second aligned apart few is =

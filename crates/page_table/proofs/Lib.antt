@@ -9,3 +9,4 @@ pub mod Grants
 pub mod Scattered
 pub mod Ends
 pub mod ScatterLists
+pub mod Listed

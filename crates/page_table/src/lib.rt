@@ -76,6 +76,16 @@ pub fn is_met(begin: u32, end: u64, at: u32, len: u32) -> bool
     u64::from(begin.max(at)) < end.min(u64::from(at) + u64::from(len))
 }
 
+/// Whether one of some chunks, an address and a length in bytes each, shares a byte with the addresses from
+/// `begin` up to `end`.
+pub fn any_met(begin: u32, end: u64, chunks: &[(u32, u32)]) -> bool
+    ensures { result ≡ list_any (λ pair. is_met begin end (pair_chunk pair)) chunks.now }
+{
+    chunks
+        .iter()
+        .any(|chunk| is_met(begin, end, chunk.0, chunk.1))
+}
+
 fn is_aligned(at: u32, len: u32) -> bool
     ensures { result ≡ is_aligned (chunk at len) }
 {
@@ -287,6 +297,14 @@ impl PageSet {
         &self.chunks
     }
 
+    /// Whether a chunk shares a byte with the addresses from `begin` up to `end`.
+    pub fn meets(&self, begin: u32, end: u64) -> bool
+        ensures met { result ≡ list_any (is_met begin end) self.now }
+        ensures grants { AreGrants self.now }
+    {
+        any_met(begin, end, &self.chunks)
+    }
+
     /// Whether a range of so many bytes is granted. The error is the first byte of the range that is
     /// in no chunk.
     pub fn covers(&self, addr: u32, len: u32) -> Result<(), u32>
@@ -313,6 +331,8 @@ mod tests {
         assert_eq!(rt; set.len(), 2);
         assert_eq!(rt; set.get(1), 0x30000);
         assert!(rt; set.as_slice() == [(0x20000, 4096), (0x30000, 4096)].as_slice());
+        assert!(rt; set.meets(0x20ffc, 0x21004));
+        assert!(rt; !set.meets(0x21000, 0x30000));
         assert!(rt; is_page(0x30000, 4096));
         assert!(rt; !is_page(0x30004, 4096));
         Ok(())

@@ -13,7 +13,7 @@ ghost use Rattle.std.specs.Prelude.{◌≡◌, ◌≢◌, ◌≤◌, ◌<◌, �
 use super::draft::{Draft, read_draft};
 use capture_file::ProgramFile;
 use machine_model::MAX_WORDS;
-use page_table::{MAX_CHUNKS, PageFault, PageSet, is_met};
+use page_table::{MAX_CHUNKS, PageFault, PageSet};
 use risc_listing::{Lines, memory_lines, push_base, push_words};
 use risc_verify::Program;
 use std::alloc::{AllocError, Global};
@@ -51,12 +51,7 @@ fn is_apart(base: u32, words: &[u32], grants: &PageSet) -> bool
     ensures { IsTrue result ↔ All (λ c. shares_byte (record { base = base; words = words.now; grants = [] }) c ≡ false) grants.now }
 {
     let end = u64::from(base) + 4 * words.len() as u64;
-    for i in 0..grants.len() {
-        if is_met(base, end, grants.get(i), grants.size(i)) {
-            return false;
-        }
-    }
-    true
+    !grants.meets(base, end)
 }
 
 // The grants of chunks that rise.

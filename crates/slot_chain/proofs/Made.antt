@@ -2,8 +2,7 @@
 use Rattle.std.proofs.Common.{◌≡◌, ℕ, ◌<◌, ◌≤◌, Bool, false, All, List, [], ◌∷◌, length, Option, None, sym, ap, subst, ◌∙◌}
 use Rattle.std.specs.Prelude.{replicate, slice_index_or}
 use Rattle.std.specs.List.{list_any}
-use Rattle.std.proofs.lemmas.Bool.{or_parts}
-use Rattle.std.proofs.lemmas.List.Elements.{All-nil, All-cons}
+use Rattle.page_table.proofs.Listed.{none_passes}
 use Rattle.page_table.specs.Grants.{Chunk}
 use Rattle.machine_model.specs.Paths.{RiscProgram, shares_byte}
 use Rattle.chain_model.specs.declared.PartWords.{PartWords}
@@ -13,12 +12,6 @@ use Rattle.slot_chain.specs.Making.{AreAlone, place_fault}
 use Rattle.slot_chain.specs.States.{chain_of}
 use Rattle.slot_chain.specs.Wheels.{IsWheel}
 use Rattle.slot_chain.proofs.Placing.{placed}
-
-none_of : (test : Chunk → Bool) (chunks : List Chunk) → list_any test chunks ≡ false → All (λ c. test c ≡ false) chunks
-none_of test [] e = All-nil (λ c. test c ≡ false)
-none_of test (c ∷ rest) e =
-    let parts = or_parts (test c) (list_any test rest) e in
-    All-cons (λ c. test c ≡ false) c rest parts.0 (none_of test rest parts.1)
 
 module _ (chain : Chain) (slots : (1 ≤ chain.slots) × (chain.slots ≤ max_slots)) (parts : length chain.parts ≤ max_parts) (belong : All (λ part. part.slot < chain.slots) chain.parts)
     (none : place_fault chain ≡ None) where
@@ -32,7 +25,7 @@ module _ (chain : Chain) (slots : (1 ≤ chain.slots) × (chain.slots ≤ max_sl
         aligned = place.aligned;
         few = place.few;
         ends = place.ends;
-        apart = none_of (shares_byte (alone chain None)) chain.grants place.apart;
+        apart = none_passes (shares_byte (alone chain None)) chain.grants place.apart;
       }
 
   pub first_wheel : (running : RiscProgram) (programs : List RiscProgram) → AreAlone chain programs → running ≡ alone chain None → IsWheel chain running programs None

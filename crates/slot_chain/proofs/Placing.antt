@@ -117,14 +117,14 @@ module _ (chain : Chain) (none : place_fault chain ≡ None) where
 
 -- ---- a copy of grants
 
-pub copied : (pairs list : List (ℕ × ℕ)) (grants found : List Chunk) → AreGrants grants → listed pairs ≡ grants → list ≡ pairs → Answers (taken_chunks list) (Ok found) → found ≡ grants
-copied pairs list grants found are is same answer =
-    let all = subst AreGrants (sym (ap listed same ∙ is)) are in
+pub copied : (list : List (ℕ × ℕ)) (grants found : List Chunk) → AreGrants grants → listed list ≡ grants → Answers (taken_chunks list) (Ok found) → found ≡ grants
+copied list grants found are is answer =
+    let all = subst AreGrants (sym is) are in
     let long = listed_length list in
-    taken_is list found all.rising (rw (← long) at all.few) all.small answer ∙ ap listed same ∙ is
+    taken_is list found all.rising (rw (← long) at all.few) all.small answer ∙ is
 
-pub not_copied : (pairs list : List (ℕ × ℕ)) (grants : List Chunk) (fault : PageFault) → AreGrants grants → listed pairs ≡ grants → list ≡ pairs → Answers (taken_chunks list) (Err fault) → (fault ≡ Memory → ⊥) → ⊥
-not_copied pairs list grants fault are is same answer other =
-    let all = subst AreGrants (sym (ap listed same ∙ is)) are in
+pub not_copied : (list : List (ℕ × ℕ)) (grants : List Chunk) (fault : PageFault) → AreGrants grants → listed list ≡ grants → Answers (taken_chunks list) (Err fault) → (fault ≡ Memory → ⊥) → ⊥
+not_copied list grants fault are is answer other =
+    let all = subst AreGrants (sym is) are in
     let long = listed_length list in
     not_taken list fault all.rising (rw (← long) at all.few) all.small answer other

@@ -3,8 +3,7 @@
 ghost use Rattle.std.specs.Prelude.{◌≡◌, ◌+◌, ◌*◌, ◌<◌, ◌≤◌, ◌^◌, ◌++◌, IfErr, IfOk, OnOk, List, length, slice_set, if◌then◌else◌, nat_le, Some, None};
 ghost use Rattle.std.specs.List.{All, list_any};
 ghost use Rattle.std.specs.Result.{result_err};
-ghost use Rattle.page_table.specs.Grants.{AreGrants, Chunk, is_met};
-ghost use Rattle.page_table.specs.Taken.{listed};
+ghost use Rattle.page_table.specs.Grants.{Chunk, is_met};
 ghost use Rattle.machine_model.specs.Paths.{IsSound, max_words};
 ghost use Rattle.chain_model.specs.Chains.{Chain as ChainOf, alone, loop_words, max_parts, max_slots, unpatched, words_of_parts};
 ghost use Rattle.risc_verify.specs.Verdicts.{Refuses as RefusesProgram};
@@ -14,7 +13,7 @@ ghost use Rattle.slot_chain.specs.declared.making.ChainError.TheVariants.{Memory
 
 use chain_model::PartWords;
 use machine_model::{Cause, MAX_WORDS};
-use page_table::{PageFault, PageSet, is_met};
+use page_table::{PageFault, PageSet};
 use risc_verify::{Accepted, Program, Steps, Why, verify};
 use std::alloc::{AllocError, Global};
 use std::sync::ledger::Ledger;
@@ -110,13 +109,7 @@ fn retargeted(alloc: Global, words: &[u32], slot: u32, target: u32) -> Result<Ve
 fn meets_chunks(base: u32, count: u32, grants: &PageSet) -> bool
     ensures { result ≡ list_any (is_met base (base + 4 * count)) grants.now }
 {
-    let end = u64::from(base) + 4 * u64::from(count);
-    for i in 0..grants.len() {
-        if is_met(base, end, grants.get(i), grants.size(i)) {
-            return true;
-        }
-    }
-    false
+    grants.meets(base, u64::from(base) + 4 * u64::from(count))
 }
 
 /// Judges where a chain stands.
@@ -161,24 +154,11 @@ pub(crate) fn empty_words(
     Ok(words)
 }
 
-/// The addresses and lengths of some chunks.
-fn pairs_of(alloc: Global, grants: &PageSet) -> Result<Vec<(u32, u32)>, AllocError>
-    ensures pairs { IfOk result (λ pairs. listed pairs.items ≡ grants.now) }
-    ensures grants { OnOk result (AreGrants grants.now) }
-{
-    let mut pairs = Vec::new(alloc);
-    for i in 0..grants.len() {
-        pairs.push((grants.get(i), grants.size(i)))?;
-    }
-    Ok(pairs)
-}
-
 /// A copy of some grants.
 fn copy_of(alloc: Global, grants: &PageSet) -> Result<PageSet, AllocError>
     ensures { IfOk result (λ copy. copy ≡ grants.now) }
 {
-    let pairs = pairs_of(alloc, grants)?;
-    match PageSet::from_chunks(alloc, &pairs) {
+    match PageSet::from_chunks(alloc, grants.as_slice()) {
         Ok(copy) => Ok(copy),
         Err(PageFault::Memory) => Err(AllocError),
         Err(PageFault::TooMany) => unreachable!(),

@@ -17,7 +17,7 @@ returns-in-None c =
 pub returns-in-Some : goal.returns-in-Some
 returns-in-Some c =
     let met = is_met c.args.base c.args.end in
-    c.meets_chunks.ensures
+    c.any_met.ensures
     ∙ sym (any_map met pair_chunk c.as_slice-in-Some.result.now)
     ∙ ap (λ (pairs : List (ℕ × ℕ)). list_any met (listed pairs)) c.as_slice-in-Some.ensures
     ∙ ap (λ (chunks : Option (List (ℕ × ℕ))). list_any met (memory_from chunks c.args.desc.now.pages)) (sym c.in-Some.is)
