@@ -17,11 +17,11 @@ use Rattle.capture_desc.specs.declared.desc.Fields.{Fields}
 use Rattle.capture_desc.specs.declared.desc.Fields.TheVariants as fields
 use Rattle.picture_model.specs.Described.{describes, memory_of}
 use Rattle.picture_model.specs.Programs.{body, closing, opening, section, section_length, sections, sections_by, words_of}
-use Rattle.picture_model.proofs.Circle.{Goes, IsAt, IsFineInstr, IsPlain, IsSome, Lead, lead_plain, split_length, words_split}
+use Rattle.picture_model.proofs.Circle.{Goes, IsAt, IsFineInstr, IsPlain, IsSome, Lead, lead_at, lead_plain, split_length, words_split}
 use Rattle.picture_model.proofs.Each.{Each, each_append, each_only}
 use Rattle.picture_model.proofs.Fine.{IsGoodInstr}
 use Rattle.picture_model.proofs.Right.{IsRight, IsFrame-IsRight}
-use Rattle.picture_model.proofs.Sections.{good_body, section_long, signal_spelled}
+use Rattle.picture_model.proofs.Sections.{closing_fine, good_body, section_long}
 use Rattle.chain_model.specs.Chains.{Chain, IsChain, alone, alone_in, head, jump_word, next, part_at, part_of, slot_at, target, unpatched}
 use Rattle.chain_model.proofs.Slots.{jumps_to, length-alone, part_at-own, part_at-unpatched, slot_is_word}
 use Rattle.chain_model.proofs.Words.{back_read, slot_read, word_there}
@@ -79,24 +79,12 @@ module _ (d : Desc) (at back : ℕ) where
       (lead_plain There (opening Top ∷ body d Top) (closing Top middle) (section d Bottom back) (plain Top refl) (mid refl)
       (lead_plain There (opening Bottom ∷ body d Bottom) (closing Bottom back) [] (plain Bottom refl) last tt))
 
-goes_at : (There : ℕ → Type 0) (before : List Instr) (i : Instr) (after : List Instr) → Lead There (before ++ i ∷ after) → Goes There i after
-goes_at There [] i after leads = leads.0
-goes_at There (b ∷ before) i after leads = goes_at There before i after leads.1
-
 module _ (d : Desc) (at back : ℕ) where
   module _ (program : RiscProgram) where
-    closing_fine : (field : Parity) (target : ℕ) → is_word program target ≡ true → IsFineInstr program (closing field target)
-    closing_fine field target word =
-        record {
-          spelled = signal_spelled field target;
-          some = omega arith;
-          fine = λ before. cond-true (is_word program target) _ _ word;
-        }
-
     one_fine : (field : Parity) (target : ℕ) → Each (IsFineInstr program) (opening field ∷ body d field) → is_word program target ≡ true →
         Each (IsFineInstr program) (section d field target)
     one_fine field target inner word =
-        each_append (IsFineInstr program) (opening field ∷ body d field) (closing field target ∷ []) inner (closing_fine field target word, tt)
+        each_append (IsFineInstr program) (opening field ∷ body d field) (closing field target ∷ []) inner (closing_fine program field target word, tt)
 
     pub fine_by : (which : Fields) → ((field : Parity) → describes which field ≡ true → Each (IsFineInstr program) (opening field ∷ body d field)) → is_word program back ≡ true →
         (which ≡ fields.Both → is_word program (middle d at back) ≡ true) → Each (IsFineInstr program) (sections_by which d at back)
@@ -281,7 +269,7 @@ module _ (chain : Chain) (is : IsChain chain) (part : ℕ) (there : part < lengt
       let none : cause_at program place ≡ None = ap (reading_cause program place.target) read ∙ clean.fine place.target in
       let next : next_place program place ≡ place_after at.instr (length (encoded at.instr)) place =
       ap (λ (cause : Option Cause). next_by cause program place) none ∙ ap (λ (reading : Reading). place_read reading place) read in
-      let goes = goes_at Here at.before at.instr at.after (subst (Lead Here) at.split leads) in
+      let goes = lead_at Here at.before at.instr at.after (subst (Lead Here) at.split leads) in
       record {
         no_cause = none;
         onwards =

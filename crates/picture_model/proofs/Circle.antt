@@ -61,7 +61,7 @@ lead_plain There [] i rest plain goes leads = (goes, leads)
 lead_plain There (x ∷ xs) i rest plain goes leads =
     (plain_goes There x (xs ++ i ∷ rest) plain.0 (some_append xs i rest), lead_plain There xs i rest plain.1 goes leads)
 
-lead_at : (There : ℕ → Type 0) (before : List Instr) (i : Instr) (after : List Instr) → Lead There (before ++ i ∷ after) → Goes There i after
+pub lead_at : (There : ℕ → Type 0) (before : List Instr) (i : Instr) (after : List Instr) → Lead There (before ++ i ∷ after) → Goes There i after
 lead_at There [] i after leads = leads.0
 lead_at There (b ∷ before) i after leads = lead_at There before i after leads.1
 

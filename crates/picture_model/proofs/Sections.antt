@@ -77,7 +77,7 @@ pub signal_spelled : (field : Parity) (target : ℕ) → IsInstr (closing field 
 signal_spelled Top target = (refl, tt)
 signal_spelled Bottom target = (refl, tt)
 
-closing_fine : (program : RiscProgram) (field : Parity) (target : ℕ) → is_word program target ≡ true → IsFineInstr program (closing field target)
+pub closing_fine : (program : RiscProgram) (field : Parity) (target : ℕ) → is_word program target ≡ true → IsFineInstr program (closing field target)
 closing_fine program field target word =
     record {
       spelled = signal_spelled field target;
