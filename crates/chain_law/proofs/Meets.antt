@@ -9,7 +9,7 @@ use Rattle.machine_model.specs.Paths.{RiscProgram}
 use Rattle.machine_model.specs.States.{State}
 use Rattle.machine_model.specs.Steps.{Turn, run_in, step, with_program}
 use Rattle.machine_model.specs.Safety.{IsStep}
-use Rattle.machine_model.proofs.Fixed.{program-step}
+use Rattle.machine_model.proofs.ProgramStays.{program-step}
 use Rattle.field_law.specs.Sections.{Section}
 use Rattle.field_law.specs.Arrivals.{Met, after, has_signal, is_signal}
 use Rattle.chain_model.specs.Chains.{Chain, IsChain, IsPatching, IsSoundChain, Patching, patched}

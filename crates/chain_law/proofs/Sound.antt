@@ -19,8 +19,8 @@ use Rattle.picture_model.specs.Described.{describes, memory_of}
 use Rattle.picture_model.specs.Programs.{body, closing, opening, section, section_length, sections, sections_by, words_of}
 use Rattle.picture_model.proofs.Circle.{Goes, IsAt, IsFineInstr, IsPlain, IsSome, Lead, lead_at, lead_plain, split_length, words_split}
 use Rattle.picture_model.proofs.Each.{Each, each_append, each_only}
-use Rattle.picture_model.proofs.Fine.{IsGoodInstr}
-use Rattle.picture_model.proofs.Right.{IsRight, IsFrame-IsRight}
+use Rattle.picture_model.proofs.FaultlessLines.{IsGoodInstr}
+use Rattle.picture_model.proofs.FaultlessGeometry.{IsRight, IsFrame-IsRight}
 use Rattle.picture_model.proofs.Sections.{closing_fine, good_body, section_long}
 use Rattle.chain_model.specs.Chains.{Chain, IsChain, alone, alone_in, head, jump_word, next, part_at, part_of, slot_at, target, unpatched}
 use Rattle.chain_model.proofs.Slots.{jumps_to, length-alone, part_at-own, part_at-unpatched, slot_is_word}

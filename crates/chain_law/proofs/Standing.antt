@@ -16,7 +16,7 @@ use Rattle.capture_desc.specs.declared.desc.Fields.TheVariants as fields
 use Rattle.picture_model.specs.Described.{describes}
 use Rattle.picture_model.specs.Programs.{begin_by, body, closing, compiled, next_by, opening, section, section_begin, section_next, sections, signal, words_of}
 use Rattle.picture_model.proofs.Circle.{words_split}
-use Rattle.picture_model.proofs.Right.{IsRight, IsFrame-IsRight}
+use Rattle.picture_model.proofs.FaultlessGeometry.{IsRight, IsFrame-IsRight}
 use Rattle.picture_model.proofs.Sections.{good_body, section_stands, signal_spelled}
 use Rattle.field_law.specs.Sections.{Holds, HoldsFrom, IsPlain, Stands, StandsFrom}
 use Rattle.field_law.proofs.OnPath.{pc_after, sound_holds}

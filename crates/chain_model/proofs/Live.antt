@@ -16,12 +16,12 @@ use Rattle.machine_model.specs.Turns.{turn}
 use Rattle.machine_model.specs.Steps.{Step, Push, Control, Turn, Host, with_program}
 use Rattle.machine_model.specs.Accesses.{AreFetchedAlike, fetched_by, fetches_if, fetches, word_addresses, words_read, writes}
 use Rattle.machine_model.specs.Safety.{TargetAt, JobAt, IsSafe, IsStep, StaysInside}
-use Rattle.machine_model.proofs.Beside.{IsReadAlike, turn-with_program}
-use Rattle.machine_model.proofs.Fixed.{program-step}
+use Rattle.machine_model.proofs.SameTurn.{IsReadAlike, turn-with_program}
+use Rattle.machine_model.proofs.ProgramStays.{program-step}
 use Rattle.machine_model.proofs.Following.{idle_there}
-use Rattle.machine_model.proofs.Inside.{fetch-inside, writes-granted}
+use Rattle.machine_model.proofs.WritesAndFetches.{fetch-inside, writes-granted}
 use Rattle.machine_model.proofs.Orderly.{IsOrderly-with_program}
-use Rattle.machine_model.proofs.Rows.{idle-IsFine}
+use Rattle.machine_model.proofs.BeforeTurns.{idle-IsFine}
 use Rattle.machine_model.proofs.Safe.{IsSafe-step, IsSafe-first_state}
 use Rattle.chain_model.specs.Chains.{Chain, Patching, IsChain, IsPart, IsSoundChain, Belongs, IsPatching, alone, alone_in, jump_word, part_at, patched, slot_at, target, unpatched}
 use Rattle.chain_model.specs.Live.{Live, LiveStep, Plain, Patch, IsLive, IsLiveStep, LiveInside, first_live, live_at, live_run, live_step}

@@ -12,7 +12,7 @@ use Rattle.risc_word.specs.Words.{Reading, control_bits}
 use Rattle.machine_model.specs.declared.Cause.{Cause}
 use Rattle.machine_model.specs.Paths.{RiscProgram, Place, is_word, word_number, fetch, reading_cause, cause_at, next_by, next_place, place_after, place_read, path, IsSound}
 use Rattle.machine_model.proofs.Places.{place-IsFine, path-suc, jump-is_word, instr-fine}
-use Rattle.machine_model.proofs.Rows.{is_word-IsWord, fetch-is_word}
+use Rattle.machine_model.proofs.BeforeTurns.{is_word-IsWord, fetch-is_word}
 use Rattle.chain_model.specs.Chains.{Chain, Patching, IsChain, IsPart, IsSoundChain, Belongs, alone, alone_in, chain_limit, head, jump_word, next, part_at, part_of, patched, slot_at, target, unpatched}
 use Rattle.chain_model.proofs.Words.{word_there, slot_read, back_read, operand_read, length-patched}
 

@@ -8,7 +8,7 @@ use Rattle.risc_word.specs.declared.WordFault.TheVariants.{Cut, Reserved}
 use Rattle.risc_word.specs.Words.{by_opcode, control_bits, first_instr, instr_at}
 use Rattle.machine_model.specs.Paths.{RiscProgram, is_word, word_number, fetch}
 use Rattle.machine_model.specs.Accesses.{AreFetchedAlike}
-use Rattle.machine_model.proofs.Rows.{IsWord-is_word, is_word-IsWord}
+use Rattle.machine_model.proofs.BeforeTurns.{IsWord-is_word, is_word-IsWord}
 use Rattle.chain_model.specs.Chains.{Chain, Patching, chain_limit, jump_word, loop_words, part_at, patched, slot_at, target, words_of_parts}
 
 -- ---- a word of a program, by its number

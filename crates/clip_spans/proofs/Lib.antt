@@ -3,4 +3,4 @@ pub mod Covered
 pub mod Merging
 pub mod Sorting
 pub mod Few
-pub mod Alike
+pub mod RowsAlike

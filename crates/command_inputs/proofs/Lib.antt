@@ -2,4 +2,4 @@ pub mod UpToLimit
 mod Described
 mod Ringed
 mod Lengths
-pub mod Whole
+pub mod WholeFiles

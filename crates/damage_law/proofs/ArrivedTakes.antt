@@ -24,7 +24,7 @@ use Rattle.field_law.specs.Fields.{Mark, Row, Token, carried, is_ending}
 use Rattle.field_law.specs.Sections.{Ask, Await, Begin, GoOn, IsUsedUp, UsesTo, ask_of, asks}
 use Rattle.field_law.proofs.Lines.{Follows, ending-UnderWay, part-last, part-length}
 use Rattle.field_law.proofs.Running.{some_rest}
-use Rattle.field_law.proofs.Served.{AnyRest, Front, Takes, application, front as front_of}
+use Rattle.field_law.proofs.AskedAndToCome.{AnyRest, Front, Takes, application, front as front_of}
 use Rattle.field_law.proofs.Within.{IsMade, IsWithin, WithinJob, front_entries, judged-Within}
 
 -- how many bytes are still asked of a queue in the line under way

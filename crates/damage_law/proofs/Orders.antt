@@ -15,7 +15,7 @@ use Rattle.fifo_model.specs.declared.Queue.{Queue}
 use Rattle.fifo_model.specs.declared.Queue.TheVariants.{One, Two, Three}
 use Rattle.fifo_model.specs.Queues.{IsQueue, QueueState, Queues, all_entered, cleared, control_answer, control_entry, emptied, entered, first, front, is_full, more, overrun, push_answer, queue_state, removed, some_full, taken_from, taken_more, valid_of, with_queue_state}
 use Rattle.fifo_model.specs.declared.Pushed.TheVariants.{Held, Overrun}
-use Rattle.fifo_model.proofs.Kept.{IsQueue-queue_state}
+use Rattle.fifo_model.proofs.ChangesKeepQueues.{IsQueue-queue_state}
 use Rattle.irq_status.specs.declared.HostWrite.{HostWrite}
 use Rattle.irq_status.specs.declared.HostWrite.TheVariants.{Ack, Enable, Trigger}
 use Rattle.fifo_model.proofs.QueueStates.{queue_state-with_queue_state}

@@ -19,7 +19,7 @@ use Rattle.picture_model.specs.Places.{byte_clipped, place}
 use Rattle.picture_model.specs.Plans.{Cut, Follow, Strip, Track, cuts_of, ends_of, grain_bytes, grains_of, kind_of, piece_of, skipped_strip, vbi_strip}
 use Rattle.picture_model.specs.Programs.{compiled, instr_by, instr_of}
 use Rattle.picture_model.proofs.Grains.{row_grains}
-use Rattle.picture_model.proofs.Right.{IsRight}
+use Rattle.picture_model.proofs.FaultlessGeometry.{IsRight}
 use Rattle.picture_model.proofs.Safe.{cuts_follow}
 use Rattle.picture_model.proofs.Strips.{IsStrip}
 use Rattle.picture_model.proofs.Strips.{row-IsStrip, skipped-IsStrip, vbi-IsStrip}
@@ -29,8 +29,8 @@ use Rattle.field_law.proofs.CutLines.{address_behind, address_here}
 use Rattle.picture_law.specs.Pictures.{FieldByte, of_row, of_vbi, IsKeptAt, has_plane, plane_of}
 use Rattle.picture_law.proofs.Body.{field_row_strip, row_below, row_starts, skipped_starts}
 use Rattle.picture_law.proofs.Cuts.{Starts, cut_address, cut_asks, line_part_of, line_parts_of, moves, piece_asks, track_on}
-use Rattle.picture_law.proofs.Goes.{queue_plane, queue_row_goes, row_track_on, skipped_goes, vbi_goes}
-use Rattle.picture_law.proofs.Kept.{kept_granted, kept_once, unless_clipped}
+use Rattle.picture_law.proofs.BytePlaces.{queue_plane, queue_row_goes, row_track_on, skipped_goes, vbi_goes}
+use Rattle.picture_law.proofs.KeptBytes.{kept_granted, kept_once, unless_clipped}
 use Rattle.damage_law.proofs.PlacedTakes.{address_on, count_on}
 
 -- ---- what an instruction of a line asks

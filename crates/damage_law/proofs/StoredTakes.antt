@@ -22,7 +22,7 @@ use Rattle.machine_model.proofs.Fronts.{take-Takes}
 use Rattle.field_law.specs.Arrivals.{is_queue}
 use Rattle.field_law.specs.Sections.{laid}
 use Rattle.field_law.proofs.Lines.{valid-most}
-use Rattle.field_law.proofs.Served.{laid-append, stores_at-laid}
+use Rattle.field_law.proofs.AskedAndToCome.{laid-append, stores_at-laid}
 use Rattle.damage_law.specs.Takings.{Taking, burst_takings, left, taking_by, takings_of}
 use Rattle.damage_law.proofs.ArrivedTakes.{demand_apart, demand_there}
 

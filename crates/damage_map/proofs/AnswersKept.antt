@@ -34,7 +34,7 @@ use Rattle.machine_model.specs.States.{State, first_state}
 use Rattle.machine_model.specs.Steps.{Step, Push, Control, Turn, Host, host, run, step, with_fifo, with_risc}
 use Rattle.machine_model.specs.Turns.{common_code, counted, fetched, is_done, lowest_served, lowest_stray, turn, turn_if, worked}
 use Rattle.machine_model.specs.Seen.{address_before, applications, code_did, data_did, fetched_did, gives_up, instr_did, seen, seen_alone, seen_if, seen_in, seen_running, seen_served, waited_did}
-use Rattle.machine_model.proofs.Fixed.{chunks-step, program-step}
+use Rattle.machine_model.proofs.ProgramStays.{chunks-step, program-step}
 use Rattle.machine_model.proofs.Orderly.{IsOrderly-first_state, IsOrderly-step}
 use Rattle.machine_model.proofs.Runs.{run-append}
 use Rattle.capture_desc.specs.declared.desc.Desc.{Desc}
@@ -42,7 +42,7 @@ use Rattle.capture_desc.specs.declared.desc.Fields.{Fields}
 use Rattle.capture_desc.specs.declared.desc.Fields.TheVariants as fields
 use Rattle.picture_model.specs.Described.{describes}
 use Rattle.picture_model.specs.Programs.{begin_by, body, closing, compiled, no_control, opening, section_begin, section_next, signal, sync, vertical, words_of}
-use Rattle.picture_model.proofs.Right.{IsRight, IsFrame-IsRight, IsValid-IsFrame}
+use Rattle.picture_model.proofs.FaultlessGeometry.{IsRight, IsFrame-IsRight, IsValid-IsFrame}
 use Rattle.picture_model.proofs.Sections.{good_body, section_stands}
 use Rattle.field_law.specs.Sections.{HoldsFrom, closing_at, words_in}
 use Rattle.field_law.specs.Arrivals.{is_idle, is_signal}

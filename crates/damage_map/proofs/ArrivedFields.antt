@@ -25,7 +25,7 @@ use Rattle.picture_model.specs.Described.{both, describes, field_height, picture
 use Rattle.picture_model.specs.Described.{rows_of as rows_described}
 use Rattle.picture_model.specs.Programs.{body, compiled, section_begin, section_next, signal}
 use Rattle.picture_model.proofs.Each.{Each}
-use Rattle.picture_model.proofs.Right.{IsRight, IsFrame-IsRight, IsValid-IsFrame}
+use Rattle.picture_model.proofs.FaultlessGeometry.{IsRight, IsFrame-IsRight, IsValid-IsFrame}
 use Rattle.field_law.specs.Arrivals.{AreKept, Arrives, Met, after, coming, has_signal, is_signal, meeting, over_queues}
 use Rattle.field_law.specs.Fields.{Token}
 use Rattle.field_law.specs.Sections.{Holds, HoldsFrom, Section, Uses, closing_at}

@@ -28,14 +28,14 @@ use Rattle.machine_model.specs.Turns.{Store, begun_with, burst, burst_of, common
 use Rattle.machine_model.specs.Seen.{Application, address_before, applications, data_did, discards_reserved, ends, fetched_did, instr_did, seen, seen_alone, seen_burst, seen_if, seen_in, seen_running, seen_served, takes, waited_did}
 use Rattle.capture_desc.specs.declared.desc.Desc.{Desc}
 use Rattle.picture_model.specs.Programs.{compiled}
-use Rattle.picture_model.proofs.Right.{IsRight}
+use Rattle.picture_model.proofs.FaultlessGeometry.{IsRight}
 use Rattle.field_law.specs.Arrivals.{IsKept, is_idle, is_queue, is_signal}
 use Rattle.field_law.specs.Fields.{Token}
 use Rattle.field_law.specs.Sections.{Ask, Holds, HoldsFrom, IsPlain, Section, Uses, IsUsedUp, ask_of, asked, asks, closing_at, words_in}
 use Rattle.field_law.proofs.InSection.{Settling, StandsIn, begins_in}
 use Rattle.field_law.proofs.Opening.{IsReached}
 use Rattle.field_law.proofs.Running.{done_rest}
-use Rattle.field_law.proofs.Served.{AnyRest}
+use Rattle.field_law.proofs.AskedAndToCome.{AnyRest}
 use Rattle.field_law.proofs.Within.{IsMade, IsWithin, job_asks}
 use Rattle.damage_law.proofs.ArrivedTakes.{Took, burst-Took, left_in_line}
 use Rattle.damage_law.proofs.Orders.{queue_is}

@@ -27,14 +27,14 @@ use Rattle.picture_model.specs.Plans.{Cut, Follow, Strip, cuts_of, grain_bytes, 
 use Rattle.picture_model.specs.Programs.{body, data_code, instr_by, instr_of, line_instrs, lines_instrs, section_begin, sync, vbi_from, vbi_instrs, vbi_strips}
 use Rattle.picture_model.proofs.Each.{Each, each_map, each_range, each_replicate}
 use Rattle.picture_model.proofs.Grains.{row_grains}
-use Rattle.picture_model.proofs.Right.{IsRight}
+use Rattle.picture_model.proofs.FaultlessGeometry.{IsRight}
 use Rattle.picture_model.proofs.Safe.{cuts_follow}
 use Rattle.picture_model.proofs.Sections.{rows_below}
 use Rattle.picture_model.proofs.Strips.{IsStrip, row-IsStrip, skipped-IsStrip, vbi-IsStrip}
 use Rattle.field_law.specs.Sections.{words_in}
 use Rattle.picture_law.specs.Pictures.{has_plane, plane_of}
 use Rattle.picture_law.proofs.Cuts.{moves, on_queue, track_on}
-use Rattle.picture_law.proofs.Goes.{grain_some, queue_plane, row_track_on}
+use Rattle.picture_law.proofs.BytePlaces.{grain_some, queue_plane, row_track_on}
 use Rattle.damage_law.specs.Marks.{addresses_from, before_rows, lines_from, row_addresses}
 use Rattle.damage_law.proofs.Pieces.{cuts_further, plane_moves}
 use Rattle.damage_map.specs.Tracks.{max_lines}

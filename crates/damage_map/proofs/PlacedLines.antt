@@ -14,7 +14,7 @@ use Rattle.picture_model.specs.Described.{both, describes, field_height, layout_
 use Rattle.picture_model.specs.Plans.{Cut, Strip, piece_of, row_strip, skipped_strip, vbi_strip}
 use Rattle.picture_model.specs.Programs.{body, compiled, data_code, instr_of, line_instrs, lines_instrs, section_begin, section_next, signal, sync, vbi_from, vbi_instrs, vbi_strips}
 use Rattle.picture_model.proofs.Each.{Each, each_map, each_range, each_replicate}
-use Rattle.picture_model.proofs.Right.{IsRight}
+use Rattle.picture_model.proofs.FaultlessGeometry.{IsRight}
 use Rattle.field_law.specs.Sections.{HoldsFrom, words_in}
 use Rattle.picture_law.proofs.Program.{section_holds}
 use Rattle.damage_law.specs.Marks.{addresses_from, before_rows, lines_from, row_addresses}

@@ -10,13 +10,13 @@ use Rattle.fifo_model.specs.declared.Queue.{Queue}
 use Rattle.page_table.specs.Blocks.{byte_at}
 use Rattle.pixel_layout.specs.declared.Parity.{Parity}
 use Rattle.machine_model.specs.States.{State}
-use Rattle.machine_model.proofs.Rows.{fetch-KnownAt}
+use Rattle.machine_model.proofs.BeforeTurns.{fetch-KnownAt}
 use Rattle.capture_desc.specs.declared.desc.Desc.{Desc}
 use Rattle.picture_model.specs.Described.{describes, memory_of}
 use Rattle.picture_model.specs.Plans.{Cut, piece_of}
 use Rattle.picture_model.specs.Programs.{compiled, instr_of}
 use Rattle.picture_model.proofs.Each.{Each, each_only}
-use Rattle.picture_model.proofs.Right.{IsRight}
+use Rattle.picture_model.proofs.FaultlessGeometry.{IsRight}
 use Rattle.field_law.specs.CutLines.{address_in}
 use Rattle.field_law.specs.Sections.{HoldsFrom}
 use Rattle.field_law.proofs.CutLines.{address_behind, address_here}

@@ -28,12 +28,12 @@ use Rattle.machine_model.specs.States.{State}
 use Rattle.machine_model.specs.Steps.{Turn}
 use Rattle.machine_model.specs.Turns.{burst, burst_of, code_seen, common_code, counted, fetched, is_done, lowest_served, lowest_stray, met, ran, retired, stored_all, stray_seen, turn, turn_if, with_fdsr_unless, without_codes, worked}
 use Rattle.machine_model.proofs.Memory.{chunks-stored_all}
-use Rattle.machine_model.proofs.Rows.{fetch-KnownAt}
+use Rattle.machine_model.proofs.BeforeTurns.{fetch-KnownAt}
 use Rattle.machine_model.proofs.Stored.{memory-turn}
 use Rattle.capture_desc.specs.declared.desc.Desc.{Desc}
 use Rattle.picture_model.specs.Described.{describes}
 use Rattle.picture_model.specs.Programs.{compiled, sync}
-use Rattle.picture_model.proofs.Right.{IsRight}
+use Rattle.picture_model.proofs.FaultlessGeometry.{IsRight}
 use Rattle.field_law.specs.Arrivals.{is_queue}
 use Rattle.field_law.specs.Sections.{HoldsFrom, IsPlain, laid, words_in}
 use Rattle.field_law.proofs.Running.{done_rest}

@@ -27,7 +27,7 @@ use Rattle.machine_model.specs.Turns.{apply, apply_in, begun_with, burst, counte
 use Rattle.capture_desc.specs.declared.desc.Desc.{Desc}
 use Rattle.picture_model.specs.Described.{describes}
 use Rattle.picture_model.specs.Programs.{compiled}
-use Rattle.picture_model.proofs.Right.{IsRight}
+use Rattle.picture_model.proofs.FaultlessGeometry.{IsRight}
 use Rattle.field_law.specs.Sections.{IsPlain}
 use Rattle.damage_law.specs.Marks.{is_among}
 use Rattle.damage_law.specs.Takings.{Taking, burst_takings, left, taking_by, takings_of}

@@ -8,7 +8,7 @@ use Rattle.fifo_model.specs.declared.Entry.{Entry}
 use Rattle.fifo_model.specs.declared.Queue.{Queue}
 use Rattle.fifo_model.specs.declared.Queue.TheVariants.{One, Two, Three}
 use Rattle.fifo_model.specs.Queues.{IsFifo, IsQueue, QueueState, Queues, all_entered, cleared, control_entry, emptied, entered, first, front, is_full, more, overrun, queue_state, some_full, valid_of, with_queue_state}
-use Rattle.fifo_model.proofs.Kept.{IsQueue-queue_state}
+use Rattle.fifo_model.proofs.ChangesKeepQueues.{IsQueue-queue_state}
 use Rattle.machine_model.specs.declared.Demand.{Demand}
 use Rattle.machine_model.specs.declared.Job.{Job}
 use Rattle.machine_model.specs.declared.Job.TheVariants.{Idle, Waiting, Running}

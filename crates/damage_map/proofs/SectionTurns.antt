@@ -32,7 +32,7 @@ use Rattle.machine_model.specs.States.{State}
 use Rattle.machine_model.specs.Turns.{apply, apply_in, begun_with, burst, burst_of, code_seen, common_code, counted, data_fetched, demand_on, ended, fetched, is_cut_short, is_done, judged, jumped, lowest_served, lowest_stray, met, passed, ran, retired, served, skipping_after, stray_seen, took, turn, turn_if, verdict_at, waited, with_fdsr_unless, worked}
 use Rattle.machine_model.specs.Seen.{Application, address_before, application, application_in, applications, served_application, data_did, fetched_did, seen, seen_alone, seen_burst, seen_if, seen_in, seen_running, seen_served, waited_did}
 use Rattle.machine_model.specs.Steps.{Turn}
-use Rattle.machine_model.proofs.Rows.{fetch-KnownAt}
+use Rattle.machine_model.proofs.BeforeTurns.{fetch-KnownAt}
 use Rattle.field_law.specs.Sections.{HoldsFrom, IsPlain, words_in}
 use Rattle.field_law.specs.Arrivals.{is_queue}
 use Rattle.field_law.proofs.Running.{done_rest}

@@ -6,7 +6,7 @@ use Rattle.machine_model.specs.Seen.{seen}
 use Rattle.machine_model.specs.States.{State}
 use Rattle.machine_model.specs.Steps.{Turn}
 use Rattle.machine_model.specs.Turns.{turn}
-use Rattle.machine_model.proofs.Fixed.{program-step}
+use Rattle.machine_model.proofs.ProgramStays.{program-step}
 use Rattle.damage_map.specs.Tracks.{FieldTrack, track_next, turned}
 
 pub turned-after : (m after : State) (program : RiscProgram) (s : Seen) (t new : FieldTrack) → after ≡ turn m → program ≡ after.program → s ≡ seen m → new ≡ turned program s.did s t → new ≡ track_next m Turn t

@@ -4,7 +4,7 @@ use Rattle.fifo_model.specs.Queues.{more}
 use Rattle.machine_model.specs.States.{State}
 use Rattle.machine_model.specs.Steps.{Turn, run}
 use Rattle.machine_model.specs.Turns.{turn}
-use Rattle.machine_model.proofs.Beside.{turn_if-turns}
+use Rattle.machine_model.proofs.SameTurn.{turn_if-turns}
 use Rattle.dma_machine.specs.Counts.{acted, with_turns}
 
 pub acted-turns : (t : ℕ) (m : State) → acted (with_turns t m) ≡ with_turns t (acted m)

@@ -12,9 +12,9 @@ use Rattle.machine_model.specs.States.{State}
 use Rattle.machine_model.specs.Steps.{Step, Turn, step, with_program}
 use Rattle.machine_model.specs.Turns.{turn}
 use Rattle.machine_model.specs.Safety.{IsStep}
-use Rattle.machine_model.proofs.Fixed.{program-step}
+use Rattle.machine_model.proofs.ProgramStays.{program-step}
 use Rattle.machine_model.proofs.Safe.{IsSafe-step}
-use Rattle.machine_model.proofs.Rows.{IsWord-ends, pc-IsWord, idle-data, running-RunsAt, target-Reaches}
+use Rattle.machine_model.proofs.BeforeTurns.{IsWord-ends, pc-IsWord, idle-data, running-RunsAt, target-Reaches}
 use Rattle.dma_machine.specs.Counts.{acted, with_turns}
 use Rattle.dma_machine.specs.Facts.{IsMachine}
 use Rattle.dma_machine.specs.Looks.{CanGoOn}

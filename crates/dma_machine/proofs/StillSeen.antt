@@ -18,7 +18,7 @@ use Rattle.machine_model.specs.Paths.{fetch}
 use Rattle.machine_model.specs.Seen.{address_before, applications, data_did, fetched_did, gives_up, instr_did, seen, seen_if, seen_in, seen_running, seen_served, waited_did}
 use Rattle.machine_model.specs.States.{State}
 use Rattle.machine_model.specs.Turns.{common_code, counted, is_done, is_served, lowest_stray, turn}
-use Rattle.machine_model.proofs.Rows.{idle-IsFine}
+use Rattle.machine_model.proofs.BeforeTurns.{idle-IsFine}
 use Rattle.dma_machine.specs.Counts.{acted, with_turns}
 use Rattle.dma_machine.specs.Facts.{IsMachine}
 use Rattle.dma_machine.specs.Stills.{is_still, none_served, works_still}

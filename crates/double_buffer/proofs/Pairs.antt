@@ -21,7 +21,7 @@ use Rattle.slot_chain.specs.Making as chain
 use Rattle.slot_chain.specs.States.{chain_of}
 use Rattle.slot_chain.specs.declared.making.ChainError.{ChainError}
 use Rattle.slot_chain.specs.declared.making.ChainError.TheVariants as error
-use Rattle.slot_chain.proofs.Made.{is_chain}
+use Rattle.slot_chain.proofs.MadeChain.{is_chain}
 use Rattle.slot_chain.proofs.Placing.{word_count_is}
 use Rattle.double_buffer.specs.declared.faults.ChainFault.TheVariants.{Base, Shared, TooMany, TooLong, OnPage}
 use Rattle.double_buffer.specs.declared.faults.DoubleBufferError.{DoubleBufferError}

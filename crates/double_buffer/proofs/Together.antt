@@ -12,7 +12,7 @@ use Rattle.page_table.proofs.ScatterLists.{chunks_aligned}
 use Rattle.capture_desc.specs.declared.desc.Desc.{Desc}
 use Rattle.picture_model.specs.Described.{memory_from, memory_of}
 use Rattle.picture_model.specs.Geometry.{first_unaligned}
-use Rattle.picture_model.proofs.Right.{IsFrame-memory}
+use Rattle.picture_model.proofs.FaultlessGeometry.{IsFrame-memory}
 use Rattle.planar_plan.specs.Frames.{IsFramed}
 use Rattle.double_buffer.specs.Faults.{are_too_many, shared_chunk}
 use Rattle.double_buffer.specs.Pairs.{memory_of_two}

@@ -11,7 +11,7 @@ use Rattle.machine_model.specs.Turns.{Store}
 use Rattle.field_law.specs.Fields.{Token, Mark, Row, Brings}
 use Rattle.field_law.specs.Sections.{Ask, Await, ask, ask_of, UsesTo, laid, planned}
 use Rattle.field_law.proofs.Lines.{UnderWay, has_waking, part-waking}
-use Rattle.field_law.proofs.Served.{Outlook, front as front_of, between}
+use Rattle.field_law.proofs.AskedAndToCome.{Outlook, front as front_of, between}
 
 module _ (Ends : List ℕ → List Token → Type 0) (Rests : List Entry → Type 0) where
   -- where the field begins

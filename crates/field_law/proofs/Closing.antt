@@ -19,7 +19,7 @@ use Rattle.machine_model.specs.Turns.{counted, jumped, fetched, worked, turn_if,
 use Rattle.machine_model.specs.Steps.{Turn}
 use Rattle.field_law.specs.Sections.{Section, IsUsedUp, IsPlain, Holds, HoldsFrom, words_in, closing_at, is_stored}
 use Rattle.field_law.specs.Arrivals.{is_idle, is_signal}
-use Rattle.field_law.proofs.Served.{AnyRest}
+use Rattle.field_law.proofs.AskedAndToCome.{AnyRest}
 use Rattle.field_law.proofs.Asked.{outlook_at_end}
 use Rattle.field_law.proofs.Fetching.{idle-Fetches}
 use Rattle.field_law.proofs.InSection.{StandsIn, Settling, IsInSection, FetchesIn}

@@ -22,7 +22,7 @@ use Rattle.machine_model.specs.Turns.{Store, demand_on, synced, begun_with, data
 use Rattle.field_law.specs.Fields.{Token}
 use Rattle.field_law.specs.Sections.{ask_of, asked, asks, IsPlain}
 use Rattle.field_law.specs.Arrivals.{over_queues}
-use Rattle.field_law.proofs.Served.{Outlook}
+use Rattle.field_law.proofs.AskedAndToCome.{Outlook}
 use Rattle.field_law.proofs.Within.{WithinJob, IsWithin, asked_turns}
 use Rattle.field_law.proofs.Running.{Turned}
 

@@ -15,7 +15,7 @@ use Rattle.machine_model.specs.Turns.{Store, fetched, is_done, lowest_served, ra
 use Rattle.machine_model.specs.Steps.{Turn}
 use Rattle.field_law.specs.Sections.{Section, IsUsedUp, Holds, HoldsFrom, words_in, closing_at}
 use Rattle.field_law.specs.Arrivals.{is_idle, is_signal}
-use Rattle.field_law.proofs.Served.{AnyRest}
+use Rattle.field_law.proofs.AskedAndToCome.{AnyRest}
 use Rattle.field_law.proofs.Painting.{Settles, settles_made}
 use Rattle.field_law.proofs.Within.{IsWithin, IsMade}
 use Rattle.field_law.proofs.Running.{Turned, serves-Turned, retires-Turned}

@@ -30,7 +30,7 @@ use Rattle.field_law.proofs.Turns.{turn-Reaches}
 use Rattle.field_law.proofs.Runs.{Ran, runs, counted_runs}
 use Rattle.field_law.proofs.Closing.{signal-Signals, Closes, signal-Closes}
 use Rattle.field_law.proofs.InSection.{begins_in, StandsIn, Settling}
-use Rattle.field_law.proofs.Served.{AnyRest}
+use Rattle.field_law.proofs.AskedAndToCome.{AnyRest}
 
 -- ---- lists of steps
 

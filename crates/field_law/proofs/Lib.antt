@@ -1,5 +1,5 @@
 pub mod Lines
-pub mod Served
+pub mod AskedAndToCome
 pub mod Asked
 pub mod Changed
 pub mod Painting

@@ -21,7 +21,7 @@ use Rattle.field_law.specs.Fields.{Token, Mark, Brings}
 use Rattle.field_law.specs.Sections.{Section, Uses, IsUsedUp, asks, section_stores}
 use Rattle.field_law.specs.Arrivals.{over_queues}
 use Rattle.field_law.proofs.Changed.{changed, each_queue}
-use Rattle.field_law.proofs.Served.{Outlook}
+use Rattle.field_law.proofs.AskedAndToCome.{Outlook}
 use Rattle.field_law.proofs.Asked.{outlook_at_start}
 use Rattle.field_law.proofs.Running.{lowest_some, lowest_none}
 use Rattle.field_law.proofs.Waiting.{each_removed}

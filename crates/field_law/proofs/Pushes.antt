@@ -17,7 +17,7 @@ use Rattle.machine_model.specs.Steps.{Step, Push, Control, Turn, Host, answer_if
 use Rattle.field_law.specs.Fields.{Token}
 use Rattle.field_law.specs.Sections.{asks}
 use Rattle.field_law.specs.Arrivals.{pushed_by, IsKept, turn_count}
-use Rattle.field_law.proofs.Served.{Outlook}
+use Rattle.field_law.proofs.AskedAndToCome.{Outlook}
 use Rattle.field_law.proofs.Asked.{outlook_with}
 use Rattle.field_law.proofs.Within.{Within, IsWithin, job_asks}
 

@@ -17,7 +17,7 @@ use Rattle.machine_model.specs.declared.Job.TheVariants.{Idle, Waiting, Running}
 use Rattle.risc_word.specs.Parts.{instr_ctl}
 use Rattle.machine_model.specs.States.{State}
 use Rattle.machine_model.specs.Turns.{Store, demand_on, judged, verdict_at, served, apply_in, apply, burst, burst_of, is_served, lowest_served, is_done, retired}
-use Rattle.machine_model.proofs.Rows.{three_parts}
+use Rattle.machine_model.proofs.BeforeTurns.{three_parts}
 use Rattle.field_law.specs.Fields.{Token}
 use Rattle.field_law.specs.Sections.{asks}
 use Rattle.field_law.specs.Arrivals.{over_queues}

@@ -17,7 +17,7 @@ use Rattle.field_law.proofs.Turns.{turn-Reaches}
 use Rattle.field_law.proofs.Pushes.{ahead_there, ahead_more}
 use Rattle.field_law.proofs.Moved.{step-IsReached}
 use Rattle.field_law.proofs.InSection.{begins_in, StandsIn, Settling}
-use Rattle.field_law.proofs.Served.{AnyRest}
+use Rattle.field_law.proofs.AskedAndToCome.{AnyRest}
 
 pub IsOrderly-after : (m : State) (met : Met) → IsStep met.1 → IsOrderly m → IsOrderly (after m met)
 IsOrderly-after m met made orderly = IsOrderly-step met.1 (with_program met.0 m) made (IsOrderly-with_program met.0 m orderly)

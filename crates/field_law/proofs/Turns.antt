@@ -12,7 +12,7 @@ use Rattle.machine_model.specs.Safety.{IsOrderly}
 use Rattle.field_law.specs.Fields.{Token}
 use Rattle.field_law.specs.Sections.{Section, Uses, IsUsedUp, Holds}
 use Rattle.field_law.specs.Arrivals.{is_signal}
-use Rattle.field_law.proofs.Served.{AnyRest}
+use Rattle.field_law.proofs.AskedAndToCome.{AnyRest}
 use Rattle.field_law.proofs.Waiting.{waited-Turned}
 use Rattle.field_law.proofs.InSection.{StandsIn, Settling, IsInSection, TurnedIn, ran-TurnedIn, fetched-TurnedIn, begins_in}
 use Rattle.field_law.proofs.Opening.{IsOpening, IsReached, Reaches, opening-Reaches}

@@ -20,7 +20,7 @@ use Rattle.machine_model.specs.Turns.{Store, no_code, is_stray, lowest_stray, co
 use Rattle.field_law.specs.Fields.{Token}
 use Rattle.field_law.specs.Sections.{asks}
 use Rattle.field_law.specs.Arrivals.{over_queues}
-use Rattle.field_law.proofs.Served.{Outlook}
+use Rattle.field_law.proofs.AskedAndToCome.{Outlook}
 use Rattle.field_law.proofs.Asked.{Shows, outlook_shows, outlook_awaits}
 use Rattle.field_law.proofs.Within.{WithinJob, IsWithin}
 use Rattle.field_law.proofs.Running.{Turned}

@@ -22,7 +22,7 @@ use Rattle.field_law.specs.Fields.{Token}
 use Rattle.field_law.specs.Sections.{Ask, Await, ask_of, asks}
 use Rattle.field_law.specs.Arrivals.{over_queues}
 use Rattle.field_law.proofs.Changed.{changed, each_served}
-use Rattle.field_law.proofs.Served.{Outlook, Takes, application}
+use Rattle.field_law.proofs.AskedAndToCome.{Outlook, Takes, application}
 
 -- what a job asks of a queue, before what the instructions ask that are not fetched yet
 abbrev pub job_asks : Queue → Job → List Ask → List Ask

@@ -3,7 +3,7 @@ use Rattle.std.proofs.Common.{◌≡◌, ℕ, zero, suc, ◌≤◌, ◌<◌, Lis
 use Rattle.capture_desc.specs.declared.desc.Desc.{Desc}
 use Rattle.picture_model.specs.declared.BuildFault.{BuildFault}
 use Rattle.picture_model.specs.Geometry.{Check, first_after, frame_faults}
-use Rattle.picture_model.proofs.Right.{between_parts, vbi_range, when_not}
+use Rattle.picture_model.proofs.FaultlessGeometry.{between_parts, vbi_range, when_not}
 use Rattle.planar_plan.specs.Frames.{IsFramed}
 
 -- one of the checks, by its number

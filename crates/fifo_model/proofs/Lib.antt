@@ -1,5 +1,5 @@
 pub mod Waking
 pub mod Codes
 pub mod QueueStates
-pub mod Kept
+pub mod ChangesKeepQueues
 pub mod Rings

@@ -15,7 +15,7 @@ use Rattle.capture_desc.specs.declared.desc.Fields.{Fields}
 use Rattle.capture_desc.specs.declared.desc.Fields.TheVariants as fields
 use Rattle.pixel_layout.specs.declared.Parity.TheVariants.{Top, Bottom}
 use Rattle.picture_model.specs.Described.{IsDescription, both, describes, field_height, fields_of, layout_of, plane_row_bytes}
-use Rattle.picture_model.proofs.Right.{IsRight}
+use Rattle.picture_model.proofs.FaultlessGeometry.{IsRight}
 use Rattle.field_stream.specs.Pushes.{Push, Fill, chroma_after, field_pushes, frame_pushes, line_entries, packed_line, picture_line, picture_pushes, planar_at, planar_line, repeated, status_at, stream_pushes, vbi_pushes}
 
 -- ---- lines

@@ -10,7 +10,7 @@ use Rattle.pixel_layout.specs.declared.Parity.{Parity}
 use Rattle.capture_desc.specs.declared.desc.Desc.{Desc}
 use Rattle.picture_model.specs.Described.{field_height, layout_of, plane_row_bytes}
 use Rattle.picture_model.specs.Programs.{data_code, vertical}
-use Rattle.picture_model.proofs.Right.{IsRight, IsFrame-IsRight}
+use Rattle.picture_model.proofs.FaultlessGeometry.{IsRight, IsFrame-IsRight}
 use Rattle.field_law.specs.Arrivals.{is_queue}
 use Rattle.field_law.specs.Fields.{Mark, Brings}
 use Rattle.field_law.proofs.Bringing.{mark_brings}
@@ -21,7 +21,7 @@ use Rattle.field_stream.proofs.Moving.{repeated_split}
 use Rattle.generated_law.specs.Drawn.{BringsPicture, DrawsPicture, bytes_before, cut, drawn_bytes, drawn_entries, drawn_picture, drawn_steps, number_behind, vbi_bytes_on}
 use Rattle.generated_law.specs.Drawn as drawn
 use Rattle.generated_law.proofs.Statuses.{pushed_in-drawn, packed_nothing, packed_statuses}
-use Rattle.generated_law.proofs.Whole.{AreBytes}
+use Rattle.generated_law.proofs.WholeLines.{AreBytes}
 use Rattle.generated_law.proofs.Repeated.{AreDrawn, brings-append, lines_drawn, nothing_drawn, rows_drawn}
 use Rattle.generated_law.proofs.Cutting.{bytes_in, bytes_in-append, bytes_in-lines, bytes_in-vbi, carried-brings, cut-concat, drop_both, length-concat}
 

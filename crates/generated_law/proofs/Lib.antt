@@ -1,5 +1,5 @@
 pub mod Statuses
-pub mod Whole
+pub mod WholeLines
 pub mod Planar
 pub mod Rows
 pub mod Repeated

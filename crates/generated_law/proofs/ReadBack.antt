@@ -1,6 +1,6 @@
 -- A generated stream is read back: its bytes stand for its steps.
 use Rattle.std.proofs.Common.{[], ◌∷◌, arith, length-append}
-use Rattle.picture_model.proofs.Right.{IsFrame-IsRight}
+use Rattle.picture_model.proofs.FaultlessGeometry.{IsFrame-IsRight}
 use Rattle.field_stream.specs.Generator.{first_number}
 use Rattle.field_stream.specs.Made.{records}
 use Rattle.field_stream.specs.Pushes.{stream_pushes}

@@ -7,14 +7,14 @@ use Rattle.fifo_model.specs.declared.Entry.{Entry}
 use Rattle.fifo_model.specs.declared.Queue.{Queue}
 use Rattle.capture_desc.specs.declared.desc.Desc.{Desc}
 use Rattle.picture_model.specs.Described.{plane_row_bytes}
-use Rattle.picture_model.proofs.Right.{IsRight}
+use Rattle.picture_model.proofs.FaultlessGeometry.{IsRight}
 use Rattle.field_law.specs.Fields.{Token, Mark, Row, Brings, carried}
 use Rattle.picture_law.specs.Pictures.{AreLines, HoldBytes, has_plane, lines_of, lines_on, plane_of}
 use Rattle.field_law.specs.Arrivals.{pushed_in}
 use Rattle.field_stream.specs.Pushes.{Push, picture_line, repeated}
 use Rattle.generated_law.specs.Drawn.{drawn_steps, number_behind}
 use Rattle.generated_law.proofs.Statuses.{pushed_in-drawn, line_statuses, statuses, statuses-pushed_in, statuses_of}
-use Rattle.generated_law.proofs.Whole.{AreBytes, carried_hold, whole_line}
+use Rattle.generated_law.proofs.WholeLines.{AreBytes, carried_hold, whole_line}
 use Rattle.generated_law.proofs.Rows.{row_nothing, row_statuses, row_wide}
 
 -- what brings some tokens and then what brings others

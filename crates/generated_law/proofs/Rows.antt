@@ -10,9 +10,9 @@ use Rattle.pixel_layout.specs.declared.Format.TheVariants.{Rgb32, Rgb24, Rgb16, 
 use Rattle.pixel_layout.specs.Layouts.{layout}
 use Rattle.capture_desc.specs.declared.desc.Desc.{Desc}
 use Rattle.picture_model.specs.Described.{layout_of, plane_row_bytes}
-use Rattle.picture_model.proofs.Right.{IsRight}
+use Rattle.picture_model.proofs.FaultlessGeometry.{IsRight}
 use Rattle.picture_law.specs.Pictures.{has_plane, plane_of}
-use Rattle.picture_law.proofs.Goes.{queue_plane}
+use Rattle.picture_law.proofs.BytePlaces.{queue_plane}
 use Rattle.field_stream.specs.Pushes.{Push, packed_line, picture_line, planar_line}
 use Rattle.generated_law.proofs.Statuses.{line_statuses, packed_nothing, packed_statuses, statuses}
 use Rattle.generated_law.proofs.Planar.{chroma_statuses, luma_statuses}

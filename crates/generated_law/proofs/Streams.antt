@@ -16,7 +16,7 @@ use Rattle.capture_desc.specs.declared.desc.Fields.{Fields}
 use Rattle.capture_desc.specs.declared.desc.Fields.TheVariants as fields
 use Rattle.picture_model.specs.Described.{describes, fields_of}
 use Rattle.picture_model.specs.Programs.{compiled, vertical}
-use Rattle.picture_model.proofs.Right.{IsValid-IsFrame}
+use Rattle.picture_model.proofs.FaultlessGeometry.{IsValid-IsFrame}
 use Rattle.field_stream.specs.Generator.{first_number}
 use Rattle.field_stream.specs.Made.{after}
 use Rattle.field_stream.specs.Pushes.{Push, Mark, field_pushes, frame_pushes, picture_pushes, repeated, stream_pushes, vbi_pushes}

@@ -12,8 +12,8 @@ use Rattle.machine_model.specs.States.{State}
 use Rattle.machine_model.specs.Turns.{turn}
 use Rattle.machine_model.specs.Steps.{with_program}
 use Rattle.machine_model.specs.Accesses.{word_addresses, words_read, fetched_by, fetches_if, fetches, AgreeAt, AreFetchedAlike}
-use Rattle.machine_model.proofs.Rows.{IsWord, IsWord-is_word, IsWord-later, is_word-IsWord}
-use Rattle.machine_model.proofs.Beside.{IsReadAlike, turn-with_program}
+use Rattle.machine_model.proofs.BeforeTurns.{IsWord, IsWord-is_word, IsWord-later, is_word-IsWord}
+use Rattle.machine_model.proofs.SameTurn.{IsReadAlike, turn-with_program}
 
 -- whether a word stands at an address, by the base and the number of words
 abbrev is_word_of : ℕ → ℕ → ℕ → Bool

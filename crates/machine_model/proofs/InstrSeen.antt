@@ -9,7 +9,7 @@ use Rattle.machine_model.specs.States.{State}
 use Rattle.machine_model.specs.Turns.{is_done, lowest_served}
 use Rattle.machine_model.specs.Safety.{IsSafe}
 use Rattle.machine_model.specs.Seen.{StandsAt, address_before, seen, seen_if, seen_in, seen_running, seen_served}
-use Rattle.machine_model.proofs.Rows.{running-KnownAt, running-RunsAt}
+use Rattle.machine_model.proofs.BeforeTurns.{running-KnownAt, running-RunsAt}
 
 at-served : (q : Option Queue) (at : ℕ) (m : State) → (seen_served q at m).at ≡ at
 at-served None at m = refl

@@ -12,7 +12,7 @@ use Rattle.fifo_model.specs.declared.Entry.{Entry}
 use Rattle.fifo_model.specs.declared.Queue.{Queue}
 use Rattle.fifo_model.specs.Queues.{QueueState, Queues, pushed, control_pushed, queue_state, front, front_code, front_valid, valid_of, front_code_of, IsFifo, is_full, some_full}
 use Rattle.fifo_model.proofs.Codes.{code-data}
-use Rattle.fifo_model.proofs.Kept.{IsQueue-queue_state, IsFifo-empty, IsFifo-pushed, IsFifo-control_pushed, IsFifo-taken_from, IsFifo-removed, IsFifo-all_removed, IsFifo-cleared}
+use Rattle.fifo_model.proofs.ChangesKeepQueues.{IsQueue-queue_state, IsFifo-empty, IsFifo-pushed, IsFifo-control_pushed, IsFifo-taken_from, IsFifo-removed, IsFifo-all_removed, IsFifo-cleared}
 use Rattle.irq_status.specs.declared.HostWrite.{HostWrite}
 use Rattle.irq_status.specs.declared.HostWrite.TheVariants.{Ack, Enable, Trigger}
 use Rattle.machine_model.specs.declared.Cause.{Cause}

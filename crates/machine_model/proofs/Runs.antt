@@ -7,9 +7,9 @@ use Rattle.machine_model.specs.States.{State, first_state}
 use Rattle.machine_model.specs.Steps.{Step, step, run, with_program, run_in, state_at}
 use Rattle.machine_model.specs.Safety.{IsOrderly, IsSafe, IsInside, IsStep}
 use Rattle.machine_model.proofs.Orderly.{IsOrderly-step, IsOrderly-with_program}
-use Rattle.machine_model.proofs.Fixed.{program-step, chunks-step}
+use Rattle.machine_model.proofs.ProgramStays.{program-step, chunks-step}
 use Rattle.machine_model.proofs.Safe.{IsSafe-step, IsSafe-first_state}
-use Rattle.machine_model.proofs.Inside.{StaysInside-safe}
+use Rattle.machine_model.proofs.WritesAndFetches.{StaysInside-safe}
 
 pub program-run : (m : State) (steps : List Step) → (run m steps).program ≡ m.program
 program-run m [] = refl

@@ -12,7 +12,7 @@ use Rattle.machine_model.specs.Turns.{turn}
 use Rattle.machine_model.specs.Steps.{Step, Push, Control, Turn, Host, push, push_control, host, step}
 use Rattle.machine_model.specs.Safety.{JobAt, IsOnPath, IsSafe, IsStep}
 use Rattle.machine_model.proofs.Orderly.{IsOrderly-step, IsOrderly-first_state}
-use Rattle.machine_model.proofs.Fixed.{program-step, chunks-step}
+use Rattle.machine_model.proofs.ProgramStays.{program-step, chunks-step}
 use Rattle.machine_model.proofs.Following.{Follows, Follows-step}
 
 pub IsSafe-Follows : (m : State) → IsSafe m → Follows m.program m

@@ -21,7 +21,7 @@ use Rattle.picture_model.specs.Plans.{Strip, grain_bytes, grains_of, kind_by, ro
 use Rattle.picture_model.specs.Programs.{body, data_code, field_instrs, line_instrs, lines_instrs, picture_strips, sync, vbi_from, vbi_instrs, vbi_strips}
 use Rattle.picture_model.proofs.Each.{each_All}
 use Rattle.picture_model.proofs.Grains.{row_grains}
-use Rattle.picture_model.proofs.Right.{IsRight}
+use Rattle.picture_model.proofs.FaultlessGeometry.{IsRight}
 use Rattle.picture_model.proofs.Sections.{rows_below}
 use Rattle.picture_model.proofs.Strips.{row-IsStrip, skipped-IsStrip, vbi-IsStrip}
 use Rattle.field_law.specs.Fields.{Mark}
@@ -30,7 +30,7 @@ use Rattle.field_law.specs.CutLines.{lines_stores}
 use Rattle.picture_law.specs.Pictures.{Picture, AreRows, IsPicture, field_tokens, has_plane, lines_of, picture_tokens, plane_of, rows_on, vbi_on, vbi_tokens}
 use Rattle.picture_law.specs.Sections.{section_at}
 use Rattle.picture_law.proofs.Cuts.{Starts, moves, track_on}
-use Rattle.picture_law.proofs.Goes.{grain_some, queue_plane, row_track_on}
+use Rattle.picture_law.proofs.BytePlaces.{grain_some, queue_plane, row_track_on}
 use Rattle.picture_law.proofs.Lines.{Carries, CarriesAll, carries_all, cut_lines}
 use Rattle.picture_law.proofs.Serves.{Serves, serves_both, serves_idle_lines, serves_lines, serves_made, serves_none, serves_sync, serves_used}
 

@@ -13,7 +13,7 @@ use Rattle.machine_model.proofs.Runs.{IsOrderly-run, chunks-run, chunks-run_in, 
 use Rattle.machine_model.proofs.Orderly.{IsOrderly-first_state}
 use Rattle.capture_desc.specs.declared.desc.Desc.{Desc}
 use Rattle.picture_model.specs.Programs.{body, closing, compiled, signal, size}
-use Rattle.picture_model.proofs.Right.{IsRight, IsFrame-IsRight, IsValid-IsFrame}
+use Rattle.picture_model.proofs.FaultlessGeometry.{IsRight, IsFrame-IsRight, IsValid-IsFrame}
 use Rattle.field_law.specs.Arrivals.{Met}
 use Rattle.field_law.specs.Fields.{Token}
 use Rattle.field_law.specs.Laws.{Receives, ShowsBits}
@@ -26,7 +26,7 @@ use Rattle.picture_law.specs.Laws.{Captures, IsPictured, EndsSection, GrantsPlac
 use Rattle.picture_law.specs.Runs.{CompiledIsMet, IsCapture, RunsAreMet, RunsCompiled}
 use Rattle.picture_law.proofs.Program.{closing_there, section_holds}
 use Rattle.picture_law.proofs.Body.{section_uses}
-use Rattle.picture_law.proofs.Kept.{kept_granted}
+use Rattle.picture_law.proofs.KeptBytes.{kept_granted}
 use Rattle.picture_law.proofs.Painted.{painted, painted_after, after_paints, after_same, holds_places}
 
 pictured_right : (d : Desc) (field : Parity) (picture : Picture) → IsPictured d field picture → IsRight d

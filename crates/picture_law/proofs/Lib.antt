@@ -1,10 +1,10 @@
 pub mod Program
 pub mod Cuts
-pub mod Goes
+pub mod BytePlaces
 pub mod Lines
 pub mod Serves
 pub mod Body
-pub mod Kept
+pub mod KeptBytes
 pub mod Painted
 pub mod Laws
 pub mod Worked

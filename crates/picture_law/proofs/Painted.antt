@@ -14,7 +14,7 @@ use Rattle.machine_model.specs.Turns.{Store, stored_all}
 use Rattle.machine_model.proofs.Memory.{chunks-stored_all}
 use Rattle.capture_desc.specs.declared.desc.Desc.{Desc}
 use Rattle.picture_model.specs.Described.{describes}
-use Rattle.picture_model.proofs.Right.{IsRight}
+use Rattle.picture_model.proofs.FaultlessGeometry.{IsRight}
 use Rattle.field_law.specs.Sections.{Holds, Paints, is_stored, section_stores}
 use Rattle.field_law.proofs.CutLines.{stored_first, stored_second}
 use Rattle.field_law.proofs.GrantedStores.{stores_granted}
@@ -22,7 +22,7 @@ use Rattle.field_law.proofs.Painting.{byte_at-unstored}
 use Rattle.picture_law.specs.Pictures.{Picture, After, AreRows, FieldByte, HasPlaces, IsKeptAt, IsPicture, field_tokens, shown_as}
 use Rattle.picture_law.specs.Sections.{section_at}
 use Rattle.picture_law.proofs.Body.{field_stores, section_makes}
-use Rattle.picture_law.proofs.Kept.{IsOfPicture, all_of, kept_once, kept_stored, queue_of}
+use Rattle.picture_law.proofs.KeptBytes.{IsOfPicture, all_of, kept_once, kept_stored, queue_of}
 
 -- ---- stores one after another
 

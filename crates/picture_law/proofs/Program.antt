@@ -21,8 +21,8 @@ use Rattle.picture_model.specs.Plans.{Strip, plan}
 use Rattle.picture_model.specs.Programs.{begin_by, body, closing, closing_begin, compiled, instr_by, instr_of, line_instrs, lines_instrs, next_by, opening, picture_strips, section, section_begin, section_length, section_next, signal, vbi_from, vbi_instrs, vbi_strips, field_instrs, words_of}
 use Rattle.picture_model.proofs.Circle.{a_word, split_length, words_split}
 use Rattle.picture_model.proofs.Each.{Each, each_append}
-use Rattle.picture_model.proofs.Fine.{IsGoodInstr}
-use Rattle.picture_model.proofs.Right.{IsRight}
+use Rattle.picture_model.proofs.FaultlessLines.{IsGoodInstr}
+use Rattle.picture_model.proofs.FaultlessGeometry.{IsRight}
 use Rattle.picture_model.proofs.Sections.{good_body, section_stands, signal_spelled}
 use Rattle.field_law.specs.Sections.{IsPlain, HoldsFrom, Holds, StandsFrom, closing_at, words_in}
 use Rattle.field_law.proofs.OnPath.{granted_demands}

@@ -17,7 +17,7 @@ use Rattle.capture_desc.specs.declared.desc.Desc.{Desc}
 use Rattle.picture_model.specs.Described.{both, layout_of, memory_of, offset, plane_row_bytes, stride}
 use Rattle.picture_model.specs.Places.{HasPlane, plane_row, row_offset}
 use Rattle.picture_model.specs.Plans.{Track, grain_bytes, grains_of, row_track, track}
-use Rattle.picture_model.proofs.Right.{IsRight}
+use Rattle.picture_model.proofs.FaultlessGeometry.{IsRight}
 use Rattle.picture_model.proofs.Offsets.{IsRowAt, chroma_row-IsKept, row_offset-IsRowAt, row_end}
 
 -- over aligned chunks there is room up to the next multiple of 4

@@ -1,5 +1,5 @@
 pub mod Cutting
-pub mod Right
+pub mod FaultlessGeometry
 pub mod Offsets
 pub mod Grains
 pub mod Spans
@@ -8,11 +8,11 @@ pub mod Places
 pub mod Safe
 pub mod Each
 pub mod Circle
-pub mod Fine
+pub mod FaultlessLines
 pub mod Sections
 pub mod Ends
 pub mod Crossing
 pub mod Counting
 pub mod Limit
-pub mod Made
+pub mod CompiledProgram
 pub mod Rows

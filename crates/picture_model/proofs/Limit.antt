@@ -30,7 +30,7 @@ use Rattle.picture_model.specs.Geometry.{some_overlap}
 use Rattle.picture_model.specs.Places.{plane_row, row_offset, vbi_line_offset}
 use Rattle.picture_model.specs.Plans.{Cut, Strip, cuts_of, grain_bytes, grain_clipped, grains_of, in_grains, kind_of, piece_of, row_strip, skipped_strip, vbi_strip}
 use Rattle.picture_model.specs.Programs.{body, closing, field_instrs, instr_by, instr_of, line_instrs, lines_instrs, opening, picture_strips, section, section_length, sections_by, sections_words, vbi_from, vbi_instrs, vbi_strips, words_of}
-use Rattle.picture_model.proofs.Right.{IsRight}
+use Rattle.picture_model.proofs.FaultlessGeometry.{IsRight}
 use Rattle.picture_model.proofs.Each.{Each, each_range}
 use Rattle.picture_model.proofs.Ends.{all_ended, crossed-within, ended, ended_after, interleaved, range_in_order}
 use Rattle.picture_model.proofs.Crossing.{at_begins, at_ends, crossed_once, forward_append, forward_map}

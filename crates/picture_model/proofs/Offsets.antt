@@ -17,7 +17,7 @@ use Rattle.capture_desc.specs.declared.desc.Fields.TheVariants as fields
 use Rattle.picture_model.specs.Described.{Extent, both, describes, extent, extents, fields_of, highest_end, layout_of, memory_of, offset, plane_bytes, plane_row_bytes, plane_rows, stride, vbi_area, vbi_offset, vbi_size}
 use Rattle.picture_model.specs.Geometry.{overlaps, some_overlap}
 use Rattle.picture_model.specs.Places.{HasPlane, plane_row, row_offset, vbi_line_offset}
-use Rattle.picture_model.proofs.Right.{IsRight}
+use Rattle.picture_model.proofs.FaultlessGeometry.{IsRight}
 
 -- stretches that don't overlap
 

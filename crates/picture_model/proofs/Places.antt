@@ -12,7 +12,7 @@ use Rattle.page_table.proofs.Scattered.{AreDisjoint-from_first_shared, address_a
 use Rattle.capture_desc.specs.declared.desc.Desc.{Desc}
 use Rattle.picture_model.specs.Described.{memory_of, offset, plane_bytes, plane_row_bytes, vbi_offset, vbi_size}
 use Rattle.picture_model.specs.Places.{Byte, IsByte, byte_offset, byte_place, row_byte, row_offset, vbi_byte, vbi_line_offset}
-use Rattle.picture_model.proofs.Right.{IsRight}
+use Rattle.picture_model.proofs.FaultlessGeometry.{IsRight}
 use Rattle.picture_model.proofs.Offsets.{IsRowAt, areas_differ, mapped_some, plane_and_area, planes_differ, row_end, row_offset-IsRowAt, row_within, rows_differ, vbi_end, vbi_line_within}
 
 -- some chunk of a list passes a test exactly where one in rising order does

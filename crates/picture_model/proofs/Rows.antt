@@ -15,7 +15,7 @@ use Rattle.picture_model.specs.Described.{describes, layout_of, memory_of}
 use Rattle.picture_model.specs.Places.{HasPlane, place, row_offset, vbi_line_offset, vbi_place}
 use Rattle.picture_model.specs.Plans.{Strip, Cut, AreCutsFrom, AreCuts, IsMoved, IsRowCut, IsSafeCut, IsVbiCut, IsWritten, Writes, address_of, cuts_of, grain_bytes, grain_clipped, grains_of, on_track, row_strip, row_track, vbi_strip}
 use Rattle.picture_model.proofs.Each.{Each, each_All, each_append, each_both, each_only}
-use Rattle.picture_model.proofs.Right.{IsRight}
+use Rattle.picture_model.proofs.FaultlessGeometry.{IsRight}
 use Rattle.picture_model.proofs.Safe.{cuts_safe}
 use Rattle.picture_model.proofs.Spans.{row_runs}
 use Rattle.picture_model.proofs.Strips.{row-IsStrip, strip_cuts, vbi-IsStrip}

@@ -12,7 +12,7 @@ use Rattle.capture_desc.specs.declared.desc.Desc.{Desc}
 use Rattle.picture_model.specs.Described.{layout_of}
 use Rattle.picture_model.specs.Places.{HasPlane, byte_clipped}
 use Rattle.picture_model.specs.Plans.{grain_bytes, grain_clipped, grains_of, row_strip}
-use Rattle.picture_model.proofs.Right.{IsRight}
+use Rattle.picture_model.proofs.FaultlessGeometry.{IsRight}
 use Rattle.picture_model.proofs.Grains.{other_planes}
 use Rattle.std.specs.Prelude.{◌==◌}
 

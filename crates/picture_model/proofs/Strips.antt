@@ -14,7 +14,7 @@ use Rattle.std.specs.Prelude.{option_map}
 use Rattle.picture_model.specs.Described.{both, describes, layout_of, memory_of, offset, stride}
 use Rattle.picture_model.specs.Places.{vbi_line_offset}
 use Rattle.picture_model.specs.Plans.{Track, Strip, IsInOneChunk, FitsTrack, AreCuts, IsPlan, cuts_of, grain_bytes, grain_clipped, grains_of, kind_by, pieces_of, plan, row_strip, skipped_strip, vbi_strip, track}
-use Rattle.picture_model.proofs.Right.{IsRight}
+use Rattle.picture_model.proofs.FaultlessGeometry.{IsRight}
 use Rattle.picture_model.proofs.Offsets.{vbi_end}
 use Rattle.picture_model.proofs.Grains.{IsTrack, GrainsFit, grain_small, row_track-IsTrack, unwritten-IsTrack}
 use Rattle.picture_model.proofs.Cutting.{EachFits, AreOrdered, AllFit, cuts_of-AreCuts, only_cuts_of}

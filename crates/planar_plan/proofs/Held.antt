@@ -12,7 +12,7 @@ use Rattle.picture_model.specs.declared.Piece.{Piece}
 use Rattle.picture_model.specs.Described.{IsDescription, describes, extent, extents, fields_of, highest_end, layout_of, memory_of, taken, vbi_area}
 use Rattle.picture_model.specs.Places.{row_offset, vbi_line_offset}
 use Rattle.picture_model.specs.Plans.{Strip, cuts_of, grain_bytes, grain_clipped, grains_of, pieces_of, plan, row_strip, row_track, skipped_strip, vbi_strip}
-use Rattle.picture_model.proofs.Right.{IsFrame-IsRight, IsRight}
+use Rattle.picture_model.proofs.FaultlessGeometry.{IsFrame-IsRight, IsRight}
 use Rattle.picture_model.proofs.Spans.{row_runs}
 use Rattle.picture_model.proofs.Offsets.{IsRowAt, area_end, end_in_mapped, end_of_others, row_offset-IsRowAt, row_within, vbi_line_within}
 use Rattle.picture_model.proofs.Grains.{GrainsFit, grain_small, held_plane, row_grains, row_track-IsTrack}

@@ -10,8 +10,8 @@ use Rattle.picture_model.specs.declared.BuildFault.TheVariants.{ProgramBase, Pro
 use Rattle.picture_model.specs.Described.{memory_of}
 use Rattle.picture_model.specs.Geometry.{first_after, first_fault, frame_fault, frame_faults, is_multiple, program_base, program_faults, program_on_page, when}
 use Rattle.picture_model.specs.Programs.{compiled}
-use Rattle.picture_model.proofs.Made.{compiled_program}
-use Rattle.picture_model.proofs.Right.{IsFrame-IsRight, IsValid-IsFrame}
+use Rattle.picture_model.proofs.CompiledProgram.{compiled_program}
+use Rattle.picture_model.proofs.FaultlessGeometry.{IsFrame-IsRight, IsValid-IsFrame}
 use Rattle.picture_model.proofs.Sections.{compiled_sound}
 use Rattle.planar_plan.proofs.Faults.{none_front}
 use Rattle.page_table.specs.Grants.{is_met}

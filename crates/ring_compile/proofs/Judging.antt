@@ -21,7 +21,7 @@ use Rattle.machine_model.specs.Paths.{IsSound, RiscProgram, shares_byte}
 use Rattle.page_table.specs.Scattered.{ArePages, IsScatterList, ScatterList}
 use Rattle.ring_model.specs.Rings.{IsRing, Ring, bytes_of, closing, ends, last_write, memory_of, opening, ring_program, round}
 use Rattle.ring_model.proofs.Few.{ring_few}
-use Rattle.ring_model.proofs.Made.{ring_made}
+use Rattle.ring_model.proofs.RingProgram.{ring_made}
 use Rattle.ring_model.proofs.Sound.{ring_length, ring_sound}
 use Rattle.ring_compile.specs.declared.fault.RingError.{RingError}
 use Rattle.ring_compile.specs.Kept.{IsFront, IsInBounds, IsJudged, IsKept}

@@ -26,7 +26,7 @@ use Rattle.ring_model.specs.Runs.{block_end, block_ends, ended_by}
 use Rattle.ring_law.proofs.Rounds.{blocks_ended, ended_long, executed, executed-Walks, last_ended}
 use Rattle.picture_model.specs.Programs.{no_control}
 use Rattle.ring_law.proofs.Asks.{executed_quiet, lines_use, other_uses, ring_stores, IsOther}
-use Rattle.machine_model.proofs.Fixed.{program-step}
+use Rattle.machine_model.proofs.ProgramStays.{program-step}
 use Rattle.fifo_model.specs.Queues.{queue_state}
 use Rattle.machine_model.specs.Turns.{sets_fdsr, stored_all, with_interrupts}
 

@@ -16,7 +16,7 @@ use Rattle.field_law.proofs.Within.{IsWithin, Within, job_asks}
 use Rattle.machine_model.specs.declared.Job.{Job}
 use Rattle.ring_law.proofs.Making.{Makes}
 use Rattle.field_law.proofs.Opening.{Opening, opening-Reaches}
-use Rattle.field_law.proofs.Served.{Outlook}
+use Rattle.field_law.proofs.AskedAndToCome.{Outlook}
 use Rattle.fifo_model.specs.declared.Queue.{Queue}
 use Rattle.machine_model.specs.Paths.{RiscProgram}
 use Rattle.machine_model.specs.declared.Skipping.{Skipping}
@@ -25,7 +25,7 @@ use Rattle.field_law.specs.Fields.{Token}
 use Rattle.machine_model.specs.Turns.{counted, turn_if, worked, waited, turn}
 use Rattle.irq_status.specs.Register.{fdsr, has}
 use Rattle.ring_law.proofs.Turns.{turn-RingTurned, resting}
-use Rattle.machine_model.proofs.Fixed.{program-step}
+use Rattle.machine_model.proofs.ProgramStays.{program-step}
 use Rattle.field_law.proofs.Pushes.{step-IsSaid, within_moved, ahead_there}
 use Rattle.field_law.proofs.Moved.{opening_moved}
 

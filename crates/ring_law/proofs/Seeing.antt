@@ -30,7 +30,7 @@ use Rattle.ring_law.proofs.Addresses.{block_some, last_there, next_begin, positi
 use Rattle.ring_law.proofs.Rounds.{block_split}
 use Rattle.machine_model.specs.Turns.{common_code, is_done, lowest_served, lowest_stray}
 use Rattle.picture_model.proofs.Circle.{fetch_at}
-use Rattle.machine_model.proofs.Fixed.{program-step}
+use Rattle.machine_model.proofs.ProgramStays.{program-step}
 use Rattle.ring_model.proofs.Sound.{ring_fine, ring_sound}
 use Rattle.machine_model.proofs.InstrSeen.{running-StandsAt}
 use Rattle.ring_law.proofs.Walks.{unretired_ends}

@@ -5,7 +5,7 @@ use Rattle.std.proofs.lemmas.Bool.{cases_lt}
 use Rattle.std.proofs.lemmas.List.{drop-take}
 use Rattle.std.specs.List.{flat_map}
 use Rattle.std.proofs.Math.Nat.{mod-lt}
-use Rattle.field_law.proofs.Served.{AnyRest}
+use Rattle.field_law.proofs.AskedAndToCome.{AnyRest}
 use Rattle.field_law.specs.Fields.{Brings, Mark}
 use Rattle.ring_law.proofs.Ending.{Ended}
 use Rattle.ring_law.specs.Laws.{EndsBlock, RingsShowNoFault, RingsShowTheirBlocks}

@@ -19,7 +19,7 @@ use Rattle.risc_word.specs.declared.Instr.TheVariants.{Jump, Skip, Skip123, Sync
 use Rattle.ring_law.proofs.Making.{Makes, makes_made}
 use Rattle.machine_model.specs.declared.Skipping.TheVariants.{Nothing}
 use Rattle.fifo_model.specs.declared.Queue.TheVariants.{One, Three, Two}
-use Rattle.field_law.proofs.Served.{Outlook}
+use Rattle.field_law.proofs.AskedAndToCome.{Outlook}
 use Rattle.fifo_model.specs.declared.Queue.{Queue}
 use Rattle.risc_word.specs.Words.{Reading, encoded}
 use Rattle.machine_model.specs.Paths.{RiscProgram, data_cause, demands_cause, demands_of, is_word, target_before, no_demands, fetch}

@@ -10,7 +10,7 @@ use Rattle.risc_word.specs.Words.{flag}
 use Rattle.page_table.specs.Taken.{in_order}
 use Rattle.machine_model.specs.Paths.{RiscProgram}
 use Rattle.picture_model.proofs.Each.{Each, each_flat_map, each_range}
-use Rattle.picture_model.proofs.Fine.{IsGoodInstr, flag_small, good_line}
+use Rattle.picture_model.proofs.FaultlessLines.{IsGoodInstr, flag_small, good_line}
 use Rattle.ring_model.specs.Rings.{IsRing, Ring, block_instrs, last_with, line_instrs, line_strip, lines_instrs, mark, memory_of, round, with_control}
 use Rattle.ring_model.proofs.Lines.{aligned, block_lines, line-IsStrip}
 

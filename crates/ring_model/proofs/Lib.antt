@@ -3,5 +3,5 @@ pub mod Blocks
 pub mod Sound
 pub mod Writes
 pub mod Few
-pub mod Made
+pub mod RingProgram
 pub mod Counting

@@ -9,7 +9,7 @@ use Rattle.machine_model.specs.Paths.{IsSound, RiscProgram, is_word}
 use Rattle.picture_model.specs.Programs.{words_of}
 use Rattle.picture_model.proofs.Circle.{IsAt, IsFineInstr, IsPlain, a_word, circle_sound, lead_plain, split_length, words_split}
 use Rattle.picture_model.proofs.Each.{Each, each_append, each_only}
-use Rattle.picture_model.proofs.Fine.{IsGoodInstr, good_sync}
+use Rattle.picture_model.proofs.FaultlessLines.{IsGoodInstr, good_sync}
 use Rattle.ring_model.specs.Rings.{IsRing, Ring, closing, memory_of, opening, ring_instrs, ring_program, round}
 use Rattle.ring_model.proofs.Blocks.{good_round}
 

@@ -9,7 +9,7 @@ use Rattle.risc_word.specs.declared.Code.{Code}
 use Rattle.risc_word.specs.declared.WordFault.TheVariants.{Cut}
 use Rattle.risc_word.specs.Words.{Reading, by_opcode, code_numbered, encoded, first_instr, sync_for}
 use Rattle.risc_word.proofs.MoreWords.{first_instr-more}
-use Rattle.risc_word.proofs.Read.{IsKnownAt, known_of_instr_at}
+use Rattle.risc_word.proofs.ReadInstructions.{IsKnownAt, known_of_instr_at}
 use Rattle.risc_listing.specs.Listings.{if_spelled, line_of, spelled, word_lines, words_of}
 use Rattle.risc_listing.proofs.Passing.{lines_more}
 

@@ -8,7 +8,7 @@ use Rattle.std.proofs.Math.Seq.{take-append_seam, take-append-add}
 use Rattle.risc_word.specs.declared.Instr.{Instr}
 use Rattle.risc_word.specs.declared.Instr.TheVariants.{Write, Skip, WriteC, Jump, Sync, Write123, Skip123, Write1S23}
 use Rattle.risc_word.specs.Words.{IsInstr, Reading, encoded, first_instr, planar_words}
-use Rattle.risc_word.proofs.Read.{known_at}
+use Rattle.risc_word.proofs.ReadInstructions.{known_at}
 use Rattle.risc_word.proofs.ReadBack.{begins, three_of}
 use Rattle.risc_listing.specs.Listings.{if_spelled, spelled}
 use Rattle.risc_text.proofs.Lines.{AddressesFit}

@@ -1,5 +1,5 @@
 pub mod FirstWord
 pub mod MoreWords
-pub mod Read
+pub mod ReadInstructions
 pub mod ReadBack
 pub mod Fronts

@@ -6,4 +6,4 @@ pub mod Counting
 pub mod Loops
 pub mod Placing
 pub mod Parts
-pub mod Made
+pub mod MadeChain

@@ -9,9 +9,9 @@ use Rattle.machine_model.specs.Accesses.{AreFetchedAlike}
 use Rattle.machine_model.specs.States.{State}
 use Rattle.machine_model.specs.Steps.{Turn, with_program}
 use Rattle.machine_model.specs.Turns.{turn}
-use Rattle.machine_model.proofs.Beside.{IsReadAlike, turn-with_program}
-use Rattle.machine_model.proofs.Fixed.{program-step}
-use Rattle.machine_model.proofs.Rows.{three_parts}
+use Rattle.machine_model.proofs.SameTurn.{IsReadAlike, turn-with_program}
+use Rattle.machine_model.proofs.ProgramStays.{program-step}
+use Rattle.machine_model.proofs.BeforeTurns.{three_parts}
 use Rattle.dma_machine.specs.Facts.{IsMachine}
 use Rattle.dma_machine.specs.Looks.{fetches_at, next_fetch}
 use Rattle.chain_model.specs.declared.PartWords.{PartWords}

@@ -1,6 +1,6 @@
 use Rattle.std.proofs.Common.{ap, arith, add-one, drop-cons, drop_of_length-le}
 use Rattle.clip_spans.specs.Clipping.{next_edge}
-use Rattle.clip_spans.proofs.Alike.{few_edges}
+use Rattle.clip_spans.proofs.RowsAlike.{few_edges}
 use Rattle.clip_spans.proofs.next_edge.Goals as goal
 
 pub loop-rect-init : goal.loop-rect-init

@@ -1,6 +1,6 @@
 use Rattle.std.proofs.Common.{◌≡◌, ◌∙◌, sym, ap, subst, ◌<◌}
 use Rattle.clip_spans.specs.Clipping.{next_edge}
-use Rattle.clip_spans.proofs.Alike.{alike_spans, later_edge}
+use Rattle.clip_spans.proofs.RowsAlike.{alike_spans, later_edge}
 use Rattle.clip_spans.proofs.Clips.next_edge.Goals as goal
 
 pub returns-clause-later : goal.returns-clause-later

@@ -8,7 +8,7 @@ use Rattle.command_texts.specs.declared.refusal.Refusal.TheVariants.{Malformed, 
 use Rattle.command_steps.specs.Inputs.{OfInput, StopsAt}
 use Rattle.command_inputs.specs.Programs.{IsBadFile, Misreads, longest_program}
 use Rattle.command_steps.proofs.Inputs.{OfInput-map}
-use Rattle.command_inputs.proofs.Whole.{read_is_whole}
+use Rattle.command_inputs.proofs.WholeFiles.{read_is_whole}
 use Rattle.command_inputs.proofs.programs.read_file.Goals as goal
 
 misread : (name : List ℕ) (refusal : Refusal) (old new : Seen) (bytes : List ℕ) → OfInput name old.told.inputs (λ content. bytes ≡ take (longest_program + 1) content) →

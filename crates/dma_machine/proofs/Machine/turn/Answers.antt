@@ -1,4 +1,4 @@
-use Rattle.machine_model.proofs.Inside.{StaysInside-safe}
+use Rattle.machine_model.proofs.WritesAndFetches.{StaysInside-safe}
 use Rattle.dma_machine.proofs.Machine.turn.Goals as goal
 
 pub returns-clause-inside : goal.returns-clause-inside

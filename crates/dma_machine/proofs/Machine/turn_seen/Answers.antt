@@ -1,6 +1,6 @@
 use Rattle.std.proofs.Common.{sym, ap, subst, ◌∙◌}
 use Rattle.fifo_model.specs.Queues.{more}
-use Rattle.machine_model.proofs.Inside.{StaysInside-safe}
+use Rattle.machine_model.proofs.WritesAndFetches.{StaysInside-safe}
 use Rattle.dma_machine.specs.Counts.{with_turns}
 use Rattle.dma_machine.proofs.Counting.{acted-counted}
 use Rattle.dma_machine.specs.Looks.{RetiresAt}

@@ -1,7 +1,7 @@
 use Rattle.std.proofs.Common.{subst, arith}
 use Rattle.std.proofs.lemmas.Grind.{common_steps}
 use Rattle.fifo_model.specs.Queues.{with_queue_state, removed, queue_state, IsFifo}
-use Rattle.fifo_model.proofs.Kept.{IsFifo-removed}
+use Rattle.fifo_model.proofs.ChangesKeepQueues.{IsFifo-removed}
 use Rattle.fifo_model.proofs.Rings.{AreRings-kept}
 use Rattle.fifo_model.proofs.Fifo.discard.Goals as goal
 

@@ -1,7 +1,7 @@
 use Rattle.std.proofs.Common.{subst, arith}
 use Rattle.std.proofs.lemmas.Grind.{common_steps}
 use Rattle.fifo_model.specs.Queues.{all_removed, IsFifo}
-use Rattle.fifo_model.proofs.Kept.{IsFifo-all_removed}
+use Rattle.fifo_model.proofs.ChangesKeepQueues.{IsFifo-all_removed}
 use Rattle.fifo_model.proofs.Rings.{AreRings-kept}
 use Rattle.fifo_model.proofs.Fifo.pop_controls.Goals as goal
 

@@ -1,7 +1,7 @@
 use Rattle.std.proofs.Common.{subst, arith}
 use Rattle.std.proofs.lemmas.Grind.{common_steps}
 use Rattle.fifo_model.specs.Queues.{pushed, IsFifo}
-use Rattle.fifo_model.proofs.Kept.{IsFifo-pushed}
+use Rattle.fifo_model.proofs.ChangesKeepQueues.{IsFifo-pushed}
 use Rattle.fifo_model.proofs.Rings.{AreRings-kept}
 use Rattle.fifo_model.proofs.Fifo.push.Goals as goal
 

@@ -1,7 +1,7 @@
 use Rattle.std.proofs.Common.{subst, arith}
 use Rattle.std.proofs.lemmas.Grind.{common_steps}
 use Rattle.fifo_model.specs.Queues.{with_queue_state, taken_from, queue_state, IsFifo}
-use Rattle.fifo_model.proofs.Kept.{IsFifo-taken_from}
+use Rattle.fifo_model.proofs.ChangesKeepQueues.{IsFifo-taken_from}
 use Rattle.fifo_model.proofs.Rings.{AreRings-kept}
 use Rattle.fifo_model.proofs.Fifo.take.Goals as goal
 

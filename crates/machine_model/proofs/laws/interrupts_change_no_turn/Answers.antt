@@ -1,4 +1,4 @@
-use Rattle.machine_model.proofs.Beside.{turn-with_interrupts, fdsr-turn}
+use Rattle.machine_model.proofs.SameTurn.{turn-with_interrupts, fdsr-turn}
 use Rattle.machine_model.proofs.laws.interrupts_change_no_turn.Goals as goal
 
 pub returns-clause-same : goal.returns-clause-same

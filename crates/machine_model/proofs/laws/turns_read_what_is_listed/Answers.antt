@@ -1,4 +1,4 @@
-use Rattle.machine_model.proofs.Beside.{turn-with_program}
+use Rattle.machine_model.proofs.SameTurn.{turn-with_program}
 use Rattle.machine_model.proofs.FetchedAlike.{turn-fetches}
 use Rattle.machine_model.proofs.laws.turns_read_what_is_listed.Goals as goal
 

@@ -1,4 +1,4 @@
-use Rattle.picture_model.proofs.Right.{IsFrame-IsRight}
+use Rattle.picture_model.proofs.FaultlessGeometry.{IsFrame-IsRight}
 use Rattle.picture_model.proofs.Sections.{compiled_sound}
 use Rattle.picture_model.proofs.laws.compiled_programs_are_sound.Goals as goal
 

@@ -1,6 +1,6 @@
 use Rattle.picture_model.proofs.Limit.{sections_few}
-use Rattle.picture_model.proofs.Made.{compiled_program}
-use Rattle.picture_model.proofs.Right.{IsFrame-IsRight}
+use Rattle.picture_model.proofs.CompiledProgram.{compiled_program}
+use Rattle.picture_model.proofs.FaultlessGeometry.{IsFrame-IsRight}
 use Rattle.picture_model.proofs.laws.compiled_programs_can_be_made.Goals as goal
 
 pub returns-clause-words : goal.returns-clause-words

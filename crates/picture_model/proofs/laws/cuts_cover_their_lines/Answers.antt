@@ -1,6 +1,6 @@
 use Rattle.picture_model.specs.Described.{memory_of}
 use Rattle.picture_model.specs.Plans.{row_strip, skipped_strip, vbi_strip}
-use Rattle.picture_model.proofs.Right.{IsFrame-IsRight}
+use Rattle.picture_model.proofs.FaultlessGeometry.{IsFrame-IsRight}
 use Rattle.picture_model.proofs.Safe.{cover_safely}
 use Rattle.picture_model.proofs.Strips.{row-IsStrip, skipped-IsStrip, vbi-IsStrip}
 use Rattle.picture_model.proofs.laws.cuts_cover_their_lines.Goals as goal

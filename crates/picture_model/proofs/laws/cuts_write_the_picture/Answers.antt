@@ -1,4 +1,4 @@
-use Rattle.picture_model.proofs.Right.{IsFrame-IsRight}
+use Rattle.picture_model.proofs.FaultlessGeometry.{IsFrame-IsRight}
 use Rattle.picture_model.proofs.Rows.{row_cuts_are, vbi_cuts_are}
 use Rattle.picture_model.proofs.laws.cuts_write_the_picture.Goals as goal
 

@@ -1,6 +1,6 @@
 use Rattle.picture_model.specs.Described.{memory_of}
 use Rattle.picture_model.specs.Plans.{row_strip, skipped_strip, vbi_strip}
-use Rattle.picture_model.proofs.Right.{IsFrame-IsRight}
+use Rattle.picture_model.proofs.FaultlessGeometry.{IsFrame-IsRight}
 use Rattle.picture_model.proofs.Strips.{plan_is, plan_only, row-IsStrip, skipped-IsStrip, vbi-IsStrip}
 use Rattle.picture_model.proofs.laws.every_line_has_one_plan.Goals as goal
 

@@ -1,4 +1,4 @@
-use Rattle.picture_model.proofs.Right.{IsFrame-IsRight}
+use Rattle.picture_model.proofs.FaultlessGeometry.{IsFrame-IsRight}
 use Rattle.picture_model.proofs.Places.{place_granted, places_differ}
 use Rattle.picture_model.proofs.laws.places_are_granted_and_differ.Goals as goal
 

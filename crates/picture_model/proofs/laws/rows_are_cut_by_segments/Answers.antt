@@ -1,4 +1,4 @@
-use Rattle.picture_model.proofs.Right.{IsFrame-IsRight}
+use Rattle.picture_model.proofs.FaultlessGeometry.{IsFrame-IsRight}
 use Rattle.picture_model.proofs.Spans.{row_runs}
 use Rattle.picture_model.proofs.laws.rows_are_cut_by_segments.Goals as goal
 

@@ -1,5 +1,5 @@
 use Rattle.picture_model.proofs.Limit.{sections_few}
-use Rattle.picture_model.proofs.Right.{IsFrame-IsRight}
+use Rattle.picture_model.proofs.FaultlessGeometry.{IsFrame-IsRight}
 use Rattle.picture_model.proofs.Sections.{sections_as_long}
 use Rattle.picture_model.proofs.laws.sections_are_as_long_anywhere.Goals as goal
 

@@ -1,8 +1,8 @@
 use Rattle.std.proofs.Common.{◌≡◌, ◌+◌, ◌*◌, ◌%◌, ◌^◌, ◌++◌, ◌∙◌, ℕ, List, length, ap, arith}
 use Rattle.pixel_layout.specs.declared.Parity.TheVariants.{Top}
 use Rattle.picture_model.proofs.Limit.{sections_few}
-use Rattle.picture_model.proofs.Right.{IsFrame-IsRight}
-use Rattle.program_build.proofs.Whole.{both_long, both_whole, open_long, open_words}
+use Rattle.picture_model.proofs.FaultlessGeometry.{IsFrame-IsRight}
+use Rattle.program_build.proofs.SectionWords.{both_long, both_whole, open_long, open_words}
 use Rattle.program_build.proofs.sections.both_sections.Goals as goal
 
 pub address_after-bottom-requires : goal.address_after-bottom-requires

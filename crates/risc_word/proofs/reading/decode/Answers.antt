@@ -1,4 +1,4 @@
-use Rattle.risc_word.proofs.Read.{if_read_instr, if_read_length, if_read_within}
+use Rattle.risc_word.proofs.ReadInstructions.{if_read_instr, if_read_length, if_read_within}
 use Rattle.risc_word.proofs.reading.decode.Goals as goal
 
 pub returns-clause-instr : goal.returns-clause-instr

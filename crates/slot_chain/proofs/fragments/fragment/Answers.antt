@@ -1,6 +1,6 @@
 use Rattle.std.proofs.Common.{◌∙◌, length, ap, arith}
 use Rattle.picture_model.proofs.Limit.{sections_few}
-use Rattle.picture_model.proofs.Right.{IsFrame-IsRight}
+use Rattle.picture_model.proofs.FaultlessGeometry.{IsFrame-IsRight}
 use Rattle.slot_chain.proofs.fragments.fragment.Goals as goal
 
 pub returns-clause-words : goal.returns-clause-words

@@ -1,4 +1,4 @@
-use Rattle.picture_model.proofs.Right.{IsFrame-memory}
+use Rattle.picture_model.proofs.FaultlessGeometry.{IsFrame-memory}
 use Rattle.planar_plan.proofs.frame.Frame.grants.Goals as goal
 
 pub grants-requires-clause-aligned : goal.grants-requires-clause-aligned

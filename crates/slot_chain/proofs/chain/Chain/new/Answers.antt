@@ -1,6 +1,6 @@
 use Rattle.std.proofs.Common.{ap, ◌∙◌}
 use Rattle.machine_model.specs.States.{State}
-use Rattle.slot_chain.proofs.Made.{made_chain, made_patching, made_sound, made_wheel}
+use Rattle.slot_chain.proofs.MadeChain.{made_chain, made_patching, made_sound, made_wheel}
 use Rattle.slot_chain.proofs.chain.Chain.new.Goals as goal
 
 pub invariant_of-result : goal.invariant_of-result

@@ -7,8 +7,8 @@ use Rattle.page_table.specs.Taken.{page_at}
 use Rattle.page_table.proofs.Pages.{total-pages}
 use Rattle.machine_model.specs.Paths.{IsProgram, shares_byte}
 use Rattle.picture_model.proofs.Each.{each_All, each_append, each_flat_map, each_only}
-use Rattle.picture_model.proofs.Fine.{AreWords, IsGoodInstr}
-use Rattle.picture_model.proofs.Made.{chunks_grants, none_shares}
+use Rattle.picture_model.proofs.FaultlessLines.{AreWords, IsGoodInstr}
+use Rattle.picture_model.proofs.CompiledProgram.{chunks_grants, none_shares}
 use Rattle.picture_model.proofs.Places.{any-in_order}
 use Rattle.ring_model.specs.Rings.{IsPlaced, IsRing, Ring, closing, memory_of, opening, ring_instrs, ring_program, round}
 use Rattle.ring_model.proofs.Few.{ring_few}

@@ -17,7 +17,7 @@ use Rattle.picture_model.specs.Places.{HasPlane, byte_clipped, place, row_offset
 use Rattle.picture_model.specs.Plans.{Cut, IsRowCut, IsVbiCut, Strip, Track, address_of, cuts_of, grain_bytes, grains_of, row_strip, row_track, skipped_strip, track, vbi_strip}
 use Rattle.picture_model.proofs.Each.{Each}
 use Rattle.picture_model.proofs.Grains.{row_grains}
-use Rattle.picture_model.proofs.Right.{IsRight}
+use Rattle.picture_model.proofs.FaultlessGeometry.{IsRight}
 use Rattle.picture_model.proofs.Rows.{row_cuts_are, vbi_cuts_are}
 use Rattle.picture_model.proofs.Safe.{cuts_follow}
 use Rattle.picture_model.proofs.Spans.{byte_clipped-grain}

@@ -26,7 +26,7 @@ use Rattle.machine_model.proofs.Demanded.{demand-granted, written-IsRange}
 use Rattle.machine_model.proofs.Turning.{apply-kept}
 use Rattle.machine_model.proofs.Following.{Follows, runs_there, follows}
 use Rattle.machine_model.proofs.Safe.{IsSafe-Follows}
-use Rattle.machine_model.proofs.Rows.{IsWord, IsWord-is_word, IsWord-later, is_word-IsWord, fetch-is_word, fetch-KnownAt, idle-IsFine}
+use Rattle.machine_model.proofs.BeforeTurns.{IsWord, IsWord-is_word, IsWord-later, is_word-IsWord, fetch-is_word, fetch-KnownAt, idle-IsFine}
 
 -- ---- writes
 

@@ -20,10 +20,10 @@ use Rattle.picture_model.specs.Described.{IsDescription, describes, memory_from,
 use Rattle.picture_model.specs.Geometry.{IsValid}
 use Rattle.picture_model.specs.Programs.{body, closing, compiled, opening, section, section_length, sections_by, words_of}
 use Rattle.picture_model.proofs.Each.{Each, each_All, each_append, each_flat_map, each_only}
-use Rattle.picture_model.proofs.Fine.{AreWords, IsGoodInstr}
+use Rattle.picture_model.proofs.FaultlessLines.{AreWords, IsGoodInstr}
 use Rattle.picture_model.proofs.Limit.{memory_few, sections_few}
 use Rattle.picture_model.proofs.Places.{any-in_order}
-use Rattle.picture_model.proofs.Right.{IsFrame-IsRight, IsRight, IsValid-HasRoom, IsValid-IsFrame}
+use Rattle.picture_model.proofs.FaultlessGeometry.{IsFrame-IsRight, IsRight, IsValid-HasRoom, IsValid-IsFrame}
 use Rattle.picture_model.proofs.Sections.{closing_words, good_body, section_long}
 
 -- chunks in rising order

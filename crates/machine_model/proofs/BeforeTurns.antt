@@ -5,7 +5,7 @@ use Rattle.risc_word.specs.declared.Instr.{Instr}
 use Rattle.risc_word.specs.declared.Instr.TheVariants.{Write, Skip, WriteC, Jump, Sync}
 use Rattle.risc_word.specs.declared.WordFault.TheVariants.{Cut}
 use Rattle.risc_word.specs.Words.{instr_at}
-use Rattle.risc_word.proofs.Read.{KnownAt, known_at}
+use Rattle.risc_word.proofs.ReadInstructions.{KnownAt, known_at}
 use Rattle.fifo_model.specs.declared.Queue.{Queue}
 use Rattle.page_table.specs.Grants.{Chunk, granted}
 use Rattle.machine_model.specs.declared.Cause.{Cause}
