@@ -11,9 +11,7 @@ use Rattle.page_table.specs.Taken.{listed, pair_chunk}
 use Rattle.machine_model.specs.Paths.{RiscProgram}
 use Rattle.capture_file.specs.declared.FileFault.{FileFault}
 use Rattle.capture_file.specs.declared.program.Layout.{Layout}
-use Rattle.capture_file.specs.declared.program.ProgramError.{ProgramError}
-use Rattle.capture_file.specs.declared.program.ProgramError.TheVariants as errors
-use Rattle.capture_file.specs.Programs.{◌>>=◌, Fails, words_in, chunk_field, chunks_field, fill_fault}
+use Rattle.capture_file.specs.Programs.{◌>>=◌, words_in, chunk_field, chunks_field, fill_fault}
 
 pub words_more : (front : List ℕ) (count i : ℕ) (rest total : List ℕ) → i < count → front ++ words_in (count - i) rest ≡ total →
     (front ++ little_number 4 rest ∷ []) ++ words_in (count - (i + 1)) (drop 4 rest) ≡ total
@@ -87,11 +85,10 @@ module _ (layout : Layout) (size : ℕ) (program : RiscProgram) (front : List Ch
       rw (k, h) (regroup front c (chunks_field layout size program (count - (i + 1)) (c.at + c.len) (sum + c.len) after)) in
       sym one ∙ so_far
 
-  pub chunks_end : (e : ProgramError) → i < count → Fails e (chunk_field layout size program from sum bytes) →
-      with_front front (chunks_field layout size program (count - i) from sum bytes) ≡ total → Fails e total
+  pub chunks_end : (f : FileFault) → i < count → chunk_field layout size program from sum bytes ≡ Err f →
+      with_front front (chunks_field layout size program (count - i) from sum bytes) ≡ total → total ≡ Err f
   unfolding chunks_field
-  chunks_end errors.Memory lt h so_far = tt
-  chunks_end (errors.File f) lt h so_far =
+  chunks_end f lt h so_far =
       let k : count - i ≡ suc (count - (i + 1)) = omega arith in
       let one : with_front front (chunks_field layout size program (count - i) from sum bytes) ≡ Err f = rw (k, h) refl in
       sym so_far ∙ one

@@ -1,5 +1,5 @@
 -- What the bytes of a program file stand for, and the one spelling of a program.
-use Rattle.std.specs.Prelude.{◌≡◌, ℕ, zero, suc, ◌+◌, ◌-◌, ◌*◌, ◌%◌, ◌^◌, ◌<◌, Bool, not, ◌&&◌, List, [], ◌∷◌, ◌++◌, length, drop, Option, Some, None, Result, Ok, Err, if◌then◌else◌, ◌==◌, nat_lt, nat_le, codes}
+use Rattle.std.specs.Prelude.{◌≡◌, ℕ, zero, suc, ◌+◌, ◌-◌, ◌*◌, ◌%◌, ◌^◌, ◌<◌, Bool, not, ◌&&◌, List, [], ◌∷◌, ◌++◌, length, drop, Option, Some, None, Result, Ok, Err, IsOk, if◌then◌else◌, ◌==◌, nat_lt, nat_le, codes}
 use Rattle.std.specs.List.{flat_map, list_all}
 use Rattle.byteorder.specs.Endian.{little_number, little_bytes}
 use Rattle.page_table.specs.Grants.{Chunk, chunk, is_page, max_bytes, max_chunks, page_size}
@@ -178,6 +178,22 @@ program_in size bytes = do
 
 abbrev pub program_of : List ℕ → Result ProgramFile FileFault
 program_of bytes = program_in (length bytes) bytes
+
+-- the words, and that a file has them: its fields up to there are right and whole
+unfoldable pub words_read : ℕ → List ℕ → Field (List ℕ)
+words_read size bytes = do
+  layout ← layout_field size bytes
+  base ← base_field size layout.1
+  count ← word_count_field size base.0 base.1
+  words_field size count.0 count.1
+
+abbrev pub HasWords : List ℕ → Type 0
+HasWords bytes = IsOk (words_read (length bytes) bytes)
+
+-- a field is read so; it takes no memory
+abbrev pub Reads : {X Y : Type 0} → (X → Y) → Result X FileFault → Result Y FileFault → Type 0
+Reads view (Ok x) wanted = wanted ≡ Ok (view x)
+Reads view (Err fault) wanted = wanted ≡ Err fault
 
 -- a call answers this; only want of memory is free
 abbrev pub Fails : {Y : Type 0} → ProgramError → Result Y FileFault → Type 0

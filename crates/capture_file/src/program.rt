@@ -1,13 +1,13 @@
 //! Program files.
 
-ghost use Rattle.capture_file.specs.Programs.{Gives, address_fault, base_field, base_fault, chunk_count_fault, chunk_count_field, chunk_field, chunks_field, cut, fill_fault, fill_field, is_length, judged, layout_field, layout_of, length_fault, long_chunk_field, number_field, page_fault, page_field, program_of, without_grants, word_count_fault, word_count_field, words_field, words_in, wrong};
+ghost use Rattle.capture_file.specs.Programs.{Gives, HasWords, Reads, address_fault, base_field, base_fault, chunk_count_fault, chunk_count_field, chunk_field, chunks_field, cut, fill_fault, fill_field, is_length, judged, layout_field, layout_of, length_fault, long_chunk_field, number_field, page_fault, page_field, program_of, without_grants, word_count_fault, word_count_field, words_field, words_in, wrong};
 ghost use Rattle.std.specs.List.{All, list_all};
 ghost use Rattle.byteorder.specs.Endian.{little_number};
 ghost use Rattle.page_table.specs.Grants.{AreRising, chunk, is_page, total, max_bytes, max_chunks};
 ghost use Rattle.capture_file.specs.declared.program.ProgramError.TheVariants.{File, Memory};
 ghost use Rattle.page_table.specs.Taken.{listed, pair_chunk};
 ghost use Rattle.machine_model.specs.Paths.{shares_byte, max_words};
-ghost use Rattle.std.specs.Prelude.{false, ◌%◌, ◌≡◌, ◌+◌, ◌-◌, ◌*◌, ◌^◌, ◌≤◌, ◌<◌, List, ℕ, [], drop, length, IfOk, IfErr, Ok};
+ghost use Rattle.std.specs.Prelude.{false, ◌%◌, ◌≡◌, ◌+◌, ◌-◌, ◌*◌, ◌^◌, ◌≤◌, ◌<◌, List, ℕ, [], drop, length, IfOk, IfErr, IsOk, Ok};
 
 use super::records::number;
 use super::{FileFault, FileKind};
@@ -260,30 +260,30 @@ fn fill_wrong(layout: Layout, chunks: &[(u32, u32)]) -> Option<FileKind>
 /// Fields at the front of what is left of a file, each with what is left behind it.
 impl<'a> Rest<'a> {
     // The end cuts a field.
-    fn short(self) -> ProgramError
-        ensures { result ≡ File (cut self.entry.size) }
+    fn short(self) -> FileFault
+        ensures { result ≡ cut self.entry.size }
     {
-        ProgramError::File(FileFault {
+        FileFault {
             at: self.size as u64,
             kind: FileKind::Short,
-        })
+        }
     }
 
     // The field is at fault at its first byte.
-    fn fault(self, kind: FileKind) -> ProgramError
+    fn fault(self, kind: FileKind) -> FileFault
         requires { length self.bytes.now ≤ self.size }
-        ensures { result ≡ File (wrong self.entry.size self.entry.bytes.now kind) }
+        ensures { result ≡ wrong self.entry.size self.entry.bytes.now kind }
     {
-        ProgramError::File(FileFault {
+        FileFault {
             at: (self.size - self.bytes.len()) as u64,
             kind,
-        })
+        }
     }
 
     // Whether the field is right.
-    fn judge(self, wrong: Option<FileKind>) -> Result<(), ProgramError>
+    fn judge(self, wrong: Option<FileKind>) -> Result<(), FileFault>
         requires { length self.bytes.now ≤ self.size }
-        ensures { Gives (λ x. x) result (judged wrong self.entry.size self.entry.bytes.now) }
+        ensures { result ≡ judged wrong self.entry.size self.entry.bytes.now }
     {
         match wrong {
             None => Ok(()),
@@ -303,8 +303,8 @@ impl<'a> Rest<'a> {
         }
     }
 
-    fn number(self) -> Result<(u32, Rest<'a>), ProgramError>
-        ensures value { Gives (λ x. (x.0, x.1.bytes.now)) result (number_field self.entry.size self.entry.bytes.now) }
+    fn number(self) -> Result<(u32, Rest<'a>), FileFault>
+        ensures value { Reads (λ x. (x.0, x.1.bytes.now)) result (number_field self.entry.size self.entry.bytes.now) }
         ensures rest { IfOk result (λ x. (x.1.size ≡ self.entry.size) × (length x.1.bytes.now ≤ length self.entry.bytes.now)) }
     {
         match number(self.bytes) {
@@ -314,9 +314,9 @@ impl<'a> Rest<'a> {
     }
 
     #[tactic(auto, unfolding(crate::specs::Programs::layout_field))]
-    fn layout(self) -> Result<(Layout, Rest<'a>), ProgramError>
+    fn layout(self) -> Result<(Layout, Rest<'a>), FileFault>
         requires { length self.bytes.now ≤ self.size }
-        ensures value { Gives (λ x. (x.0, x.1.bytes.now)) result (layout_field self.entry.size self.entry.bytes.now) }
+        ensures value { Reads (λ x. (x.0, x.1.bytes.now)) result (layout_field self.entry.size self.entry.bytes.now) }
         ensures rest { IfOk result (λ x. (x.1.size ≡ self.entry.size) × (length x.1.bytes.now ≤ length self.entry.bytes.now)) }
     {
         let (word, rest) = self.number()?;
@@ -328,9 +328,9 @@ impl<'a> Rest<'a> {
     }
 
     #[tactic(auto, unfolding(crate::specs::Programs::base_field))]
-    fn base(self) -> Result<(u32, Rest<'a>), ProgramError>
+    fn base(self) -> Result<(u32, Rest<'a>), FileFault>
         requires { length self.bytes.now ≤ self.size }
-        ensures value { Gives (λ x. (x.0, x.1.bytes.now)) result (base_field self.entry.size self.entry.bytes.now) }
+        ensures value { Reads (λ x. (x.0, x.1.bytes.now)) result (base_field self.entry.size self.entry.bytes.now) }
         ensures rest { IfOk result (λ x. (x.1.size ≡ self.entry.size) × (length x.1.bytes.now ≤ length self.entry.bytes.now)) }
         ensures aligned { IfOk result (λ x. x.0 % 4 ≡ 0) }
     {
@@ -340,9 +340,9 @@ impl<'a> Rest<'a> {
     }
 
     #[tactic(auto, unfolding(crate::specs::Programs::word_count_field))]
-    fn word_count(self, base: u32) -> Result<(u32, Rest<'a>), ProgramError>
+    fn word_count(self, base: u32) -> Result<(u32, Rest<'a>), FileFault>
         requires { length self.bytes.now ≤ self.size }
-        ensures value { Gives (λ x. (x.0, x.1.bytes.now)) result (word_count_field self.entry.size base self.entry.bytes.now) }
+        ensures value { Reads (λ x. (x.0, x.1.bytes.now)) result (word_count_field self.entry.size base self.entry.bytes.now) }
         ensures rest { IfOk result (λ x. (x.1.size ≡ self.entry.size) × (length x.1.bytes.now ≤ length self.entry.bytes.now)) }
         ensures few { IfOk result (λ x. x.0 ≤ max_words) }
         ensures ends { IfOk result (λ x. base + 4 * x.0 ≤ 2 ^ 32) }
@@ -357,19 +357,20 @@ impl<'a> Rest<'a> {
         ensures value { Gives (λ x. (x.0.items, x.1.bytes.now)) result (words_field self.entry.size count self.entry.bytes.now) }
         ensures rest { IfOk result (λ x. (x.1.size ≡ self.entry.size) × (length x.1.bytes.now ≤ length self.entry.bytes.now)) }
         ensures len { IfOk result (λ x. length x.0.items ≡ count) }
+        ensures memory { IfErr result (λ e. e ≡ Memory → IsOk (words_field self.entry.size count self.entry.bytes.now)) }
     {
         let long = 4 * u64::from(count);
         if (self.bytes.len() as u64) < long {
-            return Err(self.short());
+            return Err(ProgramError::File(self.short()));
         }
         let words = words_of(alloc, count, self.bytes)?;
         Ok((words, self.after(long as usize)))
     }
 
     #[tactic(auto, unfolding(crate::specs::Programs::chunk_count_field))]
-    fn chunk_count(self) -> Result<(u32, Rest<'a>), ProgramError>
+    fn chunk_count(self) -> Result<(u32, Rest<'a>), FileFault>
         requires { length self.bytes.now ≤ self.size }
-        ensures value { Gives (λ x. (x.0, x.1.bytes.now)) result (chunk_count_field self.entry.size self.entry.bytes.now) }
+        ensures value { Reads (λ x. (x.0, x.1.bytes.now)) result (chunk_count_field self.entry.size self.entry.bytes.now) }
         ensures rest { IfOk result (λ x. (x.1.size ≡ self.entry.size) × (length x.1.bytes.now ≤ length self.entry.bytes.now)) }
         ensures few { IfOk result (λ x. x.0 ≤ max_chunks) }
     {
@@ -379,10 +380,10 @@ impl<'a> Rest<'a> {
     }
 
     #[tactic(auto, unfolding(crate::specs::Programs::page_field))]
-    fn page(self, program: Placed<'_>, from: u64) -> Result<((u32, u32), Rest<'a>), ProgramError>
+    fn page(self, program: Placed<'_>, from: u64) -> Result<((u32, u32), Rest<'a>), FileFault>
         requires inside { length self.bytes.now ≤ self.size }
         requires few { length program.words.now ≤ max_words }
-        ensures value { Gives (λ x. (pair_chunk x.0, x.1.bytes.now)) result (page_field self.entry.size (without_grants program.entry.base program.entry.words.now) from self.entry.bytes.now) }
+        ensures value { Reads (λ x. (pair_chunk x.0, x.1.bytes.now)) result (page_field self.entry.size (without_grants program.entry.base program.entry.words.now) from self.entry.bytes.now) }
         ensures rest { IfOk result (λ x. (x.1.size ≡ self.entry.size) × (length x.1.bytes.now ≤ length self.entry.bytes.now)) }
         ensures wide { IfOk result (λ x. x.0.1 < 2 ^ 32) }
     {
@@ -396,11 +397,11 @@ impl<'a> Rest<'a> {
         self,
         program: Placed<'_>,
         before: Before,
-    ) -> Result<((u32, u32), Rest<'a>), ProgramError>
+    ) -> Result<((u32, u32), Rest<'a>), FileFault>
         requires inside { length self.bytes.now ≤ self.size }
         requires few { length program.words.now ≤ max_words }
         requires small { before.bytes < 2 ^ 62 }
-        ensures value { Gives (λ x. (pair_chunk x.0, x.1.bytes.now)) result (long_chunk_field self.entry.size (without_grants program.entry.base program.entry.words.now) before.end before.bytes self.entry.bytes.now) }
+        ensures value { Reads (λ x. (pair_chunk x.0, x.1.bytes.now)) result (long_chunk_field self.entry.size (without_grants program.entry.base program.entry.words.now) before.end before.bytes self.entry.bytes.now) }
         ensures rest { IfOk result (λ x. (x.1.size ≡ self.entry.size) × (length x.1.bytes.now ≤ length self.entry.bytes.now)) }
         ensures wide { IfOk result (λ x. x.0.1 < 2 ^ 32) }
     {
@@ -416,11 +417,11 @@ impl<'a> Rest<'a> {
         layout: Layout,
         program: Placed<'_>,
         before: Before,
-    ) -> Result<((u32, u32), Rest<'a>), ProgramError>
+    ) -> Result<((u32, u32), Rest<'a>), FileFault>
         requires inside { length self.bytes.now ≤ self.size }
         requires few { length program.words.now ≤ max_words }
         requires small { before.bytes < 2 ^ 62 }
-        ensures value { Gives (λ x. (pair_chunk x.0, x.1.bytes.now)) result (chunk_field layout self.entry.size (without_grants program.entry.base program.entry.words.now) before.end before.bytes self.entry.bytes.now) }
+        ensures value { Reads (λ x. (pair_chunk x.0, x.1.bytes.now)) result (chunk_field layout self.entry.size (without_grants program.entry.base program.entry.words.now) before.end before.bytes self.entry.bytes.now) }
         ensures rest { IfOk result (λ x. (x.1.size ≡ self.entry.size) × (length x.1.bytes.now ≤ length self.entry.bytes.now)) }
         ensures wide { IfOk result (λ x. x.0.1 < 2 ^ 32) }
     {
@@ -432,9 +433,9 @@ impl<'a> Rest<'a> {
 
     // The last byte of a file.
     #[tactic(auto, unfolding(crate::specs::Programs::fill_field))]
-    fn fill(self, layout: Layout, chunks: &[(u32, u32)]) -> Result<u8, ProgramError>
+    fn fill(self, layout: Layout, chunks: &[(u32, u32)]) -> Result<u8, FileFault>
         requires { length self.bytes.now ≤ self.size }
-        ensures { Gives (λ x. x) result (fill_field layout self.entry.size (listed chunks.now) self.entry.bytes.now) }
+        ensures { result ≡ fill_field layout self.entry.size (listed chunks.now) self.entry.bytes.now }
     {
         match self.bytes {
             [] => Err(self.short()),
@@ -504,10 +505,11 @@ fn grants_of(alloc: Global, chunks: &[(u32, u32)]) -> Result<PageSet, ProgramErr
 /// The program that a file holds, or the first field of the file that is cut or at fault. A file begins
 /// with `BRP1` where its chunks are pages, and else with `BRP2`; the fields are the base, the number of
 /// words and the words, the number of pages or chunks and these in rising order, and the fill (this
-/// project's own formats).
-#[tactic(auto, unfolding(crate::specs::Programs::program_in))]
+/// project's own formats). Memory is taken only where the fields up to the words are right and whole.
+#[tactic(auto, unfolding(crate::specs::Programs::program_in, crate::specs::Programs::words_read))]
 pub fn read_program(alloc: Global, bytes: &[u8]) -> Result<ProgramFile, ProgramError>
-    ensures { Gives (λ x. x) result (program_of bytes.now) }
+    ensures value { Gives (λ x. x) result (program_of bytes.now) }
+    ensures memory { IfErr result (λ e. e ≡ Memory → HasWords bytes.now) }
 {
     let file = Rest {
         size: bytes.len(),

@@ -1,8 +1,8 @@
-use Rattle.std.proofs.Common.{◌≡◌, ◌++◌, ◌∷◌, [], ◌∙◌, Ok, arith, subst}
+use Rattle.std.proofs.Common.{◌≡◌, ◌++◌, ◌∷◌, [], ◌∙◌, Ok, Err, arith, subst}
 use Rattle.std.proofs.lemmas.Result.{err_from_is_err_and}
 use Rattle.std.proofs.lemmas.List.{map_push}
 use Rattle.page_table.specs.Taken.{listed, pair_chunk}
-use Rattle.capture_file.specs.Programs.{Fails, chunk_field, chunks_field, without_grants}
+use Rattle.capture_file.specs.Programs.{chunk_field, chunks_field, without_grants}
 use Rattle.capture_file.proofs.Programs.{chunks_more, chunks_end, chunks_done}
 use Rattle.capture_file.proofs.Chunks.{chunks_read, totals_small, listed_length}
 use Rattle.capture_file.proofs.program.read_chunks.Goals as goal
@@ -11,8 +11,8 @@ pub returns-in_err-chunk-clause-value : goal.returns-in_err-chunk-clause-value
 returns-in_err-chunk-clause-value c =
     let program = without_grants c.args.program.base c.args.program.words.now in
     let p = err_from_is_err_and c.from_residual.result c.from_residual.ensures.1 in
-    let fails : Fails c.in_err-chunk.field-0.0 (chunk_field c.args.layout c.args.size program c.loop.before.end c.loop.before.bytes c.loop.rest.bytes.now) =
-    subst (λ size. Fails c.in_err-chunk.field-0.0 (chunk_field c.args.layout size program c.loop.before.end c.loop.before.bytes c.loop.rest.bytes.now))
+    let fails : chunk_field c.args.layout c.args.size program c.loop.before.end c.loop.before.bytes c.loop.rest.bytes.now ≡ Err c.in_err-chunk.field-0.0 =
+    subst (λ size. chunk_field c.args.layout size program c.loop.before.end c.loop.before.bytes c.loop.rest.bytes.now ≡ Err c.in_err-chunk.field-0.0)
     c.loop.invariant.size c.in_err-chunk.ensures.value in
     rw (p.1, p.2)
     (chunks_end c.args.layout c.args.size program (listed c.loop.chunks.items) c.args.count c.loop.counter c.loop.before.end c.loop.before.bytes c.loop.rest.bytes.now
