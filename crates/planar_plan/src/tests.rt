@@ -117,8 +117,12 @@ fn a_row_of_4096_bytes_has_two_pieces(rt: HostRuntime) -> Result<(), Fail> {
 
 #[test]
 fn a_piece_ends_with_its_page(rt: HostRuntime) -> Result<(), Fail> {
-    let text =
-        "format = \"rgb24\"\nwidth = 5\nheight = 1\nfields = \"top\"\noffset = [4089]\npages = [0x30000, 0x20000]\n";
+    let text = "format = \"rgb24\"\n\
+            width = 5\n\
+            height = 1\n\
+            fields = \"top\"\n\
+            offset = [4089]\n\
+            pages = [0x30000, 0x20000]\n";
     let want = [
         packed(PieceKind::Write, true, false, 7, 0x30ff9),
         packed(PieceKind::Write, false, true, 8, 0x20000),
@@ -129,8 +133,12 @@ fn a_piece_ends_with_its_page(rt: HostRuntime) -> Result<(), Fail> {
 
 #[test]
 fn rows_are_planned_one_after_the_other(rt: HostRuntime) -> Result<(), Fail> {
-    let text =
-        "format = \"y8\"\nwidth = 16\nheight = 3\nfields = \"top\"\nclip = [[0, 2, 16, 1]]\npages = [0x20000]\n";
+    let text = "format = \"y8\"\n\
+            width = 16\n\
+            height = 3\n\
+            fields = \"top\"\n\
+            clip = [[0, 2, 16, 1]]\n\
+            pages = [0x20000]\n";
     let one = [packed(PieceKind::Write, true, true, 16, 0x20010)];
     let two = [packed(PieceKind::Skip, true, true, 16, 0)];
     let frame = framed(rt.alloc(), text)?;
@@ -138,8 +146,12 @@ fn rows_are_planned_one_after_the_other(rt: HostRuntime) -> Result<(), Fail> {
     Ok(())
 }
 
-const CLIPPED: &str =
-    "format = \"y8\"\nwidth = 16\nheight = 3\nfields = \"top\"\nclip = [[0, 1, 16, 1], [4, 0, 4, 1], [8, 0, 2, 1], [2, 2, 6, 1], [6, 2, 4, 1], [20, 0, 0, 1]]\npages = [0x20000]\n";
+const CLIPPED: &str = "format = \"y8\"\n\
+        width = 16\n\
+        height = 3\n\
+        fields = \"top\"\n\
+        clip = [[0, 1, 16, 1], [4, 0, 4, 1], [8, 0, 2, 1], [2, 2, 6, 1], [6, 2, 4, 1], [20, 0, 0, 1]]\n\
+        pages = [0x20000]\n";
 
 #[test]
 fn clipped_pixels_are_skipped(rt: HostRuntime) -> Result<(), Fail> {
@@ -162,8 +174,12 @@ fn clipped_pixels_are_skipped(rt: HostRuntime) -> Result<(), Fail> {
 
 #[test]
 fn units_are_clipped_whole(rt: HostRuntime) -> Result<(), Fail> {
-    let text =
-        "format = \"btyuv\"\nwidth = 16\nheight = 1\nfields = \"top\"\nclip = [[3, 0, 1, 1]]\npages = [0x20000]\n";
+    let text = "format = \"btyuv\"\n\
+            width = 16\n\
+            height = 1\n\
+            fields = \"top\"\n\
+            clip = [[3, 0, 1, 1]]\n\
+            pages = [0x20000]\n";
     let want = [
         packed(PieceKind::Skip, true, false, 12, 0),
         packed(PieceKind::Write, false, true, 12, 0x2000c),
@@ -174,8 +190,12 @@ fn units_are_clipped_whole(rt: HostRuntime) -> Result<(), Fail> {
 
 #[test]
 fn all_planes_are_cut_together(rt: HostRuntime) -> Result<(), Fail> {
-    let text =
-        "format = \"yuv411p\"\nwidth = 64\nheight = 1\nfields = \"top\"\noffset = [0, 4090, 4200]\npages = [0x20000, 0x40000]\n";
+    let text = "format = \"yuv411p\"\n\
+            width = 64\n\
+            height = 1\n\
+            fields = \"top\"\n\
+            offset = [0, 4090, 4200]\n\
+            pages = [0x20000, 0x40000]\n";
     let want = [
         Piece {
             kind: PieceKind::Write,
@@ -228,8 +248,14 @@ fn chroma_of_both_fields_alternates(rt: HostRuntime) -> Result<(), Fail> {
 
 #[test]
 fn skipped_lines_and_vbi_lines(rt: HostRuntime) -> Result<(), Fail> {
-    let text =
-        "format = \"y8\"\nwidth = 8\nheight = 1\nfields = \"top\"\nskip_lines = 1\nvbi_lines = 2\nvbi_bytes = 5\npages = [0x20000]\n";
+    let text = "format = \"y8\"\n\
+            width = 8\n\
+            height = 1\n\
+            fields = \"top\"\n\
+            skip_lines = 1\n\
+            vbi_lines = 2\n\
+            vbi_bytes = 5\n\
+            pages = [0x20000]\n";
     let skipped = [packed(PieceKind::Skip, true, true, 8, 0)];
     assert!(rt; plans_skip_line(rt.alloc(), text, &skipped)?);
     let vbi = [packed(PieceKind::Write, true, true, 5, 0x2000d)];
