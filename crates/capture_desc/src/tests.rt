@@ -1,7 +1,7 @@
-use crate::{ChunkList, DescError, DescFault, Fields, KeyText, Numbers, read_desc};
-use clip_spans::Span;
+use crate::{ChunkList, Desc, DescError, DescFault, Fields, KeyText, Numbers, read_desc};
+use clip_spans::{Clips, Span};
 use pixel_layout::Format;
-use std::alloc::Global;
+use std::alloc::{AllocError, Global};
 use std::test::Fail;
 
 const PLAIN: &str = "format = \"y8\"\nwidth = 8\nheight = 1\nfields = \"top\"\npages = [0x20000]\n";
@@ -9,60 +9,73 @@ const PLAIN: &str = "format = \"y8\"\nwidth = 8\nheight = 1\nfields = \"top\"\np
 const FULL: &str =
     "fill = -0\nbase = 0x1_0000\nchunks = [[131072, 8], [196_608, 0x10,],]\nformat = \"yuv422p\"\nwidth = +12\nheight = 4\nstride = [12, 6, 7]\noffset = [0, 48, 4294967295]\nskip_lines = 255\nvbi_lines = 2\nvbi_bytes = 0b101\nvbi_offset = 0o17\nclip = [[0, 1, 4, 4294967295], [20, 0, 0, 1]]\n";
 
+// Whether the keys that PLAIN leaves out have their defaults.
+fn has_defaults(desc: &Desc) -> bool {
+    desc.stride.is_none()
+        && desc.offset.is_none()
+        && desc.skip_lines == 0
+        && desc.vbi_lines == 0
+        && desc.vbi_bytes == 2044
+        && desc.vbi_offset.is_none()
+        && desc.base == 0x1000
+        && desc.chunks.is_none()
+        && desc.fill == 0
+}
+
 #[test]
 fn absent_keys_have_their_defaults(rt: HostRuntime) -> Result<(), Fail> {
     let desc = read_desc(rt.alloc(), PLAIN.as_bytes())?;
-    assert_eq!(rt; (desc.format, desc.fields), (Format::Y8, Fields::Top));
-    assert_eq!(rt;
-        (desc.width, desc.height, desc.base, desc.fill),
-        (8, 1, 0x1000, 0)
-    );
-    assert_eq!(rt;
-        (
-            desc.skip_lines,
-            desc.vbi_lines,
-            desc.vbi_bytes,
-            desc.vbi_offset
-        ),
-        (0, 0, 2044, None)
-    );
-    assert!(rt; desc.stride.is_none() && desc.offset.is_none() && desc.chunks.is_none());
+    assert!(rt; has_defaults(&desc));
+    assert!(rt; has_shape(&desc, Format::Y8, Fields::Top, (8, 1)));
     assert!(rt; desc.pages.as_slice() == [0x20000].as_slice());
     Ok(())
 }
 
-#[test]
-fn all_forms_of_numbers_are_read(rt: HostRuntime) -> Result<(), Fail> {
-    let desc = read_desc(rt.alloc(), FULL.as_bytes())?;
-    assert_eq!(rt; (desc.format, desc.fields), (Format::Yuv422p, Fields::Both));
-    assert_eq!(rt;
-        (desc.width, desc.height, desc.base, desc.fill),
-        (12, 4, 0x10000, 0)
-    );
-    assert_eq!(rt;
-        (
-            desc.skip_lines,
-            desc.vbi_lines,
-            desc.vbi_bytes,
-            desc.vbi_offset
-        ),
-        (255, 2, 5, Some(15))
-    );
-    let spans = desc.clip.spans(rt.alloc(), 1, 12, 2)?;
+// Whether a picture has this format, these fields and this size.
+fn has_shape(desc: &Desc, format: Format, fields: Fields, size: (u32, u32)) -> bool {
+    desc.format == format && desc.fields == fields && (desc.width, desc.height) == size
+}
+
+// Whether the numbers alone are those of FULL.
+fn has_full_numbers(desc: &Desc) -> bool {
+    desc.skip_lines == 255
+        && desc.vbi_lines == 2
+        && desc.vbi_bytes == 5
+        && desc.vbi_offset == Some(15)
+        && desc.base == 0x10000
+        && desc.fill == 0
+}
+
+// Whether the lists are those of FULL.
+fn has_full_lists(desc: &Desc) -> bool {
+    let (Some(stride), Some(offset), Some(chunks)) = (&desc.stride, &desc.offset, &desc.chunks)
+    else {
+        return false;
+    };
+    stride.as_slice() == [12, 6, 7].as_slice()
+        && offset.as_slice() == [0, 48, 4294967295].as_slice()
+        && chunks.as_slice() == [(131072, 8), (196608, 16)].as_slice()
+        && desc.pages.as_slice().is_empty()
+}
+
+// Whether row 1 begins with the span that FULL clips.
+fn is_clipped(alloc: Global, clip: &Clips) -> Result<bool, AllocError> {
+    let spans = clip.spans(alloc, 1, 12, 2)?;
     let clipped = Span {
         from: 0,
         to: 4,
         clipped: true,
     };
-    assert_eq!(rt; spans.as_slice().first(), Some(&clipped));
-    let (Some(stride), Some(offset), Some(chunks)) = (&desc.stride, &desc.offset, &desc.chunks)
-    else {
-        return Err(Fail::new("a list is absent"));
-    };
-    assert!(rt; stride.as_slice() == [12, 6, 7].as_slice());
-    assert!(rt; offset.as_slice() == [0, 48, 4294967295].as_slice());
-    assert!(rt; chunks.as_slice() == [(131072, 8), (196608, 16)].as_slice());
-    assert!(rt; desc.pages.as_slice().is_empty());
+    Ok(spans.as_slice().first() == Some(&clipped))
+}
+
+#[test]
+fn all_forms_of_numbers_are_read(rt: HostRuntime) -> Result<(), Fail> {
+    let desc = read_desc(rt.alloc(), FULL.as_bytes())?;
+    assert!(rt; has_shape(&desc, Format::Yuv422p, Fields::Both, (12, 4)));
+    assert!(rt; has_full_numbers(&desc));
+    assert!(rt; has_full_lists(&desc));
+    assert!(rt; is_clipped(rt.alloc(), &desc.clip)?);
     Ok(())
 }
 
@@ -323,28 +336,23 @@ fn chunks_and_planes_are_judged(rt: HostRuntime) -> Result<(), Fail> {
 }
 
 // A text with a list of so many members.
-fn with_list(alloc: Global, lines: &str, member: &str, count: usize) -> Result<String, Fail> {
-    let mut text = format!(in alloc; "{lines} = [")?;
-    for _ in 0..count {
-        text.push_str(member)?;
-    }
-    text.push_str("]")?;
-    Ok(text)
+fn with_list(alloc: Global, lines: &str, member: &str, count: usize) -> Result<String, AllocError> {
+    let members = member.repeat(alloc, count)?;
+    format!(in alloc; "{PLANAR}{lines} = [{members}]")
 }
 
 // 64 clip rectangles, 4,096 pages and 4,096 chunks are the most.
 #[test]
 fn lists_have_a_longest(rt: HostRuntime) -> Result<(), Fail> {
-    let rows: [(&str, &str, usize, &str); 3] = [
-        ("chunks = []\nclip", "[0, 0, 8, 1],", 64, "clip"),
-        ("pages", "0x20000,", 4096, "pages"),
-        ("chunks", "[0x20000, 4096],", 4096, "chunks"),
+    let rows: [(&str, &str, usize, usize, &str); 3] = [
+        ("chunks = []\nclip", "[0, 0, 8, 1],", 64, 65, "clip"),
+        ("pages", "0x20000,", 4096, 4097, "pages"),
+        ("chunks", "[0x20000, 4096],", 4096, 4097, "chunks"),
     ];
-    for (lines, member, most, key) in rows {
-        let text = format!(in rt.alloc(); "{PLANAR}{lines}")?;
-        let longest = with_list(rt.alloc(), text.as_str(), member, most)?;
+    for (lines, member, most, more, key) in rows {
+        let longest = with_list(rt.alloc(), lines, member, most)?;
         assert!(rt; read_desc(rt.alloc(), longest.as_bytes()).is_ok(), "{key}");
-        let longer = with_list(rt.alloc(), text.as_str(), member, most + 1)?;
+        let longer = with_list(rt.alloc(), lines, member, more)?;
         assert!(rt;
             is_refused(rt.alloc(), longer.as_bytes(), "out of range", key),
             "{key}"

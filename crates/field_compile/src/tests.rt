@@ -1,79 +1,73 @@
 use crate::compile_field;
-use capture_desc::{Desc, Fields, Numbers};
-use clip_spans::{Clips, Rect};
-use pixel_layout::{Format, Parity};
-use planar_plan::Frame;
+use capture_desc::{Fields, read_desc};
+use pixel_layout::Parity;
+use planar_plan::{BuildError, Frame};
+use std::alloc::{AllocError, Global};
 use std::test::Fail;
+
+// The frame of a described picture.
+fn framed(alloc: Global, text: &str) -> Result<Frame, BuildError> {
+    match read_desc(alloc, text.as_bytes()) {
+        Ok(desc) => Frame::new(alloc, desc),
+        Err(_) => Err(BuildError::Memory),
+    }
+}
+
+// Whether the top field of a frame is compiled to so many words, the last of which are these.
+fn compiles(alloc: Global, frame: &Frame, count: usize, last: &[u32]) -> Result<bool, AllocError> {
+    if frame.desc().fields != Fields::Top {
+        return Ok(false);
+    }
+    let mut out = vec![in alloc; 7]?;
+    compile_field(alloc, frame, Parity::Top, &mut out)?;
+    Ok(out.len() == count && out.as_slice().ends_with(last))
+}
+
+// What stood before, a SYNC, the skipped line and the row.
+const SKIPPED: [u32; 6] = [7, 0x8000_0006, 0, 0x2c00_0008, 0x1c00_0008, 0x20000];
 
 #[test]
 fn a_skipped_line_stands_before_the_row(rt: HostRuntime) -> Result<(), Fail> {
-    let desc = Desc {
-        format: Format::Y8,
-        width: 8,
-        height: 1,
-        fields: Fields::Top,
-        stride: None,
-        offset: None,
-        skip_lines: 1,
-        vbi_lines: 0,
-        vbi_bytes: 2044,
-        vbi_offset: None,
-        clip: Clips::new(rt.alloc(), &[])?,
-        base: 0x1000,
-        pages: Numbers::from_list(rt.alloc(), &[0x20000])?,
-        chunks: None,
-        fill: 0,
-    };
-    let frame = Frame::new(rt.alloc(), desc)?;
-    let mut out = vec![in rt.alloc(); 7]?;
-    compile_field(rt.alloc(), &frame, Parity::Top, &mut out)?;
-    let words = [7, 0x8000_0006, 0, 0x2c00_0008, 0x1c00_0008, 0x20000];
-    assert!(rt; out.as_slice() == words.as_slice());
+    let text = "format = \"y8\"\n\
+            width = 8\n\
+            height = 1\n\
+            fields = \"top\"\n\
+            skip_lines = 1\n\
+            pages = [0x20000]\n";
+    let frame = framed(rt.alloc(), text)?;
+    assert!(rt; compiles(rt.alloc(), &frame, 6, &SKIPPED)?);
     Ok(())
 }
 
-// A row of 1,024 bytes on a page, of which each unit behind three others is clipped.
+// Adds the rectangle of a clipped unit.
+fn push_rect(alloc: Global, clip: &mut String, x: u32) -> Result<(), AllocError> {
+    let rect = format!(in alloc; "[{x}, 0, 4, 1], ")?;
+    clip.push_str(rect.as_str())
+}
+
+// Each unit behind three others, in a row of 1,024 bytes.
+fn clipped_units(alloc: Global) -> Result<String, AllocError> {
+    let mut clip = String::new(alloc);
+    for unit in 0..64_u32 {
+        push_rect(alloc, &mut clip, 16 * unit + 12)?;
+    }
+    Ok(clip)
+}
+
+// The description of a row of which these rectangles are clipped.
+fn clipped_row(alloc: Global, clip: &str) -> Result<String, AllocError> {
+    format!(in alloc;
+        "format = \"y8\"\nwidth = 1024\nheight = 1\nfields = \"top\"\nclip = [{clip}]\npages = [0x20000]\n"
+    )
+}
+
+// It has 64 pieces, behind the two words of a SYNC, and the word that stood before.
 #[test]
 fn a_row_of_many_pieces(rt: HostRuntime) -> Result<(), Fail> {
-    let mut clip = vec![in rt.alloc();
-        Rect {
-            x: 12,
-            y: 0,
-            w: 4,
-            h: 1
-        },
-    ]?;
-    for unit in 1..64 {
-        let x = 16 * unit + 12;
-        clip.push(Rect {
-            x,
-            y: 0,
-            w: 4,
-            h: 1,
-        })?;
-    }
-    let desc = Desc {
-        format: Format::Y8,
-        width: 1024,
-        height: 1,
-        fields: Fields::Top,
-        stride: None,
-        offset: None,
-        skip_lines: 0,
-        vbi_lines: 0,
-        vbi_bytes: 2044,
-        vbi_offset: None,
-        clip: Clips::new(rt.alloc(), &clip)?,
-        base: 0x1000,
-        pages: Numbers::from_list(rt.alloc(), &[0x20000])?,
-        chunks: None,
-        fill: 0,
-    };
-    let frame = Frame::new(rt.alloc(), desc)?;
-    let mut out = Vec::new(rt.alloc());
-    compile_field(rt.alloc(), &frame, Parity::Top, &mut out)?;
-    assert_eq!(rt; out.len(), 2 + 64 * 3);
+    let clip = clipped_units(rt.alloc())?;
+    let text = clipped_row(rt.alloc(), clip.as_str())?;
+    let frame = framed(rt.alloc(), text.as_str())?;
     let last = [0x1000_000c, 0x203f0, 0x2400_0004];
-    assert!(rt; out[191..] == last[..]);
+    assert!(rt; compiles(rt.alloc(), &frame, 1 + 2 + 64 * 3, &last)?);
     Ok(())
 }

@@ -1,62 +1,96 @@
-ghost use Rattle.std.specs.Prelude.{◌≡◌, ◌≤◌, length, IfOk, IfSome};
-ghost use Rattle.pixel_layout.specs.Layouts.{layout, planes_of};
-ghost use Rattle.capture_desc.specs.WellFormed.{IsWellFormed};
+ghost use Rattle.std.specs.Prelude.{◌<◌, ◌≤◌};
+ghost use Rattle.picture_model.specs.Described.{IsDescription};
+ghost use Rattle.planar_plan.specs.Lines.{AreSpansOf};
 
-use crate::{BuildError, BuildFault, Frame, Piece, PieceKind, Pieces};
-use capture_desc::{ChunkList, Desc, Fields, Numbers};
-use clip_spans::{Clips, Rect};
-use pixel_layout::{Format, Parity};
+use crate::{BuildError, BuildFault, Frame, Piece, PieceKind, Pieces, RowSpans};
+use capture_desc::{Fields, read_desc};
+use pixel_layout::Parity;
 use risc_word::Ends;
-use std::alloc::Global;
+use std::alloc::{AllocError, Global};
 use std::test::Fail;
 
-// A description of the top field, with every other key by default.
-fn described(
-    alloc: Global,
-    format: Format,
-    size: (u32, u32),
-    offset: Option<Numbers>,
-    clip: &[Rect],
-    pages: &[u32],
-) -> Result<Desc, BuildError>
-    requires offset { IfSome offset (λ ns. length ns ≡ planes_of (layout format)) }
-    requires pages { length pages.now ≤ 4096 }
-    ensures formed { IfOk result IsWellFormed }
-    ensures height { IfOk result (λ d. d.height ≡ size.1) }
-    ensures fields { IfOk result (λ d. d.fields ≡ Fields.Top) }
-    ensures planes { IfOk result (λ d. planes_of (layout d.format) ≡ planes_of (layout format)) }
-    ensures listed { IfOk result (λ d. d.pages ≡ pages.now) }
-{
-    let Ok(clip) = Clips::new(alloc, clip) else {
-        return Err(BuildError::Memory);
-    };
-    let pages = Numbers::from_list(alloc, pages)?;
-    Ok(Desc {
-        format,
-        width: size.0,
-        height: size.1,
-        fields: Fields::Top,
-        stride: None,
-        offset,
-        skip_lines: 0,
-        vbi_lines: 0,
-        vbi_bytes: 2044,
-        vbi_offset: None,
-        clip,
-        base: 4096,
-        pages,
-        chunks: None,
-        fill: 0,
-    })
+// The frame of a described picture, or its first fault.
+fn framed(alloc: Global, text: &str) -> Result<Frame, BuildError> {
+    match read_desc(alloc, text.as_bytes()) {
+        Ok(desc) => Frame::new(alloc, desc),
+        Err(_) => Err(BuildError::Memory),
+    }
 }
 
-fn framed(alloc: Global, desc: Desc) -> Result<Frame, BuildError>
-    requires { IsWellFormed desc }
-    ensures height { IfOk result (λ frame. frame.height ≡ desc.height) }
-    ensures fields { IfOk result (λ frame. frame.fields ≡ desc.fields) }
-    ensures vbi_lines { IfOk result (λ frame. frame.vbi_lines ≡ desc.vbi_lines) }
+// Whether a picture row of a description has this plan.
+fn plans_row(alloc: Global, text: &str, row: u32, want: &[Piece]) -> Result<bool, BuildError> {
+    let frame = framed(alloc, text)?;
+    if frame.desc().height <= row {
+        return Ok(false);
+    }
+    let pieces = frame.plan_row(alloc, row)?;
+    Ok(pieces.as_slice() == want)
+}
+
+// Whether a row has this plan, where the spans of some rows are known.
+fn plans_by(
+    alloc: Global,
+    frame: &Frame,
+    row: u32,
+    spans: &mut RowSpans,
+    pieces: &mut Pieces,
+    want: &[Piece],
+) -> Result<bool, AllocError>
+    requires row { row < frame.now.height }
+    requires spans { AreSpansOf frame.now spans.old }
+    requires description { IsDescription frame.now }
+    ensures { AreSpansOf frame.now spans.new }
 {
-    Frame::new(alloc, desc)
+    frame.plan_row_by(alloc, row, spans, pieces)?;
+    Ok(pieces.as_slice() == want)
+}
+
+// Whether rows 1 and 2 have these plans, where the spans of row 0 are known.
+fn plans_in_turn(
+    alloc: Global,
+    frame: &Frame,
+    one: &[Piece],
+    two: &[Piece],
+) -> Result<bool, AllocError>
+    requires { 3 ≤ frame.now.height }
+{
+    let mut spans = frame.row_spans(alloc, 0)?;
+    let mut pieces = Pieces::new(alloc);
+    let is_one = plans_by(alloc, frame, 1, &mut spans, &mut pieces, one)?;
+    let is_two = plans_by(alloc, frame, 2, &mut spans, &mut pieces, two)?;
+    Ok(is_one && is_two)
+}
+
+// The rows of the bottom field.
+fn bottom_rows(alloc: Global, text: &str) -> Result<u32, BuildError> {
+    let frame = framed(alloc, text)?;
+    Ok(frame.rows_of(Parity::Bottom))
+}
+
+// Whether a skipped line has this plan.
+fn plans_skip_line(alloc: Global, text: &str, want: &[Piece]) -> Result<bool, BuildError> {
+    let frame = framed(alloc, text)?;
+    let pieces = frame.plan_skip_line(alloc)?;
+    Ok(pieces.as_slice() == want)
+}
+
+// Whether VBI line 1 of the top field has this plan.
+fn plans_vbi_line(alloc: Global, text: &str, want: &[Piece]) -> Result<bool, BuildError> {
+    let frame = framed(alloc, text)?;
+    let desc = frame.desc();
+    if desc.fields != Fields::Top || desc.vbi_lines < 2 {
+        return Ok(false);
+    }
+    let pieces = frame.plan_vbi_line(alloc, Parity::Top, 1)?;
+    Ok(pieces.as_slice() == want)
+}
+
+// Whether this is a description's first fault.
+fn is_refused(alloc: Global, text: &str, fault: BuildFault) -> bool {
+    match framed(alloc, text) {
+        Ok(_) => false,
+        Err(error) => error == BuildError::Bad(fault),
+    }
 }
 
 // A piece of a packed line.
@@ -69,114 +103,99 @@ fn packed(kind: PieceKind, sol: bool, eol: bool, count: u16, addr: u32) -> Piece
     }
 }
 
-fn rect(x: u32, y: u32, w: u32, h: u32) -> Rect {
-    Rect { x, y, w, h }
-}
-
 #[test]
 fn a_row_of_4096_bytes_has_two_pieces(rt: HostRuntime) -> Result<(), Fail> {
-    let desc = described(rt.alloc(), Format::Rgb32, (1024, 1), None, &[], &[0x20000])?;
-    let frame = framed(rt.alloc(), desc)?;
-    let pieces = frame.plan_row(rt.alloc(), 0)?;
+    let text =
+        "format = \"rgb32\"\nwidth = 1024\nheight = 1\nfields = \"top\"\npages = [0x20000]\n";
     let want = [
         packed(PieceKind::Write, true, false, 4092, 0x20000),
         packed(PieceKind::Write, false, true, 4, 0x20ffc),
     ];
-    assert!(rt; pieces.as_slice() == want.as_slice());
+    assert!(rt; plans_row(rt.alloc(), text, 0, &want)?);
     Ok(())
 }
 
 #[test]
 fn a_piece_ends_with_its_page(rt: HostRuntime) -> Result<(), Fail> {
-    let offset = Numbers::from_list(rt.alloc(), &[4089])?;
-    let pages = [0x30000, 0x20000];
-    let desc = described(rt.alloc(), Format::Rgb24, (5, 1), Some(offset), &[], &pages)?;
-    let frame = framed(rt.alloc(), desc)?;
-    let pieces = frame.plan_row(rt.alloc(), 0)?;
+    let text = "format = \"rgb24\"\n\
+            width = 5\n\
+            height = 1\n\
+            fields = \"top\"\n\
+            offset = [4089]\n\
+            pages = [0x30000, 0x20000]\n";
     let want = [
         packed(PieceKind::Write, true, false, 7, 0x30ff9),
         packed(PieceKind::Write, false, true, 8, 0x20000),
     ];
-    assert!(rt; pieces.as_slice() == want.as_slice());
+    assert!(rt; plans_row(rt.alloc(), text, 0, &want)?);
     Ok(())
 }
 
 #[test]
 fn rows_are_planned_one_after_the_other(rt: HostRuntime) -> Result<(), Fail> {
-    let clip = [rect(0, 2, 16, 1)];
-    let desc = described(rt.alloc(), Format::Y8, (16, 3), None, &clip, &[0x20000])?;
-    let frame = framed(rt.alloc(), desc)?;
-    let mut spans = frame.row_spans(rt.alloc(), 0)?;
-    let mut pieces = Pieces::new(rt.alloc());
-    frame.plan_row_by(rt.alloc(), 1, &mut spans, &mut pieces)?;
-    let want = [packed(PieceKind::Write, true, true, 16, 0x20010)];
-    assert!(rt; pieces.as_slice() == want.as_slice());
-    frame.plan_row_by(rt.alloc(), 2, &mut spans, &mut pieces)?;
-    let want = [packed(PieceKind::Skip, true, true, 16, 0)];
-    assert!(rt; pieces.as_slice() == want.as_slice());
+    let text = "format = \"y8\"\n\
+            width = 16\n\
+            height = 3\n\
+            fields = \"top\"\n\
+            clip = [[0, 2, 16, 1]]\n\
+            pages = [0x20000]\n";
+    let one = [packed(PieceKind::Write, true, true, 16, 0x20010)];
+    let two = [packed(PieceKind::Skip, true, true, 16, 0)];
+    let frame = framed(rt.alloc(), text)?;
+    assert!(rt; frame.desc().height == 3 && plans_in_turn(rt.alloc(), &frame, &one, &two)?);
     Ok(())
 }
 
+const CLIPPED: &str = "format = \"y8\"\n\
+        width = 16\n\
+        height = 3\n\
+        fields = \"top\"\n\
+        clip = [[0, 1, 16, 1], [4, 0, 4, 1], [8, 0, 2, 1], [2, 2, 6, 1], [6, 2, 4, 1], [20, 0, 0, 1]]\n\
+        pages = [0x20000]\n";
+
 #[test]
 fn clipped_pixels_are_skipped(rt: HostRuntime) -> Result<(), Fail> {
-    let clip = [
-        rect(0, 1, 16, 1),
-        rect(4, 0, 4, 1),
-        rect(8, 0, 2, 1),
-        rect(2, 2, 6, 1),
-        rect(6, 2, 4, 1),
-        rect(20, 0, 0, 1),
-    ];
-    let desc = described(rt.alloc(), Format::Y8, (16, 3), None, &clip, &[0x20000])?;
-    let frame = framed(rt.alloc(), desc)?;
-    let first = frame.plan_row(rt.alloc(), 0)?;
     let want = [
         packed(PieceKind::Write, true, false, 4, 0x20000),
         packed(PieceKind::Skip, false, false, 6, 0),
         packed(PieceKind::Write, false, true, 6, 0x2000a),
     ];
-    assert!(rt; first.as_slice() == want.as_slice());
-    let second = frame.plan_row(rt.alloc(), 1)?;
+    assert!(rt; plans_row(rt.alloc(), CLIPPED, 0, &want)?);
     let want = [packed(PieceKind::Skip, true, true, 16, 0)];
-    assert!(rt; second.as_slice() == want.as_slice());
-    let third = frame.plan_row(rt.alloc(), 2)?;
+    assert!(rt; plans_row(rt.alloc(), CLIPPED, 1, &want)?);
     let want = [
         packed(PieceKind::Write, true, false, 2, 0x20020),
         packed(PieceKind::Skip, false, false, 8, 0),
         packed(PieceKind::Write, false, true, 6, 0x2002a),
     ];
-    assert!(rt; third.as_slice() == want.as_slice());
+    assert!(rt; plans_row(rt.alloc(), CLIPPED, 2, &want)?);
     Ok(())
 }
 
 #[test]
 fn units_are_clipped_whole(rt: HostRuntime) -> Result<(), Fail> {
-    let clip = [rect(3, 0, 1, 1)];
-    let desc = described(rt.alloc(), Format::BtYuv, (16, 1), None, &clip, &[0x20000])?;
-    let frame = framed(rt.alloc(), desc)?;
-    let pieces = frame.plan_row(rt.alloc(), 0)?;
+    let text = "format = \"btyuv\"\n\
+            width = 16\n\
+            height = 1\n\
+            fields = \"top\"\n\
+            clip = [[3, 0, 1, 1]]\n\
+            pages = [0x20000]\n";
     let want = [
         packed(PieceKind::Skip, true, false, 12, 0),
         packed(PieceKind::Write, false, true, 12, 0x2000c),
     ];
-    assert!(rt; pieces.as_slice() == want.as_slice());
+    assert!(rt; plans_row(rt.alloc(), text, 0, &want)?);
     Ok(())
 }
 
 #[test]
 fn all_planes_are_cut_together(rt: HostRuntime) -> Result<(), Fail> {
-    let offset = Numbers::from_list(rt.alloc(), &[0, 4090, 4200])?;
-    let pages = [0x20000, 0x40000];
-    let desc = described(
-        rt.alloc(),
-        Format::Yuv411p,
-        (64, 1),
-        Some(offset),
-        &[],
-        &pages,
-    )?;
-    let frame = framed(rt.alloc(), desc)?;
-    let pieces = frame.plan_row(rt.alloc(), 0)?;
+    let text = "format = \"yuv411p\"\n\
+            width = 64\n\
+            height = 1\n\
+            fields = \"top\"\n\
+            offset = [0, 4090, 4200]\n\
+            pages = [0x20000, 0x40000]\n";
     let want = [
         Piece {
             kind: PieceKind::Write,
@@ -197,93 +216,83 @@ fn all_planes_are_cut_together(rt: HostRuntime) -> Result<(), Fail> {
             addrs: [0x20018, 0x40000, 0x4006e],
         },
     ];
-    assert!(rt; pieces.as_slice() == want.as_slice());
+    assert!(rt; plans_row(rt.alloc(), text, 0, &want)?);
     Ok(())
 }
 
+// Each field has three rows.
 #[test]
 fn chroma_of_both_fields_alternates(rt: HostRuntime) -> Result<(), Fail> {
-    let mut desc = described(rt.alloc(), Format::Yuv420p, (16, 6), None, &[], &[0x20000])?;
-    desc.fields = Fields::Both;
-    let frame = framed(rt.alloc(), desc)?;
-    assert_eq!(rt; frame.rows_of(Parity::Bottom), 3);
+    let text = "format = \"yuv420p\"\nwidth = 16\nheight = 6\npages = [0x20000]\n";
     let ends = Ends {
         sol: true,
         eol: true,
     };
-    let kept = frame.plan_row(rt.alloc(), 1)?;
-    let want = [Piece {
+    let kept = Piece {
         kind: PieceKind::Write,
         ends,
         counts: [16, 8, 8],
         addrs: [0x20010, 0x20068, 0x20088],
-    }];
-    assert!(rt; kept.as_slice() == want.as_slice());
-    let dropped = frame.plan_row(rt.alloc(), 2)?;
-    let want = [Piece {
+    };
+    assert!(rt; plans_row(rt.alloc(), text, 1, &[kept])?);
+    let dropped = Piece {
         kind: PieceKind::WriteLuma,
         ends,
         counts: [16, 8, 8],
         addrs: [0x20020, 0, 0],
-    }];
-    assert!(rt; dropped.as_slice() == want.as_slice());
+    };
+    assert!(rt; plans_row(rt.alloc(), text, 2, &[dropped])?);
+    assert_eq!(rt; bottom_rows(rt.alloc(), text)?, 3);
     Ok(())
 }
 
 #[test]
 fn skipped_lines_and_vbi_lines(rt: HostRuntime) -> Result<(), Fail> {
-    let mut desc = described(rt.alloc(), Format::Y8, (8, 1), None, &[], &[0x20000])?;
-    desc.skip_lines = 1;
-    desc.vbi_lines = 2;
-    desc.vbi_bytes = 5;
-    let frame = framed(rt.alloc(), desc)?;
-    let skipped = frame.plan_skip_line(rt.alloc())?;
-    let want = [packed(PieceKind::Skip, true, true, 8, 0)];
-    assert!(rt; skipped.as_slice() == want.as_slice());
-    let vbi = frame.plan_vbi_line(rt.alloc(), Parity::Top, 1)?;
-    let want = [packed(PieceKind::Write, true, true, 5, 0x2000d)];
-    assert!(rt; vbi.as_slice() == want.as_slice());
+    let text = "format = \"y8\"\n\
+            width = 8\n\
+            height = 1\n\
+            fields = \"top\"\n\
+            skip_lines = 1\n\
+            vbi_lines = 2\n\
+            vbi_bytes = 5\n\
+            pages = [0x20000]\n";
+    let skipped = [packed(PieceKind::Skip, true, true, 8, 0)];
+    assert!(rt; plans_skip_line(rt.alloc(), text, &skipped)?);
+    let vbi = [packed(PieceKind::Write, true, true, 5, 0x2000d)];
+    assert!(rt; plans_vbi_line(rt.alloc(), text, &vbi)?);
     Ok(())
 }
+
+// A row of eight bytes.
+const SMALL: &str = "format = \"y8\"\nwidth = 8\nheight = 1\nfields = \"top\"\n";
 
 #[test]
 fn the_first_fault_is_told(rt: HostRuntime) -> Result<(), Fail> {
-    let pages = [0x20000, 0x30000];
-    let offset = Numbers::from_list(rt.alloc(), &[8185])?;
-    let few = described(rt.alloc(), Format::Y8, (8, 1), Some(offset), &[], &pages)?;
-    assert_eq!(rt;
-        framed(rt.alloc(), few).err(),
-        Some(BuildError::Bad(BuildFault::TooFewPages { need: 3, have: 2 }))
-    );
-    let offset = Numbers::from_list(rt.alloc(), &[8185])?;
-    let mut short = described(rt.alloc(), Format::Y8, (8, 1), Some(offset), &[], &pages)?;
-    short.stride = Some(Numbers::from_list(rt.alloc(), &[7])?);
-    assert_eq!(rt;
-        framed(rt.alloc(), short).err(),
-        Some(BuildError::Bad(BuildFault::StrideShort))
-    );
-    let mut empty_area = described(rt.alloc(), Format::Y8, (8, 1), None, &[], &[0x20000])?;
-    empty_area.vbi_offset = Some(100000);
-    assert_eq!(rt;
-        framed(rt.alloc(), empty_area).err(),
-        Some(BuildError::Bad(BuildFault::TooFewPages { need: 25, have: 1 }))
-    );
-    Ok(())
-}
-
-#[test]
-fn chunks_are_judged(rt: HostRuntime) -> Result<(), Fail> {
-    let mut few = described(rt.alloc(), Format::Y8, (8, 1), None, &[], &[])?;
-    few.chunks = Some(ChunkList::from_list(rt.alloc(), &[(0x20004, 4)])?);
-    assert_eq!(rt;
-        framed(rt.alloc(), few).err(),
-        Some(BuildError::Bad(BuildFault::TooFewBytes { need: 8, have: 4 }))
-    );
-    let mut twice = described(rt.alloc(), Format::Y8, (8, 1), None, &[], &[])?;
-    twice.chunks = Some(ChunkList::from_list(rt.alloc(), &[(0x20000, 8), (0x20004, 8)])?);
-    assert_eq!(rt;
-        framed(rt.alloc(), twice).err(),
-        Some(BuildError::Bad(BuildFault::PageTwice(1)))
-    );
+    let rows = [
+        (
+            "offset = [8185]\npages = [0x20000, 0x30000]",
+            BuildFault::TooFewPages { need: 3, have: 2 },
+        ),
+        (
+            "offset = [8185]\nstride = [7]\npages = [0x20000, 0x30000]",
+            BuildFault::StrideShort,
+        ),
+        (
+            "vbi_offset = 100000\npages = [0x20000]",
+            BuildFault::TooFewPages { need: 25, have: 1 },
+        ),
+        (
+            "chunks = [[0x20004, 4]]",
+            BuildFault::TooFewBytes { need: 8, have: 4 },
+        ),
+        (
+            "chunks = [[0x20000, 8], [0x20004, 8]]",
+            BuildFault::PageTwice(1),
+        ),
+    ];
+    for (lines, fault) in rows {
+        let text = format!(in rt.alloc(); "{SMALL}{lines}")?;
+        assert!(rt; is_refused(rt.alloc(), text.as_str(), fault), "{lines}");
+    }
     Ok(())
 }
