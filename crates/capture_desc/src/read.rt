@@ -24,16 +24,16 @@ use toml_keys::TableError;
 // The most lines that a field may skip.
 const MAX_SKIP_LINES: u32 = 255;
 
-fn format(table: &Table) -> Result<Format, DescError>
-    ensures { Answers (required_word format_named Key.Format (table_view table.now)) result }
+fn format(table: &Table) -> Result<Format, DescFault>
+    ensures { result ≡ required_word format_named Key.Format (table_view table.now) }
 {
     let key = Key::Format;
     let format = told(key, toml_keys::word::<Format, Key>(table, key.name()))?;
-    Ok(format.ok_or(DescFault::Missing(key))?)
+    format.ok_or(DescFault::Missing(key))
 }
 
-fn fields(table: &Table) -> Result<Fields, DescError>
-    ensures { Answers (word_or Fields.Both fields_named Key.Fields (table_view table.now)) result }
+fn fields(table: &Table) -> Result<Fields, DescFault>
+    ensures { result ≡ word_or Fields.Both fields_named Key.Fields (table_view table.now) }
 {
     let key = Key::Fields;
     let fields = told(key, toml_keys::word::<Fields, Key>(table, key.name()))?;

@@ -4,7 +4,7 @@ ghost use Rattle.pixel_layout.specs.Layouts.{format_named};
 ghost use Rattle.toml.specs.View.{table_view};
 ghost use Rattle.toml_keys.specs.Keys.{is_there};
 ghost use Rattle.toml_keys.specs.Values.{at, each, list_typed, told, u32_max};
-ghost use Rattle.capture_desc.specs.Description.{Answers, Refuses, fields_named};
+ghost use Rattle.capture_desc.specs.Description.{Refuses, fields_named};
 ghost use Rattle.capture_desc.specs.Keys.{name_of};
 ghost use Rattle.capture_desc.specs.Values.{fault_of, number_or, optional_number, required_number};
 
@@ -27,19 +27,18 @@ fn fault_of(key: Key, fault: KeyFault) -> DescFault
 }
 
 /// What was read at a key, or the key's fault.
-pub(crate) fn told<T>(key: Key, read: Result<T, KeyFault>) -> Result<T, DescError>
-    ensures answer { Answers (told (fault_of key) read) result }
-    ensures same { IfOk result (λ value. read ≡ Ok value) }
+pub(crate) fn told<T>(key: Key, read: Result<T, KeyFault>) -> Result<T, DescFault>
+    ensures { result ≡ told (fault_of key) read }
 {
     match read {
         Ok(value) => Ok(value),
-        Err(fault) => Err(DescError::Bad(fault_of(key, fault))),
+        Err(fault) => Err(fault_of(key, fault)),
     }
 }
 
 /// The number of 32 bits at a key that has to be there.
-pub(crate) fn required_number(table: &Table, key: Key) -> Result<u32, DescError>
-    ensures { Answers (required_number key (table_view table.now)) result }
+pub(crate) fn required_number(table: &Table, key: Key) -> Result<u32, DescFault>
+    ensures { result ≡ required_number key (table_view table.now) }
 {
     told(
         key,
@@ -48,16 +47,16 @@ pub(crate) fn required_number(table: &Table, key: Key) -> Result<u32, DescError>
 }
 
 /// The number of 32 bits at a key, where it is there.
-pub(crate) fn optional_number(table: &Table, key: Key) -> Result<Option<u32>, DescError>
-    ensures { Answers (optional_number key (table_view table.now)) result }
+pub(crate) fn optional_number(table: &Table, key: Key) -> Result<Option<u32>, DescFault>
+    ensures { result ≡ optional_number key (table_view table.now) }
 {
     told(key, toml_keys::number(table, key.name(), 0, u32::MAX))
 }
 
 /// The number at a key, from 0 to `most`, or `default` where the key is absent.
-pub(crate) fn number_or(table: &Table, key: Key, default: u32, most: u32) -> Result<u32, DescError>
+pub(crate) fn number_or(table: &Table, key: Key, default: u32, most: u32) -> Result<u32, DescFault>
     requires { default ≤ most }
-    ensures value { Answers (number_or default most key (table_view table.now)) result }
+    ensures value { result ≡ number_or default most key (table_view table.now) }
     ensures within { IfOk result (λ n. n ≤ most) }
 {
     told(key, toml_keys::number_or(table, key.name(), default, most))

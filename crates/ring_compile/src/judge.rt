@@ -2,6 +2,7 @@
 ghost use Rattle.page_table.specs.Grants.{is_met, max_chunks};
 ghost use Rattle.std.specs.Prelude.{◌≡◌, ◌∷◌, ◌^◌, ◌<◌, ◌≤◌, length, IfOk};
 ghost use Rattle.std.specs.List.{All, list_any};
+ghost use Rattle.std.specs.Result.{result_err};
 ghost use Rattle.page_table.specs.Scattered.{ArePages, IsScatterList};
 ghost use Rattle.page_table.specs.Taken.{Answers, in_order, page_at, taken_pages};
 ghost use Rattle.picture_model.specs.Programs.{words_of};
@@ -80,14 +81,14 @@ fn program_end(values: &Values, words: &[u32]) -> u64
 }
 
 // Judges where a program begins and ends.
-fn judged_base(values: &Values, end: u64) -> Result<(), RingError>
+fn judged_base(values: &Values, end: u64) -> Result<(), RingFault>
     requires { end ≡ program_end values.now }
-    ensures { Judges (program_base values.now) result }
+    ensures { result_err result ≡ program_base values.now }
 {
     if values.base % 4 == 0 && end <= 1 << 32 {
         Ok(())
     } else {
-        Err(RingError::Bad(RingFault::ProgramBase))
+        Err(RingFault::ProgramBase)
     }
 }
 
@@ -99,12 +100,12 @@ fn meets_pages(base: u32, end: u64, pages: &[u32]) -> bool
 }
 
 // Judges a program against the pages.
-fn judged_against_pages(values: &Values, end: u64) -> Result<(), RingError>
+fn judged_against_pages(values: &Values, end: u64) -> Result<(), RingFault>
     requires { end ≡ program_end values.now }
-    ensures { Judges (program_on_page values.now) result }
+    ensures { result_err result ≡ program_on_page values.now }
 {
     if meets_pages(values.base, end, values.pages.as_slice()) {
-        Err(RingError::Bad(RingFault::ProgramOnPage))
+        Err(RingFault::ProgramOnPage)
     } else {
         Ok(())
     }

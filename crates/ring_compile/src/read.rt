@@ -28,18 +28,17 @@ fn fault_of(key: RingKey, fault: KeyFault) -> RingFault
 }
 
 // What was read at a key, or the key's fault.
-fn told(key: RingKey, read: Result<u32, KeyFault>) -> Result<u32, RingError>
-    ensures answer { Answers (told (fault_of key) read) result }
-    ensures same { IfOk result (λ n. read ≡ Ok n) }
+fn told(key: RingKey, read: Result<u32, KeyFault>) -> Result<u32, RingFault>
+    ensures { result ≡ told (fault_of key) read }
 {
     match read {
         Ok(number) => Ok(number),
-        Err(fault) => Err(RingError::Bad(fault_of(key, fault))),
+        Err(fault) => Err(fault_of(key, fault)),
     }
 }
 
-fn required_number(table: &Table, key: RingKey, least: u32, most: u32) -> Result<u32, RingError>
-    ensures value { Answers (required_number least most key (table_view table.now)) result }
+fn required_number(table: &Table, key: RingKey, least: u32, most: u32) -> Result<u32, RingFault>
+    ensures value { result ≡ required_number least most key (table_view table.now) }
     ensures within { IfOk result (λ n. (least ≤ n) × (n ≤ most)) }
 {
     told(
@@ -48,9 +47,9 @@ fn required_number(table: &Table, key: RingKey, least: u32, most: u32) -> Result
     )
 }
 
-fn number_or(table: &Table, key: RingKey, default: u32, most: u32) -> Result<u32, RingError>
+fn number_or(table: &Table, key: RingKey, default: u32, most: u32) -> Result<u32, RingFault>
     requires { default ≤ most }
-    ensures value { Answers (number_or default most key (table_view table.now)) result }
+    ensures value { result ≡ number_or default most key (table_view table.now) }
     ensures within { IfOk result (λ n. n ≤ most) }
 {
     told(key, toml_keys::number_or(table, key.name(), default, most))
