@@ -229,70 +229,55 @@ pub fn read_words(words: &[&str]) -> Result<Command, UsageFault>
 mod tests {
     use super::*;
 
+    // Whether words are refused so.
+    fn is_refused(words: &[&str], fault: UsageFault) -> bool {
+        read_words(words) == Err(fault)
+    }
+
+    // Whether words are read as this command.
+    fn reads(words: &[&str], command: Command) -> bool {
+        read_words(words) == Ok(command)
+    }
+
     #[test]
     fn words_are_judged_in_order(rt: HostRuntime) {
-        assert_eq!(rt; read_words(&[]), Err(UsageFault::NoCommand));
-        assert_eq!(rt; read_words(&["play", "a"]), Err(UsageFault::UnknownCommand));
-        assert_eq!(rt; read_words(&["run", "a", "b"]), Err(UsageFault::WordCount));
-        assert_eq!(rt;
-            read_words(&["run", "a", "b", "a"]),
-            Err(UsageFault::SameName)
-        );
-        assert_eq!(rt; read_words(&["run", "a", "a", "b"]), Ok(Command::Run));
-        assert_eq!(rt; read_words(&["verify", "a"]), Ok(Command::Verify));
-        assert_eq!(rt; read_words(&["list", "a"]), Ok(Command::List));
-        assert_eq!(rt; read_words(&["compile", "d", "p"]), Ok(Command::Compile));
-        assert_eq!(rt; read_words(&["assemble", "t", "p"]), Ok(Command::Assemble));
-        assert_eq!(rt;
-            read_words(&["chain", "d", "e", "s", "i"]),
-            Ok(Command::Chain)
-        );
-        assert_eq!(rt; read_words(&["damage", "d", "s"]), Ok(Command::Damage));
-        assert_eq!(rt; read_words(&["damage", "d"]), Err(UsageFault::WordCount));
-        assert_eq!(rt;
-            read_words(&["chain", "d", "e", "s", "e"]),
-            Err(UsageFault::SameName)
-        );
-        assert_eq!(rt;
-            read_words(&["ring", "r", "s", "p", "i"]),
-            Ok(Command::Ring)
-        );
-        assert_eq!(rt;
-            read_words(&["ring", "r", "s", "p", "s"]),
-            Err(UsageFault::SameName)
-        );
-        assert_eq!(rt;
-            read_words(&["assemble", "t", "t"]),
-            Err(UsageFault::SameName)
-        );
-        assert_eq!(rt;
-            read_words(&["capture", "d", "s", "p", "p"]),
-            Err(UsageFault::SameName)
-        );
-        assert_eq!(rt;
-            read_words(&["capture", "d", "s", "p", "i"]),
-            Ok(Command::Capture)
-        );
-        assert_eq!(rt;
-            read_words(&["make", "d", "01", "1", "s"]),
-            Err(UsageFault::Number)
-        );
-        assert_eq!(rt;
-            read_words(&["make", "d", "1", "16", "s"]),
-            Ok(Command::Make {
-                seed: 1,
-                frames: 16
-            })
+        assert!(rt; is_refused(&[], UsageFault::NoCommand));
+        assert!(rt; is_refused(&["play", "a"], UsageFault::UnknownCommand));
+        assert!(rt; is_refused(&["run", "a", "b"], UsageFault::WordCount));
+        assert!(rt; is_refused(&["run", "a", "b", "a"], UsageFault::SameName));
+        assert!(rt; reads(&["run", "a", "a", "b"], Command::Run));
+        assert!(rt; reads(&["verify", "a"], Command::Verify));
+        assert!(rt; reads(&["list", "a"], Command::List));
+        assert!(rt; reads(&["compile", "d", "p"], Command::Compile));
+        assert!(rt; reads(&["assemble", "t", "p"], Command::Assemble));
+        assert!(rt; reads(&["chain", "d", "e", "s", "i"], Command::Chain));
+        assert!(rt; reads(&["damage", "d", "s"], Command::Damage));
+        assert!(rt; is_refused(&["damage", "d"], UsageFault::WordCount));
+        assert!(rt; is_refused(&["chain", "d", "e", "s", "e"], UsageFault::SameName));
+        assert!(rt; reads(&["ring", "r", "s", "p", "i"], Command::Ring));
+        assert!(rt; is_refused(&["ring", "r", "s", "p", "s"], UsageFault::SameName));
+        assert!(rt; is_refused(&["assemble", "t", "t"], UsageFault::SameName));
+        assert!(rt; is_refused(&["capture", "d", "s", "p", "p"], UsageFault::SameName));
+        assert!(rt; reads(&["capture", "d", "s", "p", "i"], Command::Capture));
+        assert!(rt; is_refused(&["make", "d", "01", "1", "s"], UsageFault::Number));
+        assert!(rt;
+            reads(
+                &["make", "d", "1", "16", "s"],
+                Command::Make {
+                    seed: 1,
+                    frames: 16
+                }
+            )
         );
     }
 
     #[test]
     fn numbers_have_one_form(rt: HostRuntime) {
-        assert_eq!(rt; number("0"), Some(0));
-        assert_eq!(rt; number("01"), None);
-        assert_eq!(rt; number("+1"), None);
-        assert_eq!(rt; number(""), None);
-        assert_eq!(rt; number("18446744073709551615"), Some(18446744073709551615));
-        assert_eq!(rt; number("18446744073709551616"), None);
+        assert!(rt; number("0") == Some(0));
+        assert!(rt; number("01") == None);
+        assert!(rt; number("+1") == None);
+        assert!(rt; number("") == None);
+        assert!(rt; number("18446744073709551615") == Some(18446744073709551615));
+        assert!(rt; number("18446744073709551616") == None);
     }
 }

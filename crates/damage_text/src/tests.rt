@@ -1,5 +1,6 @@
 use crate::damage_text;
-use capture_desc::read_desc;
+use capture_desc::{Desc, read_desc};
+use std::alloc::{AllocError, Global};
 use std::test::Fail;
 
 const ONE_FIELD: &str =
@@ -11,23 +12,43 @@ const LOWER_FIELD: &str =
 const BOTH_FIELDS: &str =
     "format = \"y8\"\nwidth = 8\nheight = 8\nfields = \"both\"\npages = [0x20000]\n";
 
+// Whether this is told of the rows of both fields.
+fn tells(
+    alloc: Global,
+    desc: &Desc,
+    top: Option<&[bool]>,
+    bottom: Option<&[bool]>,
+    want: &str,
+) -> Result<bool, AllocError> {
+    let text = damage_text(alloc, desc, top, bottom)?;
+    Ok(text.as_str() == want)
+}
+
 #[test]
 fn a_field_alone_has_the_rows_of_its_picture(rt: HostRuntime) -> Result<(), Fail> {
     let desc = read_desc(rt.alloc(), ONE_FIELD.as_bytes())?;
-    let first = damage_text(rt.alloc(), &desc, Some(&[false, true]), None)?;
-    assert_eq!(rt; first.as_str(), "top 1 of 2\nbad 0\n");
-    let whole = damage_text(rt.alloc(), &desc, Some(&[true, true]), None)?;
-    assert_eq!(rt; whole.as_str(), "top 2 of 2\n");
-    let none = damage_text(rt.alloc(), &desc, None, None)?;
-    assert_eq!(rt; none.as_str(), "top none\n");
-    let lower = read_desc(rt.alloc(), LOWER_FIELD.as_bytes())?;
-    let bad = damage_text(
-        rt.alloc(),
-        &lower,
-        Some(&[true]),
-        Some(&[true, false, true, false]),
-    )?;
-    assert_eq!(rt; bad.as_str(), "bottom 2 of 4\nbad 1\nbad 3\n");
+    let first = Some([false, true].as_slice());
+    assert!(rt; tells(rt.alloc(), &desc, first, None, "top 1 of 2\nbad 0\n")?);
+    let whole = Some([true, true].as_slice());
+    assert!(rt; tells(rt.alloc(), &desc, whole, None, "top 2 of 2\n")?);
+    assert!(rt; tells(rt.alloc(), &desc, None, None, "top none\n")?);
+    Ok(())
+}
+
+#[test]
+fn a_lower_field_is_told_alone(rt: HostRuntime) -> Result<(), Fail> {
+    let desc = read_desc(rt.alloc(), LOWER_FIELD.as_bytes())?;
+    let top = Some([true].as_slice());
+    let bottom = Some([true, false, true, false].as_slice());
+    assert!(rt;
+        tells(
+            rt.alloc(),
+            &desc,
+            top,
+            bottom,
+            "bottom 2 of 4\nbad 1\nbad 3\n"
+        )?
+    );
     Ok(())
 }
 
@@ -35,17 +56,12 @@ fn a_field_alone_has_the_rows_of_its_picture(rt: HostRuntime) -> Result<(), Fail
 #[test]
 fn rows_of_two_fields_are_told_as_those_of_the_picture(rt: HostRuntime) -> Result<(), Fail> {
     let desc = read_desc(rt.alloc(), BOTH_FIELDS.as_bytes())?;
-    let top = [false, true, false, true];
-    let bottom = [true, false, true, false];
-    let bad = damage_text(rt.alloc(), &desc, Some(&top), Some(&bottom))?;
-    assert_eq!(rt;
-        bad.as_str(),
-        "top 2 of 4\nbad 0\nbad 4\nbottom 2 of 4\nbad 3\nbad 7\n"
-    );
-    let half = damage_text(rt.alloc(), &desc, None, Some(&[false; 4]))?;
-    assert_eq!(rt;
-        half.as_str(),
-        "top none\nbottom 0 of 4\nbad 1\nbad 3\nbad 5\nbad 7\n"
-    );
+    let top = Some([false, true, false, true].as_slice());
+    let bottom = Some([true, false, true, false].as_slice());
+    let bad = "top 2 of 4\nbad 0\nbad 4\nbottom 2 of 4\nbad 3\nbad 7\n";
+    assert!(rt; tells(rt.alloc(), &desc, top, bottom, bad)?);
+    let none = Some([false; 4].as_slice());
+    let half = "top none\nbottom 0 of 4\nbad 1\nbad 3\nbad 5\nbad 7\n";
+    assert!(rt; tells(rt.alloc(), &desc, None, none, half)?);
     Ok(())
 }

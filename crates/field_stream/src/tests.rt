@@ -1,5 +1,5 @@
 // Streams once through.
-ghost use Rattle.std.specs.Prelude.{[], IfOk, codes, ◌∷◌, ◌≡◌};
+ghost use Rattle.std.specs.Prelude.{[], IfOk, codes, ◌∷◌, ◌≡◌, ◌≤◌};
 ghost use Rattle.capture_desk.specs.Desks.{IsAllowed};
 ghost use Rattle.capture_desk.specs.Memory.{names_of};
 
@@ -44,84 +44,105 @@ fn put_stream<D: Desk>(frame: &Frame, seed: u64, desk: &mut D) -> Result<Made, F
     Ok(made)
 }
 
+// Whether a stream of one frame has these counts; none where it isn't made.
+fn makes(
+    alloc: Global,
+    frame: &Frame,
+    room: usize,
+    want: Option<Made>,
+) -> Result<bool, AllocError> {
+    let mut desk = desk(alloc, room)?;
+    Ok(put_stream(frame, 1, &mut desk).ok() == want)
+}
+
+// Whether this is written of a stream of one frame.
+fn writes(alloc: Global, frame: &Frame, room: usize, want: &[u8]) -> Result<bool, AllocError> {
+    let mut desk = desk(alloc, room)?;
+    let _made = put_stream(frame, 1, &mut desk);
+    Ok(desk.output("stream") == Some(want))
+}
+
+const SMALLEST: &[u8] =
+    b"format = \"y8\"\nwidth = 8\nheight = 1\nfields = \"top\"\npages = [0x20000]\n";
+
+const PLANAR: &[u8] = b"format = \"yuv420p\"\nwidth = 16\nheight = 6\npages = [0x20000]\n";
+
+const WITH_VBI: &[u8] = b"format = \"y8\"\n\
+    width = 8\n\
+    height = 2\n\
+    vbi_lines = 3\n\
+    vbi_bytes = 13\n\
+    pages = [0x20000]\n";
+
+const SMALLEST_STREAM: &[u8] = b"BFS1\x04\x04\
+    \x05\x10\0\0\0\x04\x06\
+    \x05\x10\0\0\0\x01\x02\x95\xf1\xd9\x9c\
+    \x05\x10\0\0\0\x01\x01\xd3\xf3\x5f\x01\
+    \x05\x10\0\0\0\0";
+
 #[test]
 fn the_smallest_stream(rt: HostRuntime) -> Result<(), Fail> {
-    let text = b"format = \"y8\"\nwidth = 8\nheight = 1\nfields = \"top\"\npages = [0x20000]\n";
-    let frame = match frame(rt.alloc(), text) {
-        Some(frame) => frame,
-        None => panic!(rt; "the description was refused"),
+    let Some(frame) = frame(rt.alloc(), SMALLEST) else {
+        return Err(Fail::new("the description was refused"));
     };
-    let mut desk = desk(rt.alloc(), 100)?;
-    let made = match put_stream(&frame, 1, &mut desk) {
-        Ok(made) => made,
-        Err(_) => panic!(rt; "the desk failed"),
+    assert!(rt; writes(rt.alloc(), &frame, 100, SMALLEST_STREAM)?);
+    let counts = Made {
+        fields: 1,
+        entries: 2,
     };
-    let want =
-        b"BFS1\x04\x04\x05\x10\0\0\0\x04\x06\x05\x10\0\0\0\x01\x02\x95\xf1\xd9\x9c\x05\x10\0\0\0\x01\x01\xd3\xf3\x5f\x01\x05\x10\0\0\0\0";
-    assert!(rt; desk.output("stream") == Some(want.as_slice()));
-    assert_eq!(rt;
-        made,
-        Made {
-            fields: 1,
-            entries: 2
-        }
-    );
+    assert!(rt; makes(rt.alloc(), &frame, 100, Some(counts))?);
     Ok(())
 }
 
 #[test]
 fn two_fields_of_planar_lines(rt: HostRuntime) -> Result<(), Fail> {
-    let text = b"format = \"yuv420p\"\nwidth = 16\nheight = 6\npages = [0x20000]\n";
-    let frame = match frame(rt.alloc(), text) {
-        Some(frame) => frame,
-        None => panic!(rt; "the description was refused"),
+    let Some(frame) = frame(rt.alloc(), PLANAR) else {
+        return Err(Fail::new("the description was refused"));
     };
-    let mut desk = desk(rt.alloc(), 1000)?;
-    let made = match put_stream(&frame, 1, &mut desk) {
-        Ok(made) => made,
-        Err(_) => panic!(rt; "the desk failed"),
+    let counts = Made {
+        fields: 2,
+        entries: 48,
     };
-    assert_eq!(rt;
-        made,
-        Made {
-            fields: 2,
-            entries: 48
-        }
-    );
+    assert!(rt; makes(rt.alloc(), &frame, 1000, Some(counts))?);
     Ok(())
+}
+
+// The counts of a stream of so many frames, without making it.
+fn counted(alloc: Global, text: &[u8], frames: u8) -> Option<Made>
+    requires { (1 ≤ frames) × (frames ≤ 16) }
+{
+    match frame(alloc, text) {
+        Some(frame) => Some(Made::of(&frame, frames)),
+        None => None,
+    }
 }
 
 #[test]
 fn counts_need_no_stream(rt: HostRuntime) {
-    let smallest = b"format = \"y8\"\nwidth = 8\nheight = 1\npages = [0x20000]\nfields = \"top\"\n";
-    let planar = b"format = \"yuv420p\"\nwidth = 16\nheight = 6\npages = [0x20000]\n";
-    let with_vbi =
-        b"format = \"y8\"\nwidth = 8\nheight = 2\nvbi_lines = 3\nvbi_bytes = 13\npages = [0x20000]\n";
-    let counts = |fields, entries| Some(Made { fields, entries });
-    assert_eq!(rt;
-        frame(rt.alloc(), smallest).map(|frame| Made::of(&frame, 1)),
-        counts(1, 2)
-    );
-    assert_eq!(rt;
-        frame(rt.alloc(), planar).map(|frame| Made::of(&frame, 1)),
-        counts(2, 48)
-    );
-    assert_eq!(rt;
-        frame(rt.alloc(), with_vbi).map(|frame| Made::of(&frame, 16)),
-        counts(32, 448)
-    );
+    let smallest = Made {
+        fields: 1,
+        entries: 2,
+    };
+    assert!(rt; counted(rt.alloc(), SMALLEST, 1) == Some(smallest));
+    let planar = Made {
+        fields: 2,
+        entries: 48,
+    };
+    assert!(rt; counted(rt.alloc(), PLANAR, 1) == Some(planar));
+    let with_vbi = Made {
+        fields: 32,
+        entries: 448,
+    };
+    assert!(rt; counted(rt.alloc(), WITH_VBI, 16) == Some(with_vbi));
 }
 
 #[test]
 fn a_desk_that_is_full(rt: HostRuntime) -> Result<(), Fail> {
-    let text = b"format = \"y8\"\nwidth = 8\nheight = 1\npages = [0x20000]\nfields = \"top\"\n";
-    let frame = match frame(rt.alloc(), text) {
-        Some(frame) => frame,
-        None => panic!(rt; "the description was refused"),
+    let Some(frame) = frame(rt.alloc(), SMALLEST) else {
+        return Err(Fail::new("the description was refused"));
     };
-    let mut desk = desk(rt.alloc(), 6)?;
-    assert!(rt; put_stream(&frame, 1, &mut desk).is_err());
-    assert!(rt; desk.output("stream") == Some(b"BFS1\x04\x04".as_slice()));
+    assert!(rt; makes(rt.alloc(), &frame, 6, None)?);
+    assert!(rt; writes(rt.alloc(), &frame, 6, b"BFS1\x04\x04")?);
     Ok(())
 }
 

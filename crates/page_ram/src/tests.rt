@@ -39,6 +39,29 @@ fn exchange_all<R: Ram>(ram: &mut R, stores: &[(u32, u8)]) -> bool
     same
 }
 
+// Whether a chunk has this address and these bytes.
+fn has_page<R: Ram>(ram: &R, i: usize, addr: u32, want: &[u8]) -> bool {
+    if ram.pages() <= i {
+        return false;
+    }
+    let (at, bytes) = ram.page(i);
+    at == addr && bytes == want
+}
+
+// Whether a chunk has the same bytes in both memories.
+fn is_same_page(map: &MapRam, raw: &PageRam, i: usize) -> bool {
+    i < map.pages() && i < raw.pages() && map.page(i).1 == raw.page(i).1
+}
+
+// Whether a chunk has this address, and these bytes at both ends.
+fn has_ends<R: Ram>(ram: &R, i: usize, addr: u32, first: u8, last: u8) -> bool {
+    if ram.pages() <= i {
+        return false;
+    }
+    let (at, bytes) = ram.page(i);
+    at == addr && bytes.first() == Some(&first) && bytes.last() == Some(&last)
+}
+
 #[test]
 fn pages_at_both_ends(rt: HostRuntime) -> Result<(), Fail> {
     let grants = PageSet::from_list(rt.alloc(), &[0xffff_f000, 0])?;
@@ -53,15 +76,11 @@ fn pages_at_both_ends(rt: HostRuntime) -> Result<(), Fail> {
     ];
     assert!(rt; exchange_all(&mut map, &stores));
     assert!(rt; exchange_all(&mut raw, &stores));
-    assert_eq!(rt; map.load(0), 4);
-    assert_eq!(rt; raw.load(0), 4);
-    assert_eq!(rt; raw.load(1), 7);
-    assert_eq!(rt; raw.page(0).1, map.page(0).1);
-    let (at, bytes) = raw.page(1);
-    assert_eq!(rt; at, 0xffff_f000);
-    assert_eq!(rt; bytes, map.page(1).1);
-    assert_eq!(rt; bytes.first(), Some(&5));
-    assert_eq!(rt; bytes.last(), Some(&2));
+    assert!(rt; map.load(0) == 4);
+    assert!(rt; raw.load(0) == 4);
+    assert!(rt; raw.load(1) == 7);
+    assert!(rt; is_same_page(&map, &raw, 0) && is_same_page(&map, &raw, 1));
+    assert!(rt; has_ends(&raw, 1, 0xffff_f000, 5, 2));
     Ok(())
 }
 
@@ -79,15 +98,15 @@ fn chunks_that_touch(rt: HostRuntime) -> Result<(), Fail> {
     ];
     assert!(rt; exchange_all(&mut map, &stores));
     assert!(rt; exchange_all(&mut raw, &stores));
-    assert_eq!(rt; raw.page(0).1, [0, 0, 0, 2].as_slice());
-    assert_eq!(rt; raw.page(1).1, [1, 0, 0, 0].as_slice());
+    assert!(rt; has_page(&raw, 0, 0x20000, &[0, 0, 0, 2]));
+    assert!(rt; has_page(&raw, 1, 0x20004, &[1, 0, 0, 0]));
     write_run(&mut raw, 0x20003, &[8, 9]);
     write_run(&mut raw, 0x20005, &[10, 11]);
     write_run(&mut map, 0x20003, &[8, 9, 10, 11]);
-    assert_eq!(rt; raw.page(0).1, [0, 0, 0, 8].as_slice());
-    assert_eq!(rt; raw.page(1).1, [9, 10, 11, 0].as_slice());
-    assert_eq!(rt; map.page(0).1, [0, 0, 0, 8].as_slice());
-    assert_eq!(rt; raw.page(2).1, [3, 0, 0, 4].as_slice());
-    assert_eq!(rt; map.page(1).1, [9, 10, 11, 0].as_slice());
+    assert!(rt; has_page(&raw, 0, 0x20000, &[0, 0, 0, 8]));
+    assert!(rt; has_page(&raw, 1, 0x20004, &[9, 10, 11, 0]));
+    assert!(rt; has_page(&map, 0, 0x20000, &[0, 0, 0, 8]));
+    assert!(rt; has_page(&raw, 2, 0xffff_fffc, &[3, 0, 0, 4]));
+    assert!(rt; has_page(&map, 1, 0x20004, &[9, 10, 11, 0]));
     Ok(())
 }
