@@ -302,9 +302,7 @@ fn next_piece(
     let clipped = span.clipped;
     let one = line.one.reach(scatter, &mut windows.one, clipped, left);
     let two = line.two.reach(scatter, &mut windows.two, clipped, left);
-    let three = line
-        .three
-        .reach(scatter, &mut windows.three, clipped, left);
+    let three = line.three.reach(scatter, &mut windows.three, clipped, left);
     let grains = one.grains.min(two.grains).min(three.grains);
     let piece = Piece {
         kind: if span.clipped {
