@@ -1,6 +1,6 @@
 use crate::{AsmError, AsmFault, assemble};
 use risc_listing::list;
-use std::alloc::Global;
+use std::alloc::{AllocError, Global};
 use std::test::Fail;
 
 // The program of four instructions, and its listing.
@@ -124,6 +124,30 @@ fn chunks_rise_apart_from_the_words(rt: HostRuntime) -> Result<(), Fail> {
         00001010 word 00020000\n\
         fill 00\n";
     assert_eq!(rt; fault_of(rt.alloc(), write)?, Some(AsmFault::Line(6)));
+    Ok(())
+}
+
+// The lines of a program of no words with so many pages, and a last line.
+fn on_pages(alloc: Global, count: u32, last: &str) -> Result<String, AllocError> {
+    let mut text = format!(in alloc; "base 00001000\n")?;
+    for number in 0..count {
+        let page = number.saturating_mul(4096).saturating_add(0x0100_0000);
+        text.push_str(&format!(in alloc; "page {page:08x}\n")?)?;
+    }
+    text.push_str(last)?;
+    Ok(text)
+}
+
+// A contract lets each text be told want of memory, so a page too many is tried.
+#[test]
+fn a_page_too_many_is_at_fault(rt: HostRuntime) -> Result<(), Fail> {
+    let most = on_pages(rt.alloc(), 4096, "fill 00\n")?;
+    assert_eq!(rt; fault_of(rt.alloc(), most.as_bytes())?, None);
+    let more = on_pages(rt.alloc(), 4097, "fill 00\n")?;
+    assert_eq!(rt;
+        fault_of(rt.alloc(), more.as_bytes())?,
+        Some(AsmFault::Line(4098))
+    );
     Ok(())
 }
 
