@@ -152,27 +152,32 @@ fn an_instruction_of_five_words_is_told(rt: HostRuntime) {
     assert!(rt; is_judged(rt.alloc(), write, Some(AsmFault::Line(6))));
 }
 
-// The lines of a program of no words with so many pages, and a last line.
-fn on_pages(alloc: Global, count: u32, last: &str) -> Result<String, AllocError> {
+// The listing of a program of no words with so many pages.
+fn on_pages(alloc: Global, count: u32) -> Result<String, AllocError> {
     let mut text = format!(in alloc; "base 00001000\n")?;
     for number in 0..count {
         let page = number.saturating_mul(4096).saturating_add(0x0100_0000);
         text.push_str(&format!(in alloc; "page {page:08x}\n")?)?;
     }
-    text.push_str(last)?;
+    text.push_str("fill 00\n")?;
     Ok(text)
+}
+
+// Whether a program on so many pages has this fault.
+fn is_judged_on_pages(
+    alloc: Global,
+    count: u32,
+    want: Option<AsmFault>,
+) -> Result<bool, AllocError> {
+    let text = on_pages(alloc, count)?;
+    Ok(is_judged(alloc, text.as_bytes(), want))
 }
 
 // A contract lets each text be told want of memory, so a page too many is tried.
 #[test]
 fn a_page_too_many_is_at_fault(rt: HostRuntime) -> Result<(), Fail> {
-    let most = on_pages(rt.alloc(), 4096, "fill 00\n")?;
-    assert_eq!(rt; fault_of(rt.alloc(), most.as_bytes())?, None);
-    let more = on_pages(rt.alloc(), 4097, "fill 00\n")?;
-    assert_eq!(rt;
-        fault_of(rt.alloc(), more.as_bytes())?,
-        Some(AsmFault::Line(4098))
-    );
+    assert!(rt; is_judged_on_pages(rt.alloc(), 4096, None)?);
+    assert!(rt; is_judged_on_pages(rt.alloc(), 4097, Some(AsmFault::Line(4098)))?);
     Ok(())
 }
 
