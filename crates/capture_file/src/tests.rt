@@ -58,44 +58,63 @@ fn write_both<D: Desk>(file: &ProgramFile, ram: &MapRam, desk: &mut D) -> Result
     desk.finish()
 }
 
+// Whether an image is this head and so many bytes.
+fn is_image(image: Option<&[u8]>, head: &[u8], len: usize) -> bool {
+    match image {
+        Some(image) => image.starts_with(head) && image[head.len()..].len() == len,
+        None => false,
+    }
+}
+
+// Whether a program is written as these bytes, and the image of its memory as this head and so many
+// bytes.
+fn is_written(
+    alloc: Global,
+    file: &ProgramFile,
+    bytes: &[u8],
+    head: &[u8],
+    len: usize,
+) -> Result<bool, AllocError> {
+    let ram = MapRam::new(alloc, file.program.grants(), file.fill)?;
+    let mut desk = desk(alloc)?;
+    Ok(
+        write_both(file, &ram, &mut desk).is_ok()
+            && desk.output("program") == Some(bytes)
+            && is_image(desk.output("image"), head, len),
+    )
+}
+
+// Whether a file is read and written alike.
+fn is_kept(alloc: Global, bytes: &[u8], head: &[u8], len: usize) -> Result<bool, AllocError> {
+    match read_program(alloc, bytes) {
+        Ok(file) => is_written(alloc, &file, bytes, head, len),
+        Err(_) => Ok(false),
+    }
+}
+
 #[test]
 fn programs_are_written_as_they_were_read(rt: HostRuntime) -> Result<(), Fail> {
-    let files: [(&[u8], &[u8], usize); 2] = [
-        (PAGED, b"BMI1\x01\0\0\0\0\0\x02\0", 4096),
-        (CHUNKED, b"BMI2\x01\0\0\0\x04\0\x02\0\x08\0\0\0", 8),
-    ];
-    for &(bytes, head, len) in files.iter() {
-        let file = match read_program(rt.alloc(), bytes) {
-            Ok(file) => file,
-            Err(_) => panic!(rt; "a program was refused"),
-        };
-        let ram = MapRam::new(rt.alloc(), file.program.grants(), file.fill)?;
-        let mut desk = desk(rt.alloc())?;
-        assert!(rt; write_both(&file, &ram, &mut desk).is_ok());
-        assert!(rt; desk.output("program") == Some(bytes));
-        let image_is = match desk.output("image") {
-            Some(image) => image.starts_with(head) && image[head.len()..].len() == len,
-            None => false,
-        };
-        assert!(rt; image_is);
-    }
+    let paged = b"BMI1\x01\0\0\0\0\0\x02\0";
+    assert!(rt; is_kept(rt.alloc(), PAGED, paged, 4096)?);
+    let chunked = b"BMI2\x01\0\0\0\x04\0\x02\0\x08\0\0\0";
+    assert!(rt; is_kept(rt.alloc(), CHUNKED, chunked, 8)?);
     Ok(())
+}
+
+// Whether a program is too short, at its end.
+fn is_short(alloc: Global, bytes: &[u8]) -> bool {
+    match read_program(alloc, bytes) {
+        Err(ProgramError::File(fault)) => {
+            fault.at == bytes.len() as u64 && fault.kind == FileKind::Short
+        }
+        _ => false,
+    }
 }
 
 #[test]
 fn cut_programs_are_short(rt: HostRuntime) {
     for len in [0, 2, 11, 44, 52] {
-        let fault = match read_program(rt.alloc(), &PAGED[..len]) {
-            Err(ProgramError::File(fault)) => fault,
-            _ => panic!(rt; "a cut program was taken"),
-        };
-        assert_eq!(rt;
-            fault,
-            FileFault {
-                at: len as u64,
-                kind: FileKind::Short
-            }
-        );
+        assert!(rt; is_short(rt.alloc(), &PAGED[..len]), "{len}");
     }
 }
 
@@ -126,27 +145,52 @@ fn a_stream_is_read_to_its_limit(rt: HostRuntime) {
     );
 }
 
-#[test]
-fn whole_records_are_taken_off_a_piece(rt: HostRuntime) {
-    let mut reader = StepReader::new(100);
-    assert_eq!(rt; reader.take_turns(b"BFS1\x05"), None);
-    assert_eq!(rt; reader.take(b"BFS1"), (4, Got::More));
+fn takes(reader: &mut StepReader, piece: &[u8], want: (usize, Got)) -> bool {
+    reader.take(piece) == want
+}
+
+fn takes_push(reader: &mut StepReader, piece: &[u8], want: Option<(Queue, Entry)>) -> bool {
+    reader.take_push(piece) == want
+}
+
+fn takes_turns(reader: &mut StepReader, piece: &[u8], want: Option<u32>) -> bool {
+    reader.take_turns(piece) == want
+}
+
+// None is taken in the head.
+fn takes_a_head(reader: &mut StepReader) -> bool {
+    takes_turns(reader, b"BFS1\x05", None) && takes(reader, b"BFS1", (4, Got::More))
+}
+
+fn takes_whole_pushes(reader: &mut StepReader) -> bool {
     let entry = Entry {
         status: Status::of(2),
         dword: 0x1312_1110,
     };
-    assert_eq!(rt; reader.take_push(b"\x02\x02\x10\x11\x12"), None);
-    assert_eq!(rt; reader.take_push(b"\x02\x04\x10\x11\x12\x13"), None);
-    assert_eq!(rt; reader.take_turns(b"\x02\x02\x10\x11\x12\x13"), None);
-    assert_eq!(rt;
-        reader.take_push(b"\x02\x02\x10\x11\x12\x13"),
-        Some((Queue::Two, entry))
-    );
-    assert_eq!(rt; reader.take_turns(b"\x05\x07\0\0\0\x05"), Some(7));
-    assert_eq!(rt; reader.take_turns(b"\x05\xfa\xff\xff\x3f"), None);
-    assert_eq!(rt; reader.take_push(b"\x05\x01\0\0\0\x05"), None);
-    assert_eq!(rt; reader.take(b"\x05\x01"), (2, Got::More));
-    assert_eq!(rt; reader.take_turns(b"\x05\x07\0\0\0"), None);
+    takes_push(reader, b"\x02\x02\x10\x11\x12", None)
+        && takes_push(reader, b"\x02\x04\x10\x11\x12\x13", None)
+        && takes_turns(reader, b"\x02\x02\x10\x11\x12\x13", None)
+        && takes_push(
+            reader,
+            b"\x02\x02\x10\x11\x12\x13",
+            Some((Queue::Two, entry)),
+        )
+}
+
+fn takes_whole_turns(reader: &mut StepReader) -> bool {
+    takes_turns(reader, b"\x05\x07\0\0\0\x05", Some(7))
+        && takes_turns(reader, b"\x05\xfa\xff\xff\x3f", None)
+        && takes_push(reader, b"\x05\x01\0\0\0\x05", None)
+        && takes(reader, b"\x05\x01", (2, Got::More))
+        && takes_turns(reader, b"\x05\x07\0\0\0", None)
+}
+
+#[test]
+fn whole_records_are_taken_off_a_piece(rt: HostRuntime) {
+    let mut reader = StepReader::new(100);
+    assert!(rt; takes_a_head(&mut reader));
+    assert!(rt; takes_whole_pushes(&mut reader));
+    assert!(rt; takes_whole_turns(&mut reader));
 }
 
 // The steps of a stream that comes byte by byte.
@@ -161,6 +205,19 @@ fn read_by_bytes(
         pieces.push(vec![in alloc; *byte]?)?;
     }
     read_stream(alloc, chained, limit, &pieces)
+}
+
+// Whether a stream of at most 100 bytes has these steps.
+fn has_steps(
+    alloc: Global,
+    chained: bool,
+    bytes: &[u8],
+    want: &[Step],
+) -> Result<bool, AllocError> {
+    match read_by_bytes(alloc, chained, 100, bytes)? {
+        Ok(have) => Ok(have.as_slice() == want),
+        Err(_) => Ok(false),
+    }
 }
 
 #[test]
@@ -180,22 +237,33 @@ fn streams_give_their_steps(rt: HostRuntime) -> Result<(), Fail> {
         Step::Push(Queue::One, second),
         Step::Turns(9),
     ];
-    let patched = [
+    assert!(rt; has_steps(rt.alloc(), false, STREAM, &steps)?);
+    Ok(())
+}
+
+#[test]
+fn chained_streams_give_their_steps(rt: HostRuntime) -> Result<(), Fail> {
+    let steps = [
         Step::Host(HostWrite::Trigger(0)),
         Step::Patch(0, 1),
         Step::Patch(1, 255),
     ];
-    let rows: [(bool, &[u8], &[Step]); 2] = [
-        (false, STREAM, &steps),
-        (true, b"BFS3\x09\0\x01\x09\x01\xff\0", &patched),
-    ];
-    for (i, &(chained, bytes, want)) in rows.iter().enumerate() {
-        match read_by_bytes(rt.alloc(), chained, 100, bytes)? {
-            Ok(have) => assert!(rt; have.as_slice() == want, "in row {i}"),
-            Err(_) => panic!(rt; "row {i} was refused"),
-        }
-    }
+    assert!(rt; has_steps(rt.alloc(), true, b"BFS3\x09\0\x01\x09\x01\xff\0", &steps)?);
     Ok(())
+}
+
+// Whether a stream has this fault.
+fn has_fault(
+    alloc: Global,
+    chained: bool,
+    limit: u64,
+    bytes: &[u8],
+    want: FileFault,
+) -> Result<bool, AllocError> {
+    match read_by_bytes(alloc, chained, limit, bytes)? {
+        Ok(_) => Ok(false),
+        Err(fault) => Ok(fault == want),
+    }
 }
 
 #[test]
@@ -211,10 +279,11 @@ fn streams_have_a_first_fault(rt: HostRuntime) -> Result<(), Fail> {
         (false, 10, STREAM, 10, FileKind::TooLong),
     ];
     for (i, &(chained, limit, bytes, at, kind)) in rows.iter().enumerate() {
-        match read_by_bytes(rt.alloc(), chained, limit, bytes)? {
-            Ok(_) => panic!(rt; "row {i} was taken"),
-            Err(fault) => assert_eq!(rt; fault, FileFault { at, kind }, "in row {i}"),
-        }
+        let want = FileFault { at, kind };
+        assert!(rt;
+            has_fault(rt.alloc(), chained, limit, bytes, want)?,
+            "row {i}"
+        );
     }
     Ok(())
 }

@@ -91,7 +91,8 @@ two_more out start done from width a b =
     let f = length-append out (unless_empty start done a) in
     omega arith
 
-merged_runs : (test : ℕ → Bool) (width start done : ℕ) (out : List Span) (left : List Part) (most : ℕ) → IsMerged test width start done out left → length out + length (unless_empty start done true) + 2 * length left + 1 ≤ most → SomeRuns test width most
+merged_runs : (test : ℕ → Bool) (width start done : ℕ) (out : List Span) (left : List Part) (most : ℕ) → IsMerged test width start done out left →
+    length out + length (unless_empty start done true) + 2 * length left + 1 ≤ most → SomeRuns test width most
 merged_runs test width start done out [] most merged fits =
     record {
       spans = (out ++ unless_empty start done true) ++ unless_empty done width false;

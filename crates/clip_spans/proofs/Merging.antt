@@ -41,7 +41,8 @@ merged_first width parts order =
 
 module _ (test : ℕ → Bool) (width start done : ℕ) (out : List Span) where
   -- the span of the pixels that are known to be inside
-  with_solid : (left : List Part) (spans : List Span) → IsMerged test width start done out left → (done < width → test done ≡ false) → AreRunsFrom test width done spans → AreRunsFrom test width 0 ((out ++ unless_empty start done true) ++ spans)
+  with_solid : (left : List Part) (spans : List Span) → IsMerged test width start done out left → (done < width → test done ≡ false) → AreRunsFrom test width done spans →
+      AreRunsFrom test width 0 ((out ++ unless_empty start done true) ++ spans)
   with_solid left spans merged turns runs =
       let begun = merged.begun in
       let joins : AreRunsFrom test width start (unless_empty start done true ++ spans) =
@@ -55,7 +56,8 @@ module _ (test : ℕ → Bool) (width start done : ℕ) (out : List Span) where
   inside_first part x from to = and_from _ _ (le-leb part.from x from) (lt-ltb x part.to to)
 
   -- a part that begins after a gap
-  pub merged_gap : (part : Part) (left : List Part) → IsMerged test width start done out (part ∷ left) → done < part.from → IsMerged test width part.from part.to ((out ++ unless_empty start done true) ++ unless_empty done part.from false) left
+  pub merged_gap : (part : Part) (left : List Part) → IsMerged test width start done out (part ∷ left) → done < part.from →
+      IsMerged test width part.from part.to ((out ++ unless_empty start done true) ++ unless_empty done part.from false) left
   merged_gap part left merged gap =
       let some = merged.order.1.some in
       let fits = merged.order.1.within in
@@ -105,7 +107,8 @@ module _ (test : ℕ → Bool) (width start done : ℕ) (out : List Span) where
       (λ e. (refl, record { some = ltb-true done width e; within = omega arith; same = λ x from to. merged.rest x from; maximal = λ below. absurd (omega arith) }, refl))
       (λ e. let none = ltb-false done width e in omega arith))
 
-pub merged_along : (test : ℕ → Bool) (width start done start' done' : ℕ) (out out' : List Span) (left : List Part) → start' ≡ start → done' ≡ done → out' ≡ out → IsMerged test width start done out left → IsMerged test width start' done' out' left
+pub merged_along : (test : ℕ → Bool) (width start done start' done' : ℕ) (out out' : List Span) (left : List Part) → start' ≡ start → done' ≡ done → out' ≡ out →
+    IsMerged test width start done out left → IsMerged test width start' done' out' left
 merged_along test width start done start' done' out out' left a b e merged =
     subst (λ (o : List Span). IsMerged test width start' done' o left) (sym e)
     (subst (λ n. IsMerged test width start' n out left) (sym b) (subst (λ n. IsMerged test width n done out left) (sym a) merged))

@@ -1,37 +1,52 @@
 ghost use Rattle.std.specs.Prelude.{◌≡◌, ◌<◌};
 
 use crate::plain::Plain;
-use crate::programs::{Subject, packed, planar};
+use crate::programs::{Event, Subject, packed, planar};
 use crate::streams::{CLEAN, Dice, Pair, arrive_frame};
 use capture_desc::read_desc;
 use damage_map::Mapped;
 use dma_machine::Machine;
 use fifo_model::Fifo;
 use page_ram::MapRam;
-use program_build::{build, check};
-use risc_verify::{Steps, verify};
-use std::alloc::Global;
+use program_build::{Checked, build, check};
+use risc_verify::{Accepted, Steps, verify};
+use std::alloc::{AllocError, Global};
 use std::marker::Brand;
 use std::process::Abort;
 use std::sync::ledger::{Blank, Ledger};
 use std::test::Fail;
 
-/// The machine of a description.
-fn mapped<L: Ledger>(alloc: Global, text: &[u8], blank: Blank) -> Result<Mapped<MapRam>, Fail>
+/// The program of a description, verified.
+fn accepted<L: Ledger>(alloc: Global, checked: &Checked, blank: Blank) -> Result<Accepted, Fail>
     requires name { blank.name ≡ L.name }
     requires parts { blank.parts ≡ L.parts }
     requires some { 0 < blank.parts }
 {
-    let desc = read_desc(alloc, text)?;
-    let checked = check(alloc, desc)?;
-    let program = build(alloc, &checked)?;
+    let program = build(alloc, checked)?;
     let mut steps = Steps::<L>::new(blank);
-    let Ok(accepted) = verify(alloc, program, &mut steps) else {
-        return Err(Fail::from("it is sound"));
-    };
-    let ram = MapRam::new(alloc, accepted.program().grants(), checked.fill())?;
+    match verify(alloc, program, &mut steps) {
+        Ok(accepted) => Ok(accepted),
+        Err(_) => Err(Fail::from("it is sound")),
+    }
+}
+
+fn machine(alloc: Global, accepted: Accepted, fill: u8) -> Result<Machine<MapRam>, Fail> {
+    let ram = MapRam::new(alloc, accepted.program().grants(), fill)?;
     let fifo = Fifo::new(alloc, [70, 35, 35])?;
-    Ok(Mapped::new(alloc, Machine::new(accepted, ram, fifo), &checked)?)
+    Ok(Machine::new(accepted, ram, fifo))
+}
+
+fn mapped_of(alloc: Global, checked: &Checked) -> Result<Mapped<MapRam>, Fail> {
+    let accepted = accepted::<Brand>(alloc, checked, Blank::new(1))?;
+    let machine = machine(alloc, accepted, checked.fill())?;
+    Ok(Mapped::new(alloc, machine, checked)?)
+}
+
+/// The machine of a description.
+fn mapped(alloc: Global, text: &str) -> Result<Mapped<MapRam>, Fail> {
+    let desc = read_desc(alloc, text.as_bytes())?;
+    let checked = check(alloc, desc)?;
+    mapped_of(alloc, &checked)
 }
 
 /// How many fields of the streams had, at the end, each row whole, some row not whole, and no signal; and how often the
@@ -61,23 +76,48 @@ impl Seen {
             None => self.unsignalled = self.unsignalled.saturating_add(1),
         }
     }
+
+    fn add(&mut self, pair: &Pair) {
+        self.count(pair.plain.top.told);
+        self.count(pair.plain.bottom.told);
+        self.restarts = self.restarts.saturating_add(pair.restarts);
+        self.losses = self.losses.saturating_add(pair.losses);
+    }
+
+    /// Whether each kind of ending was met often enough to count.
+    fn has_variety(&self) -> bool {
+        self.whole >= 10
+            && self.broken >= 10
+            && self.unsignalled >= 10
+            && self.restarts >= 10
+            && self.losses >= 10
+    }
 }
 
-/// A stream of one frame or two.
-fn play(alloc: Global, subject: Subject, seed: u32) -> Result<Pair, Fail> {
-    let mapped = mapped::<Brand>(alloc, subject.description.as_bytes(), Blank::new(1))?;
-    let mut pair = Pair::new(mapped, Plain::new(alloc, subject));
-    let mut dice = Dice::new(seed);
-    let calm = if seed % 8 == 0 {
+/// How seldom an entry of a stream is damaged.
+fn calm_of(dice: &mut Dice, seed: u32) -> u32 {
+    if seed % 8 == 0 {
         CLEAN
     } else {
         dice.roll(40).saturating_add(12)
-    };
+    }
+}
+
+/// A stream of one frame or two.
+fn play_frames(pair: &mut Pair, frame: &[Event], seed: u32) -> Result<(), AllocError> {
+    let mut dice = Dice::new(seed);
+    let calm = calm_of(&mut dice, seed);
     for _ in 0..dice.roll(2).saturating_add(1) {
         let pace = dice.roll(12).saturating_add(2);
-        arrive_frame(&mut pair, &mut dice, subject.frame, calm, pace)?;
+        arrive_frame(pair, &mut dice, frame, calm, pace)?;
     }
-    pair.turns(300)?;
+    pair.turns(300)
+}
+
+fn play(alloc: Global, subject: Subject, seed: u32) -> Result<Pair, Fail> {
+    let mapped = mapped(alloc, subject.description)?;
+    let mut pair = Pair::new(mapped, Plain::new(alloc, subject));
+    play_frames(&mut pair, subject.frame, seed)?;
     Ok(pair)
 }
 
@@ -87,33 +127,21 @@ fn play_all(rt: &impl Abort, alloc: Global, subject: Subject, streams: u32) -> R
     for seed in 0..streams {
         let pair = play(alloc, subject, seed)?;
         assert!(rt; !pair.differs, "stream {seed}");
-        seen.count(pair.plain.top.told);
-        seen.count(pair.plain.bottom.told);
-        seen.restarts = seen.restarts.saturating_add(pair.restarts);
-        seen.losses = seen.losses.saturating_add(pair.losses);
+        seen.add(&pair);
     }
     Ok(seen)
-}
-
-/// Each kind of ending was met often enough to count.
-fn assert_variety(rt: &impl Abort, seen: Seen) {
-    assert!(rt; seen.whole >= 10, "{}", seen.whole);
-    assert!(rt; seen.broken >= 10, "{}", seen.broken);
-    assert!(rt; seen.unsignalled >= 10, "{}", seen.unsignalled);
-    assert!(rt; seen.restarts >= 10, "{}", seen.restarts);
-    assert!(rt; seen.losses >= 10, "{}", seen.losses);
 }
 
 #[test]
 fn rows_of_drawn_packed_streams_are_told(rt: HostRuntime) -> Result<(), Fail> {
     let seen = play_all(&rt, rt.alloc(), packed(), 1_000)?;
-    assert_variety(&rt, seen);
+    assert!(rt; seen.has_variety());
     Ok(())
 }
 
 #[test]
 fn rows_of_drawn_planar_streams_are_told(rt: HostRuntime) -> Result<(), Fail> {
     let seen = play_all(&rt, rt.alloc(), planar(), 1_000)?;
-    assert_variety(&rt, seen);
+    assert!(rt; seen.has_variety());
     Ok(())
 }

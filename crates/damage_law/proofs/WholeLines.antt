@@ -120,12 +120,14 @@ module _ (entry_at : ℕ → Entry) where
   begin_from place (suc x) = omega arith
 
   -- the entries of which something is taken, where those of the rest are all from the next entry on
-  entries_with : (place x end : ℕ) (t : Taking) (rest : List Taking) → place < end → t.taken ≡ x → t.entry ≡ entry_at place → entries_taken rest ≡ entries_from entry_at (place + 1) (end - (place + 1)) → entries_taken (t ∷ rest) ≡ entries_from entry_at (next_begin place x) (end - next_begin place x)
+  entries_with : (place x end : ℕ) (t : Taking) (rest : List Taking) → place < end → t.taken ≡ x → t.entry ≡ entry_at place →
+      entries_taken rest ≡ entries_from entry_at (place + 1) (end - (place + 1)) → entries_taken (t ∷ rest) ≡ entries_from entry_at (next_begin place x) (end - next_begin place x)
   entries_with place x end t rest less same is others =
       taken_first t rest x same ∙ ap (λ e. first_at x e (entries_taken rest)) is ∙ ap (first_at x (entry_at place)) others ∙ entries_more place end x less
 
   -- one step of takings that go on
-  go_step : (place x : ℕ) (t : Taking) (rest : List Taking) → t.place ≡ place → t.taken ≡ x → (if x + t.count == valid_bytes t.entry.status then go_on (place + 1) 0 rest else go_on place (x + t.count) rest) ≡ true → go_on place x (t ∷ rest) ≡ true
+  go_step : (place x : ℕ) (t : Taking) (rest : List Taking) → t.place ≡ place → t.taken ≡ x →
+      (if x + t.count == valid_bytes t.entry.status then go_on (place + 1) 0 rest else go_on place (x + t.count) rest) ≡ true → go_on place x (t ∷ rest) ≡ true
   go_step place x t rest there same on =
       and_from (t.place == place && t.taken == x) _ (and_from (t.place == place) (t.taken == x) (eq-eqb _ _ there) (eq-eqb _ _ same)) on
 

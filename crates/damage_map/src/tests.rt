@@ -9,8 +9,8 @@ use fifo_model::{Entry, Fifo, Queue};
 use irq_status::HostWrite;
 use page_ram::{MapRam, Ram};
 use pixel_layout::Parity;
-use program_build::{build, check};
-use risc_verify::{Steps, verify};
+use program_build::{Checked, build, check};
+use risc_verify::{Accepted, Steps, verify};
 use risc_word::Code;
 use std::alloc::Global;
 use std::marker::Brand;
@@ -24,21 +24,36 @@ const ONE_ROW: &str =
 const TWO_ROWS: &str =
     "format = \"y8\"\nwidth = 8\nheight = 2\nfields = \"top\"\npages = [0x20000]\n";
 
-fn mapped<L: Ledger>(alloc: Global, text: &[u8], blank: Blank) -> Result<Mapped<MapRam>, Fail>
+// The program of a description, verified.
+fn accepted<L: Ledger>(alloc: Global, checked: &Checked, blank: Blank) -> Result<Accepted, Fail>
     requires name { blank.name ≡ L.name }
     requires parts { blank.parts ≡ L.parts }
     requires some { 0 < blank.parts }
 {
-    let desc = read_desc(alloc, text)?;
-    let checked = check(alloc, desc)?;
-    let program = build(alloc, &checked)?;
+    let program = build(alloc, checked)?;
     let mut steps = Steps::<L>::new(blank);
-    let Ok(accepted) = verify(alloc, program, &mut steps) else {
-        return Err(Fail::from("it is sound"));
-    };
-    let ram = MapRam::new(alloc, accepted.program().grants(), checked.fill())?;
+    match verify(alloc, program, &mut steps) {
+        Ok(accepted) => Ok(accepted),
+        Err(_) => Err(Fail::from("it is sound")),
+    }
+}
+
+fn machine(alloc: Global, accepted: Accepted, fill: u8) -> Result<Machine<MapRam>, Fail> {
+    let ram = MapRam::new(alloc, accepted.program().grants(), fill)?;
     let fifo = Fifo::new(alloc, [70, 35, 35])?;
-    Ok(Mapped::new(alloc, Machine::new(accepted, ram, fifo), &checked)?)
+    Ok(Machine::new(accepted, ram, fifo))
+}
+
+fn mapped_of(alloc: Global, checked: &Checked) -> Result<Mapped<MapRam>, Fail> {
+    let accepted = accepted::<Brand>(alloc, checked, Blank::new(1))?;
+    let machine = machine(alloc, accepted, checked.fill())?;
+    Ok(Mapped::new(alloc, machine, checked)?)
+}
+
+fn mapped(alloc: Global, text: &str) -> Result<Mapped<MapRam>, Fail> {
+    let desc = read_desc(alloc, text.as_bytes())?;
+    let checked = check(alloc, desc)?;
+    mapped_of(alloc, &checked)
 }
 
 fn push(m: &mut Mapped<MapRam>, nibble: u8, dword: u32) {
@@ -56,11 +71,12 @@ fn turns(m: &mut Mapped<MapRam>, count: u8) {
     }
 }
 
-// The first line has 17 bytes in place of 8.
-#[test]
-fn a_line_too_long_is_not_whole(rt: HostRuntime) -> Result<(), Fail> {
-    let mut m = mapped::<Brand>(rt.alloc(), TWO_ROWS.as_bytes(), Blank::new(1))?;
-    assert!(rt; m.rows(Parity::Top).is_none());
+fn tells(m: &Mapped<MapRam>, parity: Parity, rows: Option<&[bool]>) -> bool {
+    m.rows(parity) == rows
+}
+
+// A field whose first line has 17 bytes in place of 8.
+fn take_a_long_line(m: &mut Mapped<MapRam>) {
     m.push_control(Code::Vre);
     m.push_control(Code::Fm1);
     for (nibble, dword) in [
@@ -72,32 +88,32 @@ fn a_line_too_long_is_not_whole(rt: HostRuntime) -> Result<(), Fail> {
         (2, 0x2322_2120),
         (1, 0x2726_2524),
     ] {
-        push(&mut m, nibble, dword);
+        push(m, nibble, dword);
     }
     // the sixteenth turn is the signal; the next begins to wait, and all others do nothing
-    turns(&mut m, 10);
+    turns(m, 10);
     m.turns(1_000);
-    assert!(rt; m.rows(Parity::Top) == Some([false, true].as_slice()));
-    assert!(rt; m.rows(Parity::Bottom).is_none());
+}
+
+fn reports(m: &Mapped<MapRam>, turns: u64, moved: u64, int_stat: u32) -> bool {
     let report = m.report();
-    assert_eq!(rt;
-        (report.turns, report.moved, report.int_stat),
-        (1_010, 16, 0x1000_4800)
-    );
+    report.turns == turns && report.moved == moved && report.int_stat == int_stat
+}
+
+#[test]
+fn a_line_too_long_is_not_whole(rt: HostRuntime) -> Result<(), Fail> {
+    let mut m = mapped(rt.alloc(), TWO_ROWS)?;
+    assert!(rt; tells(&m, Parity::Top, None));
+    take_a_long_line(&mut m);
+    assert!(rt; tells(&m, Parity::Top, Some(&[false, true])));
+    assert!(rt; tells(&m, Parity::Bottom, None));
+    assert!(rt; reports(&m, 1_010, 16, 0x1000_4800));
     assert!(rt; m.ram().pages() == 1);
     Ok(())
 }
 
-// The host empties the queues within the line, of which an entry may be lost.
-fn emptied(alloc: Global, loses: bool) -> Result<Mapped<MapRam>, Fail> {
-    let mut m = mapped::<Brand>(alloc, ONE_ROW.as_bytes(), Blank::new(1))?;
-    m.push_control(Code::Vre);
-    m.push_control(Code::Fm1);
-    push(&mut m, 2, 0x1312_1110);
-    turns(&mut m, 6);
-    if loses {
-        push(&mut m, 0, 0xa3a2_a1a0);
-    }
+// The host empties the queues.
+fn empty_queues(m: &mut Mapped<MapRam>) {
     m.host(HostWrite::Enable {
         fifo: false,
         risc: true,
@@ -106,16 +122,32 @@ fn emptied(alloc: Global, loses: bool) -> Result<Mapped<MapRam>, Fail> {
         fifo: true,
         risc: true,
     });
-    push(&mut m, 1, 0x1716_1514);
-    turns(&mut m, 3);
-    Ok(m)
+}
+
+// It does so within the line, of which an entry may be lost.
+fn take_an_emptied_line(m: &mut Mapped<MapRam>, loses: bool) {
+    m.push_control(Code::Vre);
+    m.push_control(Code::Fm1);
+    push(m, 2, 0x1312_1110);
+    turns(m, 6);
+    if loses {
+        push(m, 0, 0xa3a2_a1a0);
+    }
+    empty_queues(m);
+    push(m, 1, 0x1716_1514);
+    turns(m, 3);
+}
+
+// Whether the row is told whole, or not, behind such a line.
+fn emptied_tells(alloc: Global, loses: bool, whole: bool) -> Result<bool, Fail> {
+    let mut m = mapped(alloc, ONE_ROW)?;
+    take_an_emptied_line(&mut m, loses);
+    Ok(tells(&m, Parity::Top, Some(&[whole])))
 }
 
 #[test]
 fn entries_that_the_host_loses_are_missed(rt: HostRuntime) -> Result<(), Fail> {
-    let whole = emptied(rt.alloc(), false)?;
-    assert!(rt; whole.rows(Parity::Top) == Some([true].as_slice()));
-    let lost = emptied(rt.alloc(), true)?;
-    assert!(rt; lost.rows(Parity::Top) == Some([false].as_slice()));
+    assert!(rt; emptied_tells(rt.alloc(), false, true)?);
+    assert!(rt; emptied_tells(rt.alloc(), true, false)?);
     Ok(())
 }

@@ -19,11 +19,12 @@ use sync_status::{Status, StatusKind, kind};
 enum Action {
     Control(Code),
     Push(Queue, u8, u32),
+    Fill(Queue, u32),
     Turns(u8),
     Host(HostWrite),
 }
 
-use Action::{Control, Host, Push, Turns};
+use Action::{Control, Fill, Host, Push, Turns};
 use Queue::{One, Three, Two};
 
 const ONE_LINE: [u32; 8] = [
@@ -37,6 +38,7 @@ const ONE_LINE: [u32; 8] = [
     0x1000,
 ];
 
+// The machine of a program of at most 16 words, with one page that is filled with a byte.
 fn machine<L: Ledger>(
     alloc: Global,
     words: &[u32],
@@ -63,17 +65,28 @@ fn machine<L: Ledger>(
     Ok(Machine::new(accepted, ram, fifo))
 }
 
+fn made(alloc: Global, words: &[u32], fill: u8) -> Result<Machine<MapRam>, Fail> {
+    machine::<Brand>(alloc, words, fill, Blank::new(1))
+}
+
+fn push(m: &mut Machine<MapRam>, q: Queue, nibble: u8, dword: u32) {
+    if nibble < 16 {
+        let status = Status::of(nibble);
+        if !matches!(kind(status), StatusKind::Control(_)) {
+            m.push(q, Entry { status, dword });
+        }
+    }
+}
+
 fn act(m: &mut Machine<MapRam>, action: Action) {
     match action {
         Control(code) => {
             m.push_control(code);
         }
-        Push(q, nibble, dword) => {
-            if nibble < 16 {
-                let status = Status::of(nibble);
-                if !matches!(kind(status), StatusKind::Control(_)) {
-                    m.push(q, Entry { status, dword });
-                }
+        Push(q, nibble, dword) => push(m, q, nibble, dword),
+        Fill(q, count) => {
+            for i in 0..count {
+                push(m, q, 0, i);
             }
         }
         Turns(count) => {
@@ -88,24 +101,21 @@ fn act(m: &mut Machine<MapRam>, action: Action) {
     }
 }
 
+fn play(m: &mut Machine<MapRam>, actions: &[Action]) {
+    for action in actions {
+        act(m, *action);
+    }
+}
+
 // Whether the page holds these bytes from an offset on.
-fn holds(m: &Machine<MapRam>, offset: usize, want: &[u8]) -> bool
-    requires { offset < 4096 }
-{
+fn holds(m: &Machine<MapRam>, offset: usize, want: &[u8]) -> bool {
     let ram = m.ram();
-    if ram.pages() == 0 || want.len() > 4096 {
+    if ram.pages() == 0 || offset >= 4096 || want.len() > 4096 {
         return false;
     }
     let (at, bytes) = ram.page(0);
     let end = offset + want.len();
     at == 0x20000 && end <= bytes.len() && &bytes[offset..end] == want
-}
-
-fn play(m: &mut Machine<MapRam>, actions: &[Action]) -> Report {
-    for action in actions {
-        act(m, *action);
-    }
-    m.report()
 }
 
 fn report(turns: u64, moved: u64, overruns: [u64; 4], int_stat: u32) -> Report {
@@ -117,29 +127,70 @@ fn report(turns: u64, moved: u64, overruns: [u64; 4], int_stat: u32) -> Report {
     }
 }
 
-// A line of 8 bytes, with and without bursts.
+// Whether this is reported after these actions.
+fn reports(m: &mut Machine<MapRam>, actions: &[Action], want: &Report) -> bool {
+    play(m, actions);
+    m.report() == *want
+}
+
+// Whether a machine, after these actions, reports this and holds these bytes from these offsets
+// on. A test that holds no machine itself is proved sooner.
+fn comes_to(
+    alloc: Global,
+    (words, fill): (&[u32], u8),
+    actions: &[Action],
+    want: &Report,
+    runs: &[(usize, &[u8])],
+) -> Result<bool, Fail> {
+    let mut m = made(alloc, words, fill)?;
+    Ok(reports(&mut m, actions, want) && holds_all(&m, runs))
+}
+
+fn holds_all(m: &Machine<MapRam>, runs: &[(usize, &[u8])]) -> bool {
+    for (offset, want) in runs {
+        if !holds(m, *offset, want) {
+            return false;
+        }
+    }
+    true
+}
+
+const LINE: [Action; 5] = [
+    Control(Code::Vre),
+    Control(Code::Fm1),
+    Push(One, 2, 0x1312_1110),
+    Push(One, 1, 0x1716_1514),
+    Turns(8),
+];
+
+// The bytes of that line and one behind them.
+const LINE_BYTES: [u8; 9] = [0x10, 0x11, 0x12, 0x13, 0x14, 0x15, 0x16, 0x17, 0];
+
+// The line is stored by the eighth turn, and the ninth is the signal.
+fn stores_by_entries(m: &mut Machine<MapRam>) -> bool {
+    reports(m, &LINE, &report(8, 8, [0; 4], 0))
+        && reports(m, &[Turns(1)], &report(9, 8, [0; 4], 0x1000_0800))
+        && holds(m, 0, &LINE_BYTES)
+}
+
+// The line is stored by a burst, which saves a turn.
+fn stores_by_bursts(m: &mut Machine<MapRam>) -> bool {
+    act(m, Host(HostWrite::Trigger(0)));
+    reports(m, &LINE, &report(8, 8, [0; 4], 0x1000_0800)) && holds(m, 0, &LINE_BYTES)
+}
+
 #[test]
 fn one_line(rt: HostRuntime) -> Result<(), Fail> {
-    let line = [
-        Control(Code::Vre),
-        Control(Code::Fm1),
-        Push(One, 2, 0x1312_1110),
-        Push(One, 1, 0x1716_1514),
-        Turns(8),
-    ];
-    let bytes = [0x10, 0x11, 0x12, 0x13, 0x14, 0x15, 0x16, 0x17, 0];
-    let mut m = machine::<Brand>(rt.alloc(), &ONE_LINE, 0, Blank::new(1))?;
-    assert_eq!(rt; play(&mut m, &line), report(8, 8, [0; 4], 0));
-    assert_eq!(rt;
-        play(&mut m, &[Turns(1)]),
-        report(9, 8, [0; 4], 0x1000_0800)
-    );
-    assert!(rt; holds(&m, 0, &bytes));
-    let mut m = machine::<Brand>(rt.alloc(), &ONE_LINE, 0, Blank::new(1))?;
-    act(&mut m, Host(HostWrite::Trigger(0)));
-    assert_eq!(rt; play(&mut m, &line), report(8, 8, [0; 4], 0x1000_0800));
-    assert!(rt; holds(&m, 0, &bytes));
-    assert_eq!(rt; m.program().base(), 0x1000);
+    let mut m = made(rt.alloc(), &ONE_LINE, 0)?;
+    assert!(rt; stores_by_entries(&mut m));
+    Ok(())
+}
+
+#[test]
+fn one_line_by_bursts(rt: HostRuntime) -> Result<(), Fail> {
+    let mut m = made(rt.alloc(), &ONE_LINE, 0)?;
+    assert!(rt; stores_by_bursts(&mut m));
+    assert!(rt; m.program().base() == 0x1000);
     Ok(())
 }
 
@@ -164,33 +215,29 @@ fn a_short_line(rt: HostRuntime) -> Result<(), Fail> {
         0x71e1_0000,
         0x1000,
     ];
-    let mut m = machine::<Brand>(rt.alloc(), &words, 0x55, Blank::new(1))?;
-    let told = play(
-        &mut m,
-        &[
-            Control(Code::Vre),
-            Control(Code::Fm1),
-            Push(One, 2, 0xa3a2_a1a0),
-            Push(One, 13, 0xffa6_a5a4),
-            Push(One, 2, 0xb3b2_b1b0),
-            Push(One, 0, 0xb7b6_b5b4),
-            Push(One, 0, 0xbbba_b9b8),
-            Push(One, 1, 0xbfbe_bdbc),
-            Turns(21),
-        ],
-    );
-    assert_eq!(rt; told, report(21, 16, [0; 4], 0x1000_4800));
-    assert!(rt; holds(&m, 0, &[0xa0, 0xa1, 0xa2, 0xa3, 0x55, 0x55]));
-    assert!(rt;
-        holds(
-            &m,
+    let actions = [
+        Control(Code::Vre),
+        Control(Code::Fm1),
+        Push(One, 2, 0xa3a2_a1a0),
+        Push(One, 13, 0xffa6_a5a4),
+        Push(One, 2, 0xb3b2_b1b0),
+        Push(One, 0, 0xb7b6_b5b4),
+        Push(One, 0, 0xbbba_b9b8),
+        Push(One, 1, 0xbfbe_bdbc),
+        Turns(21),
+    ];
+    let told = report(21, 16, [0; 4], 0x1000_4800);
+    let runs: [(usize, &[u8]); 3] = [
+        (0, &[0xa0, 0xa1, 0xa2, 0xa3, 0x55, 0x55]),
+        (
             14,
             &[
-                0x55, 0x55, 0xb0, 0xb1, 0xb2, 0xb3, 0x55, 0x55, 0x55, 0x55, 0xb8
-            ]
-        )
-    );
-    assert!(rt; holds(&m, 30, &[0xbe, 0xbf, 0x55]));
+                0x55, 0x55, 0xb0, 0xb1, 0xb2, 0xb3, 0x55, 0x55, 0x55, 0x55, 0xb8,
+            ],
+        ),
+        (30, &[0xbe, 0xbf, 0x55]),
+    ];
+    assert!(rt; comes_to(rt.alloc(), (&words, 0x55), &actions, &told, &runs)?);
     Ok(())
 }
 
@@ -209,71 +256,58 @@ fn a_lost_line(rt: HostRuntime) -> Result<(), Fail> {
         0x71e1_0000,
         0x1000,
     ];
-    let mut m = machine::<Brand>(rt.alloc(), &words, 0, Blank::new(1))?;
-    let told = play(
-        &mut m,
-        &[
-            Control(Code::Vre),
-            Control(Code::Fm1),
-            Push(One, 2, 0x2322_2120),
-            Push(One, 1, 0x2726_2524),
-            Control(Code::Vre),
-            Control(Code::Fm1),
-            Push(One, 2, 0x3332_3130),
-            Push(One, 1, 0x3736_3534),
-            Push(One, 2, 0x4342_4140),
-            Push(One, 1, 0x4746_4544),
-            Turns(24),
-        ],
-    );
-    assert_eq!(rt; told, report(24, 24, [0; 4], 0x1000_4800));
-    assert!(rt;
-        holds(
-            &m,
-            0,
-            &[
-                0x30, 0x31, 0x32, 0x33, 0x34, 0x35, 0x36, 0x37, 0x40, 0x41, 0x42, 0x43, 0x44, 0x45,
-                0x46, 0x47, 0
-            ]
-        )
-    );
+    let actions = [
+        Control(Code::Vre),
+        Control(Code::Fm1),
+        Push(One, 2, 0x2322_2120),
+        Push(One, 1, 0x2726_2524),
+        Control(Code::Vre),
+        Control(Code::Fm1),
+        Push(One, 2, 0x3332_3130),
+        Push(One, 1, 0x3736_3534),
+        Push(One, 2, 0x4342_4140),
+        Push(One, 1, 0x4746_4544),
+        Turns(24),
+    ];
+    let told = report(24, 24, [0; 4], 0x1000_4800);
+    let bytes = [
+        0x30, 0x31, 0x32, 0x33, 0x34, 0x35, 0x36, 0x37, 0x40, 0x41, 0x42, 0x43, 0x44, 0x45, 0x46,
+        0x47, 0,
+    ];
+    assert!(rt; comes_to(rt.alloc(), (&words, 0), &actions, &told, &[(0, &bytes)])?);
     Ok(())
 }
 
-// Full queues, and a host that stops the machine and starts it again.
 #[test]
-fn lost_pushes(rt: HostRuntime) -> Result<(), Fail> {
-    let mut m = machine::<Brand>(rt.alloc(), &ONE_LINE, 0, Blank::new(1))?;
-    for i in 0..71 {
-        act(&mut m, Push(One, 0, i));
-    }
-    assert_eq!(rt; m.report(), report(0, 0, [1, 0, 0, 0], 0x1000));
-    let mut m = machine::<Brand>(rt.alloc(), &ONE_LINE, 0, Blank::new(1))?;
-    for i in 0..35 {
-        act(&mut m, Push(Two, 0, i));
-    }
-    let told = play(&mut m, &[Control(Code::Vre), Turns(40)]);
-    assert_eq!(rt; told, report(40, 0, [0, 0, 0, 1], 0x1000));
-    let mut m = machine::<Brand>(rt.alloc(), &ONE_LINE, 0, Blank::new(1))?;
-    let told = play(
-        &mut m,
-        &[
-            Control(Code::Vre),
-            Control(Code::Fm1),
-            Turns(5),
-            Host(HostWrite::Enable {
-                fifo: false,
-                risc: false,
-            }),
-            Push(One, 2, 0x1312_1110),
-            Host(HostWrite::Enable {
-                fifo: true,
-                risc: true,
-            }),
-            Turns(2),
-        ],
-    );
-    assert_eq!(rt; told, report(7, 0, [0; 4], 0));
+fn pushes_to_full_queues_are_lost(rt: HostRuntime) -> Result<(), Fail> {
+    let told = report(0, 0, [1, 0, 0, 0], 0x1000);
+    assert!(rt; comes_to(rt.alloc(), (&ONE_LINE, 0), &[Fill(One, 71)], &told, &[])?);
+    let actions = [Fill(Two, 35), Control(Code::Vre), Turns(40)];
+    let told = report(40, 0, [0, 0, 0, 1], 0x1000);
+    assert!(rt; comes_to(rt.alloc(), (&ONE_LINE, 0), &actions, &told, &[])?);
+    Ok(())
+}
+
+// A host stops the machine and starts it again.
+#[test]
+fn a_push_to_queues_that_are_off_is_lost(rt: HostRuntime) -> Result<(), Fail> {
+    let actions = [
+        Control(Code::Vre),
+        Control(Code::Fm1),
+        Turns(5),
+        Host(HostWrite::Enable {
+            fifo: false,
+            risc: false,
+        }),
+        Push(One, 2, 0x1312_1110),
+        Host(HostWrite::Enable {
+            fifo: true,
+            risc: true,
+        }),
+        Turns(2),
+    ];
+    let told = report(7, 0, [0; 4], 0);
+    assert!(rt; comes_to(rt.alloc(), (&ONE_LINE, 0), &actions, &told, &[])?);
     Ok(())
 }
 
@@ -293,37 +327,24 @@ fn planar(rt: HostRuntime) -> Result<(), Fail> {
         0x71e1_0000,
         0x1000,
     ];
-    let mut m = machine::<Brand>(rt.alloc(), &words, 0, Blank::new(1))?;
-    let told = play(
-        &mut m,
-        &[
-            Control(Code::Vre),
-            Control(Code::Fm3),
-            Push(One, 2, 0x1312_1110),
-            Push(One, 1, 0x1716_1514),
-            Push(Two, 2, 0x2322_2120),
-            Push(Two, 1, 0x2726_2524),
-            Push(Three, 2, 0x3332_3130),
-            Push(Three, 1, 0x3736_3534),
-            Turns(13),
-        ],
-    );
-    assert_eq!(rt; told, report(13, 24, [0; 4], 0x1000_0800));
-    assert!(rt; holds(&m, 0, &[0x10, 0x11, 0x12, 0x13, 0x14, 0x15, 0x16, 0x17, 0]));
-    assert!(rt;
-        holds(
-            &m,
-            0x100,
-            &[0x20, 0x21, 0x22, 0x23, 0x24, 0x25, 0x26, 0x27, 0]
-        )
-    );
-    assert!(rt;
-        holds(
-            &m,
-            0x200,
-            &[0x30, 0x31, 0x32, 0x33, 0x34, 0x35, 0x36, 0x37, 0]
-        )
-    );
+    let actions = [
+        Control(Code::Vre),
+        Control(Code::Fm3),
+        Push(One, 2, 0x1312_1110),
+        Push(One, 1, 0x1716_1514),
+        Push(Two, 2, 0x2322_2120),
+        Push(Two, 1, 0x2726_2524),
+        Push(Three, 2, 0x3332_3130),
+        Push(Three, 1, 0x3736_3534),
+        Turns(13),
+    ];
+    let told = report(13, 24, [0; 4], 0x1000_0800);
+    let runs: [(usize, &[u8]); 3] = [
+        (0, &[0x10, 0x11, 0x12, 0x13, 0x14, 0x15, 0x16, 0x17, 0]),
+        (0x100, &[0x20, 0x21, 0x22, 0x23, 0x24, 0x25, 0x26, 0x27, 0]),
+        (0x200, &[0x30, 0x31, 0x32, 0x33, 0x34, 0x35, 0x36, 0x37, 0]),
+    ];
+    assert!(rt; comes_to(rt.alloc(), (&words, 0), &actions, &told, &runs)?);
     Ok(())
 }
 
@@ -356,28 +377,38 @@ fn sees(m: &mut Machine<MapRam>, want: &[Seen]) -> bool {
     true
 }
 
-#[test]
-fn turns_are_seen(rt: HostRuntime) -> Result<(), Fail> {
-    let mut m = machine::<Brand>(rt.alloc(), &ONE_LINE, 0, Blank::new(1))?;
-    assert_eq!(rt; m.next_fetch(), Some(0x1000));
-    assert!(rt;
-        sees(
-            &mut m,
-            &[
-                saw_alone(Did::Synced, 0x1000),
-                saw_alone(Did::Still, 0x1000)
-            ]
-        )
-    );
-    assert_eq!(rt; m.next_fetch(), None);
-    act(&mut m, Push(Three, 3, 0));
-    assert!(rt; m.holds(Three));
-    assert!(rt; !m.holds(One));
-    act(&mut m, Control(Code::Vro));
-    act(&mut m, Control(Code::Vre));
-    act(&mut m, Control(Code::Fm1));
-    act(&mut m, Push(One, 2, 0x1312_1110));
-    act(&mut m, Push(One, 1, 0x1716_1514));
+// Whether this is seen of the turns after these actions.
+fn sees_after(m: &mut Machine<MapRam>, actions: &[Action], want: &[Seen]) -> bool {
+    play(m, actions);
+    sees(m, want)
+}
+
+fn fetches(m: &Machine<MapRam>, at: Option<u32>) -> bool {
+    m.next_fetch() == at
+}
+
+fn sees_a_wait(m: &mut Machine<MapRam>) -> bool {
+    let wait = [
+        saw_alone(Did::Synced, 0x1000),
+        saw_alone(Did::Still, 0x1000),
+    ];
+    fetches(m, Some(0x1000)) && sees(m, &wait) && fetches(m, None)
+}
+
+fn holds_what_is_pushed(m: &mut Machine<MapRam>) -> bool {
+    act(m, Push(Three, 3, 0));
+    m.holds(Three) && !m.holds(One)
+}
+
+// That entry is dropped, a code is missed, and a line is stored.
+fn sees_a_line(m: &mut Machine<MapRam>) -> bool {
+    let pushes = [
+        Control(Code::Vro),
+        Control(Code::Vre),
+        Control(Code::Fm1),
+        Push(One, 2, 0x1312_1110),
+        Push(One, 1, 0x1716_1514),
+    ];
     let line = [
         saw_alone(Did::Dropped, 0x1000),
         saw_alone(Did::Missed, 0x1000),
@@ -390,24 +421,80 @@ fn turns_are_seen(rt: HostRuntime) -> Result<(), Fail> {
         saw_alone(Did::Retired, 0x1010),
         saw_alone(Did::Jumped, 0x1018),
     ];
-    assert!(rt; sees(&mut m, &line));
-    assert_eq!(rt; m.report(), report(12, 8, [0; 4], 0x1000_0800));
-    assert_eq!(rt; m.next_fetch(), Some(0x1000));
-    let off = HostWrite::Enable {
+    sees_after(m, &pushes, &line)
+        && reports(m, &[], &report(12, 8, [0; 4], 0x1000_0800))
+        && fetches(m, Some(0x1000))
+}
+
+// The controller is off: it stands for a turn, and then for a hundred.
+fn stands_when_off(m: &mut Machine<MapRam>) -> bool {
+    let off = Host(HostWrite::Enable {
         fifo: true,
         risc: false,
-    };
-    act(&mut m, Host(off));
-    assert!(rt; sees(&mut m, &[saw_alone(Did::Still, 0x1000)]));
-    assert_eq!(rt; m.next_fetch(), None);
+    });
+    if !sees_after(m, &[off], &[saw_alone(Did::Still, 0x1000)]) || !fetches(m, None) {
+        return false;
+    }
     if m.stands_still() {
         m.stand(100);
     }
-    assert_eq!(rt; m.report(), report(113, 8, [0; 4], 0x1000_0800));
+    reports(m, &[], &report(113, 8, [0; 4], 0x1000_0800))
+}
+
+#[test]
+fn turns_are_seen(rt: HostRuntime) -> Result<(), Fail> {
+    let mut m = made(rt.alloc(), &ONE_LINE, 0)?;
+    assert!(rt; sees_a_wait(&mut m));
+    assert!(rt; holds_what_is_pushed(&mut m));
+    assert!(rt; sees_a_line(&mut m));
+    assert!(rt; stands_when_off(&mut m));
     Ok(())
 }
 
-// Lines that are given up, and flags of several entries of one burst.
+// A line is given up at its second instruction; its entries come in one burst, with their flags.
+fn sees_a_line_given_up(m: &mut Machine<MapRam>) -> bool {
+    let actions = [
+        Control(Code::Vre),
+        Control(Code::Fm1),
+        Turns(5),
+        Host(HostWrite::Trigger(0)),
+        Push(One, 7, 0),
+        Push(One, 2, 0x1312_1110),
+        Push(One, 3, 0),
+        Push(One, 5, 0x14),
+        Push(One, 2, 0x2322_2120),
+    ];
+    let seen = [
+        saw(Did::Moved(One), 0x1010, true, false, false),
+        saw_alone(Did::Retired, 0x1010),
+        saw_alone(Did::Begun, 0x1018),
+        saw(Did::GivenUp(One), 0x1018, true, true, true),
+        saw_alone(Did::Jumped, 0x1020),
+    ];
+    sees_after(m, &actions, &seen)
+}
+
+// A field that ends before its line comes.
+fn sees_a_field_given_up(m: &mut Machine<MapRam>) -> bool {
+    let actions = [
+        Turns(1),
+        Control(Code::Vre),
+        Control(Code::Fm1),
+        Control(Code::Vre),
+    ];
+    let seen = [
+        saw_alone(Did::Dropped, 0x1000),
+        saw_alone(Did::Matched, 0x1000),
+        saw_alone(Did::Synced, 0x1008),
+        saw_alone(Did::Matched, 0x1008),
+        saw_alone(Did::Begun, 0x1010),
+        saw_alone(Did::GivenUp(One), 0x1010),
+        saw_alone(Did::Passed, 0x1018),
+        saw_alone(Did::Jumped, 0x1020),
+    ];
+    sees_after(m, &actions, &seen)
+}
+
 #[test]
 fn broken_lines_are_seen(rt: HostRuntime) -> Result<(), Fail> {
     let words = [
@@ -422,38 +509,8 @@ fn broken_lines_are_seen(rt: HostRuntime) -> Result<(), Fail> {
         0x71e1_0000,
         0x1000,
     ];
-    let mut m = machine::<Brand>(rt.alloc(), &words, 0, Blank::new(1))?;
-    act(&mut m, Control(Code::Vre));
-    act(&mut m, Control(Code::Fm1));
-    act(&mut m, Turns(5));
-    act(&mut m, Host(HostWrite::Trigger(0)));
-    act(&mut m, Push(One, 7, 0));
-    act(&mut m, Push(One, 2, 0x1312_1110));
-    act(&mut m, Push(One, 3, 0));
-    act(&mut m, Push(One, 5, 0x14));
-    act(&mut m, Push(One, 2, 0x2322_2120));
-    let first = [
-        saw(Did::Moved(One), 0x1010, true, false, false),
-        saw_alone(Did::Retired, 0x1010),
-        saw_alone(Did::Begun, 0x1018),
-        saw(Did::GivenUp(One), 0x1018, true, true, true),
-        saw_alone(Did::Jumped, 0x1020),
-    ];
-    assert!(rt; sees(&mut m, &first));
-    act(&mut m, Turns(1));
-    act(&mut m, Control(Code::Vre));
-    act(&mut m, Control(Code::Fm1));
-    act(&mut m, Control(Code::Vre));
-    let second = [
-        saw_alone(Did::Dropped, 0x1000),
-        saw_alone(Did::Matched, 0x1000),
-        saw_alone(Did::Synced, 0x1008),
-        saw_alone(Did::Matched, 0x1008),
-        saw_alone(Did::Begun, 0x1010),
-        saw_alone(Did::GivenUp(One), 0x1010),
-        saw_alone(Did::Passed, 0x1018),
-        saw_alone(Did::Jumped, 0x1020),
-    ];
-    assert!(rt; sees(&mut m, &second));
+    let mut m = made(rt.alloc(), &words, 0)?;
+    assert!(rt; sees_a_line_given_up(&mut m));
+    assert!(rt; sees_a_field_given_up(&mut m));
     Ok(())
 }

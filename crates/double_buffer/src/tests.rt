@@ -2,6 +2,7 @@
 
 use super::{ChainFault, DoubleBuffer, DoubleBufferError};
 use capture_desc::read_desc;
+use dma_machine::Report;
 use fifo_model::{Entry, Queue};
 use irq_status::HostWrite;
 use page_ram::{PageRam, Ram};
@@ -44,32 +45,47 @@ fn frame_of(alloc: Global, text: &str) -> Result<Frame, Fail> {
     Ok(Frame::new(alloc, desc)?)
 }
 
-// The double buffer of two descriptions, or its fault.
-fn made(
+// Whether two descriptions have this fault, or make a double buffer.
+fn is_judged(
     alloc: Global,
     first: &str,
     second: &str,
-) -> Result<Result<DoubleBuffer<PageRam>, ChainFault>, Fail> {
+    fault: Option<ChainFault>,
+) -> Result<bool, Fail> {
     let first = frame_of(alloc, first)?;
     let second = frame_of(alloc, second)?;
-    match DoubleBuffer::new(alloc, &first, &second) {
-        Ok(buffer) => Ok(Ok(buffer)),
-        Err(DoubleBufferError::Fault(fault)) => Ok(Err(fault)),
-        Err(DoubleBufferError::Memory) => Err(Fail::from("out of memory")),
+    match (DoubleBuffer::new(alloc, &first, &second), fault) {
+        (Ok(_), None) => Ok(true),
+        (Err(DoubleBufferError::Fault(have)), Some(want)) => Ok(have == want),
+        _ => Ok(false),
     }
 }
 
 #[test]
 fn faults_of_two_descriptions(rt: HostRuntime) -> Result<(), Fail> {
-    let alloc = rt.alloc();
-    assert!(rt; made(alloc, FIRST, SECOND)?.is_ok());
-    assert!(rt; made(alloc, FIRST, FIRST)?.err() == Some(ChainFault::Shared(0)));
-    assert!(rt; made(alloc, FIRST, BEHIND)?.err() == Some(ChainFault::Shared(1)));
-    assert!(rt; made(alloc, BETWEEN, FIRST)?.err() == Some(ChainFault::Base));
-    assert!(rt; made(alloc, LAST, SECOND)?.is_ok());
-    assert!(rt; made(alloc, LATER, SECOND)?.err() == Some(ChainFault::TooLong));
-    assert!(rt; made(alloc, OVER, SECOND)?.err() == Some(ChainFault::OnPage));
+    let rows = [
+        (FIRST, SECOND, None),
+        (FIRST, FIRST, Some(ChainFault::Shared(0))),
+        (FIRST, BEHIND, Some(ChainFault::Shared(1))),
+        (BETWEEN, FIRST, Some(ChainFault::Base)),
+        (LAST, SECOND, None),
+        (LATER, SECOND, Some(ChainFault::TooLong)),
+        (OVER, SECOND, Some(ChainFault::OnPage)),
+    ];
+    for (i, &(first, second, fault)) in rows.iter().enumerate() {
+        assert!(rt; is_judged(rt.alloc(), first, second, fault)?, "row {i}");
+    }
     Ok(())
+}
+
+// The double buffer of the first two.
+fn made(alloc: Global) -> Result<DoubleBuffer<PageRam>, Fail> {
+    let first = frame_of(alloc, FIRST)?;
+    let second = frame_of(alloc, SECOND)?;
+    match DoubleBuffer::new(alloc, &first, &second) {
+        Ok(buffer) => Ok(buffer),
+        Err(_) => Err(Fail::from("no fault")),
+    }
 }
 
 // A patch that is taken back at once.
@@ -126,50 +142,50 @@ fn counts_from(buffer: &DoubleBuffer<PageRam>, chunk: usize, from: u8) -> bool {
     true
 }
 
+// Whether both lines are stored in so many turns, each on its page.
+fn has_both_lines(buffer: &DoubleBuffer<PageRam>, turns: u64) -> bool {
+    let told = Report {
+        turns,
+        moved: 16,
+        overruns: [0, 0, 0, 0],
+        int_stat: 0x1000_0800,
+    };
+    buffer.report() == told && counts_from(buffer, 0, 0x10) && counts_from(buffer, 1, 0x20)
+}
+
+fn patch_between_steps(buffer: &mut DoubleBuffer<PageRam>) {
+    buffer.patch(0, 0);
+    push_field(buffer, 0x1312_1110, 0x1716_1514);
+    turn_by_turn(buffer, 6);
+    // the fragment that is patched out is finished
+    buffer.patch(0, 1);
+    turn_by_turn(buffer, 3);
+    push_field(buffer, 0x2322_2120, 0x2726_2524);
+    turn_by_turn(buffer, 11);
+    buffer.host(HostWrite::Ack(0));
+}
+
 #[test]
 fn a_patch_between_every_two_steps(rt: HostRuntime) -> Result<(), Fail> {
-    match made(rt.alloc(), FIRST, SECOND)? {
-        Ok(mut buffer) => {
-            buffer.patch(0, 0);
-            push_field(&mut buffer, 0x1312_1110, 0x1716_1514);
-            turn_by_turn(&mut buffer, 6);
-            // the fragment that is patched out is finished
-            buffer.patch(0, 1);
-            turn_by_turn(&mut buffer, 3);
-            push_field(&mut buffer, 0x2322_2120, 0x2726_2524);
-            turn_by_turn(&mut buffer, 11);
-            buffer.host(HostWrite::Ack(0));
-            let report = buffer.report();
-            assert_eq!(rt; report.turns, 20);
-            assert_eq!(rt; report.moved, 16);
-            assert_eq!(rt; report.overruns, [0, 0, 0, 0]);
-            assert_eq!(rt; report.int_stat, 0x1000_0800);
-            assert!(rt; counts_from(&buffer, 0, 0x10));
-            assert!(rt; counts_from(&buffer, 1, 0x20));
-            Ok(())
-        }
-        Err(_) => Err(Fail::from("no fault")),
-    }
+    let mut buffer = made(rt.alloc())?;
+    patch_between_steps(&mut buffer);
+    assert!(rt; has_both_lines(&buffer, 20));
+    Ok(())
+}
+
+fn patch_both_slots(buffer: &mut DoubleBuffer<PageRam>) {
+    buffer.patch(0, 0);
+    push_field(buffer, 0x1312_1110, 0x1716_1514);
+    push_field(buffer, 0x2322_2120, 0x2726_2524);
+    buffer.patch(1, 1);
+    // ten turns of the first slot with its fragment, and eight of the second up to its last byte
+    buffer.turns(18);
 }
 
 #[test]
 fn a_fragment_in_each_slot(rt: HostRuntime) -> Result<(), Fail> {
-    match made(rt.alloc(), FIRST, SECOND)? {
-        Ok(mut buffer) => {
-            buffer.patch(0, 0);
-            push_field(&mut buffer, 0x1312_1110, 0x1716_1514);
-            push_field(&mut buffer, 0x2322_2120, 0x2726_2524);
-            buffer.patch(1, 1);
-            // ten turns of the first slot with its fragment, and eight of the second one up to its last byte
-            buffer.turns(18);
-            let report = buffer.report();
-            assert_eq!(rt; report.turns, 18);
-            assert_eq!(rt; report.moved, 16);
-            assert_eq!(rt; report.int_stat, 0x1000_0800);
-            assert!(rt; counts_from(&buffer, 0, 0x10));
-            assert!(rt; counts_from(&buffer, 1, 0x20));
-            Ok(())
-        }
-        Err(_) => Err(Fail::from("no fault")),
-    }
+    let mut buffer = made(rt.alloc())?;
+    patch_both_slots(&mut buffer);
+    assert!(rt; has_both_lines(&buffer, 18));
+    Ok(())
 }

@@ -35,7 +35,8 @@ module _ (s : Section) (field : Queue → List Token) (uses : Uses s field) (giv
   reaches : (bound interrupts : ℕ) (m : State) → TurnedIn s given chunks final later bound interrupts m → Reaches s field uses AnyRest (StandsIn s) (Settling given chunks final) (begins_in s) later bound interrupts m
   reaches bound interrupts m t = record { next = t.next; reached = inr t.within; most = t.most; less = t.less; quiet = t.quiet }
 
-  opening_turn : (bound : ℕ) (m : State) → IsOrderly m → IsOpening s field uses AnyRest (StandsIn s) (Settling given chunks final) (begins_in s) later bound m → Reaches s field uses AnyRest (StandsIn s) (Settling given chunks final) (begins_in s) later bound m.interrupts (turn m)
+  opening_turn : (bound : ℕ) (m : State) → IsOrderly m → IsOpening s field uses AnyRest (StandsIn s) (Settling given chunks final) (begins_in s) later bound m →
+      Reaches s field uses AnyRest (StandsIn s) (Settling given chunks final) (begins_in s) later bound m.interrupts (turn m)
   opening_turn bound m orderly h =
       subst (λ (on : Bool). Reaches s field uses AnyRest (StandsIn s) (Settling given chunks final) (begins_in s) later bound m.interrupts (turn_if on (counted m))) (sym h.on)
       (subst (λ (job : Job). Reaches s field uses AnyRest (StandsIn s) (Settling given chunks final) (begins_in s) later bound m.interrupts (worked job (counted m))) (sym h.waits)

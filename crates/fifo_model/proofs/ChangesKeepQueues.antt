@@ -52,7 +52,8 @@ IsQueue-emptied state held =
 part_after : (taken count valid : ℕ) → taken + count ≤ valid → (taken + count == valid) ≡ false → taken + count < valid
 part_after taken count valid most other = grind (arith, nat_tests)
 
-taken-cases : (count : ℕ) (state : QueueState) (entry : Entry) (rest : List Entry) (whole : Bool) → (state.taken + count == valid_bytes entry.status) ≡ whole → state.entries ≡ entry ∷ rest → state.taken + count ≤ valid_bytes entry.status → IsQueue state → IsQueue (if whole then removed state else record state { taken = state.taken + count })
+taken-cases : (count : ℕ) (state : QueueState) (entry : Entry) (rest : List Entry) (whole : Bool) → (state.taken + count == valid_bytes entry.status) ≡ whole → state.entries ≡ entry ∷ rest →
+    state.taken + count ≤ valid_bytes entry.status → IsQueue state → IsQueue (if whole then removed state else record state { taken = state.taken + count })
 taken-cases count state entry rest true whole same most held = IsQueue-removed state held
 taken-cases count state entry rest false other same most held =
     let less : state.taken + count < valid_bytes entry.status = part_after state.taken count (valid_bytes entry.status) most other in
@@ -130,7 +131,8 @@ IsFifo-empty one two three some-one most-one some-two most-two some-three most-t
       third = refl;
     }
 
-pushed-cases : (queue : Queue) (entry : Entry) (queues : Queues) (full : Bool) → is_full (queue_state queue queues) ≡ full → is_control (kind_of entry.status) ≡ false → IsFifo queues → IsFifo (if full then with_queue_state queue (overrun (queue_state queue queues)) queues else with_queue_state queue (entered entry (queue_state queue queues)) queues)
+pushed-cases : (queue : Queue) (entry : Entry) (queues : Queues) (full : Bool) → is_full (queue_state queue queues) ≡ full → is_control (kind_of entry.status) ≡ false → IsFifo queues →
+    IsFifo (if full then with_queue_state queue (overrun (queue_state queue queues)) queues else with_queue_state queue (entered entry (queue_state queue queues)) queues)
 pushed-cases queue entry queues true full none held =
     let state = queue_state queue queues in
     IsFifo-with_queue_state queue (overrun state) queues (IsQueue-overrun state (IsQueue-queue_state queue queues held)) refl held
@@ -159,7 +161,8 @@ IsFifo-all_entered entry queues one two three held =
       third = codes-both queues.three.entries queues.one.entries (entry ∷ []) held.third;
     }
 
-control-cases : (code : Code) (queues : Queues) (one two three : Bool) → is_full queues.one ≡ one → is_full queues.two ≡ two → is_full queues.three ≡ three → IsFifo queues → IsFifo (if one || two || three then record queues { control_overruns = more queues.control_overruns 1 } else all_entered (control_entry code) queues)
+control-cases : (code : Code) (queues : Queues) (one two three : Bool) → is_full queues.one ≡ one → is_full queues.two ≡ two → is_full queues.three ≡ three → IsFifo queues →
+    IsFifo (if one || two || three then record queues { control_overruns = more queues.control_overruns 1 } else all_entered (control_entry code) queues)
 control-cases code queues false false false one two three held =
     IsFifo-all_entered (control_entry code) queues one two three held
 control-cases code queues true two three _ _ _ held =
@@ -173,7 +176,8 @@ pub IsFifo-control_pushed : (code : Code) (queues : Queues) → IsFifo queues �
 IsFifo-control_pushed code queues held =
     control-cases code queues (is_full queues.one) (is_full queues.two) (is_full queues.three) refl refl refl held
 
-pub IsFifo-taken_from : (queue : Queue) (count : ℕ) (queues : Queues) → 1 ≤ count → (queue_state queue queues).taken + count ≤ front_valid (queue_state queue queues) → IsFifo queues → IsFifo (with_queue_state queue (taken_from count (queue_state queue queues)) queues)
+pub IsFifo-taken_from : (queue : Queue) (count : ℕ) (queues : Queues) → 1 ≤ count → (queue_state queue queues).taken + count ≤ front_valid (queue_state queue queues) → IsFifo queues →
+    IsFifo (with_queue_state queue (taken_from count (queue_state queue queues)) queues)
 IsFifo-taken_from queue count queues some most held =
     let state = queue_state queue queues in
     IsFifo-with_queue_state queue (taken_from count state) queues

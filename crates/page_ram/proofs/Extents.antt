@@ -95,7 +95,8 @@ pub record IsByte (bytes : List ℕ) (extents : List Extent) (address index : �
   pub writes : (byte : ℕ) → stored (laid bytes extents) address byte ≡ laid (set bytes index byte) extents
 
 -- an index is inside the block
-pub lt-index : (extents : List Extent) (address n : ℕ) (d : Extent) → AreLaid 0 extents → n < length extents → covers (extent_chunk (get_or extents n d)) address ≡ true → (get_or extents n d).from + (address - (get_or extents n d).at) < total (extent_chunks extents)
+pub lt-index : (extents : List Extent) (address n : ℕ) (d : Extent) → AreLaid 0 extents → n < length extents → covers (extent_chunk (get_or extents n d)) address ≡ true →
+    (get_or extents n d).from + (address - (get_or extents n d).at) < total (extent_chunks extents)
 lt-index extents address n d lie within here =
     let range = covered_chunk (get_or extents n d) address here in
     let ends = le-end 0 extents n d lie within in omega arith
@@ -146,7 +147,8 @@ pub AreLaid-push : (from : ℕ) (extents : List Extent) (e : Extent) → AreLaid
 AreLaid-push from [] e lie next = (omega arith, tt)
 AreLaid-push from (first ∷ rest) e lie next = (lie.0, AreLaid-push (from + first.len) rest e lie.1 (omega (arith, total-more first rest)))
 
-pub AreCut-filled : (fill size : ℕ) (extents : List Extent) (chunks : List Chunk) → fill < 256 → AreGrants chunks → extent_chunks extents ≡ chunks → AreLaid 0 extents → size ≡ total chunks → AreCut (replicate size fill) extents × (laid (replicate size fill) extents ≡ filled fill chunks)
+pub AreCut-filled : (fill size : ℕ) (extents : List Extent) (chunks : List Chunk) → fill < 256 → AreGrants chunks → extent_chunks extents ≡ chunks → AreLaid 0 extents → size ≡ total chunks →
+    AreCut (replicate size fill) extents × (laid (replicate size fill) extents ≡ filled fill chunks)
 AreCut-filled fill size extents chunks small grants same lie long =
     let all : size ≡ total (extent_chunks extents) = long ∙ ap total (sym same) in
     let whole = laid-replicate 0 size fill extents lie (omega arith) ∙ ap (filled fill) same in (

@@ -68,7 +68,8 @@ module _ {X : Type 0} (f : X → Chunk) where
       let rise = ends_rise 0 (map f xs) rising i j (f d) order (omega (arith, length-map xs f)) in
       omega arith
 
-  pub searched : (xs : List X) (address n : ℕ) → n ≤ length xs → IsPartitionPoint (λ x. nat_le (chunk_end (f x)) address ≡ true) (λ x. nat_le (chunk_end (f x)) address ≡ false) xs n → AreRising 0 (map f xs) → granted (map f xs) address ≡ true → HasAddress (map f xs) n address
+  pub searched : (xs : List X) (address n : ℕ) → n ≤ length xs → IsPartitionPoint (λ x. nat_le (chunk_end (f x)) address ≡ true) (λ x. nat_le (chunk_end (f x)) address ≡ false) xs n →
+      AreRising 0 (map f xs) → granted (map f xs) address ≡ true → HasAddress (map f xs) n address
   searched [] address n within parts rising here = cc
   searched (x ∷ xs) address n within parts rising here =
       let all = x ∷ xs in

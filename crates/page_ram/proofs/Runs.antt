@@ -28,7 +28,8 @@ pub record IsWritten (block : List ℕ) (extents : List Extent) (address index :
   pub memory : stored_run (laid block extents) address bytes ≡ laid (set_run block index bytes) extents
   pub cut : AreCut (set_run block index bytes) extents
 
-pub run_written : (block : List ℕ) (extents : List Extent) (place address index : ℕ) (bytes : List ℕ) → ((k : ℕ) → get_or bytes k 0 < 256) → AreCut block extents → StandsRun extents place address (length bytes) index → IsWritten block extents address index bytes
+pub run_written : (block : List ℕ) (extents : List Extent) (place address index : ℕ) (bytes : List ℕ) → ((k : ℕ) → get_or bytes k 0 < 256) → AreCut block extents →
+    StandsRun extents place address (length bytes) index → IsWritten block extents address index bytes
 run_written block extents place address index [] small cut run =
     let none : Extent = record { at = 0; len = 0; from = 0 } in
     let ends = le-end 0 extents place none cut.lie run.there in

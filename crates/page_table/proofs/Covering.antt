@@ -134,12 +134,14 @@ scan_ends all from end rest next scan past = scan.same ∙ ungranted-end rest ne
 begins_at : (pairs : List (ℕ × ℕ)) (i : ℕ) → i < length pairs → listed (drop i pairs) ≡ pair_chunk (get_or pairs i (0, 0)) ∷ listed (drop (i + 1) pairs)
 begins_at pairs i within = ap listed (drop_more pairs i (0, 0) within)
 
-pub scan_more_at : (pairs : List (ℕ × ℕ)) (from end i next : ℕ) → i < length pairs → IsScanned (listed pairs) from end (listed (drop i pairs)) next → (get_or pairs i (0, 0)).0 ≤ next → IsScanned (listed pairs) from end (listed (drop (i + 1) pairs)) (pair_end (get_or pairs i (0, 0)))
+pub scan_more_at : (pairs : List (ℕ × ℕ)) (from end i next : ℕ) → i < length pairs → IsScanned (listed pairs) from end (listed (drop i pairs)) next → (get_or pairs i (0, 0)).0 ≤ next →
+    IsScanned (listed pairs) from end (listed (drop (i + 1) pairs)) (pair_end (get_or pairs i (0, 0)))
 scan_more_at pairs from end i next within scan begun =
     scan_more (listed pairs) from end (pair_chunk (get_or pairs i (0, 0))) (listed (drop (i + 1) pairs)) next
     (subst (λ (rest : List Chunk). IsScanned (listed pairs) from end rest next) (begins_at pairs i within) scan) begun
 
-pub scan_meets_at : (pairs : List (ℕ × ℕ)) (from end i next : ℕ) → i < length pairs → IsScanned (listed pairs) from end (listed (drop i pairs)) next → next < end → next < (get_or pairs i (0, 0)).0 → ungranted (listed pairs) from end ≡ Some next
+pub scan_meets_at : (pairs : List (ℕ × ℕ)) (from end i next : ℕ) → i < length pairs → IsScanned (listed pairs) from end (listed (drop i pairs)) next → next < end → next < (get_or pairs i (0, 0)).0 →
+    ungranted (listed pairs) from end ≡ Some next
 scan_meets_at pairs from end i next within scan before gap =
     scan_meets (listed pairs) from end (pair_chunk (get_or pairs i (0, 0))) (listed (drop (i + 1) pairs)) next
     (subst (λ (rest : List Chunk). IsScanned (listed pairs) from end rest next) (begins_at pairs i within) scan) before gap

@@ -33,7 +33,8 @@ ends_from-rise begin (c ∷ rest) (suc i) (suc j) d order within =
     ends_from-rise (begin + c.len) rest i j d (omega arith) (omega arith)
 
 -- one more end, of which the first i are done
-pub one_more_end : (pairs : List (ℕ × ℕ)) (ends : List ℕ) (i end : ℕ) → i < length pairs → ends ++ ends_from end (listed (drop i pairs)) ≡ ends_from 0 (listed pairs) → (ends ++ (end + (get_or pairs i (0, 0)).1) ∷ []) ++ ends_from (end + (get_or pairs i (0, 0)).1) (listed (drop (i + 1) pairs)) ≡ ends_from 0 (listed pairs)
+pub one_more_end : (pairs : List (ℕ × ℕ)) (ends : List ℕ) (i end : ℕ) → i < length pairs → ends ++ ends_from end (listed (drop i pairs)) ≡ ends_from 0 (listed pairs) →
+    (ends ++ (end + (get_or pairs i (0, 0)).1) ∷ []) ++ ends_from (end + (get_or pairs i (0, 0)).1) (listed (drop (i + 1) pairs)) ≡ ends_from 0 (listed pairs)
 one_more_end pairs ends i end within so_far =
     let last = end + (get_or pairs i (0, 0)).1 in
     append_assoc ends (last ∷ []) (ends_from last (listed (drop (i + 1) pairs)))

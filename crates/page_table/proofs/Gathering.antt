@@ -72,7 +72,9 @@ pair_chunk_at pairs i aligned within =
     let same : get_or (listed pairs) i (pair_chunk (0, 0)) ≡ pair_chunk (get_or pairs i (0, 0)) = get_or-map pair_chunk pairs i (0, 0) in
     chunk_from_test _ (subst (λ (c : Chunk). is_aligned c ≡ true) same (aligned i (pair_chunk (0, 0)) there))
 
-pub one_more_pair : (entries pairs : List (ℕ × ℕ)) (i : ℕ) → All (λ c. is_aligned c ≡ true) (listed pairs) → i < length pairs → IsGathered (listed entries) (listed (take i pairs)) (listed (drop i pairs)) (listed pairs) → list_any (shares (pair_chunk (get_or pairs i (0, 0)))) (listed entries) ≡ false → IsGathered (listed (insert_entry nat_cmp entries (get_or pairs i (0, 0)).0 (get_or pairs i (0, 0)).1)) (listed (take (i + 1) pairs)) (listed (drop (i + 1) pairs)) (listed pairs)
+pub one_more_pair : (entries pairs : List (ℕ × ℕ)) (i : ℕ) → All (λ c. is_aligned c ≡ true) (listed pairs) → i < length pairs →
+    IsGathered (listed entries) (listed (take i pairs)) (listed (drop i pairs)) (listed pairs) → list_any (shares (pair_chunk (get_or pairs i (0, 0)))) (listed entries) ≡ false →
+    IsGathered (listed (insert_entry nat_cmp entries (get_or pairs i (0, 0)).0 (get_or pairs i (0, 0)).1)) (listed (take (i + 1) pairs)) (listed (drop (i + 1) pairs)) (listed pairs)
 one_more_pair entries pairs i aligned within so_far apart =
     let pair = get_or pairs i (0, 0) in
     let good = pair_chunk_at pairs i aligned within in

@@ -14,7 +14,8 @@ use Rattle.page_table.specs.Taken.{listed, pair_chunk, shares, placed}
 use Rattle.page_table.proofs.Placing.{stand_apart}
 
 -- an insertion into the map places the chunk
-pub listed-insert_entry : (at len from : ℕ) (pairs : List (ℕ × ℕ)) → IsChunk (chunk at len) → AreRising from (listed pairs) → list_any (shares (chunk at len)) (listed pairs) ≡ false → listed (insert_entry nat_cmp pairs at len) ≡ placed (chunk at len) (listed pairs)
+pub listed-insert_entry : (at len from : ℕ) (pairs : List (ℕ × ℕ)) → IsChunk (chunk at len) → AreRising from (listed pairs) → list_any (shares (chunk at len)) (listed pairs) ≡ false →
+    listed (insert_entry nat_cmp pairs at len) ≡ placed (chunk at len) (listed pairs)
 listed-insert_entry at len from [] good rising apart = refl
 listed-insert_entry at len from (e ∷ rest) good rising apart =
     let c : Chunk = chunk at len in

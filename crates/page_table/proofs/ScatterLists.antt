@@ -40,7 +40,8 @@ pages_enough pages len few =
     let bytes = total-pages pages in
     omega arith
 
-pub scatter_list-of_pages : (pages : List ℕ) (len : ℕ) → ((k : ℕ) → k < length pages → get_or pages k 0 < 2 ^ 32) → ArePages pages → div_ceil len 4096 ≤ length pages → IsScatterList (scatter_list (listed (map (λ (page : ℕ). (page, 4096)) pages)) len)
+pub scatter_list-of_pages : (pages : List ℕ) (len : ℕ) → ((k : ℕ) → k < length pages → get_or pages k 0 < 2 ^ 32) → ArePages pages → div_ceil len 4096 ≤ length pages →
+    IsScatterList (scatter_list (listed (map (λ (page : ℕ). (page, 4096)) pages)) len)
 scatter_list-of_pages pages len fit good few =
     rw (listed-pages pages) (record {
       aligned = pages_aligned pages fit good.aligned;

@@ -124,7 +124,8 @@ module _ (program : RiscProgram) (instrs : List Instr) (spelled : program.words 
   next_is place at =
       ap (λ cause. next_by cause program place) (no_cause place at) ∙ ap (λ reading. place_read reading place) (fetch_at place.pc at)
 
-  following : (before : List Instr) (i : Instr) (after : List Instr) (address : ℕ) → instrs ≡ before ++ i ∷ after → address ≡ program.base + 4 * length (words_of before) → IsSome after → IsAt program.base instrs (address + 4 * length (encoded i))
+  following : (before : List Instr) (i : Instr) (after : List Instr) (address : ℕ) → instrs ≡ before ++ i ∷ after → address ≡ program.base + 4 * length (words_of before) → IsSome after →
+      IsAt program.base instrs (address + 4 * length (encoded i))
   following before i [] address split at some = absurd some
   following before i (next ∷ after) address split at some =
       let more = words_of_more before i in

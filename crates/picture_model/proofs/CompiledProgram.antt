@@ -93,7 +93,8 @@ module _ (d : Desc) (program : RiscProgram) where
       (each_only (IsGoodInstr program) (λ i. AreWords (encoded i)) (opening field ∷ body d field) (λ i g. g.words) good)
       (closing_words field target small, tt))
 
-  words_by : (which : Fields) (base : ℕ) → ((field : Parity) → describes which field ≡ true → Each (IsGoodInstr program) (opening field ∷ body d field)) → base + 4 * length (words_of (sections_by which d base base)) ≤ 2 ^ 32 → AreWords (words_of (sections_by which d base base))
+  words_by : (which : Fields) (base : ℕ) → ((field : Parity) → describes which field ≡ true → Each (IsGoodInstr program) (opening field ∷ body d field)) →
+      base + 4 * length (words_of (sections_by which d base base)) ≤ 2 ^ 32 → AreWords (words_of (sections_by which d base base))
   words_by fields.Top base good ends = section_words Top base (omega arith) (good Top refl)
   words_by fields.Bottom base good ends = section_words Bottom base (omega arith) (good Bottom refl)
   words_by fields.Both base good ends =

@@ -46,7 +46,8 @@ bytes_full memory t g n small full =
     omega arith
 
 -- the chunk of a grain ends just behind the n grains
-chunk_ends : (memory : List Chunk) (grains size start g n : ℕ) → GrainsFit memory grains size (Some start) → g + n < grains → n * size ≤ room_at memory (start + g * size) → room_at memory (start + g * size) < (n + 1) * size → ended memory (start + g * size) + 1 ≤ ended memory (start + (g + n) * size)
+chunk_ends : (memory : List Chunk) (grains size start g n : ℕ) → GrainsFit memory grains size (Some start) → g + n < grains → n * size ≤ room_at memory (start + g * size) →
+    room_at memory (start + g * size) < (n + 1) * size → ended memory (start + g * size) + 1 ≤ ended memory (start + (g + n) * size)
 chunk_ends memory grains size start g n fit inside fits full =
     let parts = parted g n size in
     let next = parted n 1 size in
@@ -67,7 +68,8 @@ chunk_ends memory grains size start g n fit inside fits full =
     let one = ended-past memory (start + g * size) (n * size) (omega arith) past in
     subst (λ (o : ℕ). ended memory (start + g * size) + 1 ≤ ended memory o) there one
 
-track_full : (memory : List Chunk) (clipped : Bool) (grains size : ℕ) (start : Option ℕ) (g n : ℕ) → size ≤ 4 → GrainsFit memory grains size start → g + n < grains → n * size ≤ 4092 → IsInOneChunk memory clipped size start g n → Full memory clipped g n (record { size = size; start = start })
+track_full : (memory : List Chunk) (clipped : Bool) (grains size : ℕ) (start : Option ℕ) (g n : ℕ) → size ≤ 4 → GrainsFit memory grains size start → g + n < grains → n * size ≤ 4092 →
+    IsInOneChunk memory clipped size start g n → Full memory clipped g n (record { size = size; start = start })
 track_full memory true grains size start g n small fit inside few one =
     ⊎_elim (λ full. inr (bytes_full memory (record { size = size; start = start }) g n small full)) (λ fits. inl (record { few = fits; whole = tt })) (cases_lt 4092 ((n + 1) * size))
 track_full memory false grains size None g n small fit inside few one =
@@ -157,7 +159,8 @@ module _ (memory : List Chunk) (strip : Strip) (is : IsStrip memory strip) where
       let rises = height-le at k.n in omega arith)
       (cases_lt (at + k.n) s.to)
 
-  spans_words : (at : ℕ) (spans : List Span) (cuts : List Cut) → Cover strip.grains at spans → AreCuts memory strip spans cuts → cut_words cuts * 4089 + 5 * height memory strip at ≤ 5 * height memory strip strip.grains + span_weights spans * 4089
+  spans_words : (at : ℕ) (spans : List Span) (cuts : List Cut) → Cover strip.grains at spans → AreCuts memory strip spans cuts →
+      cut_words cuts * 4089 + 5 * height memory strip at ≤ 5 * height memory strip strip.grains + span_weights spans * 4089
   spans_words at [] cuts cover are =
       let none : cut_words cuts ≡ 0 = ap cut_words are in
       let same : height memory strip at ≡ height memory strip strip.grains = ap (height memory strip) cover in omega arith
@@ -174,7 +177,8 @@ all_passed memory strip g =
     passed memory strip.one.size strip.one.start g + passed memory strip.two.size strip.two.start g + passed memory strip.three.size strip.three.start g
 
 -- the words of a line are those for each of its spans, 5 for each chunk end that it crosses, and 5 more
-pub line_words-few : (memory : List Chunk) (strip : Strip) → IsStrip memory strip → strip.grains * strip.one.size + strip.grains * strip.two.size + strip.grains * strip.three.size ≤ 4096 → cut_words (cuts_of memory strip strip.spans) + 5 * all_passed memory strip 0 ≤ 5 * all_passed memory strip strip.grains + span_weights strip.spans + 5
+pub line_words-few : (memory : List Chunk) (strip : Strip) → IsStrip memory strip → strip.grains * strip.one.size + strip.grains * strip.two.size + strip.grains * strip.three.size ≤ 4096 →
+    cut_words (cuts_of memory strip strip.spans) + 5 * all_passed memory strip 0 ≤ 5 * all_passed memory strip strip.grains + span_weights strip.spans + 5
 line_words-few memory strip is small =
     let count = spans_words memory strip is 0 strip.spans (cuts_of memory strip strip.spans) is.covers (strip_cuts memory strip is) in
     omega arith

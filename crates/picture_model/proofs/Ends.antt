@@ -75,11 +75,13 @@ crossed-within memory bytes low high (Some from ∷ rest) order =
     let here = ended-le memory low (from + 0) (let first = order.0 in omega arith) in
     omega arith
 
-in_order_by : (bytes low high : ℕ) (start : Option ℕ) (rest : List (Option ℕ)) → (start ≡ None → AreInOrder bytes low high rest) → ((from : ℕ) → start ≡ Some from → (low ≤ from) × AreInOrder bytes (from + bytes) high rest) → AreInOrder bytes low high (start ∷ rest)
+in_order_by : (bytes low high : ℕ) (start : Option ℕ) (rest : List (Option ℕ)) → (start ≡ None → AreInOrder bytes low high rest) →
+    ((from : ℕ) → start ≡ Some from → (low ≤ from) × AreInOrder bytes (from + bytes) high rest) → AreInOrder bytes low high (start ∷ rest)
 in_order_by bytes low high None rest none some = none refl
 in_order_by bytes low high (Some from) rest none some = some from refl
 
-pub range_in_order : (f : ℕ → Option ℕ) (bytes low high from count : ℕ) → low ≤ high → ((k o : ℕ) → from ≤ k → k < from + count → f k ≡ Some o → (low ≤ o) × (o + bytes ≤ high)) → ((k l o p : ℕ) → k < l → f k ≡ Some o → f l ≡ Some p → o + bytes ≤ p) → AreInOrder bytes low high (map f (range_with_len from count))
+pub range_in_order : (f : ℕ → Option ℕ) (bytes low high from count : ℕ) → low ≤ high → ((k o : ℕ) → from ≤ k → k < from + count → f k ≡ Some o → (low ≤ o) × (o + bytes ≤ high)) →
+    ((k l o p : ℕ) → k < l → f k ≡ Some o → f l ≡ Some p → o + bytes ≤ p) → AreInOrder bytes low high (map f (range_with_len from count))
 range_in_order f bytes low high from zero some within apart = some
 range_in_order f bytes low high from (suc count) some within apart =
     in_order_by bytes low high (f from) (map f (range_with_len (from + 1) count))
@@ -92,7 +94,8 @@ range_in_order f bytes low high from (suc count) some within apart =
     ))
 
 -- what the even and the odd ones of a range have passed, all of it has
-pub interleaved : (memory : List Chunk) (bytes : ℕ) (f : ℕ → Option ℕ) (from count low m : ℕ) → low ≡ 2 * from → m ≡ 2 * count → all_ended memory bytes (map f (map (λ n. 2 * n) (range_with_len from count))) + all_ended memory bytes (map f (map (λ n. 2 * n + 1) (range_with_len from count))) ≡ all_ended memory bytes (map f (range_with_len low m))
+pub interleaved : (memory : List Chunk) (bytes : ℕ) (f : ℕ → Option ℕ) (from count low m : ℕ) → low ≡ 2 * from → m ≡ 2 * count →
+    all_ended memory bytes (map f (map (λ n. 2 * n) (range_with_len from count))) + all_ended memory bytes (map f (map (λ n. 2 * n + 1) (range_with_len from count))) ≡ all_ended memory bytes (map f (range_with_len low m))
 interleaved memory bytes f from zero low zero begins twice = refl
 interleaved memory bytes f from zero low (suc m) begins twice = absurd (omega arith)
 interleaved memory bytes f from (suc count) low zero begins twice = absurd (omega arith)

@@ -116,7 +116,8 @@ module _ (program : RiscProgram) (memory : List Chunk) (grants : program.grants 
         words = (data_small 1 ends a (omega arith) one, (address_small memory from a is, tt));
       }
 
-  good_write_123 : (ends : Ends) (a b c from from' from'' : ℕ) → a ≤ 4092 → b ≤ 4092 → c ≤ 4092 → IsWritten memory from a → IsWritten memory from' b → IsWritten memory from'' c → IsGoodInstr program (instr.Write123 no_control ends 0 (a ∷ b ∷ c ∷ []) (address_at memory from ∷ address_at memory from' ∷ address_at memory from'' ∷ []))
+  good_write_123 : (ends : Ends) (a b c from from' from'' : ℕ) → a ≤ 4092 → b ≤ 4092 → c ≤ 4092 → IsWritten memory from a → IsWritten memory from' b → IsWritten memory from'' c →
+      IsGoodInstr program (instr.Write123 no_control ends 0 (a ∷ b ∷ c ∷ []) (address_at memory from ∷ address_at memory from' ∷ address_at memory from'' ∷ []))
   good_write_123 ends a b c from from' from'' one two three is is' is'' =
       record {
         fine = record {
@@ -149,12 +150,14 @@ module _ (program : RiscProgram) (memory : List Chunk) (grants : program.grants 
       }
 
   -- the instruction of a piece, by its form, whether it is clipped, what it does, and its three tracks
-  good_piece : (planar clipped : Bool) (kind : PieceKind) (ends : Ends) (at n size size' size'' : ℕ) (start start' start'' : Option ℕ) → HasPlaces planar kind start start' start'' → n * size ≤ 4092 → n * size' ≤ 4092 → n * size'' ≤ 4092 → Writes memory clipped size start at n → Writes memory clipped size' start' at n → Writes memory clipped size'' start'' at n → IsGoodInstr program (instr_by planar (kind_of clipped kind) (record {
-    kind = kind_of clipped kind;
-    ends = ends;
-    counts = n * size ∷ n * size' ∷ n * size'' ∷ [];
-    addrs = address_of memory clipped size start at ∷ address_of memory clipped size' start' at ∷ address_of memory clipped size'' start'' at ∷ [];
-  }))
+  good_piece : (planar clipped : Bool) (kind : PieceKind) (ends : Ends) (at n size size' size'' : ℕ) (start start' start'' : Option ℕ) → HasPlaces planar kind start start' start'' → n * size ≤ 4092 →
+      n * size' ≤ 4092 → n * size'' ≤ 4092 → Writes memory clipped size start at n → Writes memory clipped size' start' at n → Writes memory clipped size'' start'' at n →
+      IsGoodInstr program (instr_by planar (kind_of clipped kind) (record {
+        kind = kind_of clipped kind;
+        ends = ends;
+        counts = n * size ∷ n * size' ∷ n * size'' ∷ [];
+        addrs = address_of memory clipped size start at ∷ address_of memory clipped size' start' at ∷ address_of memory clipped size'' start'' at ∷ [];
+      }))
   good_piece true true kind ends at n size size' size'' start start' start'' places one two three w w' w'' = good_skip_123 ends (n * size) (n * size') (n * size'') one two three
   good_piece false true kind ends at n size size' size'' start start' start'' places one two three w w' w'' = good_skip ends (n * size) one
   good_piece true false Skip ends at n size size' size'' start start' start'' places one two three w w' w'' = good_skip_123 ends (n * size) (n * size') (n * size'') one two three

@@ -94,7 +94,8 @@ unit_room unit p room which whole near =
     let W : ℕ → Type 0 = λ u. p % u ≡ 0 → u ≤ room in
     ⊎_elim (λ two. subst W (sym two) (λ even. omega arith)) (λ four. subst W (sym four) (λ even. omega arith)) which whole
 
-size_room : (memory : List Chunk) (planar first : Bool) (bytes p : ℕ) → All (λ c. is_aligned c ≡ true) memory → p < total memory → (planar ≡ true → (bytes ≡ 2) ⊎ (bytes ≡ 4)) → (planar ≡ true → first ≡ true → p % bytes ≡ 0) → size_by planar first bytes ≤ room_at memory p
+size_room : (memory : List Chunk) (planar first : Bool) (bytes p : ℕ) → All (λ c. is_aligned c ≡ true) memory → p < total memory → (planar ≡ true → (bytes ≡ 2) ⊎ (bytes ≡ 4)) →
+    (planar ≡ true → first ≡ true → p % bytes ≡ 0) → size_by planar first bytes ≤ room_at memory p
 size_room memory true true bytes p aligned within units whole =
     unit_room bytes p (room_at memory p) (units refl) (whole refl refl) (room_to_four memory p aligned within)
 size_room memory true false bytes p aligned within units whole = lt-room_at memory p within
@@ -102,7 +103,8 @@ size_room memory false true bytes p aligned within units whole = lt-room_at memo
 size_room memory false false bytes p aligned within units whole = omega arith
 
 -- the grains of a row are its bytes
-grains_by : (planar first : Bool) (units bytes chroma : ℕ) → (first ≡ false → planar ≡ true) → (planar ≡ true → units ≡ chroma) → (if planar then units else units * bytes) * size_by planar first bytes ≡ (if first then units * bytes else chroma)
+grains_by : (planar first : Bool) (units bytes chroma : ℕ) → (first ≡ false → planar ≡ true) → (planar ≡ true → units ≡ chroma) →
+    (if planar then units else units * bytes) * size_by planar first bytes ≡ (if first then units * bytes else chroma)
 grains_by true true units bytes chroma has same = refl
 grains_by true false units bytes chroma has same = let e = same refl in omega arith
 grains_by false true units bytes chroma has same = omega arith

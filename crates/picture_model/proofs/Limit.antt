@@ -44,7 +44,8 @@ use Rattle.picture_model.proofs.Strips.{row-IsStrip, skipped-IsStrip, vbi-IsStri
 
 -- a piece has 2 words at most where it is clipped, and 5 where it isn't
 
-short_by : (planar clipped : Bool) (kind : PieceKind) (ends : Ends) (a b c x y z : ℕ) → length (encoded (instr_by planar (kind_of clipped kind) (record { kind = kind_of clipped kind; ends = ends; counts = a ∷ b ∷ c ∷ []; addrs = x ∷ y ∷ z ∷ [] }))) ≤ words_for clipped
+short_by : (planar clipped : Bool) (kind : PieceKind) (ends : Ends) (a b c x y z : ℕ) →
+    length (encoded (instr_by planar (kind_of clipped kind) (record { kind = kind_of clipped kind; ends = ends; counts = a ∷ b ∷ c ∷ []; addrs = x ∷ y ∷ z ∷ [] }))) ≤ words_for clipped
 short_by true true kind ends a b c x y z = omega arith
 short_by false true kind ends a b c x y z = omega arith
 short_by true false Write ends a b c x y z = omega arith
@@ -162,7 +163,8 @@ row_weights d row is right =
     let all = (alternating_few (row_strip d row).spans alternate).all in omega arith
 
 -- a row's words, by what its three tracks have passed before and behind it
-row_words : (d : Desc) (row : ℕ) → IsDescription d → IsRight d → row < d.height → cut_words (cuts_of (memory_of d) (row_strip d row) (row_strip d row).spans) + 5 * (ended_after (memory_of d) 0 (row_offset d 1 row) + ended_after (memory_of d) 0 (row_offset d 2 row) + ended_after (memory_of d) 0 (row_offset d 3 row)) ≤ 5 * (ended_after (memory_of d) (row_size d 1) (row_offset d 1 row) + ended_after (memory_of d) (row_size d 2) (row_offset d 2 row) + ended_after (memory_of d) (row_size d 3) (row_offset d 3 row)) + 458
+row_words : (d : Desc) (row : ℕ) → IsDescription d → IsRight d → row < d.height →
+    cut_words (cuts_of (memory_of d) (row_strip d row) (row_strip d row).spans) + 5 * (ended_after (memory_of d) 0 (row_offset d 1 row) + ended_after (memory_of d) 0 (row_offset d 2 row) + ended_after (memory_of d) 0 (row_offset d 3 row)) ≤ 5 * (ended_after (memory_of d) (row_size d 1) (row_offset d 1 row) + ended_after (memory_of d) (row_size d 2) (row_offset d 2 row) + ended_after (memory_of d) (row_size d 3) (row_offset d 3 row)) + 458
 row_words d row is right below =
     let memory = memory_of d in
     let size = grain_bytes (layout_of d) in
@@ -240,7 +242,9 @@ rows_apart d plane k l o p right low high less is is' =
     let at = one.at in let at' = two.at in omega arith
 
 -- the rows of a picture cross at most the chunk ends in their plane
-plane_crossed : (d : Desc) (plane low high count : ℕ) → IsRight d → 1 ≤ plane → plane ≤ 3 → low ≤ high → (plane ≤ planes_of (layout_of d) → (low ≡ (extent d plane).from) × (high ≡ (extent d plane).to)) → count ≤ d.height → behind d plane (range_with_len 0 count) + ended (memory_of d) low ≤ before d plane (range_with_len 0 count) + ended (memory_of d) high
+plane_crossed : (d : Desc) (plane low high count : ℕ) → IsRight d → 1 ≤ plane → plane ≤ 3 → low ≤ high →
+    (plane ≤ planes_of (layout_of d) → (low ≡ (extent d plane).from) × (high ≡ (extent d plane).to)) → count ≤ d.height →
+    behind d plane (range_with_len 0 count) + ended (memory_of d) low ≤ before d plane (range_with_len 0 count) + ended (memory_of d) high
 plane_crossed d plane low high count right some few forward bounds within =
     crossed-within (memory_of d) (row_size d plane) low high (starts d plane (range_with_len 0 count))
     (range_in_order (row_offset d plane) (row_size d plane) low high 0 count forward
@@ -271,7 +275,8 @@ vbi_before d field = all_ended (memory_of d) 0 (vbi_starts d field d.vbi_lines)
 abbrev vbi_behind : Desc → Parity → ℕ
 vbi_behind d field = all_ended (memory_of d) d.vbi_bytes (vbi_starts d field d.vbi_lines)
 
-vbi_lines_words : (d : Desc) (field : Parity) (lines : List ℕ) → IsRight d → describes d.fields field ≡ true → Each (λ line. line < d.vbi_lines) lines → total_words (memory_of d) (map (vbi_strip d field) lines) + 5 * all_ended (memory_of d) 0 (map (λ line. Some (vbi_line_offset d field line)) lines) ≤ 5 * all_ended (memory_of d) d.vbi_bytes (map (λ line. Some (vbi_line_offset d field line)) lines) + 10 * length lines
+vbi_lines_words : (d : Desc) (field : Parity) (lines : List ℕ) → IsRight d → describes d.fields field ≡ true → Each (λ line. line < d.vbi_lines) lines →
+    total_words (memory_of d) (map (vbi_strip d field) lines) + 5 * all_ended (memory_of d) 0 (map (λ line. Some (vbi_line_offset d field line)) lines) ≤ 5 * all_ended (memory_of d) d.vbi_bytes (map (λ line. Some (vbi_line_offset d field line)) lines) + 10 * length lines
 vbi_lines_words d field [] right described below = omega arith
 vbi_lines_words d field (line ∷ lines) right described below =
     let memory = memory_of d in
@@ -302,7 +307,8 @@ vbi_crossed d field =
 
 -- sections
 
-vbi_words_few : (d : Desc) (field : Parity) (lines : ℕ) → lines ≡ d.vbi_lines → IsRight d → describes d.fields field ≡ true → length (words_of (vbi_from lines d field)) + 5 * vbi_before d field ≤ 2 + 5 * vbi_behind d field + 10 * d.vbi_lines
+vbi_words_few : (d : Desc) (field : Parity) (lines : ℕ) → lines ≡ d.vbi_lines → IsRight d → describes d.fields field ≡ true →
+    length (words_of (vbi_from lines d field)) + 5 * vbi_before d field ≤ 2 + 5 * vbi_behind d field + 10 * d.vbi_lines
 vbi_words_few d field zero same right described =
     let all = vbi_lines_words d field (range_with_len 0 d.vbi_lines) right described (each_range 0 d.vbi_lines d.vbi_lines (omega arith)) in
     let count = length-range_with_len 0 d.vbi_lines in omega arith
@@ -311,7 +317,8 @@ vbi_words_few d field (suc more) same right described =
     let all = vbi_lines_words d field (range_with_len 0 d.vbi_lines) right described (each_range 0 d.vbi_lines d.vbi_lines (omega arith)) in
     let count = length-range_with_len 0 d.vbi_lines in omega arith
 
-field_words_few : (d : Desc) (field : Parity) → IsDescription d → IsRight d → length (words_of (field_instrs d field)) + 5 * all_before d (rows_of d field) ≤ 2 + 7 * d.skip_lines + 5 * all_behind d (rows_of d field) + 458 * length (rows_of d field)
+field_words_few : (d : Desc) (field : Parity) → IsDescription d → IsRight d →
+    length (words_of (field_instrs d field)) + 5 * all_before d (rows_of d field) ≤ 2 + 7 * d.skip_lines + 5 * all_behind d (rows_of d field) + 458 * length (rows_of d field)
 field_words_few d field is right =
     let short = lines_short d (picture_strips d field) in
     let parts = total_append (memory_of d) (replicate d.skip_lines (skipped_strip d)) (map (row_strip d) (rows_of d field)) in
@@ -319,7 +326,8 @@ field_words_few d field is right =
     let rows = rows_words d (rows_of d field) is right (rows_below d field) in
     omega arith
 
-section_few : (d : Desc) (field : Parity) (target : ℕ) → IsDescription d → IsRight d → describes d.fields field ≡ true → length (words_of (section d field target)) + 5 * vbi_before d field + 5 * all_before d (rows_of d field) ≤ 2113 + 5 * vbi_behind d field + 5 * all_behind d (rows_of d field) + 458 * length (rows_of d field)
+section_few : (d : Desc) (field : Parity) (target : ℕ) → IsDescription d → IsRight d → describes d.fields field ≡ true →
+    length (words_of (section d field target)) + 5 * vbi_before d field + 5 * all_before d (rows_of d field) ≤ 2113 + 5 * vbi_behind d field + 5 * all_behind d (rows_of d field) + 458 * length (rows_of d field)
 section_few d field target is right described =
     let vbi = vbi_words_few d field d.vbi_lines refl right described in
     let picture = field_words_few d field is right in
@@ -364,7 +372,8 @@ module _ (d : Desc) (right : IsRight d) (count : ℕ) (within : count ≤ d.heig
   other_crossed plane some few none =
       let same = plane_crossed d plane 0 0 count right some few (omega arith) (λ has. absurd (none has)) within in omega arith
 
-  all_crossed : (planar : Bool) (which : Fields) → (layout_of d).planar ≡ planar → some_overlap (areas d planar which) ≡ false → all_behind d (range_with_len 0 count) + vbi_behind_all d which ≤ all_before d (range_with_len 0 count) + vbi_before_all d which + length (memory_of d)
+  all_crossed : (planar : Bool) (which : Fields) → (layout_of d).planar ≡ planar → some_overlap (areas d planar which) ≡ false →
+      all_behind d (range_with_len 0 count) + vbi_behind_all d which ≤ all_before d (range_with_len 0 count) + vbi_before_all d which + length (memory_of d)
   all_crossed true fields.Top is apart =
       let all = areas_crossed d true fields.Top apart in
       let one = held_crossed 1 (omega arith) (omega arith) in
@@ -391,7 +400,10 @@ module _ (d : Desc) (right : IsRight d) (count : ℕ) (within : count ≤ d.heig
       let three = other_crossed 3 (omega arith) (omega arith) (λ has. absurd (omega arith)) in
       packed which apart one two three
     where
-      packed : (which : Fields) → some_overlap (areas d false which) ≡ false → behind d 1 (range_with_len 0 count) + ended (memory_of d) (extent d 1).from ≤ before d 1 (range_with_len 0 count) + ended (memory_of d) (extent d 1).to → behind d 2 (range_with_len 0 count) ≤ before d 2 (range_with_len 0 count) → behind d 3 (range_with_len 0 count) ≤ before d 3 (range_with_len 0 count) → all_behind d (range_with_len 0 count) + vbi_behind_all d which ≤ all_before d (range_with_len 0 count) + vbi_before_all d which + length (memory_of d)
+      packed : (which : Fields) → some_overlap (areas d false which) ≡ false →
+          behind d 1 (range_with_len 0 count) + ended (memory_of d) (extent d 1).from ≤ before d 1 (range_with_len 0 count) + ended (memory_of d) (extent d 1).to →
+          behind d 2 (range_with_len 0 count) ≤ before d 2 (range_with_len 0 count) → behind d 3 (range_with_len 0 count) ≤ before d 3 (range_with_len 0 count) →
+          all_behind d (range_with_len 0 count) + vbi_behind_all d which ≤ all_before d (range_with_len 0 count) + vbi_before_all d which + length (memory_of d)
       packed fields.Top apart one two three =
           let all = areas_crossed d false fields.Top apart in let top = vbi_crossed d Top in omega arith
       packed fields.Bottom apart one two three =

@@ -93,7 +93,8 @@ none_of_areas test f fields.Top Bottom is none = cc
 none_of_areas test f fields.Bottom Top is none = cc
 
 -- of two areas with an offset in common
-same_area : (f : Parity → Extent) (which : Fields) (field other : Parity) (o : ℕ) → describes which field ≡ true → describes which other ≡ true → some_overlap (map f (fields_of which)) ≡ false → (f field).from ≤ o → o < (f field).to → (f other).from ≤ o → o < (f other).to → field ≡ other
+same_area : (f : Parity → Extent) (which : Fields) (field other : Parity) (o : ℕ) → describes which field ≡ true → describes which other ≡ true → some_overlap (map f (fields_of which)) ≡ false →
+    (f field).from ≤ o → o < (f field).to → (f other).from ≤ o → o < (f other).to → field ≡ other
 same_area f which Top Top o is is' none f_from f_to o_from o_to = refl
 same_area f which Bottom Bottom o is is' none f_from f_to o_from o_to = refl
 same_area f fields.Both Top Bottom o is is' none f_from f_to o_from o_to =
@@ -200,7 +201,8 @@ vbi_end d field line right is below =
 
 -- different bytes have different offsets
 
-pub rows_differ : (d : Desc) (plane row other from from' x y : ℕ) → IsRight d → HasPlane d plane → IsRowAt d plane row from → IsRowAt d plane other from' → x < plane_row_bytes d plane → y < plane_row_bytes d plane → from + x ≡ from' + y → (row ≡ other) × (x ≡ y)
+pub rows_differ : (d : Desc) (plane row other from from' x y : ℕ) → IsRight d → HasPlane d plane → IsRowAt d plane row from → IsRowAt d plane other from' → x < plane_row_bytes d plane →
+    y < plane_row_bytes d plane → from + x ≡ from' + y → (row ≡ other) × (x ≡ y)
 rows_differ d plane row other from from' x y right has is is' x_in y_in same =
     let at = is.at in let at' = is'.at in
     let wide = right.rows_apart plane has.low has.high in
@@ -212,18 +214,21 @@ module _ (d : Desc) (right : IsRight d) where
   apart : IsApart (extent d) 1 (planes_of (layout_of d)) (map (vbi_area d) (fields_of d.fields))
   apart = are_apart (extent d) 1 (planes_of (layout_of d)) (map (vbi_area d) (fields_of d.fields)) right.parts_apart
 
-  pub planes_differ : (plane other row row' from from' x y : ℕ) → HasPlane d plane → HasPlane d other → plane < other → row < d.height → row' < d.height → IsRowAt d plane row from → IsRowAt d other row' from' → x < plane_row_bytes d plane → y < plane_row_bytes d other → from + x ≡ from' + y → ⊥
+  pub planes_differ : (plane other row row' from from' x y : ℕ) → HasPlane d plane → HasPlane d other → plane < other → row < d.height → row' < d.height → IsRowAt d plane row from →
+      IsRowAt d other row' from' → x < plane_row_bytes d plane → y < plane_row_bytes d other → from + x ≡ from' + y → ⊥
   planes_differ plane other row row' from from' x y has has' order below below' is is' x_in y_in same =
       let one = row_within d plane row from right below is in
       let two = row_within d other row' from' right below' is' in
       let high = has'.high in
       no_common (extent d plane) (extent d other) (from + x) (apart.later plane other has.low order (omega arith)) (omega arith) (omega arith) (omega arith) (omega arith)
 
-  pub plane_and_area : (plane : ℕ) (field : Parity) (o : ℕ) → HasPlane d plane → describes d.fields field ≡ true → offset d plane ≤ o → o < offset d plane + plane_bytes d plane → vbi_offset d field ≤ o → o < vbi_offset d field + vbi_size d → ⊥
+  pub plane_and_area : (plane : ℕ) (field : Parity) (o : ℕ) → HasPlane d plane → describes d.fields field ≡ true → offset d plane ≤ o → o < offset d plane + plane_bytes d plane →
+      vbi_offset d field ≤ o → o < vbi_offset d field + vbi_size d → ⊥
   plane_and_area plane field o has is p_from p_to a_from a_to =
       let high = has.high in
       let none = apart.other plane has.low (omega arith) in
       no_common (extent d plane) (vbi_area d field) o (none_of_areas (overlaps (extent d plane)) (vbi_area d) d.fields field is none) p_from p_to a_from a_to
 
-  pub areas_differ : (o : ℕ) (field other : Parity) → describes d.fields field ≡ true → describes d.fields other ≡ true → vbi_offset d field ≤ o → o < vbi_offset d field + vbi_size d → vbi_offset d other ≤ o → o < vbi_offset d other + vbi_size d → field ≡ other
+  pub areas_differ : (o : ℕ) (field other : Parity) → describes d.fields field ≡ true → describes d.fields other ≡ true → vbi_offset d field ≤ o → o < vbi_offset d field + vbi_size d →
+      vbi_offset d other ≤ o → o < vbi_offset d other + vbi_size d → field ≡ other
   areas_differ o field other is is' f_from f_to o_from o_to = same_area (vbi_area d) d.fields field other o is is' apart.rest f_from f_to o_from o_to

@@ -109,7 +109,8 @@ module _ (d : Desc) (right : IsRight d) (o : ℕ) where
       let area = in_area d field line x' is'.1 is'.2 in
       plane_and_area d right plane field o is.0 is'.0 extent.0 extent.1 (omega arith) (omega arith)
 
-  two_lines : (field field' : Parity) (line x line' x' : ℕ) → IsByte d (vbi_byte field line x) → IsByte d (vbi_byte field' line' x') → vbi_line_offset d field line + x ≡ o → vbi_line_offset d field' line' + x' ≡ o → vbi_byte field line x ≡ vbi_byte field' line' x'
+  two_lines : (field field' : Parity) (line x line' x' : ℕ) → IsByte d (vbi_byte field line x) → IsByte d (vbi_byte field' line' x') → vbi_line_offset d field line + x ≡ o →
+      vbi_line_offset d field' line' + x' ≡ o → vbi_byte field line x ≡ vbi_byte field' line' x'
   two_lines field field' line x line' x' is is' e e' =
       let area = in_area d field line x is.1 is.2 in
       let area' = in_area d field' line' x' is'.1 is'.2 in

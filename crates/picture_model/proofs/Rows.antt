@@ -50,14 +50,16 @@ written_at memory from at n size j is inside =
     let e : from + (at * size + j) ≡ from + at * size + j = omega arith in
     ap (address_at memory) e ∙ address_at-add memory (from + at * size) j (omega arith)
 
-place_on_track : (memory : List Chunk) (clipped : Bool) (size : ℕ) (start : Option ℕ) (at n j address : ℕ) → clipped ≡ false → Writes memory clipped size start at n → j < n * size → option_map (address_at memory) (option_map (λ from. from + (at * size + j)) start) ≡ Some address → address ≡ address_of memory clipped size start at + j
+place_on_track : (memory : List Chunk) (clipped : Bool) (size : ℕ) (start : Option ℕ) (at n j address : ℕ) → clipped ≡ false → Writes memory clipped size start at n → j < n * size →
+    option_map (address_at memory) (option_map (λ from. from + (at * size + j)) start) ≡ Some address → address ≡ address_of memory clipped size start at + j
 place_on_track memory true size start at n j address plain writes inside is = cc
 place_on_track memory false size None at n j address plain writes inside is = cc
 place_on_track memory false size (Some from) at n j address plain writes inside is =
     let here : address_at memory (from + (at * size + j)) ≡ address = cc in
     sym here ∙ written_at memory from at n size j writes inside
 
-row_places : (d : Desc) (plane row j address : ℕ) (k : Cut) → IsMoved (memory_of d) k (row_track d plane row) → k.clipped ≡ false → j < k.n * grain_bytes (layout_of d) plane → place d plane row (k.at * grain_bytes (layout_of d) plane + j) ≡ Some address → address ≡ on_track (memory_of d) k (row_track d plane row) + j
+row_places : (d : Desc) (plane row j address : ℕ) (k : Cut) → IsMoved (memory_of d) k (row_track d plane row) → k.clipped ≡ false → j < k.n * grain_bytes (layout_of d) plane →
+    place d plane row (k.at * grain_bytes (layout_of d) plane + j) ≡ Some address → address ≡ on_track (memory_of d) k (row_track d plane row) + j
 row_places d plane row j address k moved plain inside is =
     place_on_track (memory_of d) k.clipped (grain_bytes (layout_of d) plane) (row_offset d plane row) k.at k.n j address plain moved.written inside is
 

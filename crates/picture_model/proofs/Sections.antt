@@ -149,7 +149,8 @@ module _ (d : Desc) (program : RiscProgram) where
       (lead_plain (IsAt program.base instrs) (opening field ∷ body d field) (closing field program.base) [] (plains field good) first tt)
       first
 
-  pub two_sections : Each (IsGoodInstr program) (opening Top ∷ body d Top) → Each (IsGoodInstr program) (opening Bottom ∷ body d Bottom) → program.words ≡ words_of (section d Top (program.base + 4 * section_length d Top) ++ section d Bottom program.base) → IsSound program
+  pub two_sections : Each (IsGoodInstr program) (opening Top ∷ body d Top) → Each (IsGoodInstr program) (opening Bottom ∷ body d Bottom) →
+      program.words ≡ words_of (section d Top (program.base + 4 * section_length d Top) ++ section d Bottom program.base) → IsSound program
   two_sections top bottom words =
       let mid = program.base + 4 * section_length d Top in
       let first = section d Top mid in
@@ -179,7 +180,8 @@ module _ (d : Desc) (program : RiscProgram) where
 
 -- the compiled program
 
-sound_by : (which : Fields) (d : Desc) (program : RiscProgram) → ((field : Parity) → describes which field ≡ true → Each (IsGoodInstr program) (opening field ∷ body d field)) → program.words ≡ words_of (sections_by which d program.base program.base) → IsSound program
+sound_by : (which : Fields) (d : Desc) (program : RiscProgram) → ((field : Parity) → describes which field ≡ true → Each (IsGoodInstr program) (opening field ∷ body d field)) →
+    program.words ≡ words_of (sections_by which d program.base program.base) → IsSound program
 sound_by fields.Top d program good words = one_section d program Top (good Top refl) words
 sound_by fields.Bottom d program good words = one_section d program Bottom (good Bottom refl) words
 sound_by fields.Both d program good words = two_sections d program (good Top refl) (good Bottom refl) words
@@ -189,7 +191,8 @@ compiled_sound d right = sound_by d.fields d (compiled d) (good_body d right (co
 
 -- each section stands where it is said to, with its closing at its end
 
-stands_by : (which : Fields) (d : Desc) (from last : ℕ) (field : Parity) → describes which field ≡ true → Stands (words_of (sections_by which d from last)) from (words_of (section d field (next_by which d from last field))) (begin_by which d from field)
+stands_by : (which : Fields) (d : Desc) (from last : ℕ) (field : Parity) → describes which field ≡ true →
+    Stands (words_of (sections_by which d from last)) from (words_of (section d field (next_by which d from last field))) (begin_by which d from field)
 stands_by fields.Top d from last Top is =
     record { before = []; after = []; split = sym (append-nil _); at = omega arith }
 stands_by fields.Bottom d from last Bottom is =

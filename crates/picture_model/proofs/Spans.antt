@@ -115,7 +115,8 @@ both_steps : (p m : ℕ) (spans : List Span) → map (byte_span m) (map (unit_sp
 both_steps p m [] = refl
 both_steps p m (s ∷ rest) = ap (λ (later : List Span). span (s.from / p * m) (s.to / p * m) s.clipped ∷ later) (both_steps p m rest)
 
-grain_runs : (planar : Bool) (answer : ℕ → Bool) (p m w : ℕ) (spans : List Span) → 1 ≤ p → 1 ≤ m → AreRunsFrom (λ x. answer (x / p)) (w * p) 0 spans → AreRunsFrom (λ g. answer (if planar then g else g / m)) (if planar then w else w * m) 0 (map (λ s. span (if planar then s.from / p else s.from / p * m) (if planar then s.to / p else s.to / p * m) s.clipped) spans)
+grain_runs : (planar : Bool) (answer : ℕ → Bool) (p m w : ℕ) (spans : List Span) → 1 ≤ p → 1 ≤ m → AreRunsFrom (λ x. answer (x / p)) (w * p) 0 spans →
+    AreRunsFrom (λ g. answer (if planar then g else g / m)) (if planar then w else w * m) 0 (map (λ s. span (if planar then s.from / p else s.from / p * m) (if planar then s.to / p else s.to / p * m) s.clipped) spans)
 grain_runs true answer p m w spans some some' runs =
     subst (λ n. AreRunsFrom answer w n (map (unit_span p) spans)) (zero-div p) (unit_runs answer p w some 0 spans (zero-mod p) runs)
 grain_runs false answer p m w spans some some' runs =
@@ -141,7 +142,9 @@ row_runs d row right =
 one_unit : (p : ℕ) → 1 ≤ p → p / p ≡ 1
 one_unit p some = let e : 1 * p ≡ p = omega arith in ap (λ n. n / p) (sym e) ∙ mul_div 1 p some
 
-in_unit : (planar first : Bool) (p m across g j : ℕ) → 1 ≤ p → (planar ≡ true → p ≡ across) → (first ≡ false → planar ≡ true) → j < (if first then (if planar then m else 1) else (if planar then 1 else 0)) → (g * (if first then (if planar then m else 1) else (if planar then 1 else 0)) + j) / (if first then p / p * m else p / across) ≡ (if planar then g else g / m)
+in_unit : (planar first : Bool) (p m across g j : ℕ) → 1 ≤ p → (planar ≡ true → p ≡ across) → (first ≡ false → planar ≡ true) →
+    j < (if first then (if planar then m else 1) else (if planar then 1 else 0)) →
+    (g * (if first then (if planar then m else 1) else (if planar then 1 else 0)) + j) / (if first then p / p * m else p / across) ≡ (if planar then g else g / m)
 in_unit true true p m across g j some same has inside =
     let one = one_unit p some in
     let e : p / p * m ≡ 1 * m = ap (λ n. n * m) one in

@@ -33,7 +33,8 @@ pieces-append memory strip (k ∷ cuts) more = ap (λ (later : List Piece). piec
 -- one piece more
 
 module _ (memory : List Chunk) (strip : Strip) (s : Span) (out new all : List Piece) (piece : Piece) where
-  pub one_more : (at n : ℕ) → EachFits memory strip s → s.from ≤ at → at < s.to → n ≡ longest memory strip s at → piece ≡ piece_of memory strip (cut at n s.clipped) → new ≡ out ++ piece ∷ [] → out ++ pieces_of memory strip (cuts_left memory strip s at) ≡ all → new ++ pieces_of memory strip (cuts_left memory strip s (at + n)) ≡ all
+  pub one_more : (at n : ℕ) → EachFits memory strip s → s.from ≤ at → at < s.to → n ≡ longest memory strip s at → piece ≡ piece_of memory strip (cut at n s.clipped) → new ≡ out ++ piece ∷ [] →
+      out ++ pieces_of memory strip (cuts_left memory strip s at) ≡ all → new ++ pieces_of memory strip (cuts_left memory strip s (at + n)) ≡ all
   one_more at n each from before long is added whole =
       let later = pieces_of memory strip (cuts_left memory strip s (at + n)) in
       let next : cuts_left memory strip s at ≡ cut at n s.clipped ∷ cuts_left memory strip s (at + n) =
@@ -50,7 +51,8 @@ module _ (memory : List Chunk) (strip : Strip) (s : Span) (out new all : List Pi
       subst (All CountsFit) (sym added) (All-append CountsFit out (piece ∷ []) before (All-cons CountsFit piece [] fits (All-nil CountsFit)))
 
 -- one span more
-pub next_span : (memory : List Chunk) (strip : Strip) (s : Span) (rest : List Span) (out new all : List Piece) → new ≡ out ++ pieces_of memory strip (span_cuts memory strip s) → out ++ pieces_of memory strip (cuts_of memory strip (s ∷ rest)) ≡ all → new ++ pieces_of memory strip (cuts_of memory strip rest) ≡ all
+pub next_span : (memory : List Chunk) (strip : Strip) (s : Span) (rest : List Span) (out new all : List Piece) → new ≡ out ++ pieces_of memory strip (span_cuts memory strip s) →
+    out ++ pieces_of memory strip (cuts_of memory strip (s ∷ rest)) ≡ all → new ++ pieces_of memory strip (cuts_of memory strip rest) ≡ all
 next_span memory strip s rest out new all added whole =
     let first = pieces_of memory strip (span_cuts memory strip s) in
     let later = pieces_of memory strip (cuts_of memory strip rest) in

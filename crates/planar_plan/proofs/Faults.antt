@@ -78,7 +78,8 @@ few_chunks pairs pages few small =
     cond-false (nat_lt max_chunks (length pairs) || nat_lt max_bytes (total (listed pairs))) _ _
     (or_from _ _ (le-ltb max_chunks (length pairs) few) (le-ltb max_bytes (total (listed pairs)) small))
 
-few_in : (chunks : Option (List (ℕ × ℕ))) (pages : List ℕ) → length pages ≤ max_chunks → IfSome chunks (λ cs. length cs ≤ max_chunks) → IfSome chunks (λ cs. total (listed cs) ≤ max_bytes) → taken_memory chunks pages ≡ unless_unaligned (first_unaligned chunks pages) (memory_from chunks pages)
+few_in : (chunks : Option (List (ℕ × ℕ))) (pages : List ℕ) → length pages ≤ max_chunks → IfSome chunks (λ cs. length cs ≤ max_chunks) → IfSome chunks (λ cs. total (listed cs) ≤ max_bytes) →
+    taken_memory chunks pages ≡ unless_unaligned (first_unaligned chunks pages) (memory_from chunks pages)
 few_in None pages few chunks bytes = few_pages pages few
 few_in (Some pairs) pages few chunks bytes = few_chunks pairs pages chunks bytes
 
@@ -137,7 +138,8 @@ pub judges_err : (A B : Type 0) (found other : Option BuildFault) (error : Build
 judges_err A B found other (Bad fault) stands judged = stands fault judged
 judges_err A B found other Memory stands judged = judged
 
-pub has_scatter : (d : Desc) (found : Option BuildFault) (result : Result ScatterList BuildError) → (found ≡ None → IsFramed d) → Judges found result → IfOk result (λ s. s ≡ scatter_list (memory_of d) (highest_end (taken d))) → IfOk result IsScatterList → IfOk result (HasScatter d)
+pub has_scatter : (d : Desc) (found : Option BuildFault) (result : Result ScatterList BuildError) → (found ≡ None → IsFramed d) → Judges found result →
+    IfOk result (λ s. s ≡ scatter_list (memory_of d) (highest_end (taken d))) → IfOk result IsScatterList → IfOk result (HasScatter d)
 has_scatter d found (Ok s) framed judged scatter list =
     record { framed = framed judged; list = list; scatter = scatter }
 has_scatter d found (Err error) framed judged scatter list = tt

@@ -32,7 +32,8 @@ pub list_small : (s : ScatterList) → IsScatterList s → s.len ≤ 2 ^ 32
 list_small s is = let all = total-le s.chunks is.aligned is.apart in let enough = is.enough in omega arith
 
 module _ (d : Desc) (right : IsRight d) (row : ℕ) (below : row < d.height) (plane : ℕ) (low : 1 ≤ plane) (high : plane ≤ 3) where
-  written_held : (from : ℕ) → IsRowAt d plane row from → GrainsFit (memory_of d) (grains_of (layout_of d) d.width) (grain_bytes (layout_of d) plane) (Some from) → AreHeld (scatter_list (memory_of d) (highest_end (taken d))) (grains_of (layout_of d) d.width) (grain_bytes (layout_of d) plane) (Some from)
+  written_held : (from : ℕ) → IsRowAt d plane row from → GrainsFit (memory_of d) (grains_of (layout_of d) d.width) (grain_bytes (layout_of d) plane) (Some from) →
+      AreHeld (scatter_list (memory_of d) (highest_end (taken d))) (grains_of (layout_of d) d.width) (grain_bytes (layout_of d) plane) (Some from)
   written_held from at fit =
       let has = held_plane d plane row at.number low high at.held in
       let top = has.high in
@@ -41,7 +42,8 @@ module _ (d : Desc) (right : IsRight d) (row : ℕ) (below : row < d.height) (pl
       let end = end_in_mapped (extent d) 1 (planes_of (layout_of d)) plane (map (vbi_area d) (fields_of d.fields)) low (omega arith) in
       (fit.0, omega arith, fit.2)
 
-  start_held : (start : Option ℕ) → row_offset d plane row ≡ start → GrainsFit (memory_of d) (grains_of (layout_of d) d.width) (grain_bytes (layout_of d) plane) start → AreHeld (scatter_list (memory_of d) (highest_end (taken d))) (grains_of (layout_of d) d.width) (grain_bytes (layout_of d) plane) start
+  start_held : (start : Option ℕ) → row_offset d plane row ≡ start → GrainsFit (memory_of d) (grains_of (layout_of d) d.width) (grain_bytes (layout_of d) plane) start →
+      AreHeld (scatter_list (memory_of d) (highest_end (taken d))) (grains_of (layout_of d) d.width) (grain_bytes (layout_of d) plane) start
   start_held None is fit = tt
   start_held (Some from) is fit = written_held from (row_offset-IsRowAt d plane row from is) fit
 
@@ -75,7 +77,8 @@ skipped-CanBeCut d s list =
       three = unwritten_held s d grains 3;
     }
 
-pub vbi-CanBeCut : (d : Desc) (s : ScatterList) (field : Parity) (line : ℕ) → describes d.fields field ≡ true → line < d.vbi_lines → IsScatterList s → s ≡ scatter_list (memory_of d) (highest_end (taken d)) → CanBeCut s (bare (vbi_strip d field line))
+pub vbi-CanBeCut : (d : Desc) (s : ScatterList) (field : Parity) (line : ℕ) → describes d.fields field ≡ true → line < d.vbi_lines → IsScatterList s →
+    s ≡ scatter_list (memory_of d) (highest_end (taken d)) → CanBeCut s (bare (vbi_strip d field line))
 vbi-CanBeCut d s field line is below list scatter =
     let end = vbi_line_ends d field line is below in
     let len : s.len ≡ highest_end (taken d) = ap (λ (t : ScatterList). t.len) scatter in
@@ -121,7 +124,8 @@ whole-again memory chunks strip line w same kept is =
     record { grains = of.grains; pieces = λ s within. of.pieces s within ∙ ap (pieces_of memory strip) (bare-span_cuts memory strip s) }
 
 -- the pieces of a line's spans are its plan
-pub pieces-plan : (memory chunks : List Chunk) (strip line : Strip) (spans : List Span) (pieces : List Piece) → chunks ≡ memory → line ≡ bare strip → spans ≡ strip.spans → pieces ≡ pieces_of chunks line (cuts_of chunks line spans) → pieces ≡ plan memory strip
+pub pieces-plan : (memory chunks : List Chunk) (strip line : Strip) (spans : List Span) (pieces : List Piece) → chunks ≡ memory → line ≡ bare strip → spans ≡ strip.spans →
+    pieces ≡ pieces_of chunks line (cuts_of chunks line spans) → pieces ≡ plan memory strip
 pieces-plan memory chunks strip line spans pieces same kept all is =
     is
     ∙ ap (λ (cs : List Chunk). pieces_of cs line (cuts_of cs line spans)) same

@@ -110,7 +110,9 @@ run_parts s run offset is =
     (ap (λ (p : ℕ × ℕ). p.0) is, omega arith)
 
 -- a run of the scatter list is as long as a piece may be
-pub run-Reaches : (s : ScatterList) (size start at rest offset : ℕ) (run : ℕ × ℕ) (r : Reach) → offset ≡ start + at * size → run ≡ run_at s offset 4092 → 1 ≤ rest → 1 ≤ size → start + (at + rest) * size ≤ s.len → r.address ≡ run.0 → r.grains ≡ min rest (run.1 / size) → Reaches rest size (most size (min 4092 (room_at s.chunks (start + at * size))) rest) (address_at s.chunks (start + at * size)) r
+pub run-Reaches : (s : ScatterList) (size start at rest offset : ℕ) (run : ℕ × ℕ) (r : Reach) → offset ≡ start + at * size → run ≡ run_at s offset 4092 → 1 ≤ rest → 1 ≤ size →
+    start + (at + rest) * size ≤ s.len → r.address ≡ run.0 → r.grains ≡ min rest (run.1 / size) →
+    Reaches rest size (most size (min 4092 (room_at s.chunks (start + at * size))) rest) (address_at s.chunks (start + at * size)) r
 run-Reaches s size start at rest offset run r here is some wide within address grains =
     let parts = run_parts s run offset is in
     let left = bytes_left at rest size start s.len some wide within in
@@ -130,7 +132,9 @@ run-Reaches s size start at rest offset run r here is some wide within address g
 
 -- what is left lies in a window
 
-pub window-Reaches : (s : ScatterList) (w : Window) (size start at rest offset : ℕ) (r : Reach) → IsWindow s w → 1 ≤ rest → 1 ≤ size → offset ≡ start + at * size → w.from ≤ offset → offset + rest * size ≤ w.to → r.address ≡ w.address + (offset - w.from) → r.grains ≡ rest → Reaches rest size (most size (min 4092 (room_at s.chunks (start + at * size))) rest) (address_at s.chunks (start + at * size)) r
+pub window-Reaches : (s : ScatterList) (w : Window) (size start at rest offset : ℕ) (r : Reach) → IsWindow s w → 1 ≤ rest → 1 ≤ size → offset ≡ start + at * size → w.from ≤ offset →
+    offset + rest * size ≤ w.to → r.address ≡ w.address + (offset - w.from) → r.grains ≡ rest →
+    Reaches rest size (most size (min 4092 (room_at s.chunks (start + at * size))) rest) (address_at s.chunks (start + at * size)) r
 window-Reaches s w size start at rest offset r is some wide here from to address grains =
     let first : 1 * size ≤ rest * size = fewer_grains 1 rest size some in
     let few = is.few in

@@ -23,7 +23,8 @@ use Rattle.planar_plan.specs.Stretches.{AreStretches, FitsInOne, IsStretch, IsWh
 
 -- the bytes left at a grain hold the grains that are left
 
-free_whole : (memory : List Chunk) (clipped : Bool) (grains at n size : ℕ) (start : Option ℕ) (w : Stretch) → at + n ≤ grains → 1 ≤ n → grains * size ≤ 4092 → StandsAt memory grains size start w → n * size ≤ bytes_free memory clipped size start at
+free_whole : (memory : List Chunk) (clipped : Bool) (grains at n size : ℕ) (start : Option ℕ) (w : Stretch) → at + n ≤ grains → 1 ≤ n → grains * size ≤ 4092 → StandsAt memory grains size start w →
+    n * size ≤ bytes_free memory clipped size start at
 free_whole memory true grains at n size start w within some few stands = let less = fewer_grains n grains size (omega arith) in omega arith
 free_whole memory false grains at n size None w within some few stands = let less = fewer_grains n grains size (omega arith) in omega arith
 free_whole memory false grains at n size (Some start) w within some few stands =
@@ -69,7 +70,8 @@ pub place_below : (address at grains step : ℕ) → at < grains → address + g
 place_below address at grains step inside ends = let more = fewer_grains (at + 1) grains step (omega arith) in omega arith
 
 -- a run that holds all grains is a stretch
-pub run_stretch : (s : ScatterList) (grains : ℕ) (t : Track) (start : ℕ) (run : ℕ × ℕ) → IsScatterList s → IsHeld s grains t → t.start ≡ Some start → 1 ≤ grains → grains * t.size ≤ 4092 → grains * t.size ≤ run.1 → run ≡ run_at s start 4092 → IsStretch s.chunks grains t (record { address = run.0; step = t.size })
+pub run_stretch : (s : ScatterList) (grains : ℕ) (t : Track) (start : ℕ) (run : ℕ × ℕ) → IsScatterList s → IsHeld s grains t → t.start ≡ Some start → 1 ≤ grains → grains * t.size ≤ 4092 →
+    grains * t.size ≤ run.1 → run ≡ run_at s start 4092 → IsStretch s.chunks grains t (record { address = run.0; step = t.size })
 run_stretch s grains t start run list held is some few long runs =
     let h : AreHeld s grains t.size (Some start) = subst (λ (o : Option ℕ). AreHeld s grains t.size o) is held.held in
     let w : Stretch = record { address = run.0; step = t.size } in
@@ -109,7 +111,8 @@ whole_cut memory strip s w are some within =
 
 -- the pieces of a span
 
-piece_is : (memory : List Chunk) (line : Line) (w : Stretches) (s : Span) → AreStretches memory (strip_of line) w → s.from < s.to → s.to ≤ line.grains → piece_in line w s ≡ piece_of memory (strip_of line) (cut s.from (s.to - s.from) s.clipped)
+piece_is : (memory : List Chunk) (line : Line) (w : Stretches) (s : Span) → AreStretches memory (strip_of line) w → s.from < s.to → s.to ≤ line.grains →
+    piece_in line w s ≡ piece_of memory (strip_of line) (cut s.from (s.to - s.from) s.clipped)
 piece_is memory line w s are some within =
     let one = place_of memory s.clipped line.grains s.from (track_of line.one) w.one (omega arith) are.one in
     let two = place_of memory s.clipped line.grains s.from (track_of line.two) w.two (omega arith) are.two in
@@ -122,7 +125,8 @@ some_pieces line w s some = rw (lt-ltb s.from s.to some) refl
 no_pieces : (line : Line) (w : Stretches) (s : Span) → s.to ≤ s.from → pieces_in (whole_line line w) s ≡ []
 no_pieces line w s none = rw (le-ltb s.from s.to none) refl
 
-pieces_are : (memory : List Chunk) (line : Line) (w : Stretches) (s : Span) → AreStretches memory (strip_of line) w → s.to ≤ line.grains → pieces_in (whole_line line w) s ≡ pieces_of memory (strip_of line) (span_cuts memory (strip_of line) s)
+pieces_are : (memory : List Chunk) (line : Line) (w : Stretches) (s : Span) → AreStretches memory (strip_of line) w → s.to ≤ line.grains →
+    pieces_in (whole_line line w) s ≡ pieces_of memory (strip_of line) (span_cuts memory (strip_of line) s)
 pieces_are memory line w s are within =
     ⊎_elim
     (λ some.

@@ -157,6 +157,13 @@ fn no_windows() -> Windows
     }
 }
 
+// The grains of a span that are left: the first of them, and how many.
+#[derive(Clone, Copy)]
+struct Left {
+    at: u32,
+    rest: u32,
+}
+
 // How many of the grains that are left so many bytes hold; a track without bytes sets no limit.
 #[inline(always)]
 fn held_by(bytes: u32, size: u32, rest: u32) -> u32
@@ -171,96 +178,88 @@ fn held_by(bytes: u32, size: u32, rest: u32) -> u32
     }
 }
 
-// A track that isn't written. `rest` grains are left in the span.
-#[inline(always)]
-fn unwritten_reach(size: u32, rest: u32) -> Reach
-    ensures { Reaches rest size (most size max_piece rest) 0 result }
-{
-    Reach {
-        address: 0,
-        grains: held_by(MAX_PIECE, size, rest),
-    }
-}
-
-// A track that is written from an offset on, at grain `at`, where the window doesn't hold what is left.
-#[inline(never)]
-fn look_up(
-    scatter: &Scatter,
-    window: &mut Window,
+// A track that is written from an offset on.
+#[derive(Clone, Copy)]
+struct WrittenTrack {
     size: u32,
     start: u64,
-    at: u32,
-    rest: u32,
-) -> Reach
-    requires len { scatter.now.len ≤ 2 ^ 32 }
-    requires some { 1 ≤ rest }
-    requires held { AreHeld scatter.now (at + rest) size (Some start) }
-    ensures reach { Reaches rest size (most size (min max_piece (room_at scatter.now.chunks (start + at * size))) rest) (address_at scatter.now.chunks (start + at * size)) result }
-    ensures window { IsWindow scatter.now window.new }
-{
-    let offset = start + u64::from(at) * u64::from(size);
-    let (address, bytes) = scatter.run(offset, MAX_PIECE);
-    *window = Window {
-        from: offset,
-        to: offset + u64::from(bytes),
-        address,
-    };
-    Reach {
-        address,
-        grains: held_by(bytes, size, rest),
+}
+
+impl WrittenTrack {
+    // How far a piece may reach, where the window doesn't hold what is left.
+    #[inline(never)]
+    fn look_up(self, scatter: &Scatter, window: &mut Window, left: Left) -> Reach
+        requires len { scatter.now.len ≤ 2 ^ 32 }
+        requires some { 1 ≤ left.rest }
+        requires held { AreHeld scatter.now (left.at + left.rest) self.size (Some self.start) }
+        ensures reach { Reaches left.rest self.size (most self.size (min max_piece (room_at scatter.now.chunks (self.start + left.at * self.size))) left.rest) (address_at scatter.now.chunks (self.start + left.at * self.size)) result }
+        ensures window { IsWindow scatter.now window.new }
+    {
+        let offset = self.start + u64::from(left.at) * u64::from(self.size);
+        let (address, bytes) = scatter.run(offset, MAX_PIECE);
+        *window = Window {
+            from: offset,
+            to: offset + u64::from(bytes),
+            address,
+        };
+        Reach {
+            address,
+            grains: held_by(bytes, self.size, left.rest),
+        }
+    }
+
+    // How far a piece may reach.
+    #[inline(always)]
+    fn reach(self, scatter: &Scatter, window: &mut Window, left: Left) -> Reach
+        requires len { scatter.now.len ≤ 2 ^ 32 }
+        requires some { 1 ≤ left.rest }
+        requires held { AreHeld scatter.now (left.at + left.rest) self.size (Some self.start) }
+        requires window { IsWindow scatter.now window.old }
+        ensures reach { Reaches left.rest self.size (most self.size (min max_piece (room_at scatter.now.chunks (self.start + left.at * self.size))) left.rest) (address_at scatter.now.chunks (self.start + left.at * self.size)) result }
+        ensures window { IsWindow scatter.now window.new }
+    {
+        let offset = self.start + u64::from(left.at) * u64::from(self.size);
+        let end = offset + u64::from(left.rest) * u64::from(self.size);
+        if offset < window.from || window.to < end {
+            return self.look_up(scatter, window, left);
+        }
+        Reach {
+            address: window.address + (offset - window.from) as u32,
+            grains: left.rest,
+        }
     }
 }
 
-// A track that is written from an offset on, at grain `at`.
-#[inline(always)]
-fn written(
-    scatter: &Scatter,
-    window: &mut Window,
-    size: u32,
-    start: u64,
-    at: u32,
-    rest: u32,
-) -> Reach
-    requires len { scatter.now.len ≤ 2 ^ 32 }
-    requires some { 1 ≤ rest }
-    requires held { AreHeld scatter.now (at + rest) size (Some start) }
-    requires window { IsWindow scatter.now window.old }
-    ensures reach { Reaches rest size (most size (min max_piece (room_at scatter.now.chunks (start + at * size))) rest) (address_at scatter.now.chunks (start + at * size)) result }
-    ensures window { IsWindow scatter.now window.new }
-{
-    let offset = start + u64::from(at) * u64::from(size);
-    let end = offset + u64::from(rest) * u64::from(size);
-    if offset < window.from || window.to < end {
-        return look_up(scatter, window, size, start, at, rest);
+impl PlaneTrack {
+    // How far a piece may reach where the track isn't written.
+    #[inline(always)]
+    fn unwritten(self, rest: u32) -> Reach
+        ensures { Reaches rest self.size (most self.size max_piece rest) 0 result }
+    {
+        Reach {
+            address: 0,
+            grains: held_by(MAX_PIECE, self.size, rest),
+        }
     }
-    Reach {
-        address: window.address + (offset - window.from) as u32,
-        grains: rest,
-    }
-}
 
-#[inline(always)]
-fn reach_on(
-    scatter: &Scatter,
-    window: &mut Window,
-    track: PlaneTrack,
-    clipped: bool,
-    at: u32,
-    rest: u32,
-) -> Reach
-    requires len { scatter.now.len ≤ 2 ^ 32 }
-    requires some { 1 ≤ rest }
-    requires held { IsHeld scatter.now (at + rest) (track_of track) }
-    requires window { IsWindow scatter.now window.old }
-    ensures window { IsWindow scatter.now window.new }
-    ensures reach { Reaches rest track.size (most_of scatter.now.chunks clipped at rest (track_of track)) (address_of scatter.now.chunks clipped track.size track.start at) result }
-{
-    if clipped {
-        return unwritten_reach(track.size, rest);
-    }
-    match track.start {
-        Some(start) => written(scatter, window, track.size, start, at, rest),
-        None => unwritten_reach(track.size, rest),
+    // How far a piece may reach.
+    #[inline(always)]
+    fn reach(self, scatter: &Scatter, window: &mut Window, clipped: bool, left: Left) -> Reach
+        requires len { scatter.now.len ≤ 2 ^ 32 }
+        requires some { 1 ≤ left.rest }
+        requires held { IsHeld scatter.now (left.at + left.rest) (track_of self) }
+        requires window { IsWindow scatter.now window.old }
+        ensures window { IsWindow scatter.now window.new }
+        ensures reach { Reaches left.rest self.size (most_of scatter.now.chunks clipped left.at left.rest (track_of self)) (address_of scatter.now.chunks clipped self.size self.start left.at) result }
+    {
+        match self.start {
+            Some(start) if !clipped => WrittenTrack {
+                size: self.size,
+                start,
+            }
+            .reach(scatter, window, left),
+            _ => self.unwritten(left.rest),
+        }
     }
 }
 
@@ -296,17 +295,14 @@ fn next_piece(
     ensures some { 1 ≤ result.1 }
     ensures inside { at + result.1 ≤ span.to }
 {
-    let rest = span.to - at;
-    let one = reach_on(scatter, &mut windows.one, line.one, span.clipped, at, rest);
-    let two = reach_on(scatter, &mut windows.two, line.two, span.clipped, at, rest);
-    let three = reach_on(
-        scatter,
-        &mut windows.three,
-        line.three,
-        span.clipped,
+    let left = Left {
         at,
-        rest,
-    );
+        rest: span.to - at,
+    };
+    let clipped = span.clipped;
+    let one = line.one.reach(scatter, &mut windows.one, clipped, left);
+    let two = line.two.reach(scatter, &mut windows.two, clipped, left);
+    let three = line.three.reach(scatter, &mut windows.three, clipped, left);
     let grains = one.grains.min(two.grains).min(three.grains);
     let piece = Piece {
         kind: if span.clipped {

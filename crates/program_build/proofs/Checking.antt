@@ -38,7 +38,8 @@ then_program d e found none same is =
     none_front frame_faults program_faults d none ∙ ap (first_after None program_faults) (sym same) ∙ is
 
 -- where a program's base and end are right, a byte shared with its pages is the fault
-pub on_page : (d e : Desc) (end : ℕ) (fault : BuildFault) → e ≡ d → end ≡ d.base + 4 * length (compiled d).words → None ≡ when (not (is_multiple 4 e.base && nat_le end (2 ^ 32))) ProgramBase → Some fault ≡ when (list_any (is_met e.base end) (memory_of e)) ProgramOnPage → first_after None program_faults d ≡ Some fault
+pub on_page : (d e : Desc) (end : ℕ) (fault : BuildFault) → e ≡ d → end ≡ d.base + 4 * length (compiled d).words → None ≡ when (not (is_multiple 4 e.base && nat_le end (2 ^ 32))) ProgramBase →
+    Some fault ≡ when (list_any (is_met e.base end) (memory_of e)) ProgramOnPage → first_after None program_faults d ≡ Some fault
 on_page d e end fault same ends right shared =
     let first : program_base d ≡ None =
     sym (right

@@ -53,7 +53,8 @@ module _ (d : Desc) (at back : ℕ) (both : d.fields ≡ fields.Both) where
       let bottom = section_long d Bottom back in omega arith
 
   -- the top section, its closing and the bottom section are the whole
-  pub both_whole : (top closed_top all : List ℕ) (jump : Instr) (target : ℕ) → top ≡ open_words d Top → jump ≡ closing Top target → closed_top ≡ top ++ encoded jump → all ≡ closed_top ++ words_of (section d Bottom back) → target ≡ (at + 4 * (length top + 2)) % 2 ^ 32 → AreSections d at back all
+  pub both_whole : (top closed_top all : List ℕ) (jump : Instr) (target : ℕ) → top ≡ open_words d Top → jump ≡ closing Top target → closed_top ≡ top ++ encoded jump →
+      all ≡ closed_top ++ words_of (section d Bottom back) → target ≡ (at + 4 * (length top + 2)) % 2 ^ 32 → AreSections d at back all
   both_whole top closed_top all jump target start leads one two next =
       let closed_top_is : closed_top ≡ words_of (section d Top target) =
       one

@@ -37,7 +37,8 @@ module _ (r : Ring) (is : IsRing r) (number : ℕ) (below : number < r.blocks * 
   pub line_begins : LineLeft old 0
   line_begins = ap (λ (instrs : List Instr). old ++ words_of (last_with last instrs)) (sym (line_is r number))
 
-  pub line_goes_on : (out new : List ℕ) (at n : ℕ) (instr : Instr) → at < r.line_bytes → n ≡ run_length r number at → at + n ≤ r.line_bytes → instr ≡ write_at r number last at n → new ≡ out ++ encoded instr → LineLeft out at → LineLeft new (at + n)
+  pub line_goes_on : (out new : List ℕ) (at n : ℕ) (instr : Instr) → at < r.line_bytes → n ≡ run_length r number at → at + n ≤ r.line_bytes → instr ≡ write_at r number last at n →
+      new ≡ out ++ encoded instr → LineLeft out at → LineLeft new (at + n)
   line_goes_on out new at n instr inside long within same added left =
       fewer_left old out new (write_at r number last at n ∷ []) (last_with last (writes_from r number (at + n))) (last_with last (line_instrs r number))
       (ap (λ (instrs : List Instr). out ++ words_of instrs) (sym (next_write r is number below last at n inside long within)) ∙ left)
@@ -59,7 +60,8 @@ module _ (r : Ring) (is : IsRing r) (block : ℕ) (below : block < r.blocks) (ol
       ap (λ (n : ℕ). old ++ words_of (last_with (mark block) (lines_instrs r n (r.lines - 0)))) first
       ∙ ap (λ (n : ℕ). old ++ words_of (last_with (mark block) (lines_instrs r (block * r.lines) n))) all
 
-  pub block_goes_on : (out new : List ℕ) (n : ℕ) (last : Ctl) → n < r.lines → last ≡ control_at (mark block) (n + 1 == r.lines) → new ≡ out ++ words_of (last_with last (line_instrs r (block * r.lines + n))) → BlockLeft out n → BlockLeft new (n + 1)
+  pub block_goes_on : (out new : List ℕ) (n : ℕ) (last : Ctl) → n < r.lines → last ≡ control_at (mark block) (n + 1 == r.lines) →
+      new ≡ out ++ words_of (last_with last (line_instrs r (block * r.lines + n))) → BlockLeft out n → BlockLeft new (n + 1)
   block_goes_on out new n last inside same added left =
       let within = block_lines block r.lines r.blocks below in
       let next = next_line r is (mark block) (block * r.lines) n r.lines inside within in
@@ -87,7 +89,8 @@ blocks_go_on r block out new added so_far =
     ∙ ap (λ (instrs : List Instr). words_of (opening ∷ instrs)) (sym (next_block r block))
     ∙ ap (blocks_words r) next
 
-pub last_writes_go_on : (r : Ring) (block : ℕ) (out old new : List ℕ) (place : ℕ) → out ≡ blocks_words r (block + 1) → place ≡ r.base + 4 * (length out - 2) → new ≡ old ++ place ∷ [] → old ≡ map (last_write r) (range_with_len 0 block) → new ≡ map (last_write r) (range_with_len 0 (block + 1))
+pub last_writes_go_on : (r : Ring) (block : ℕ) (out old new : List ℕ) (place : ℕ) → out ≡ blocks_words r (block + 1) → place ≡ r.base + 4 * (length out - 2) → new ≡ old ++ place ∷ [] →
+    old ≡ map (last_write r) (range_with_len 0 block) → new ≡ map (last_write r) (range_with_len 0 (block + 1))
 last_writes_go_on r block out old new place words is added so_far =
     let next : block + 1 ≡ suc block = omega arith in
     let here : place ≡ last_write r block = is ∙ ap (λ (w : List ℕ). r.base + 4 * (length w - 2)) (words ∙ ap (blocks_words r) next) in

@@ -27,7 +27,8 @@ use Rattle.ring_compile.specs.declared.fault.RingError.{RingError}
 use Rattle.ring_compile.specs.Kept.{IsFront, IsInBounds, IsJudged, IsKept}
 use Rattle.ring_compile.specs.Writes.{scattered}
 
-pub pages_judged : (r : Ring) (result : Result ScatterList RingError) → IsInBounds r → All (λ page. page < 2 ^ 32) r.pages → ArePages r.pages → IfOk result (λ scatter. scatter ≡ scattered r) → IfOk result IsScatterList → IfOk result (λ _. IsRing r)
+pub pages_judged : (r : Ring) (result : Result ScatterList RingError) → IsInBounds r → All (λ page. page < 2 ^ 32) r.pages → ArePages r.pages → IfOk result (λ scatter. scatter ≡ scattered r) →
+    IfOk result IsScatterList → IfOk result (λ _. IsRing r)
 pages_judged r (Err error) bounds addresses pages list sound = tt
 pages_judged r (Ok scatter) bounds addresses pages list sound =
     record {

@@ -140,13 +140,15 @@ module _ (r : Ring) (is : IsRing r) (ctl : Ctl) where
       ∙ ap (λ (xs : List Instr). xs ++ last_with ctl (lines_instrs r (first + 1) (suc count))) (sym (last_uncontrolled (plan (memory_of r) (line_strip r first))))
 
   -- the next of the lines that are left
-  next_by : (first count : ℕ) (is_last : Bool) → first + suc count ≤ r.blocks * r.lines → (is_last ≡ true → count ≡ 0) → (is_last ≡ false → 0 < count) → last_with ctl (lines_instrs r first (suc count)) ≡ last_with (control_at ctl is_last) (line_instrs r first) ++ last_with ctl (lines_instrs r (first + 1) count)
+  next_by : (first count : ℕ) (is_last : Bool) → first + suc count ≤ r.blocks * r.lines → (is_last ≡ true → count ≡ 0) → (is_last ≡ false → 0 < count) →
+      last_with ctl (lines_instrs r first (suc count)) ≡ last_with (control_at ctl is_last) (line_instrs r first) ++ last_with ctl (lines_instrs r (first + 1) count)
   next_by first zero true within at_last before = last_line first
   next_by first zero false within at_last before = let some = before refl in absurd (omega arith)
   next_by first (suc count) true within at_last before = let none = at_last refl in absurd (omega arith)
   next_by first (suc count) false within at_last before = line_more first count within
 
-  pub next_line : (first n lines : ℕ) → n < lines → first + lines ≤ r.blocks * r.lines → last_with ctl (lines_instrs r (first + n) (lines - n)) ≡ last_with (control_at ctl (n + 1 == lines)) (line_instrs r (first + n)) ++ last_with ctl (lines_instrs r (first + (n + 1)) (lines - (n + 1)))
+  pub next_line : (first n lines : ℕ) → n < lines → first + lines ≤ r.blocks * r.lines →
+      last_with ctl (lines_instrs r (first + n) (lines - n)) ≡ last_with (control_at ctl (n + 1 == lines)) (line_instrs r (first + n)) ++ last_with ctl (lines_instrs r (first + (n + 1)) (lines - (n + 1)))
   next_line first n lines inside within =
       let count : lines - n ≡ suc (lines - (n + 1)) = omega arith in
       let after : first + n + 1 ≡ first + (n + 1) = omega arith in

@@ -47,7 +47,8 @@ end_but text lines rest front last is long left lines_are eight =
     let same : length text ≡ length front = omega arith in
     sym ((bytes_decides (take (length text) lines) text).0 is) ∙ ap (take (length text)) lines_are ∙ ap (λ (n : ℕ). take n (front ++ last)) same ∙ take-append_seam front last
 
-pub end_no : (k : ℕ) (text lines rest front last : List ℕ) → StartsAs k text lines → length rest + length text ≡ length lines → (length rest ≡ 0 → ⊥) → (length rest ≡ 8 → ⊥) → lines ≡ front ++ last → length last ≡ 8 → EndAgrees text front last (agreement.No k)
+pub end_no : (k : ℕ) (text lines rest front last : List ℕ) → StartsAs k text lines → length rest + length text ≡ length lines → (length rest ≡ 0 → ⊥) → (length rest ≡ 8 → ⊥) → lines ≡ front ++ last →
+    length last ≡ 8 → EndAgrees text front last (agreement.No k)
 end_no k text lines rest front last starts long some other lines_are eight =
     let all : length lines ≡ length front + length last = ap length lines_are ∙ length-append front last in (
       subst (StartsAs k text) lines_are starts,
@@ -144,7 +145,8 @@ no_program text d base e is base_is finds some whole begun =
     let start = start_of text d whole begun is some in
     err_ok e start.program (found_program text d base (Err e) finds base_is start)
 
-pub no_agreement : {E : Type 0} (text : List ℕ) (d : Draft) (base : ℕ) (program : RiscProgram) (fill : ℕ) → drafted text ≡ Some d → d.base ≡ Some base → (made : Result RiscProgram E) → made ≡ Ok program → Finds made base d → ((f : ℕ) → d.fill ≡ Some f → fill ≡ f) →
+pub no_agreement : {E : Type 0} (text : List ℕ) (d : Draft) (base : ℕ) (program : RiscProgram) (fill : ℕ) → drafted text ≡ Some d → d.base ≡ Some base → (made : Result RiscProgram E) →
+    made ≡ Ok program → Finds made base d → ((f : ℕ) → d.fill ≡ Some f → fill ≡ f) →
     (n : ℕ) → Agrees text program fill (agreement.No n) → 0 < length text → IsTrue (are_lines text) → BeginsListing text → ⊥
 no_agreement text d base program fill is base_is made made_is finds fill_is n differ some whole begun =
     let start = start_of text d whole begun is some in

@@ -140,12 +140,14 @@ none_wrong text verdict n is told = (rw is at told).1
 
 -- ---- the answer
 
-pub ends_short : (text : List ℕ) (end k : ℕ) (verdict : Verdict) → are_lines (take end text) ≡ true → has_no_newline (drop end text) ≡ true → k ≡ line_count (take end text) → verdict ≡ Begun → Judges (take end text) verdict → EndsShort text k
+pub ends_short : (text : List ℕ) (end k : ℕ) (verdict : Verdict) → are_lines (take end text) ≡ true → has_no_newline (drop end text) ≡ true → k ≡ line_count (take end text) → verdict ≡ Begun →
+    Judges (take end text) verdict → EndsShort text k
 ends_short text end k verdict whole plain number is told =
     let begun = rw is at told in
     record { lines = take end text; rest = drop end text; parts = sym (take-append-drop end text); whole = whole; plain = plain; number = number; begun = begun.0; unfinished = begun.1 }
 
-pub rest_at_fault : (text : List ℕ) (end k : ℕ) (verdict : Verdict) (file : ProgramFile) → end < length text → are_lines (take end text) ≡ true → has_no_newline (drop end text) ≡ true → k ≡ line_count (take end text) + 1 → verdict ≡ Whole file → Judges (take end text) verdict → LineAtFault text k
+pub rest_at_fault : (text : List ℕ) (end k : ℕ) (verdict : Verdict) (file : ProgramFile) → end < length text → are_lines (take end text) ≡ true → has_no_newline (drop end text) ≡ true →
+    k ≡ line_count (take end text) + 1 → verdict ≡ Whole file → Judges (take end text) verdict → LineAtFault text k
 rest_at_fault text end k verdict file more whole plain number is told =
     let long = length-drop end text in
     record {

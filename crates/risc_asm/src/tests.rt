@@ -1,6 +1,7 @@
 use crate::{AsmError, AsmFault, assemble};
+use capture_file::ProgramFile;
 use risc_listing::list;
-use std::alloc::Global;
+use std::alloc::{AllocError, Global};
 use std::test::Fail;
 
 // The program of four instructions, and its listing.
@@ -23,40 +24,47 @@ const LISTING: &[u8] = b"base 00001000\n\
     page 00020000\n\
     fill 00\n";
 
-// The fault of a text; none where it is a listing that is listed again alike.
-fn fault_of(alloc: Global, text: &[u8]) -> Result<Option<AsmFault>, Fail> {
-    match assemble(alloc, text) {
-        Ok(file) => {
-            let again = list(alloc, &file.program, file.fill)?;
-            if again.as_slice() == text {
-                Ok(None)
-            } else {
-                Ok(Some(AsmFault::TooLong))
-            }
-        }
-        Err(AsmError::Bad(fault)) => Ok(Some(fault)),
-        Err(AsmError::Memory) => Ok(Some(AsmFault::TooLong)),
+fn is_listed_as(alloc: Global, file: &ProgramFile, text: &[u8]) -> bool {
+    match list(alloc, &file.program, file.fill) {
+        Ok(again) => again.as_slice() == text,
+        Err(_) => false,
+    }
+}
+
+// Whether a text has this fault. With none it is a listing that is listed again alike.
+fn is_judged(alloc: Global, text: &[u8], want: Option<AsmFault>) -> bool {
+    match (assemble(alloc, text), want) {
+        (Ok(file), None) => is_listed_as(alloc, &file, text),
+        (Err(AsmError::Bad(have)), Some(want)) => have == want,
+        _ => false,
+    }
+}
+
+// Whether a file is the program of four instructions.
+fn has_four_instructions(file: &ProgramFile) -> bool {
+    file.program.words() == WORDS.as_slice()
+        && file.program.base() == 0x1000
+        && file.program.grants().len() == 1
+        && file.fill == 0
+}
+
+fn assembles_four_instructions(alloc: Global) -> bool {
+    match assemble(alloc, LISTING) {
+        Ok(file) => has_four_instructions(&file),
+        Err(_) => false,
     }
 }
 
 #[test]
-fn listings_are_assembled(rt: HostRuntime) -> Result<(), Fail> {
-    match assemble(rt.alloc(), LISTING) {
-        Ok(file) => {
-            assert_eq!(rt; file.program.words(), WORDS.as_slice());
-            assert_eq!(rt; file.program.base(), 0x1000);
-            assert_eq!(rt; file.program.grants().len(), 1);
-            assert_eq!(rt; file.fill, 0);
-        }
-        Err(_) => assert!(rt; false),
-    }
+fn listings_are_assembled(rt: HostRuntime) {
+    assert!(rt; assembles_four_instructions(rt.alloc()));
     let operand = b"base 00001000\n\
         00001000 word 80008004\n\
         00001004 write 4 70000000\n\
         0000100c word 00001004\n\
         page 00020000\n\
         fill 00\n";
-    assert_eq!(rt; fault_of(rt.alloc(), operand)?, None);
+    assert!(rt; is_judged(rt.alloc(), operand, None));
     let all = b"base 00001000\n\
         00001000 write irq set=1 off=f 0 ffffffff\n\
         00001008 skip eol 4095\n\
@@ -70,52 +78,70 @@ fn listings_are_assembled(rt: HostRuntime) -> Result<(), Fail> {
         chunk 00020008 4\n\
         page 00030000\n\
         fill a5\n";
-    assert_eq!(rt; fault_of(rt.alloc(), all)?, None);
-    Ok(())
+    assert!(rt; is_judged(rt.alloc(), all, None));
 }
 
-#[test]
-fn the_first_line_at_fault_is_told(rt: HostRuntime) -> Result<(), Fail> {
-    let order = b"base 00001000\n\
-        00001000 sync vre resync\n\
-        00001008 sync fm1\n\
-        00001010 write sol eol 8 00020000\n\
-        00001018 jump irq reset=e set=1 00001000\n\
-        page 00020000\n\
-        fill 00\n";
-    assert_eq!(rt; fault_of(rt.alloc(), order)?, Some(AsmFault::Line(5)));
-    assert_eq!(rt; fault_of(rt.alloc(), b"")?, Some(AsmFault::Short(0)));
-    assert_eq!(rt;
-        fault_of(rt.alloc(), b"base 0000")?,
-        Some(AsmFault::Short(0))
-    );
+// Texts and their faults.
+const FAULTS: [(&[u8], Option<AsmFault>); 9] = [
+    (
+        b"base 00001000\n\
+            00001000 sync vre resync\n\
+            00001008 sync fm1\n\
+            00001010 write sol eol 8 00020000\n\
+            00001018 jump irq reset=e set=1 00001000\n\
+            page 00020000\n\
+            fill 00\n",
+        Some(AsmFault::Line(5)),
+    ),
+    (b"", Some(AsmFault::Short(0))),
+    (b"base 0000", Some(AsmFault::Short(0))),
     // two words that are an instruction: the second line is at fault
-    let jump = b"base 00001000\n00001000 word 70000000\n00001004 word 00001000\n";
-    assert_eq!(rt; fault_of(rt.alloc(), jump)?, Some(AsmFault::Line(3)));
+    (
+        b"base 00001000\n00001000 word 70000000\n00001004 word 00001000\n",
+        Some(AsmFault::Line(3)),
+    ),
     // a word that is an instruction alone, and one whose second word is missing
-    let skip = b"base 00001000\n00001000 word 20000004\nfill 00\n";
-    assert_eq!(rt; fault_of(rt.alloc(), skip)?, Some(AsmFault::Line(2)));
-    let cut = b"base 00001000\n00001000 word 70000000\nfill 00\n";
-    assert_eq!(rt; fault_of(rt.alloc(), cut)?, None);
+    (
+        b"base 00001000\n00001000 word 20000004\nfill 00\n",
+        Some(AsmFault::Line(2)),
+    ),
+    (b"base 00001000\n00001000 word 70000000\nfill 00\n", None),
     // the newline of the last line, and a line after it
-    let unended = b"base 00001000\npage 00020000\nfill 00";
-    assert_eq!(rt; fault_of(rt.alloc(), unended)?, Some(AsmFault::Short(2)));
-    let more = b"base 00001000\nfill 00\n\n";
-    assert_eq!(rt; fault_of(rt.alloc(), more)?, Some(AsmFault::Line(3)));
-    let rest = b"base 00001000\nfill 00\n ";
-    assert_eq!(rt; fault_of(rt.alloc(), rest)?, Some(AsmFault::Line(3)));
-    Ok(())
-}
+    (
+        b"base 00001000\npage 00020000\nfill 00",
+        Some(AsmFault::Short(2)),
+    ),
+    (b"base 00001000\nfill 00\n\n", Some(AsmFault::Line(3))),
+    (b"base 00001000\nfill 00\n ", Some(AsmFault::Line(3))),
+];
 
 #[test]
-fn chunks_rise_apart_from_the_words(rt: HostRuntime) -> Result<(), Fail> {
-    let falling = b"base 00001000\nchunk 00020008 4\nchunk 00020000 4\nfill 00\n";
-    assert_eq!(rt; fault_of(rt.alloc(), falling)?, Some(AsmFault::Line(3)));
-    let twice = b"base 00001000\npage 00020000\npage 00020000\nfill 00\n";
-    assert_eq!(rt; fault_of(rt.alloc(), twice)?, Some(AsmFault::Line(3)));
-    let own = b"base 00001000\n00001000 skip 4\nchunk 00001000 4\nfill 00\n";
-    assert_eq!(rt; fault_of(rt.alloc(), own)?, Some(AsmFault::Line(3)));
-    // five words told one by one that are an instruction: the line of the fifth is at fault
+fn the_first_line_at_fault_is_told(rt: HostRuntime) {
+    for (i, &(text, fault)) in FAULTS.iter().enumerate() {
+        assert!(rt; is_judged(rt.alloc(), text, fault), "text {i}");
+    }
+}
+
+// Texts whose chunks don't rise or share a byte with the words.
+const CHUNKS: [&[u8]; 3] = [
+    b"base 00001000\nchunk 00020008 4\nchunk 00020000 4\nfill 00\n",
+    b"base 00001000\npage 00020000\npage 00020000\nfill 00\n",
+    b"base 00001000\n00001000 skip 4\nchunk 00001000 4\nfill 00\n",
+];
+
+#[test]
+fn chunks_rise_apart_from_the_words(rt: HostRuntime) {
+    for (i, text) in CHUNKS.iter().enumerate() {
+        assert!(rt;
+            is_judged(rt.alloc(), text, Some(AsmFault::Line(3))),
+            "text {i}"
+        );
+    }
+}
+
+// Five words told one by one that are an instruction: the line of the fifth is at fault.
+#[test]
+fn an_instruction_of_five_words_is_told(rt: HostRuntime) {
     let write = b"base 00001000\n\
         00001000 word 90000004\n\
         00001004 word 00040004\n\
@@ -123,7 +149,30 @@ fn chunks_rise_apart_from_the_words(rt: HostRuntime) -> Result<(), Fail> {
         0000100c word 00020000\n\
         00001010 word 00020000\n\
         fill 00\n";
-    assert_eq!(rt; fault_of(rt.alloc(), write)?, Some(AsmFault::Line(6)));
+    assert!(rt; is_judged(rt.alloc(), write, Some(AsmFault::Line(6))));
+}
+
+// The lines of a program of no words with so many pages, and a last line.
+fn on_pages(alloc: Global, count: u32, last: &str) -> Result<String, AllocError> {
+    let mut text = format!(in alloc; "base 00001000\n")?;
+    for number in 0..count {
+        let page = number.saturating_mul(4096).saturating_add(0x0100_0000);
+        text.push_str(&format!(in alloc; "page {page:08x}\n")?)?;
+    }
+    text.push_str(last)?;
+    Ok(text)
+}
+
+// A contract lets each text be told want of memory, so a page too many is tried.
+#[test]
+fn a_page_too_many_is_at_fault(rt: HostRuntime) -> Result<(), Fail> {
+    let most = on_pages(rt.alloc(), 4096, "fill 00\n")?;
+    assert_eq!(rt; fault_of(rt.alloc(), most.as_bytes())?, None);
+    let more = on_pages(rt.alloc(), 4097, "fill 00\n")?;
+    assert_eq!(rt;
+        fault_of(rt.alloc(), more.as_bytes())?,
+        Some(AsmFault::Line(4098))
+    );
     Ok(())
 }
 
@@ -145,12 +194,17 @@ const WRONG: [&[u8]; 14] = [
     b"fill 0\n",
 ];
 
+// Whether a line is at fault behind the base.
+fn is_wrong(alloc: Global, line: &[u8]) -> Result<bool, AllocError> {
+    let mut text = Vec::from_slice(alloc, b"base 00001000\n")?;
+    text.extend_from_slice(line)?;
+    Ok(is_judged(alloc, &text, Some(AsmFault::Line(2))))
+}
+
 #[test]
 fn lines_that_are_near_a_listing_are_refused(rt: HostRuntime) -> Result<(), Fail> {
-    for line in WRONG {
-        let mut text = Vec::from_slice(rt.alloc(), b"base 00001000\n")?;
-        text.extend_from_slice(line)?;
-        assert_eq!(rt; fault_of(rt.alloc(), &text)?, Some(AsmFault::Line(2)));
+    for (i, line) in WRONG.iter().enumerate() {
+        assert!(rt; is_wrong(rt.alloc(), line)?, "line {i}");
     }
     Ok(())
 }
@@ -189,15 +243,19 @@ fn base_wanted(at: usize, byte: u8) -> AsmFault {
     }
 }
 
+fn is_judged_with(alloc: Global, at: usize, byte: u8) -> Result<bool, AllocError> {
+    let mut text = Vec::from_slice(alloc, SMALL)?;
+    if let Some(place) = text.get_mut(at) {
+        *place = byte;
+    }
+    Ok(is_judged(alloc, &text, wanted(at, byte)))
+}
+
 #[test]
 fn each_byte_counts(rt: HostRuntime) -> Result<(), Fail> {
     for at in 0..SMALL.len() {
         for byte in OTHERS {
-            let mut text = Vec::from_slice(rt.alloc(), SMALL)?;
-            if let Some(place) = text.get_mut(at) {
-                *place = byte;
-            }
-            assert_eq!(rt; fault_of(rt.alloc(), &text)?, wanted(at, byte));
+            assert!(rt; is_judged_with(rt.alloc(), at, byte)?, "{byte} at {at}");
         }
     }
     Ok(())

@@ -73,7 +73,8 @@ control_back ctl rest set_small reset_small missing =
     ∙ ap (λ found. found >>= (λ (reset : ℕ × List ℕ). Some (record { irq = ctl.irq; set = ctl.set; reset = reset.0 }, reset.1))) reset_is
 
 -- another word doesn't begin the control bits
-pub control_not : (other : List ℕ) (ctl : Ctl) (rest : List ℕ) → ((text : List ℕ) → begins other (codes " irq" ++ text) ≡ false) → ((text : List ℕ) → begins other (codes " set=" ++ text) ≡ false) → ((text : List ℕ) → begins other (codes " reset=" ++ text) ≡ false) → begins other rest ≡ false →
+pub control_not : (other : List ℕ) (ctl : Ctl) (rest : List ℕ) → ((text : List ℕ) → begins other (codes " irq" ++ text) ≡ false) → ((text : List ℕ) → begins other (codes " set=" ++ text) ≡ false) →
+    ((text : List ℕ) → begins other (codes " reset=" ++ text) ≡ false) → begins other rest ≡ false →
     begins other (control_then ctl rest) ≡ false
 control_not other ctl rest irq set reset missing =
     let reset_rest = nibble_text (codes " reset=") ctl.reset ++ rest in

@@ -104,7 +104,8 @@ code_back Fm3 rest = refl
 sync_from : Code → Bool × List ℕ → Read Instr
 sync_from waits resync = control resync.1 >>= (λ (ctl : Ctl × List ℕ). Some (Sync ctl.0 resync.0 waits, ctl.1))
 
-sync_back : (ctl : Ctl) (resync : Bool) (waits : Code) (rest : List ℕ) → IsTrue (control_fits ctl) → sync_fields (code_name waits ++ (flag_text (codes " resync") resync ++ control_then ctl (10 ∷ rest))) ≡ Some (Sync ctl resync waits, 10 ∷ rest)
+sync_back : (ctl : Ctl) (resync : Bool) (waits : Code) (rest : List ℕ) → IsTrue (control_fits ctl) →
+    sync_fields (code_name waits ++ (flag_text (codes " resync") resync ++ control_then ctl (10 ∷ rest))) ≡ Some (Sync ctl resync waits, 10 ∷ rest)
 unfolding sync_fields sync_from
 sync_back ctl resync waits rest control_is =
     let parts = control_parts ctl control_is in

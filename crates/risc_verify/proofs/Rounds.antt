@@ -145,7 +145,8 @@ sound-from_repeat program first second apart same fine k =
 
 -- Two places with one pc go on alike up to and with the next JUMP, and after it they are the same.
 
-pcs-agree : (program : RiscProgram) (first second more : ℕ) → (path program first).pc ≡ (path program second).pc → AreFine program (first + more) → AreFine program (second + more) → (path program (first + more)).pc ≡ (path program (second + more)).pc
+pcs-agree : (program : RiscProgram) (first second more : ℕ) → (path program first).pc ≡ (path program second).pc → AreFine program (first + more) → AreFine program (second + more) →
+    (path program (first + more)).pc ≡ (path program (second + more)).pc
 pcs-agree program first second zero same fine_first fine_second = rw (add-zero first, add-zero second) same
 pcs-agree program first second (suc more) same fine_first fine_second =
     rw (add-suc first more, add-suc second more)

@@ -5,6 +5,7 @@ ghost use Rattle.chain_model.specs.Chains.{part_of};
 
 use super::{Chain, ChainError, PartWords, fragment};
 use capture_desc::{Numbers, read_desc};
+use dma_machine::Report;
 use fifo_model::{Entry, Fifo, Queue};
 use irq_status::HostWrite;
 use machine_model::Cause;
@@ -25,6 +26,12 @@ const FIRST: &str = "format = \"y8\"\nwidth = 8\nheight = 1\nfields = \"top\"\np
 const SECOND: &str =
     "format = \"y8\"\nwidth = 8\nheight = 1\nfields = \"top\"\npages = [0x30000]\n";
 
+// The frame of a description.
+fn frame_of(alloc: Global, text: &str) -> Result<Frame, Fail> {
+    let desc = read_desc(alloc, text.as_bytes())?;
+    Ok(Frame::new(alloc, desc)?)
+}
+
 // The part of a description that stands at an address and leads back to another.
 fn part_of(alloc: Global, text: &str, slot: u32, at: u32, back: u32) -> Result<PartWords, Fail>
     ensures { IfOk result (λ part. part.slot ≡ slot) }
@@ -32,8 +39,7 @@ fn part_of(alloc: Global, text: &str, slot: u32, at: u32, back: u32) -> Result<P
     if at % 4 != 0 || at > 0x1000_0000 {
         return Err(Fail::from("no place for a fragment"));
     }
-    let desc = read_desc(alloc, text.as_bytes())?;
-    let frame = Frame::new(alloc, desc)?;
+    let frame = frame_of(alloc, text)?;
     let words = fragment(alloc, &frame, at, back)?;
     Ok(PartWords { slot, words })
 }
@@ -101,6 +107,17 @@ fn counts_from(c: &Chain<MapRam>, chunk: usize, from: u8) -> bool {
     true
 }
 
+// Whether both lines are stored, each on its page.
+fn has_both_lines(c: &Chain<MapRam>) -> bool {
+    let told = Report {
+        turns: 20,
+        moved: 16,
+        overruns: [0, 0, 0, 0],
+        int_stat: 0x1000_0800,
+    };
+    c.report() == told && counts_from(c, 0, 0x10) && counts_from(c, 1, 0x20)
+}
+
 #[test]
 fn a_part_that_is_patched_out_is_finished(rt: HostRuntime) -> Result<(), Fail> {
     let mut c = two_slots::<Brand>(rt.alloc(), Blank::new(1))?;
@@ -113,13 +130,7 @@ fn a_part_that_is_patched_out_is_finished(rt: HostRuntime) -> Result<(), Fail> {
     c.turns(10);
     c.turn();
     c.host(HostWrite::Ack(0));
-    let report = c.report();
-    assert_eq!(rt; report.turns, 20);
-    assert_eq!(rt; report.moved, 16);
-    assert_eq!(rt; report.overruns, [0, 0, 0, 0]);
-    assert_eq!(rt; report.int_stat, 0x1000_0800);
-    assert!(rt; counts_from(&c, 0, 0x10));
-    assert!(rt; counts_from(&c, 1, 0x20));
+    assert!(rt; has_both_lines(&c));
     Ok(())
 }
 
@@ -144,6 +155,10 @@ fn said<L: Ledger>(alloc: Global, words: &[u32], blank: Blank) -> Result<Option<
     }
 }
 
+fn is_said(alloc: Global, words: &[u32], want: Option<ChainError>) -> Result<bool, Fail> {
+    Ok(said::<Brand>(alloc, words, Blank::new(1))? == want)
+}
+
 #[test]
 fn a_part_that_jumps_into_a_slot_is_bad(rt: HostRuntime) -> Result<(), Fail> {
     let bad = ChainError::Bad {
@@ -152,9 +167,7 @@ fn a_part_that_jumps_into_a_slot_is_bad(rt: HostRuntime) -> Result<(), Fail> {
         nth: 2,
         cause: Cause::Reserved(0),
     };
-    let into_operand = said::<Brand>(rt.alloc(), &[0x7000_0000, 0x1004], Blank::new(1))?;
-    assert!(rt; into_operand == Some(bad));
-    let back = said::<Brand>(rt.alloc(), &[0x7000_0000, 0x1008], Blank::new(1))?;
-    assert!(rt; back.is_none());
+    assert!(rt; is_said(rt.alloc(), &[0x7000_0000, 0x1004], Some(bad))?);
+    assert!(rt; is_said(rt.alloc(), &[0x7000_0000, 0x1008], None)?);
     Ok(())
 }

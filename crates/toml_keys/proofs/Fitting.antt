@@ -16,7 +16,8 @@ fitting_fits fits (Some list) (Some members) h =
       | inr bad ↦ (let now = rw bad at h in absurd (cc))
     ]
 
-pub list_fits : {A : Type 0} (typed : Data → Bool) (value : Data → Option A) (fits : List A → Bool) (name : List ℕ) (ms : Members) (read : Option (List A)) → list typed value fits name ms ≡ Ok read → IfSome read (λ members. fits members ≡ true)
+pub list_fits : {A : Type 0} (typed : Data → Bool) (value : Data → Option A) (fits : List A → Bool) (name : List ℕ) (ms : Members) (read : Option (List A)) → list typed value fits name ms ≡ Ok read →
+    IfSome read (λ members. fits members ≡ true)
 list_fits typed value fits name ms read h =
     gone_on (at (list_typed typed) (each value) name ms) (fitting fits) read h (λ found _ rest. fitting_fits fits found read rest)
 

@@ -59,7 +59,8 @@ module _ (is_known : List ℕ → Bool) where
       ]
 
   -- one turn over ascending entries
-  pub next_known : (whole : List (List ℕ)) (before left : List (String Global × Value)) (e : String Global × Value) → before ≡ e ∷ left → is_known (string_bytes e.0) ≡ true → unknown_names is_known (members_view before) ≡ whole → unknown_names is_known (members_view left) ≡ whole
+  pub next_known : (whole : List (List ℕ)) (before left : List (String Global × Value)) (e : String Global × Value) → before ≡ e ∷ left → is_known (string_bytes e.0) ≡ true →
+      unknown_names is_known (members_view before) ≡ whole → unknown_names is_known (members_view left) ≡ whole
   next_known whole before left e turn known so_far =
       let now : unknown_names is_known (members_view (e ∷ left)) ≡ whole = ap (λ es. unknown_names is_known (members_view es)) (sym turn) ∙ so_far in
       rw known at now
@@ -68,7 +69,8 @@ module _ (is_known : List ℕ → Bool) where
   unfolding IsStrictlySortedBy
   next_sorted before left e turn sorted = let now = rw turn at sorted in now.1
 
-  pub next_unknown : (whole : List (List ℕ)) (before left : List (String Global × Value)) (e : String Global × Value) → before ≡ e ∷ left → is_known (string_bytes e.0) ≡ false → unknown_names is_known (members_view before) ≡ whole → IsStrictlySortedBy string_cmp (keys_of before) → Some (string_bytes e.0) ≡ least whole
+  pub next_unknown : (whole : List (List ℕ)) (before left : List (String Global × Value)) (e : String Global × Value) → before ≡ e ∷ left → is_known (string_bytes e.0) ≡ false →
+      unknown_names is_known (members_view before) ≡ whole → IsStrictlySortedBy string_cmp (keys_of before) → Some (string_bytes e.0) ≡ least whole
   unfolding IsStrictlySortedBy
   next_unknown whole before left e turn unknown so_far sorted =
       let now : unknown_names is_known (members_view (e ∷ left)) ≡ whole = ap (λ es. unknown_names is_known (members_view es)) (sym turn) ∙ so_far in

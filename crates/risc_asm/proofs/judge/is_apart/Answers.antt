@@ -1,8 +1,8 @@
-use Rattle.std.proofs.Common.{◌≡◌, ◌↔◌, ℕ, Bool, true, false, not, List, [], refl, sym, ap, subst}
+use Rattle.std.proofs.Common.{◌≡◌, ◌↔◌, ◌+◌, ◌*◌, Bool, true, false, not, List, [], length, refl, sym, ap, subst, ◌∙◌}
 use Rattle.std.specs.Prelude.{IsTrue}
 use Rattle.std.specs.List.{All, list_any}
 use Rattle.std.proofs.lemmas.List.Folds.{list_any_none}
-use Rattle.page_table.specs.Grants.{Chunk}
+use Rattle.page_table.specs.Grants.{Chunk, is_met}
 use Rattle.page_table.proofs.Listed.{none_passes}
 use Rattle.machine_model.specs.Paths.{shares_byte}
 use Rattle.risc_asm.proofs.judge.is_apart.Goals as goal
@@ -16,5 +16,8 @@ apart_if test chunks = (λ h. none_passes test chunks (none_is (list_any test ch
 
 pub returns : goal.returns
 returns c =
-    subst (λ b. IsTrue (not b) ↔ All (λ c2. shares_byte (record { base = c.args.base; words = c.args.words.now; grants = [] }) c2 ≡ false) c.args.grants.now) (sym c.meets.ensures.met)
-    (apart_if (shares_byte (record { base = c.args.base; words = c.args.words.now; grants = [] })) c.args.grants.now)
+    let test : Chunk → Bool = shares_byte (record { base = c.args.base; words = c.args.words.now; grants = [] }) in
+    let end = c.from.ensures in
+    let found : c.meets.result ≡ list_any test c.args.grants.now =
+        c.meets.ensures.met ∙ ap (λ from. list_any (is_met c.args.base (from + 4 * length c.args.words.now)) c.args.grants.now) end in
+    subst (λ b. IsTrue (not b) ↔ All (λ chunk. test chunk ≡ false) c.args.grants.now) (sym found) (apart_if test c.args.grants.now)

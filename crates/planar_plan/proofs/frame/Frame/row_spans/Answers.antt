@@ -17,7 +17,8 @@ spans_in_grains-requires c =
     (runs_within (clipped_at d.clip c.args.row c.unit_pixels.result) d.width 1024 0 c.in_ok-spans.spans right.width.1 c.in_ok-spans.ensures.spans)
 
 -- the spans of a row, in grains
-spans_are : (d : Desc) (row unit : ℕ) (slice spans grains : List Span) → slice ≡ spans → spans ≡ spans_of d.clip row d.width unit → unit ≡ (layout_of d).pixels → grains ≡ map (in_grains (layout_of d)) slice → grains ≡ (row_strip d row).spans
+spans_are : (d : Desc) (row unit : ℕ) (slice spans grains : List Span) → slice ≡ spans → spans ≡ spans_of d.clip row d.width unit → unit ≡ (layout_of d).pixels →
+    grains ≡ map (in_grains (layout_of d)) slice → grains ≡ (row_strip d row).spans
 spans_are d row unit slice spans grains same are whole counted =
     counted ∙ ap (map (in_grains (layout_of d))) (same ∙ are ∙ ap (spans_of d.clip row d.width) whole)
 

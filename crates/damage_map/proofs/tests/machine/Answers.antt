@@ -1,6 +1,6 @@
 use Rattle.std.proofs.Common.{rules}
 use Rattle.page_table.proofs.Memory.{chunks_of-filled}
-use Rattle.damage_map.proofs.tests.mapped.Goals as goal
+use Rattle.damage_map.proofs.tests.machine.Goals as goal
 
 pub new-requires-3-clause-granted : goal.new-requires-3-clause-granted
-new-requires-3-clause-granted g c = search (rules, chunks_of-filled)
+new-requires-3-clause-granted g = search (rules, chunks_of-filled)

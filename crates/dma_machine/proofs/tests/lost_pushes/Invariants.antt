@@ -1,4 +1,0 @@
-use Rattle.dma_machine.proofs.tests.lost_pushes.Given as goal
-
-abbrev pub ghosts-machine : goal.ghosts-machine
-ghosts-machine g a = record { name = a.blank.name; parts = a.blank.parts }

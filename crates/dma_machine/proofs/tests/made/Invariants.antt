@@ -1,0 +1,4 @@
+use Rattle.dma_machine.proofs.tests.made.Given as goal
+
+abbrev pub ghosts-machine : goal.ghosts-machine
+ghosts-machine a = record { name = a.blank.name; parts = a.blank.parts }
