@@ -19,5 +19,5 @@ returns c =
     let test : Chunk → Bool = shares_byte (record { base = c.args.base; words = c.args.words.now; grants = [] }) in
     let end = c.from.ensures in
     let found : c.meets.result ≡ list_any test c.args.grants.now =
-        c.meets.ensures.met ∙ ap (λ from. list_any (is_met c.args.base (from + 4 * length c.args.words.now)) c.args.grants.now) end in
+    c.meets.ensures.met ∙ ap (λ from. list_any (is_met c.args.base (from + 4 * length c.args.words.now)) c.args.grants.now) end in
     subst (λ b. IsTrue (not b) ↔ All (λ chunk. test chunk ≡ false) c.args.grants.now) (sym found) (apart_if test c.args.grants.now)
