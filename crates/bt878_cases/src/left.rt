@@ -50,10 +50,10 @@ impl Left {
         self.desk.output(name) == other.desk.output(name)
     }
 
-    /// Whether the output of this name has these bytes, or isn't there where they are empty.
+    /// Whether the output of this name has these bytes, or isn't there where there are none.
     pub fn has_parts(&self, name: &str, parts: Parts) -> bool {
         match self.desk.output(name) {
-            Some(bytes) => are_parts(bytes, parts),
+            Some(bytes) => !parts.is_empty() && are_parts(bytes, parts),
             None => parts.is_empty(),
         }
     }
