@@ -3,6 +3,7 @@
 
 use crate::calls::{LONG, chained, damaged, ringed};
 use crate::cases::Parts;
+use crate::left::Left;
 use std::alloc::{AllocError, Global};
 use std::test::Fail;
 
@@ -81,111 +82,151 @@ fn picture(alloc: Global, format: &(&str, &str), page: &str) -> Result<String, A
     )
 }
 
-/// A row of 8 bytes and so many pages, one after the other from an address on.
+/// Appends the address of a page to a list of pages.
+fn add_page(text: &mut String, alloc: Global, address: u32) -> Result<(), AllocError> {
+    let page = format!(in alloc; "{address},")?;
+    text.push_str(&page)
+}
+
+/// Appends so many pages, one after the other from an address on.
+fn add_pages(text: &mut String, alloc: Global, count: u32, first: u32) -> Result<(), AllocError> {
+    for page in 0..count {
+        let address = first.saturating_add(page.saturating_mul(4096));
+        add_page(text, alloc, address)?;
+    }
+    Ok(())
+}
+
+/// A row of 8 bytes and so many pages.
 fn on_pages(alloc: Global, count: u32, first: u32) -> Result<String, AllocError> {
     let mut text = format!(in alloc;
         "format = \"y8\"\nwidth = 8\nheight = 1\nfields = \"top\"\npages = ["
     )?;
-    for page in 0..count {
-        let address = first.saturating_add(page.saturating_mul(4096));
-        text.push_str(&format!(in alloc; "{address},")?)?;
-    }
+    add_pages(&mut text, alloc, count, first)?;
     text.push_str("]\n")?;
     Ok(text)
 }
 
+/// Whether `ring` answers and says this on a ring file and a stream, and writes this program and
+/// this image; none where they are empty.
+fn rings(
+    alloc: Global,
+    files: [&[u8]; 2],
+    answer: (u8, &[u8]),
+    program: Parts,
+    image: Parts,
+) -> Result<bool, AllocError> {
+    let [ring, stream] = files;
+    let left = ringed(alloc, ring, stream, &[], LONG)?;
+    Ok(left.has(answer.0, answer.1, image) && left.has_parts("program", program))
+}
+
+/// Whether `chain` answers and says this on two descriptions and a stream, and writes this image;
+/// none where it is empty.
+fn chains(
+    alloc: Global,
+    files: [&[u8]; 3],
+    answer: (u8, &[u8]),
+    image: Parts,
+) -> Result<bool, AllocError> {
+    let [first, second, stream] = files;
+    let left = chained(alloc, first, second, stream, &[], LONG)?;
+    Ok(left.has(answer.0, answer.1, image))
+}
+
+/// Whether `damage` says this of `FIRST` and a stream.
+fn tells_rows(alloc: Global, stream: &[u8], said: &[u8]) -> Result<bool, AllocError> {
+    let left = damaged(alloc, FIRST, stream, &[], LONG)?;
+    Ok(left.says(0, said))
+}
+
 #[test]
 fn a_ring_ends_two_blocks(rt: HostRuntime) -> Result<(), Fail> {
-    let left = ringed(rt.alloc(), RING, RING_STREAM, &[], LONG)?;
     let said = b"blocks 2\nturns 10\nmoved 16\noverruns 0 0 0 0\nstatus 10000800\n";
-    assert!(rt; left.has(0, said, RING_IMAGE));
-    assert!(rt; left.wrote("program", RING_PROGRAM));
+    let program = &[(1, RING_PROGRAM)];
+    let files = [RING, RING_STREAM];
+    assert!(rt; rings(rt.alloc(), files, (0, said), program, RING_IMAGE)?);
     Ok(())
 }
 
 #[test]
 fn a_ring_file_is_refused(rt: HostRuntime) -> Result<(), Fail> {
     let short = b"blocks = 2\nlines = 1\nline_bytes = 4\npages = [0x20000]\n";
-    let left = ringed(rt.alloc(), short, b"BFS1\x00", &[], LONG)?;
-    assert!(rt; left.has(3, b"ring: out of range key line_bytes\n", &[]));
+    let said = b"ring: out of range key line_bytes\n";
+    assert!(rt; rings(rt.alloc(), [short, b"BFS1\x00"], (3, said), &[], &[])?);
     let wide = b"blocks = 3\nlines = 2\nline_bytes = 1000\npages = [0x20000]\n";
-    let left = ringed(rt.alloc(), wide, b"BFS1\x00", &[], LONG)?;
-    assert!(rt; left.has(3, b"ring: too few pages, need 2, have 1\n", &[]));
-    assert!(rt; left.lacks("program"));
+    let said = b"ring: too few pages, need 2, have 1\n";
+    assert!(rt; rings(rt.alloc(), [wide, b"BFS1\x00"], (3, said), &[], &[])?);
     Ok(())
 }
 
 #[test]
 fn a_chain_shows_both_descriptions(rt: HostRuntime) -> Result<(), Fail> {
-    let left = chained(rt.alloc(), FIRST, SECOND, CHAIN_STREAM, &[], LONG)?;
     let said = b"turns 20\nmoved 16\noverruns 0 0 0 0\nstatus 10000800\n";
-    assert!(rt; left.has(0, said, CHAIN_IMAGE));
+    let files = [FIRST, SECOND, CHAIN_STREAM];
+    assert!(rt; chains(rt.alloc(), files, (0, said), CHAIN_IMAGE)?);
     Ok(())
 }
 
 #[test]
 fn a_chain_is_refused(rt: HostRuntime) -> Result<(), Fail> {
-    let left = chained(rt.alloc(), FIRST, FIRST, b"BFS3\x00", &[], LONG)?;
-    assert!(rt; left.has(1, b"chain: shared 0\n", &[]));
-    let left = chained(
-        rt.alloc(),
-        FIRST,
-        SECOND,
-        b"BFS3\x09\x02\x00\x00",
-        &[],
-        LONG,
-    )?;
-    assert!(rt; left.has(3, b"stream file: slot 02 at 5\n", &[]));
-    let left = chained(rt.alloc(), FIRST, SECOND, b"BFS1\x00", &[], LONG)?;
-    assert!(rt; left.has(3, b"stream file: magic at 0\n", &[]));
+    let said = b"chain: shared 0\n";
+    assert!(rt; chains(rt.alloc(), [FIRST, FIRST, b"BFS3\x00"], (1, said), &[])?);
+    let said = b"stream file: slot 02 at 5\n";
+    let files = [FIRST, SECOND, b"BFS3\x09\x02\x00\x00"];
+    assert!(rt; chains(rt.alloc(), files, (3, said), &[])?);
+    let said = b"stream file: magic at 0\n";
+    assert!(rt; chains(rt.alloc(), [FIRST, SECOND, b"BFS1\x00"], (3, said), &[])?);
     Ok(())
 }
 
 #[test]
 fn rows_are_told(rt: HostRuntime) -> Result<(), Fail> {
-    let left = damaged(rt.alloc(), FIRST, b"BFS1\x00", &[], LONG)?;
-    assert!(rt; left.says(0, b"top none\n"));
-    let left = damaged(rt.alloc(), FIRST, RESERVED_STREAM, &[], LONG)?;
-    assert!(rt; left.says(0, b"top 0 of 1\nbad 0\n"));
-    let left = damaged(rt.alloc(), FIRST, EMPTIED_STREAM, &[], LONG)?;
-    assert!(rt; left.says(0, b"top 1 of 1\n"));
+    assert!(rt; tells_rows(rt.alloc(), b"BFS1\x00", b"top none\n")?);
+    assert!(rt; tells_rows(rt.alloc(), RESERVED_STREAM, b"top 0 of 1\nbad 0\n")?);
+    assert!(rt; tells_rows(rt.alloc(), EMPTIED_STREAM, b"top 1 of 1\n")?);
     Ok(())
+}
+
+/// What `chain` leaves of two descriptions over a stream of nothing.
+fn chained_still(alloc: Global, first: &str, second: &str) -> Result<Left, AllocError> {
+    let (first, second) = (first.as_bytes(), second.as_bytes());
+    chained(alloc, first, second, b"BFS3\x00", &[], LONG)
+}
+
+/// Whether pictures of two formats can be shown in turn.
+fn are_paired(
+    alloc: Global,
+    before: &(&str, &str),
+    after: &(&str, &str),
+) -> Result<bool, AllocError> {
+    let first = picture(alloc, before, "0x20000")?;
+    let second = picture(alloc, after, "0x30000")?;
+    let left = chained_still(alloc, &first, &second)?;
+    Ok(left.says(0, b"turns 0\nmoved 0\noverruns 0 0 0 0\nstatus 00000000\n"))
 }
 
 #[test]
 fn every_format_is_paired_with_the_next(rt: HostRuntime) -> Result<(), Fail> {
-    let said = b"turns 0\nmoved 0\noverruns 0 0 0 0\nstatus 00000000\n";
     let mut before = &FORMATS[11];
     for format in &FORMATS {
-        let first = picture(rt.alloc(), before, "0x20000")?;
-        let second = picture(rt.alloc(), format, "0x30000")?;
-        let left = chained(
-            rt.alloc(),
-            first.as_bytes(),
-            second.as_bytes(),
-            b"BFS3\x00",
-            &[],
-            LONG,
-        )?;
-        assert!(rt; left.says(0, said));
+        assert!(rt; are_paired(rt.alloc(), before, format)?);
         before = format;
     }
     Ok(())
 }
 
+/// Whether a chain of descriptions of so many pages each is refused.
+fn are_too_many(alloc: Global, first: u32, second: u32) -> Result<bool, AllocError> {
+    let first = on_pages(alloc, first, 0x1000_0000)?;
+    let second = on_pages(alloc, second, 0x2000_0000)?;
+    let left = chained_still(alloc, &first, &second)?;
+    Ok(left.has(1, b"chain: too many\n", &[]))
+}
+
 /// Both descriptions have 4,096 pages together at most.
 #[test]
 fn a_chain_of_too_many_pages_is_refused(rt: HostRuntime) -> Result<(), Fail> {
-    let first = on_pages(rt.alloc(), 2049, 0x1000_0000)?;
-    let second = on_pages(rt.alloc(), 2048, 0x2000_0000)?;
-    let left = chained(
-        rt.alloc(),
-        first.as_bytes(),
-        second.as_bytes(),
-        b"BFS3\x00",
-        &[],
-        LONG,
-    )?;
-    assert!(rt; left.has(1, b"chain: too many\n", &[]));
+    assert!(rt; are_too_many(rt.alloc(), 2049, 2048)?);
     Ok(())
 }

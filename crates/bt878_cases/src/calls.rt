@@ -1,16 +1,45 @@
 // Each command, called on a desk with its files. A call of the desk whose number is in `failing` fails, and a call
 // moves at most `longest` bytes.
+ghost use Rattle.std.specs.Prelude.{◌≡◌, [], Some};
+ghost use Rattle.bt878_words.specs.Words.{inputs_of, outputs_of};
+ghost use Rattle.bt878_contract.specs.Clauses.{SameNames};
+ghost use Rattle.bt878_contract.specs.Tasks.{AreNames, texts};
+ghost use Rattle.capture_desk.specs.Memory.{all_told};
 
-use crate::desks::{
-    chain_desk, damage_desk, description_desk, field_desk, program_desk, ring_desk, run_desk,
-    text_desk,
-};
+use crate::desks::{Limits, desk_of};
 use crate::left::Left;
 use bt878_top::bt878;
+use capture_desk::{Desk, MemDesk};
 use std::alloc::{AllocError, Global};
 
 /// The most bytes that a call moves where that is not what is tested.
 pub const LONG: usize = 65536;
+
+/// The status with which the program ends.
+pub fn status_of<D: Desk>(alloc: Global, words: &[&str], desk: &mut D) -> u8
+    requires opens { AreNames (inputs_of (texts words.now)) (D.seen desk.old).told.may_open }
+    requires creates { AreNames (outputs_of (texts words.now)) (D.seen desk.old).told.may_create }
+    ensures names { SameNames (D.seen desk.old).told (D.seen desk.new).told }
+{
+    bt878(alloc, words, desk).status()
+}
+
+/// What the program leaves of a desk with its inputs, of these contents, and its outputs.
+pub fn left_by(
+    alloc: Global,
+    words: &[&str],
+    inputs: &[&str],
+    contents: &[&[u8]],
+    outputs: &[&str],
+    limits: Limits,
+) -> Result<Left, AllocError>
+    requires opens { AreNames (inputs_of (texts words.now)) (Some (texts inputs.now)) }
+    requires creates { AreNames (outputs_of (texts words.now)) (Some (texts outputs.now)) }
+{
+    let mut desk = desk_of(alloc, inputs, contents, outputs, limits)?;
+    let status = status_of(alloc, words, &mut desk);
+    Ok(Left { status, desk })
+}
 
 pub fn listed(
     alloc: Global,
@@ -18,12 +47,10 @@ pub fn listed(
     failing: &[u64],
     longest: usize,
 ) -> Result<Left, AllocError> {
-    let mut desk = program_desk(alloc, program, failing, longest)?;
-    let answer = bt878(alloc, &["list", "program"], &mut desk);
-    Ok(Left {
-        status: answer.status(),
-        desk,
-    })
+    let words = ["list", "program"];
+    let files = [program];
+    let limits = Limits::new(failing, longest, 5000);
+    left_by(alloc, &words, &words[1..], &files, &[], limits)
 }
 
 pub fn judged(
@@ -32,12 +59,10 @@ pub fn judged(
     failing: &[u64],
     longest: usize,
 ) -> Result<Left, AllocError> {
-    let mut desk = program_desk(alloc, program, failing, longest)?;
-    let answer = bt878(alloc, &["verify", "program"], &mut desk);
-    Ok(Left {
-        status: answer.status(),
-        desk,
-    })
+    let words = ["verify", "program"];
+    let files = [program];
+    let limits = Limits::new(failing, longest, 5000);
+    left_by(alloc, &words, &words[1..], &files, &[], limits)
 }
 
 pub fn assembled(
@@ -46,12 +71,10 @@ pub fn assembled(
     failing: &[u64],
     longest: usize,
 ) -> Result<Left, AllocError> {
-    let mut desk = text_desk(alloc, text, failing, longest)?;
-    let answer = bt878(alloc, &["assemble", "text", "program"], &mut desk);
-    Ok(Left {
-        status: answer.status(),
-        desk,
-    })
+    let words = ["assemble", "text", "program"];
+    let files = [text];
+    let limits = Limits::new(failing, longest, 1000);
+    left_by(alloc, &words, &words[1..2], &files, &words[2..], limits)
 }
 
 pub fn played(
@@ -61,12 +84,10 @@ pub fn played(
     failing: &[u64],
     longest: usize,
 ) -> Result<Left, AllocError> {
-    let mut desk = run_desk(alloc, program, stream, failing, longest.max(1))?;
-    let answer = bt878(alloc, &["run", "program", "stream", "image"], &mut desk);
-    Ok(Left {
-        status: answer.status(),
-        desk,
-    })
+    let words = ["run", "program", "stream", "image"];
+    let files = [program, stream];
+    let limits = Limits::new(failing, longest, 5000);
+    left_by(alloc, &words, &words[1..3], &files, &words[3..], limits)
 }
 
 pub fn compiled(
@@ -76,12 +97,10 @@ pub fn compiled(
     longest: usize,
     room: usize,
 ) -> Result<Left, AllocError> {
-    let mut desk = description_desk(alloc, description, failing, longest, room)?;
-    let answer = bt878(alloc, &["compile", "description", "out"], &mut desk);
-    Ok(Left {
-        status: answer.status(),
-        desk,
-    })
+    let words = ["compile", "description", "out"];
+    let files = [description];
+    let limits = Limits::new(failing, longest, room);
+    left_by(alloc, &words, &words[1..2], &files, &words[2..], limits)
 }
 
 /// One frame of seed 1.
@@ -92,12 +111,10 @@ pub fn made(
     longest: usize,
     room: usize,
 ) -> Result<Left, AllocError> {
-    let mut desk = description_desk(alloc, description, failing, longest, room)?;
-    let answer = bt878(alloc, &["make", "description", "1", "1", "out"], &mut desk);
-    Ok(Left {
-        status: answer.status(),
-        desk,
-    })
+    let words = ["make", "description", "1", "1", "out"];
+    let files = [description];
+    let limits = Limits::new(failing, longest, room);
+    left_by(alloc, &words, &words[1..2], &files, &words[4..], limits)
 }
 
 pub fn captured(
@@ -108,13 +125,10 @@ pub fn captured(
     longest: usize,
     room: usize,
 ) -> Result<Left, AllocError> {
-    let mut desk = field_desk(alloc, description, stream, failing, longest, room)?;
     let words = ["capture", "description", "stream", "program", "image"];
-    let answer = bt878(alloc, &words, &mut desk);
-    Ok(Left {
-        status: answer.status(),
-        desk,
-    })
+    let files = [description, stream];
+    let limits = Limits::new(failing, longest, room);
+    left_by(alloc, &words, &words[1..3], &files, &words[3..], limits)
 }
 
 pub fn ringed(
@@ -124,16 +138,10 @@ pub fn ringed(
     failing: &[u64],
     longest: usize,
 ) -> Result<Left, AllocError> {
-    let mut desk = ring_desk(alloc, ring, stream, failing, longest)?;
-    let answer = bt878(
-        alloc,
-        &["ring", "ring", "stream", "program", "image"],
-        &mut desk,
-    );
-    Ok(Left {
-        status: answer.status(),
-        desk,
-    })
+    let words = ["ring", "ring", "stream", "program", "image"];
+    let files = [ring, stream];
+    let limits = Limits::new(failing, longest, 10_000);
+    left_by(alloc, &words, &words[1..3], &files, &words[3..], limits)
 }
 
 pub fn chained(
@@ -144,16 +152,10 @@ pub fn chained(
     failing: &[u64],
     longest: usize,
 ) -> Result<Left, AllocError> {
-    let mut desk = chain_desk(alloc, first, second, stream, failing, longest)?;
-    let answer = bt878(
-        alloc,
-        &["chain", "first", "second", "stream", "image"],
-        &mut desk,
-    );
-    Ok(Left {
-        status: answer.status(),
-        desk,
-    })
+    let words = ["chain", "first", "second", "stream", "image"];
+    let files = [first, second, stream];
+    let limits = Limits::new(failing, longest, 10_000);
+    left_by(alloc, &words, &words[1..4], &files, &words[4..], limits)
 }
 
 pub fn damaged(
@@ -163,10 +165,20 @@ pub fn damaged(
     failing: &[u64],
     longest: usize,
 ) -> Result<Left, AllocError> {
-    let mut desk = damage_desk(alloc, description, stream, failing, longest)?;
-    let answer = bt878(alloc, &["damage", "description", "stream"], &mut desk);
-    Ok(Left {
-        status: answer.status(),
-        desk,
-    })
+    let words = ["damage", "description", "stream"];
+    let files = [description, stream];
+    let limits = Limits::new(failing, longest, 1000);
+    left_by(alloc, &words, &words[1..], &files, &[], limits)
+}
+
+/// Whether the words are at fault, on a desk that has no files.
+pub fn is_at_fault(alloc: Global, words: &[&str], desk: &mut MemDesk) -> bool
+    requires no_inputs { inputs_of (texts words.now) ≡ [] }
+    requires no_outputs { outputs_of (texts words.now) ≡ [] }
+    requires opens { (all_told desk.old).may_open ≡ Some [] }
+    requires creates { (all_told desk.old).may_create ≡ Some [] }
+    ensures opens { (all_told desk.new).may_open ≡ Some [] }
+    ensures creates { (all_told desk.new).may_create ≡ Some [] }
+{
+    status_of(alloc, words, desk) == 2
 }

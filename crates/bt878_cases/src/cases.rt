@@ -10,13 +10,20 @@ pub struct Judged {
     pub said: &'static [u8],
 }
 
-/// A program file and a stream file that are run. `image` is empty where no image is created.
+/// A program file and a stream file that are run.
 pub struct Played {
+    pub program: &'static [u8],
+    pub stream: Parts,
+    pub said: &'static [u8],
+    pub image: Parts,
+}
+
+/// A program file and a stream file of which one is at fault.
+pub struct Unplayed {
     pub program: &'static [u8],
     pub stream: Parts,
     pub status: u8,
     pub said: &'static [u8],
-    pub image: Parts,
 }
 
 /// The program of a line of 8 bytes: SYNC VRE, SYNC FM1, WRITE, JUMP with interrupt.
@@ -26,6 +33,18 @@ pub const ONE_LINE: &[u8] =
 /// A field of that line on queue 1, then nine turns.
 pub const ONE_LINE_STREAM: &[u8] =
     b"BFS1\x04\x04\x04\x06\x01\x02\x10\x11\x12\x13\x01\x01\x14\x15\x16\x17\x05\x09\x00\x00\x00\x00";
+
+/// What `run` says of it.
+pub const ONE_LINE_REPORT: &[u8] = b"turns 9\nmoved 8\noverruns 0 0 0 0\nstatus 10000800\n";
+
+/// The page that it leaves.
+pub const ONE_LINE_IMAGE: Parts = &[
+    (
+        1,
+        b"BMI1\x01\x00\x00\x00\x00\x00\x02\x00\x10\x11\x12\x13\x14\x15\x16\x17",
+    ),
+    (4088, b"\x00"),
+];
 
 /// What `list` says of it.
 pub const ONE_LINE_LISTING: &[u8] =
@@ -171,29 +190,18 @@ pub static JUDGED: [Judged; 13] = [
 ];
 
 /// What `run` says and writes.
-pub static PLAYED: [Played; 31] = [
+static PLAYED: [Played; 11] = [
     // a line is stored and signalled
     Played {
         program: ONE_LINE,
-        stream: &[(
-            1,
-            b"BFS1\x04\x04\x04\x06\x01\x02\x10\x11\x12\x13\x01\x01\x14\x15\x16\x17\x05\x09\x00\x00\x00\x00",
-        )],
-        status: 0,
-        said: b"turns 9\nmoved 8\noverruns 0 0 0 0\nstatus 10000800\n",
-        image: &[
-            (
-                1,
-                b"BMI1\x01\x00\x00\x00\x00\x00\x02\x00\x10\x11\x12\x13\x14\x15\x16\x17",
-            ),
-            (4088, b"\x00"),
-        ],
+        stream: &[(1, ONE_LINE_STREAM)],
+        said: ONE_LINE_REPORT,
+        image: ONE_LINE_IMAGE,
     },
     // an empty stream changes nothing
     Played {
         program: ONE_LINE,
         stream: &[(1, b"BFS1\x00")],
-        status: 0,
         said: b"turns 0\nmoved 0\noverruns 0 0 0 0\nstatus 00000000\n",
         image: &[(1, b"BMI1\x01\x00\x00\x00\x00\x00\x02"), (4097, b"\x00")],
     },
@@ -205,7 +213,6 @@ pub static PLAYED: [Played; 31] = [
             (71, b"\x01\x00\xa0\xa1\xa2\xa3"),
             (1, b"\x00"),
         ],
-        status: 0,
         said: b"turns 0\nmoved 0\noverruns 1 0 0 0\nstatus 00001000\n",
         image: &[(1, b"BMI1\x01\x00\x00\x00\x00\x00\x02"), (4097, b"\x00")],
     },
@@ -217,47 +224,8 @@ pub static PLAYED: [Played; 31] = [
             (35, b"\x02\x00\xa0\xa1\xa2\xa3"),
             (1, b"\x04\x04\x05(\x00\x00\x00\x00"),
         ],
-        status: 0,
         said: b"turns 40\nmoved 0\noverruns 0 0 0 1\nstatus 00001000\n",
         image: &[(1, b"BMI1\x01\x00\x00\x00\x00\x00\x02"), (4097, b"\x00")],
-    },
-    // an unsound program does not run
-    Played {
-        program: b"BRP1\x00\x10\x00\x00\x04\x00\x00\x00\x04\x80\x00\x80\x04\x00\x00\x10\x00\x00\x00p\x04\x10\x00\x00\x01\x00\x00\x00\x00\x00\x02\x00\x00",
-        stream: &[(1, b"BFS1\x00")],
-        status: 1,
-        said: b"rejected at 00001004, step 2: ungranted 70000000\n",
-        image: &[],
-    },
-    // no byte may follow the end record
-    Played {
-        program: ONE_LINE,
-        stream: &[(
-            1,
-            b"BFS1\x04\x04\x04\x06\x01\x02\x10\x11\x12\x13\x01\x01\x14\x15\x16\x17\x05\x09\x00\x00\x00\x00\x00",
-        )],
-        status: 3,
-        said: b"stream file: after end at 26\n",
-        image: &[],
-    },
-    // a status is below 16
-    Played {
-        program: ONE_LINE,
-        stream: &[(
-            1,
-            b"BFS1\x04\x04\x04\x06\x01\x10\x10\x11\x12\x13\x01\x01\x14\x15\x16\x17\x05\x09\x00\x00\x00\x00",
-        )],
-        status: 3,
-        said: b"stream file: status 10 at 9\n",
-        image: &[],
-    },
-    // the turns are limited
-    Played {
-        program: ONE_LINE,
-        stream: &[(1, b"BFS1\x05\x01\x00\x00@\x00")],
-        status: 3,
-        said: b"stream file: too many turns at 5\n",
-        image: &[],
     },
     // lanes that are off are not stored
     Played {
@@ -266,7 +234,6 @@ pub static PLAYED: [Played; 31] = [
             1,
             b"BFS1\x04\x04\x04\x06\x01\x02\x10\x11\x12\x13\x01\x01\x14\x15\x16\x17\x05\x09\x00\x00\x00\x00",
         )],
-        status: 0,
         said: b"turns 9\nmoved 4\noverruns 0 0 0 0\nstatus 00000000\n",
         image: &[
             (
@@ -283,7 +250,6 @@ pub static PLAYED: [Played; 31] = [
             1,
             b"BFS1\x04\x04\x04\x06\x05\x05\x00\x00\x00\x07\x00\x01\x02\x10\x11\x12\x13\x07\x03\x05\x02\x00\x00\x00\x00",
         )],
-        status: 0,
         said: b"turns 7\nmoved 0\noverruns 0 0 0 0\nstatus 00000000\n",
         image: &[(1, b"BMI1\x01\x00\x00\x00\x00\x00\x02"), (4097, b"\x00")],
     },
@@ -294,7 +260,6 @@ pub static PLAYED: [Played; 31] = [
             1,
             b"BFS1\x04\x04\x04\x06\x01\x02\x10\x11\x12\x13\x01\x03\xa0\xa1\xa2\xa3\x01\x01\x14\x15\x16\x17\x05\n\x00\x00\x00\x00",
         )],
-        status: 0,
         said: b"turns 10\nmoved 8\noverruns 0 0 0 0\nstatus 10004800\n",
         image: &[
             (
@@ -311,7 +276,6 @@ pub static PLAYED: [Played; 31] = [
             1,
             b"BFS1\x04\x04\x04\x0e\x01\x02\x10\x11\x12\x13\x01\x01\x14\x15\x16\x17\x02\x02 !\x22#\x02\x01$%&'\x03\x020123\x03\x014567\x05\x0d\x00\x00\x00\x00",
         )],
-        status: 0,
         said: b"turns 13\nmoved 24\noverruns 0 0 0 0\nstatus 10000800\n",
         image: &[
             (
@@ -325,126 +289,6 @@ pub static PLAYED: [Played; 31] = [
             (3576, b"\x00"),
         ],
     },
-    // a program begins with its word
-    Played {
-        program: b"ARP1\x00\x10\x00\x00\x08\x00\x00\x00\x04\x80\x00\x80\x00\x00\x00\x00\x06\x00\x00\x80\x00\x00\x00\x00\x08\x00\x00\x1c\x00\x00\x02\x00\x00\x00\xe1q\x00\x10\x00\x00\x01\x00\x00\x00\x00\x00\x02\x00\x00",
-        stream: &[(
-            1,
-            b"BFS1\x04\x04\x04\x06\x01\x02\x10\x11\x12\x13\x01\x01\x14\x15\x16\x17\x05\x09\x00\x00\x00\x00",
-        )],
-        status: 3,
-        said: b"program file: magic at 0\n",
-        image: &[],
-    },
-    // the base is a multiple of 4
-    Played {
-        program: b"BRP1\x01\x10\x00\x00\x08\x00\x00\x00\x04\x80\x00\x80\x00\x00\x00\x00\x06\x00\x00\x80\x00\x00\x00\x00\x08\x00\x00\x1c\x00\x00\x02\x00\x00\x00\xe1q\x00\x10\x00\x00\x01\x00\x00\x00\x00\x00\x02\x00\x00",
-        stream: &[(
-            1,
-            b"BFS1\x04\x04\x04\x06\x01\x02\x10\x11\x12\x13\x01\x01\x14\x15\x16\x17\x05\x09\x00\x00\x00\x00",
-        )],
-        status: 3,
-        said: b"program file: base at 4\n",
-        image: &[],
-    },
-    // the number of words is limited
-    Played {
-        program: b"BRP1\x00\x10\x00\x00\xff\xff\xff\xff\x04\x80\x00\x80\x00\x00\x00\x00\x06\x00\x00\x80\x00\x00\x00\x00\x08\x00\x00\x1c\x00\x00\x02\x00\x00\x00\xe1q\x00\x10\x00\x00\x01\x00\x00\x00\x00\x00\x02\x00\x00",
-        stream: &[(
-            1,
-            b"BFS1\x04\x04\x04\x06\x01\x02\x10\x11\x12\x13\x01\x01\x14\x15\x16\x17\x05\x09\x00\x00\x00\x00",
-        )],
-        status: 3,
-        said: b"program file: count at 8\n",
-        image: &[],
-    },
-    // the number of pages is limited
-    Played {
-        program: b"BRP1\x00\x10\x00\x00\x08\x00\x00\x00\x04\x80\x00\x80\x00\x00\x00\x00\x06\x00\x00\x80\x00\x00\x00\x00\x08\x00\x00\x1c\x00\x00\x02\x00\x00\x00\xe1q\x00\x10\x00\x00\x01\x10\x00\x00\x00\x00\x02\x00\x00",
-        stream: &[(
-            1,
-            b"BFS1\x04\x04\x04\x06\x01\x02\x10\x11\x12\x13\x01\x01\x14\x15\x16\x17\x05\x09\x00\x00\x00\x00",
-        )],
-        status: 3,
-        said: b"program file: count at 44\n",
-        image: &[],
-    },
-    // a page is a multiple of 4,096
-    Played {
-        program: b"BRP1\x00\x10\x00\x00\x08\x00\x00\x00\x04\x80\x00\x80\x00\x00\x00\x00\x06\x00\x00\x80\x00\x00\x00\x00\x08\x00\x00\x1c\x00\x00\x02\x00\x00\x00\xe1q\x00\x10\x00\x00\x01\x00\x00\x00\x04\x00\x02\x00\x00",
-        stream: &[(
-            1,
-            b"BFS1\x04\x04\x04\x06\x01\x02\x10\x11\x12\x13\x01\x01\x14\x15\x16\x17\x05\x09\x00\x00\x00\x00",
-        )],
-        status: 3,
-        said: b"program file: page at 48\n",
-        image: &[],
-    },
-    // a page shares no byte with the program
-    Played {
-        program: b"BRP1\x00\x10\x00\x00\x08\x00\x00\x00\x04\x80\x00\x80\x00\x00\x00\x00\x06\x00\x00\x80\x00\x00\x00\x00\x08\x00\x00\x1c\x00\x00\x02\x00\x00\x00\xe1q\x00\x10\x00\x00\x01\x00\x00\x00\x00\x10\x00\x00\x00",
-        stream: &[(
-            1,
-            b"BFS1\x04\x04\x04\x06\x01\x02\x10\x11\x12\x13\x01\x01\x14\x15\x16\x17\x05\x09\x00\x00\x00\x00",
-        )],
-        status: 3,
-        said: b"program file: overlap at 48\n",
-        image: &[],
-    },
-    // pages rise
-    Played {
-        program: b"BRP1\x00\x10\x00\x00\x08\x00\x00\x00\x04\x80\x00\x80\x00\x00\x00\x00\x06\x00\x00\x80\x00\x00\x00\x00\x08\x00\x00\x1c\x00\x00\x02\x00\x00\x00\xe1q\x00\x10\x00\x00\x02\x00\x00\x00\x00\x00\x02\x00\x00\x00\x02\x00\x00",
-        stream: &[(
-            1,
-            b"BFS1\x04\x04\x04\x06\x01\x02\x10\x11\x12\x13\x01\x01\x14\x15\x16\x17\x05\x09\x00\x00\x00\x00",
-        )],
-        status: 3,
-        said: b"program file: order at 52\n",
-        image: &[],
-    },
-    // no byte may follow the fill
-    Played {
-        program: b"BRP1\x00\x10\x00\x00\x08\x00\x00\x00\x04\x80\x00\x80\x00\x00\x00\x00\x06\x00\x00\x80\x00\x00\x00\x00\x08\x00\x00\x1c\x00\x00\x02\x00\x00\x00\xe1q\x00\x10\x00\x00\x01\x00\x00\x00\x00\x00\x02\x00\x00\x00",
-        stream: &[(
-            1,
-            b"BFS1\x04\x04\x04\x06\x01\x02\x10\x11\x12\x13\x01\x01\x14\x15\x16\x17\x05\x09\x00\x00\x00\x00",
-        )],
-        status: 3,
-        said: b"program file: after end at 53\n",
-        image: &[],
-    },
-    // a tag is known
-    Played {
-        program: ONE_LINE,
-        stream: &[(1, b"BFS1\n")],
-        status: 3,
-        said: b"stream file: tag 0a at 4\n",
-        image: &[],
-    },
-    // a control code is known
-    Played {
-        program: ONE_LINE,
-        stream: &[(1, b"BFS1\x04\x03")],
-        status: 3,
-        said: b"stream file: code 03 at 5\n",
-        image: &[],
-    },
-    // a data push is no control code
-    Played {
-        program: ONE_LINE,
-        stream: &[(1, b"BFS1\x01\x04")],
-        status: 3,
-        said: b"stream file: status 04 at 5\n",
-        image: &[],
-    },
-    // enables are below 4
-    Played {
-        program: ONE_LINE,
-        stream: &[(1, b"BFS1\x07\x04")],
-        status: 3,
-        said: b"stream file: enable 04 at 5\n",
-        image: &[],
-    },
     // a burst takes a whole line
     Played {
         program: ONE_LINE,
@@ -452,7 +296,6 @@ pub static PLAYED: [Played; 31] = [
             1,
             b"BFS2\x04\x04\x04\x06\x01\x02\x10\x11\x12\x13\x01\x01\x14\x15\x16\x17\x05\x08\x00\x00\x00\x00",
         )],
-        status: 0,
         said: b"turns 8\nmoved 8\noverruns 0 0 0 0\nstatus 10000800\n",
         image: &[
             (
@@ -469,25 +312,8 @@ pub static PLAYED: [Played; 31] = [
             1,
             b"BFS2\x04\x04\x04\x06\x01\x02\x10\x11\x12\x13\x05\x06\x00\x00\x00\x00",
         )],
-        status: 0,
         said: b"turns 6\nmoved 0\noverruns 0 0 0 0\nstatus 00000000\n",
         image: &[(1, b"BMI1\x01\x00\x00\x00\x00\x00\x02"), (4097, b"\x00")],
-    },
-    // a trigger point is below 4
-    Played {
-        program: ONE_LINE,
-        stream: &[(1, b"BFS2\x08\x04\x00")],
-        status: 3,
-        said: b"stream file: trigger 04 at 5\n",
-        image: &[],
-    },
-    // BFS1 has no trigger record
-    Played {
-        program: ONE_LINE,
-        stream: &[(1, b"BFS1\x08\x00\x00")],
-        status: 3,
-        said: b"stream file: tag 08 at 4\n",
-        image: &[],
     },
     // memory may be chunks
     Played {
@@ -496,15 +322,174 @@ pub static PLAYED: [Played; 31] = [
             1,
             b"BFS1\x04\x04\x04\x06\x01\x02\x10\x11\x12\x13\x01\x01\x14\x15\x16\x17\x05\x09\x00\x00\x00\x00",
         )],
-        status: 0,
         said: b"turns 9\nmoved 8\noverruns 0 0 0 0\nstatus 10000800\n",
         image: &[(
             1,
             b"BMI2\x01\x00\x00\x00\x04\x00\x02\x00\x08\x00\x00\x00\x10\x11\x12\x13\x14\x15\x16\x17",
         )],
     },
+];
+
+/// What `run` says of files that are at fault.
+static UNPLAYED: [Unplayed; 20] = [
+    // an unsound program does not run
+    Unplayed {
+        program: b"BRP1\x00\x10\x00\x00\x04\x00\x00\x00\x04\x80\x00\x80\x04\x00\x00\x10\x00\x00\x00p\x04\x10\x00\x00\x01\x00\x00\x00\x00\x00\x02\x00\x00",
+        stream: &[(1, b"BFS1\x00")],
+        status: 1,
+        said: b"rejected at 00001004, step 2: ungranted 70000000\n",
+    },
+    // no byte may follow the end record
+    Unplayed {
+        program: ONE_LINE,
+        stream: &[(
+            1,
+            b"BFS1\x04\x04\x04\x06\x01\x02\x10\x11\x12\x13\x01\x01\x14\x15\x16\x17\x05\x09\x00\x00\x00\x00\x00",
+        )],
+        status: 3,
+        said: b"stream file: after end at 26\n",
+    },
+    // a status is below 16
+    Unplayed {
+        program: ONE_LINE,
+        stream: &[(
+            1,
+            b"BFS1\x04\x04\x04\x06\x01\x10\x10\x11\x12\x13\x01\x01\x14\x15\x16\x17\x05\x09\x00\x00\x00\x00",
+        )],
+        status: 3,
+        said: b"stream file: status 10 at 9\n",
+    },
+    // the turns are limited
+    Unplayed {
+        program: ONE_LINE,
+        stream: &[(1, b"BFS1\x05\x01\x00\x00@\x00")],
+        status: 3,
+        said: b"stream file: too many turns at 5\n",
+    },
+    // a program begins with its word
+    Unplayed {
+        program: b"ARP1\x00\x10\x00\x00\x08\x00\x00\x00\x04\x80\x00\x80\x00\x00\x00\x00\x06\x00\x00\x80\x00\x00\x00\x00\x08\x00\x00\x1c\x00\x00\x02\x00\x00\x00\xe1q\x00\x10\x00\x00\x01\x00\x00\x00\x00\x00\x02\x00\x00",
+        stream: &[(
+            1,
+            b"BFS1\x04\x04\x04\x06\x01\x02\x10\x11\x12\x13\x01\x01\x14\x15\x16\x17\x05\x09\x00\x00\x00\x00",
+        )],
+        status: 3,
+        said: b"program file: magic at 0\n",
+    },
+    // the base is a multiple of 4
+    Unplayed {
+        program: b"BRP1\x01\x10\x00\x00\x08\x00\x00\x00\x04\x80\x00\x80\x00\x00\x00\x00\x06\x00\x00\x80\x00\x00\x00\x00\x08\x00\x00\x1c\x00\x00\x02\x00\x00\x00\xe1q\x00\x10\x00\x00\x01\x00\x00\x00\x00\x00\x02\x00\x00",
+        stream: &[(
+            1,
+            b"BFS1\x04\x04\x04\x06\x01\x02\x10\x11\x12\x13\x01\x01\x14\x15\x16\x17\x05\x09\x00\x00\x00\x00",
+        )],
+        status: 3,
+        said: b"program file: base at 4\n",
+    },
+    // the number of words is limited
+    Unplayed {
+        program: b"BRP1\x00\x10\x00\x00\xff\xff\xff\xff\x04\x80\x00\x80\x00\x00\x00\x00\x06\x00\x00\x80\x00\x00\x00\x00\x08\x00\x00\x1c\x00\x00\x02\x00\x00\x00\xe1q\x00\x10\x00\x00\x01\x00\x00\x00\x00\x00\x02\x00\x00",
+        stream: &[(
+            1,
+            b"BFS1\x04\x04\x04\x06\x01\x02\x10\x11\x12\x13\x01\x01\x14\x15\x16\x17\x05\x09\x00\x00\x00\x00",
+        )],
+        status: 3,
+        said: b"program file: count at 8\n",
+    },
+    // the number of pages is limited
+    Unplayed {
+        program: b"BRP1\x00\x10\x00\x00\x08\x00\x00\x00\x04\x80\x00\x80\x00\x00\x00\x00\x06\x00\x00\x80\x00\x00\x00\x00\x08\x00\x00\x1c\x00\x00\x02\x00\x00\x00\xe1q\x00\x10\x00\x00\x01\x10\x00\x00\x00\x00\x02\x00\x00",
+        stream: &[(
+            1,
+            b"BFS1\x04\x04\x04\x06\x01\x02\x10\x11\x12\x13\x01\x01\x14\x15\x16\x17\x05\x09\x00\x00\x00\x00",
+        )],
+        status: 3,
+        said: b"program file: count at 44\n",
+    },
+    // a page is a multiple of 4,096
+    Unplayed {
+        program: b"BRP1\x00\x10\x00\x00\x08\x00\x00\x00\x04\x80\x00\x80\x00\x00\x00\x00\x06\x00\x00\x80\x00\x00\x00\x00\x08\x00\x00\x1c\x00\x00\x02\x00\x00\x00\xe1q\x00\x10\x00\x00\x01\x00\x00\x00\x04\x00\x02\x00\x00",
+        stream: &[(
+            1,
+            b"BFS1\x04\x04\x04\x06\x01\x02\x10\x11\x12\x13\x01\x01\x14\x15\x16\x17\x05\x09\x00\x00\x00\x00",
+        )],
+        status: 3,
+        said: b"program file: page at 48\n",
+    },
+    // a page shares no byte with the program
+    Unplayed {
+        program: b"BRP1\x00\x10\x00\x00\x08\x00\x00\x00\x04\x80\x00\x80\x00\x00\x00\x00\x06\x00\x00\x80\x00\x00\x00\x00\x08\x00\x00\x1c\x00\x00\x02\x00\x00\x00\xe1q\x00\x10\x00\x00\x01\x00\x00\x00\x00\x10\x00\x00\x00",
+        stream: &[(
+            1,
+            b"BFS1\x04\x04\x04\x06\x01\x02\x10\x11\x12\x13\x01\x01\x14\x15\x16\x17\x05\x09\x00\x00\x00\x00",
+        )],
+        status: 3,
+        said: b"program file: overlap at 48\n",
+    },
+    // pages rise
+    Unplayed {
+        program: b"BRP1\x00\x10\x00\x00\x08\x00\x00\x00\x04\x80\x00\x80\x00\x00\x00\x00\x06\x00\x00\x80\x00\x00\x00\x00\x08\x00\x00\x1c\x00\x00\x02\x00\x00\x00\xe1q\x00\x10\x00\x00\x02\x00\x00\x00\x00\x00\x02\x00\x00\x00\x02\x00\x00",
+        stream: &[(
+            1,
+            b"BFS1\x04\x04\x04\x06\x01\x02\x10\x11\x12\x13\x01\x01\x14\x15\x16\x17\x05\x09\x00\x00\x00\x00",
+        )],
+        status: 3,
+        said: b"program file: order at 52\n",
+    },
+    // no byte may follow the fill
+    Unplayed {
+        program: b"BRP1\x00\x10\x00\x00\x08\x00\x00\x00\x04\x80\x00\x80\x00\x00\x00\x00\x06\x00\x00\x80\x00\x00\x00\x00\x08\x00\x00\x1c\x00\x00\x02\x00\x00\x00\xe1q\x00\x10\x00\x00\x01\x00\x00\x00\x00\x00\x02\x00\x00\x00",
+        stream: &[(
+            1,
+            b"BFS1\x04\x04\x04\x06\x01\x02\x10\x11\x12\x13\x01\x01\x14\x15\x16\x17\x05\x09\x00\x00\x00\x00",
+        )],
+        status: 3,
+        said: b"program file: after end at 53\n",
+    },
+    // a tag is known
+    Unplayed {
+        program: ONE_LINE,
+        stream: &[(1, b"BFS1\n")],
+        status: 3,
+        said: b"stream file: tag 0a at 4\n",
+    },
+    // a control code is known
+    Unplayed {
+        program: ONE_LINE,
+        stream: &[(1, b"BFS1\x04\x03")],
+        status: 3,
+        said: b"stream file: code 03 at 5\n",
+    },
+    // a data push is no control code
+    Unplayed {
+        program: ONE_LINE,
+        stream: &[(1, b"BFS1\x01\x04")],
+        status: 3,
+        said: b"stream file: status 04 at 5\n",
+    },
+    // enables are below 4
+    Unplayed {
+        program: ONE_LINE,
+        stream: &[(1, b"BFS1\x07\x04")],
+        status: 3,
+        said: b"stream file: enable 04 at 5\n",
+    },
+    // a trigger point is below 4
+    Unplayed {
+        program: ONE_LINE,
+        stream: &[(1, b"BFS2\x08\x04\x00")],
+        status: 3,
+        said: b"stream file: trigger 04 at 5\n",
+    },
+    // BFS1 has no trigger record
+    Unplayed {
+        program: ONE_LINE,
+        stream: &[(1, b"BFS1\x08\x00\x00")],
+        status: 3,
+        said: b"stream file: tag 08 at 4\n",
+    },
     // pages have one spelling
-    Played {
+    Unplayed {
         program: b"BRP2\x00\x10\x00\x00\x08\x00\x00\x00\x04\x80\x00\x80\x00\x00\x00\x00\x06\x00\x00\x80\x00\x00\x00\x00\x08\x00\x00\x1c\x00\x00\x02\x00\x00\x00\xe1q\x00\x10\x00\x00\x01\x00\x00\x00\x00\x00\x02\x00\x00\x10\x00\x00\x00",
         stream: &[(
             1,
@@ -512,10 +497,9 @@ pub static PLAYED: [Played; 31] = [
         )],
         status: 3,
         said: b"program file: pages at 56\n",
-        image: &[],
     },
     // a length is a multiple of 4
-    Played {
+    Unplayed {
         program: b"BRP2\x00\x10\x00\x00\x08\x00\x00\x00\x04\x80\x00\x80\x00\x00\x00\x00\x06\x00\x00\x80\x00\x00\x00\x00\x08\x00\x00\x1c\x04\x00\x02\x00\x00\x00\xe1q\x00\x10\x00\x00\x01\x00\x00\x00\x04\x00\x02\x00\x06\x00\x00\x00\x00",
         stream: &[(
             1,
@@ -523,6 +507,16 @@ pub static PLAYED: [Played; 31] = [
         )],
         status: 3,
         said: b"program file: length at 52\n",
-        image: &[],
     },
 ];
+
+/// The streams that `run` plays. Tests ask this function, since each that names the table is proved
+/// over all its bytes.
+pub fn played_cases() -> &'static [Played] {
+    &PLAYED
+}
+
+/// The files that `run` refuses, in the same way.
+pub fn unplayed_cases() -> &'static [Unplayed] {
+    &UNPLAYED
+}

@@ -1,5 +1,6 @@
 // Desks in memory with the files of a command.
-ghost use Rattle.std.specs.Prelude.{◌≡◌, ◌≤◌, [], ◌∷◌, IfOk, Some, codes};
+ghost use Rattle.std.specs.Prelude.{◌≡◌, [], ◌∷◌, ◌++◌, IfOk, Some};
+ghost use Rattle.bt878_contract.specs.Tasks.{texts};
 ghost use Rattle.capture_desk.specs.Memory.{all_told};
 
 use crate::cases::Parts;
@@ -32,158 +33,82 @@ pub fn are_parts(bytes: &[u8], parts: Parts) -> bool {
     rest.is_empty()
 }
 
-/// The numbers of the calls that fail.
-fn failures(alloc: Global, failing: &[u64]) -> Result<Vec<u64>, AllocError> {
-    let mut failures = Vec::new(alloc);
-    failures.extend_from_slice(failing)?;
-    Ok(failures)
+/// Appends a name to a list.
+fn add_name(list: &mut Vec<Octets>, alloc: Global, name: &str) -> Result<(), AllocError>
+    ensures { IfOk result (λ _. list.new.items ≡ list.old.items ++ name.now ∷ []) }
+{
+    list.push(Octets::from_list(alloc, name.as_bytes())?)?;
+    Ok(())
 }
 
-/// The desk of `run program stream image`. A call whose number is in `failing` fails, and a call moves
-/// at most `longest` bytes. So it is with the desks below.
-pub fn run_desk(
+/// A list of these names.
+fn list_of(alloc: Global, names: &[&str]) -> Result<Vec<Octets>, AllocError>
+    ensures { IfOk result (λ list. list.items ≡ texts names.now) }
+{
+    let mut list = Vec::new(alloc);
+    for name in names {
+        add_name(&mut list, alloc, name)?;
+    }
+    Ok(list)
+}
+
+/// A file: its name and its bytes.
+fn file(alloc: Global, name: &str, bytes: &[u8]) -> Result<(Octets, Octets), AllocError> {
+    let name = Octets::from_list(alloc, name.as_bytes())?;
+    Ok((name, Octets::from_list(alloc, bytes)?))
+}
+
+/// The files of these names and contents, as far as both go.
+fn files(
     alloc: Global,
-    program: &[u8],
-    stream: &[u8],
-    failing: &[u64],
-    longest: usize,
-) -> Result<MemDesk, AllocError>
-    requires { 1 ≤ longest }
-    ensures opens { IfOk result (λ desk. (all_told desk).may_open ≡ Some (codes "program" ∷ codes "stream" ∷ [])) }
-    ensures creates { IfOk result (λ desk. (all_told desk).may_create ≡ Some (codes "image" ∷ [])) }
-{
-    let inputs = vec![in alloc;
-        (
-            Octets::from_list(alloc, b"program")?,
-            Octets::from_list(alloc, program)?
-        ),
-        (
-            Octets::from_list(alloc, b"stream")?,
-            Octets::from_list(alloc, stream)?
-        ),
-    ]?;
-    let opens = vec![in alloc;
-        Octets::from_list(alloc, b"program")?,
-        Octets::from_list(alloc, b"stream")?,
-    ]?;
-    let creates = vec![in alloc; Octets::from_list(alloc, b"image")?]?;
-    let failures = failures(alloc, failing)?;
-    MemDesk::new(alloc, inputs, opens, creates, failures, longest, 5000)
+    names: &[&str],
+    contents: &[&[u8]],
+) -> Result<Vec<(Octets, Octets)>, AllocError> {
+    let mut files = Vec::new(alloc);
+    for (name, bytes) in names.iter().zip(contents) {
+        files.push(file(alloc, name, bytes)?)?;
+    }
+    Ok(files)
 }
 
-/// The desk of `list program` and `verify program`.
-pub fn program_desk(
+/// The limits of a desk: its calls with the numbers in `failing` fail, a call moves at most
+/// `longest` bytes, and an output takes at most `room` bytes.
+#[derive(Clone, Copy)]
+pub struct Limits<'a> {
+    failing: &'a [u64],
+    longest: usize,
+    room: usize,
+}
+
+impl<'a> Limits<'a> {
+    pub fn new(failing: &'a [u64], longest: usize, room: usize) -> Limits<'a> {
+        Limits {
+            failing,
+            longest,
+            room,
+        }
+    }
+}
+
+/// A desk on which these inputs may be opened, with these contents, and these outputs may be
+/// created. Where there are fewer contents than inputs, the last inputs are missing.
+#[tactic(auto, using(crate::proofs::Names::names_of_new))]
+pub fn desk_of(
     alloc: Global,
-    program: &[u8],
-    failing: &[u64],
-    longest: usize,
+    inputs: &[&str],
+    contents: &[&[u8]],
+    outputs: &[&str],
+    limits: Limits,
 ) -> Result<MemDesk, AllocError>
-    ensures opens { IfOk result (λ desk. (all_told desk).may_open ≡ Some (codes "program" ∷ [])) }
-    ensures creates { IfOk result (λ desk. (all_told desk).may_create ≡ Some []) }
+    ensures opens { IfOk result (λ desk. (all_told desk).may_open ≡ Some (texts inputs.now)) }
+    ensures creates { IfOk result (λ desk. (all_told desk).may_create ≡ Some (texts outputs.now)) }
 {
-    let inputs = vec![in alloc;
-        (
-            Octets::from_list(alloc, b"program")?,
-            Octets::from_list(alloc, program)?
-        ),
-    ]?;
-    let opens = vec![in alloc; Octets::from_list(alloc, b"program")?]?;
-    let failures = failures(alloc, failing)?;
-    MemDesk::new(
-        alloc,
-        inputs,
-        opens,
-        Vec::new(alloc),
-        failures,
-        longest.max(1),
-        5000,
-    )
-}
-
-/// The desk of `assemble text program`.
-pub fn text_desk(
-    alloc: Global,
-    text: &[u8],
-    failing: &[u64],
-    longest: usize,
-) -> Result<MemDesk, AllocError>
-    ensures opens { IfOk result (λ desk. (all_told desk).may_open ≡ Some (codes "text" ∷ [])) }
-    ensures creates { IfOk result (λ desk. (all_told desk).may_create ≡ Some (codes "program" ∷ [])) }
-{
-    let inputs = vec![in alloc;
-        (
-            Octets::from_list(alloc, b"text")?,
-            Octets::from_list(alloc, text)?
-        ),
-    ]?;
-    let opens = vec![in alloc; Octets::from_list(alloc, b"text")?]?;
-    let creates = vec![in alloc; Octets::from_list(alloc, b"program")?]?;
-    let failures = failures(alloc, failing)?;
-    MemDesk::new(
-        alloc,
-        inputs,
-        opens,
-        creates,
-        failures,
-        longest.max(1),
-        1000,
-    )
-}
-
-/// The desk of `run a a b`.
-pub fn twice_desk(alloc: Global, file: &[u8]) -> Result<MemDesk, AllocError>
-    ensures opens { IfOk result (λ desk. (all_told desk).may_open ≡ Some (codes "a" ∷ codes "a" ∷ [])) }
-    ensures creates { IfOk result (λ desk. (all_told desk).may_create ≡ Some (codes "b" ∷ [])) }
-{
-    let inputs = vec![in alloc;
-        (
-            Octets::from_list(alloc, b"a")?,
-            Octets::from_list(alloc, file)?
-        ),
-    ]?;
-    let opens = vec![in alloc;
-        Octets::from_list(alloc, b"a")?,
-        Octets::from_list(alloc, b"a")?,
-    ]?;
-    let creates = vec![in alloc; Octets::from_list(alloc, b"b")?]?;
-    MemDesk::new(alloc, inputs, opens, creates, Vec::new(alloc), 65536, 100)
-}
-
-/// The desk of `run program stream image`, with none of its inputs.
-pub fn bare_desk(alloc: Global) -> Result<MemDesk, AllocError>
-    ensures opens { IfOk result (λ desk. (all_told desk).may_open ≡ Some (codes "program" ∷ codes "stream" ∷ [])) }
-    ensures creates { IfOk result (λ desk. (all_told desk).may_create ≡ Some (codes "image" ∷ [])) }
-{
-    let opens = vec![in alloc;
-        Octets::from_list(alloc, b"program")?,
-        Octets::from_list(alloc, b"stream")?,
-    ]?;
-    let creates = vec![in alloc; Octets::from_list(alloc, b"image")?]?;
-    MemDesk::new(
-        alloc,
-        Vec::new(alloc),
-        opens,
-        creates,
-        Vec::new(alloc),
-        65536,
-        100,
-    )
-}
-
-/// The desk of words that have a fault.
-pub fn empty_desk(alloc: Global) -> Result<MemDesk, AllocError>
-    ensures opens { IfOk result (λ desk. (all_told desk).may_open ≡ Some []) }
-    ensures creates { IfOk result (λ desk. (all_told desk).may_create ≡ Some []) }
-{
-    MemDesk::new(
-        alloc,
-        Vec::new(alloc),
-        Vec::new(alloc),
-        Vec::new(alloc),
-        Vec::new(alloc),
-        65536,
-        500,
-    )
+    let files = files(alloc, inputs, contents)?;
+    let opens = list_of(alloc, inputs)?;
+    let creates = list_of(alloc, outputs)?;
+    let failing = Vec::from_slice(alloc, limits.failing)?;
+    let longest = limits.longest.max(1);
+    MemDesk::new(alloc, files, opens, creates, failing, longest, limits.room)
 }
 
 fn add_line(text: &mut Vec<u8>, key: &str, value: &str) -> Result<(), AllocError> {
@@ -245,190 +170,4 @@ pub fn program_file(alloc: Global, case: &Compiled) -> Result<Vec<u8>, AllocErro
     add_grants(&mut file, case)?;
     file.extend_from_slice(&[0])?;
     Ok(file)
-}
-
-/// The desk of `compile description out` and `make description SEED FRAMES out`. A call moves at most
-/// `longest` bytes, and the output takes at most `room` bytes.
-pub fn description_desk(
-    alloc: Global,
-    description: &[u8],
-    failing: &[u64],
-    longest: usize,
-    room: usize,
-) -> Result<MemDesk, AllocError>
-    ensures opens { IfOk result (λ desk. (all_told desk).may_open ≡ Some (codes "description" ∷ [])) }
-    ensures creates { IfOk result (λ desk. (all_told desk).may_create ≡ Some (codes "out" ∷ [])) }
-{
-    let inputs = vec![in alloc;
-        (
-            Octets::from_list(alloc, b"description")?,
-            Octets::from_list(alloc, description)?
-        ),
-    ]?;
-    let opens = vec![in alloc; Octets::from_list(alloc, b"description")?]?;
-    let creates = vec![in alloc; Octets::from_list(alloc, b"out")?]?;
-    let failures = failures(alloc, failing)?;
-    MemDesk::new(
-        alloc,
-        inputs,
-        opens,
-        creates,
-        failures,
-        longest.max(1),
-        room,
-    )
-}
-
-/// The desk of `capture description stream program image`, in the same way. A call whose number is in
-/// `failing` fails.
-pub fn field_desk(
-    alloc: Global,
-    description: &[u8],
-    stream: &[u8],
-    failing: &[u64],
-    longest: usize,
-    room: usize,
-) -> Result<MemDesk, AllocError>
-    ensures opens { IfOk result (λ desk. (all_told desk).may_open ≡ Some (codes "description" ∷ codes "stream" ∷ [])) }
-    ensures creates { IfOk result (λ desk. (all_told desk).may_create ≡ Some (codes "program" ∷ codes "image" ∷ [])) }
-{
-    let inputs = vec![in alloc;
-        (
-            Octets::from_list(alloc, b"description")?,
-            Octets::from_list(alloc, description)?
-        ),
-        (
-            Octets::from_list(alloc, b"stream")?,
-            Octets::from_list(alloc, stream)?
-        ),
-    ]?;
-    let opens = vec![in alloc;
-        Octets::from_list(alloc, b"description")?,
-        Octets::from_list(alloc, b"stream")?,
-    ]?;
-    let creates = vec![in alloc;
-        Octets::from_list(alloc, b"program")?,
-        Octets::from_list(alloc, b"image")?,
-    ]?;
-    let failures = failures(alloc, failing)?;
-    MemDesk::new(
-        alloc,
-        inputs,
-        opens,
-        creates,
-        failures,
-        longest.max(1),
-        room,
-    )
-}
-
-/// A file of a desk: its name and its bytes.
-fn file(alloc: Global, name: &[u8], bytes: &[u8]) -> Result<(Octets, Octets), AllocError>
-    ensures { IfOk result (λ file. file.0 ≡ name.now) }
-{
-    Ok((
-        Octets::from_list(alloc, name)?,
-        Octets::from_list(alloc, bytes)?,
-    ))
-}
-
-/// The desk of `ring ring stream program image`.
-pub fn ring_desk(
-    alloc: Global,
-    ring: &[u8],
-    stream: &[u8],
-    failing: &[u64],
-    longest: usize,
-) -> Result<MemDesk, AllocError>
-    ensures opens { IfOk result (λ desk. (all_told desk).may_open ≡ Some (codes "ring" ∷ codes "stream" ∷ [])) }
-    ensures creates { IfOk result (λ desk. (all_told desk).may_create ≡ Some (codes "program" ∷ codes "image" ∷ [])) }
-{
-    let inputs = vec![in alloc;
-        file(alloc, b"ring", ring)?,
-        file(alloc, b"stream", stream)?,
-    ]?;
-    let opens = vec![in alloc;
-        Octets::from_list(alloc, b"ring")?,
-        Octets::from_list(alloc, b"stream")?,
-    ]?;
-    let creates = vec![in alloc;
-        Octets::from_list(alloc, b"program")?,
-        Octets::from_list(alloc, b"image")?,
-    ]?;
-    let failures = failures(alloc, failing)?;
-    MemDesk::new(
-        alloc,
-        inputs,
-        opens,
-        creates,
-        failures,
-        longest.max(1),
-        10000,
-    )
-}
-
-/// The desk of `chain first second stream image`.
-pub fn chain_desk(
-    alloc: Global,
-    first: &[u8],
-    second: &[u8],
-    stream: &[u8],
-    failing: &[u64],
-    longest: usize,
-) -> Result<MemDesk, AllocError>
-    ensures opens { IfOk result (λ desk. (all_told desk).may_open ≡ Some (codes "first" ∷ codes "second" ∷ codes "stream" ∷ [])) }
-    ensures creates { IfOk result (λ desk. (all_told desk).may_create ≡ Some (codes "image" ∷ [])) }
-{
-    let inputs = vec![in alloc;
-        file(alloc, b"first", first)?,
-        file(alloc, b"second", second)?,
-        file(alloc, b"stream", stream)?,
-    ]?;
-    let opens = vec![in alloc;
-        Octets::from_list(alloc, b"first")?,
-        Octets::from_list(alloc, b"second")?,
-        Octets::from_list(alloc, b"stream")?,
-    ]?;
-    let creates = vec![in alloc; Octets::from_list(alloc, b"image")?]?;
-    let failures = failures(alloc, failing)?;
-    MemDesk::new(
-        alloc,
-        inputs,
-        opens,
-        creates,
-        failures,
-        longest.max(1),
-        10000,
-    )
-}
-
-/// The desk of `damage description stream`.
-pub fn damage_desk(
-    alloc: Global,
-    description: &[u8],
-    stream: &[u8],
-    failing: &[u64],
-    longest: usize,
-) -> Result<MemDesk, AllocError>
-    ensures opens { IfOk result (λ desk. (all_told desk).may_open ≡ Some (codes "description" ∷ codes "stream" ∷ [])) }
-    ensures creates { IfOk result (λ desk. (all_told desk).may_create ≡ Some []) }
-{
-    let inputs = vec![in alloc;
-        file(alloc, b"description", description)?,
-        file(alloc, b"stream", stream)?,
-    ]?;
-    let opens = vec![in alloc;
-        Octets::from_list(alloc, b"description")?,
-        Octets::from_list(alloc, b"stream")?,
-    ]?;
-    let failures = failures(alloc, failing)?;
-    MemDesk::new(
-        alloc,
-        inputs,
-        opens,
-        Vec::new(alloc),
-        failures,
-        longest.max(1),
-        1000,
-    )
 }

@@ -7,7 +7,6 @@ use crate::calls::{
 use crate::cases::{ONE_LINE, ONE_LINE_LISTING, ONE_LINE_STREAM};
 use crate::left::Left;
 use std::alloc::{AllocError, Global};
-use std::process::Abort;
 use std::test::Fail;
 
 /// More calls than a command makes whose calls move many bytes.
@@ -91,11 +90,13 @@ impl Command {
         }
         calls
     }
-}
 
-/// Whether a fault of reading was answered with this text: no output is created.
-fn ended_reading(left: &Left, said: &[u8]) -> bool {
-    left.says(4, said) && left.lacks("out") && left.lacks("program") && left.lacks("image")
+    /// How many calls the command makes at least: after those that read, each output is created,
+    /// written and finished, and a text is said.
+    fn calls(self) -> u64 {
+        let writes = self.outputs().saturating_mul(3).saturating_add(1);
+        self.reading_calls(LONG).saturating_add(writes)
+    }
 }
 
 /// Whether an output is not there, or is the beginning of what the command writes.
@@ -115,9 +116,9 @@ fn ended_writing(left: &Left, whole: &Left) -> bool {
 /// Whether the command did all that it does.
 fn is_whole(left: &Left, whole: &Left) -> bool {
     left.says(whole.status, whole.desk.said())
-        && left.desk.output("out") == whole.desk.output("out")
-        && left.desk.output("program") == whole.desk.output("program")
-        && left.desk.output("image") == whole.desk.output("image")
+        && left.shares(whole, "out")
+        && left.shares(whole, "program")
+        && left.shares(whole, "image")
 }
 
 /// The numbers of a call and of those after it.
@@ -129,65 +130,108 @@ fn from_there_on(alloc: Global, first: u64) -> Result<Vec<u64>, AllocError> {
     Ok(numbers)
 }
 
-/// A call that reads fails alone: a fault of reading is said, and nothing else.
+/// Whether the call of this number, failing alone, is answered as a fault of reading.
+fn fails_reading(
+    alloc: Global,
+    command: Command,
+    number: u64,
+    longest: usize,
+) -> Result<bool, AllocError> {
+    let left = command.tried(alloc, &[number], longest)?;
+    Ok(left.says_only(4, b"read fault\n") && left.has_faults(1, 0))
+}
+
+/// Whether each call that reads, failing alone, is a fault of reading that is said, and nothing
+/// else.
 fn each_reading_call_fails(
-    rt: &impl Abort,
     alloc: Global,
     command: Command,
     longest: usize,
-) -> Result<(), AllocError> {
+) -> Result<bool, AllocError> {
     for number in 1..=command.reading_calls(longest) {
-        let left = command.tried(alloc, &[number], longest)?;
-        assert!(rt; ended_reading(&left, b"read fault\n"));
-        assert_eq!(rt; left.desk.faults(), [1, 0]);
+        if !fails_reading(alloc, command, number, longest)? {
+            return Ok(false);
+        }
     }
-    Ok(())
+    Ok(true)
 }
 
-/// A call that writes fails alone, up to the last: each output is created, written and finished, and a text is said.
-fn each_writing_call_fails(
-    rt: &impl Abort,
+/// Whether the call of this number, failing alone, is answered as a fault of writing.
+fn fails_writing(
     alloc: Global,
     command: Command,
-) -> Result<(), AllocError> {
-    let whole = command.tried(alloc, &[], LONG)?;
-    let first = command.reading_calls(LONG).saturating_add(1);
-    let mut count = 0_u64;
-    for number in first..CALLS {
-        let left = command.tried(alloc, &[number], LONG)?;
-        if is_whole(&left, &whole) {
-            break;
-        }
-        assert!(rt; ended_writing(&left, &whole));
-        assert_eq!(rt; left.desk.faults(), [0, 1]);
-        count = count.saturating_add(1);
-    }
-    assert!(rt; command.outputs().saturating_mul(3).saturating_add(1) <= count);
-    Ok(())
+    number: u64,
+    whole: &Left,
+) -> Result<bool, AllocError> {
+    let left = command.tried(alloc, &[number], LONG)?;
+    Ok(ended_writing(&left, whole) && left.has_faults(0, 1))
 }
 
-/// All calls fail from one on: no text can be said of a fault of reading.
-fn all_calls_fail(rt: &impl Abort, alloc: Global, command: Command) -> Result<(), AllocError> {
-    let whole = command.tried(alloc, &[], LONG)?;
-    let reads = command.reading_calls(LONG);
-    let writes = command.outputs().saturating_mul(3).saturating_add(1);
-    for first in 1..=reads.saturating_add(writes) {
-        let failing = from_there_on(alloc, first)?;
-        let left = command.tried(alloc, &failing, LONG)?;
-        if first <= reads {
-            assert!(rt; ended_reading(&left, b""));
-        } else {
-            assert!(rt; ended_writing(&left, &whole));
+/// Whether the command does all its work where no call has this number.
+fn works(alloc: Global, command: Command, number: u64, whole: &Left) -> Result<bool, AllocError> {
+    let left = command.tried(alloc, &[number], LONG)?;
+    Ok(is_whole(&left, whole))
+}
+
+/// The number of the first call after those that read that does not fail at writing, when it fails
+/// alone.
+fn writing_end(alloc: Global, command: Command, whole: &Left) -> Result<u64, AllocError> {
+    for number in command.reading_calls(LONG).saturating_add(1)..CALLS {
+        if !fails_writing(alloc, command, number, whole)? {
+            return Ok(number);
         }
     }
-    Ok(())
+    Ok(CALLS)
+}
+
+/// Whether each call that writes fails alone, up to the last: each output is created, written and
+/// finished, and a text is said.
+fn each_writing_call_fails(alloc: Global, command: Command) -> Result<bool, AllocError> {
+    let whole = command.tried(alloc, &[], LONG)?;
+    let end = writing_end(alloc, command, &whole)?;
+    Ok(command.calls() < end && works(alloc, command, end, &whole)?)
+}
+
+/// Whether a command ends as it should where all calls fail from this one on.
+fn ends_from(
+    alloc: Global,
+    command: Command,
+    first: u64,
+    whole: &Left,
+) -> Result<bool, AllocError> {
+    let failing = from_there_on(alloc, first)?;
+    let left = command.tried(alloc, &failing, LONG)?;
+    if first <= command.reading_calls(LONG) {
+        Ok(left.says_only(4, b""))
+    } else {
+        Ok(ended_writing(&left, whole))
+    }
+}
+
+/// Whether a command ends as it should where all calls fail from one on: no text can be said of a
+/// fault of reading.
+fn all_calls_fail(alloc: Global, command: Command) -> Result<bool, AllocError> {
+    let whole = command.tried(alloc, &[], LONG)?;
+    for first in 1..=command.calls() {
+        if !ends_from(alloc, command, first, &whole)? {
+            return Ok(false);
+        }
+    }
+    Ok(true)
+}
+
+/// Whether the same is written and said where each call moves a byte.
+fn works_byte_by_byte(alloc: Global, command: Command) -> Result<bool, AllocError> {
+    let whole = command.tried(alloc, &[], LONG)?;
+    let left = command.tried(alloc, &[], 1)?;
+    Ok(is_whole(&left, &whole))
 }
 
 #[test]
 fn one_call_of_each_command_fails(rt: HostRuntime) -> Result<(), Fail> {
     for command in &COMMANDS {
-        each_reading_call_fails(&rt, rt.alloc(), *command, LONG)?;
-        each_writing_call_fails(&rt, rt.alloc(), *command)?;
+        assert!(rt; each_reading_call_fails(rt.alloc(), *command, LONG)?);
+        assert!(rt; each_writing_call_fails(rt.alloc(), *command)?);
     }
     Ok(())
 }
@@ -195,7 +239,7 @@ fn one_call_of_each_command_fails(rt: HostRuntime) -> Result<(), Fail> {
 #[test]
 fn all_calls_of_each_command_fail(rt: HostRuntime) -> Result<(), Fail> {
     for command in &COMMANDS {
-        all_calls_fail(&rt, rt.alloc(), *command)?;
+        assert!(rt; all_calls_fail(rt.alloc(), *command)?);
     }
     Ok(())
 }
@@ -204,10 +248,8 @@ fn all_calls_of_each_command_fail(rt: HostRuntime) -> Result<(), Fail> {
 #[test]
 fn each_command_works_byte_by_byte(rt: HostRuntime) -> Result<(), Fail> {
     for command in &COMMANDS {
-        let whole = command.tried(rt.alloc(), &[], LONG)?;
-        let left = command.tried(rt.alloc(), &[], 1)?;
-        assert!(rt; is_whole(&left, &whole));
-        each_reading_call_fails(&rt, rt.alloc(), *command, 1)?;
+        assert!(rt; works_byte_by_byte(rt.alloc(), *command)?);
+        assert!(rt; each_reading_call_fails(rt.alloc(), *command, 1)?);
     }
     Ok(())
 }

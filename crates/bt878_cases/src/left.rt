@@ -27,6 +27,11 @@ impl Left {
         self.desk.output(name).is_none()
     }
 
+    /// Whether it answered and said this, and no command's output is there.
+    pub fn says_only(&self, status: u8, said: &[u8]) -> bool {
+        self.says(status, said) && self.lacks("out") && self.lacks("program") && self.lacks("image")
+    }
+
     /// Whether the output of this name isn't there, or is a prefix of these bytes.
     pub fn began(&self, name: &str, bytes: &[u8]) -> bool {
         match self.desk.output(name) {
@@ -35,12 +40,26 @@ impl Left {
         }
     }
 
+    /// Whether so many faults of reading and of writing were counted.
+    pub fn has_faults(&self, reads: u64, writes: u64) -> bool {
+        self.desk.faults() == [reads, writes]
+    }
+
+    /// Whether the output of this name is as another call left it.
+    pub fn shares(&self, other: &Left, name: &str) -> bool {
+        self.desk.output(name) == other.desk.output(name)
+    }
+
+    /// Whether the output of this name has these bytes, or isn't there where there are none.
+    pub fn has_parts(&self, name: &str, parts: Parts) -> bool {
+        match self.desk.output(name) {
+            Some(bytes) => !parts.is_empty() && are_parts(bytes, parts),
+            None => parts.is_empty(),
+        }
+    }
+
     /// Whether it answered and said this, and left an image of these bytes, or none where they are empty.
     pub fn has(&self, status: u8, said: &[u8], image: Parts) -> bool {
-        let image_is = match self.desk.output("image") {
-            Some(bytes) => are_parts(bytes, image),
-            None => image.is_empty(),
-        };
-        self.says(status, said) && image_is
+        self.says(status, said) && self.has_parts("image", image)
     }
 }

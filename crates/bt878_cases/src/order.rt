@@ -1,11 +1,11 @@
 // The order of work: the calls that a desk was given.
-ghost use Rattle.std.specs.Prelude.{◌≡◌, [], ◌∷◌, IfOk, Some, codes};
 
+use crate::calls::{LONG, status_of};
 use crate::cases::{ONE_LINE, ONE_LINE_STREAM};
-use crate::desks::run_desk;
-use bt878_top::bt878;
+use crate::desks::{Limits, desk_of};
 use capture_desk::{Call, LoggedDesk, MemDesk, Octets};
 use std::alloc::{AllocError, Global};
+use std::collections::VecDeque;
 use std::test::Fail;
 
 /// A call with a name, in words.
@@ -30,60 +30,88 @@ fn line(alloc: Global, call: &Call) -> Result<Vec<u8>, AllocError> {
     Ok(text.into_bytes())
 }
 
-/// The calls of `run program stream image` in words, the last one first.
-fn calls_of_run(
+/// A desk of `run` that was called on, with its calls.
+fn logged_run(
     alloc: Global,
     program: &[u8],
     stream: &[u8],
     failing: &[u64],
-) -> Result<Vec<u8>, AllocError> {
-    let desk = run_desk(alloc, program, stream, failing, 65_536)?;
+) -> Result<LoggedDesk<MemDesk>, AllocError> {
+    let words = ["run", "program", "stream", "image"];
+    let limits = Limits::new(failing, LONG, 5000);
+    let desk = desk_of(alloc, &words[1..3], &[program, stream], &words[3..], limits)?;
     let mut desk = LoggedDesk::new(alloc, desk);
-    let _ = bt878(alloc, &["run", "program", "stream", "image"], &mut desk);
+    let _ = status_of(alloc, &words, &mut desk);
+    Ok(desk)
+}
+
+/// Appends a call in words.
+fn add_line(text: &mut Vec<u8>, alloc: Global, call: &Call) -> Result<(), AllocError> {
+    let line = line(alloc, call)?;
+    text.extend_from_slice(&line)
+}
+
+/// Calls in words, the last one first.
+fn lines(alloc: Global, calls: &VecDeque<Call>) -> Result<Vec<u8>, AllocError> {
     let mut text = Vec::new(alloc);
-    if let Some(calls) = desk.calls() {
-        for call in calls.iter() {
-            text.extend_from_slice(&line(alloc, call)?)?;
-        }
+    for call in calls.iter() {
+        add_line(&mut text, alloc, call)?;
     }
     Ok(text)
+}
+
+/// Whether these are the calls in words, the last one first.
+fn are_lines(alloc: Global, calls: &VecDeque<Call>, wanted: &[u8]) -> Result<bool, AllocError> {
+    let text = lines(alloc, calls)?;
+    Ok(text.as_slice() == wanted)
+}
+
+/// Whether `run program stream image` makes these calls, the last one first.
+fn makes_calls(
+    alloc: Global,
+    program: &[u8],
+    stream: &[u8],
+    failing: &[u64],
+    wanted: &[u8],
+) -> Result<bool, AllocError> {
+    let desk = logged_run(alloc, program, stream, failing)?;
+    match desk.calls() {
+        Some(calls) => are_lines(alloc, calls, wanted),
+        None => Ok(false),
+    }
 }
 
 /// Each input is opened and read to its end before the next is opened; then the output is made, and the
 /// report is said.
 #[test]
 fn a_run_works_in_order(rt: HostRuntime) -> Result<(), Fail> {
-    let calls = calls_of_run(rt.alloc(), ONE_LINE, ONE_LINE_STREAM, &[])?;
     let wanted =
         b"say\nfinish\ncreate image\nread 65536: 0\nread 65536: 26\nopen stream\nread 65536: 0\nread 65536: 53\nopen program\n";
-    assert_eq!(rt; calls.as_slice(), wanted.as_slice());
+    assert!(rt; makes_calls(rt.alloc(), ONE_LINE, ONE_LINE_STREAM, &[], wanted)?);
     Ok(())
 }
 
 /// A program that is no program file is told before the stream is opened.
 #[test]
 fn a_bad_program_is_told_first(rt: HostRuntime) -> Result<(), Fail> {
-    let calls = calls_of_run(rt.alloc(), b"BRP3", ONE_LINE_STREAM, &[])?;
     let wanted = b"say\nread 65536: 0\nread 65536: 4\nopen program\n";
-    assert_eq!(rt; calls.as_slice(), wanted.as_slice());
+    assert!(rt; makes_calls(rt.alloc(), b"BRP3", ONE_LINE_STREAM, &[], wanted)?);
     Ok(())
 }
 
 /// A fault in the first piece of a stream is told before the next is read.
 #[test]
 fn a_bad_piece_is_told_at_once(rt: HostRuntime) -> Result<(), Fail> {
-    let calls = calls_of_run(rt.alloc(), ONE_LINE, b"BFS1\x0a", &[])?;
     let wanted = b"say\nread 65536: 5\nopen stream\nread 65536: 0\nread 65536: 53\nopen program\n";
-    assert_eq!(rt; calls.as_slice(), wanted.as_slice());
+    assert!(rt; makes_calls(rt.alloc(), ONE_LINE, b"BFS1\x0a", &[], wanted)?);
     Ok(())
 }
 
 /// No call follows a creation that failed: it is the seventh call.
 #[test]
 fn a_failed_creation_is_the_last_call(rt: HostRuntime) -> Result<(), Fail> {
-    let calls = calls_of_run(rt.alloc(), ONE_LINE, ONE_LINE_STREAM, &[7])?;
     let wanted =
         b"create image failed\nread 65536: 0\nread 65536: 26\nopen stream\nread 65536: 0\nread 65536: 53\nopen program\n";
-    assert_eq!(rt; calls.as_slice(), wanted.as_slice());
+    assert!(rt; makes_calls(rt.alloc(), ONE_LINE, ONE_LINE_STREAM, &[7], wanted)?);
     Ok(())
 }
