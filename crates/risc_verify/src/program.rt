@@ -88,8 +88,9 @@ impl Program {
         }
     }
 
-    // The instruction at an address whose word is known, and its length in words.
-    #[inline]
+    // The instruction at an address whose word is known, and its length in words. It is always inlined: the verifier
+    // reads each word by it.
+    #[inline(always)]
     pub(crate) fn instr_of(
         &self,
         address: u64,
