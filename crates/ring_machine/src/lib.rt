@@ -80,23 +80,13 @@ impl<R: Ram> RingMachine<R> {
         self.machine.host(write);
     }
 
-    /// The block that the retirement of the instruction at an address ends. It is never inlined: the loop over the turns, of
-    /// which few retire an instruction, has more registers without it.
-    #[cold]
-    #[inline(never)]
-    fn end_at(&self, address: u32) -> Option<u8>
-        ensures { result ≡ ends self.now.ring address }
-    {
-        self.ring.ends(address)
-    }
-
     /// The block that the next turn ends.
     #[inline]
     fn next_end(&self) -> Option<u8>
         ensures { result ≡ block_end (ends self.now.ring) self.now.machine Turn }
     {
         let address = self.machine.next_retirement()?;
-        self.end_at(address)
+        self.ring.ends(address)
     }
 
     /// Counts a block, where one is ended.

@@ -12,7 +12,6 @@ pub returns : goal.returns
 returns g c =
     let here = c.self.inside in
     let retires : Some c.in_ok-address.address ≡ next_retirement here.machine = c.in_ok-address.ensures.address in
-    c.end_at.ensures ∙ ap (λ (s : RingState). ends s.ring c.in_ok-address.address) (sym c.self.view_is)
-    ∙ ap (option_and_then (ends here.ring)) retires
+    c.ends.ensures.value ∙ ap (option_and_then (ends here.ring)) retires
     ∙ next_end_is here.ring here.machine c.self.invariant c.next_retirement.ensures.facts.safe
     ∙ ap (λ (s : RingState). block_end (ends s.ring) s.machine Turn) c.self.view_is
