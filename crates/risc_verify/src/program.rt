@@ -88,9 +88,9 @@ impl Program {
         }
     }
 
-    // The instruction at an address whose word is known, and its length in words. It is always inlined: the verifier
-    // reads each word by it.
-    #[inline(always)]
+    // The instruction at an address whose word is known, and its length in words. The verifier reads each word by it: as
+    // long as nothing else calls it, the compiler inlines it there.
+    #[inline]
     pub(crate) fn instr_of(
         &self,
         address: u64,
@@ -114,7 +114,10 @@ impl Program {
         ensures instr { IfOk result (λ read. IsInstr read.0) }
         ensures inside { IfOk result (λ _. address < 2 ^ 32) }
     {
-        self.instr_of(address, self.word_at(address))
+        match self.word_at(address) {
+            Some(number) => decode(&self.words, number),
+            None => Err(WordFault::Cut),
+        }
     }
 }
 
