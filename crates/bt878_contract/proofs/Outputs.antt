@@ -6,9 +6,8 @@ use Rattle.std.proofs.lemmas.Slice.Eq.{bytes_eq-Decides}
 use Rattle.capture_desk.specs.Desks.{HasRisen, Seen, Outputs, Told, counted, is_among, output_named, created, written, after_say}
 use Rattle.capture_desk.proofs.Outputs.{output_created, output_created_other, output_appended, output_appended_other}
 use Rattle.bt878_words.proofs.Asked.{or_false, same_name}
-use Rattle.command_steps.specs.Outputs.{LastWriteFailed, Says, IsPart, after_file, delivered}
+use Rattle.command_steps.specs.Outputs.{LastWriteFailed, Says, IsPart, after_file, delivered, names_of}
 use Rattle.command_steps.specs.Inputs.{WritesRose, apart}
-use Rattle.command_steps.specs.Outputs.{names_of}
 use Rattle.bt878_contract.specs.Clauses.{CreatesNone, IsCutOff, IsOutput, OnlySays, SameNames, SameOutput, SameOutputs, SaysAll}
 
 -- ---- names

@@ -194,8 +194,12 @@ module _ (file stream program image : List ℕ) (inputs : Option Inputs) (m : St
         (λ a b k.
         let r = k.0 in
         let last = k.2.0 in
-        let sound = k.1.gives.sound in
-        (r, k.1, run_makes r m fill sound last GivesSound a b k.1 (image_of_run image r) ((image, image_of m.memory) ∷ []) (same_image r m fill sound last image) (Reports a r) (report_text (report_of m)) (its_report r m fill sound last))) h,
+        let sound = k.1.gives.sound in (
+          r,
+          k.1,
+          run_makes r m fill sound last GivesSound a b k.1 (image_of_run image r) ((image, image_of m.memory) ∷ []) (same_image r m fill sound last image) (Reports a r)
+              (report_text (report_of m)) (its_report r m fill sound last),
+        )) h,
     tt,
   )
 

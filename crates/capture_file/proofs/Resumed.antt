@@ -8,13 +8,12 @@ use Rattle.capture_file.specs.declared.FileKind.{FileKind}
 use Rattle.capture_file.specs.declared.FileKind.TheVariants as fault
 use Rattle.capture_file.specs.declared.FileFault.{FileFault}
 use Rattle.capture_file.specs.declared.Step.{Step}
-use Rattle.capture_file.specs.Readers.{Phase, Opening, Records, Closed, Failed}
+use Rattle.capture_file.specs.Readers.{Phase, Opening, Records, Closed, Failed, Reader, Taken, resumed, taken, taken_in, unfinished_if, found_taken, record_taken, form_taken, word_taken, beyond_end, begun, after_answer, IsAt, IsReader}
 use Rattle.capture_file.specs.declared.records.Form.{Form}
 use Rattle.capture_file.specs.declared.records.Form.TheVariants.{Bfs1, Bfs2, Bfs3}
 use Rattle.capture_file.specs.declared.records.Found.{Found}
 use Rattle.capture_file.specs.declared.records.Found.TheVariants.{Cut, Wrong, Last, Whole}
 use Rattle.capture_file.specs.Streams.{Reading, reading, with_step, Unfinished, Ended, Bad, fault_at, number_at, form_of, record_at, records, within, within_if, too_long, after_end, first_trigger, turns_of, stream_of, judged, opened, opened_by}
-use Rattle.capture_file.specs.Readers.{Reader, Taken, resumed, taken, taken_in, unfinished_if, found_taken, record_taken, form_taken, word_taken, beyond_end, begun, after_answer, IsAt, IsReader}
 use Rattle.capture_file.specs.Records.{HasFour, Spans, Passes}
 use Rattle.capture_file.proofs.Fields.{Keeps, number_at-four, number_at-append, record_at-spans, record_at-passes, record_at-append}
 use Rattle.capture_file.proofs.Readings.{records-front, front_of}

@@ -92,7 +92,8 @@ module _ (chain : Chain) (part : ℕ) (there : part < length chain.parts) (d : D
       abbrev to : ℕ
       to = section_next d begin back field
 
-      section_split : program.words ≡ (front ++ (section_stands d begin back field is).before) ++ (encoded (opening field) ++ (words_of (body d field) ++ (encoded (closing field to) ++ ((section_stands d begin back field is).after ++ rest))))
+      section_split : program.words ≡ (front ++ (section_stands d begin back field is).before)
+          ++ (encoded (opening field) ++ (words_of (body d field) ++ (encoded (closing field to) ++ ((section_stands d begin back field is).after ++ rest))))
       section_split =
           let stands = section_stands d begin back field is in
           split

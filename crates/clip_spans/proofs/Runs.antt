@@ -1,8 +1,7 @@
 -- The runs of a test are one list, and alternate.
 use Rattle.std.proofs.Common.{◌≡◌, ℕ, zero, suc, ◌+◌, ◌<◌, ◌≤◌, Bool, true, false, not, List, [], ◌∷◌, refl, sym, ◌∙◌, ap, subst, arith, inl, inr}
-use Rattle.std.proofs.lemmas.Bool.{cond_both}
+use Rattle.std.proofs.lemmas.Bool.{cond_both, cases_order}
 use Rattle.std.proofs.Math.Nat.{eq-or-lt_of_le}
-use Rattle.std.proofs.lemmas.Bool.{cases_order}
 use Rattle.clip_spans.specs.Clipping.{clipped_at, is_same}
 use Rattle.clip_spans.specs.Runs.{span, IsRun, AreRunsFrom, AreSpans, Alternate, joined, runs_from, spans_of}
 use Rattle.clip_spans.specs.declared.Rect.{Rect}

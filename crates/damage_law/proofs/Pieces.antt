@@ -21,8 +21,7 @@ use Rattle.picture_model.specs.Programs.{compiled, instr_by, instr_of}
 use Rattle.picture_model.proofs.Grains.{row_grains}
 use Rattle.picture_model.proofs.FaultlessGeometry.{IsRight}
 use Rattle.picture_model.proofs.Safe.{cuts_follow}
-use Rattle.picture_model.proofs.Strips.{IsStrip}
-use Rattle.picture_model.proofs.Strips.{row-IsStrip, skipped-IsStrip, vbi-IsStrip}
+use Rattle.picture_model.proofs.Strips.{IsStrip, row-IsStrip, skipped-IsStrip, vbi-IsStrip}
 use Rattle.field_law.specs.CutLines.{address_in}
 use Rattle.field_law.specs.Sections.{Ask, Await, Begin, GoOn, ask, ask_of, asked}
 use Rattle.field_law.proofs.CutLines.{address_behind, address_here}

@@ -174,8 +174,10 @@ module _ (entry_at : ℕ → Entry) where
       let is : t.entry ≡ entry_at place = order.1 ∙ ap entry_at there in
       let valid = valid_of place t is in
       elim (cases_Bool (x + t.count == valid_bytes t.entry.status)) [
-        | inl whole ↦ (let now = rw whole at tail in let (end, r) = go_on-reaches t.place (t.taken + t.count) (place + 1) 0 rest order.4 now in let all = eqb-true _ _ whole in (end, reaches_after place x t rest there same is order.2 end (all ∙ valid) r))
-        | inr part ↦ (let now = rw part at tail in let (end, r) = go_on-reaches t.place (t.taken + t.count) place (x + t.count) rest order.4 now in let apart = eqb-false _ _ part in let most = order.3 in (end, reaches_within place x t rest there same is order.2 end (omega (arith, apart, most, valid, same)) r))
+        | inl whole ↦ (let now = rw whole at tail in let (end, r) = go_on-reaches t.place (t.taken + t.count) (place + 1) 0 rest order.4 now in
+            let all = eqb-true _ _ whole in (end, reaches_after place x t rest there same is order.2 end (all ∙ valid) r))
+        | inr part ↦ (let now = rw part at tail in let (end, r) = go_on-reaches t.place (t.taken + t.count) place (x + t.count) rest order.4 now in
+            let apart = eqb-false _ _ part in let most = order.3 in (end, reaches_within place x t rest there same is order.2 end (omega (arith, apart, most, valid, same)) r))
       ]
 
   -- and the other way round: takings in order that take just the bytes from there to an end go on so
@@ -203,7 +205,8 @@ module _ (entry_at : ℕ → Entry) where
         let less : place < end = omega (arith, begin.0.0, begin.1) in
         elim ((just place x).1 ((omega arith, λ _. omega arith), less, open_.valid less)) [
           | inl here ↦ (let from = begin.0.1 here.0 in (less, here.0, omega (arith, here.1, from)))
-          | inr later ↦ (let after = taken_from t.place (t.taken + t.count) place x rest order later in let same : place ≡ t.place = omega (arith, after.0, begin.0.0) in let more = after.1 same in let from = begin.0.1 (sym same) in absurd (omega (arith, more, from, some)))
+          | inr later ↦ (let after = taken_from t.place (t.taken + t.count) place x rest order later in let same : place ≡ t.place = omega (arith, after.0, begin.0.0) in
+              let more = after.1 same in let from = begin.0.1 (sym same) in absurd (omega (arith, more, from, some)))
         ]
 
     module _ (there : t.place ≡ place) (same : t.taken ≡ x) where
@@ -246,7 +249,8 @@ module _ (entry_at : ℕ → Entry) where
   goes_on-none place x end open_ just =
       elim (cases_lt place end) [
         | inl less ↦ absurd ((just place x).1 ((omega arith, λ _. omega arith), less, open_.valid less))
-        | inr over ↦ (let none = open_.over over in let upto = open_.upto in let same : end ≡ place = omega arith in subst (λ (n : ℕ). GoesOn place n end []) (sym none) (refl, (let nothing : end - place ≡ 0 = omega arith in rw nothing refl)))
+        | inr over ↦ (let none = open_.over over in let upto = open_.upto in
+            let same : end ≡ place = omega arith in subst (λ (n : ℕ). GoesOn place n end []) (sym none) (refl, (let nothing : end - place ≡ 0 = omega arith in rw nothing refl)))
       ]
 
   takes-go_on : (from y place x end : ℕ) (ts : List Taking) → HasBytes place end → AreInOrder entry_at from y ts → IsOpen place x end → TakesJust place x end ts → GoesOn place x end ts
@@ -267,8 +271,10 @@ module _ (entry_at : ℕ → Entry) where
             let below : x + t.count < valid_at place = omega (arith, apart, order.3, valid, same) in
             let next : IsOpen place (x + t.count) end = record { upto = omega arith; valid = λ _. below; over = λ over. absurd (omega (arith, over, less)) } in
             let later = takes-go_on t.place (t.taken + t.count) place (x + t.count) end rest has order.4 next (rest_within place x end t rest order.4 order.2 open_ just there same) in
-            let begin = begin_within place (x + t.count) (omega (arith, order.2)) in
-            (go_step place x t rest there same (cond-false _ (go_on (place + 1) 0 rest) (go_on place (x + t.count) rest) part ∙ later.0), entries_with place x end t rest less same is (subst (λ (n : ℕ). entries_taken rest ≡ entries_from entry_at n (end - n)) begin later.1)))
+            let begin = begin_within place (x + t.count) (omega (arith, order.2)) in (
+              go_step place x t rest there same (cond-false _ (go_on (place + 1) 0 rest) (go_on place (x + t.count) rest) part ∙ later.0),
+              entries_with place x end t rest less same is (subst (λ (n : ℕ). entries_taken rest ≡ entries_from entry_at n (end - n)) begin later.1),
+            ))
       ]
 
   -- the entries of a line have valid bytes
@@ -339,7 +345,8 @@ module _ (entry_at : ℕ → Entry) where
   whole-line ts order whole =
       let (some, has) = line-has_bytes whole.from whole.count whole.line in
       let begun : IsOpen whole.from 0 (whole.from + whole.count) = record { upto = omega arith; valid = λ less. has whole.from (omega arith) less; over = λ _. refl } in
-      let just : TakesJust whole.from 0 (whole.from + whole.count) ts = λ other y. ((λ taken. let byte = (whole.bytes other y).0 taken in ((byte.0, λ _. omega arith), byte.1, byte.2)), (λ within. (whole.bytes other y).1 (within.0.0, within.1, within.2))) in
+      let just : TakesJust whole.from 0 (whole.from + whole.count) ts =
+      λ other y. ((λ taken. let byte = (whole.bytes other y).0 taken in ((byte.0, λ _. omega arith), byte.1, byte.2)), (λ within. (whole.bytes other y).1 (within.0.0, within.1, within.2))) in
       let (on, entries) = takes-go_on 0 0 whole.from 0 (whole.from + whole.count) ts has order begun just in
       let many : whole.from + whole.count - whole.from ≡ whole.count = omega arith in
       and_from (follow_on ts) (is_line (entries_taken ts)) (follows_on whole.from ts on)

@@ -664,7 +664,8 @@ module _ (d : Desc) (right : IsRight d) (skips : d.skip_lines ≤ 255) where
             and_from (is_synced (seen m).did) ((seen m).at == begin_of d right opened_field) (ap (λ (s : Seen). is_synced s.did) seen_is)
             (eq-eqb (seen m).at (begin_of d right opened_field) (ap (λ (s : Seen). s.at) seen_is ∙ o.there))
 
-        gap : InGap (compiled d) (signal opened_field) (next_of d right opened_field) (end_of d right opened_field) (section_lines d opened_field) (fetched (Ok (opening opened_field, 2)) (counted m)) (record t { marks = fresh; lost = false; lines = [] }) (past_of m (Turn ∷ []))
+        gap : InGap (compiled d) (signal opened_field) (next_of d right opened_field) (end_of d right opened_field) (section_lines d opened_field)
+            (fetched (Ok (opening opened_field, 2)) (counted m)) (record t { marks = fresh; lost = false; lines = [] }) (past_of m (Turn ∷ []))
         gap =
             record {
               here = begin_of d right opened_field + 8;
@@ -689,7 +690,8 @@ module _ (d : Desc) (right : IsRight d) (skips : d.skip_lines ≤ 255) where
             Visit (compiled d) (signal opened_field) (next_of d right opened_field) (end_of d right opened_field) (section_lines d opened_field) after next (past_of m (Turn ∷ [])) (gone_of m (Turn ∷ []))
         visit_by after next is next_is =
             subst (λ (x : State). Visit (compiled d) (signal opened_field) (next_of d right opened_field) (end_of d right opened_field) (section_lines d opened_field) x next (past_of m (Turn ∷ [])) (gone_of m (Turn ∷ []))) (sym is)
-            (subst (λ (x : FieldTrack). Visit (compiled d) (signal opened_field) (next_of d right opened_field) (end_of d right opened_field) (section_lines d opened_field) (fetched (Ok (opening opened_field, 2)) (counted m)) x (past_of m (Turn ∷ [])) (gone_of m (Turn ∷ []))) (sym next_is)
+            (subst (λ (x : FieldTrack). Visit (compiled d) (signal opened_field) (next_of d right opened_field) (end_of d right opened_field) (section_lines d opened_field)
+            (fetched (Ok (opening opened_field, 2)) (counted m)) x (past_of m (Turn ∷ [])) (gone_of m (Turn ∷ []))) (sym next_is)
             (inl gap))
 
         fresh_calm : (g : Parity) → lines_at_signal g (record t { marks = fresh; lost = false; lines = [] }) ≡ lines_at_signal g t

@@ -21,8 +21,7 @@ use Rattle.machine_model.specs.States.{State, first_state}
 use Rattle.machine_model.specs.Steps.{Step, Push, Control, Turn, Host, run, state_at, step, with_program}
 use Rattle.machine_model.proofs.Runs.{program-run}
 use Rattle.capture_desc.specs.declared.desc.Desc.{Desc}
-use Rattle.picture_model.specs.Described.{both, describes, field_height, picture_row}
-use Rattle.picture_model.specs.Described.{rows_of as rows_described}
+use Rattle.picture_model.specs.Described.{both, describes, field_height, picture_row, rows_of as rows_described}
 use Rattle.picture_model.specs.Programs.{body, compiled, section_begin, section_next, signal}
 use Rattle.picture_model.proofs.Each.{Each}
 use Rattle.picture_model.proofs.FaultlessGeometry.{IsRight, IsFrame-IsRight, IsValid-IsFrame}

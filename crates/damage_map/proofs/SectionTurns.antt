@@ -411,7 +411,8 @@ module _ (program : RiscProgram) (closing : Ctl) (target end : ℕ) (all : List 
         in
         subst (λ (told : FieldTrack). Visit program closing target end all after told (next_past s (λ q. [])) (next_gone after)) through_is
         (with_same_past after (through (is_none l.rest) (with_loss t)) s refl
-        (advance program closing target end all few after (with_loss t) past (next_gone after) l.here l.lines l.done l.moved l.instr l.parts l.are l.through.below l.before some l.rest behind l.goes.0.ends l.whole l.stands.3 (later_ends l) l.goes.1))
+        (advance program closing target end all few after (with_loss t) past (next_gone after) l.here l.lines l.done l.moved l.instr l.parts l.are l.through.below l.before some
+        l.rest behind l.goes.0.ends l.whole l.stands.3 (later_ends l) l.goes.1))
 
     skips_by : (skipping : Skipping) → m.skipping ≡ skipping → data_cause m.program.grants l.instr (target_before l.instr m.target) ≡ None →
         Result (data_fetched skipping l.instr many (counted m)) (seen_alone (data_did skipping) m.pc) (λ q. [])
@@ -619,7 +620,8 @@ module _ (program : RiscProgram) (closing : Ctl) (target end : ℕ) (all : List 
           let through_is : through (is_none l.rest) told ≡ turned program (GivenUp q) (seen_there true) t =
           ap (λ (b : Bool). through b told) (sym (l.goes.0.ends)) ∙ ap (λ (r : Reading). through (ends_line r) told) (sym l.stands.0) in
           subst (λ (x : FieldTrack). Visit program closing target end all after x (next_of true) (next_gone after)) through_is
-          (advance program closing target end all few after told (next_of true) (next_gone after) l.here l.lines l.done l.moved l.instr l.parts l.are l.through.below l.before long l.rest behind l.goes.0.ends l.whole l.stands.3 (later_ends l) l.goes.1)
+          (advance program closing target end all few after told (next_of true) (next_gone after) l.here l.lines l.done l.moved l.instr l.parts l.are l.through.below l.before long
+          l.rest behind l.goes.0.ends l.whole l.stands.3 (later_ends l) l.goes.1)
 
     burst_on : (q : Queue) → Result (burst m.trigger q (counted m)) (seen_burst q l.here (applications m.trigger q m)) (λ p. served_takings (Some q) p l.here (gone p) (counted m))
     burst_on q =

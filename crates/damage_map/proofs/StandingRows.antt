@@ -151,7 +151,8 @@ module _ (d : Desc) (right : IsRight d) (field : Parity) (described : describes 
       let start : rows_begin d right field described + 4 * 0 ≡ rows_begin d right field described = omega arith in
       let kind : slice_index_or (row_kinds d right field described) number OfSkipped ≡ OfRow number = get_or-map-range_with_len OfRow 0 height number number OfSkipped below here in
       subst (λ (k : Kind). RowAt k (slice_index_or (row_addresses d field) number [])) kind
-      (subst (λ (lines : List (List Instr)). RowAt (slice_index_or (row_kinds d right field described) number OfSkipped) (slice_index_or (lines_from (rows_begin d right field described) lines) number [])) (sym (rows_map d right field described))
+      (subst (λ (lines : List (List Instr)). RowAt (slice_index_or (row_kinds d right field described) number OfSkipped)
+      (slice_index_or (lines_from (rows_begin d right field described) lines) number [])) (sym (rows_map d right field described))
       (row_index (row_kinds d right field described) (rows_begin d right field described) number [] (subst (λ (n : ℕ). number < n) (sym (kinds_long 0 height)) below)
       (each_map (λ k. k < height) (IsOne d right field described) OfRow (range_with_len 0 height) (λ k less. less) (each_range 0 height height (omega arith)))
       (subst (λ (x : ℕ). BeginAt d right field described x (row_kinds d right field described)) start (rows_begin_at d right field described 0 height)) (rows_hold d right field described)))
@@ -191,7 +192,8 @@ module _ (d : Desc) (right : IsRight d) (field : Parity) (described : describes 
 
   taken_stands : list_all (is_among (retires first since)) addresses ≡ true → (x < length (taken_bytes ts)) × (byte_at m.memory address ≡ slice_index (taken_bytes ts) x)
   taken_stands retired =
-      let all = all_in d right field described m (past_of first since) k (OfRow number) q moved r.begin r.tail (signal field) (to d right field described) r.one r.begins r.holds [] (cuts_on d right field described (OfRow number)) r.begin refl r.holds in
+      let all = all_in d right field described m (past_of first since) k (OfRow number) q moved r.begin r.tail (signal field) (to d right field described) r.one r.begins r.holds []
+      (cuts_on d right field described (OfRow number)) r.begin refl r.holds in
       let stands = cuts_stand d right field described m (past_of first since) k (OfRow number) q moved (cuts_on d right field described (OfRow number)) r.begin x address all
       (ap (list_all (is_among (retires first since))) (sym r.same) ∙ retired) goes in
       subst (λ (a : List ℕ). (x < length (taken_bytes (takings_at a q first since))) × (byte_at m.memory address ≡ slice_index (taken_bytes (takings_at a q first since)) x)) (sym r.same) stands
@@ -295,7 +297,8 @@ module _ (d : Desc) (field : Parity) (fill : ℕ) (steps : List Step) (j k : ℕ
   signals_there : is_signal (section_of d field) before Turn ≡ true
   signals_there = ap (is_signal (section_of d field) before) (sym last_turn) ∙ is.signal
 
-  there : (first : State) × (since : List Step) × Found d right_there is.description.skipped field is.described before (tracked start (take k steps) untold) (λ g. opened_after d g None start (take k steps)) kept_there.0 kept_there.1 signals_there field first since
+  there : (first : State) × (since : List Step) × Found d right_there is.description.skipped field is.described before (tracked start (take k steps) untold)
+      (λ g. opened_after d g None start (take k steps)) kept_there.0 kept_there.1 signals_there field first since
   there = found d right_there is.description.skipped field is.described before (tracked start (take k steps) untold) (λ g. opened_after d g None start (take k steps)) kept_there.0 kept_there.1 signals_there kept_there.1.place
 
   earlier : j < k

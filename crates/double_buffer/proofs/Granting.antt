@@ -8,7 +8,7 @@ use Rattle.std.proofs.lemmas.List.Elements.{All-head, All-tail}
 use Rattle.std.proofs.lemmas.List.Folds.{list_any-append}
 use Rattle.std.proofs.lemmas.List.Quantifiers.{position-Some}
 use Rattle.std.proofs.lemmas.List.Sums.{prefix_len_passes}
-use Rattle.page_table.proofs.Listed.{any_listed}
+use Rattle.page_table.proofs.Listed.{any_map}
 use Rattle.page_table.specs.Grants.{Chunk}
 use Rattle.page_table.specs.Taken.{all_placed, first_shared, is_aligned, listed, pair_chunk, placed, shares}
 use Rattle.page_table.proofs.Placing.{list_any-placed}
@@ -88,7 +88,7 @@ shared-listed one two =
     position-listed (λ (c : Chunk). list_any (shares c) (listed one)) two
     ∙ ap (λ (k : ℕ). cond (nat_lt k (length two)) (Some k) None)
     (position-alike (λ (pair : ℕ × ℕ). list_any (shares (pair_chunk pair)) (listed one)) (λ (pair : ℕ × ℕ). list_any (λ other. shares (pair_chunk pair) (pair_chunk other)) one)
-    (λ pair. any_listed (shares (pair_chunk pair)) one) two)
+    (λ pair. any_map (shares (pair_chunk pair)) pair_chunk one) two)
 
 none_pass : {X : Type 0} (p : X → Bool) (xs : List X) → position p xs ≡ None → All (λ x. p x ≡ false) xs
 none_pass {X = X} p xs none k d within =
@@ -122,5 +122,7 @@ not_aligned false e = cc
 pub all_aligned : (pairs : List (ℕ × ℕ)) → All (λ c. is_aligned c ≡ true) (listed pairs) → position (λ pair. not (is_aligned (pair_chunk pair))) pairs ≡ None
 all_aligned pairs aligned =
     no_place (λ (pair : ℕ × ℕ). not (is_aligned (pair_chunk pair))) pairs (0, 0)
-    (λ k d within. not_aligned (is_aligned (pair_chunk (get_or pairs k d))) (subst (λ (c : Chunk). is_aligned c ≡ true) (get_or-map pair_chunk pairs k d (pair_chunk d) within) (aligned k (pair_chunk d) (subst (λ (n : ℕ). k < n) (sym (length-map pairs pair_chunk)) within))))
+    (λ k d within. not_aligned (is_aligned (pair_chunk (get_or pairs k d)))
+    (subst (λ (c : Chunk). is_aligned c ≡ true) (get_or-map pair_chunk pairs k d (pair_chunk d) within)
+    (aligned k (pair_chunk d) (subst (λ (n : ℕ). k < n) (sym (length-map pairs pair_chunk)) within))))
     (position (λ (pair : ℕ × ℕ). not (is_aligned (pair_chunk pair))) pairs) refl

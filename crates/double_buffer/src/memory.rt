@@ -1,6 +1,6 @@
 //! The memory of two descriptions.
 
-ghost use Rattle.std.specs.Prelude.{◌≡◌, ◌<◌, false, length, map, IfErr, IfOk, IfSome, None, OnOk};
+ghost use Rattle.std.specs.Prelude.{◌≡◌, ◌<◌, false, length, IfErr, IfOk, IfSome, None, OnOk};
 ghost use Rattle.std.specs.List.{list_any, position};
 ghost use Rattle.page_table.specs.Grants.{chunk};
 ghost use Rattle.page_table.specs.Taken.{in_order, listed, pair_chunk, shares};
@@ -11,7 +11,7 @@ ghost use Rattle.double_buffer.specs.Pairs.{memory_of_two};
 
 use crate::faults::{ChainFault, DoubleBufferError};
 use capture_desc::Desc;
-use page_table::{PAGE_SIZE, PageFault, PageSet};
+use page_table::{PageFault, PageSet, whole_pages};
 use planar_plan::Frame;
 use std::alloc::{AllocError, Global};
 
@@ -23,12 +23,6 @@ fn memory_of(alloc: Global, desc: &Desc) -> Result<Vec<(u32, u32)>, AllocError>
         None => Ok(whole_pages(alloc, desc.pages.as_slice())?),
         Some(chunks) => copied(alloc, chunks.as_slice()),
     }
-}
-
-fn whole_pages(alloc: Global, pages: &[u32]) -> Result<Vec<(u32, u32)>, AllocError>
-    ensures { IfOk result (λ pairs. pairs.items ≡ map (λ page. (page, 4096)) pages.now) }
-{
-    pages.iter().map(|page| (*page, PAGE_SIZE)).collect(alloc)
 }
 
 fn copied(alloc: Global, chunks: &[(u32, u32)]) -> Result<Vec<(u32, u32)>, AllocError>

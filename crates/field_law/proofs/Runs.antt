@@ -89,7 +89,8 @@ module _ (s : Section) (field : Queue → List Token) (uses : Uses s field) (giv
   runs (met ∷ early) late later bound m orderly made held kept silent h =
       let parts = or_parts (is_signal s m met.1) (has_signal s (after m met) early) silent in
       let one = steps_on (coming (early ++ later)) bound m met met.1 orderly (All-head (λ met. Holds s met.0) met (early ++ late) held) kept.0 parts.0 h in
-      let rest = runs early late later one.next (after m met) (IsOrderly-after m met (All-head (λ met. IsStep met.1) met (early ++ late) made) orderly) (All-tail (λ met. IsStep met.1) met (early ++ late) made) (All-tail (λ met. Holds s met.0) met (early ++ late) held) kept.1 parts.1 one.reached in
+      let rest = runs early late later one.next (after m met) (IsOrderly-after m met (All-head (λ met. IsStep met.1) met (early ++ late) made) orderly)
+      (All-tail (λ met. IsStep met.1) met (early ++ late) made) (All-tail (λ met. Holds s met.0) met (early ++ late) held) kept.1 parts.1 one.reached in
       let first_most = one.most in
       let rest_most = rest.most in
       record { next = rest.next; reached = rest.reached; most = omega arith; orderly = rest.orderly; made = rest.made; kept = rest.kept }
@@ -100,7 +101,8 @@ module _ (s : Section) (field : Queue → List Token) (uses : Uses s field) (giv
   counted_runs (met ∷ steps) bound m orderly made held kept silent h =
       let parts = or_parts (is_signal s m met.1) (has_signal s (after m met) steps) silent in
       let one = counts_on bound m met met.1 orderly (All-head (λ met. Holds s met.0) met steps held) kept.0 parts.0 h in
-      let rest = counted_runs steps one.next (after m met) (IsOrderly-after m met (All-head (λ met. IsStep met.1) met steps made) orderly) (All-tail (λ met. IsStep met.1) met steps made) (All-tail (λ met. Holds s met.0) met steps held) kept.1 parts.1 one.reached in
+      let rest = counted_runs steps one.next (after m met) (IsOrderly-after m met (All-head (λ met. IsStep met.1) met steps made) orderly)
+      (All-tail (λ met. IsStep met.1) met steps made) (All-tail (λ met. Holds s met.0) met steps held) kept.1 parts.1 one.reached in
       let first_most = one.most in
       let rest_most = rest.most in
       record { next = rest.next; reached = rest.reached; most = omega arith }

@@ -93,7 +93,8 @@ nothing_ahead (other ∷ held) later rest entry a b e = cc
 
 -- ---- a turn
 
-module _ (Ends : List ℕ → List Token → Type 0) (Rests : List Entry → Type 0) (Stands : ℕ → List Instr → Type 0) (Comes : List Block → (Queue → List Store) → Type 0) (later : Queue → List Entry) (bound : ℕ) (ctl : Ctl) (resync : Bool) (code : Code)
+module _ (Ends : List ℕ → List Token → Type 0) (Rests : List Entry → Type 0) (Stands : ℕ → List Instr → Type 0) (Comes : List Block → (Queue → List Store) → Type 0)
+    (later : Queue → List Entry) (bound : ℕ) (ctl : Ctl) (resync : Bool) (code : Code)
     (m : State) (j : m.job ≡ Waiting ctl resync code) (h : IsWithin Ends Rests Stands Comes later bound m) where
   waits : WithinJob Ends Rests Stands Comes later bound (Waiting ctl resync code) m
   waits = subst (λ (job : Job). WithinJob Ends Rests Stands Comes later bound job m) j h

@@ -11,11 +11,10 @@ use Rattle.capture_desc.specs.declared.desc.Desc.{Desc}
 use Rattle.picture_model.specs.Described.{field_height, layout_of, plane_row_bytes}
 use Rattle.picture_model.specs.Programs.{data_code, vertical}
 use Rattle.picture_model.proofs.FaultlessGeometry.{IsRight, IsFrame-IsRight}
-use Rattle.field_law.specs.Arrivals.{is_queue}
+use Rattle.field_law.specs.Arrivals.{is_queue, pushed_in}
 use Rattle.field_law.specs.Fields.{Mark, Brings}
 use Rattle.field_law.proofs.Bringing.{mark_brings}
 use Rattle.picture_law.specs.Pictures.{AreLines, AreRows, HoldBytes, IsField, IsPicture, Picture, field_tokens, lines_of, lines_on, picture_tokens, plane_of, rows_on, vbi_on, vbi_tokens}
-use Rattle.field_law.specs.Arrivals.{pushed_in}
 use Rattle.field_stream.specs.Pushes.{Push, packed_line, picture_line, picture_pushes, repeated, vbi_pushes}
 use Rattle.field_stream.proofs.Moving.{repeated_split}
 use Rattle.generated_law.specs.Drawn.{BringsPicture, DrawsPicture, bytes_before, cut, drawn_bytes, drawn_entries, drawn_picture, drawn_steps, number_behind, vbi_bytes_on}

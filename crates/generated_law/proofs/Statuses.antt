@@ -7,8 +7,7 @@ use Rattle.fifo_model.specs.declared.Entry.{Entry}
 use Rattle.fifo_model.specs.declared.Queue.{Queue}
 use Rattle.fifo_model.specs.declared.Queue.TheVariants.{One}
 use Rattle.machine_model.specs.Steps.{Step}
-use Rattle.field_law.specs.Arrivals.{is_queue, pushed_by}
-use Rattle.field_law.specs.Arrivals.{pushed_in}
+use Rattle.field_law.specs.Arrivals.{is_queue, pushed_by, pushed_in}
 use Rattle.field_stream.specs.Made.{after}
 use Rattle.field_stream.specs.Pushes.{Push, Mark, Fill, line_entries, packed_line, status_at}
 use Rattle.generated_law.specs.Drawn.{drawn_steps, number_behind}

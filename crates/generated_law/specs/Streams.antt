@@ -7,22 +7,20 @@ use Rattle.fifo_model.specs.Queues.{queue_state}
 use Rattle.pixel_layout.specs.declared.Parity.{Parity}
 use Rattle.pixel_layout.specs.declared.Parity.TheVariants.{Top, Bottom}
 use Rattle.machine_model.specs.declared.Job.TheVariants.{Waiting}
-use Rattle.machine_model.specs.States.{State}
+use Rattle.machine_model.specs.States.{State, first_state}
 use Rattle.machine_model.specs.Steps.{Step}
 use Rattle.capture_desc.specs.declared.desc.Desc.{Desc}
 use Rattle.capture_desc.specs.declared.desc.Fields.{Fields}
 use Rattle.capture_desc.specs.declared.desc.Fields.TheVariants as fields
 use Rattle.picture_model.specs.Described.{IsDescription, describes}
 use Rattle.picture_model.specs.Geometry.{IsValid}
-use Rattle.picture_model.specs.Programs.{no_control, vertical}
+use Rattle.picture_model.specs.Programs.{no_control, vertical, compiled}
 use Rattle.field_stream.specs.Generator.{first_number}
 use Rattle.field_stream.specs.Pushes.{Push, field_pushes, stream_pushes}
 use Rattle.picture_law.specs.Pictures.{After, Picture}
 use Rattle.field_law.specs.Arrivals.{AreKept, HasCode, meeting, pushed_in}
 use Rattle.picture_law.specs.Sections.{section_of}
 use Rattle.picture_law.specs.Runs.{ArrivesAt, IsFirstSignal, IsSignalled, between, state_of}
-use Rattle.machine_model.specs.States.{first_state}
-use Rattle.picture_model.specs.Programs.{compiled}
 use Rattle.generated_law.specs.Drawn.{drawn_picture, drawn_steps, number_behind}
 
 -- the steps of a stream

@@ -81,7 +81,8 @@ one_more_pair entries pairs i aligned within so_far apart =
     let placing = listed-insert_entry pair.0 pair.1 0 entries good so_far.rises apart in
     let before : listed (take (i + 1) pairs) ≡ listed (take i pairs) ++ pair_chunk pair ∷ [] = map_more pair_chunk pairs i (0, 0) within in
     let after : listed (drop i pairs) ≡ pair_chunk pair ∷ listed (drop (i + 1) pairs) = ap listed (drop_more pairs i (0, 0) within) in
-    let here : IsGathered (listed entries) (listed (take i pairs)) (pair_chunk pair ∷ listed (drop (i + 1) pairs)) (listed pairs) = subst (λ (rest : List Chunk). IsGathered (listed entries) (listed (take i pairs)) rest (listed pairs)) after so_far in
+    let here : IsGathered (listed entries) (listed (take i pairs)) (pair_chunk pair ∷ listed (drop (i + 1) pairs)) (listed pairs) = subst
+    (λ (rest : List Chunk). IsGathered (listed entries) (listed (take i pairs)) rest (listed pairs)) after so_far in
     let done = one_more (listed entries) (listed (take i pairs)) (listed (drop (i + 1) pairs)) (listed pairs) (pair_chunk pair) here good apart in
     rw (placing, before) done
 

@@ -86,6 +86,15 @@ pub fn any_met(begin: u32, end: u64, chunks: &[(u32, u32)]) -> bool
         .any(|chunk| is_met(begin, end, chunk.0, chunk.1))
 }
 
+/// Whether one of the pages at some addresses shares a byte with the addresses from `begin` up to `end`.
+pub fn any_page_met(begin: u32, end: u64, pages: &[u32]) -> bool
+    ensures { result ≡ list_any (λ page. is_met begin end (page_at page)) pages.now }
+{
+    pages
+        .iter()
+        .any(|page| is_met(begin, end, *page, PAGE_SIZE))
+}
+
 fn is_aligned(at: u32, len: u32) -> bool
     ensures { result ≡ is_aligned (chunk at len) }
 {
@@ -113,7 +122,9 @@ fn first_off_page(pages: &[u32]) -> Option<usize>
     pages.iter().position(|page| page % PAGE_SIZE != 0)
 }
 
-fn whole_pages(alloc: Global, pages: &[u32]) -> Result<Vec<(u32, u32)>, AllocError>
+/// The pages at some addresses as chunks, an address and a length in bytes each, in the order of the list. The
+/// error is want of memory.
+pub fn whole_pages(alloc: Global, pages: &[u32]) -> Result<Vec<(u32, u32)>, AllocError>
     ensures { IfOk result (λ chunks. chunks.items ≡ map (λ page. (page, page_size)) pages.now) }
 {
     pages.iter().map(|page| (*page, PAGE_SIZE)).collect(alloc)
@@ -333,6 +344,8 @@ mod tests {
         assert!(rt; set.as_slice() == [(0x20000, 4096), (0x30000, 4096)].as_slice());
         assert!(rt; set.meets(0x20ffc, 0x21004));
         assert!(rt; !set.meets(0x21000, 0x30000));
+        assert!(rt; any_page_met(0x2fffc, 0x30004, &[0x20000, 0x30000]));
+        assert!(rt; !any_page_met(0x21000, 0x30000, &[0x20000, 0x30000]));
         assert!(rt; is_page(0x30000, 4096));
         assert!(rt; !is_page(0x30004, 4096));
         Ok(())

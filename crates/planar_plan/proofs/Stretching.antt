@@ -1,6 +1,6 @@
 -- A line that stands in stretches: each of its spans is one piece.
 use Rattle.std.proofs.Common.{[], ◌∷◌, ◌++◌, ◌≡◌, ℕ, zero, suc, ◌+◌, ◌-◌, ◌*◌, ◌^◌, ◌<◌, ◌≤◌, Bool, true, false, List, Option, Some, None, refl, sym, ap, ◌∙◌, subst, arith, min, length, take, get_or, ⊎_elim}
-use Rattle.std.specs.List.{flat_map}
+use Rattle.std.specs.List.{flat_map, All}
 use Rattle.std.proofs.lemmas.Bool.{cases_lt, le-ltb, lt-ltb}
 use Rattle.std.proofs.lemmas.Grind.{flat_map-append}
 use Rattle.page_table.specs.Grants.{Chunk}
@@ -13,7 +13,6 @@ use Rattle.picture_model.specs.declared.Piece.{Piece}
 use Rattle.picture_model.specs.Plans.{FitsTrack, Strip, Track, address_of, Cut, bytes_free, cut, cuts_from, cuts_of, longest, most_of, piece_of, pieces_of, span_cuts, track}
 use Rattle.planar_plan.proofs.Bounds.{fewer_grains}
 use Rattle.planar_plan.proofs.Reaching.{all_held, run_parts}
-use Rattle.std.specs.List.{All}
 use Rattle.std.proofs.lemmas.List.Elements.{All-append, All-cons, All-nil}
 use Rattle.planar_plan.specs.Lines.{AreHeld, AreWithin, CountsFit, IsHeld, strip_of, track_of}
 use Rattle.planar_plan.specs.declared.cut.Line.{Line}

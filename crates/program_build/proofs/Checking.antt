@@ -1,8 +1,8 @@
 -- What holds of a checked description and its program.
-use Rattle.std.proofs.Common.{◌≡◌, ℕ, ◌+◌, ◌*◌, ◌^◌, Bool, not, ◌&&◌, ◌||◌, List, [], ◌∷◌, length, map, refl, Option, Some, None, sym, ap, ◌∙◌}
+use Rattle.std.proofs.Common.{◌≡◌, ℕ, ◌+◌, ◌*◌, ◌^◌, not, ◌&&◌, List, [], ◌∷◌, length, Option, Some, None, sym, ap, ◌∙◌}
 use Rattle.std.specs.Prelude.{nat_le}
 use Rattle.std.specs.List.{list_any}
-use Rattle.page_table.specs.Grants.{Chunk}
+use Rattle.page_table.specs.Grants.{Chunk, is_met}
 use Rattle.machine_model.specs.Paths.{IsProgram, IsSound, RiscProgram}
 use Rattle.capture_desc.specs.declared.desc.Desc.{Desc}
 use Rattle.picture_model.specs.declared.BuildFault.{BuildFault}
@@ -14,7 +14,6 @@ use Rattle.picture_model.proofs.CompiledProgram.{compiled_program}
 use Rattle.picture_model.proofs.FaultlessGeometry.{IsFrame-IsRight, IsValid-IsFrame}
 use Rattle.picture_model.proofs.Sections.{compiled_sound}
 use Rattle.planar_plan.proofs.Faults.{none_front}
-use Rattle.page_table.specs.Grants.{is_met}
 use Rattle.program_build.specs.Checks.{IsChecked}
 
 pub checked_program : (d : Desc) → IsChecked d → IsProgram (compiled d)
@@ -53,8 +52,3 @@ on_page d e end fault same ends right shared =
     in
     ap (λ (o : Option BuildFault). first_after o (program_on_page ∷ []) d) first
     ∙ ap (λ (o : Option BuildFault). first_after o [] d) second
-
--- a test of what a list is mapped to
-pub any_map : {A B : Type 0} (test : B → Bool) (f : A → B) (xs : List A) → list_any test (map f xs) ≡ list_any (λ x. test (f x)) xs
-any_map test f [] = refl
-any_map test f (x ∷ xs) = ap (λ (b : Bool). test (f x) || b) (any_map test f xs)

@@ -4,7 +4,6 @@ ghost use Rattle.std.specs.Prelude.{◌≡◌, ◌+◌, ◌*◌, ◌^◌, not, �
 ghost use Rattle.std.specs.List.{list_any};
 ghost use Rattle.std.specs.Result.{result_err};
 ghost use Rattle.page_table.specs.Grants.{is_met};
-ghost use Rattle.page_table.specs.Taken.{page_at};
 ghost use Rattle.picture_model.specs.Described.{IsDescription, memory_of};
 ghost use Rattle.picture_model.specs.Geometry.{first_after, is_multiple, program_faults, when};
 ghost use Rattle.picture_model.specs.Programs.{compiled};
@@ -12,7 +11,7 @@ ghost use Rattle.planar_plan.specs.Frames.{Judges};
 
 use crate::sections::sections_words;
 use capture_desc::Desc;
-use page_table::{PAGE_SIZE, any_met, is_met};
+use page_table::{any_met, any_page_met};
 use picture_model::BuildFault;
 use planar_plan::{BuildError, Frame};
 use std::alloc::Global;
@@ -28,18 +27,12 @@ fn program_base(base: u32, end: u64) -> Result<(), BuildFault>
     }
 }
 
-fn meets_pages(base: u32, end: u64, pages: &[u32]) -> bool
-    ensures { result ≡ list_any (λ page. is_met base end (page_at page)) pages.now }
-{
-    pages.iter().any(|page| is_met(base, end, *page, PAGE_SIZE))
-}
-
 // Whether a page or chunk of a description shares a byte with its program.
 fn meets_memory(base: u32, end: u64, desc: &Desc) -> bool
     ensures { result ≡ list_any (is_met base end) (memory_of desc.now) }
 {
     match &desc.chunks {
-        None => meets_pages(base, end, desc.pages.as_slice()),
+        None => any_page_met(base, end, desc.pages.as_slice()),
         Some(chunks) => any_met(base, end, chunks.as_slice()),
     }
 }

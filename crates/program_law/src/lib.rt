@@ -2,13 +2,11 @@
 //! else in it, and that each fault is decided by its field. The functions do nothing; their contracts are the laws.
 #![tactic(auto)]
 
-ghost use Rattle.std.specs.Prelude.{◌≡◌, ◌<◌, ◌≤◌, ◌++◌, ◌∷◌, [], ℕ, true, List, Ok, Err};
-ghost use Rattle.std.specs.Prelude.{drop, length, slice_index, take};
+ghost use Rattle.std.specs.Prelude.{◌≡◌, ◌<◌, ◌≤◌, ◌++◌, ◌∷◌, [], ℕ, true, List, Ok, Err, drop, length, slice_index, take};
 ghost use Rattle.capture_file.specs.Programs.{HasProgram, program_of};
 ghost use Rattle.capture_file.specs.Streams.{fault_at};
 ghost use Rattle.capture_file.specs.declared.FileFault.{FileFault};
-ghost use Rattle.capture_file.specs.declared.FileKind.TheVariants.{AfterEnd, Base, Count, Length, Magic};
-ghost use Rattle.capture_file.specs.declared.FileKind.TheVariants.{Order, Overlap, Page, Pages, Short};
+ghost use Rattle.capture_file.specs.declared.FileKind.TheVariants.{AfterEnd, Base, Count, Length, Magic, Order, Overlap, Page, Pages, Short};
 ghost use Rattle.capture_file.specs.declared.program.Layout.{Layout};
 ghost use Rattle.capture_file.specs.declared.program.ProgramFile.{ProgramFile};
 ghost use Rattle.machine_model.specs.Paths.{RiscProgram};

@@ -1,22 +1,21 @@
 -- What a judged ring meets.
-use Rattle.std.proofs.Common.{◌≡◌, ℕ, ◌+◌, ◌*◌, ◌%◌, ◌^◌, ◌<◌, ◌≤◌, Bool, true, false, ◌||◌, nat_le, Ok, Err, List, [], ◌∷◌, ◌++◌, Option, Some, None, Result, length, map, get_or, refl, subst, sym, ap, ◌∙◌, arith, Fits, w32}
+use Rattle.std.proofs.Common.{◌≡◌, ℕ, ◌+◌, ◌*◌, ◌%◌, ◌^◌, ◌<◌, ◌≤◌, Bool, true, false, nat_le, Ok, Err, List, [], ◌∷◌, ◌++◌, Option, Some, None, Result, length, map, get_or, refl, subst, sym, ap, ◌∙◌, arith, Fits, w32}
 use Rattle.std.specs.Prelude.{IfOk, ◌==◌}
 use Rattle.std.specs.List.{All, list_any, position, range_with_len}
 use Rattle.std.proofs.lemmas.Bool.{and_parts, eqb-true, leb-true, not-false}
 use Rattle.std.proofs.lemmas.Grind.{flat_map-append}
-use Rattle.std.proofs.lemmas.List.{append-nil}
+use Rattle.std.proofs.lemmas.List.{append-nil, get_or_default}
 use Rattle.risc_word.specs.Words.{encoded}
 use Rattle.picture_model.specs.Geometry.{is_multiple}
 use Rattle.picture_model.specs.Programs.{words_of}
 use Rattle.ring_compile.specs.declared.fault.RingFault.{RingFault}
 use Rattle.ring_compile.specs.declared.fault.RingFault.TheVariants.{ProgramBase, ProgramOnPage}
 use Rattle.ring_compile.specs.Files.{program_base, program_on_page, when}
-use Rattle.page_table.specs.Grants.{is_met}
 use Rattle.ring_compile.specs.Placed.{program_end}
-use Rattle.std.proofs.lemmas.List.{get_or_default}
 use Rattle.std.proofs.lemmas.List.FromFn.{length-map-range_with_len}
-use Rattle.page_table.specs.Grants.{Chunk, total}
+use Rattle.page_table.specs.Grants.{Chunk, is_met, total}
 use Rattle.page_table.specs.Taken.{in_order, page_at}
+use Rattle.page_table.proofs.Listed.{any_map}
 use Rattle.machine_model.specs.Paths.{IsSound, RiscProgram, shares_byte}
 use Rattle.page_table.specs.Scattered.{ArePages, IsScatterList, ScatterList}
 use Rattle.ring_model.specs.Rings.{IsRing, Ring, bytes_of, closing, ends, last_write, memory_of, opening, ring_program, round}
@@ -99,14 +98,10 @@ end_is r words front = let long = ring_length r in omega arith
 pub closing_fits : (r : Ring) → program_base r ≡ None → r.base + 8 < 2 ^ 32
 closing_fits r none = let ends = (base_judged r none).1 in let long = ring_length r in omega arith
 
-any_map : (test : Chunk → Bool) (pages : List ℕ) → list_any test (map page_at pages) ≡ list_any (λ page. test (page_at page)) pages
-any_map test [] = refl
-any_map test (page ∷ pages) = ap (λ (b : Bool). test (page_at page) || b) (any_map test pages)
-
 pub pages_met : (r : Ring) (end : ℕ) → end ≡ program_end r → list_any (λ page. is_met r.base end (page_at page)) r.pages ≡ list_any (shares_byte (ring_program r)) (memory_of r)
 pages_met r end is =
     ap (λ (e : ℕ). list_any (λ page. is_met r.base e (page_at page)) r.pages) is
-    ∙ sym (any_map (shares_byte (ring_program r)) r.pages)
+    ∙ sym (any_map (shares_byte (ring_program r)) page_at r.pages)
 
 pub kept : (r : Ring) (front words places : List ℕ) → IsRing r → IsFront r front places → program_base r ≡ None → program_on_page r ≡ None → words ≡ front ++ encoded (closing r) → IsKept r words places
 kept r front words places is front_is base pages added =

@@ -58,7 +58,8 @@ module _ (r : Ring) (is : IsRing r) (number : ℕ) (below : number < r.blocks * 
   run_longest at inside =
       let used = line_used in
       let most = is.line_bytes.1 in
-      let there : room_at (memory_of r) (number * r.line_bytes + at * 1) ≡ room_at (memory_of r) (number * r.line_bytes + at) = ap (room_at (memory_of r)) (let e : number * r.line_bytes + at * 1 ≡ number * r.line_bytes + at = omega arith in e) in
+      let there : room_at (memory_of r) (number * r.line_bytes + at * 1) ≡ room_at (memory_of r) (number * r.line_bytes + at) = ap (room_at (memory_of r))
+      (let e : number * r.line_bytes + at * 1 ≡ number * r.line_bytes + at = omega arith in e) in
       omega arith
 
   -- the first of the WRITEs that are left, as the line's first piece
@@ -96,7 +97,9 @@ module _ (r : Ring) (is : IsRing r) (number : ℕ) (below : number < r.blocks * 
       let not_last : at + n == r.line_bytes ≡ false = eqb-from-lt (at + n) r.line_bytes more in
       ap (last_with last) first
       ∙ last_more last _ _ _ (writes_from r number (at + n)) next
-      ∙ ap (λ (i : Instr). i ∷ last_with last (writes_from r number (at + n))) (same_write (control_at no_control (at + n == r.line_bytes)) (control_at last (at + n == r.line_bytes)) (at == 0) (at + n == r.line_bytes) n n _ _ (ap (control_at no_control) not_last ∙ sym (ap (control_at last) not_last)) refl refl))
+      ∙ ap (λ (i : Instr). i ∷ last_with last (writes_from r number (at + n)))
+      (same_write (control_at no_control (at + n == r.line_bytes)) (control_at last (at + n == r.line_bytes)) (at == 0) (at + n == r.line_bytes) n n _ _
+      (ap (control_at no_control) not_last ∙ sym (ap (control_at last) not_last)) refl refl))
       (λ end.
       let none = none_left (at + n) end in
       let is_last : at + n == r.line_bytes ≡ true = eq-eqb (at + n) r.line_bytes (omega arith) in

@@ -1,9 +1,8 @@
 -- What is kept of a ring, and what its reading tells before its place is judged.
-use Rattle.std.specs.Prelude.{◌≡◌, ℕ, ◌≤◌, List, length, map}
+use Rattle.std.specs.Prelude.{◌≡◌, ℕ, ◌≤◌, List, length, map, ◌∷◌}
 use Rattle.std.specs.List.{range_with_len}
 use Rattle.ring_model.specs.Rings.{IsPlaced, IsRing, Ring, last_write, opening, ring_program, round}
 use Rattle.picture_model.specs.Programs.{words_of}
-use Rattle.std.specs.Prelude.{◌∷◌}
 
 -- the values are within their bounds
 pub record IsInBounds (r : Ring) : Type 0 where

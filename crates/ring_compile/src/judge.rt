@@ -1,10 +1,10 @@
 //! The faults of a ring's place in memory.
-ghost use Rattle.page_table.specs.Grants.{is_met, max_chunks};
+ghost use Rattle.page_table.specs.Grants.{max_chunks};
 ghost use Rattle.std.specs.Prelude.{◌≡◌, ◌∷◌, ◌^◌, ◌<◌, ◌≤◌, length, IfOk};
-ghost use Rattle.std.specs.List.{All, list_any};
+ghost use Rattle.std.specs.List.{All};
 ghost use Rattle.std.specs.Result.{result_err};
 ghost use Rattle.page_table.specs.Scattered.{ArePages, IsScatterList};
-ghost use Rattle.page_table.specs.Taken.{Answers, in_order, page_at, taken_pages};
+ghost use Rattle.page_table.specs.Taken.{Answers, in_order, taken_pages};
 ghost use Rattle.picture_model.specs.Programs.{words_of};
 ghost use Rattle.ring_model.specs.Rings.{IsRing, memory_of, opening, round};
 ghost use Rattle.ring_compile.specs.Files.{◌or◌, Judges, page_fault, page_twice, page_unaligned, place_fault, program_base, program_on_page, too_few_pages};
@@ -16,7 +16,7 @@ use crate::fault::{RingError, RingFault};
 use crate::ring::{Ring, Values};
 use crate::words::{closing, front_words};
 use field_compile::push_instr;
-use page_table::{PAGE_SIZE, PageFault, PageSet, Scatter, ScatterFault, is_met};
+use page_table::{PageFault, PageSet, Scatter, ScatterFault, any_page_met};
 use std::alloc::Global;
 
 fn taken(alloc: Global, pages: &[u32]) -> Result<PageSet, PageFault>
@@ -92,19 +92,12 @@ fn judged_base(values: &Values, end: u64) -> Result<(), RingFault>
     }
 }
 
-// Whether a page shares a byte with a program.
-fn meets_pages(base: u32, end: u64, pages: &[u32]) -> bool
-    ensures { result ≡ list_any (λ page. is_met base end (page_at page)) pages.now }
-{
-    pages.iter().any(|page| is_met(base, end, *page, PAGE_SIZE))
-}
-
 // Judges a program against the pages.
 fn judged_against_pages(values: &Values, end: u64) -> Result<(), RingFault>
     requires { end ≡ program_end values.now }
     ensures { result_err result ≡ program_on_page values.now }
 {
-    if meets_pages(values.base, end, values.pages.as_slice()) {
+    if any_page_met(values.base, end, values.pages.as_slice()) {
         Err(RingFault::ProgramOnPage)
     } else {
         Ok(())

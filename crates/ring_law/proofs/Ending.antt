@@ -15,7 +15,7 @@ use Rattle.field_law.proofs.Within.{IsWithin, job_asks}
 use Rattle.machine_model.specs.declared.Job.{Job}
 use Rattle.ring_law.proofs.Making.{Makes}
 use Rattle.fifo_model.specs.declared.Queue.TheVariants.{One}
-use Rattle.field_law.proofs.AskedAndToCome.{Outlook}
+use Rattle.field_law.proofs.AskedAndToCome.{Outlook, between}
 use Rattle.fifo_model.specs.declared.Queue.{Queue}
 use Rattle.machine_model.specs.Paths.{RiscProgram}
 use Rattle.ring_law.proofs.Walks.{StandsFor, Walks, end_list, ends_at, left_behind, retired_ends, unretired_ends}
@@ -23,7 +23,6 @@ use Rattle.machine_model.specs.States.{State}
 use Rattle.machine_model.specs.Turns.{Store, counted, demand_on, is_done, ran, retired, stored_all, turn, turn_if, worked}
 use Rattle.machine_model.specs.Steps.{Turn}
 use Rattle.irq_status.specs.Register.{applied}
-use Rattle.field_law.proofs.AskedAndToCome.{between}
 use Rattle.field_law.proofs.Running.{done_rest}
 use Rattle.ring_model.specs.Rings.{mark}
 use Rattle.field_law.proofs.Asked.{outlook_at_end, outlook_done}

@@ -132,7 +132,8 @@ module _ (r : Ring) (lines : List (List ℕ)) (m : State) (early : List Step) (b
             order =
                 λ q.
                 ap (λ (more : List Entry). (queue_state q m.queues).entries ++ more)
-                (sym (append_assoc (pushed_in first q) (pushed_in second q) (given.pad q)) ∙ ap (λ (pushed : List Entry). pushed ++ given.pad q) (sym (pushed_in-append first second q) ∙ ap (λ (steps : List Step). pushed_in steps q) (sym split)))
+                (sym (append_assoc (pushed_in first q) (pushed_in second q) (given.pad q))
+                ∙ ap (λ (pushed : List Entry). pushed ++ given.pad q) (sym (pushed_in-append first second q) ∙ ap (λ (steps : List Step). pushed_in steps q) (sym split)))
                 ∙ given.order q;
             unmarked = given.unmarked;
             brings = given.brings;

@@ -1,5 +1,5 @@
 -- The program of a ring that has a place can be made.
-use Rattle.std.proofs.Common.{◌≡◌, ◌^◌, ◌<◌, false, [], ◌∷◌, ◌∙◌, arith}
+use Rattle.std.proofs.Common.{◌≡◌, ◌^◌, ◌<◌, false, [], ◌∷◌, ◌∙◌, arith, refl}
 use Rattle.std.proofs.lemmas.List.{length-map}
 use Rattle.risc_word.specs.declared.Instr.{Instr}
 use Rattle.risc_word.specs.Words.{encoded}
@@ -14,7 +14,6 @@ use Rattle.ring_model.specs.Rings.{IsPlaced, IsRing, Ring, closing, memory_of, o
 use Rattle.ring_model.proofs.Few.{ring_few}
 use Rattle.ring_model.proofs.Lines.{aligned}
 use Rattle.ring_model.proofs.Sound.{good_front, ring_length}
-use Rattle.std.proofs.Common.{refl}
 
 abbrev HasWords : Instr → Type 0
 HasWords i = AreWords (encoded i)

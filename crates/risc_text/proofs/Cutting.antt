@@ -222,7 +222,16 @@ module _ (program : RiscProgram) (fill : ℕ) (lines rest : List ℕ) (listed : 
           base_small = listed.base_small;
           is = lines_are ∙ ap (λ (text : List ℕ). base_line program.base ++ (Words ++ (Chunks ++ text))) none ∙ ap (λ (text : List ℕ). base_line program.base ++ (Words ++ text)) (append-nil Chunks);
         }))
-        | inr past ↦ inr (inr (program, fill, (listed, sym (lines_are ∙ ap (λ (text : List ℕ). base_line program.base ++ (Words ++ (Chunks ++ text))) (past.lines_are ∙ ap (λ (text : List ℕ). fill_line fill ++ text) (no_more past.more rest past.tail_is) ∙ append-nil (fill_line fill))))))
+        | inr past ↦ inr (inr (
+          program,
+          fill,
+          (
+            listed,
+            sym (lines_are
+                ∙ ap (λ (text : List ℕ). base_line program.base ++ (Words ++ (Chunks ++ text)))
+                (past.lines_are ∙ ap (λ (text : List ℕ). fill_line fill ++ text) (no_more past.more rest past.tail_is) ∙ append-nil (fill_line fill))),
+          ),
+        ))
       ]
     where
       no_more : (more after : List ℕ) → [] ≡ more ++ after → more ≡ []

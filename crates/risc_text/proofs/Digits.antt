@@ -29,9 +29,12 @@ hex_end n rest = refl
 pub address_back : (n : ℕ) (rest : List ℕ) → n < 2 ^ 32 → hex_digits 8 0 (address_text n ++ rest) ≡ Some (n, rest)
 address_back n rest small =
     rw (address_digits n small) (
-    hex_step 7 0 (n / 2 ^ 28 % 16) (n / 2 ^ 28) (digit_glyph false (n / 2 ^ 24 % 16) ∷ digit_glyph false (n / 2 ^ 20 % 16) ∷ digit_glyph false (n / 2 ^ 16 % 16) ∷ digit_glyph false (n / 2 ^ 12 % 16) ∷ digit_glyph false (n / 2 ^ 8 % 16) ∷ digit_glyph false (n / 2 ^ 4 % 16) ∷ digit_glyph false (n % 16) ∷ rest) (omega arith) (omega arith)
-    ∙ hex_step 6 (n / 2 ^ 28) (n / 2 ^ 24 % 16) (n / 2 ^ 24) (digit_glyph false (n / 2 ^ 20 % 16) ∷ digit_glyph false (n / 2 ^ 16 % 16) ∷ digit_glyph false (n / 2 ^ 12 % 16) ∷ digit_glyph false (n / 2 ^ 8 % 16) ∷ digit_glyph false (n / 2 ^ 4 % 16) ∷ digit_glyph false (n % 16) ∷ rest) (omega arith) (omega arith)
-    ∙ hex_step 5 (n / 2 ^ 24) (n / 2 ^ 20 % 16) (n / 2 ^ 20) (digit_glyph false (n / 2 ^ 16 % 16) ∷ digit_glyph false (n / 2 ^ 12 % 16) ∷ digit_glyph false (n / 2 ^ 8 % 16) ∷ digit_glyph false (n / 2 ^ 4 % 16) ∷ digit_glyph false (n % 16) ∷ rest) (omega arith) (omega arith)
+    hex_step 7 0 (n / 2 ^ 28 % 16) (n / 2 ^ 28) (digit_glyph false (n / 2 ^ 24 % 16) ∷ digit_glyph false (n / 2 ^ 20 % 16) ∷ digit_glyph false (n / 2 ^ 16 % 16) ∷ digit_glyph false
+    (n / 2 ^ 12 % 16) ∷ digit_glyph false (n / 2 ^ 8 % 16) ∷ digit_glyph false (n / 2 ^ 4 % 16) ∷ digit_glyph false (n % 16) ∷ rest) (omega arith) (omega arith)
+    ∙ hex_step 6 (n / 2 ^ 28) (n / 2 ^ 24 % 16) (n / 2 ^ 24) (digit_glyph false (n / 2 ^ 20 % 16) ∷ digit_glyph false (n / 2 ^ 16 % 16) ∷ digit_glyph false (n / 2 ^ 12 % 16) ∷
+    digit_glyph false (n / 2 ^ 8 % 16) ∷ digit_glyph false (n / 2 ^ 4 % 16) ∷ digit_glyph false (n % 16) ∷ rest) (omega arith) (omega arith)
+    ∙ hex_step 5 (n / 2 ^ 24) (n / 2 ^ 20 % 16) (n / 2 ^ 20) (digit_glyph false (n / 2 ^ 16 % 16) ∷ digit_glyph false (n / 2 ^ 12 % 16) ∷ digit_glyph false (n / 2 ^ 8 % 16) ∷
+    digit_glyph false (n / 2 ^ 4 % 16) ∷ digit_glyph false (n % 16) ∷ rest) (omega arith) (omega arith)
     ∙ hex_step 4 (n / 2 ^ 20) (n / 2 ^ 16 % 16) (n / 2 ^ 16) (digit_glyph false (n / 2 ^ 12 % 16) ∷ digit_glyph false (n / 2 ^ 8 % 16) ∷ digit_glyph false (n / 2 ^ 4 % 16) ∷ digit_glyph false (n % 16) ∷ rest) (omega arith) (omega arith)
     ∙ hex_step 3 (n / 2 ^ 16) (n / 2 ^ 12 % 16) (n / 2 ^ 12) (digit_glyph false (n / 2 ^ 8 % 16) ∷ digit_glyph false (n / 2 ^ 4 % 16) ∷ digit_glyph false (n % 16) ∷ rest) (omega arith) (omega arith)
     ∙ hex_step 2 (n / 2 ^ 12) (n / 2 ^ 8 % 16) (n / 2 ^ 8) (digit_glyph false (n / 2 ^ 4 % 16) ∷ digit_glyph false (n % 16) ∷ rest) (omega arith) (omega arith)

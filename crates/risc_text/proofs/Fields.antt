@@ -164,7 +164,8 @@ addresses_grouped a b c rest =
 pub addresses_back : (a b c : ℕ) (rest : List ℕ) → a < 2 ^ 32 → b < 2 ^ 32 → c < 2 ^ 32 → three_addresses (addresses_then a b c rest) ≡ Some (a ∷ b ∷ c ∷ [], rest)
 unfolding three_addresses
 addresses_back a b c rest a_small b_small c_small =
-    ap (λ found. found >>= (λ (first : ℕ × List ℕ). address first.1 >>= (λ (second : ℕ × List ℕ). address second.1 >>= (λ (third : ℕ × List ℕ). Some (first.0 ∷ second.0 ∷ third.0 ∷ [], third.1))))) (at_back a (at_text b ++ (at_text c ++ rest)) a_small)
+    ap (λ found. found >>= (λ (first : ℕ × List ℕ). address first.1
+    >>= (λ (second : ℕ × List ℕ). address second.1 >>= (λ (third : ℕ × List ℕ). Some (first.0 ∷ second.0 ∷ third.0 ∷ [], third.1))))) (at_back a (at_text b ++ (at_text c ++ rest)) a_small)
     ∙ ap (λ found. found >>= (λ (second : ℕ × List ℕ). address second.1 >>= (λ (third : ℕ × List ℕ). Some (a ∷ second.0 ∷ third.0 ∷ [], third.1)))) (at_back b (at_text c ++ rest) b_small)
     ∙ ap (λ found. found >>= (λ (third : ℕ × List ℕ). Some (a ∷ b ∷ third.0 ∷ [], third.1))) (at_back c rest c_small)
 

@@ -350,12 +350,14 @@ pub base_line_back : (base : ℕ) (rest : List ℕ) → base < 2 ^ 32 → line_a
 unfolding named_line base_line
 base_line_back base rest small =
     ap line_at (ap (λ (text : List ℕ). codes "base " ++ text) (append_assoc (address_text base) line_end rest))
-    ∙ ending (codes "base" ++ (at_text base ++ 10 ∷ rest)) (lines.Base base) rest (named _ (fourth_is_no_space 98 97 115 101 32 base (10 ∷ rest) small) ∙ ap (λ found. found >>= (λ (at : ℕ × List ℕ). Some (lines.Base at.0, at.1))) (at_back base (10 ∷ rest) small))
+    ∙ ending (codes "base" ++ (at_text base ++ 10 ∷ rest)) (lines.Base base) rest (named _ (fourth_is_no_space 98 97 115 101 32 base (10 ∷ rest) small)
+    ∙ ap (λ found. found >>= (λ (at : ℕ × List ℕ). Some (lines.Base at.0, at.1))) (at_back base (10 ∷ rest) small))
 
 page_line_back : (at : ℕ) (rest : List ℕ) → at < 2 ^ 32 → line_at (codes "page" ++ (at_text at ++ 10 ∷ rest)) ≡ Some (lines.Chunk at 4096, rest)
 unfolding named_line page_line
 page_line_back at rest small =
-    ending (codes "page" ++ (at_text at ++ 10 ∷ rest)) (lines.Chunk at 4096) rest (named _ (fourth_is_no_space 112 97 103 101 32 at (10 ∷ rest) small) ∙ ap (λ found. found >>= (λ (at : ℕ × List ℕ). Some (lines.Chunk at.0 4096, at.1))) (at_back at (10 ∷ rest) small))
+    ending (codes "page" ++ (at_text at ++ 10 ∷ rest)) (lines.Chunk at 4096) rest (named _ (fourth_is_no_space 112 97 103 101 32 at (10 ∷ rest) small)
+    ∙ ap (λ found. found >>= (λ (at : ℕ × List ℕ). Some (lines.Chunk at.0 4096, at.1))) (at_back at (10 ∷ rest) small))
 
 long_line_back : (at len : ℕ) (rest : List ℕ) → at < 2 ^ 32 → len < 10 ^ 8 → line_at (codes "chunk" ++ (at_text at ++ (count_text len ++ 10 ∷ rest))) ≡ Some (lines.Chunk at len, rest)
 unfolding named_line chunk_line

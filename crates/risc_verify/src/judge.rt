@@ -66,7 +66,7 @@ fn unless(mark: bool, target: Option<u64>) -> Option<u64>
 }
 
 // Why a range can't be written.
-#[inline]
+#[inline(always)]
 fn written_cause(grants: &PageSet, memo: &mut ChunkMemo, address: u64, count: u16) -> Option<Cause>
     requires { address ≤ 2 ^ 32 }
     ensures { result ≡ written_cause grants.now address count }
@@ -90,7 +90,10 @@ fn three_cause(
     addrs: &[u32; 3],
     counts: &[u16; 3],
 ) -> Option<Cause>
-    ensures { result ≡ first_cause (written_cause grants.now (slice_index addrs.now 0) (slice_index counts.now 0)) (first_cause (written_cause grants.now (slice_index addrs.now 1) (slice_index counts.now 1)) (written_cause grants.now (slice_index addrs.now 2) (slice_index counts.now 2))) }
+    ensures { result ≡
+        first_cause (written_cause grants.now (slice_index addrs.now 0) (slice_index counts.now 0))
+        (first_cause (written_cause grants.now (slice_index addrs.now 1) (slice_index counts.now 1))
+        (written_cause grants.now (slice_index addrs.now 2) (slice_index counts.now 2))) }
 {
     if let Some(cause) = written_cause(grants, memo, u64::from(addrs[0]), counts[0]) {
         return Some(cause);

@@ -95,7 +95,13 @@ small_word opcode ctl sol eol off count opcode_small fits off_small count_small 
 pub control_read : (opcode sol eol : ℕ) (ctl : Ctl) (off count : ℕ) → Small opcode sol eol (bit_of ctl.irq) ctl.reset ctl.set off count → Reads (word_of opcode sol eol (bit_of ctl.irq) ctl.reset ctl.set off count) opcode ctl
 control_read opcode sol eol ctl off count small = record {
   opcode_is = opcode_read opcode sol eol (bit_of ctl.irq) ctl.reset ctl.set off count small;
-  ctl_is = rw (irq_read opcode sol eol (bit_of ctl.irq) ctl.reset ctl.set off count small, reset_read opcode sol eol (bit_of ctl.irq) ctl.reset ctl.set off count small, set_read opcode sol eol (bit_of ctl.irq) ctl.reset ctl.set off count small, bit_test ctl.irq) refl;
+  ctl_is = rw (
+    irq_read opcode sol eol (bit_of ctl.irq) ctl.reset ctl.set off count small,
+    reset_read opcode sol eol (bit_of ctl.irq) ctl.reset ctl.set off count small,
+    set_read
+        opcode sol eol (bit_of ctl.irq) ctl.reset ctl.set off count small,
+    bit_test ctl.irq,
+  ) refl;
 }
 
 pub data_word_of : (opcode : ℕ) (ctl : Ctl) (ends : Ends) (off count : ℕ) → data_word opcode ctl ends off count ≡ word_of opcode (bit_of ends.sol) (bit_of ends.eol) (bit_of ctl.irq) ctl.reset ctl.set off count
@@ -121,7 +127,13 @@ module _ (opcode : ℕ) (ctl : Ctl) (ends : Ends) (off count : ℕ) (opcode_smal
 
   pub line_reads : ReadsLine (data_word opcode ctl ends off count) ends off count
   line_reads = rw (data_word_of opcode ctl ends off count) (record {
-    ends_is = rw (sol_read opcode (bit_of ends.sol) (bit_of ends.eol) (bit_of ctl.irq) ctl.reset ctl.set off count data_small, eol_read opcode (bit_of ends.sol) (bit_of ends.eol) (bit_of ctl.irq) ctl.reset ctl.set off count data_small, bit_test ends.sol, bit_test ends.eol) refl;
+    ends_is = rw (
+      sol_read opcode (bit_of ends.sol) (bit_of ends.eol) (bit_of ctl.irq) ctl.reset ctl.set off count data_small,
+      eol_read opcode (bit_of ends.sol) (bit_of ends.eol)
+          (bit_of ctl.irq) ctl.reset ctl.set off count data_small,
+      bit_test ends.sol,
+      bit_test ends.eol,
+    ) refl;
     off_is = off_read opcode (bit_of ends.sol) (bit_of ends.eol) (bit_of ctl.irq) ctl.reset ctl.set off count data_small;
     count_is = count_read opcode (bit_of ends.sol) (bit_of ends.eol) (bit_of ctl.irq) ctl.reset ctl.set off count data_small;
   })

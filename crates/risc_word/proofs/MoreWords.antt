@@ -1,7 +1,6 @@
 -- What words stand for doesn't change where more words stand behind them, but for an instruction that they cut.
-use Rattle.std.proofs.Common.{◌≡◌, ℕ, List, [], ◌∷◌, ◌++◌, Bool, true, false, Err, refl}
+use Rattle.std.proofs.Common.{◌≡◌, ℕ, List, [], ◌∷◌, ◌++◌, Bool, true, false, Err, refl, inl, inr}
 use Rattle.std.specs.Prelude.{◌==◌, if◌then◌else◌, ◌⊎◌}
-use Rattle.std.proofs.Common.{inl, inr}
 use Rattle.bit_field.specs.Bits.{bits}
 use Rattle.risc_word.specs.declared.WordFault.TheVariants.{Cut}
 use Rattle.risc_word.specs.Words.{Reading, by_opcode, first_instr, jump_at, skip_123_at, sync_at, write_123_at, write_1_s_23_at, write_at}

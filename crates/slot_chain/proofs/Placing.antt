@@ -2,13 +2,12 @@
 use Rattle.std.proofs.Common.{◌≡◌, ℕ, ◌+◌, ◌*◌, ◌%◌, ◌<◌, ◌≤◌, Bool, true, false, ◌||◌, List, length, Option, Some, None, Ok, Err, refl, sym, ap, ◌∙◌, subst, arith, if◌then◌else◌, ◌==◌, nat_lt, nat_le}
 use Rattle.std.specs.List.{list_any}
 use Rattle.std.proofs.lemmas.Bool.{eq-eqb, eqb-true, leb-false, leb-true, le-ltb, lt-ltb, ltb-false, or_from, or_parts}
-use Rattle.page_table.specs.Grants.{AreGrants, Chunk}
+use Rattle.page_table.specs.Grants.{AreGrants, Chunk, is_met}
 use Rattle.page_table.specs.Taken.{Answers, listed, taken_chunks}
 use Rattle.page_table.specs.declared.PageFault.{PageFault}
 use Rattle.page_table.specs.declared.PageFault.TheVariants.{Memory}
 use Rattle.capture_file.proofs.Chunks.{listed_length, not_taken, taken_is}
 use Rattle.machine_model.specs.Paths.{max_words}
-use Rattle.page_table.specs.Grants.{is_met}
 use Rattle.chain_model.specs.Chains.{Chain, chain_limit, unpatched, words_of_parts}
 use Rattle.chain_model.proofs.Slots.{length-alone}
 use Rattle.chain_model.proofs.Words.{length-patched}

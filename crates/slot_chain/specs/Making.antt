@@ -2,8 +2,7 @@
 use Rattle.std.specs.Prelude.{◌≡◌, ℕ, ⊤, ◌+◌, ◌*◌, ◌%◌, ◌<◌, ◌≤◌, ◌||◌, ◌==◌, Bool, false, List, length, Option, Some, None, if◌then◌else◌, nat_lt, slice_index_or}
 use Rattle.std.specs.List.{list_any}
 use Rattle.machine_model.specs.Paths.{IsFirstBad, IsSound, RiscProgram, max_words, shares_byte}
-use Rattle.page_table.specs.Grants.{Chunk}
-use Rattle.page_table.specs.Grants.{is_met}
+use Rattle.page_table.specs.Grants.{Chunk, is_met}
 use Rattle.machine_model.specs.declared.Cause.{Cause}
 use Rattle.chain_model.specs.Chains.{Chain, alone, chain_limit}
 use Rattle.risc_verify.specs.declared.walk.Why.{Why}

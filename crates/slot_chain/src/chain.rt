@@ -39,7 +39,9 @@ impl<R: Ram> Model for Chain<R> {
 
     ghost view = { λ c. state_of (chain_of c.base c.slots c.parts.items c.wheel.machine.program.grants) c.patching.items c.wheel.machine };
 
-    ghost invariant = { λ c. IsWheel (chain_of c.base c.slots c.parts.items c.wheel.machine.program.grants) c.wheel.machine.program c.wheel.programs.items c.wheel.current × IsPatching (chain_of c.base c.slots c.parts.items c.wheel.machine.program.grants) c.patching.items };
+    ghost invariant = { λ c.
+        IsWheel (chain_of c.base c.slots c.parts.items c.wheel.machine.program.grants) c.wheel.machine.program c.wheel.programs.items c.wheel.current
+        × IsPatching (chain_of c.base c.slots c.parts.items c.wheel.machine.program.grants) c.patching.items };
 }
 
 impl<R: Ram + Drop> Chain<R> {

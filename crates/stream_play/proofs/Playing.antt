@@ -6,13 +6,12 @@ use Rattle.std.proofs.Math.Seq.{take-add}
 use Rattle.std.proofs.lemmas.List.{append-nil, take_all, drop-drop, take-append-drop, take-take}
 use Rattle.command_steps.specs.Inputs.{OfRest}
 use Rattle.command_steps.specs.Reading.{Grows}
-use Rattle.capture_file.specs.Streams.{steps_of}
+use Rattle.capture_file.specs.Streams.{steps_of, Reading, reading, with_step, Ending, Unfinished, Ended, Bad, atomic, steps_run, stream_of, whole_file, within_if, too_long, judged}
 use Rattle.capture_file.specs.declared.FileFault.{FileFault}
 use Rattle.machine_model.specs.States.{State}
 use Rattle.machine_model.specs.Steps.{run}
 use Rattle.machine_model.proofs.Runs.{run-append}
 use Rattle.capture_file.specs.declared.Step.{Step}
-use Rattle.capture_file.specs.Streams.{Reading, reading, with_step, Ending, Unfinished, Ended, Bad, atomic, steps_run, stream_of, whole_file, within_if, too_long, judged}
 use Rattle.capture_file.specs.Readers.{Reader, fresh, resumed, closed_by}
 use Rattle.stream_play.specs.Plays.{GoesOn, Handed, HandedAll, HandedFront, HandedPart, HasPlayed, IsAtFault, PlaysAll, acted, longest_stream, machine_act}
 

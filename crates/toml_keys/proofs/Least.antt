@@ -1,6 +1,6 @@
 -- Of names in ascending order the first is the least.
 use Rattle.std.proofs.Common.{◌≡◌, ℕ, Bool, true, false, List, [], ◌∷◌, Some, String, Global, string_bytes, Ordering, Less, Equal, Greater, nat_cmp, refl, ap, subst, sym, ◌∙◌, inl, inr}
-use Rattle.std.specs.Prelude.{unwrap_or}
+use Rattle.std.specs.Prelude.{unwrap_or, filter, not, Contains}
 use Rattle.std.proofs.lemmas.Bool.{cases_Bool, false≢true}
 use Rattle.std.proofs.lemmas.Cmp.{nat_list_cmp_total, tied_itself, upto}
 use Rattle.std.proofs.lemmas.List.Elements.{All-contains, All-contains_itself, All-from_recursion, recursion_from_All}
@@ -14,7 +14,6 @@ use Rattle.toml.specs.Data.{Members}
 use Rattle.toml.specs.View.{members_view}
 use Rattle.toml.specs.declared.value.Value.{Value}
 use Rattle.toml_keys.specs.Keys.{IsLeastUnknown, least, names, unknown_names}
-use Rattle.std.specs.Prelude.{filter, not, Contains}
 
 -- the lesser of two names has what both have, and the least of a list what all have
 lesser_has : (P : List ℕ → Type 0) (o : Ordering) (a b : List ℕ) → P a → P b → P (match_ordering o a a b)
@@ -121,7 +120,8 @@ module _ (is_known : List ℕ → Bool) where
   least-IsLeastUnknown ms name is =
       let inside = recursion_from_All (Contains (names ms)) (names ms) (All-contains_itself (names ms)) in
       let has = least_has (λ n. Contains (names ms) n × (is_known n ≡ false)) (unknown_names is_known ms) name (to_unknown (Contains (names ms)) (names ms) inside) is in
-      let low : AllByRecursion (IsNotAbove name) (unknown_names is_known ms) = subst (λ (m : List ℕ). AllByRecursion (IsNotAbove m) (unknown_names is_known ms)) (ap (λ found. unwrap_or found name) is) (least_low (unknown_names is_known ms) name) in
+      let low : AllByRecursion (IsNotAbove name) (unknown_names is_known ms) = subst (λ (m : List ℕ). AllByRecursion (IsNotAbove m) (unknown_names is_known ms))
+      (ap (λ found. unwrap_or found name) is) (least_low (unknown_names is_known ms) name) in
       record {
         here = has.0;
         unknown = has.1;

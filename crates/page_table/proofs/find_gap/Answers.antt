@@ -4,8 +4,12 @@ use Rattle.page_table.proofs.find_gap.Goals as goal
 use Rattle.page_table.proofs.find_gap.Goals.{then-i-chunks-via-then-i-chunks, then-i-chunks-via-else-i-chunks+then-from-next}
 
 pub loop-next-init : goal.loop-next-init
-loop-next-init c =
-    (scan_begins c.args.chunks.now c.args.addr (c.from.result + c.from-2.result) c.ended-i.result c.from-next.result c.requires.rising c.ended-i.ensures c.from-next.ensures, subst (λ n. n ≤ length c.args.chunks.now) (sym c.ended-i.ensures) (ended-le c.args.addr c.args.chunks.now), omega arith)
+loop-next-init c = (
+  scan_begins c.args.chunks.now c.args.addr (c.from.result + c.from-2.result) c.ended-i.result c.from-next.result c.requires.rising c.ended-i.ensures c.from-next.ensures,
+  subst
+      (λ n. n ≤ length c.args.chunks.now) (sym c.ended-i.ensures) (ended-le c.args.addr c.args.chunks.now),
+  omega arith,
+)
 
 pub returns-then-i-chunks : goal.returns-then-i-chunks
 returns-then-i-chunks c =

@@ -33,7 +33,8 @@ returns g c =
     let file = spelled built.program built.fill in
     ends_finished task ((c.args.program.now, file) ∷ []) c.deref.result.now (see c.args.desk.now) (see c.build_text.new.desk) (see c.finish.new.desk)
     (took_one (a_listing c.args.text.now) (see c.args.desk.now) (see c.build_text.new.desk) e.reads e.quiet
-    (OfInput-map c.args.text.now (see c.args.desk.now).told.inputs (λ bytes. GivesAssembled bytes (record { program = built.program; fill = built.fill })) HoldsListing (λ bytes h. (record { program = built.program; fill = built.fill }, h)) e.built))
+    (OfInput-map c.args.text.now (see c.args.desk.now).told.inputs (λ bytes. GivesAssembled bytes (record { program = built.program; fill = built.fill })) HoldsListing
+    (λ bytes h. (record { program = built.program; fill = built.fill }, h)) e.built))
     c.finish.result
     (subst (λ text. Makes task (see c.args.desk.now).told.inputs (record { files = (c.args.program.now, file) ∷ []; text = text })) (sym (c.deref.ensures ∙ e.text))
     (assemble_product c.args.text.now c.args.program.now (see c.args.desk.now).told.inputs built.program built.fill e.built))

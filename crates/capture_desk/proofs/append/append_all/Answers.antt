@@ -46,7 +46,13 @@ loop-at-preserved g c =
     record {
       within = omega (arith, few);
       done = next_piece c.args.sink _ _ _ _ _ _ c.loop-at.invariant.done c.in_ok-at.ensures.appends.2;
-      counts = one_more c.args.sink _ _ _ _ _ (omega (arith, few, c.in_ok-at.ensures.appends.0, length-take-le (c.loop-at.at + c.in_ok-at.field-0) c.args.bytes.now (omega (arith, few)))) c.loop-at.invariant.counts c.in_ok-at.ensures.counts c.in_ok-at.ensures.calls;
+      counts = one_more c.args.sink _ _ _ _ _ (omega (
+        arith,
+        few,
+        c.in_ok-at.ensures.appends.0,
+        length-take-le (c.loop-at.at + c.in_ok-at.field-0) c.args.bytes.now
+            (omega (arith, few)),
+      )) c.loop-at.invariant.counts c.in_ok-at.ensures.counts c.in_ok-at.ensures.calls;
     }
 
 pub returns-clause-counts : goal.returns-clause-counts

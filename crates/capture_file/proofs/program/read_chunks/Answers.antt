@@ -43,16 +43,21 @@ returns-clause-value c =
 
 pub returns-clause-rising : goal.returns-clause-rising
 returns-clause-rising c =
-    (chunks_read c.args.layout c.args.size (without_grants c.args.program.base c.args.program.words.now) c.args.count 0 0 c.args.bytes.now (listed c.loop.chunks.items, c.loop.rest.bytes.now) (λ i. omega (arith, c.type_inv.bytes i)) (returns-clause-value c)).rising
+    (chunks_read c.args.layout c.args.size (without_grants c.args.program.base c.args.program.words.now) c.args.count 0 0 c.args.bytes.now
+    (listed c.loop.chunks.items, c.loop.rest.bytes.now) (λ i. omega (arith, c.type_inv.bytes i)) (returns-clause-value c)).rising
 
 pub returns-clause-apart : goal.returns-clause-apart
 returns-clause-apart c =
-    (chunks_read c.args.layout c.args.size (without_grants c.args.program.base c.args.program.words.now) c.args.count 0 0 c.args.bytes.now (listed c.loop.chunks.items, c.loop.rest.bytes.now) (λ i. omega (arith, c.type_inv.bytes i)) (returns-clause-value c)).apart
+    (chunks_read c.args.layout c.args.size (without_grants c.args.program.base c.args.program.words.now) c.args.count 0 0 c.args.bytes.now
+    (listed c.loop.chunks.items, c.loop.rest.bytes.now) (λ i. omega (arith, c.type_inv.bytes i)) (returns-clause-value c)).apart
 
 pub returns-clause-len : goal.returns-clause-len
 returns-clause-len c =
-    listed_length c.loop.chunks.items ∙ (chunks_read c.args.layout c.args.size (without_grants c.args.program.base c.args.program.words.now) c.args.count 0 0 c.args.bytes.now (listed c.loop.chunks.items, c.loop.rest.bytes.now) (λ i. omega (arith, c.type_inv.bytes i)) (returns-clause-value c)).len
+    listed_length c.loop.chunks.items ∙ (chunks_read c.args.layout c.args.size (without_grants c.args.program.base c.args.program.words.now) c.args.count 0 0 c.args.bytes.now
+    (listed c.loop.chunks.items, c.loop.rest.bytes.now) (λ i. omega (arith, c.type_inv.bytes i)) (returns-clause-value c)).len
 
 pub returns-clause-small : goal.returns-clause-small
 returns-clause-small c =
-    totals_small c.args.layout c.args.count (listed c.loop.chunks.items) c.requires.count (chunks_read c.args.layout c.args.size (without_grants c.args.program.base c.args.program.words.now) c.args.count 0 0 c.args.bytes.now (listed c.loop.chunks.items, c.loop.rest.bytes.now) (λ i. omega (arith, c.type_inv.bytes i)) (returns-clause-value c)).totals
+    totals_small c.args.layout c.args.count (listed c.loop.chunks.items) c.requires.count
+    (chunks_read c.args.layout c.args.size (without_grants c.args.program.base c.args.program.words.now) c.args.count 0 0 c.args.bytes.now
+    (listed c.loop.chunks.items, c.loop.rest.bytes.now) (λ i. omega (arith, c.type_inv.bytes i)) (returns-clause-value c)).totals

@@ -26,11 +26,13 @@ returns-in_err-put_end-clause-puts g c =
     let begun = begun_as c.args.seed _ _ c.new-draft.ensures c.append.ensures in
     rw p.1 (puts_as _ (made c.args.frame.now c.args.seed c.args.frames) _ _ failed
     (made_whole c.args.frame.now c.args.seed c.args.frames _ begun)
-    (puts_last (pushed_all (stream_pushes c.args.frame.now c.args.frames) c.append.new.self) c.put_frames.new.draft (0 ∷ []) (c.put_frames.new.draft.bytes ++ 0 ∷ []) _ _ _ failed c.in_ok-put_frames.ensures.moves refl c.in_err-put_end.ensures.puts))
+    (puts_last (pushed_all (stream_pushes c.args.frame.now c.args.frames) c.append.new.self) c.put_frames.new.draft (0 ∷ []) (c.put_frames.new.draft.bytes ++ 0 ∷ []) _ _ _ failed
+    c.in_ok-put_frames.ensures.moves refl c.in_err-put_end.ensures.puts))
 
 pub returns-clause-puts : goal.returns-clause-puts
 returns-clause-puts g c =
     let begun = begun_as c.args.seed _ _ c.new-draft.ensures c.append.ensures in
     puts_as _ (made c.args.frame.now c.args.seed c.args.frames) _ _ done
     (made_whole c.args.frame.now c.args.seed c.args.frames _ begun)
-    (puts_last (pushed_all (stream_pushes c.args.frame.now c.args.frames) c.append.new.self) c.put_frames.new.draft (0 ∷ []) (c.put_frames.new.draft.bytes ++ 0 ∷ []) _ _ _ done c.in_ok-put_frames.ensures.moves refl c.in_ok-put_end.ensures.puts)
+    (puts_last (pushed_all (stream_pushes c.args.frame.now c.args.frames) c.append.new.self) c.put_frames.new.draft (0 ∷ []) (c.put_frames.new.draft.bytes ++ 0 ∷ []) _ _ _ done
+    c.in_ok-put_frames.ensures.moves refl c.in_ok-put_end.ensures.puts)

@@ -22,4 +22,5 @@ returns-clause-moves g c =
     let code = c.data_code.ensures ∙ ap data_code (c.is_planar.ensures ∙ ap (λ (f : Format). (layout f).planar) c.format.ensures.value) in
     moves_more (repeated (d.skip_lines + field_height d c.args.field) (picture_line d)) _ _ _ _ _ _ c.put_lines.result
     (rw code at c.in_ok-put_mark.ensures.moves)
-    (lines_as (c.from.result + c.rows_of.result) (d.skip_lines + field_height d c.args.field) _ _ _ _ _ _ c.put_lines.result (omega (arith, c.from.ensures, ap (λ (d : Desc). d.skip_lines) c.desc.ensures.value, c.rows_of.ensures.value)) c.picture_line.ensures.pushes c.put_lines.ensures.moves)
+    (lines_as (c.from.result + c.rows_of.result) (d.skip_lines + field_height d c.args.field) _ _ _ _ _ _ c.put_lines.result
+    (omega (arith, c.from.ensures, ap (λ (d : Desc). d.skip_lines) c.desc.ensures.value, c.rows_of.ensures.value)) c.picture_line.ensures.pushes c.put_lines.ensures.moves)

@@ -17,7 +17,8 @@ returns-in_err-words-clause-answer c =
     let p = err_from_is_err_and c.from_residual-in_err-words.result c.from_residual-in_err-words.ensures.1 in
     let d = c.args.desc in
     let e = c.in_ok-frame.frame in
-    rw (p.1, p.2) (judges_err (Vec ℕ Global) Desc (first_after None program_faults e) (first_fault d) c.in_err-words.field-0.0 (λ fault. then_program d e (Some fault) c.in_ok-frame.ensures.answer c.in_ok-frame.ensures.same) c.in_err-words.ensures.answer)
+    rw (p.1, p.2) (judges_err (Vec ℕ Global) Desc (first_after None program_faults e) (first_fault d) c.in_err-words.field-0.0
+    (λ fault. then_program d e (Some fault) c.in_ok-frame.ensures.answer c.in_ok-frame.ensures.same) c.in_err-words.ensures.answer)
 
 pub invariant_of-result : goal.invariant_of-result
 invariant_of-result c =

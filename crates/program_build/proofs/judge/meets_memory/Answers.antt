@@ -3,13 +3,13 @@ use Rattle.std.specs.List.{list_any}
 use Rattle.page_table.specs.Taken.{listed, page_at, pair_chunk}
 use Rattle.picture_model.specs.Described.{memory_from}
 use Rattle.page_table.specs.Grants.{is_met}
-use Rattle.program_build.proofs.Checking.{any_map}
+use Rattle.page_table.proofs.Listed.{any_map}
 use Rattle.program_build.proofs.judge.meets_memory.Goals as goal
 
 pub returns-in-None : goal.returns-in-None
 returns-in-None c =
     let met = is_met c.args.base c.args.end in
-    c.meets_pages.ensures
+    c.any_page_met.ensures
     ∙ sym (any_map met page_at c.as_slice.result.now)
     ∙ ap (λ (pages : List ℕ). list_any met (map page_at pages)) c.as_slice.ensures
     ∙ ap (λ (chunks : Option (List (ℕ × ℕ))). list_any met (memory_from chunks c.args.desc.now.pages)) (sym c.in-None.is)

@@ -21,7 +21,8 @@ returns-in-Err-clause-refused g c =
     let first = c.loop-part.invariant in
     let is = sym c.part-item.is in
     let below = slot_below chain c.loop-part.part-index c.part-item.result c.requires.belong c.loop-part-test.true is in
-    let mine = its_program chain (length c.args.words.now) c.loop-part.part-index c.loop-part.programs.items c.loop-part.head c.args.steps.now c.loop-part.steps first c.part-item.result c.loop-part-test.true is below c.args.words.now c.requires.words in
+    let mine = its_program chain (length c.args.words.now) c.loop-part.part-index c.loop-part.programs.items c.loop-part.head c.args.steps.now c.loop-part.steps first
+    c.part-item.result c.loop-part-test.true is below c.args.words.now c.requires.words in
     let long = c.len.ensures in
     let many = first.many in
     let number : c.len.result ≡ c.loop-part.part-index = omega arith in

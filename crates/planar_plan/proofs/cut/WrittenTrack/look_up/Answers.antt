@@ -11,7 +11,8 @@ pub returns-clause-reach : goal.returns-clause-reach
 returns-clause-reach c =
     let offset : c.args.self.start + c.from.result * c.from-2.result ≡ c.args.self.start + c.args.left.at * c.args.self.size = rw (c.from.ensures, c.from-2.ensures) in
     let grains = c.held_by.ensures.grains ∙ ap (min c.args.left.rest) (most-written c.args.self.size c.run-address.result.1 c.args.left.rest c.requires.held.0) in
-    run-Reaches c.args.scatter.now c.args.self.size c.args.self.start c.args.left.at c.args.left.rest (c.args.self.start + c.from.result * c.from-2.result) c.run-address.result _ offset c.run-address.ensures.value c.requires.some c.requires.held.0 c.requires.held.1 refl grains
+    run-Reaches c.args.scatter.now c.args.self.size c.args.self.start c.args.left.at c.args.left.rest (c.args.self.start + c.from.result * c.from-2.result) c.run-address.result _
+    offset c.run-address.ensures.value c.requires.some c.requires.held.0 c.requires.held.1 refl grains
 
 pub returns-clause-window : goal.returns-clause-window
 returns-clause-window c =

@@ -35,5 +35,6 @@ returns-clause-plan c =
     ap (λ (l : Strip). span 0 l.grains false ∷ []) c.vbi_line-line.ensures
     in
     c.of.ensures
-    ∙ pieces-plan (memory_of d) c.self.inside.scatter.chunks (vbi_strip d c.args.field c.args.line) (strip_of line) (span 0 line.grains false ∷ []) c.in_ok-pieces.pieces.items memory c.vbi_line-line.ensures spans c.in_ok-pieces.ensures.pieces
+    ∙ pieces-plan (memory_of d) c.self.inside.scatter.chunks (vbi_strip d c.args.field c.args.line) (strip_of line) (span 0 line.grains false ∷ []) c.in_ok-pieces.pieces.items
+    memory c.vbi_line-line.ensures spans c.in_ok-pieces.ensures.pieces
     ∙ ap (λ (e : Desc). vbi_plan e c.args.field c.args.line) c.self.view_is

@@ -38,7 +38,8 @@ pub returns-clause-plan : goal.returns-clause-plan
 returns-clause-plan c =
     let d = c.args.self.now in
     IfSome_then c.of.result (returns-clause-whole c)
-    (λ w is. whole-pieces (memory_of d) (row_strip d c.args.row) w (row_strip d c.args.row).spans is (row-AreWithin d c.args.row (row_strip d c.args.row).grains (again_right c.self.inside.desc d c.self.view_is c.self.invariant.framed c.requires.description) (omega arith)))
+    (λ w is. whole-pieces (memory_of d) (row_strip d c.args.row) w (row_strip d c.args.row).spans is
+    (row-AreWithin d c.args.row (row_strip d c.args.row).grains (again_right c.self.inside.desc d c.self.view_is c.self.invariant.framed c.requires.description) (omega arith)))
 
 pub returns-clause-few : goal.returns-clause-few
 returns-clause-few c =
