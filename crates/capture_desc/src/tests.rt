@@ -99,6 +99,18 @@ fn is_refused(alloc: Global, text: &[u8], kind: &str, key: &str) -> bool {
     }
 }
 
+// The same of a text in two parts.
+fn is_refused_in(
+    alloc: Global,
+    front: &str,
+    lines: &str,
+    kind: &str,
+    key: &str,
+) -> Result<bool, AllocError> {
+    let text = format!(in alloc; "{front}{lines}")?;
+    Ok(is_refused(alloc, text.as_bytes(), kind, key))
+}
+
 // No document, or a key that no description has: that comes first, and of several the least in byte order.
 #[test]
 fn documents_and_their_keys_are_judged_first(rt: HostRuntime) -> Result<(), Fail> {
@@ -282,9 +294,8 @@ fn other_keys_are_judged_in_order(rt: HostRuntime) -> Result<(), Fail> {
         ("fill = -1", "out of range", "fill"),
     ];
     for (lines, kind, key) in rows {
-        let text = format!(in rt.alloc(); "{PLAIN}{lines}")?;
         assert!(rt;
-            is_refused(rt.alloc(), text.as_bytes(), kind, key),
+            is_refused_in(rt.alloc(), PLAIN, lines, kind, key)?,
             "{lines}"
         );
     }
@@ -326,9 +337,8 @@ fn chunks_and_planes_are_judged(rt: HostRuntime) -> Result<(), Fail> {
         ),
     ];
     for (lines, kind, key) in rows {
-        let text = format!(in rt.alloc(); "{PLANAR}{lines}")?;
         assert!(rt;
-            is_refused(rt.alloc(), text.as_bytes(), kind, key),
+            is_refused_in(rt.alloc(), PLANAR, lines, kind, key)?,
             "{lines}"
         );
     }

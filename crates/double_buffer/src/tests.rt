@@ -45,6 +45,15 @@ fn frame_of(alloc: Global, text: &str) -> Result<Frame, Fail> {
     Ok(Frame::new(alloc, desc)?)
 }
 
+// The fault of two frames, unless they make a double buffer.
+fn fault_of(alloc: Global, first: &Frame, second: &Frame) -> Result<Option<ChainFault>, Fail> {
+    match DoubleBuffer::new(alloc, first, second) {
+        Ok(_) => Ok(None),
+        Err(DoubleBufferError::Fault(fault)) => Ok(Some(fault)),
+        Err(DoubleBufferError::Memory) => Err(Fail::from("memory")),
+    }
+}
+
 // Whether two descriptions have this fault, or make a double buffer.
 fn is_judged(
     alloc: Global,
@@ -54,11 +63,7 @@ fn is_judged(
 ) -> Result<bool, Fail> {
     let first = frame_of(alloc, first)?;
     let second = frame_of(alloc, second)?;
-    match (DoubleBuffer::new(alloc, &first, &second), fault) {
-        (Ok(_), None) => Ok(true),
-        (Err(DoubleBufferError::Fault(have)), Some(want)) => Ok(have == want),
-        _ => Ok(false),
-    }
+    Ok(fault_of(alloc, &first, &second)? == fault)
 }
 
 #[test]
