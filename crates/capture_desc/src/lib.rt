@@ -7,8 +7,6 @@ mod desc;
 mod fault;
 mod lists;
 mod read;
-#[cfg(test)]
-mod tests;
 mod values;
 
 pub use desc::{Desc, Fields};

@@ -12,8 +12,6 @@ mod program;
 mod reader;
 mod records;
 pub mod tags;
-#[cfg(test)]
-mod tests;
 mod writing;
 
 pub use image::write_image;

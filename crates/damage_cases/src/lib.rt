@@ -1,4 +1,4 @@
-//! Tests of damage maps: drawn streams, told against a plain reading of which rows are whole.
+//! Tests of damage maps: worked streams, and drawn ones, told against a plain reading of which rows are whole.
 #![tactic(auto)]
 
 #[cfg(test)]
@@ -13,3 +13,5 @@ mod rows;
 mod streams;
 #[cfg(test)]
 mod tests;
+#[cfg(test)]
+mod worked;

@@ -43,7 +43,7 @@ fn mapped_of(alloc: Global, checked: &Checked) -> Result<Mapped<MapRam>, Fail> {
 }
 
 /// The machine of a description.
-fn mapped(alloc: Global, text: &str) -> Result<Mapped<MapRam>, Fail> {
+pub fn mapped(alloc: Global, text: &str) -> Result<Mapped<MapRam>, Fail> {
     let desc = read_desc(alloc, text.as_bytes())?;
     let checked = check(alloc, desc)?;
     mapped_of(alloc, &checked)

@@ -6,8 +6,6 @@ mod lines;
 mod mapped;
 mod mark;
 mod reading;
-#[cfg(test)]
-mod tests;
 mod track;
 
 pub use mapped::Mapped;

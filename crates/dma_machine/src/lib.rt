@@ -295,6 +295,3 @@ impl<R: Ram> Machine<R> {
         self.engine.accepted.program()
     }
 }
-
-#[cfg(test)]
-mod tests;

@@ -10,6 +10,3 @@ mod memory;
 
 pub use buffer::DoubleBuffer;
 pub use faults::{ChainFault, DoubleBufferError};
-
-#[cfg(test)]
-mod tests;

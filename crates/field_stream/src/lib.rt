@@ -7,8 +7,6 @@ mod generator;
 mod laws;
 mod lines;
 mod stream;
-#[cfg(test)]
-mod tests;
 
 pub use counts::Made;
 pub use laws::the_smallest_stream;

@@ -11,8 +11,6 @@ mod lines;
 mod memory;
 mod places;
 mod stretch;
-#[cfg(test)]
-mod tests;
 
 pub use cut::{Pieces, RowSpans};
 pub use frame::Frame;

@@ -7,8 +7,6 @@ mod fault;
 mod judge;
 mod read;
 mod ring;
-#[cfg(test)]
-mod tests;
 mod words;
 
 pub use fault::{RingError, RingFault, RingKey};

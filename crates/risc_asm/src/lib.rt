@@ -80,12 +80,3 @@ pub fn assemble(alloc: Global, text: &[u8]) -> Result<ProgramFile, AsmError>
 pub fn one_answer_fits_a_text()
     ensures { OneAnswerFits }
 {}
-
-#[cfg(test)]
-mod piecewise;
-#[cfg(test)]
-mod round_trips;
-#[cfg(test)]
-mod tests;
-#[cfg(test)]
-mod worked;

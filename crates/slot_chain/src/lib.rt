@@ -11,6 +11,3 @@ pub use chain::Chain;
 pub use chain_model::PartWords;
 pub use fragments::fragment;
 pub use making::ChainError;
-
-#[cfg(test)]
-mod tests;

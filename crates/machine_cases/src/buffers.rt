@@ -1,8 +1,8 @@
 //! Worked double buffers.
 
-use super::{ChainFault, DoubleBuffer, DoubleBufferError};
 use capture_desc::read_desc;
 use dma_machine::Report;
+use double_buffer::{ChainFault, DoubleBuffer, DoubleBufferError};
 use fifo_model::{Entry, Queue};
 use irq_status::HostWrite;
 use page_ram::{PageRam, Ram};

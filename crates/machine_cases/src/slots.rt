@@ -3,7 +3,6 @@
 ghost use Rattle.std.specs.Prelude.{◌≡◌, ◌<◌, IfOk, length};
 ghost use Rattle.chain_model.specs.Chains.{part_of};
 
-use super::{Chain, ChainError, PartWords, fragment};
 use capture_desc::{Numbers, read_desc};
 use dma_machine::Report;
 use fifo_model::{Entry, Fifo, Queue};
@@ -14,6 +13,7 @@ use page_table::PageSet;
 use planar_plan::Frame;
 use risc_verify::Steps;
 use risc_word::Code;
+use slot_chain::{Chain, ChainError, PartWords, fragment};
 use std::alloc::Global;
 use std::marker::Brand;
 use std::sync::ledger::{Blank, Ledger};

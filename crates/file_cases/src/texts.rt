@@ -1,5 +1,5 @@
-use crate::{AsmError, AsmFault, assemble};
 use capture_file::ProgramFile;
+use risc_asm::{AsmError, AsmFault, assemble};
 use risc_listing::list;
 use std::alloc::{AllocError, Global};
 use std::test::Fail;

@@ -2,7 +2,7 @@
 
 ghost use Rattle.std.specs.Prelude.{◌≡◌, ◌<◌};
 
-use crate::{Did, Machine, Report, Seen};
+use dma_machine::{Did, Machine, Report, Seen};
 use fifo_model::{Entry, Fifo, Queue};
 use irq_status::HostWrite;
 use page_ram::{MapRam, Ram};

@@ -1,7 +1,7 @@
-use crate::assemble;
 use crate::worked::{WORKED, Worked};
 use capture_file::ProgramFile;
 use page_table::PageSet;
+use risc_asm::assemble;
 use risc_listing::list;
 use std::alloc::Global;
 use std::test::Fail;

@@ -1,6 +1,6 @@
 use crate::worked::{WORKED, Worked};
-use crate::{AsmError, AsmFault, Text};
 use capture_file::ProgramFile;
+use risc_asm::{AsmError, AsmFault, Text};
 use std::alloc::Global;
 use std::test::Fail;
 

@@ -3,11 +3,11 @@ ghost use Rattle.std.specs.Prelude.{[], IfOk, codes, ◌∷◌, ◌≡◌};
 ghost use Rattle.capture_desk.specs.Desks.{IsAllowed};
 ghost use Rattle.capture_desk.specs.Memory.{names_of};
 
-use crate::{
+use capture_desk::{Desk, Failed, MemDesk, Octets};
+use capture_file::{
     FileFault, FileKind, Got, ProgramError, ProgramFile, Step, StepReader, read_program,
     read_stream, write_image, write_program,
 };
-use capture_desk::{Desk, Failed, MemDesk, Octets};
 use fifo_model::{Entry, Queue};
 use irq_status::HostWrite;
 use page_ram::MapRam;

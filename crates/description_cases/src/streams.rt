@@ -3,9 +3,9 @@ ghost use Rattle.std.specs.Prelude.{[], IfOk, codes, ◌∷◌, ◌≡◌, ◌�
 ghost use Rattle.capture_desk.specs.Desks.{IsAllowed};
 ghost use Rattle.capture_desk.specs.Memory.{names_of};
 
-use crate::{Made, line_entries, make};
 use capture_desc::read_desc;
 use capture_desk::{Desk, Failed, MemDesk, Octets};
+use field_stream::{Made, line_entries, make};
 use planar_plan::Frame;
 use std::alloc::{AllocError, Global};
 use std::test::Fail;

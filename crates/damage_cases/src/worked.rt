@@ -1,20 +1,13 @@
 //! Worked fields: which of their rows are whole.
 
-ghost use Rattle.std.specs.Prelude.{◌≡◌, ◌<◌};
-
-use crate::Mapped;
-use capture_desc::read_desc;
-use dma_machine::Machine;
-use fifo_model::{Entry, Fifo, Queue};
+use crate::tests::mapped;
+use damage_map::Mapped;
+use fifo_model::{Entry, Queue};
 use irq_status::HostWrite;
 use page_ram::{MapRam, Ram};
 use pixel_layout::Parity;
-use program_build::{Checked, build, check};
-use risc_verify::{Accepted, Steps, verify};
 use risc_word::Code;
 use std::alloc::Global;
-use std::marker::Brand;
-use std::sync::ledger::{Blank, Ledger};
 use std::test::Fail;
 use sync_status::{Status, StatusKind, kind};
 
@@ -23,38 +16,6 @@ const ONE_ROW: &str =
 
 const TWO_ROWS: &str =
     "format = \"y8\"\nwidth = 8\nheight = 2\nfields = \"top\"\npages = [0x20000]\n";
-
-// The program of a description, verified.
-fn accepted<L: Ledger>(alloc: Global, checked: &Checked, blank: Blank) -> Result<Accepted, Fail>
-    requires name { blank.name ≡ L.name }
-    requires parts { blank.parts ≡ L.parts }
-    requires some { 0 < blank.parts }
-{
-    let program = build(alloc, checked)?;
-    let mut steps = Steps::<L>::new(blank);
-    match verify(alloc, program, &mut steps) {
-        Ok(accepted) => Ok(accepted),
-        Err(_) => Err(Fail::from("it is sound")),
-    }
-}
-
-fn machine(alloc: Global, accepted: Accepted, fill: u8) -> Result<Machine<MapRam>, Fail> {
-    let ram = MapRam::new(alloc, accepted.program().grants(), fill)?;
-    let fifo = Fifo::new(alloc, [70, 35, 35])?;
-    Ok(Machine::new(accepted, ram, fifo))
-}
-
-fn mapped_of(alloc: Global, checked: &Checked) -> Result<Mapped<MapRam>, Fail> {
-    let accepted = accepted::<Brand>(alloc, checked, Blank::new(1))?;
-    let machine = machine(alloc, accepted, checked.fill())?;
-    Ok(Mapped::new(alloc, machine, checked)?)
-}
-
-fn mapped(alloc: Global, text: &str) -> Result<Mapped<MapRam>, Fail> {
-    let desc = read_desc(alloc, text.as_bytes())?;
-    let checked = check(alloc, desc)?;
-    mapped_of(alloc, &checked)
-}
 
 fn push(m: &mut Mapped<MapRam>, nibble: u8, dword: u32) {
     if nibble < 16 {

@@ -2,9 +2,9 @@ ghost use Rattle.std.specs.Prelude.{◌<◌, ◌≤◌};
 ghost use Rattle.picture_model.specs.Described.{IsDescription};
 ghost use Rattle.planar_plan.specs.Lines.{AreSpansOf};
 
-use crate::{BuildError, BuildFault, Frame, Piece, PieceKind, Pieces, RowSpans};
 use capture_desc::{Fields, read_desc};
 use pixel_layout::Parity;
+use planar_plan::{BuildError, BuildFault, Frame, Piece, PieceKind, Pieces, RowSpans};
 use risc_word::Ends;
 use std::alloc::{AllocError, Global};
 use std::test::Fail;

@@ -1,4 +1,4 @@
-use crate::{Ring, RingError, RingFault, RingKey, compile_ring, read_ring};
+use ring_compile::{Ring, RingError, RingFault, RingKey, compile_ring, read_ring};
 use risc_verify::Program;
 use std::alloc::{AllocError, Global};
 use std::test::Fail;

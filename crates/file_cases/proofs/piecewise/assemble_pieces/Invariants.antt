@@ -1,5 +1,5 @@
 use Rattle.std.proofs.Common.{length, ◌-◌, ◌≤◌}
-use Rattle.risc_asm.proofs.piecewise.assemble_pieces.Given as goal
+use Rattle.file_cases.proofs.piecewise.assemble_pieces.Given as goal
 
 abbrev pub invariant-loop-at : goal.invariant-loop-at
 invariant-loop-at l = record { within : l.at ≤ length l.bytes }

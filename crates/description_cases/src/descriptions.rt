@@ -1,4 +1,4 @@
-use crate::{ChunkList, Desc, DescError, DescFault, Fields, KeyText, Numbers, read_desc};
+use capture_desc::{ChunkList, Desc, DescError, DescFault, Fields, KeyText, Numbers, read_desc};
 use clip_spans::{Clips, Span};
 use pixel_layout::Format;
 use std::alloc::{AllocError, Global};

@@ -1,4 +1,0 @@
-use Rattle.damage_map.proofs.tests.mapped_of.Given as goal
-
-abbrev pub ghosts-accepted : goal.ghosts-accepted
-ghosts-accepted a = record { name = a.blank.name; parts = a.blank.parts }
