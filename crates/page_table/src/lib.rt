@@ -352,6 +352,16 @@ mod tests {
     }
 
     #[test]
+    fn pages_are_chunks_in_the_order_of_the_list(rt: HostRuntime) -> Result<(), Fail> {
+        let chunks = whole_pages(rt.alloc(), &[0x30000, 0x20000])?;
+        assert_eq!(rt;
+            chunks.as_slice(),
+            [(0x30000, 0x1000), (0x20000, 0x1000)].as_slice()
+        );
+        Ok(())
+    }
+
+    #[test]
     fn chunks_that_touch_cover_one_range(rt: HostRuntime) -> Result<(), Fail> {
         let set = PageSet::from_chunks(
             rt.alloc(),
