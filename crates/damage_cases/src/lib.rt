@@ -4,6 +4,8 @@
 #[cfg(test)]
 mod lanes;
 #[cfg(test)]
+mod maps;
+#[cfg(test)]
 mod plain;
 #[cfg(test)]
 mod programs;

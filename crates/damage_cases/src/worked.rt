@@ -1,6 +1,6 @@
 //! Worked fields: which of their rows are whole.
 
-use crate::tests::mapped;
+use crate::maps::mapped;
 use damage_map::Mapped;
 use fifo_model::{Entry, Queue};
 use irq_status::HostWrite;

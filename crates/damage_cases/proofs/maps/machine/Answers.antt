@@ -1,6 +1,6 @@
 use Rattle.std.proofs.Common.{rules}
 use Rattle.page_table.proofs.Memory.{chunks_of-filled}
-use Rattle.damage_cases.proofs.tests.machine.Goals as goal
+use Rattle.damage_cases.proofs.maps.machine.Goals as goal
 
 pub new-requires-3-clause-granted : goal.new-requires-3-clause-granted
 new-requires-3-clause-granted g = search (rules, chunks_of-filled)
