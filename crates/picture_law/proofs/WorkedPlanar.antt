@@ -158,25 +158,7 @@ abbrev machine : State
 machine = state_of planar 0 planar_steps 2
 
 pushes_kept : (count : ℕ) → AreKept machine (meeting (compiled planar) (planar_pushes ++ replicate count Turn))
-pushes_kept count = (
-  refl,
-  (
-    refl,
-    (
-      refl,
-      (
-        refl,
-        (
-          refl,
-          (
-            refl,
-            (refl, (refl, (refl, (refl, (refl, (refl, (refl, (refl, (refl, (refl, (refl, (refl, (refl, (refl, (refl, (refl, (refl, (refl, (refl, (refl, turns_kept _ count)))))))))))))))))))),
-          ),
-        ),
-      ),
-    ),
-  ),
-)
+pushes_kept count = (refl, (refl, (refl, (refl, (refl, (refl, (refl, (refl, (refl, (refl, (refl, (refl, (refl, (refl, (refl, (refl, (refl, (refl, (refl, (refl, (refl, (refl, (refl, (refl, (refl, (refl, turns_kept _ count))))))))))))))))))))))))))
 
 abbrev order_of : ℕ → Queue → Type 0
 order_of count q =
@@ -203,13 +185,7 @@ turns_made zero = All-nil IsStep
 turns_made (suc count) = All-cons IsStep Turn (replicate count Turn) tt (turns_made count)
 
 pushes_made : All IsStep planar_pushes
-pushes_made = All-from_recursion IsStep planar_pushes (
-  tt,
-  (
-    tt,
-    (refl, (refl, (tt, (refl, (refl, (refl, (refl, (refl, (refl, (refl, (refl, (refl, (refl, (refl, (refl, (refl, (refl, (refl, (refl, (refl, (refl, (refl, (refl, (refl, tt)))))))))))))))))))))))),
-  ),
-)
+pushes_made = All-from_recursion IsStep planar_pushes (tt, (tt, (refl, (refl, (tt, (refl, (refl, (refl, (refl, (refl, (refl, (refl, (refl, (refl, (refl, (refl, (refl, (refl, (refl, (refl, (refl, (refl, (refl, (refl, (refl, (refl, tt))))))))))))))))))))))))))
 
 capture : IsCapture planar Top planar_picture planar_steps
 capture =

@@ -164,10 +164,10 @@ row_weights d row is right =
 
 -- a row's words, by what its three tracks have passed before and behind it
 row_words : (d : Desc) (row : ℕ) → IsDescription d → IsRight d → row < d.height →
-    cut_words (cuts_of (memory_of d) (row_strip d row) (row_strip d row).spans) + 5 *
-    (ended_after (memory_of d) 0 (row_offset d 1 row) + ended_after (memory_of d) 0 (row_offset d 2 row) + ended_after (memory_of d) 0 (row_offset d 3 row)) ≤ 5 *
-    (ended_after (memory_of d) (row_size d 1) (row_offset d 1 row) + ended_after (memory_of d) (row_size d 2) (row_offset d 2 row) + ended_after (memory_of d) (row_size d 3)
-    (row_offset d 3 row)) + 458
+    cut_words (cuts_of (memory_of d) (row_strip d row) (row_strip d row).spans)
+    + 5 * (ended_after (memory_of d) 0 (row_offset d 1 row) + ended_after (memory_of d) 0 (row_offset d 2 row) + ended_after (memory_of d) 0 (row_offset d 3 row))
+    ≤ 5 * (ended_after (memory_of d) (row_size d 1) (row_offset d 1 row) + ended_after (memory_of d) (row_size d 2) (row_offset d 2 row) + ended_after (memory_of d) (row_size d 3) (row_offset d 3 row))
+    + 458
 row_words d row is right below =
     let memory = memory_of d in
     let size = grain_bytes (layout_of d) in
@@ -279,8 +279,8 @@ abbrev vbi_behind : Desc → Parity → ℕ
 vbi_behind d field = all_ended (memory_of d) d.vbi_bytes (vbi_starts d field d.vbi_lines)
 
 vbi_lines_words : (d : Desc) (field : Parity) (lines : List ℕ) → IsRight d → describes d.fields field ≡ true → Each (λ line. line < d.vbi_lines) lines →
-    total_words (memory_of d) (map (vbi_strip d field) lines) + 5 * all_ended (memory_of d) 0 (map (λ line. Some (vbi_line_offset d field line)) lines) ≤ 5 * all_ended
-    (memory_of d) d.vbi_bytes (map (λ line. Some (vbi_line_offset d field line)) lines) + 10 * length lines
+    total_words (memory_of d) (map (vbi_strip d field) lines) + 5 * all_ended (memory_of d) 0 (map (λ line. Some (vbi_line_offset d field line)) lines)
+    ≤ 5 * all_ended (memory_of d) d.vbi_bytes (map (λ line. Some (vbi_line_offset d field line)) lines) + 10 * length lines
 vbi_lines_words d field [] right described below = omega arith
 vbi_lines_words d field (line ∷ lines) right described below =
     let memory = memory_of d in

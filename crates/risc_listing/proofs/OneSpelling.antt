@@ -75,8 +75,8 @@ module _ (word : ℕ) (small : word < 2 ^ 32) where
 
   skip_sum : (opcode : ℕ) → bits 28 4 word ≡ opcode → word ≡ data_word opcode (control_bits word) (line_ends word) 0 (first_count word) + (bits 25 1 word * 2 ^ 25 + bits 12 4 word * 2 ^ 12)
   skip_sum opcode is =
-      without_lanes word (opcode * 2 ^ 28 + flag 24 (bits 24 1 word == 1) + bits 20 4 word * 2 ^ 20 + bits 16 4 word * 2 ^ 16 + flag 27 (bits 27 1 word == 1) + flag 26
-      (bits 26 1 word == 1)) (bits 12 4 word) (bits 0 12 word) (bits 25 1 word) (data_sum opcode is)
+      without_lanes word (opcode * 2 ^ 28 + flag 24 (bits 24 1 word == 1) + bits 20 4 word * 2 ^ 20 + bits 16 4 word * 2 ^ 16
+      + flag 27 (bits 27 1 word == 1) + flag 26 (bits 26 1 word == 1)) (bits 12 4 word) (bits 0 12 word) (bits 25 1 word) (data_sum opcode is)
     where
       without_lanes : (word head lanes count spare : ℕ) → word ≡ head + lanes * 2 ^ 12 + count + spare * 2 ^ 25 → word ≡ head + 0 * 2 ^ 12 + count + (spare * 2 ^ 25 + lanes * 2 ^ 12)
       without_lanes word head lanes count spare is = omega arith

@@ -98,8 +98,7 @@ control_read opcode sol eol ctl off count small = record {
   ctl_is = rw (
     irq_read opcode sol eol (bit_of ctl.irq) ctl.reset ctl.set off count small,
     reset_read opcode sol eol (bit_of ctl.irq) ctl.reset ctl.set off count small,
-    set_read
-        opcode sol eol (bit_of ctl.irq) ctl.reset ctl.set off count small,
+    set_read opcode sol eol (bit_of ctl.irq) ctl.reset ctl.set off count small,
     bit_test ctl.irq,
   ) refl;
 }
@@ -129,8 +128,7 @@ module _ (opcode : ℕ) (ctl : Ctl) (ends : Ends) (off count : ℕ) (opcode_smal
   line_reads = rw (data_word_of opcode ctl ends off count) (record {
     ends_is = rw (
       sol_read opcode (bit_of ends.sol) (bit_of ends.eol) (bit_of ctl.irq) ctl.reset ctl.set off count data_small,
-      eol_read opcode (bit_of ends.sol) (bit_of ends.eol)
-          (bit_of ctl.irq) ctl.reset ctl.set off count data_small,
+      eol_read opcode (bit_of ends.sol) (bit_of ends.eol) (bit_of ctl.irq) ctl.reset ctl.set off count data_small,
       bit_test ends.sol,
       bit_test ends.eol,
     ) refl;

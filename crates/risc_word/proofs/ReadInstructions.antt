@@ -64,8 +64,13 @@ module _ (word : ℕ) where
   write_123_known (counts ∷ []) = tt
   write_123_known (counts ∷ first ∷ []) = tt
   write_123_known (counts ∷ first ∷ second ∷ []) = tt
-  write_123_known (counts ∷ first ∷ second ∷ third ∷ rest) = record
-      { is_instr = (and_from _ _ (line_small word) (three_small word counts), (refl, refl)); by_opcode_is = refl; spelled_is = refl; positive = omega arith; within = omega arith }
+  write_123_known (counts ∷ first ∷ second ∷ third ∷ rest) = record {
+    is_instr = (and_from _ _ (line_small word) (three_small word counts), (refl, refl));
+    by_opcode_is = refl;
+    spelled_is = refl;
+    positive = omega arith;
+    within = omega arith;
+  }
 
   skip_123_known : (rest : List ℕ) → IsKnown 10 rest (skip_123_at word rest)
   skip_123_known [] = tt

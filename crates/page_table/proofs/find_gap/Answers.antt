@@ -6,8 +6,7 @@ use Rattle.page_table.proofs.find_gap.Goals.{then-i-chunks-via-then-i-chunks, th
 pub loop-next-init : goal.loop-next-init
 loop-next-init c = (
   scan_begins c.args.chunks.now c.args.addr (c.from.result + c.from-2.result) c.ended-i.result c.from-next.result c.requires.rising c.ended-i.ensures c.from-next.ensures,
-  subst
-      (λ n. n ≤ length c.args.chunks.now) (sym c.ended-i.ensures) (ended-le c.args.addr c.args.chunks.now),
+  subst (λ n. n ≤ length c.args.chunks.now) (sym c.ended-i.ensures) (ended-le c.args.addr c.args.chunks.now),
   omega arith,
 )
 

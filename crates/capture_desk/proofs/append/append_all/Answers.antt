@@ -50,8 +50,7 @@ loop-at-preserved g c =
         arith,
         few,
         c.in_ok-at.ensures.appends.0,
-        length-take-le (c.loop-at.at + c.in_ok-at.field-0) c.args.bytes.now
-            (omega (arith, few)),
+        length-take-le (c.loop-at.at + c.in_ok-at.field-0) c.args.bytes.now (omega (arith, few)),
       )) c.loop-at.invariant.counts c.in_ok-at.ensures.counts c.in_ok-at.ensures.calls;
     }
 

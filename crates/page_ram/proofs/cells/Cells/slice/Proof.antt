@@ -67,8 +67,7 @@ module _ (E : El) where
     signature = record {
       lifetimes = 1;
       outlives = [];
-      params = RefOf (0 ∷ []) tt (plain (λ _. Cr E)) (λ _. tt) ∷ plain (λ _. Bs E) ∷ plain (λ _. usize) ∷ plain
-          (λ _. usize) ∷ [];
+      params = RefOf (0 ∷ []) tt (plain (λ _. Cr E)) (λ _. tt) ∷ plain (λ _. Bs E) ∷ plain (λ _. usize) ∷ plain (λ _. usize) ∷ [];
       result = SliceRefOf (0 ∷ []) tt (plain (λ _. R E)) (λ _. tt);
     };
     kept = (yes, (no, (no, (no, tt))));

@@ -60,8 +60,7 @@ module _ (E : El) where
     signature = record {
       lifetimes = 1;
       outlives = [];
-      params = RefMutOf (0 ∷ []) tt (plain (λ _. Cr E)) (λ _. tt) ∷ plain (λ _. Bs E) ∷ plain (λ _. usize) ∷ plain
-          (λ _. R E) ∷ [];
+      params = RefMutOf (0 ∷ []) tt (plain (λ _. Cr E)) (λ _. tt) ∷ plain (λ _. Bs E) ∷ plain (λ _. usize) ∷ plain (λ _. R E) ∷ [];
       result = plain (λ _. unit);
     };
     kept = (yes, (no, (no, (no, tt))));
