@@ -1,7 +1,9 @@
 -- What the geometry of a frame says of the sizes of its picture and its VBI lines.
-use Rattle.std.proofs.Common.{◌≡◌, ℕ, zero, suc, ◌≤◌, ◌<◌, List, [], ◌∷◌, Option, Some, None, refl}
+use Rattle.std.proofs.Common.{◌≡◌, ℕ, zero, suc, ◌/◌, ◌≤◌, ◌<◌, Bool, true, false, if◌then◌else◌, List, [], ◌∷◌, Option, Some, None, refl, arith}
+use Rattle.pixel_layout.specs.declared.Parity.{Parity}
 use Rattle.capture_desc.specs.declared.desc.Desc.{Desc}
 use Rattle.picture_model.specs.declared.BuildFault.{BuildFault}
+use Rattle.picture_model.specs.Described.{both, describes, field_height}
 use Rattle.picture_model.specs.Geometry.{Check, first_after, frame_faults}
 use Rattle.picture_model.proofs.FaultlessGeometry.{between_parts, vbi_range, when_not}
 use Rattle.planar_plan.specs.Frames.{IsFramed}
@@ -29,3 +31,11 @@ pub picture_range : (d : Desc) → IsFramed d → (d.width ≤ 1024) × (d.heigh
 picture_range d is =
     let wide = between_parts 1 1024 d.width (when_not _ _ (clear_at 0 None frame_faults d is.geometry)) in
     let high = between_parts 1 1024 d.height (when_not _ _ (clear_at 1 None frame_faults d is.geometry)) in (wide.1, high.1)
+
+low : (shown two : Bool) (rows : ℕ) → rows ≤ 1024 → (if shown then (if two then rows / 2 else rows) else 0) ≤ 1024
+low false two rows few = omega arith
+low true false rows few = few
+low true true rows few = omega (arith, few)
+
+pub field_range : (d : Desc) (field : Parity) → IsFramed d → field_height d field ≤ 1024
+field_range d field is = low (describes d.fields field) (both d) d.height (picture_range d is).1

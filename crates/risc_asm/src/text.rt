@@ -299,12 +299,12 @@ fn is_end(
 fn finish(
     alloc: Global,
     settled: Settled,
-    tail: Vec<u8>,
+    tail: &[u8],
 ) -> Result<Result<ProgramFile, Vec<u8>>, AllocError>
     requires { Holds settled }
-    ensures listing { IfOk result (λ found. IfOk found (λ file. Assembles (front_of settled ++ tail.items) file.program file.fill)) }
-    ensures few { IfOk result (λ found. IfOk found (λ _. length (front_of settled ++ tail.items) ≤ most_bytes)) }
-    ensures bytes { IfOk result (λ found. MatchResult found (λ _. Unit {0}) (λ bytes. bytes.items ≡ front_of settled ++ tail.items)) }
+    ensures listing { IfOk result (λ found. IfOk found (λ file. Assembles (front_of settled ++ tail.now) file.program file.fill)) }
+    ensures few { IfOk result (λ found. IfOk found (λ _. length (front_of settled ++ tail.now) ≤ most_bytes)) }
+    ensures bytes { IfOk result (λ found. MatchResult found (λ _. Unit {0}) (λ bytes. bytes.items ≡ front_of settled ++ tail.now)) }
 {
     let Settled {
         base,
@@ -314,19 +314,19 @@ fn finish(
         read,
     } = settled;
     let Some(rest) = tail.get(read..) else {
-        return Ok(Err(expand(alloc, base, &draft.words, front, &tail)?));
+        return Ok(Err(expand(alloc, base, &draft.words, front, tail)?));
     };
     let (end, _) = read_draft(alloc, rest)?;
     let fill = end.fill.unwrap_or(0);
     let program = match program_of(alloc, base, draft.words, &end.chunks)? {
         Ok(program) => program,
-        Err(words) => return Ok(Err(expand(alloc, base, &words, front, &tail)?)),
+        Err(words) => return Ok(Err(expand(alloc, base, &words, front, tail)?)),
     };
     let is_short = front <= MOST_BYTES && tail.len() <= MOST_BYTES - front;
-    if is_short && is_end(alloc, &tail, &program, number, fill)? {
+    if is_short && is_end(alloc, tail, &program, number, fill)? {
         return Ok(Ok(ProgramFile { program, fill }));
     }
-    Ok(Err(expand(alloc, base, program.words(), front, &tail)?))
+    Ok(Err(expand(alloc, base, program.words(), front, tail)?))
 }
 
 impl Text {
@@ -371,7 +371,7 @@ impl Text {
     {
         let Text { state, tail } = self;
         let bytes = match state {
-            State::Told(settled) => match finish(alloc, settled, tail)? {
+            State::Told(settled) => match finish(alloc, settled, &tail)? {
                 Ok(file) => return Ok(file),
                 Err(bytes) => bytes,
             },

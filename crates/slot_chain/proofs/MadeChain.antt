@@ -1,7 +1,6 @@
 -- A chain as it is made.
-use Rattle.std.proofs.Common.{◌≡◌, ℕ, ◌<◌, ◌≤◌, Bool, false, All, List, [], ◌∷◌, length, Option, None, sym, ap, subst, ◌∙◌}
+use Rattle.std.proofs.Common.{◌≡◌, ℕ, ◌<◌, ◌≤◌, All, List, length, Option, None, sym, ap, subst, ◌∙◌}
 use Rattle.std.specs.Prelude.{replicate, slice_index_or}
-use Rattle.std.specs.List.{list_any}
 use Rattle.page_table.proofs.Listed.{none_passes}
 use Rattle.page_table.specs.Grants.{Chunk}
 use Rattle.machine_model.specs.Paths.{RiscProgram, shares_byte}
@@ -40,27 +39,24 @@ module _ (chain : Chain) (slots : (1 ≤ chain.slots) × (chain.slots ≤ max_sl
       }
 
 -- from what the code is told of its parts
-module _ (base slots : ℕ) (parts judged worded met : List PartWords) (grants : List Chunk) (words : List ℕ) (running : RiscProgram) (programs : List RiscProgram) (patching : List (Option ℕ))
-    (one : judged ≡ parts) (two : worded ≡ parts) (three : met ≡ parts) (some : (1 ≤ slots) × (slots ≤ max_slots)) (few : length parts ≤ max_parts)
-    (belong : All (λ part. part.slot < slots) parts) (none : None ≡ place_fault (chain_of base slots judged grants))
-    (words_are : (g : List Chunk) → words ≡ (alone (chain_of base slots worded g) None).words) (are : AreAlone (chain_of base slots met grants) programs)
-    (runs : running ≡ record { base = base; words = words; grants = grants }) (list : patching ≡ replicate slots None) where
+module _ (base slots : ℕ) (parts judged : List PartWords) (grants : List Chunk) (running : RiscProgram) (programs : List RiscProgram) (patching : List (Option ℕ)) (same : judged ≡ parts)
+    (some : (1 ≤ slots) × (slots ≤ max_slots)) (few : length parts ≤ max_parts) (belong : All (λ part. part.slot < slots) parts)
+    (none : place_fault (chain_of base slots judged grants) ≡ None) (are : AreAlone (chain_of base slots judged grants) programs)
+    (runs : running ≡ alone (chain_of base slots judged grants) None) (list : patching ≡ replicate slots None) where
   abbrev whole : Chain
   whole = chain_of base slots parts grants
 
   no_fault : place_fault whole ≡ None
-  no_fault = sym (subst (λ (ps : List PartWords). None ≡ place_fault (chain_of base slots ps grants)) one none)
+  no_fault = subst (λ (ps : List PartWords). place_fault (chain_of base slots ps grants) ≡ None) same none
 
   runs_empty : running ≡ alone whole None
-  runs_empty =
-      runs ∙ ap (λ (ws : List ℕ). record { base = base; words = ws; grants = grants }) (words_are grants)
-      ∙ ap (λ (ps : List PartWords). record { base = base; words = (alone (chain_of base slots ps grants) None).words; grants = grants }) two
+  runs_empty = runs ∙ ap (λ (ps : List PartWords). alone (chain_of base slots ps grants) None) same
 
   alone_whole : AreAlone whole programs
-  alone_whole = subst (λ (ps : List PartWords). AreAlone (chain_of base slots ps grants) programs) three are
+  alone_whole = subst (λ (ps : List PartWords). AreAlone (chain_of base slots ps grants) programs) same are
 
   grants_are : running.grants ≡ grants
-  grants_are = ap (λ (p : RiscProgram). p.grants) runs
+  grants_are = ap (λ (p : RiscProgram). p.grants) runs_empty
 
   pub made_wheel : IsWheel (chain_of base slots parts running.grants) running programs None
   made_wheel =

@@ -1,11 +1,10 @@
 -- Turns of a machine that stands still are turns of the chain: they fetch nothing, whatever the program.
-use Rattle.std.proofs.Common.{◌≡◌, ℕ, zero, suc, ◌+◌, ◌-◌, true, refl, sym, ap, subst, ◌∙◌, arith}
+use Rattle.std.proofs.Common.{◌≡◌, ℕ, zero, suc, true, refl, sym, ap, subst, ◌∙◌}
 use Rattle.std.specs.Prelude.{List, Option, replicate}
-use Rattle.page_table.specs.Grants.{Chunk}
 use Rattle.machine_model.specs.Paths.{RiscProgram}
 use Rattle.machine_model.specs.States.{State}
 use Rattle.machine_model.specs.Steps.{Turn, run, with_program}
-use Rattle.machine_model.specs.Turns.{counted, turn}
+use Rattle.machine_model.specs.Turns.{counted}
 use Rattle.machine_model.proofs.Runs.{program-run}
 use Rattle.dma_machine.specs.Stills.{is_still}
 use Rattle.dma_machine.proofs.Standing.{is_still-program, is_still-turns}
@@ -13,7 +12,7 @@ use Rattle.dma_machine.proofs.StillSeen.{still_counts}
 use Rattle.chain_model.specs.declared.PartWords.{PartWords}
 use Rattle.chain_model.specs.Chains.{Chain, IsPatching, Patching, patched}
 use Rattle.chain_model.specs.Live.{Live, Plain, live_run, live_step}
-use Rattle.slot_chain.specs.States.{ChainState, chain_of, live_of, state_of, turned}
+use Rattle.slot_chain.specs.States.{chain_of, live_of, state_of, turned}
 use Rattle.slot_chain.specs.Wheels.{IsWheel}
 
 -- turns take the same course with another program

@@ -4,7 +4,7 @@ ghost use Rattle.std.specs.Prelude.{◌≡◌, ◌<◌, length, replicate, IfOk,
 ghost use Rattle.chain_model.specs.Chains.{Chain as ChainOf};
 ghost use Rattle.slot_chain.specs.Wheels.{EnteredAt, EntersAt, slot_of};
 
-use crate::making::{ChainError, accept, accept_parts, empty_words, judge_place};
+use crate::making::{ChainError, judge_chain};
 use crate::wheel::Wheel;
 use chain_model::PartWords;
 use dma_machine::{Machine, Report};
@@ -75,18 +75,12 @@ impl<R: Ram + Drop> Chain<R> {
         ensures refused { IfErr result (Refuses (chain_of base slots parts.items grants)) }
         ensures cost { (steps.old ≤ steps.new) × (steps.new ≤ steps.old + (length parts.items + 1) * (2 * word_count (chain_of base slots parts.items grants) + 1)) }
     {
-        judge_place(base, slots, &parts, &grants)?;
-        let words = empty_words(alloc, base, slots, &parts)?;
-        let programs = accept_parts(alloc, base, slots, &words, &parts, &grants, steps)?;
-        let empty = match accept(alloc, base, words, &grants, steps) {
-            Ok(empty) => empty,
-            Err(_) => return Err(ChainError::Memory),
-        };
+        let programs = judge_chain(alloc, base, slots, &parts, &grants, steps)?;
         let patching = no_parts(alloc, slots)?;
         Ok(Chain {
             wheel: Wheel {
-                machine: Machine::new(empty, ram, fifo),
-                programs,
+                machine: Machine::new(programs.empty, ram, fifo),
+                programs: programs.with_part,
                 current: None,
             },
             base,

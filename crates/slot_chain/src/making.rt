@@ -7,7 +7,7 @@ ghost use Rattle.page_table.specs.Grants.{Chunk, is_met};
 ghost use Rattle.machine_model.specs.Paths.{IsSound, max_words};
 ghost use Rattle.chain_model.specs.Chains.{Chain as ChainOf, alone, loop_words, max_parts, max_slots, unpatched, words_of_parts};
 ghost use Rattle.risc_verify.specs.Verdicts.{Refuses as RefusesProgram};
-ghost use Rattle.slot_chain.specs.Making.{AreAlone, IsPlaced, RefusesPart, place_fault, refusal};
+ghost use Rattle.slot_chain.specs.Making.{AreAlone, IsPlaced, Refuses, RefusesPart, place_fault, refusal, word_count};
 ghost use Rattle.slot_chain.specs.States.{chain_of};
 ghost use Rattle.slot_chain.specs.declared.making.ChainError.TheVariants.{Memory};
 
@@ -113,7 +113,7 @@ fn meets_chunks(base: u32, count: u32, grants: &PageSet) -> bool
 }
 
 /// Judges where a chain stands.
-pub(crate) fn judge_place(
+fn judge_place(
     base: u32,
     slots: u32,
     parts: &[PartWords],
@@ -139,7 +139,7 @@ pub(crate) fn judge_place(
 }
 
 /// The words of a chain with no part patched in.
-pub(crate) fn empty_words(
+fn empty_words(
     alloc: Global,
     base: u32,
     slots: u32,
@@ -168,7 +168,7 @@ fn copy_of(alloc: Global, grants: &PageSet) -> Result<PageSet, AllocError>
 }
 
 /// Judges the program of some words.
-pub(crate) fn accept<L: Ledger>(
+fn accept<L: Ledger>(
     alloc: Global,
     base: u32,
     words: Vec<u32>,
@@ -227,7 +227,7 @@ fn refusal(part: u32, why: Why) -> ChainError
 }
 
 /// The sound programs of the parts, each of which is patched in alone, or the first part whose program isn't sound.
-pub(crate) fn accept_parts<L: Ledger>(
+fn accept_parts<L: Ledger>(
     alloc: Global,
     base: u32,
     slots: u32,
@@ -259,4 +259,40 @@ pub(crate) fn accept_parts<L: Ledger>(
         head += 4 * part.words.as_slice().len() as u32;
     }
     Ok(programs)
+}
+
+/// The sound programs that the words of a chain are.
+#[derive(Drop)]
+pub(crate) struct Programs {
+    /// The one with no part patched in.
+    pub empty: Accepted,
+    /// Those in which each part alone is patched in, in the order of the parts.
+    pub with_part: Vec<Accepted>,
+}
+
+/// Judges a chain: its place, and then the program of each part. The verifier's steps are counted.
+pub(crate) fn judge_chain<L: Ledger>(
+    alloc: Global,
+    base: u32,
+    slots: u32,
+    parts: &[PartWords],
+    grants: &PageSet,
+    steps: &mut Steps<L>,
+) -> Result<Programs, ChainError>
+    requires slots { slots ≤ max_slots }
+    requires parts { length parts.now ≤ max_parts }
+    requires belong { All (λ part. part.slot < slots) parts.now }
+    ensures placed { IfOk result (λ _. place_fault (chain_of base slots parts.now grants.now) ≡ None) }
+    ensures empty { IfOk result (λ programs. programs.empty ≡ alone (chain_of base slots parts.now grants.now) None) }
+    ensures with_part { IfOk result (λ programs. AreAlone (chain_of base slots parts.now grants.now) programs.with_part.items) }
+    ensures refused { IfErr result (Refuses (chain_of base slots parts.now grants.now)) }
+    ensures cost { (steps.old ≤ steps.new) × (steps.new ≤ steps.old + (length parts.now + 1) * (2 * word_count (chain_of base slots parts.now grants.now) + 1)) }
+{
+    judge_place(base, slots, parts, grants)?;
+    let words = empty_words(alloc, base, slots, parts)?;
+    let with_part = accept_parts(alloc, base, slots, &words, parts, grants, steps)?;
+    match accept(alloc, base, words, grants, steps) {
+        Ok(empty) => Ok(Programs { empty, with_part }),
+        Err(_) => Err(ChainError::Memory),
+    }
 }

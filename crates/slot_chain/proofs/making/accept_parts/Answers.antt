@@ -1,7 +1,7 @@
 use Rattle.std.proofs.Common.{◌≡◌, ◌+◌, ◌*◌, ◌∙◌, ℕ, length, sym, ap, subst, arith}
 use Rattle.slot_chain.specs.Making.{RefusesPart, refusal}
 use Rattle.slot_chain.specs.States.{chain_of}
-use Rattle.slot_chain.proofs.Parts.{first_none, head_room, its_program, one_more, refused_by, slot_below, slot_within}
+use Rattle.slot_chain.proofs.Parts.{first_none, head_room, its_program, one_more, refused_by, slot_below, slot_within, spent_to}
 use Rattle.slot_chain.proofs.making.accept_parts.Goals as goal
 
 pub loop-part-init : goal.loop-part-init
@@ -57,3 +57,11 @@ loop-part-preserved g c =
     one_more chain (length c.args.words.now) c.loop-part.part-index c.loop-part.programs.items c.loop-part.head c.args.steps.now c.loop-part.steps c.loop-part.invariant c.part-item.result
     c.loop-part-test.true is below c.args.words.now c.requires.words c.in-Ok.accepted c.push.new.self.items (c.loop-part.head + 4 * length c.as_slice.result.now) c.accept_part.new.steps
     c.in-Ok.ensures.accepted c.in-Ok.ensures.sound c.in-Ok-push.ensures.items (omega arith) c.accept_part.ensures.cost
+
+pub returns-in-Err-clause-cost : goal.returns-in-Err-clause-cost
+returns-in-Err-clause-cost g c =
+    spent_to (length c.args.words.now) c.loop-part.part-index (length c.args.parts.now) c.args.steps.now c.loop-part.steps c.accept_part.new.steps c.loop-part.invariant.cost c.accept_part.ensures.cost c.loop-part-test.true
+
+pub returns-in-Err-push-clause-cost : goal.returns-in-Err-push-clause-cost
+returns-in-Err-push-clause-cost g c =
+    spent_to (length c.args.words.now) c.loop-part.part-index (length c.args.parts.now) c.args.steps.now c.loop-part.steps c.accept_part.new.steps c.loop-part.invariant.cost c.accept_part.ensures.cost c.loop-part-test.true
