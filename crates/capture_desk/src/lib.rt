@@ -10,8 +10,6 @@ mod logged;
 mod memory;
 mod octets;
 mod system;
-#[cfg(test)]
-mod tests;
 
 pub use crate::append::{put, say_all};
 pub use crate::calls::Call;

@@ -5,7 +5,7 @@ ghost use Rattle.std.specs.Prelude.{◌≡◌, ◌<◌};
 use capture_desc::read_desc;
 use damage_map::Mapped;
 use dma_machine::Machine;
-use fifo_model::Fifo;
+use fifo_model::{CHROMA_CAPACITY, Fifo, LUMA_CAPACITY};
 use page_ram::MapRam;
 use program_build::{Checked, build, check};
 use risc_verify::{Accepted, Steps, verify};
@@ -30,7 +30,7 @@ fn accepted<L: Ledger>(alloc: Global, checked: &Checked, blank: Blank) -> Result
 
 fn machine(alloc: Global, accepted: Accepted, fill: u8) -> Result<Machine<MapRam>, Fail> {
     let ram = MapRam::new(alloc, accepted.program().grants(), fill)?;
-    let fifo = Fifo::new(alloc, [70, 35, 35])?;
+    let fifo = Fifo::new(alloc, [LUMA_CAPACITY, CHROMA_CAPACITY, CHROMA_CAPACITY])?;
     Ok(Machine::new(accepted, ram, fifo))
 }
 
@@ -40,7 +40,7 @@ fn mapped_of(alloc: Global, checked: &Checked) -> Result<Mapped<MapRam>, Fail> {
     Ok(Mapped::new(alloc, machine, checked)?)
 }
 
-/// The machine of a description.
+/// A machine with ample queues that runs a description's program, with the description's map of damage.
 pub fn mapped(alloc: Global, text: &str) -> Result<Mapped<MapRam>, Fail> {
     let desc = read_desc(alloc, text.as_bytes())?;
     let checked = check(alloc, desc)?;

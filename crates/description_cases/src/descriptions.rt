@@ -111,109 +111,113 @@ fn is_refused_in(
     Ok(is_refused(alloc, text.as_bytes(), kind, key))
 }
 
+// Texts that are no documents or have a key that no description has, how each is refused, and the key that is named.
+static UNREAD: [(&[u8], &str, &str); 11] = [
+    (b"a = ", "not toml", ""),
+    (b"# \xff", "not toml", ""),
+    (b"colour = 1\nwidth = 8\nwidth = 8", "not toml", ""),
+    (b"width = 08", "not toml", ""),
+    (b"width = 9223372036854775808", "not toml", ""),
+    (b"colour = 1", "unknown", "colour"),
+    (b"width = true\ncolour = 1", "unknown", "colour"),
+    (b"colour = 1\nbrightness = 1", "unknown", "brightness"),
+    (b"colour = 1\nColour = 1", "unknown", "Colour"),
+    (b"lines = 1\nline = 1", "unknown", "line"),
+    (b"\"\" = 1\na = 1", "unknown", ""),
+];
+
 // No document, or a key that no description has: that comes first, and of several the least in byte order.
 #[test]
 fn documents_and_their_keys_are_judged_first(rt: HostRuntime) -> Result<(), Fail> {
-    let rows: [(&[u8], &str, &str); 11] = [
-        (b"a = ", "not toml", ""),
-        (b"# \xff", "not toml", ""),
-        (b"colour = 1\nwidth = 8\nwidth = 8", "not toml", ""),
-        (b"width = 08", "not toml", ""),
-        (b"width = 9223372036854775808", "not toml", ""),
-        (b"colour = 1", "unknown", "colour"),
-        (b"width = true\ncolour = 1", "unknown", "colour"),
-        (b"colour = 1\nbrightness = 1", "unknown", "brightness"),
-        (b"colour = 1\nColour = 1", "unknown", "Colour"),
-        (b"lines = 1\nline = 1", "unknown", "line"),
-        (b"\"\" = 1\na = 1", "unknown", ""),
-    ];
-    for (text, kind, key) in rows {
+    for &(text, kind, key) in &UNREAD {
         assert!(rt; is_refused(rt.alloc(), text, kind, key), "{kind} {key}");
     }
     Ok(())
 }
 
+// Texts, how each is refused, and for which key.
+static REQUIRED_KEYS: [(&str, &str, &str); 19] = [
+    ("", "missing", "format"),
+    ("format = 8", "wrong kind", "format"),
+    ("format = \"y9\"\nwidth = true", "out of range", "format"),
+    ("format = \"y8\"\nheight = true", "missing", "width"),
+    ("format = \"y8\"\nwidth = \"8\"", "wrong kind", "width"),
+    (
+        "format = \"y8\"\nwidth = 8.0\nheight = -1",
+        "wrong kind",
+        "width",
+    ),
+    (
+        "format = \"y8\"\nwidth = -1\nheight = true",
+        "out of range",
+        "width",
+    ),
+    (
+        "format = \"y8\"\nwidth = 4294967296",
+        "out of range",
+        "width",
+    ),
+    (
+        "format = \"y8\"\nwidth = 4294967295\nfields = 1",
+        "missing",
+        "height",
+    ),
+    (
+        "format = \"y8\"\nwidth = 8\nheight = [1]\nfields = 1",
+        "wrong kind",
+        "height",
+    ),
+    (
+        "format = \"y8\"\nwidth = 8\nheight = -1\nfields = 1",
+        "out of range",
+        "height",
+    ),
+    (
+        "format = \"y8\"\nwidth = 8\nheight = 4294967296",
+        "out of range",
+        "height",
+    ),
+    (
+        "format = \"y8\"\nwidth = 8\nheight = 1\nfields = 1\nstride = 1",
+        "wrong kind",
+        "fields",
+    ),
+    (
+        "format = \"y8\"\nwidth = 8\nheight = 1\nfields = \"Top\"\nstride = 1",
+        "out of range",
+        "fields",
+    ),
+    (
+        "format = \"y8\"\nwidth = 8\nheight = 1\nfill = true",
+        "missing",
+        "pages",
+    ),
+    (
+        "format = \"y8\"\nwidth = 8\nheight = 1\npages = 0x20000\nchunks = 1",
+        "wrong kind",
+        "pages",
+    ),
+    (
+        "format = \"y8\"\nwidth = 8\nheight = 1\npages = [[0x20000]]",
+        "wrong kind",
+        "pages",
+    ),
+    (
+        "format = \"y8\"\nwidth = 8\nheight = 1\npages = [-1]\nchunks = 1",
+        "out of range",
+        "pages",
+    ),
+    (
+        "format = \"y8\"\nwidth = 8\nheight = 1\npages = [4294967296]",
+        "out of range",
+        "pages",
+    ),
+];
+
 // The required keys one after the other, each with its faults; whatever is said of later keys is not told.
 #[test]
 fn required_keys_are_judged_in_order(rt: HostRuntime) -> Result<(), Fail> {
-    let rows: [(&str, &str, &str); 19] = [
-        ("", "missing", "format"),
-        ("format = 8", "wrong kind", "format"),
-        ("format = \"y9\"\nwidth = true", "out of range", "format"),
-        ("format = \"y8\"\nheight = true", "missing", "width"),
-        ("format = \"y8\"\nwidth = \"8\"", "wrong kind", "width"),
-        (
-            "format = \"y8\"\nwidth = 8.0\nheight = -1",
-            "wrong kind",
-            "width",
-        ),
-        (
-            "format = \"y8\"\nwidth = -1\nheight = true",
-            "out of range",
-            "width",
-        ),
-        (
-            "format = \"y8\"\nwidth = 4294967296",
-            "out of range",
-            "width",
-        ),
-        (
-            "format = \"y8\"\nwidth = 4294967295\nfields = 1",
-            "missing",
-            "height",
-        ),
-        (
-            "format = \"y8\"\nwidth = 8\nheight = [1]\nfields = 1",
-            "wrong kind",
-            "height",
-        ),
-        (
-            "format = \"y8\"\nwidth = 8\nheight = -1\nfields = 1",
-            "out of range",
-            "height",
-        ),
-        (
-            "format = \"y8\"\nwidth = 8\nheight = 4294967296",
-            "out of range",
-            "height",
-        ),
-        (
-            "format = \"y8\"\nwidth = 8\nheight = 1\nfields = 1\nstride = 1",
-            "wrong kind",
-            "fields",
-        ),
-        (
-            "format = \"y8\"\nwidth = 8\nheight = 1\nfields = \"Top\"\nstride = 1",
-            "out of range",
-            "fields",
-        ),
-        (
-            "format = \"y8\"\nwidth = 8\nheight = 1\nfill = true",
-            "missing",
-            "pages",
-        ),
-        (
-            "format = \"y8\"\nwidth = 8\nheight = 1\npages = 0x20000\nchunks = 1",
-            "wrong kind",
-            "pages",
-        ),
-        (
-            "format = \"y8\"\nwidth = 8\nheight = 1\npages = [[0x20000]]",
-            "wrong kind",
-            "pages",
-        ),
-        (
-            "format = \"y8\"\nwidth = 8\nheight = 1\npages = [-1]\nchunks = 1",
-            "out of range",
-            "pages",
-        ),
-        (
-            "format = \"y8\"\nwidth = 8\nheight = 1\npages = [4294967296]",
-            "out of range",
-            "pages",
-        ),
-    ];
-    for (text, kind, key) in rows {
+    for &(text, kind, key) in &REQUIRED_KEYS {
         assert!(rt;
             is_refused(rt.alloc(), text.as_bytes(), kind, key),
             "{text}"
@@ -222,78 +226,80 @@ fn required_keys_are_judged_in_order(rt: HostRuntime) -> Result<(), Fail> {
     Ok(())
 }
 
+// Lines behind those of PLAIN, how they are refused, and for which key.
+static OTHER_KEYS: [(&str, &str, &str); 37] = [
+    ("stride = 8\noffset = 1", "wrong kind", "stride"),
+    ("stride = [8, \"8\"]", "wrong kind", "stride"),
+    ("stride = [8, 8]\noffset = 1", "out of range", "stride"),
+    ("stride = []", "out of range", "stride"),
+    ("stride = [-1]", "out of range", "stride"),
+    ("stride = [4294967296]", "out of range", "stride"),
+    ("offset = \"0\"\nskip_lines = true", "wrong kind", "offset"),
+    ("offset = [0.0]", "wrong kind", "offset"),
+    (
+        "offset = [0, 0]\nskip_lines = true",
+        "out of range",
+        "offset",
+    ),
+    ("offset = [-1]", "out of range", "offset"),
+    (
+        "skip_lines = true\nvbi_lines = true",
+        "wrong kind",
+        "skip_lines",
+    ),
+    (
+        "skip_lines = 256\nvbi_lines = true",
+        "out of range",
+        "skip_lines",
+    ),
+    ("skip_lines = -1", "out of range", "skip_lines"),
+    (
+        "vbi_lines = true\nvbi_bytes = true",
+        "wrong kind",
+        "vbi_lines",
+    ),
+    (
+        "vbi_lines = -1\nvbi_bytes = true",
+        "out of range",
+        "vbi_lines",
+    ),
+    ("vbi_lines = 4294967296", "out of range", "vbi_lines"),
+    (
+        "vbi_bytes = true\nvbi_offset = true",
+        "wrong kind",
+        "vbi_bytes",
+    ),
+    (
+        "vbi_bytes = -1\nvbi_offset = true",
+        "out of range",
+        "vbi_bytes",
+    ),
+    ("vbi_bytes = 4294967296", "out of range", "vbi_bytes"),
+    ("vbi_offset = true\nclip = true", "wrong kind", "vbi_offset"),
+    ("vbi_offset = -1\nclip = true", "out of range", "vbi_offset"),
+    ("vbi_offset = 4294967296", "out of range", "vbi_offset"),
+    ("clip = 1\nbase = true", "wrong kind", "clip"),
+    ("clip = [1]", "wrong kind", "clip"),
+    ("clip = [[0, 0, 8, \"1\"]]", "wrong kind", "clip"),
+    ("clip = [[0, 0, 8], [true]]", "wrong kind", "clip"),
+    ("clip = [[0, 0, 8]]\nbase = true", "out of range", "clip"),
+    ("clip = [[0, 0, 8, 1, 0]]", "out of range", "clip"),
+    ("clip = [[0, 0, 8, -1]]", "out of range", "clip"),
+    ("base = true\nchunks = true", "wrong kind", "base"),
+    ("base = -1\nchunks = true", "out of range", "base"),
+    ("base = 4294967296", "out of range", "base"),
+    ("chunks = true\nfill = true", "wrong kind", "chunks"),
+    ("chunks = []\nfill = true", "out of range", "chunks"),
+    ("fill = true", "wrong kind", "fill"),
+    ("fill = 256", "out of range", "fill"),
+    ("fill = -1", "out of range", "fill"),
+];
+
 // The keys that may be absent, beside those that are required and a page: a wrong type, also of a member,
 // before a number out of range or too few or too many members, and both before the faults of later keys.
 #[test]
 fn other_keys_are_judged_in_order(rt: HostRuntime) -> Result<(), Fail> {
-    let rows: [(&str, &str, &str); 37] = [
-        ("stride = 8\noffset = 1", "wrong kind", "stride"),
-        ("stride = [8, \"8\"]", "wrong kind", "stride"),
-        ("stride = [8, 8]\noffset = 1", "out of range", "stride"),
-        ("stride = []", "out of range", "stride"),
-        ("stride = [-1]", "out of range", "stride"),
-        ("stride = [4294967296]", "out of range", "stride"),
-        ("offset = \"0\"\nskip_lines = true", "wrong kind", "offset"),
-        ("offset = [0.0]", "wrong kind", "offset"),
-        (
-            "offset = [0, 0]\nskip_lines = true",
-            "out of range",
-            "offset",
-        ),
-        ("offset = [-1]", "out of range", "offset"),
-        (
-            "skip_lines = true\nvbi_lines = true",
-            "wrong kind",
-            "skip_lines",
-        ),
-        (
-            "skip_lines = 256\nvbi_lines = true",
-            "out of range",
-            "skip_lines",
-        ),
-        ("skip_lines = -1", "out of range", "skip_lines"),
-        (
-            "vbi_lines = true\nvbi_bytes = true",
-            "wrong kind",
-            "vbi_lines",
-        ),
-        (
-            "vbi_lines = -1\nvbi_bytes = true",
-            "out of range",
-            "vbi_lines",
-        ),
-        ("vbi_lines = 4294967296", "out of range", "vbi_lines"),
-        (
-            "vbi_bytes = true\nvbi_offset = true",
-            "wrong kind",
-            "vbi_bytes",
-        ),
-        (
-            "vbi_bytes = -1\nvbi_offset = true",
-            "out of range",
-            "vbi_bytes",
-        ),
-        ("vbi_bytes = 4294967296", "out of range", "vbi_bytes"),
-        ("vbi_offset = true\nclip = true", "wrong kind", "vbi_offset"),
-        ("vbi_offset = -1\nclip = true", "out of range", "vbi_offset"),
-        ("vbi_offset = 4294967296", "out of range", "vbi_offset"),
-        ("clip = 1\nbase = true", "wrong kind", "clip"),
-        ("clip = [1]", "wrong kind", "clip"),
-        ("clip = [[0, 0, 8, \"1\"]]", "wrong kind", "clip"),
-        ("clip = [[0, 0, 8], [true]]", "wrong kind", "clip"),
-        ("clip = [[0, 0, 8]]\nbase = true", "out of range", "clip"),
-        ("clip = [[0, 0, 8, 1, 0]]", "out of range", "clip"),
-        ("clip = [[0, 0, 8, -1]]", "out of range", "clip"),
-        ("base = true\nchunks = true", "wrong kind", "base"),
-        ("base = -1\nchunks = true", "out of range", "base"),
-        ("base = 4294967296", "out of range", "base"),
-        ("chunks = true\nfill = true", "wrong kind", "chunks"),
-        ("chunks = []\nfill = true", "out of range", "chunks"),
-        ("fill = true", "wrong kind", "fill"),
-        ("fill = 256", "out of range", "fill"),
-        ("fill = -1", "out of range", "fill"),
-    ];
-    for (lines, kind, key) in rows {
+    for &(lines, kind, key) in &OTHER_KEYS {
         assert!(rt;
             is_refused_in(rt.alloc(), PLAIN, lines, kind, key)?,
             "{lines}"
@@ -305,38 +311,40 @@ fn other_keys_are_judged_in_order(rt: HostRuntime) -> Result<(), Fail> {
 // A picture of three planes without pages.
 const PLANAR: &str = "format = \"yuv422p\"\nwidth = 8\nheight = 1\n";
 
+// Lines behind those of PLANAR, how they are refused, and for which key.
+static CHUNKS_AND_PLANES: [(&str, &str, &str); 14] = [
+    ("chunks = 8\nfill = true", "wrong kind", "chunks"),
+    ("chunks = [0x20000, 8]", "wrong kind", "chunks"),
+    ("chunks = [[\"0x20000\", 8]]", "wrong kind", "chunks"),
+    ("chunks = [[0], [0.5, 8]]", "wrong kind", "chunks"),
+    (
+        "chunks = [[0x20000]]\nfill = true",
+        "out of range",
+        "chunks",
+    ),
+    ("chunks = [[0x20000, 8, 8]]", "out of range", "chunks"),
+    ("chunks = [[0x20000, -1]]", "out of range", "chunks"),
+    ("chunks = [[4294967296, 8]]", "out of range", "chunks"),
+    ("chunks = [[0, 16777217]]", "out of range", "chunks"),
+    (
+        "chunks = [[0, 16777216], [0x2000000, 1]]",
+        "out of range",
+        "chunks",
+    ),
+    ("chunks = []\npages = []", "out of range", "chunks"),
+    ("chunks = [true]\npages = []", "wrong kind", "chunks"),
+    ("chunks = []\nstride = [8]", "out of range", "stride"),
+    (
+        "chunks = []\noffset = [0, 8, 12, 16]",
+        "out of range",
+        "offset",
+    ),
+];
+
 // Chunks: pairs of numbers, in place of pages, with at most 16 MiB together; lists have a number for each plane.
 #[test]
 fn chunks_and_planes_are_judged(rt: HostRuntime) -> Result<(), Fail> {
-    let rows: [(&str, &str, &str); 14] = [
-        ("chunks = 8\nfill = true", "wrong kind", "chunks"),
-        ("chunks = [0x20000, 8]", "wrong kind", "chunks"),
-        ("chunks = [[\"0x20000\", 8]]", "wrong kind", "chunks"),
-        ("chunks = [[0], [0.5, 8]]", "wrong kind", "chunks"),
-        (
-            "chunks = [[0x20000]]\nfill = true",
-            "out of range",
-            "chunks",
-        ),
-        ("chunks = [[0x20000, 8, 8]]", "out of range", "chunks"),
-        ("chunks = [[0x20000, -1]]", "out of range", "chunks"),
-        ("chunks = [[4294967296, 8]]", "out of range", "chunks"),
-        ("chunks = [[0, 16777217]]", "out of range", "chunks"),
-        (
-            "chunks = [[0, 16777216], [0x2000000, 1]]",
-            "out of range",
-            "chunks",
-        ),
-        ("chunks = []\npages = []", "out of range", "chunks"),
-        ("chunks = [true]\npages = []", "wrong kind", "chunks"),
-        ("chunks = []\nstride = [8]", "out of range", "stride"),
-        (
-            "chunks = []\noffset = [0, 8, 12, 16]",
-            "out of range",
-            "offset",
-        ),
-    ];
-    for (lines, kind, key) in rows {
+    for &(lines, kind, key) in &CHUNKS_AND_PLANES {
         assert!(rt;
             is_refused_in(rt.alloc(), PLANAR, lines, kind, key)?,
             "{lines}"
@@ -351,22 +359,37 @@ fn with_list(alloc: Global, lines: &str, member: &str, count: usize) -> Result<S
     format!(in alloc; "{PLANAR}{lines} = [{members}]")
 }
 
+// Whether a description may have a list of so many members.
+fn is_taken(alloc: Global, lines: &str, member: &str, count: usize) -> Result<bool, AllocError> {
+    let text = with_list(alloc, lines, member, count)?;
+    Ok(read_desc(alloc, text.as_bytes()).is_ok())
+}
+
+// Whether it is refused for a list of so many.
+fn is_too_long(
+    alloc: Global,
+    lines: &str,
+    member: &str,
+    count: usize,
+    key: &str,
+) -> Result<bool, AllocError> {
+    let text = with_list(alloc, lines, member, count)?;
+    Ok(is_refused(alloc, text.as_bytes(), "out of range", key))
+}
+
+// What stands before a list, a member, the most members and one more, and the key.
+static LONGEST: [(&str, &str, usize, usize, &str); 3] = [
+    ("chunks = []\nclip", "[0, 0, 8, 1],", 64, 65, "clip"),
+    ("pages", "0x20000,", 4096, 4097, "pages"),
+    ("chunks", "[0x20000, 4096],", 4096, 4097, "chunks"),
+];
+
 // 64 clip rectangles, 4,096 pages and 4,096 chunks are the most.
 #[test]
 fn lists_have_a_longest(rt: HostRuntime) -> Result<(), Fail> {
-    let rows: [(&str, &str, usize, usize, &str); 3] = [
-        ("chunks = []\nclip", "[0, 0, 8, 1],", 64, 65, "clip"),
-        ("pages", "0x20000,", 4096, 4097, "pages"),
-        ("chunks", "[0x20000, 4096],", 4096, 4097, "chunks"),
-    ];
-    for (lines, member, most, more, key) in rows {
-        let longest = with_list(rt.alloc(), lines, member, most)?;
-        assert!(rt; read_desc(rt.alloc(), longest.as_bytes()).is_ok(), "{key}");
-        let longer = with_list(rt.alloc(), lines, member, more)?;
-        assert!(rt;
-            is_refused(rt.alloc(), longer.as_bytes(), "out of range", key),
-            "{key}"
-        );
+    for &(lines, member, most, more, key) in &LONGEST {
+        assert!(rt; is_taken(rt.alloc(), lines, member, most)?, "{key}");
+        assert!(rt; is_too_long(rt.alloc(), lines, member, more, key)?, "{key}");
     }
     Ok(())
 }

@@ -1,4 +1,4 @@
-ghost use Rattle.std.specs.Prelude.{◌<◌, ◌≤◌};
+ghost use Rattle.std.specs.Prelude.{◌<◌};
 ghost use Rattle.picture_model.specs.Described.{IsDescription};
 ghost use Rattle.planar_plan.specs.Lines.{AreSpansOf};
 
@@ -10,21 +10,28 @@ use std::alloc::{AllocError, Global};
 use std::test::Fail;
 
 // The frame of a described picture, or its first fault.
-fn framed(alloc: Global, text: &str) -> Result<Frame, BuildError> {
+pub fn framed(alloc: Global, text: &str) -> Result<Frame, BuildError> {
     match read_desc(alloc, text.as_bytes()) {
         Ok(desc) => Frame::new(alloc, desc),
         Err(_) => Err(BuildError::Memory),
     }
 }
 
-// Whether a picture row of a description has this plan.
-fn plans_row(alloc: Global, text: &str, row: u32, want: &[Piece]) -> Result<bool, BuildError> {
-    let frame = framed(alloc, text)?;
+// Each picture is owned by a function that ends in one place: dropping one takes the prover long.
+
+// Whether a picture row of a frame has this plan.
+fn is_row(alloc: Global, frame: &Frame, row: u32, want: &[Piece]) -> Result<bool, BuildError> {
     if frame.desc().height <= row {
         return Ok(false);
     }
     let pieces = frame.plan_row(alloc, row)?;
     Ok(pieces.as_slice() == want)
+}
+
+// Whether a picture row of a description has this plan.
+fn plans_row(alloc: Global, text: &str, row: u32, want: &[Piece]) -> Result<bool, BuildError> {
+    let frame = framed(alloc, text)?;
+    is_row(alloc, &frame, row, want)
 }
 
 // Whether a row has this plan, where the spans of some rows are known.
@@ -46,19 +53,31 @@ fn plans_by(
 }
 
 // Whether rows 1 and 2 have these plans, where the spans of row 0 are known.
-fn plans_in_turn(
+fn are_in_turn(
     alloc: Global,
     frame: &Frame,
     one: &[Piece],
     two: &[Piece],
-) -> Result<bool, AllocError>
-    requires { 3 ≤ frame.now.height }
-{
+) -> Result<bool, BuildError> {
+    if frame.desc().height < 3 {
+        return Ok(false);
+    }
     let mut spans = frame.row_spans(alloc, 0)?;
     let mut pieces = Pieces::new(alloc);
     let is_one = plans_by(alloc, frame, 1, &mut spans, &mut pieces, one)?;
     let is_two = plans_by(alloc, frame, 2, &mut spans, &mut pieces, two)?;
     Ok(is_one && is_two)
+}
+
+// The same of a description.
+fn plans_in_turn(
+    alloc: Global,
+    text: &str,
+    one: &[Piece],
+    two: &[Piece],
+) -> Result<bool, BuildError> {
+    let frame = framed(alloc, text)?;
+    are_in_turn(alloc, &frame, one, two)
 }
 
 // The rows of the bottom field.
@@ -67,22 +86,32 @@ fn bottom_rows(alloc: Global, text: &str) -> Result<u32, BuildError> {
     Ok(frame.rows_of(Parity::Bottom))
 }
 
-// Whether a skipped line has this plan.
-fn plans_skip_line(alloc: Global, text: &str, want: &[Piece]) -> Result<bool, BuildError> {
-    let frame = framed(alloc, text)?;
+// Whether a skipped line of a frame has this plan.
+fn is_skip_line(alloc: Global, frame: &Frame, want: &[Piece]) -> Result<bool, BuildError> {
     let pieces = frame.plan_skip_line(alloc)?;
     Ok(pieces.as_slice() == want)
 }
 
-// Whether VBI line 1 of the top field has this plan.
-fn plans_vbi_line(alloc: Global, text: &str, want: &[Piece]) -> Result<bool, BuildError> {
+// The same of a description.
+fn plans_skip_line(alloc: Global, text: &str, want: &[Piece]) -> Result<bool, BuildError> {
     let frame = framed(alloc, text)?;
+    is_skip_line(alloc, &frame, want)
+}
+
+// Whether VBI line 1 of a frame's top field has this plan.
+fn is_vbi_line(alloc: Global, frame: &Frame, want: &[Piece]) -> Result<bool, BuildError> {
     let desc = frame.desc();
     if desc.fields != Fields::Top || desc.vbi_lines < 2 {
         return Ok(false);
     }
     let pieces = frame.plan_vbi_line(alloc, Parity::Top, 1)?;
     Ok(pieces.as_slice() == want)
+}
+
+// The same of a description.
+fn plans_vbi_line(alloc: Global, text: &str, want: &[Piece]) -> Result<bool, BuildError> {
+    let frame = framed(alloc, text)?;
+    is_vbi_line(alloc, &frame, want)
 }
 
 // Whether this is a description's first fault.
@@ -141,8 +170,7 @@ fn rows_are_planned_one_after_the_other(rt: HostRuntime) -> Result<(), Fail> {
             pages = [0x20000]\n";
     let one = [packed(PieceKind::Write, true, true, 16, 0x20010)];
     let two = [packed(PieceKind::Skip, true, true, 16, 0)];
-    let frame = framed(rt.alloc(), text)?;
-    assert!(rt; frame.desc().height == 3 && plans_in_turn(rt.alloc(), &frame, &one, &two)?);
+    assert!(rt; plans_in_turn(rt.alloc(), text, &one, &two)?);
     Ok(())
 }
 

@@ -3,20 +3,12 @@ ghost use Rattle.std.specs.Prelude.{[], IfOk, codes, ◌∷◌, ◌≡◌, ◌�
 ghost use Rattle.capture_desk.specs.Desks.{IsAllowed};
 ghost use Rattle.capture_desk.specs.Memory.{names_of};
 
-use capture_desc::read_desc;
+use crate::plans::framed;
 use capture_desk::{Desk, Failed, MemDesk, Octets};
 use field_stream::{Made, line_entries, make};
-use planar_plan::Frame;
+use planar_plan::{BuildError, Frame};
 use std::alloc::{AllocError, Global};
 use std::test::Fail;
-
-// The frame of a description.
-fn frame(alloc: Global, text: &[u8]) -> Option<Frame> {
-    match read_desc(alloc, text) {
-        Ok(desc) => Frame::new(alloc, desc).ok(),
-        Err(_) => None,
-    }
-}
 
 // A desk with an output of at most so many bytes.
 fn desk(alloc: Global, room: usize) -> Result<MemDesk, AllocError>
@@ -45,29 +37,41 @@ fn put_stream<D: Desk>(frame: &Frame, seed: u64, desk: &mut D) -> Result<Made, F
 }
 
 // Whether a stream of one frame has these counts; none where it isn't made.
-fn makes(
+fn has_counts(
     alloc: Global,
     frame: &Frame,
     room: usize,
     want: Option<Made>,
-) -> Result<bool, AllocError> {
+) -> Result<bool, BuildError> {
     let mut desk = desk(alloc, room)?;
     Ok(put_stream(frame, 1, &mut desk).ok() == want)
 }
 
+// The same of a description.
+fn makes(alloc: Global, text: &str, room: usize, want: Option<Made>) -> Result<bool, BuildError> {
+    let frame = framed(alloc, text)?;
+    has_counts(alloc, &frame, room, want)
+}
+
 // Whether this is written of a stream of one frame.
-fn writes(alloc: Global, frame: &Frame, room: usize, want: &[u8]) -> Result<bool, AllocError> {
+fn has_bytes(alloc: Global, frame: &Frame, room: usize, want: &[u8]) -> Result<bool, BuildError> {
     let mut desk = desk(alloc, room)?;
     let _made = put_stream(frame, 1, &mut desk);
     Ok(desk.output("stream") == Some(want))
 }
 
-const SMALLEST: &[u8] =
-    b"format = \"y8\"\nwidth = 8\nheight = 1\nfields = \"top\"\npages = [0x20000]\n";
+// The same of a description.
+fn writes(alloc: Global, text: &str, room: usize, want: &[u8]) -> Result<bool, BuildError> {
+    let frame = framed(alloc, text)?;
+    has_bytes(alloc, &frame, room, want)
+}
 
-const PLANAR: &[u8] = b"format = \"yuv420p\"\nwidth = 16\nheight = 6\npages = [0x20000]\n";
+const SMALLEST: &str =
+    "format = \"y8\"\nwidth = 8\nheight = 1\nfields = \"top\"\npages = [0x20000]\n";
 
-const WITH_VBI: &[u8] = b"format = \"y8\"\n\
+const PLANAR: &str = "format = \"yuv420p\"\nwidth = 16\nheight = 6\npages = [0x20000]\n";
+
+const WITH_VBI: &str = "format = \"y8\"\n\
     width = 8\n\
     height = 2\n\
     vbi_lines = 3\n\
@@ -82,67 +86,57 @@ const SMALLEST_STREAM: &[u8] = b"BFS1\x04\x04\
 
 #[test]
 fn the_smallest_stream(rt: HostRuntime) -> Result<(), Fail> {
-    let Some(frame) = frame(rt.alloc(), SMALLEST) else {
-        return Err(Fail::new("the description was refused"));
-    };
-    assert!(rt; writes(rt.alloc(), &frame, 100, SMALLEST_STREAM)?);
+    assert!(rt; writes(rt.alloc(), SMALLEST, 100, SMALLEST_STREAM)?);
     let counts = Made {
         fields: 1,
         entries: 2,
     };
-    assert!(rt; makes(rt.alloc(), &frame, 100, Some(counts))?);
+    assert!(rt; makes(rt.alloc(), SMALLEST, 100, Some(counts))?);
     Ok(())
 }
 
 #[test]
 fn two_fields_of_planar_lines(rt: HostRuntime) -> Result<(), Fail> {
-    let Some(frame) = frame(rt.alloc(), PLANAR) else {
-        return Err(Fail::new("the description was refused"));
-    };
     let counts = Made {
         fields: 2,
         entries: 48,
     };
-    assert!(rt; makes(rt.alloc(), &frame, 1000, Some(counts))?);
+    assert!(rt; makes(rt.alloc(), PLANAR, 1000, Some(counts))?);
     Ok(())
 }
 
 // The counts of a stream of so many frames, without making it.
-fn counted(alloc: Global, text: &[u8], frames: u8) -> Option<Made>
+fn counted(alloc: Global, text: &str, frames: u8) -> Result<Made, BuildError>
     requires { (1 ≤ frames) × (frames ≤ 16) }
 {
-    match frame(alloc, text) {
-        Some(frame) => Some(Made::of(&frame, frames)),
-        None => None,
-    }
+    let frame = framed(alloc, text)?;
+    Ok(Made::of(&frame, frames))
 }
 
 #[test]
-fn counts_need_no_stream(rt: HostRuntime) {
+fn counts_need_no_stream(rt: HostRuntime) -> Result<(), Fail> {
     let smallest = Made {
         fields: 1,
         entries: 2,
     };
-    assert!(rt; counted(rt.alloc(), SMALLEST, 1) == Some(smallest));
+    assert!(rt; counted(rt.alloc(), SMALLEST, 1)? == smallest);
     let planar = Made {
         fields: 2,
         entries: 48,
     };
-    assert!(rt; counted(rt.alloc(), PLANAR, 1) == Some(planar));
+    assert!(rt; counted(rt.alloc(), PLANAR, 1)? == planar);
     let with_vbi = Made {
         fields: 32,
         entries: 448,
     };
-    assert!(rt; counted(rt.alloc(), WITH_VBI, 16) == Some(with_vbi));
+    assert!(rt; counted(rt.alloc(), WITH_VBI, 16)? == with_vbi);
+    Ok(())
 }
 
 #[test]
 fn a_desk_that_is_full(rt: HostRuntime) -> Result<(), Fail> {
-    let Some(frame) = frame(rt.alloc(), SMALLEST) else {
-        return Err(Fail::new("the description was refused"));
-    };
-    assert!(rt; makes(rt.alloc(), &frame, 6, None)?);
-    assert!(rt; writes(rt.alloc(), &frame, 6, b"BFS1\x04\x04")?);
+    assert!(rt; makes(rt.alloc(), SMALLEST, 6, None)?);
+    assert!(rt; writes(rt.alloc(), SMALLEST, 6, b"BFS1\x04\x04")?);
     Ok(())
 }
 

@@ -119,6 +119,3 @@ pub fn compile_field(
     push_skipped_lines(alloc, frame, out)?;
     push_rows(alloc, frame, field, out)
 }
-
-#[cfg(test)]
-mod tests;

@@ -45,16 +45,34 @@ fn frame_of(alloc: Global, text: &str) -> Result<Frame, Fail> {
     Ok(Frame::new(alloc, desc)?)
 }
 
-// The fault of two frames, unless they make a double buffer.
-fn fault_of(alloc: Global, first: &Frame, second: &Frame) -> Result<Option<ChainFault>, Fail> {
+// Each frame is owned by a function that ends in one place: dropping one takes the prover long.
+
+// Whether two frames have this fault, or make a double buffer.
+fn is_fault(
+    alloc: Global,
+    first: &Frame,
+    second: &Frame,
+    fault: Option<ChainFault>,
+) -> Result<bool, Fail> {
     match DoubleBuffer::new(alloc, first, second) {
-        Ok(_) => Ok(None),
-        Err(DoubleBufferError::Fault(fault)) => Ok(Some(fault)),
+        Ok(_) => Ok(fault.is_none()),
+        Err(DoubleBufferError::Fault(met)) => Ok(fault == Some(met)),
         Err(DoubleBufferError::Memory) => Err(Fail::from("memory")),
     }
 }
 
-// Whether two descriptions have this fault, or make a double buffer.
+// The same of a frame and a description.
+fn is_fault_beside(
+    alloc: Global,
+    first: &Frame,
+    second: &str,
+    fault: Option<ChainFault>,
+) -> Result<bool, Fail> {
+    let second = frame_of(alloc, second)?;
+    is_fault(alloc, first, &second, fault)
+}
+
+// The same of two descriptions.
 fn is_judged(
     alloc: Global,
     first: &str,
@@ -62,35 +80,46 @@ fn is_judged(
     fault: Option<ChainFault>,
 ) -> Result<bool, Fail> {
     let first = frame_of(alloc, first)?;
-    let second = frame_of(alloc, second)?;
-    Ok(fault_of(alloc, &first, &second)? == fault)
+    is_fault_beside(alloc, &first, second, fault)
 }
+
+// Two descriptions, and their fault.
+static PAIRS: [(&str, &str, Option<ChainFault>); 7] = [
+    (FIRST, SECOND, None),
+    (FIRST, FIRST, Some(ChainFault::Shared(0))),
+    (FIRST, BEHIND, Some(ChainFault::Shared(1))),
+    (BETWEEN, FIRST, Some(ChainFault::Base)),
+    (LAST, SECOND, None),
+    (LATER, SECOND, Some(ChainFault::TooLong)),
+    (OVER, SECOND, Some(ChainFault::OnPage)),
+];
 
 #[test]
 fn faults_of_two_descriptions(rt: HostRuntime) -> Result<(), Fail> {
-    let rows = [
-        (FIRST, SECOND, None),
-        (FIRST, FIRST, Some(ChainFault::Shared(0))),
-        (FIRST, BEHIND, Some(ChainFault::Shared(1))),
-        (BETWEEN, FIRST, Some(ChainFault::Base)),
-        (LAST, SECOND, None),
-        (LATER, SECOND, Some(ChainFault::TooLong)),
-        (OVER, SECOND, Some(ChainFault::OnPage)),
-    ];
-    for (i, &(first, second, fault)) in rows.iter().enumerate() {
+    for (i, &(first, second, fault)) in PAIRS.iter().enumerate() {
         assert!(rt; is_judged(rt.alloc(), first, second, fault)?, "row {i}");
     }
     Ok(())
 }
 
-// The double buffer of the first two.
-fn made(alloc: Global) -> Result<DoubleBuffer<PageRam>, Fail> {
-    let first = frame_of(alloc, FIRST)?;
-    let second = frame_of(alloc, SECOND)?;
-    match DoubleBuffer::new(alloc, &first, &second) {
+// The double buffer of two frames.
+fn buffer_of(alloc: Global, first: &Frame, second: &Frame) -> Result<DoubleBuffer<PageRam>, Fail> {
+    match DoubleBuffer::new(alloc, first, second) {
         Ok(buffer) => Ok(buffer),
         Err(_) => Err(Fail::from("no fault")),
     }
+}
+
+// The same of a frame and the second description.
+fn made_beside(alloc: Global, first: &Frame) -> Result<DoubleBuffer<PageRam>, Fail> {
+    let second = frame_of(alloc, SECOND)?;
+    buffer_of(alloc, first, &second)
+}
+
+// The double buffer of the first two.
+fn made(alloc: Global) -> Result<DoubleBuffer<PageRam>, Fail> {
+    let first = frame_of(alloc, FIRST)?;
+    made_beside(alloc, &first)
 }
 
 // A patch that is taken back at once.

@@ -1,9 +1,22 @@
-//! Tests of the machine, of chains of slots and of double buffers, called as their users call them: worked streams.
+//! Tests of the machine and of what it stands on, of chains of slots and of double buffers, called as their users call them: worked words,
+//! queues, memories, programs and streams.
 #![tactic(auto)]
 
 #[cfg(test)]
 mod buffers;
 #[cfg(test)]
+mod chunks;
+#[cfg(test)]
 mod machine;
 #[cfg(test)]
+mod memory;
+#[cfg(test)]
+mod paths;
+#[cfg(test)]
+mod queues;
+#[cfg(test)]
+mod scatters;
+#[cfg(test)]
 mod slots;
+#[cfg(test)]
+mod words;

@@ -3,11 +3,11 @@
 ghost use Rattle.std.specs.Prelude.{◌≡◌, ◌<◌};
 
 use dma_machine::{Did, Machine, Report, Seen};
-use fifo_model::{Entry, Fifo, Queue};
+use fifo_model::{CHROMA_CAPACITY, Entry, Fifo, LUMA_CAPACITY, Queue};
 use irq_status::HostWrite;
 use page_ram::{MapRam, Ram};
 use page_table::PageSet;
-use risc_verify::{Program, Steps, verify};
+use risc_verify::{Accepted, Program, Steps, verify};
 use risc_word::Code;
 use std::alloc::Global;
 use std::marker::Brand;
@@ -38,13 +38,8 @@ const ONE_LINE: [u32; 8] = [
     0x1000,
 ];
 
-// The machine of a program of at most 16 words, with one page that is filled with a byte.
-fn machine<L: Ledger>(
-    alloc: Global,
-    words: &[u32],
-    fill: u8,
-    blank: Blank,
-) -> Result<Machine<MapRam>, Fail>
+// A program of at most 16 words that may write one page, verified.
+fn accepted<L: Ledger>(alloc: Global, words: &[u32], blank: Blank) -> Result<Accepted, Fail>
     requires name { blank.name ≡ L.name }
     requires parts { blank.parts ≡ L.parts }
     requires some { 0 < blank.parts }
@@ -57,16 +52,22 @@ fn machine<L: Ledger>(
     list.extend_from_slice(words)?;
     let program = Program::new(0x1000, list, grants);
     let mut steps = Steps::<L>::new(blank);
-    let Ok(accepted) = verify(alloc, program, &mut steps) else {
-        return Err(Fail::from("it is sound"));
-    };
+    match verify(alloc, program, &mut steps) {
+        Ok(accepted) => Ok(accepted),
+        Err(_) => Err(Fail::from("it is sound")),
+    }
+}
+
+// Its machine, each byte of the page being `fill`.
+fn machine(alloc: Global, accepted: Accepted, fill: u8) -> Result<Machine<MapRam>, Fail> {
     let ram = MapRam::new(alloc, accepted.program().grants(), fill)?;
-    let fifo = Fifo::new(alloc, [70, 35, 35])?;
+    let fifo = Fifo::new(alloc, [LUMA_CAPACITY, CHROMA_CAPACITY, CHROMA_CAPACITY])?;
     Ok(Machine::new(accepted, ram, fifo))
 }
 
 fn made(alloc: Global, words: &[u32], fill: u8) -> Result<Machine<MapRam>, Fail> {
-    machine::<Brand>(alloc, words, fill, Blank::new(1))
+    let accepted = accepted::<Brand>(alloc, words, Blank::new(1))?;
+    machine(alloc, accepted, fill)
 }
 
 fn push(m: &mut Machine<MapRam>, q: Queue, nibble: u8, dword: u32) {

@@ -11,8 +11,6 @@ mod map_ram;
 mod raw_block;
 mod raw_ram;
 mod span;
-#[cfg(test)]
-mod tests;
 
 pub use map_ram::MapRam;
 pub use raw_ram::PageRam;

@@ -8,6 +8,3 @@ mod sections;
 pub use checked::{Checked, build, check};
 pub use planar_plan::{BuildError, BuildFault};
 pub use sections::sections_words;
-
-#[cfg(test)]
-mod tests;

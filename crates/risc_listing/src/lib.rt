@@ -220,6 +220,3 @@ pub fn list(alloc: Global, program: &Program, fill: u8) -> Result<Vec<u8>, Alloc
     text.extend_from_slice(&memory_lines(alloc, program.grants(), fill)?)?;
     Ok(text)
 }
-
-#[cfg(test)]
-mod tests;

@@ -19,6 +19,3 @@ pub use walk::{Rejected, Why, verify};
 pub fn a_path_comes_round()
     ensures { PathsComeRound }
 {}
-
-#[cfg(test)]
-mod tests;

@@ -52,6 +52,3 @@ pub fn compile_vbi(
     push_instr(&sync(false, Code::Fm1), out)?;
     push_lines(alloc, frame, field, out)
 }
-
-#[cfg(test)]
-mod tests;

@@ -1,7 +1,7 @@
 use Rattle.std.proofs.Common.{ap, ◌∙◌}
 use Rattle.page_table.specs.Blocks.{chunks_of, byte_at}
 use Rattle.page_table.proofs.Memory.{chunks_of-stored, byte_at-stored_same}
-use Rattle.page_ram.proofs.tests.exchange.Goals as goal
+use Rattle.machine_cases.proofs.memory.exchange.Goals as goal
 
 pub load-requires : goal.load-requires
 load-requires g c =

@@ -1,7 +1,9 @@
+// The lines of a listing.
+
 ghost use Rattle.std.specs.Prelude.{◌≡◌, ◌<◌};
 
-use super::{InstrLine, list};
 use page_table::PageSet;
+use risc_listing::{InstrLine, list};
 use risc_verify::Program;
 use risc_word::{Ctl, Instr};
 use std::alloc::Global;

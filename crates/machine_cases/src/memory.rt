@@ -1,10 +1,10 @@
-//! Both memories, under the same stores.
+// Both memories, under the same stores.
 ghost use Rattle.std.specs.Prelude.{◌≡◌, ◌+◌, ◌^◌, ◌≤◌, length, IsTrue, None};
 ghost use Rattle.std.specs.List.{All};
 ghost use Rattle.page_table.specs.Grants.{first_ungranted, granted};
 ghost use Rattle.page_table.specs.Blocks.{chunks_of};
 
-use crate::{MapRam, PageRam, Ram};
+use page_ram::{MapRam, PageRam, Ram};
 use page_table::PageSet;
 use std::test::Fail;
 

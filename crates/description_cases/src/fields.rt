@@ -1,26 +1,27 @@
-use crate::compile_field;
-use capture_desc::{Fields, read_desc};
+// The words of a field.
+
+use crate::plans::framed;
+use capture_desc::Fields;
+use field_compile::compile_field;
 use pixel_layout::Parity;
-use planar_plan::{BuildError, Frame};
+use planar_plan::Frame;
 use std::alloc::{AllocError, Global};
 use std::test::Fail;
 
-// The frame of a described picture.
-fn framed(alloc: Global, text: &str) -> Result<Frame, BuildError> {
-    match read_desc(alloc, text.as_bytes()) {
-        Ok(desc) => Frame::new(alloc, desc),
-        Err(_) => Err(BuildError::Memory),
-    }
-}
-
 // Whether the top field of a frame is compiled to so many words, the last of which are these.
-fn compiles(alloc: Global, frame: &Frame, count: usize, last: &[u32]) -> Result<bool, AllocError> {
+fn compiles(alloc: Global, frame: &Frame, count: usize, last: &[u32]) -> Result<bool, Fail> {
     if frame.desc().fields != Fields::Top {
         return Ok(false);
     }
     let mut out = vec![in alloc; 7]?;
     compile_field(alloc, frame, Parity::Top, &mut out)?;
     Ok(out.len() == count && out.as_slice().ends_with(last))
+}
+
+// The same of a description.
+fn compiles_text(alloc: Global, text: &str, count: usize, last: &[u32]) -> Result<bool, Fail> {
+    let frame = framed(alloc, text)?;
+    compiles(alloc, &frame, count, last)
 }
 
 // What stood before, a SYNC, the skipped line and the row.
@@ -34,8 +35,7 @@ fn a_skipped_line_stands_before_the_row(rt: HostRuntime) -> Result<(), Fail> {
             fields = \"top\"\n\
             skip_lines = 1\n\
             pages = [0x20000]\n";
-    let frame = framed(rt.alloc(), text)?;
-    assert!(rt; compiles(rt.alloc(), &frame, 6, &SKIPPED)?);
+    assert!(rt; compiles_text(rt.alloc(), text, 6, &SKIPPED)?);
     Ok(())
 }
 
@@ -66,8 +66,7 @@ fn clipped_row(alloc: Global, clip: &str) -> Result<String, AllocError> {
 fn a_row_of_many_pieces(rt: HostRuntime) -> Result<(), Fail> {
     let clip = clipped_units(rt.alloc())?;
     let text = clipped_row(rt.alloc(), clip.as_str())?;
-    let frame = framed(rt.alloc(), text.as_str())?;
     let last = [0x1000_000c, 0x203f0, 0x2400_0004];
-    assert!(rt; compiles(rt.alloc(), &frame, 1 + 2 + 64 * 3, &last)?);
+    assert!(rt; compiles_text(rt.alloc(), text.as_str(), 1 + 2 + 64 * 3, &last)?);
     Ok(())
 }

@@ -3,7 +3,7 @@ ghost use Rattle.std.specs.Prelude.{[], IfOk, codes, ◌∷◌, ◌≡◌};
 ghost use Rattle.capture_desk.specs.Desks.{IsAllowed};
 ghost use Rattle.capture_desk.specs.Memory.{names_of};
 
-use crate::{Call, Desk, Failed, LoggedDesk, MemDesk, Octets, OpenFault, OsDesk, put};
+use capture_desk::{Call, Desk, Failed, LoggedDesk, MemDesk, Octets, OpenFault, OsDesk, put};
 use std::alloc::{AllocError, Global};
 
 // One input and one output; the sixth call fails, and no call moves more than 4 bytes.
