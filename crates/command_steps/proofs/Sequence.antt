@@ -1,32 +1,35 @@
 -- Inputs that are taken one after the other.
 use Rattle.std.proofs.Common.{◌≡◌, inl, inr, List, [], ◌∷◌, ◌++◌, refl, sym, ap, subst, ◌∙◌}
-use Rattle.std.proofs.lemmas.List.{append-nil}
 use Rattle.capture_desk.specs.Desks.{Seen, is_missing}
 use Rattle.capture_desk.proofs.Telling.{tells_both}
 use Rattle.command_texts.specs.declared.refusal.Refusal.{Refusal}
 use Rattle.command_texts.specs.declared.refusal.Refusal.TheVariants.{NoMemory, ReadFault}
 use Rattle.command_steps.specs.Inputs.{Input, IsThereAndGood, StopsAt, StopsIn}
-use Rattle.command_steps.specs.Reading.{AreTaken, AreTakenUpTo, OnlyReads, Stopped, Took}
+use Rattle.command_steps.specs.Reading.{AreTaken, AreTakenUpTo, OnlyReads, ReadsThrough, Stopped, Took}
 use Rattle.command_steps.proofs.Inputs.{rose_from, same_inputs}
 
 -- one input was read, and then others were, or not all of them
 abbrev Reads : Input → Seen → Seen → Type 0
 Reads input old new = OnlyReads input.name input.judge.most input.judge.MayGoOn old new
 
+-- and it was read through
+abbrev Through : Input → Seen → Seen → Type 0
+Through input old new = ReadsThrough input.name input.judge.most input.judge.MayGoOn old new
+
 module _ (input : Input) (old mid : Seen) (reads : Reads input old mid) where
   same : mid.told.inputs ≡ old.told.inputs
   same = same_inputs mid.told old.told reads.told
 
-  pub took_first : (inputs : List Input) (new : Seen) → mid.reads ≡ old.reads → IsThereAndGood input old.told.inputs → Took inputs mid new → Took (input ∷ inputs) old new
-  took_first inputs new quiet good later =
+  pub took_first : (inputs : List Input) (new : Seen) → Through input old mid → IsThereAndGood input old.told.inputs → Took inputs mid new → Took (input ∷ inputs) old new
+  took_first inputs new through good later =
       record {
         told = later.told ∙ reads.told;
-        reads = later.reads ∙ quiet;
+        reads = later.reads ∙ through.reads;
         writes = later.writes ∙ reads.writes;
         calls = (
-          reads.calls.0 ++ later.calls.0,
-          (reads.calls.0, later.calls.0, refl, reads.calls.1, good, subst (λ told. AreTaken inputs told later.calls.0) same later.calls.1),
-          tells_both reads.calls.0 later.calls.0 old.calls mid.calls new.calls reads.calls.2 later.calls.2,
+          through.calls.0 ++ later.calls.0,
+          (through.calls.0, later.calls.0, refl, through.calls.1, good, subst (λ told. AreTaken inputs told later.calls.0) same later.calls.1),
+          tells_both through.calls.0 later.calls.0 old.calls mid.calls new.calls through.calls.2 later.calls.2,
         );
       }
 
@@ -36,7 +39,7 @@ module _ (input : Input) (old mid : Seen) (reads : Reads input old mid) where
         told = reads.told;
         writes = reads.writes;
         why = inl why;
-        calls = (reads.calls.0, (reads.calls.0, [], sym (append-nil reads.calls.0), reads.calls.1, inl refl), reads.calls.2);
+        calls = (reads.calls.0, inl reads.calls.1, reads.calls.2);
       }
 
   stops_before : (other : Input) (refusal : Refusal) (new : Seen) → mid.reads ≡ old.reads → StopsAt other.judge.IsBad other.name refusal mid new → StopsAt other.judge.IsBad other.name refusal old new
@@ -50,16 +53,16 @@ module _ (input : Input) (old mid : Seen) (reads : Reads input old mid) where
   stops_then (other ∷ inputs) refusal new quiet (inl h) = inl (stops_before other refusal new quiet h)
   stops_then (other ∷ inputs) refusal new quiet (inr h) = inr (subst (IsThereAndGood other) same h.0, stops_then inputs refusal new quiet h.1)
 
-  pub stopped_later : (inputs : List Input) (refusal : Refusal) (new : Seen) → mid.reads ≡ old.reads → IsThereAndGood input old.told.inputs → Stopped inputs refusal mid new → Stopped (input ∷ inputs) refusal old new
-  stopped_later inputs refusal new quiet good later =
+  pub stopped_later : (inputs : List Input) (refusal : Refusal) (new : Seen) → Through input old mid → IsThereAndGood input old.told.inputs → Stopped inputs refusal mid new → Stopped (input ∷ inputs) refusal old new
+  stopped_later inputs refusal new through good later =
       record {
         told = later.told ∙ reads.told;
         writes = later.writes ∙ reads.writes;
-        why = inr (good, stops_then inputs refusal new quiet later.why);
+        why = inr (good, stops_then inputs refusal new through.reads later.why);
         calls = (
-          reads.calls.0 ++ later.calls.0,
-          (reads.calls.0, later.calls.0, refl, reads.calls.1, inr (good, subst (λ told. AreTakenUpTo inputs told later.calls.0) same later.calls.1)),
-          tells_both reads.calls.0 later.calls.0 old.calls mid.calls new.calls reads.calls.2 later.calls.2,
+          through.calls.0 ++ later.calls.0,
+          inr (through.calls.0, later.calls.0, refl, through.calls.1, good, subst (λ told. AreTakenUpTo inputs told later.calls.0) same later.calls.1),
+          tells_both through.calls.0 later.calls.0 old.calls mid.calls new.calls through.calls.2 later.calls.2,
         );
       }
 
@@ -72,5 +75,5 @@ pub stopped_none : (s : Seen) → Stopped [] NoMemory s s
 stopped_none s = record { told = refl; writes = refl; why = refl; calls = ([], refl, inr refl) }
 
 -- one input alone
-pub took_one : (input : Input) (old new : Seen) → Reads input old new → new.reads ≡ old.reads → IsThereAndGood input old.told.inputs → Took (input ∷ []) old new
-took_one input old new reads quiet good = took_first input old new reads [] new quiet good (took_none new)
+pub took_one : (input : Input) (old new : Seen) → Reads input old new → Through input old new → IsThereAndGood input old.told.inputs → Took (input ∷ []) old new
+took_one input old new reads through good = took_first input old new reads [] new through good (took_none new)

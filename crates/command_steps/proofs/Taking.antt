@@ -1,11 +1,12 @@
 -- The calls by which an input is taken.
-use Rattle.std.proofs.Common.{◌≡◌, ℕ, ◌+◌, true, false, List, [], ◌∷◌, ◌++◌, take, Option, Some, None, Ok, Err, refl, sym, ap, subst, append_assoc}
+use Rattle.std.proofs.Common.{◌≡◌, ℕ, ◌+◌, ◌<◌, inl, inr, zero, suc, arith, true, false, List, [], ◌∷◌, ◌++◌, take, Option, Some, None, Result, Ok, Err, IfOk, refl, sym, subst, append_assoc}
+use Rattle.std.proofs.lemmas.List.{append-nil}
 use Rattle.capture_desk.specs.declared.calls.Call.{Call}
 use Rattle.capture_desk.specs.declared.calls.Call.TheVariants.{OpenIn, Read, CreateOut, Finish, Say}
 use Rattle.capture_desk.specs.Desks.{Seen, Tells, is_missing, after_open}
 use Rattle.capture_desk.proofs.Telling.{tells_both, tells_none}
 use Rattle.command_steps.specs.Inputs.{Always, OfInput, OfRest}
-use Rattle.command_steps.specs.Reading.{AreReads, Calls, IsNextRead, IsTaking, OpensBy}
+use Rattle.command_steps.specs.Reading.{AreAllReads, AreReads, Calls, IsNextRead, IsTaking, IsWholeTaking, OpensBy}
 use Rattle.command_steps.proofs.Inputs.{opened_input}
 
 -- reads that may come so far, whatever reads come later
@@ -13,17 +14,22 @@ pub record ReadSoFar (MayGoOn : ℕ → Type 0) (most at : ℕ) (old new : Seen)
   pub made : List Call
   pub tells : Tells made old.calls new.calls
   pub goes_on : (later : List Call) → AreReads MayGoOn most at later → AreReads MayGoOn most 0 (made ++ later)
+  pub goes_through : (later : List Call) → AreAllReads MayGoOn most at later → AreAllReads MayGoOn most 0 (made ++ later)
 
 pub nothing_read : (MayGoOn : ℕ → Type 0) (most : ℕ) (s : Seen) → ReadSoFar MayGoOn most 0 s s
-nothing_read MayGoOn most s = record { made = []; tells = tells_none s.calls; goes_on = λ later h. h }
+nothing_read MayGoOn most s = record { made = []; tells = tells_none s.calls; goes_on = λ later h. h; goes_through = λ later h. h }
 
 -- the calls that were made so far are reads
-append_nil : (calls : List Call) → calls ++ [] ≡ calls
-append_nil [] = refl
-append_nil (call ∷ calls) = ap (λ rest. call ∷ rest) (append_nil calls)
-
 pub reads_end : (MayGoOn : ℕ → Type 0) (most at : ℕ) (old new : Seen) → ReadSoFar MayGoOn most at old new → Calls (AreReads MayGoOn most 0) old new
-reads_end MayGoOn most at old new h = (h.made, subst (AreReads MayGoOn most 0) (append_nil h.made) (h.goes_on [] tt), h.tells)
+reads_end MayGoOn most at old new h = (h.made, subst (AreReads MayGoOn most 0) (append-nil h.made) (h.goes_on [] tt), h.tells)
+
+-- they are all, where one byte beyond the most was read
+pub all_reads_end : (MayGoOn : ℕ → Type 0) (most at : ℕ) (old new : Seen) → ReadSoFar MayGoOn most at old new → most < at → Calls (AreAllReads MayGoOn most 0) old new
+all_reads_end MayGoOn most at old new h beyond = (h.made, subst (AreAllReads MayGoOn most 0) (append-nil h.made) (h.goes_through [] beyond), h.tells)
+
+some_bytes : (n : ℕ) → (n ≡ 0 → ⊥) → 0 < n
+some_bytes zero some = absurd (some refl)
+some_bytes (suc n) some = omega arith
 
 -- one more read
 pub read_more : (MayGoOn : ℕ → Type 0) (most at size n : ℕ) (old mid new : Seen) → ReadSoFar MayGoOn most at old mid → IsNextRead MayGoOn most at size → (n ≡ 0 → ⊥) →
@@ -35,6 +41,9 @@ read_more MayGoOn most at size n old mid new h next some tells =
       goes_on = λ later more.
           subst (AreReads MayGoOn most 0) (sym (append_assoc h.made (Read size (Some n) ∷ []) later))
           (h.goes_on (Read size (Some n) ∷ later) (next, (λ none. absurd (some none)), more));
+      goes_through = λ later more.
+          subst (AreAllReads MayGoOn most 0) (sym (append_assoc h.made (Read size (Some n) ∷ []) later))
+          (h.goes_through (Read size (Some n) ∷ later) (next, inr (some_bytes n some, more)));
     }
 
 -- and it is the last, since it found the end
@@ -43,6 +52,14 @@ pub read_end : (MayGoOn : ℕ → Type 0) (most at size n : ℕ) (old mid new : 
 read_end MayGoOn most at size n old mid new h next tells = (
   h.made ++ (Read size (Some n) ∷ []),
   h.goes_on (Read size (Some n) ∷ []) (next, (λ none. refl), tt),
+  tells_both h.made (Read size (Some n) ∷ []) old.calls mid.calls new.calls h.tells tells,
+)
+
+pub all_read_end : (MayGoOn : ℕ → Type 0) (most at size n : ℕ) (old mid new : Seen) → ReadSoFar MayGoOn most at old mid → IsNextRead MayGoOn most at size → n ≡ 0 →
+    Tells (Read size (Some n) ∷ []) mid.calls new.calls → Calls (AreAllReads MayGoOn most 0) old new
+all_read_end MayGoOn most at size n old mid new h next none tells = (
+  h.made ++ (Read size (Some n) ∷ []),
+  h.goes_through (Read size (Some n) ∷ []) (next, inl (none, refl)),
   tells_both h.made (Read size (Some n) ∷ []) old.calls mid.calls new.calls h.tells tells,
 )
 
@@ -55,6 +72,11 @@ read_failed MayGoOn most at size old mid new h next tells = (
   tells_both h.made (Read size None ∷ []) old.calls mid.calls new.calls h.tells tells,
 )
 
+-- two facts of what was done give a third
+pub both_done : {A E P Q R : Type 0} (r : Result A E) → (P → Q → R) → IfOk r (λ _. P) → IfOk r (λ _. Q) → IfOk r (λ _. R)
+both_done (Ok x) f p q = f p q
+both_done (Err e) f p q = tt
+
 -- ---- what is so of the rest of an input that was opened is so of the input
 
 reads_of : (P Q : ℕ → Type 0) → ((at : ℕ) → P at → Q at) → (most at : ℕ) (calls : List Call) → AreReads P most at calls → AreReads Q most at calls
@@ -65,6 +87,16 @@ reads_of P Q f most at (OpenIn name done ∷ calls) h = absurd h
 reads_of P Q f most at (CreateOut name done ∷ calls) h = absurd h
 reads_of P Q f most at (Finish done ∷ calls) h = absurd h
 reads_of P Q f most at (Say ∷ calls) h = absurd h
+
+all_reads_of : (P Q : ℕ → Type 0) → ((at : ℕ) → P at → Q at) → (most at : ℕ) (calls : List Call) → AreAllReads P most at calls → AreAllReads Q most at calls
+all_reads_of P Q f most at [] h = h
+all_reads_of P Q f most at (Read size None ∷ calls) h = absurd h
+all_reads_of P Q f most at (Read size (Some n) ∷ calls) (next, inl end) = ((next.0, f at next.1, next.2), inl end)
+all_reads_of P Q f most at (Read size (Some n) ∷ calls) (next, inr more) = ((next.0, f at next.1, next.2), inr (more.0, all_reads_of P Q f most (at + n) calls more.1))
+all_reads_of P Q f most at (OpenIn name done ∷ calls) h = absurd h
+all_reads_of P Q f most at (CreateOut name done ∷ calls) h = absurd h
+all_reads_of P Q f most at (Finish done ∷ calls) h = absurd h
+all_reads_of P Q f most at (Say ∷ calls) h = absurd h
 
 pub always_read : (rest : Option (List ℕ)) (at : ℕ) → OfRest rest (λ bytes. Always (take at bytes))
 always_read None at = tt
@@ -78,6 +110,16 @@ module _ (name : List ℕ) (most : ℕ) (MayGoOn : List ℕ → Type 0) where
   taken A E done old mid new P there opened f (opening, is, one) (reads, h, two) = (
     OpenIn name true ∷ reads,
     (refl, reads_of P (λ at. OfInput name old.told.inputs (λ bytes. MayGoOn (take at bytes))) (λ at p. opened_input name old.told mid.told (λ bytes. MayGoOn (take at bytes)) there opened (f at p)) most 0 reads h),
+    tells_both (OpenIn name true ∷ []) reads old.calls mid.calls new.calls (subst (λ calls. Tells calls old.calls mid.calls) is one) two,
+  )
+
+  -- and read through
+  pub all_taken : (A E : Type 0) (done : A) (old mid new : Seen) (P : ℕ → Type 0) → is_missing name old.told.inputs ≡ false → mid.told ≡ after_open name old.told →
+      ((at : ℕ) → P at → OfRest mid.told.rest (λ bytes. MayGoOn (take at bytes))) →
+      Calls (OpensBy {A = A} {E = E} name (Ok done)) old mid → Calls (AreAllReads P most 0) mid new → Calls (IsWholeTaking name most MayGoOn old.told.inputs) old new
+  all_taken A E done old mid new P there opened f (opening, is, one) (reads, h, two) = (
+    OpenIn name true ∷ reads,
+    (refl, all_reads_of P (λ at. OfInput name old.told.inputs (λ bytes. MayGoOn (take at bytes))) (λ at p. opened_input name old.told mid.told (λ bytes. MayGoOn (take at bytes)) there opened (f at p)) most 0 reads h),
     tells_both (OpenIn name true ∷ []) reads old.calls mid.calls new.calls (subst (λ calls. Tells calls old.calls mid.calls) is one) two,
   )
 

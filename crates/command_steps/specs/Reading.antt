@@ -1,5 +1,5 @@
 -- The calls by which inputs are taken, and their order.
-use Rattle.std.specs.Prelude.{◌≡◌, ℕ, ◌+◌, ◌-◌, ◌≤◌, min, ◌⊎◌, ⊤, true, false, List, [], ◌∷◌, ◌++◌, length, take, Option, Some, None, Result, Ok, Err}
+use Rattle.std.specs.Prelude.{◌≡◌, ℕ, ◌+◌, ◌-◌, ◌<◌, ◌≤◌, min, ◌⊎◌, ⊤, true, false, List, [], ◌∷◌, ◌++◌, length, take, Option, Some, None, Result, Ok, Err}
 use Rattle.capture_desk.specs.declared.calls.Call.{Call}
 use Rattle.capture_desk.specs.declared.calls.Call.TheVariants.{OpenIn, Read}
 use Rattle.capture_desk.specs.Desks.{Inputs, Seen, Tells, is_missing, after_open}
@@ -29,6 +29,13 @@ AreReads MayGoOn most at (Read size (Some n) ∷ calls) =
     IsNextRead MayGoOn most at size × (n ≡ 0 → calls ≡ []) × AreReads MayGoOn most (at + n) calls
 AreReads MayGoOn most at (_ ∷ calls) = ⊥
 
+-- the same, and they go on until one finds the end, or one byte beyond the most is read
+abbrev pub AreAllReads : (ℕ → Type 0) → ℕ → ℕ → List Call → Type 0
+AreAllReads MayGoOn most at [] = most < at
+AreAllReads MayGoOn most at (Read size (Some n) ∷ calls) =
+    IsNextRead MayGoOn most at size × (((n ≡ 0) × (calls ≡ [])) ⊎ ((0 < n) × AreAllReads MayGoOn most (at + n) calls))
+AreAllReads MayGoOn most at (_ ∷ calls) = ⊥
+
 -- an input is opened and then read, or it is not opened
 abbrev pub IsTaking : List ℕ → ℕ → (List ℕ → Type 0) → Option Inputs → List Call → Type 0
 IsTaking name most MayGoOn told [] = ⊤
@@ -37,8 +44,17 @@ IsTaking name most MayGoOn told (OpenIn other true ∷ calls) =
     (other ≡ name) × AreReads (λ at. OfInput name told (λ bytes. MayGoOn (take at bytes))) most 0 calls
 IsTaking name most MayGoOn told (_ ∷ calls) = ⊥
 
+-- it is opened and read through
+abbrev pub IsWholeTaking : List ℕ → ℕ → (List ℕ → Type 0) → Option Inputs → List Call → Type 0
+IsWholeTaking name most MayGoOn told (OpenIn other true ∷ calls) =
+    (other ≡ name) × AreAllReads (λ at. OfInput name told (λ bytes. MayGoOn (take at bytes))) most 0 calls
+IsWholeTaking name most MayGoOn told _ = ⊥
+
 abbrev pub IsTakingOf : Input → Option Inputs → List Call → Type 0
 IsTakingOf input told calls = IsTaking input.name input.judge.most input.judge.MayGoOn told calls
+
+abbrev pub IsWholeTakingOf : Input → Option Inputs → List Call → Type 0
+IsWholeTakingOf input told calls = IsWholeTaking input.name input.judge.most input.judge.MayGoOn told calls
 
 -- nothing was done but that an input was opened and read
 pub record OnlyReads (name : List ℕ) (most : ℕ) (MayGoOn : List ℕ → Type 0) (old new : Seen) : Type 0 where
@@ -46,21 +62,27 @@ pub record OnlyReads (name : List ℕ) (most : ℕ) (MayGoOn : List ℕ → Type
   pub writes : new.writes ≡ old.writes
   pub calls : Calls (IsTaking name most MayGoOn old.told.inputs) old new
 
+-- it was opened once and read through, and no read failed
+pub record ReadsThrough (name : List ℕ) (most : ℕ) (MayGoOn : List ℕ → Type 0) (old new : Seen) : Type 0 where
+  pub reads : new.reads ≡ old.reads
+  pub calls : Calls (IsWholeTaking name most MayGoOn old.told.inputs) old new
+
 -- ---- several inputs
 
--- all inputs were taken, one after the other, each found good before the next
+-- all inputs were opened and read through, one after the other, each found good before the next
 abbrev pub AreTaken : List Input → Option Inputs → List Call → Type 0
 AreTaken [] told calls = calls ≡ []
 AreTaken (input ∷ inputs) told calls =
-    (first later : List Call) × (calls ≡ first ++ later) × IsTakingOf input told first × IsThereAndGood input told
+    (first later : List Call) × (calls ≡ first ++ later) × IsWholeTakingOf input told first × IsThereAndGood input told
     × AreTaken inputs told later
 
--- or some of them, up to the one that stopped
+-- or some of them, and then the one that stopped, opened and read so far or not opened
 abbrev pub AreTakenUpTo : List Input → Option Inputs → List Call → Type 0
 AreTakenUpTo [] told calls = calls ≡ []
 AreTakenUpTo (input ∷ inputs) told calls =
-    (first later : List Call) × (calls ≡ first ++ later) × IsTakingOf input told first
-    × ((later ≡ []) ⊎ (IsThereAndGood input told × AreTakenUpTo inputs told later))
+    IsTakingOf input told calls
+    ⊎ ((first later : List Call) × (calls ≡ first ++ later) × IsWholeTakingOf input told first × IsThereAndGood input told
+    × AreTakenUpTo inputs told later)
 
 -- what a step leaves that takes inputs and nothing else: all of them, or up to one that is refused
 pub record Took (inputs : List Input) (old new : Seen) : Type 0 where

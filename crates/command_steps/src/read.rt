@@ -4,7 +4,7 @@ ghost use Rattle.std.specs.Prelude.{◌≡◌, ◌+◌, ◌-◌, ◌<◌, ◌≤
 ghost use Rattle.capture_desk.specs.declared.calls.Call.TheVariants as Call;
 ghost use Rattle.capture_desk.specs.Desks.{IsAllowed, ReadCounts, Tells, after_read, moved_by};
 ghost use Rattle.command_steps.specs.Inputs.{Always, OfInput, OfRest, StopsAtRead, StopsReading, apart};
-ghost use Rattle.command_steps.specs.Reading.{AreReads, Calls, Grows, OnlyReads, Opened, OpensBy};
+ghost use Rattle.command_steps.specs.Reading.{AreAllReads, AreReads, Calls, Grows, OnlyReads, ReadsThrough, Opened, OpensBy};
 
 use crate::keeps::Keeps;
 use capture_desk::{Desk, Failed, OpenFault};
@@ -67,6 +67,7 @@ fn keep_rest<D: Desk, K: Keeps>(
     ensures writes { (D.seen desk.new).writes ≡ (D.seen desk.old).writes }
     ensures quiet { IfOk result (λ _. (D.seen desk.new).reads ≡ (D.seen desk.old).reads) }
     ensures calls { Calls (AreReads (λ at. Always []) most 0) (D.seen desk.old) (D.seen desk.new) }
+    ensures through { IfOk result (λ _. Calls (AreAllReads (λ at. Always []) most 0) (D.seen desk.old) (D.seen desk.new)) }
 {
     let mut at = 0;
     while at <= most {
@@ -101,7 +102,7 @@ fn keep_input<D: Desk, K: Keeps>(
     ensures bytes { IfOk result (λ _. OfInput name.now (D.seen desk.old).told.inputs (λ content. K.kept keeper.new ≡ K.kept keeper.old ++ take (most + 1) content)) }
     ensures stops { IfErr result (λ refusal. StopsReading name.now refusal (D.seen desk.old) (D.seen desk.new)) }
     ensures reads { OnlyReads name.now most Always (D.seen desk.old) (D.seen desk.new) }
-    ensures quiet { IfOk result (λ _. (D.seen desk.new).reads ≡ (D.seen desk.old).reads) }
+    ensures through { IfOk result (λ _. ReadsThrough name.now most Always (D.seen desk.old) (D.seen desk.new)) }
 {
     open(name, desk)?;
     keep_rest(alloc, most, desk, keeper, buffer)
@@ -120,7 +121,7 @@ pub fn read_pieces<D: Desk, K: Keeps>(
     ensures bytes { IfOk result (λ _. OfInput name.now (D.seen desk.old).told.inputs (λ content. K.kept keeper.new ≡ K.kept keeper.old ++ take (most + 1) content)) }
     ensures stops { IfErr result (λ refusal. StopsReading name.now refusal (D.seen desk.old) (D.seen desk.new)) }
     ensures reads { OnlyReads name.now most Always (D.seen desk.old) (D.seen desk.new) }
-    ensures quiet { IfOk result (λ _. (D.seen desk.new).reads ≡ (D.seen desk.old).reads) }
+    ensures through { IfOk result (λ _. ReadsThrough name.now most Always (D.seen desk.old) (D.seen desk.new)) }
 {
     let mut buffer = match vec![in alloc; 0; PIECE] {
         Ok(buffer) => buffer,
@@ -141,7 +142,7 @@ pub fn read_whole<D: Desk>(
     ensures bytes { IfOk result (λ bytes. OfInput name.now (D.seen desk.old).told.inputs (λ content. bytes.items ≡ take (most + 1) content)) }
     ensures stops { IfErr result (λ refusal. StopsReading name.now refusal (D.seen desk.old) (D.seen desk.new)) }
     ensures reads { OnlyReads name.now most Always (D.seen desk.old) (D.seen desk.new) }
-    ensures quiet { IfOk result (λ _. (D.seen desk.new).reads ≡ (D.seen desk.old).reads) }
+    ensures through { IfOk result (λ _. ReadsThrough name.now most Always (D.seen desk.old) (D.seen desk.new)) }
 {
     let mut bytes = Vec::new(alloc);
     read_pieces(alloc, name, most, desk, &mut bytes)?;

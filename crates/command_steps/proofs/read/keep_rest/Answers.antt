@@ -5,7 +5,7 @@ use Rattle.capture_desk.specs.Desks.{Told, after_read}
 use Rattle.capture_desk.proofs.Laws.{after_read-after_read}
 use Rattle.command_steps.specs.Inputs.{Always, OfRest}
 use Rattle.command_steps.specs.Reading.{Grows, IsNextRead}
-use Rattle.command_steps.proofs.Taking.{read_end, read_failed, read_more, reads_end}
+use Rattle.command_steps.proofs.Taking.{all_read_end, all_reads_end, read_end, read_failed, read_more, reads_end}
 use Rattle.command_steps.proofs.read.keep_rest.Goals as goal
 
 -- what is kept is what was kept at first and the first bytes of the rest
@@ -82,6 +82,13 @@ returns-then-count-eq0-clause-calls g c =
     read_end Before c.args.most at (c.min-end.result - 0) c.in-Ok.count (see c.args.desk.now) (see c.loop-at.desk) (see c.read_into.new.desk) c.loop-at.invariant.calls
     (next_read c.args.most at c.min-end.result (omega (arith, c.loop-at-test.true)) c.min-end.ensures) c.in-Ok.ensures.calls
 
+pub returns-then-count-eq0-clause-through : goal.returns-then-count-eq0-clause-through
+returns-then-count-eq0-clause-through g c =
+    let see = g.D.Desk.seen in
+    let at = c.loop-at.at in
+    all_read_end Before c.args.most at (c.min-end.result - 0) c.in-Ok.count (see c.args.desk.now) (see c.loop-at.desk) (see c.read_into.new.desk) c.loop-at.invariant.calls
+    (next_read c.args.most at c.min-end.result (omega (arith, c.loop-at-test.true)) c.min-end.ensures) c.if-count-eq0.true c.in-Ok.ensures.calls
+
 pub returns-in-Err-keep-clause-calls : goal.returns-in-Err-keep-clause-calls
 returns-in-Err-keep-clause-calls g c =
     let see = g.D.Desk.seen in
@@ -93,3 +100,8 @@ pub returns-clause-calls : goal.returns-clause-calls
 returns-clause-calls g c =
     let see = g.D.Desk.seen in
     reads_end Before c.args.most c.loop-at.at (see c.args.desk.now) (see c.loop-at.desk) c.loop-at.invariant.calls
+
+pub returns-clause-through : goal.returns-clause-through
+returns-clause-through g c =
+    let see = g.D.Desk.seen in
+    all_reads_end Before c.args.most c.loop-at.at (see c.args.desk.now) (see c.loop-at.desk) c.loop-at.invariant.calls (omega (arith, c.loop-at-test.false))
