@@ -5,7 +5,7 @@ ghost use Rattle.capture_desk.specs.Desks.{IsAllowed};
 ghost use Rattle.command_inputs.specs.Chains.{IsBadWith, IsFrameFile, IsRefusedPair};
 ghost use Rattle.command_inputs.specs.Descriptions.{longest_description};
 ghost use Rattle.command_steps.specs.Inputs.{Always, OfInput, StopsAt};
-ghost use Rattle.command_steps.specs.Reading.{OnlyReads};
+ghost use Rattle.command_steps.specs.Reading.{OnlyReads, ReadsThrough};
 ghost use Rattle.double_buffer.specs.Pairs.{first_of_two};
 ghost use Rattle.double_buffer.specs.Promises.{IsPair};
 
@@ -52,7 +52,7 @@ pub fn buffer_file<D: Desk>(
     ensures pair { IfOk result (λ paired. IsPair first.now paired.second) }
     ensures stops { IfErr result (λ refusal. StopsAt (IsBadWith first.now) name.now refusal (D.seen desk.old) (D.seen desk.new)) }
     ensures reads { OnlyReads name.now longest_description Always (D.seen desk.old) (D.seen desk.new) }
-    ensures quiet { IfOk result (λ _. (D.seen desk.new).reads ≡ (D.seen desk.old).reads) }
+    ensures through { IfOk result (λ _. ReadsThrough name.now longest_description Always (D.seen desk.old) (D.seen desk.new)) }
 {
     let second = frame_file(alloc, name, desk)?;
     pair(alloc, first, second)

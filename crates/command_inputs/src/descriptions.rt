@@ -5,7 +5,7 @@ ghost use Rattle.capture_desc.specs.Description.{described};
 ghost use Rattle.capture_desc.specs.WellFormed.{IsWellFormed};
 ghost use Rattle.capture_desk.specs.Desks.{IsAllowed};
 ghost use Rattle.command_steps.specs.Inputs.{Always, OfInput, StopsAt};
-ghost use Rattle.command_steps.specs.Reading.{OnlyReads};
+ghost use Rattle.command_steps.specs.Reading.{OnlyReads, ReadsThrough};
 ghost use Rattle.command_inputs.specs.Chains.{IsFrameFile};
 ghost use Rattle.command_inputs.specs.Descriptions.{Describes, IsBadDesc, IsBadDescBy, IsRefused, Misreads, geometry_refusal, longest_description};
 ghost use Rattle.picture_model.specs.Geometry.{first_fault, frame_fault};
@@ -85,7 +85,7 @@ pub fn check_file<D: Desk>(alloc: Global, name: &str, desk: &mut D) -> Result<Ch
     ensures describes { IfOk result (λ checked. OfInput name.now (D.seen desk.old).told.inputs (λ bytes. Describes bytes checked)) }
     ensures stops { IfErr result (λ refusal. StopsAt IsBadDesc name.now refusal (D.seen desk.old) (D.seen desk.new)) }
     ensures reads { OnlyReads name.now longest_description Always (D.seen desk.old) (D.seen desk.new) }
-    ensures quiet { IfOk result (λ _. (D.seen desk.new).reads ≡ (D.seen desk.old).reads) }
+    ensures through { IfOk result (λ _. ReadsThrough name.now longest_description Always (D.seen desk.old) (D.seen desk.new)) }
 {
     let bytes = read_limited(alloc, name, LONGEST_DESCRIPTION, Input::Desc, desk)?;
     match check_bytes(alloc, &bytes) {
@@ -102,7 +102,7 @@ pub fn frame_file<D: Desk>(alloc: Global, name: &str, desk: &mut D) -> Result<Fr
     ensures describes { IfOk result (λ frame. OfInput name.now (D.seen desk.old).told.inputs (λ bytes. IsFrameFile bytes frame)) }
     ensures stops { IfErr result (λ refusal. StopsAt (IsBadDescBy frame_fault) name.now refusal (D.seen desk.old) (D.seen desk.new)) }
     ensures reads { OnlyReads name.now longest_description Always (D.seen desk.old) (D.seen desk.new) }
-    ensures quiet { IfOk result (λ _. (D.seen desk.new).reads ≡ (D.seen desk.old).reads) }
+    ensures through { IfOk result (λ _. ReadsThrough name.now longest_description Always (D.seen desk.old) (D.seen desk.new)) }
 {
     let bytes = read_limited(alloc, name, LONGEST_DESCRIPTION, Input::Desc, desk)?;
     match frame_bytes(alloc, &bytes) {

@@ -3,7 +3,7 @@
 ghost use Rattle.std.specs.Prelude.{◌≡◌, ◌<◌, ◌≤◌, ◌^◌, vec_len, IfErr, IfOk};
 ghost use Rattle.capture_desk.specs.Desks.{IsAllowed};
 ghost use Rattle.command_steps.specs.Inputs.{Always, OfInput, StopsAt};
-ghost use Rattle.command_steps.specs.Reading.{OnlyReads};
+ghost use Rattle.command_steps.specs.Reading.{OnlyReads, ReadsThrough};
 ghost use Rattle.command_inputs.specs.Limits.{IsLonger};
 
 use capture_desk::Desk;
@@ -26,7 +26,7 @@ pub fn read_limited<D: Desk>(
     ensures whole { IfOk result (λ bytes. OfInput name.now (D.seen desk.old).told.inputs (λ content. bytes.items ≡ content)) }
     ensures stops { IfErr result (λ refusal. StopsAt (IsLonger most file) name.now refusal (D.seen desk.old) (D.seen desk.new)) }
     ensures reads { OnlyReads name.now most Always (D.seen desk.old) (D.seen desk.new) }
-    ensures quiet { IfOk result (λ _. (D.seen desk.new).reads ≡ (D.seen desk.old).reads) }
+    ensures through { IfOk result (λ _. ReadsThrough name.now most Always (D.seen desk.old) (D.seen desk.new)) }
 {
     let bytes = read_whole(alloc, name, most, desk)?;
     if bytes.len() > most {

@@ -3,7 +3,7 @@
 ghost use Rattle.std.specs.Prelude.{◌≡◌, ◌+◌, ◌++◌, take, IfErr, IfOk};
 ghost use Rattle.capture_desk.specs.Desks.{IsAllowed};
 ghost use Rattle.command_steps.specs.Inputs.{Always, OfInput, StopsAt, StopsReading};
-ghost use Rattle.command_steps.specs.Reading.{OnlyReads};
+ghost use Rattle.command_steps.specs.Reading.{OnlyReads, ReadsThrough};
 ghost use Rattle.risc_asm.specs.Answers.{most_bytes};
 ghost use Rattle.command_inputs.specs.Listings.{GivesAssembled, IsBadText};
 
@@ -40,7 +40,7 @@ fn read_text<D: Desk>(alloc: Global, name: &str, desk: &mut D) -> Result<Text, R
     ensures bytes { IfOk result (λ text. OfInput name.now (D.seen desk.old).told.inputs (λ content. text ≡ take (most_bytes + 1) content)) }
     ensures stops { IfErr result (λ refusal. StopsReading name.now refusal (D.seen desk.old) (D.seen desk.new)) }
     ensures reads { OnlyReads name.now most_bytes Always (D.seen desk.old) (D.seen desk.new) }
-    ensures quiet { IfOk result (λ _. (D.seen desk.new).reads ≡ (D.seen desk.old).reads) }
+    ensures through { IfOk result (λ _. ReadsThrough name.now most_bytes Always (D.seen desk.old) (D.seen desk.new)) }
 {
     let mut pieces = Pieces {
         text: Text::new(alloc),
@@ -61,7 +61,7 @@ pub fn assemble_file<D: Desk>(
     ensures assembles { IfOk result (λ file. OfInput name.now (D.seen desk.old).told.inputs (λ bytes. GivesAssembled bytes file)) }
     ensures stops { IfErr result (λ refusal. StopsAt IsBadText name.now refusal (D.seen desk.old) (D.seen desk.new)) }
     ensures reads { OnlyReads name.now most_bytes Always (D.seen desk.old) (D.seen desk.new) }
-    ensures quiet { IfOk result (λ _. (D.seen desk.new).reads ≡ (D.seen desk.old).reads) }
+    ensures through { IfOk result (λ _. ReadsThrough name.now most_bytes Always (D.seen desk.old) (D.seen desk.new)) }
 {
     let text = read_text(alloc, name, desk)?;
     match text.assemble(alloc) {

@@ -4,7 +4,7 @@ ghost use Rattle.std.specs.Prelude.{◌≡◌, ◌<◌, IfErr, IfOk, Ok};
 ghost use Rattle.capture_desk.specs.Desks.{IsAllowed};
 ghost use Rattle.capture_file.specs.Programs.{program_of};
 ghost use Rattle.command_steps.specs.Inputs.{Always, OfInput, StopsAt};
-ghost use Rattle.command_steps.specs.Reading.{OnlyReads};
+ghost use Rattle.command_steps.specs.Reading.{OnlyReads, ReadsThrough};
 ghost use Rattle.machine_model.specs.Paths.{IsSound};
 ghost use Rattle.command_inputs.specs.Programs.{Accepts, IsBadFile, IsBadProgram, IsRefused, Misreads, longest_program};
 ghost use Rattle.risc_verify.specs.Verdicts.{Refuses};
@@ -47,7 +47,7 @@ pub fn read_file<D: Desk>(alloc: Global, name: &str, desk: &mut D) -> Result<Pro
     ensures file { IfOk result (λ file. OfInput name.now (D.seen desk.old).told.inputs (λ bytes. program_of bytes ≡ Ok file)) }
     ensures stops { IfErr result (λ refusal. StopsAt IsBadFile name.now refusal (D.seen desk.old) (D.seen desk.new)) }
     ensures reads { OnlyReads name.now longest_program Always (D.seen desk.old) (D.seen desk.new) }
-    ensures quiet { IfOk result (λ _. (D.seen desk.new).reads ≡ (D.seen desk.old).reads) }
+    ensures through { IfOk result (λ _. ReadsThrough name.now longest_program Always (D.seen desk.old) (D.seen desk.new)) }
 {
     let bytes = read_whole(alloc, name, LONGEST_PROGRAM, desk)?;
     match parse(alloc, &bytes) {
@@ -102,7 +102,7 @@ pub fn accept<D: Desk>(alloc: Global, name: &str, desk: &mut D) -> Result<Loaded
     ensures accepts { IfOk result (λ loaded. OfInput name.now (D.seen desk.old).told.inputs (λ bytes. Accepts (program_of bytes) loaded.accepted loaded.fill)) }
     ensures stops { IfErr result (λ refusal. StopsAt IsBadProgram name.now refusal (D.seen desk.old) (D.seen desk.new)) }
     ensures reads { OnlyReads name.now longest_program Always (D.seen desk.old) (D.seen desk.new) }
-    ensures quiet { IfOk result (λ _. (D.seen desk.new).reads ≡ (D.seen desk.old).reads) }
+    ensures through { IfOk result (λ _. ReadsThrough name.now longest_program Always (D.seen desk.old) (D.seen desk.new)) }
 {
     let file = read_file(alloc, name, desk)?;
     judge(alloc, file)

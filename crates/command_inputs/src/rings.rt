@@ -1,9 +1,9 @@
 //! A ring file, read and judged.
 
-ghost use Rattle.std.specs.Prelude.{◌≡◌, ◌≤◌, length, IfErr, IfOk};
+ghost use Rattle.std.specs.Prelude.{◌≤◌, length, IfErr, IfOk};
 ghost use Rattle.capture_desk.specs.Desks.{IsAllowed};
 ghost use Rattle.command_steps.specs.Inputs.{Always, OfInput, StopsAt};
-ghost use Rattle.command_steps.specs.Reading.{OnlyReads};
+ghost use Rattle.command_steps.specs.Reading.{OnlyReads, ReadsThrough};
 ghost use Rattle.command_inputs.specs.Rings.{IsBadRing, IsRefused, IsRingFile, longest_ring};
 
 use crate::limited::read_limited;
@@ -36,7 +36,7 @@ pub fn ring_file<D: Desk>(alloc: Global, name: &str, desk: &mut D) -> Result<Rin
     ensures ring { IfOk result (λ ring. OfInput name.now (D.seen desk.old).told.inputs (λ bytes. IsRingFile bytes ring)) }
     ensures stops { IfErr result (λ refusal. StopsAt IsBadRing name.now refusal (D.seen desk.old) (D.seen desk.new)) }
     ensures reads { OnlyReads name.now longest_ring Always (D.seen desk.old) (D.seen desk.new) }
-    ensures quiet { IfOk result (λ _. (D.seen desk.new).reads ≡ (D.seen desk.old).reads) }
+    ensures through { IfOk result (λ _. ReadsThrough name.now longest_ring Always (D.seen desk.old) (D.seen desk.new)) }
 {
     let bytes = read_limited(alloc, name, LONGEST_RING, Input::Ring, desk)?;
     match read_bytes(alloc, &bytes) {
