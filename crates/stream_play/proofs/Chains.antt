@@ -1,5 +1,5 @@
 -- A chain that took the steps of a stream one after the other made the live run over all of them.
-use Rattle.std.proofs.Common.{◌≡◌, ℕ, true, List, [], ◌∷◌, Ok, refl, ap, ◌∙◌}
+use Rattle.std.proofs.Common.{◌≡◌, ℕ, true, List, [], ◌∷◌, refl, ap, ◌∙◌}
 use Rattle.capture_desc.specs.declared.desc.Desc.{Desc}
 use Rattle.capture_file.specs.declared.Step.{Step}
 use Rattle.slot_chain.specs.States.{ChainState}

@@ -1,20 +1,18 @@
 -- A stream without a fault has no more turns than a stream may have.
-use Rattle.std.proofs.Common.{◌≡◌, ℕ, zero, suc, ◌+◌, ◌-◌, ◌≤◌, ◌==◌, if◌then◌else◌, true, false, Bool, List, [], ◌∷◌, length, take, drop, Option, Some, None, Result, Ok, Err, arith, refl, ap, subst, sym}
+use Rattle.std.proofs.Common.{◌≡◌, ℕ, zero, suc, ◌+◌, ◌-◌, ◌≤◌, true, false, Bool, List, [], ◌∷◌, length, take, drop, Option, Some, None, Ok, arith, refl, subst}
 use Rattle.std.specs.Prelude.{⊤, nat_le, nat_lt}
 use Rattle.std.proofs.lemmas.Bool.{leb-true}
 use Rattle.risc_word.specs.declared.Code.{Code}
 use Rattle.risc_word.specs.Words.{code_numbered}
 use Rattle.fifo_model.specs.declared.Queue.{Queue}
-use Rattle.capture_file.specs.declared.FileFault.{FileFault}
 use Rattle.capture_file.specs.declared.Step.{Step}
-use Rattle.capture_file.specs.declared.Step.TheVariants.{Turns}
 use Rattle.capture_file.specs.declared.records.Form.{Form}
 use Rattle.capture_file.specs.declared.records.Form.TheVariants.{Bfs1, Bfs2, Bfs3}
 use Rattle.capture_file.specs.declared.records.RecordKind.{RecordKind}
 use Rattle.capture_file.specs.declared.records.RecordKind.TheVariants as kind
 use Rattle.capture_file.specs.declared.records.Found.{Found}
 use Rattle.capture_file.specs.declared.records.Found.TheVariants.{Cut, Wrong, Last, Whole}
-use Rattle.capture_file.specs.Streams.{Reading, reading, with_step, Unfinished, Bad, after_end, ack_with, buffer_if, control_with, data_with, enable_if, fault_at, fields_at, first_trigger, form_of, is_buffer, is_data, judged, kind_of_tag, most_turns, number_at, opened, opened_by, patch_at, push_at, push_if, record_at, records, slot_if, steps_of, stream_of, trigger_if, turns_if, turns_of, turns_with, within_if}
+use Rattle.capture_file.specs.Streams.{Reading, reading, with_step, Unfinished, Bad, after_end, ack_with, buffer_if, control_with, data_with, enable_if, fault_at, fields_at, form_of, is_buffer, is_data, judged, kind_of_tag, most_turns, number_at, opened, opened_by, patch_at, push_at, push_if, record_at, records, slot_if, steps_of, stream_of, trigger_if, turns_if, turns_of, turns_with, within_if}
 use Rattle.stream_play.specs.Runs.{turns_in}
 use Rattle.stream_play.proofs.Fitting.{whole_steps}
 

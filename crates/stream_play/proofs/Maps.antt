@@ -1,5 +1,5 @@
 -- A machine whose rows are told took the steps of a stream one after the other, and so all together.
-use Rattle.std.proofs.Common.{◌≡◌, ℕ, false, List, [], ◌∷◌, ◌++◌, Ok, refl, sym, ap, ◌∙◌}
+use Rattle.std.proofs.Common.{◌≡◌, ℕ, false, List, [], ◌∷◌, ◌++◌, refl, sym, ap, ◌∙◌}
 use Rattle.machine_model.specs.States.{State}
 use Rattle.machine_model.specs.Steps as machine
 use Rattle.machine_model.specs.Steps.{run, step}

@@ -1,10 +1,9 @@
 -- The blocks that are counted while a stream is played are all its block ends.
-use Rattle.std.proofs.Common.{◌≡◌, ℕ, zero, suc, ◌+◌, ◌-◌, ◌^◌, ◌≤◌, min, false, List, [], ◌∷◌, ◌++◌, replicate, Option, Some, None, Ok, refl, sym, ap, ◌∙◌, arith}
+use Rattle.std.proofs.Common.{◌≡◌, ℕ, zero, suc, ◌-◌, ◌^◌, ◌≤◌, false, List, [], ◌∷◌, replicate, Option, Some, None, sym, ap, ◌∙◌, arith}
 use Rattle.fifo_model.specs.Queues.{more}
 use Rattle.machine_model.specs.States.{State}
 use Rattle.machine_model.specs.Steps as machine
 use Rattle.machine_model.specs.Steps.{run, step}
-use Rattle.machine_model.proofs.Runs.{run-append}
 use Rattle.ring_model.specs.Rings.{Ring, ends}
 use Rattle.ring_model.specs.Runs.{BlockAt, block_end, block_ends, one_if}
 use Rattle.ring_model.proofs.Counting.{block_ends-append}
@@ -12,7 +11,7 @@ use Rattle.ring_machine.specs.States.{RingState, ran}
 use Rattle.ring_machine.proofs.Counting.{ran-append, ran-none}
 use Rattle.capture_file.specs.declared.Step.{Step}
 use Rattle.capture_file.specs.declared.Step.TheVariants.{Push, Control, Turns, Host, Patch}
-use Rattle.capture_file.specs.Streams.{atomic, most_turns, steps_of, steps_run, turns_of}
+use Rattle.capture_file.specs.Streams.{atomic, steps_run, turns_of}
 use Rattle.stream_play.specs.Plays.{PlaysAll, acted, longest_stream, ring_act}
 use Rattle.stream_play.specs.Runs.{HasPlayedRing, turns_in}
 use Rattle.stream_play.proofs.FewTurns.{turns_few}

@@ -1,4 +1,4 @@
-use Rattle.std.proofs.Common.{◌≡◌, ◌-◌, ◌^◌, ◌≤◌, sym, arith}
+use Rattle.std.proofs.Common.{sym, arith}
 use Rattle.ring_machine.proofs.Counting.{ran-none}
 use Rattle.stream_play.proofs.player.RingMachinePlayer.patch.Goals as goal
 
