@@ -6,8 +6,8 @@ use Rattle.command_texts.specs.declared.refusal.Refusal.TheVariants.{ReadFault, 
 use Rattle.capture_file.specs.declared.Input.TheVariants.{Stream}
 use Rattle.capture_file.specs.Streams.{steps_of}
 use Rattle.command_steps.specs.Inputs.{OfRest, StopsAt}
-use Rattle.command_steps.specs.Reading.{AreReads, Calls, IsTaking, OpensBy}
-use Rattle.command_steps.proofs.Taking.{taken}
+use Rattle.command_steps.specs.Reading.{AreAllReads, AreReads, Calls, IsTaking, IsWholeTaking, OpensBy}
+use Rattle.command_steps.proofs.Taking.{all_taken, taken}
 use Rattle.command_steps.proofs.Inputs.{opened_input, rose_from}
 use Rattle.stream_play.specs.Plays.{StopsPlaying, longest_stream}
 use Rattle.stream_play.specs.Runs.{HoldsNoFault, IsBadStream}
@@ -27,3 +27,9 @@ module _ (chained : Bool) where
       Calls (IsTaking name longest_stream (HoldsNoFault chained) old.told.inputs) old new
   read_through name A done old mid new there opened one two =
       taken name longest_stream (HoldsNoFault chained) A Refusal done old mid new (λ at. OfRest mid.told.rest (λ bytes. HoldsNoFault chained (take at bytes))) there opened (λ at h. h) one two
+
+  pub all_read_through : (name : List ℕ) (A : Type 0) (done : A) (old mid new : Seen) → is_missing name old.told.inputs ≡ false → mid.told ≡ after_open name old.told →
+      Calls (OpensBy {A = A} {E = Refusal} name (Ok done)) old mid → Calls (AreAllReads (λ at. OfRest mid.told.rest (λ bytes. HoldsNoFault chained (take at bytes))) longest_stream 0) mid new →
+      Calls (IsWholeTaking name longest_stream (HoldsNoFault chained) old.told.inputs) old new
+  all_read_through name A done old mid new there opened one two =
+      all_taken name longest_stream (HoldsNoFault chained) A Refusal done old mid new (λ at. OfRest mid.told.rest (λ bytes. HoldsNoFault chained (take at bytes))) there opened (λ at h. h) one two

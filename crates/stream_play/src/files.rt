@@ -3,7 +3,7 @@
 ghost use Rattle.std.specs.Prelude.{◌≡◌, false, length, string_bytes, IfOk, IfErr};
 ghost use Rattle.capture_desk.specs.Desks.{IsAllowed};
 ghost use Rattle.command_steps.specs.Inputs.{OfInput, StopsAt};
-ghost use Rattle.command_steps.specs.Reading.{OnlyReads};
+ghost use Rattle.command_steps.specs.Reading.{OnlyReads, ReadsThrough};
 ghost use Rattle.command_texts.specs.Texts.{report_text};
 ghost use Rattle.dma_machine.specs.Facts.{report_of};
 ghost use Rattle.machine_model.specs.States.{first_state};
@@ -57,7 +57,7 @@ fn play_input<D: Desk, P: Player>(
     ensures played { IfOk result (λ _. OfInput name.now (D.seen desk.old).told.inputs (λ bytes. PlaysAll P.act P.has_slots bytes player.old player.new)) }
     ensures stops { IfErr result (λ refusal. StopsAt (IsBadStream P.has_slots) name.now refusal (D.seen desk.old) (D.seen desk.new)) }
     ensures reads { OnlyReads name.now longest_stream (HoldsNoFault P.has_slots) (D.seen desk.old) (D.seen desk.new) }
-    ensures quiet { IfOk result (λ _. (D.seen desk.new).reads ≡ (D.seen desk.old).reads) }
+    ensures through { IfOk result (λ _. ReadsThrough name.now longest_stream (HoldsNoFault P.has_slots) (D.seen desk.old) (D.seen desk.new)) }
 {
     open(name, desk)?;
     match play(player, desk, buffer) {
@@ -79,7 +79,7 @@ pub fn play_file<D: Desk, P: Player + Drop>(
     ensures played { IfOk result (λ after. OfInput stream.now (D.seen desk.old).told.inputs (λ bytes. PlaysAll P.act P.has_slots bytes player after)) }
     ensures stops { IfErr result (λ refusal. StopsAt (IsBadStream P.has_slots) stream.now refusal (D.seen desk.old) (D.seen desk.new)) }
     ensures reads { OnlyReads stream.now longest_stream (HoldsNoFault P.has_slots) (D.seen desk.old) (D.seen desk.new) }
-    ensures quiet { IfOk result (λ _. (D.seen desk.new).reads ≡ (D.seen desk.old).reads) }
+    ensures through { IfOk result (λ _. ReadsThrough stream.now longest_stream (HoldsNoFault P.has_slots) (D.seen desk.old) (D.seen desk.new)) }
 {
     let mut player = player;
     let mut buffer = match vec![in alloc; 0; PIECE] {
@@ -104,7 +104,7 @@ fn play_on<D: Desk>(
     ensures played { IfOk result (λ machine. OfInput stream.now (D.seen desk.old).told.inputs (λ bytes. HasPlayed bytes (first_state accepted fill) machine)) }
     ensures stops { IfErr result (λ refusal. StopsAt (IsBadStream false) stream.now refusal (D.seen desk.old) (D.seen desk.new)) }
     ensures reads { OnlyReads stream.now longest_stream (HoldsNoFault false) (D.seen desk.old) (D.seen desk.new) }
-    ensures quiet { IfOk result (λ _. (D.seen desk.new).reads ≡ (D.seen desk.old).reads) }
+    ensures through { IfOk result (λ _. ReadsThrough stream.now longest_stream (HoldsNoFault false) (D.seen desk.old) (D.seen desk.new)) }
 {
     let machine = match machine_of(alloc, accepted, fill) {
         Ok(machine) => machine,
@@ -131,7 +131,7 @@ pub fn play_program<D: Desk>(
     ensures report { IfOk result (λ played. string_bytes played.report ≡ report_text (report_of played.machine)) }
     ensures stops { IfErr result (λ refusal. StopsAt (IsBadStream false) stream.now refusal (D.seen desk.old) (D.seen desk.new)) }
     ensures reads { OnlyReads stream.now longest_stream (HoldsNoFault false) (D.seen desk.old) (D.seen desk.new) }
-    ensures quiet { IfOk result (λ _. (D.seen desk.new).reads ≡ (D.seen desk.old).reads) }
+    ensures through { IfOk result (λ _. ReadsThrough stream.now longest_stream (HoldsNoFault false) (D.seen desk.old) (D.seen desk.new)) }
 {
     let machine = play_on(alloc, accepted, fill, stream, desk)?;
     match report_text(alloc, &machine.report()) {

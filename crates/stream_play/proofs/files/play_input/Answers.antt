@@ -2,7 +2,7 @@ use Rattle.std.proofs.Common.{◌∙◌, ap}
 use Rattle.command_steps.proofs.Inputs.{opened_input}
 use Rattle.stream_play.specs.Plays.{PlaysAll}
 use Rattle.command_steps.specs.Inputs.{apart}
-use Rattle.stream_play.proofs.Loading.{read_through, stops_at_stream}
+use Rattle.stream_play.proofs.Loading.{all_read_through, read_through}
 use Rattle.stream_play.proofs.files.play_input.Goals as goal
 
 pub returns-in-Ok-clause-played : goal.returns-in-Ok-clause-played
@@ -21,6 +21,15 @@ returns-in-Ok-clause-reads g c =
       told = c.in-Ok.ensures.told ∙ ap apart e.opened.1;
       writes = c.in-Ok.ensures.writes ∙ e.writes;
       calls = read_through g.P.Player.has_slots c.args.name.now _ c.in_ok-open.field-0 (see c.args.desk.now) (see c.open.new.desk) (see c.play.new.desk) e.opened.0 e.opened.1 e.calls c.in-Ok.ensures.calls;
+    }
+
+pub returns-in-Ok-clause-through : goal.returns-in-Ok-clause-through
+returns-in-Ok-clause-through g c =
+    let see = g.D.Desk.seen in
+    let e = c.in_ok-open.ensures in
+    record {
+      reads = c.in-Ok.ensures.quiet ∙ e.quiet;
+      calls = all_read_through g.P.Player.has_slots c.args.name.now _ c.in_ok-open.field-0 (see c.args.desk.now) (see c.open.new.desk) (see c.play.new.desk) e.opened.0 e.opened.1 e.calls c.in-Ok.ensures.through;
     }
 
 pub returns-in-Err-clause-reads : goal.returns-in-Err-clause-reads

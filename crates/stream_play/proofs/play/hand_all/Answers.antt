@@ -3,7 +3,7 @@ use Rattle.capture_desk.specs.Desks.{Told, after_read}
 use Rattle.capture_desk.proofs.Laws.{after_read-after_read, after_read-none}
 use Rattle.command_steps.specs.Inputs.{OfRest}
 use Rattle.command_steps.specs.Reading.{Grows, IsNextRead}
-use Rattle.command_steps.proofs.Taking.{nothing_read, read_end, read_failed, read_more, reads_end}
+use Rattle.command_steps.proofs.Taking.{all_read_end, all_reads_end, nothing_read, read_end, read_failed, read_more, reads_end}
 use Rattle.stream_play.specs.Plays.{ReadsForm, longest_stream}
 use Rattle.stream_play.specs.Runs.{HoldsNoFault}
 use Rattle.stream_play.proofs.Sound.{nothing_wrong, still_sound}
@@ -84,6 +84,13 @@ returns-then-count-eq0-clause-calls g c =
     read_end MayRead longest_stream c.loop-place.place (c.min-end.result - 0) c.in-Ok.count (see c.args.desk.now) (see c.loop-place.desk) (see c.read_into.new.desk) c.loop-place.invariant.calls
     (next_read MayRead c.loop-place.place c.min-end.result (omega (arith, c.loop-place-test.true)) c.loop-place.invariant.sound c.min-end.ensures) c.in-Ok.ensures.calls
 
+pub returns-then-count-eq0-clause-through : goal.returns-then-count-eq0-clause-through
+returns-then-count-eq0-clause-through g c =
+    let see = g.D.Desk.seen in
+    let MayRead : ℕ → Type 0 = (λ at. OfRest (see c.args.desk.now).told.rest (λ bytes. HoldsNoFault g.P.Player.has_slots (take at bytes))) in
+    all_read_end MayRead longest_stream c.loop-place.place (c.min-end.result - 0) c.in-Ok.count (see c.args.desk.now) (see c.loop-place.desk) (see c.read_into.new.desk) c.loop-place.invariant.calls
+    (next_read MayRead c.loop-place.place c.min-end.result (omega (arith, c.loop-place-test.true)) c.loop-place.invariant.sound c.min-end.ensures) c.if-count-eq0.true c.in-Ok.ensures.calls
+
 pub returns-in-Err-hand_piece-clause-calls : goal.returns-in-Err-hand_piece-clause-calls
 returns-in-Err-hand_piece-clause-calls g c =
     let see = g.D.Desk.seen in
@@ -97,3 +104,9 @@ returns-clause-calls g c =
     let see = g.D.Desk.seen in
     let MayRead : ℕ → Type 0 = (λ at. OfRest (see c.args.desk.now).told.rest (λ bytes. HoldsNoFault g.P.Player.has_slots (take at bytes))) in
     reads_end MayRead longest_stream c.loop-place.place (see c.args.desk.now) (see c.loop-place.desk) c.loop-place.invariant.calls
+
+pub returns-clause-through : goal.returns-clause-through
+returns-clause-through g c =
+    let see = g.D.Desk.seen in
+    let MayRead : ℕ → Type 0 = (λ at. OfRest (see c.args.desk.now).told.rest (λ bytes. HoldsNoFault g.P.Player.has_slots (take at bytes))) in
+    all_reads_end MayRead longest_stream c.loop-place.place (see c.args.desk.now) (see c.loop-place.desk) c.loop-place.invariant.calls (omega (arith, c.loop-place-test.false))
