@@ -15,7 +15,6 @@ use Rattle.capture_file.specs.Programs.{program_of, spelled}
 use Rattle.capture_file.specs.Streams.{steps_of, steps_run}
 use Rattle.picture_model.specs.Programs.{compiled}
 use Rattle.field_stream.specs.Made.{made, made_entries, made_fields}
-use Rattle.dma_machine.specs.Facts.{report_of}
 use Rattle.risc_listing.specs.Listings.{listing}
 use Rattle.command_texts.specs.declared.answer.Answer.{Answer}
 use Rattle.command_texts.specs.declared.answer.Answer.TheVariants.{Done, Usage, ReadFault, WriteFault, Malformed, BadDesc, BadGeometry, BadChain, BadRing, BadText, Rejected, NoMemory}
@@ -24,21 +23,21 @@ use Rattle.command_texts.specs.declared.refusal.Refusal.TheVariants as refusal
 use Rattle.command_texts.specs.Answers.{answer_of}
 use Rattle.command_steps.specs.Outputs.{EndsAtFault, Product, Says, delivered}
 use Rattle.command_steps.specs.Inputs.{OfInput, SameCounts, ReadsRose, WritesRose, apart}
-use Rattle.command_texts.specs.Texts.{answer_text, made_text, report_text}
+use Rattle.command_texts.specs.Texts.{answer_text, made_text}
 use Rattle.stream_play.specs.Plays.{longest_stream}
 use Rattle.command_inputs.specs.Programs.{GivesSound, HoldsProgram, HoldsSound}
 use Rattle.bt878_contract.specs.Tasks.{IsListed}
 use Rattle.chain_model.specs.Chains.{Chain}
 use Rattle.chain_model.specs.Live.{LiveStep}
 use Rattle.chain_law.specs.Runs.{KeepsLivePromises}
-use Rattle.stream_play.specs.Runs.{IsRun, LiveRan, OfRun, Ran, last_of}
+use Rattle.stream_play.specs.Runs.{IsRun, LiveRan, OfRun, Ran}
 use Rattle.stream_play.proofs.Fitting.{steps_fit}
 use Rattle.command_steps.proofs.Inputs.{OfInput-map}
 use Rattle.command_inputs.specs.Descriptions.{GivesCompiled, GivesDescribed, HoldsValid}
 use Rattle.command_inputs.specs.Listings.{GivesAssembled, HoldsListing}
 use Rattle.command_inputs.specs.Rings.{GivesRing, GivesRingProgram, HoldsRing}
 use Rattle.ring_model.specs.Rings.{Ring}
-use Rattle.bt878_contract.specs.Tasks.{Task, Lists, Verifies, Runs, Compiles, Captures, Generates, Chains, Damages, Rings, Assembles, Answers, ChainMakes, ChainOf, DescMakes, Ends, IsDone, IsLiveRun, IsPartDone, IsRefused, ListingMakes, Makes, Reports, ReportsBlocks, TellsRows, RunMakes, RunOf, blocks_of, compiled_text, creates, image_of_run, meaning, no_file, program_and_image, program_file, rows_told, program_text, task_of, task_with}
+use Rattle.bt878_contract.specs.Tasks.{Task, Lists, Verifies, Runs, Compiles, Captures, Generates, Chains, Damages, Rings, Assembles, Answers, ChainOf, DescMakes, Ends, IsDone, IsLiveRun, IsPartDone, IsRefused, ListingMakes, Makes, Reports, ReportsBlocks, TellsRows, RunMakes, RunOf, compiled_text, creates, image_of_run, meaning, no_file, program_and_image, program_file, program_text, task_of, task_with}
 use Rattle.bt878_contract.specs.Clauses.{AreTold, CreatesNone, IsAssembled, IsBadInput, IsCompiled, IsCut, IsInOrder, IsGenerated, IsGood, IsOutput, IsRefusal, IsUnreadOf, IsUsage, OfDesc, OfDescRun, OfLive, OfLiveRun, OfLiveSteps, OfRan, OfRingRun, OfSteps, OnlyOutputs, OnlySays, SameNames, SameOutput, SaysAccepted, SaysAll, SaysBlocks, SaysDamage, SaysListing, ShowsImage, ShowsLast, ShowsLastLive, ShowsProgram, StandsAt, StaysInside, TellsInput, UnlessCut}
 use Rattle.bt878_contract.proofs.Asked.{IsAsked, is_asked}
 use Rattle.bt878_contract.proofs.Inputs.{both-map, first_good, run_file, run_stream, second_good, third_good, three-map}

@@ -1,14 +1,12 @@
 -- Every run of a ring's program shows its blocks, by the law of rings.
-use Rattle.std.proofs.Common.{◌≡◌, ℕ, ◌+◌, ◌%◌, ◌≤◌, false, List, sym, subst}
-use Rattle.machine_model.specs.States.{State, first_state}
-use Rattle.machine_model.specs.Steps.{Step, Turn, state_at}
+use Rattle.std.proofs.Common.{◌≡◌, ◌+◌, false, List, sym, subst}
+use Rattle.machine_model.specs.States.{State}
+use Rattle.machine_model.specs.Steps.{Step, state_at}
 use Rattle.machine_model.specs.Turns.{sets_fdsr}
-use Rattle.picture_law.specs.Runs.{step_at}
-use Rattle.ring_model.specs.Rings.{Ring, ring_program}
 use Rattle.ring_law.specs.RingRuns.{ShowsBlocks}
-use Rattle.ring_law.specs.Runs.{EndsBlockAt, ends_between}
+use Rattle.ring_law.specs.Runs.{ends_between}
 use Rattle.ring_law.proofs.Places.{run_shows_blocks, run_shows_no_fault}
-use Rattle.bt878_contract.specs.Rings.{Begins, RingsShowNoFault, ShowsRings}
+use Rattle.bt878_contract.specs.Rings.{RingsShowNoFault, ShowsRings}
 
 pub rings_shown : (first : State) (steps : List Step) → ShowsRings first steps
 rings_shown first steps ring lines j k block begins e =
