@@ -301,8 +301,8 @@ Stops task refusal old new = StopsIn (meaning task).inputs refusal old new
 
 -- ---- the order of work
 
--- all inputs were opened and read, one after the other, each found good before the next was opened; then the outputs were
--- written, one after the other, and a text was said
+-- all inputs were opened once and read through, one after the other, each found good before the next was opened; then
+-- the outputs were written, one after the other, and a text was said
 abbrev pub IsWholeWork : Task → Option Inputs → List ℕ → List Call → Type 0
 IsWholeWork task told text calls =
     (taking : List Call) × AreTaken (meaning task).inputs told taking × (calls ≡ taking ++ delivery (creates task) text)
@@ -313,7 +313,7 @@ IsPartOfWork task told calls =
     (taking writing : List Call) × AreTaken (meaning task).inputs told taking × IsDeliveryPart (creates task) writing
     × (calls ≡ taking ++ writing)
 
--- some inputs were opened and read, up to the one that stopped; then a text was said, by one run of calls
+-- some inputs were opened and read through, up to the one that stopped; then a text was said, by one run of calls
 abbrev pub IsRefusedWork : Task → Option Inputs → List ℕ → List Call → Type 0
 IsRefusedWork task told text calls =
     (taking : List Call) × AreTakenUpTo (meaning task).inputs told taking × (calls ≡ taking ++ said_by text)
