@@ -5,7 +5,7 @@ use Rattle.machine_model.specs.Paths.{RiscProgram}
 use Rattle.machine_model.specs.States.{State, first_state}
 use Rattle.command_texts.specs.declared.refusal.Refusal.{Refusal}
 use Rattle.command_steps.specs.Inputs.{Input, IsThereAndGood, OfFile, OfInput, StopsAt, apart}
-use Rattle.command_steps.specs.Reading.{OnlyReads, Stopped, Took}
+use Rattle.command_steps.specs.Reading.{OnlyReads, ReadsThrough, Stopped, Took}
 use Rattle.command_steps.proofs.Inputs.{OfInput-map, same_inputs}
 use Rattle.command_steps.proofs.Sequence.{stopped_first, stopped_later, took_first, took_one}
 use Rattle.stream_play.specs.Plays.{HasPlayed, longest_stream}
@@ -59,18 +59,23 @@ module _ (Gives : List ℕ → RiscProgram → ℕ → Type 0) (file stream : Li
       (subst (λ inputs. OfInput stream inputs (λ b. HasPlayed b (first_state program fill) m)) (same_inputs mid old same) played)
 
 -- both inputs are taken
-module _ (input : Input) (stream : List ℕ) (old mid new : Seen) (reads : OnlyReads input.name input.judge.most input.judge.MayGoOn old mid) (quiet : mid.reads ≡ old.reads) (good : IsThereAndGood input old.told.inputs)
+module _ (input : Input) (stream : List ℕ) (old mid new : Seen) (reads : OnlyReads input.name input.judge.most input.judge.MayGoOn old mid)
+    (through : ReadsThrough input.name input.judge.most input.judge.MayGoOn old mid) (good : IsThereAndGood input old.told.inputs)
     (plays : OnlyReads stream longest_stream (HoldsNoFault false) mid new) where
-  pub took_stream : new.reads ≡ mid.reads → OfInput stream mid.told.inputs (HoldsSteps false) → Took (input ∷ a_stream stream ∷ []) old new
-  took_stream still holds = took_first input old mid reads (a_stream stream ∷ []) new quiet good (took_one (a_stream stream) mid new plays still holds)
+  -- the stream was played to its end
+  abbrev PlaysOn : Type 0
+  PlaysOn = ReadsThrough stream longest_stream (HoldsNoFault false) mid new
 
-  pub took_both : (first now : State) → new.reads ≡ mid.reads → OfInput stream mid.told.inputs (λ bytes. HasPlayed bytes first now) → Took (input ∷ a_stream stream ∷ []) old new
-  took_both first now still played =
-      took_stream still (OfInput-map stream mid.told.inputs (λ bytes. HasPlayed bytes first now) (HoldsSteps false) (λ bytes p. (p.0, p.1)) played)
+  pub took_stream : PlaysOn → OfInput stream mid.told.inputs (HoldsSteps false) → Took (input ∷ a_stream stream ∷ []) old new
+  took_stream on holds = took_first input old mid reads (a_stream stream ∷ []) new through good (took_one (a_stream stream) mid new plays on holds)
+
+  pub took_both : (first now : State) → PlaysOn → OfInput stream mid.told.inputs (λ bytes. HasPlayed bytes first now) → Took (input ∷ a_stream stream ∷ []) old new
+  took_both first now on played =
+      took_stream on (OfInput-map stream mid.told.inputs (λ bytes. HasPlayed bytes first now) (HoldsSteps false) (λ bytes p. (p.0, p.1)) played)
 
   pub stopped_at_stream : (refusal : Refusal) → StopsAt (IsBadStream false) stream refusal mid new → Stopped (input ∷ a_stream stream ∷ []) refusal old new
   stopped_at_stream refusal why =
-      stopped_later input old mid reads (a_stream stream ∷ []) refusal new quiet good (stopped_first (a_stream stream) mid new plays [] refusal why)
+      stopped_later input old mid reads (a_stream stream ∷ []) refusal new through good (stopped_first (a_stream stream) mid new plays [] refusal why)
 
 -- a ring file gave the ring, and the stream was played on its machine
 module _ (file stream : List ℕ) (old mid : Told) (ring : Ring) (m : RingState) where

@@ -231,8 +231,9 @@ pub fn bt878<D: Desk>(alloc: Global, words: &[&str], desk: &mut D) -> Answer
         StandsAt (task_of (texts words.now)) (D.seen desk.old).told (D.seen desk.new).told }
 
     // The order of work, where the desk tells its calls. Each input is opened at most once, in the order of the
-    // words, after the one before it was found good. It is read by 65,536 bytes, or by what is left up to
-    // one byte beyond its limit; each piece of a stream only where those before it hold no fault. The outputs
+    // words, after the one before it was read through and found good; where all are taken, exactly once, and read
+    // until its end is found or one byte beyond its limit is read. A read asks for 65,536 bytes, or for what is left
+    // up to that byte; each piece of a stream is read only where those before it hold no fault. The outputs
     // are created in their order, each once and each finished before the next, after all inputs were found
     // good. The text is said last, that of a refusal by one run of calls.
     ensures order { IsInOrder (task_of (texts words.now)) result (D.seen desk.old) (D.seen desk.new) }

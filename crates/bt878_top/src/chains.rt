@@ -6,7 +6,7 @@ ghost use Rattle.bt878_contract.specs.Tasks.{Chains, Ends};
 ghost use Rattle.capture_desk.specs.Desks.{IsAllowed};
 ghost use Rattle.command_inputs.specs.Chains.{IsFrameFile, a_first_description, a_second_description};
 ghost use Rattle.command_steps.specs.Inputs.{OfInput, StopsAt};
-ghost use Rattle.command_steps.specs.Reading.{OnlyReads, Takes};
+ghost use Rattle.command_steps.specs.Reading.{OnlyReads, ReadsThrough, Takes};
 ghost use Rattle.command_texts.specs.Texts.{report_text};
 ghost use Rattle.dma_machine.specs.Facts.{report_of};
 ghost use Rattle.double_buffer.specs.Pairs.{first_of_two};
@@ -46,7 +46,7 @@ fn play_chain<D: Desk>(
     ensures report { IfOk result (λ played. string_bytes played.report ≡ report_text (report_of played.buffer.live.machine)) }
     ensures stops { IfErr result (λ refusal. StopsAt (IsBadStream true) stream.now refusal (D.seen desk.old) (D.seen desk.new)) }
     ensures reads { OnlyReads stream.now longest_stream (HoldsNoFault true) (D.seen desk.old) (D.seen desk.new) }
-    ensures quiet { IfOk result (λ _. (D.seen desk.new).reads ≡ (D.seen desk.old).reads) }
+    ensures through { IfOk result (λ _. ReadsThrough stream.now longest_stream (HoldsNoFault true) (D.seen desk.old) (D.seen desk.new)) }
 {
     let buffer = play_file(alloc, paired.buffer, stream, desk)?;
     match report_text(alloc, &buffer.report()) {

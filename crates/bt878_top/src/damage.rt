@@ -7,7 +7,7 @@ ghost use Rattle.bt878_top.specs.Damage.{TellsPlayed};
 ghost use Rattle.capture_desk.specs.Desks.{IsAllowed};
 ghost use Rattle.command_inputs.specs.Descriptions.{a_description};
 ghost use Rattle.command_steps.specs.Inputs.{OfInput, StopsAt};
-ghost use Rattle.command_steps.specs.Reading.{OnlyReads, Takes};
+ghost use Rattle.command_steps.specs.Reading.{OnlyReads, ReadsThrough, Takes};
 ghost use Rattle.damage_map.specs.Laws.{map_after};
 ghost use Rattle.damage_map.specs.Maps.{rows_of};
 ghost use Rattle.damage_text.specs.Texts.{damage_text};
@@ -60,7 +60,7 @@ fn play_map<D: Desk>(
     ensures played { IfOk result (λ map. OfInput stream.now (D.seen desk.old).told.inputs (λ bytes. HasPlayedMap bytes (map_after checked.now checked.now.fill []) map)) }
     ensures stops { IfErr result (λ refusal. StopsAt (IsBadStream false) stream.now refusal (D.seen desk.old) (D.seen desk.new)) }
     ensures reads { OnlyReads stream.now longest_stream (HoldsNoFault false) (D.seen desk.old) (D.seen desk.new) }
-    ensures quiet { IfOk result (λ _. (D.seen desk.new).reads ≡ (D.seen desk.old).reads) }
+    ensures through { IfOk result (λ _. ReadsThrough stream.now longest_stream (HoldsNoFault false) (D.seen desk.old) (D.seen desk.new)) }
 {
     let map = match map_of(alloc, checked) {
         Ok(map) => map,
@@ -95,7 +95,7 @@ fn tell_rows<D: Desk>(
     ensures told { IfOk result (λ text. OfInput stream.now (D.seen desk.old).told.inputs (λ bytes. TellsPlayed bytes checked.now (string_bytes text))) }
     ensures stops { IfErr result (λ refusal. StopsAt (IsBadStream false) stream.now refusal (D.seen desk.old) (D.seen desk.new)) }
     ensures reads { OnlyReads stream.now longest_stream (HoldsNoFault false) (D.seen desk.old) (D.seen desk.new) }
-    ensures quiet { IfOk result (λ _. (D.seen desk.new).reads ≡ (D.seen desk.old).reads) }
+    ensures through { IfOk result (λ _. ReadsThrough stream.now longest_stream (HoldsNoFault false) (D.seen desk.old) (D.seen desk.new)) }
 {
     let map = play_map(alloc, checked, stream, desk)?;
     match rows_text(alloc, checked, &map) {

@@ -5,7 +5,7 @@ ghost use Rattle.bt878_contract.specs.Tasks.{Captures, Ends, Generates};
 ghost use Rattle.capture_desk.specs.Desks.{IsAllowed};
 ghost use Rattle.command_inputs.specs.Descriptions.{Describes, IsBadDesc, longest_description};
 ghost use Rattle.command_steps.specs.Inputs.{Always, OfInput, StopsAt};
-ghost use Rattle.command_steps.specs.Reading.{OnlyReads};
+ghost use Rattle.command_steps.specs.Reading.{OnlyReads, ReadsThrough};
 ghost use Rattle.command_texts.specs.Texts.{made_text};
 ghost use Rattle.field_stream.specs.Made.{made_entries, made_fields};
 
@@ -72,7 +72,7 @@ fn count_file<D: Desk>(
     ensures text { IfOk result (λ counted. string_bytes counted.text ≡ made_text (made_fields counted.checked frames) (made_entries counted.checked frames)) }
     ensures stops { IfErr result (λ refusal. StopsAt IsBadDesc name.now refusal (D.seen desk.old) (D.seen desk.new)) }
     ensures reads { OnlyReads name.now longest_description Always (D.seen desk.old) (D.seen desk.new) }
-    ensures quiet { IfOk result (λ _. (D.seen desk.new).reads ≡ (D.seen desk.old).reads) }
+    ensures through { IfOk result (λ _. ReadsThrough name.now longest_description Always (D.seen desk.old) (D.seen desk.new)) }
 {
     let checked = check_file(alloc, name, desk)?;
     let counts = Made::of(checked.frame(), frames);

@@ -1,13 +1,13 @@
 //! A program file that is listed.
 
-ghost use Rattle.std.specs.Prelude.{◌≡◌, [], IfErr, IfOk};
+ghost use Rattle.std.specs.Prelude.{[], IfErr, IfOk};
 ghost use Rattle.bt878_contract.specs.Tasks.{IsListed};
 ghost use Rattle.bt878_top.specs.Contents.{listing_with};
 ghost use Rattle.capture_desk.specs.Desks.{IsAllowed, Puts, SayCounts, after_say};
 ghost use Rattle.command_inputs.specs.Programs.{IsBadFile, longest_program};
 ghost use Rattle.command_steps.specs.Inputs.{Always, OfInput, StopsAt};
 ghost use Rattle.command_steps.specs.Outputs.{Finishes};
-ghost use Rattle.command_steps.specs.Reading.{OnlyReads};
+ghost use Rattle.command_steps.specs.Reading.{OnlyReads, ReadsThrough};
 ghost use Rattle.risc_listing.specs.Listings.{base_line, word_lines};
 
 use capture_desk::{Desk, Failed, say_all};
@@ -33,7 +33,7 @@ pub fn list_file<D: Desk>(alloc: Global, name: &str, desk: &mut D) -> Result<Lis
     ensures lists { IfOk result (λ listed. OfInput name.now (D.seen desk.old).told.inputs (λ bytes. IsListed bytes (listing_with listed.program listed.memory.items))) }
     ensures stops { IfErr result (λ refusal. StopsAt IsBadFile name.now refusal (D.seen desk.old) (D.seen desk.new)) }
     ensures reads { OnlyReads name.now longest_program Always (D.seen desk.old) (D.seen desk.new) }
-    ensures quiet { IfOk result (λ _. (D.seen desk.new).reads ≡ (D.seen desk.old).reads) }
+    ensures through { IfOk result (λ _. ReadsThrough name.now longest_program Always (D.seen desk.old) (D.seen desk.new)) }
 {
     let ProgramFile { program, fill } = read_file(alloc, name, desk)?;
     match memory_lines(alloc, program.grants(), fill) {

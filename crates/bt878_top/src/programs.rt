@@ -8,7 +8,7 @@ ghost use Rattle.capture_file.specs.Programs.{spelled};
 ghost use Rattle.command_inputs.specs.Descriptions.{GivesCompiled, IsBadDesc, longest_description};
 ghost use Rattle.command_inputs.specs.Listings.{GivesAssembled, IsBadText};
 ghost use Rattle.command_steps.specs.Inputs.{Always, OfInput, StopsAt};
-ghost use Rattle.command_steps.specs.Reading.{OnlyReads};
+ghost use Rattle.command_steps.specs.Reading.{OnlyReads, ReadsThrough};
 ghost use Rattle.risc_asm.specs.Answers.{most_bytes};
 
 use crate::contents::Contents;
@@ -62,7 +62,7 @@ fn build_file<D: Desk>(alloc: Global, desc: &str, desk: &mut D) -> Result<Built,
     ensures text { IfOk result (λ built. string_bytes built.text ≡ program_text built.program) }
     ensures stops { IfErr result (λ refusal. StopsAt IsBadDesc desc.now refusal (D.seen desk.old) (D.seen desk.new)) }
     ensures reads { OnlyReads desc.now longest_description Always (D.seen desk.old) (D.seen desk.new) }
-    ensures quiet { IfOk result (λ _. (D.seen desk.new).reads ≡ (D.seen desk.old).reads) }
+    ensures through { IfOk result (λ _. ReadsThrough desc.now longest_description Always (D.seen desk.old) (D.seen desk.new)) }
 {
     let checked = check_file(alloc, desc, desk)?;
     let fill = checked.fill();
@@ -79,7 +79,7 @@ fn build_text<D: Desk>(alloc: Global, text: &str, desk: &mut D) -> Result<Built,
     ensures text { IfOk result (λ built. string_bytes built.text ≡ program_text built.program) }
     ensures stops { IfErr result (λ refusal. StopsAt IsBadText text.now refusal (D.seen desk.old) (D.seen desk.new)) }
     ensures reads { OnlyReads text.now most_bytes Always (D.seen desk.old) (D.seen desk.new) }
-    ensures quiet { IfOk result (λ _. (D.seen desk.new).reads ≡ (D.seen desk.old).reads) }
+    ensures through { IfOk result (λ _. ReadsThrough text.now most_bytes Always (D.seen desk.old) (D.seen desk.new)) }
 {
     let ProgramFile { program, fill } = assemble_file(alloc, text, desk)?;
     Built::new(alloc, program, fill)

@@ -7,7 +7,7 @@ ghost use Rattle.bt878_top.specs.Rings.{ShowsRing};
 ghost use Rattle.capture_desk.specs.Desks.{IsAllowed};
 ghost use Rattle.command_inputs.specs.Rings.{a_ring};
 ghost use Rattle.command_steps.specs.Inputs.{OfInput, StopsAt};
-ghost use Rattle.command_steps.specs.Reading.{OnlyReads, Takes};
+ghost use Rattle.command_steps.specs.Reading.{OnlyReads, ReadsThrough, Takes};
 ghost use Rattle.command_texts.specs.Texts.{blocks_text};
 ghost use Rattle.dma_machine.specs.Facts.{report_of};
 ghost use Rattle.machine_model.specs.States.{first_state};
@@ -65,7 +65,7 @@ fn play_on_ring<D: Desk>(
     ensures played { IfOk result (λ m. OfInput stream.now (D.seen desk.old).told.inputs (λ bytes. HasPlayedRing bytes ring (first_state (ring_program ring) ring.fill) m)) }
     ensures stops { IfErr result (λ refusal. StopsAt (IsBadStream false) stream.now refusal (D.seen desk.old) (D.seen desk.new)) }
     ensures reads { OnlyReads stream.now longest_stream (HoldsNoFault false) (D.seen desk.old) (D.seen desk.new) }
-    ensures quiet { IfOk result (λ _. (D.seen desk.new).reads ≡ (D.seen desk.old).reads) }
+    ensures through { IfOk result (λ _. ReadsThrough stream.now longest_stream (HoldsNoFault false) (D.seen desk.old) (D.seen desk.new)) }
 {
     let machine = match machine_of_ring(alloc, ring) {
         Ok(machine) => machine,
@@ -90,7 +90,7 @@ fn play_ring<D: Desk>(
     ensures text { IfOk result (λ played. string_bytes played.text ≡ blocks_text played.machine.blocks (report_of played.machine.machine)) }
     ensures stops { IfErr result (λ refusal. StopsAt (IsBadStream false) stream.now refusal (D.seen desk.old) (D.seen desk.new)) }
     ensures reads { OnlyReads stream.now longest_stream (HoldsNoFault false) (D.seen desk.old) (D.seen desk.new) }
-    ensures quiet { IfOk result (λ _. (D.seen desk.new).reads ≡ (D.seen desk.old).reads) }
+    ensures through { IfOk result (λ _. ReadsThrough stream.now longest_stream (HoldsNoFault false) (D.seen desk.old) (D.seen desk.new)) }
 {
     let machine = play_on_ring(alloc, ring, stream, desk)?;
     match blocks_text(alloc, machine.blocks(), &machine.report()) {

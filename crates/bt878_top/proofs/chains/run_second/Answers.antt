@@ -26,9 +26,9 @@ returns-in-Ok-play_chain-clause-takes g c =
     let e = c.in-Ok.ensures in
     let inputs = (see c.args.desk.now).told.inputs in
     let second = c.in-Ok.paired.second in
-    took_first (a_second_description c.args.first_file.now c.args.second_file.now) (see c.args.desk.now) (see c.buffer_file.new.desk) e.reads (a_stream_file true c.args.stream.now ∷ []) (see c.play_chain.new.desk) e.quiet
+    took_first (a_second_description c.args.first_file.now c.args.second_file.now) (see c.args.desk.now) (see c.buffer_file.new.desk) e.reads (a_stream_file true c.args.stream.now ∷ []) (see c.play_chain.new.desk) e.through
     (second_is_good c.args.first_file.now c.args.second_file.now inputs c.args.first.now second e.pair c.requires.first e.second)
-    (took_one (a_stream_file true c.args.stream.now) (see c.buffer_file.new.desk) (see c.play_chain.new.desk) c.in-Ok-play_chain.ensures.reads c.in-Ok-play_chain.ensures.quiet
+    (took_one (a_stream_file true c.args.stream.now) (see c.buffer_file.new.desk) (see c.play_chain.new.desk) c.in-Ok-play_chain.ensures.reads c.in-Ok-play_chain.ensures.through
     (OfInput-map c.args.stream.now (see c.buffer_file.new.desk).told.inputs (λ bytes. HasPlayedChain bytes c.args.first.now second c.in-Ok-play_chain.played.buffer) (HoldsSteps true) (λ bytes p. (p.0, p.1))
     c.in-Ok-play_chain.ensures.played))
 
@@ -38,6 +38,6 @@ returns-in-Err-play_chain-clause-takes g c =
     let e = c.in-Ok.ensures in
     let inputs = (see c.args.desk.now).told.inputs in
     stopped_later (a_second_description c.args.first_file.now c.args.second_file.now) (see c.args.desk.now) (see c.buffer_file.new.desk) e.reads (a_stream_file true c.args.stream.now ∷ []) c.in-Err-play_chain.refusal
-    (see c.play_chain.new.desk) e.quiet
+    (see c.play_chain.new.desk) e.through
     (second_is_good c.args.first_file.now c.args.second_file.now inputs c.args.first.now c.in-Ok.paired.second e.pair c.requires.first e.second)
     (stopped_first (a_stream_file true c.args.stream.now) (see c.buffer_file.new.desk) (see c.play_chain.new.desk) c.in-Err-play_chain.ensures.reads [] c.in-Err-play_chain.refusal c.in-Err-play_chain.ensures.stops)

@@ -14,7 +14,7 @@ returns-in-Ok g c =
     let text = listing_with c.in-Ok.listed.program c.in-Ok.listed.memory.items in
     let name = c.args.program.now in
     ends_finished (Lists name) [] text (see c.args.desk.now) (see c.list_file.new.desk) (see c.say_whole.new.desk)
-    (took_one (a_program name) (see c.args.desk.now) (see c.list_file.new.desk) e.reads e.quiet
+    (took_one (a_program name) (see c.args.desk.now) (see c.list_file.new.desk) e.reads e.through
     (OfInput-map name (see c.args.desk.now).told.inputs (λ bytes. IsListed bytes text) HoldsProgram (λ bytes is. (is.0, is.1)) e.lists))
     c.say_whole.result (e.lists, tt) refl c.say_whole.ensures
 

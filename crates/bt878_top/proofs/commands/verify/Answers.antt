@@ -21,7 +21,7 @@ returns g c =
     let loaded = c.in-Ok.field-0 in
     let good = sound c.args.program.now (see c.args.desk.now).told.inputs loaded.accepted loaded.fill e.accepts in
     ends_finished (Verifies c.args.program.now) [] accepted_text (see c.args.desk.now) (see c.accept.new.desk) (see c.finish.new.desk)
-    (took_one (a_sound_program c.args.program.now) (see c.args.desk.now) (see c.accept.new.desk) e.reads e.quiet good)
+    (took_one (a_sound_program c.args.program.now) (see c.args.desk.now) (see c.accept.new.desk) e.reads e.through good)
     c.finish.result (good, refl) refl c.finish.ensures
 
 pub returns-in-Err : goal.returns-in-Err

@@ -18,8 +18,8 @@ returns-in-Ok-clause-takes g c =
     let see = g.D.Desk.seen in
     let e = c.in_ok-checked.ensures in
     let d = c.in_ok-checked.checked in
-    took_stream (a_description c.args.desc.now) c.args.stream.now (see c.args.desk.now) (see c.check_file.new.desk) (see c.tell_rows.new.desk) e.reads e.quiet
-    (OfInput-map c.args.desc.now (see c.args.desk.now).told.inputs (λ bytes. Describes bytes d) HoldsValid (λ bytes h. (d, h)) e.describes) c.in-Ok.ensures.reads c.in-Ok.ensures.quiet
+    took_stream (a_description c.args.desc.now) c.args.stream.now (see c.args.desk.now) (see c.check_file.new.desk) (see c.tell_rows.new.desk) e.reads e.through
+    (OfInput-map c.args.desc.now (see c.args.desk.now).told.inputs (λ bytes. Describes bytes d) HoldsValid (λ bytes h. (d, h)) e.describes) c.in-Ok.ensures.reads c.in-Ok.ensures.through
     (OfInput-map c.args.stream.now (see c.check_file.new.desk).told.inputs (λ bytes. TellsPlayed bytes d (string_bytes c.in-Ok.text)) (HoldsSteps false) (λ bytes p. (p.played.0, p.played.1)) c.in-Ok.ensures.told)
 
 pub returns-clause-takes : goal.returns-clause-takes
@@ -27,6 +27,6 @@ returns-clause-takes g c =
     let see = g.D.Desk.seen in
     let e = c.in_ok-checked.ensures in
     let d = c.in_ok-checked.checked in
-    stopped_at_stream (a_description c.args.desc.now) c.args.stream.now (see c.args.desk.now) (see c.check_file.new.desk) (see c.tell_rows.new.desk) e.reads e.quiet
+    stopped_at_stream (a_description c.args.desc.now) c.args.stream.now (see c.args.desk.now) (see c.check_file.new.desk) (see c.tell_rows.new.desk) e.reads e.through
     (OfInput-map c.args.desc.now (see c.args.desk.now).told.inputs (λ bytes. Describes bytes d) HoldsValid (λ bytes h. (d, h)) e.describes) c.in-Err.ensures.reads
     c.in-Err.refusal c.in-Err.ensures.stops

@@ -30,7 +30,7 @@ returns g c =
     let task = Generates c.args.desc.now c.args.seed c.args.frames c.args.stream.now in
     let file = made d c.args.seed c.args.frames in
     ends_finished task ((c.args.stream.now, file) ∷ []) c.deref.result.now (see c.args.desk.now) (see c.count_file.new.desk) (see c.finish.new.desk)
-    (took_one (a_description c.args.desc.now) (see c.args.desk.now) (see c.count_file.new.desk) e.reads e.quiet
+    (took_one (a_description c.args.desc.now) (see c.args.desk.now) (see c.count_file.new.desk) e.reads e.through
     (OfInput-map c.args.desc.now (see c.args.desk.now).told.inputs (λ bytes. Describes bytes d) HoldsValid (λ bytes h. (d, h)) e.described))
     c.finish.result
     (subst (λ text. Makes task (see c.args.desk.now).told.inputs (record { files = (c.args.stream.now, file) ∷ []; text = text })) (sym (c.deref.ensures ∙ e.text))

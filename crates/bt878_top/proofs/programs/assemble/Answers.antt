@@ -32,7 +32,7 @@ returns g c =
     let task = Assembles c.args.text.now c.args.program.now in
     let file = spelled built.program built.fill in
     ends_finished task ((c.args.program.now, file) ∷ []) c.deref.result.now (see c.args.desk.now) (see c.build_text.new.desk) (see c.finish.new.desk)
-    (took_one (a_listing c.args.text.now) (see c.args.desk.now) (see c.build_text.new.desk) e.reads e.quiet
+    (took_one (a_listing c.args.text.now) (see c.args.desk.now) (see c.build_text.new.desk) e.reads e.through
     (OfInput-map c.args.text.now (see c.args.desk.now).told.inputs (λ bytes. GivesAssembled bytes (record { program = built.program; fill = built.fill })) HoldsListing
     (λ bytes h. (record { program = built.program; fill = built.fill }, h)) e.built))
     c.finish.result

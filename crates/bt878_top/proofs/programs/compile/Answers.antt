@@ -32,7 +32,7 @@ returns g c =
     let task = Compiles c.args.desc.now c.args.program.now in
     let file = spelled built.program built.fill in
     ends_finished task ((c.args.program.now, file) ∷ []) c.deref.result.now (see c.args.desk.now) (see c.build_file.new.desk) (see c.finish.new.desk)
-    (took_one (a_description c.args.desc.now) (see c.args.desk.now) (see c.build_file.new.desk) e.reads e.quiet
+    (took_one (a_description c.args.desc.now) (see c.args.desk.now) (see c.build_file.new.desk) e.reads e.through
     (OfInput-map c.args.desc.now (see c.args.desk.now).told.inputs (λ bytes. GivesCompiled bytes built.program built.fill) HoldsValid (λ bytes h. (h.description, h.describes)) e.built))
     c.finish.result
     (subst (λ text. Makes task (see c.args.desk.now).told.inputs (record { files = (c.args.program.now, file) ∷ []; text = text })) (sym (c.deref.ensures ∙ e.text))

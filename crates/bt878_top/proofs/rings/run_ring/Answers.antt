@@ -19,8 +19,8 @@ returns-in-Ok-clause-takes g c =
     let e = c.in_ok-ring.ensures in
     let ring = c.in_ok-ring.ring in
     let first = first_state (ring_program ring) ring.fill in
-    took_stream (a_ring c.args.ring.now) c.args.stream.now (see c.args.desk.now) (see c.ring_file.new.desk) (see c.play_ring.new.desk) e.reads e.quiet
-    (OfInput-map c.args.ring.now (see c.args.desk.now).told.inputs (λ bytes. IsRingFile bytes ring) HoldsRing (λ bytes h. (ring, h)) e.ring) c.in-Ok.ensures.reads c.in-Ok.ensures.quiet
+    took_stream (a_ring c.args.ring.now) c.args.stream.now (see c.args.desk.now) (see c.ring_file.new.desk) (see c.play_ring.new.desk) e.reads e.through
+    (OfInput-map c.args.ring.now (see c.args.desk.now).told.inputs (λ bytes. IsRingFile bytes ring) HoldsRing (λ bytes h. (ring, h)) e.ring) c.in-Ok.ensures.reads c.in-Ok.ensures.through
     (OfInput-map c.args.stream.now (see c.ring_file.new.desk).told.inputs (λ bytes. HasPlayedRing bytes ring first c.in-Ok.played.machine) (HoldsSteps false) (λ bytes p. (p.0, p.1)) c.in-Ok.ensures.played)
 
 pub returns-in-Err-clause-takes : goal.returns-in-Err-clause-takes
@@ -28,6 +28,6 @@ returns-in-Err-clause-takes g c =
     let see = g.D.Desk.seen in
     let e = c.in_ok-ring.ensures in
     let ring = c.in_ok-ring.ring in
-    stopped_at_stream (a_ring c.args.ring.now) c.args.stream.now (see c.args.desk.now) (see c.ring_file.new.desk) (see c.play_ring.new.desk) e.reads e.quiet
+    stopped_at_stream (a_ring c.args.ring.now) c.args.stream.now (see c.args.desk.now) (see c.ring_file.new.desk) (see c.play_ring.new.desk) e.reads e.through
     (OfInput-map c.args.ring.now (see c.args.desk.now).told.inputs (λ bytes. IsRingFile bytes ring) HoldsRing (λ bytes h. (ring, h)) e.ring) c.in-Err.ensures.reads
     c.in-Err.refusal c.in-Err.ensures.stops

@@ -29,16 +29,16 @@ returns-in-Ok-play_program-clause-takes g c =
     let see = g.D.Desk.seen in
     let e = c.in_ok-checked.ensures in
     let d = c.in_ok-checked.checked in
-    took_both (a_description c.args.desc.now) c.args.stream.now (see c.args.desk.now) (see c.check_file.new.desk) (see c.play_program.new.desk) e.reads e.quiet
+    took_both (a_description c.args.desc.now) c.args.stream.now (see c.args.desk.now) (see c.check_file.new.desk) (see c.play_program.new.desk) e.reads e.through
     (OfInput-map c.args.desc.now (see c.args.desk.now).told.inputs (λ bytes. Describes bytes d) HoldsValid (λ bytes h. (d, h)) e.describes) c.in-Ok-play_program.ensures.reads
-    (first_state c.in-Ok.accepted c.fill-fill.result) c.in-Ok-play_program.played.machine c.in-Ok-play_program.ensures.quiet c.in-Ok-play_program.ensures.played
+    (first_state c.in-Ok.accepted c.fill-fill.result) c.in-Ok-play_program.played.machine c.in-Ok-play_program.ensures.through c.in-Ok-play_program.ensures.played
 
 pub returns-in-Err-play_program-clause-takes : goal.returns-in-Err-play_program-clause-takes
 returns-in-Err-play_program-clause-takes g c =
     let see = g.D.Desk.seen in
     let e = c.in_ok-checked.ensures in
     let d = c.in_ok-checked.checked in
-    stopped_at_stream (a_description c.args.desc.now) c.args.stream.now (see c.args.desk.now) (see c.check_file.new.desk) (see c.play_program.new.desk) e.reads e.quiet
+    stopped_at_stream (a_description c.args.desc.now) c.args.stream.now (see c.args.desk.now) (see c.check_file.new.desk) (see c.play_program.new.desk) e.reads e.through
     (OfInput-map c.args.desc.now (see c.args.desk.now).told.inputs (λ bytes. Describes bytes d) HoldsValid (λ bytes h. (d, h)) e.describes) c.in-Err-play_program.ensures.reads
     c.in-Err-play_program.refusal c.in-Err-play_program.ensures.stops
 

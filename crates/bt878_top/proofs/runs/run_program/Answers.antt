@@ -23,14 +23,14 @@ returns-in-Ok-clause-takes g c =
     let see = g.D.Desk.seen in
     let e = c.in_ok-accepted.ensures in
     let loaded = c.in_ok-accepted.field-0 in
-    took_both (a_sound_program c.args.program.now) c.args.stream.now (see c.args.desk.now) (see c.accept.new.desk) (see c.play_program.new.desk) e.reads e.quiet
+    took_both (a_sound_program c.args.program.now) c.args.stream.now (see c.args.desk.now) (see c.accept.new.desk) (see c.play_program.new.desk) e.reads e.through
     (good c.args.program.now (see c.args.desk.now).told.inputs loaded.accepted loaded.fill e.accepts) c.in-Ok.ensures.reads
-    (first_state loaded.accepted loaded.fill) c.in-Ok.played.machine c.in-Ok.ensures.quiet c.in-Ok.ensures.played
+    (first_state loaded.accepted loaded.fill) c.in-Ok.played.machine c.in-Ok.ensures.through c.in-Ok.ensures.played
 
 pub returns-in-Err-clause-takes : goal.returns-in-Err-clause-takes
 returns-in-Err-clause-takes g c =
     let see = g.D.Desk.seen in
     let e = c.in_ok-accepted.ensures in
     let loaded = c.in_ok-accepted.field-0 in
-    stopped_at_stream (a_sound_program c.args.program.now) c.args.stream.now (see c.args.desk.now) (see c.accept.new.desk) (see c.play_program.new.desk) e.reads e.quiet
+    stopped_at_stream (a_sound_program c.args.program.now) c.args.stream.now (see c.args.desk.now) (see c.accept.new.desk) (see c.play_program.new.desk) e.reads e.through
     (good c.args.program.now (see c.args.desk.now).told.inputs loaded.accepted loaded.fill e.accepts) c.in-Err.ensures.reads c.in-Err.refusal c.in-Err.ensures.stops
