@@ -1,8 +1,7 @@
 -- What a turn does has nothing to do with the count of turns.
-use Rattle.std.proofs.Common.{◌≡◌, ℕ, zero, suc, ◌-◌, ◌≤◌, ◌^◌, replicate, refl, sym, ap, ◌∙◌, arith}
+use Rattle.std.proofs.Common.{◌≡◌, ℕ, sym, ap, ◌∙◌}
 use Rattle.fifo_model.specs.Queues.{more}
 use Rattle.machine_model.specs.States.{State}
-use Rattle.machine_model.specs.Steps.{Turn, run}
 use Rattle.machine_model.specs.Turns.{turn}
 use Rattle.machine_model.proofs.SameTurn.{turn_if-turns}
 use Rattle.dma_machine.specs.Counts.{acted, with_turns}
@@ -19,16 +18,3 @@ pub acted-counted : (m : State) → with_turns (more (acted m).turns 1) (acted m
 acted-counted m =
     let same : (acted m).turns ≡ m.turns = ap (λ after. after.turns) (acted-turns m.turns m) in
     ap (λ turns. with_turns (more turns 1) (acted m)) same ∙ sym (turn-acted m)
-
--- so many turns count as many
-pub run-turns : (count : ℕ) (m : State) → m.turns ≤ 2 ^ 64 - 1 → (run m (replicate count Turn)).turns ≡ more m.turns count
-run-turns zero m few = omega arith
-run-turns (suc count) m few =
-    let one : (turn m).turns ≡ more m.turns 1 = ap (λ after. after.turns) (turn-acted m) in
-    let all : more (turn m).turns count ≡ more m.turns (suc count) = omega arith in
-    run-turns count (turn m) (omega arith) ∙ all
-
--- a turn more at the end
-pub run-last : (count : ℕ) (m : State) → run m (replicate (suc count) Turn) ≡ turn (run m (replicate count Turn))
-run-last zero m = refl
-run-last (suc count) m = run-last count (turn m)

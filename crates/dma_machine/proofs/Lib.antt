@@ -4,6 +4,7 @@ pub mod Bursts
 pub mod Counting
 pub mod Machines
 pub mod WholeTakes
+pub mod FallThrough
 pub mod Standing
 pub mod Stills
 pub mod Turns

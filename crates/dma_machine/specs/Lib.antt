@@ -1,6 +1,7 @@
 pub mod Facts
 pub mod Needs
 pub mod WholeTakes
+pub mod FallThrough
 pub mod Stills
 pub mod Views
 pub mod Counts

@@ -2,7 +2,8 @@
 //! that the program may write. All rules of how it finds its way after a broken line are this project's own.
 #![tactic(auto)]
 
-ghost use Rattle.dma_machine.specs.Counts.{acted, with_turns};
+ghost use Rattle.dma_machine.specs.Counts.{acted, acted_times, with_turns};
+ghost use Rattle.dma_machine.specs.FallThrough.{falls_through};
 ghost use Rattle.dma_machine.specs.Facts.{IsMachine, report_of};
 ghost use Rattle.dma_machine.specs.Looks.{CanGoOn, RetiresAt, holds, next_fetch, next_retirement};
 ghost use Rattle.dma_machine.specs.Stills.{is_still};
@@ -157,6 +158,22 @@ impl<R: Ram> Machine<R> {
         }
     }
 
+    /// Takes so many turns, which are counted, one after the other.
+    #[inline(always)]
+    fn act_all(&mut self, count: u32)
+        requires { IsMachine self.old }
+        ensures state { self.new ≡ acted_times count self.old }
+        ensures facts { IsMachine self.new }
+    {
+        for turn in 0..count {
+            if self.is_known_still() {
+                self.stay(count - turn);
+                return;
+            }
+            self.act();
+        }
+    }
+
     /// So many turns of the controller: they are counted, and then taken one after the other.
     #[inline(never)]
     pub fn turns(&mut self, count: u32)
@@ -164,12 +181,60 @@ impl<R: Ram> Machine<R> {
         ensures facts { IsMachine self.new }
     {
         self.count(count);
-        for turn in 0..count {
-            self.act();
-            if self.is_known_still() {
-                self.stay(count - turn - 1);
-                return;
-            }
+        self.act_all(count);
+    }
+
+    /// A push of a data entry that falls through its queue, and the turn behind it, which is not counted yet.
+    #[inline(always)]
+    fn fall_through(&mut self, q: Queue, e: Entry)
+        requires data { is_control (kind_of e.status) ≡ false }
+        requires falls { falls_through q e.status self.old ≡ true }
+        ensures state { self.new ≡ acted (push q e self.old) }
+        ensures facts { IsMachine self.new }
+    {
+        self.engine.fall_through(q, e);
+    }
+
+    /// A push, and then so many turns.
+    #[inline(never)]
+    fn push_apart(&mut self, q: Queue, e: Entry, count: u32)
+        requires { is_control (kind_of e.status) ≡ false }
+        ensures state { self.new ≡ run (push q e self.old) (replicate count Turn) }
+        ensures facts { IsMachine self.new }
+    {
+        self.push(q, e);
+        self.turns(count);
+    }
+
+    /// The same of an entry that may fall through its queue.
+    #[inline(always)]
+    fn push_through(&mut self, q: Queue, e: Entry, count: u32)
+        requires { is_control (kind_of e.status) ≡ false }
+        ensures state { self.new ≡ run (push q e self.old) (replicate count Turn) }
+        ensures facts { IsMachine self.new }
+    {
+        let falls = self.engine.falls_through(q, e.status);
+        if falls && count > 0 {
+            self.fall_through(q, e);
+            self.count(count);
+            self.act_all(count - 1);
+        } else {
+            self.push_apart(q, e, count);
+        }
+    }
+
+    /// A push of a data entry to a queue, and so many turns of the controller behind it, as a stream mostly has them. Where
+    /// the first of these turns takes the entry whole, it need not stand in its queue. Each queue has code of its own.
+    #[inline(never)]
+    pub fn push_and_turns(&mut self, q: Queue, e: Entry, count: u32)
+        requires { is_control (kind_of e.status) ≡ false }
+        ensures state { self.new ≡ run (push q e self.old) (replicate count Turn) }
+        ensures facts { IsMachine self.new }
+    {
+        match q {
+            Queue::One => self.push_through(Queue::One, e, count),
+            Queue::Two => self.push_through(Queue::Two, e, count),
+            Queue::Three => self.push_through(Queue::Three, e, count),
         }
     }
 

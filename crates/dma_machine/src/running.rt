@@ -7,18 +7,40 @@ use fifo_model::{Entry, Queue};
 use irq_status::FDSR;
 use machine_model::Skipping;
 use page_ram::Ram;
-use sync_status::{Verdict, judge};
+use sync_status::{Status, Verdict, judge};
 
 impl<R: Ram> Engine<R> {
-    ghost use Rattle.dma_machine.specs.Needs.{Applied, IsAddress};
+    ghost use Rattle.dma_machine.specs.Counts.{acted};
+    ghost use Rattle.dma_machine.specs.FallThrough.{falls_through, none_before, put_down};
+    ghost use Rattle.dma_machine.specs.Needs.{Applied, CanWork, IsAddress};
     ghost use Rattle.dma_machine.specs.Views.{state_of};
-    ghost use Rattle.fifo_model.specs.Queues.{front, front_code, queue_state, removed};
+    ghost use Rattle.fifo_model.specs.Queues.{IsFifo, front, front_code, queue_state, removed};
     ghost use Rattle.machine_model.specs.Paths.{demands_cause};
+    ghost use Rattle.machine_model.specs.Steps.{push};
     ghost use Rattle.machine_model.specs.Turns.{apply, burst, burst_of, demand_on, is_cut_short, is_done, is_served, judged, lowest_served, ran, served, taking, took, verdict_at, with_fdsr, with_queue};
     ghost use Rattle.page_table.specs.Blocks.{chunks_of};
-    ghost use Rattle.dma_machine.specs.Stills.{none_served, runs_still};
-    ghost use Rattle.std.specs.Prelude.{◌≡◌, ◌+◌, ◌≤◌, IsSome, None, Some, false, true};
+    ghost use Rattle.dma_machine.specs.Stills.{StillIf, none_served, runs_still};
+    ghost use Rattle.std.specs.Prelude.{◌≡◌, ◌+◌, ◌≤◌, length, IsSome, None, Some, false, true};
     ghost use Rattle.sync_status.specs.Statuses.{valid_bytes};
+
+    /// Stores so many bytes that were taken of a queue, those whose lane is on, and takes them off what is asked.
+    #[inline(always)]
+    fn put_down(&mut self, q: Queue, count: u8, lane: u8, bytes: &[u8])
+        requires running { self.old.phase ≡ Phase.Running }
+        requires all { length bytes.now ≡ count }
+        requires lanes { lane + count ≤ 4 }
+        requires asked { count ≤ (demand_on q self.old.demands).rest }
+        requires within { demands_cause (chunks_of (R.memory self.old.ram)) self.old.demands ≡ None }
+        ensures state { state_of R.memory self.new ≡ put_down q count self.old.instr self.old.demands lane bytes.now (state_of R.memory self.old) }
+        ensures running { self.new.phase ≡ Phase.Running }
+        ensures same { self.new.instr ≡ self.old.instr }
+        ensures within { demands_cause (chunks_of (R.memory self.new.ram)) self.new.demands ≡ None }
+    {
+        let demand = demand_on(&self.demands, q);
+        let stored = store_at(&mut self.ram, demand.address, self.off, lane, bytes);
+        self.moved = self.moved.saturating_add(stored);
+        lessen(&mut self.demands, q, count);
+    }
 
     /// Takes bytes of a queue's front and stores those whose lane is on; whether the line ends before the
     /// instruction has what it asks for.
@@ -35,19 +57,11 @@ impl<R: Ram> Engine<R> {
         ensures same { self.new.instr ≡ self.old.instr }
         ensures within { demands_cause (chunks_of (R.memory self.new.ram)) self.new.demands ≡ None }
     {
-        let demand = demand_on(&self.demands, q);
+        let rest = demand_on(&self.demands, q).rest;
         let mut bytes = [0; 4];
         let part = self.queues.take(q, n, &mut bytes);
-        let stored = store_at(
-            &mut self.ram,
-            demand.address,
-            self.off,
-            part,
-            &bytes[..usize::from(n)],
-        );
-        self.moved = self.moved.saturating_add(stored);
-        lessen(&mut self.demands, q, n);
-        is_cut_short(entry, part, n, demand.rest)
+        self.put_down(q, n, part, &bytes[..usize::from(n)]);
+        is_cut_short(entry, part, n, rest)
     }
 
     #[inline(always)]
@@ -237,5 +251,50 @@ impl<R: Ram> Engine<R> {
         } else {
             self.burst_lowest()
         }
+    }
+
+    /// Whether no queue before this one is served.
+    #[inline(always)]
+    fn none_before(&self, q: Queue) -> bool
+        ensures { result ≡ none_before q self.now.demands (state_of R.memory self.now) }
+    {
+        match q {
+            Queue::One => true,
+            Queue::Two => !self.is_served(Queue::One),
+            Queue::Three => !self.is_served(Queue::One) && !self.is_served(Queue::Two),
+        }
+    }
+
+    /// Whether an entry of this status falls through its queue where it is pushed now: the turn behind its push takes it whole.
+    #[inline(always)]
+    pub fn falls_through(&self, q: Queue, status: Status) -> bool
+        ensures { result ≡ falls_through q status (state_of R.memory self.now) }
+    {
+        if !self.fifo_on || !self.risc_on {
+            return false;
+        }
+        let demand = demand_on(&self.demands, q);
+        match self.phase {
+            Phase::Running => {
+                self.trigger == 1
+                    && self.queues.front(q).is_none()
+                    && takes_whole(status, demand.needs_sol, 0, demand.rest)
+                    && self.none_before(q)
+            }
+            Phase::Idle | Phase::Waiting => false,
+        }
+    }
+
+    /// A push of an entry that falls through its queue, and the turn behind it, which is counted: its four bytes are stored.
+    #[inline(always)]
+    pub fn fall_through(&mut self, q: Queue, entry: Entry)
+        requires can { CanWork (state_of R.memory self.old).job (state_of R.memory self.old) }
+        requires falls { falls_through q entry.status (state_of R.memory self.old) ≡ true }
+        requires orderly { IsFifo self.old.queues }
+        ensures state { state_of R.memory self.new ≡ acted (push q entry (state_of R.memory self.old)) }
+        ensures still { StillIf self.new.still (state_of R.memory self.new) }
+    {
+        self.put_down(q, 4, 0, &entry.dword.to_le_bytes());
+        self.still = self.runs_still();
     }
 }

@@ -42,8 +42,9 @@ impl<R: Ram> Engine<R> {
         self.lowest_stray().is_none() && self.common_code().is_none()
     }
 
+    /// Whether turns of a machine that runs do nothing but count.
     #[inline]
-    fn runs_still(&self) -> bool
+    pub fn runs_still(&self) -> bool
         ensures { result ≡ runs_still self.now.demands (state_of R.memory self.now) }
     {
         !is_done(&self.demands)

@@ -19,12 +19,14 @@ use sync_status::{Status, StatusKind, kind};
 enum Action {
     Control(Code),
     Push(Queue, u8, u32),
+    /// A push, and turns behind it.
+    Both(Queue, u8, u32, u8),
     Fill(Queue, u32),
     Turns(u8),
     Host(HostWrite),
 }
 
-use Action::{Control, Fill, Host, Push, Turns};
+use Action::{Both, Control, Fill, Host, Push, Turns};
 use Queue::{One, Three, Two};
 
 const ONE_LINE: [u32; 8] = [
@@ -79,12 +81,22 @@ fn push(m: &mut Machine<MapRam>, q: Queue, nibble: u8, dword: u32) {
     }
 }
 
+fn push_and_turns(m: &mut Machine<MapRam>, q: Queue, nibble: u8, dword: u32, count: u8) {
+    if nibble < 16 {
+        let status = Status::of(nibble);
+        if !matches!(kind(status), StatusKind::Control(_)) {
+            m.push_and_turns(q, Entry { status, dword }, u32::from(count));
+        }
+    }
+}
+
 fn act(m: &mut Machine<MapRam>, action: Action) {
     match action {
         Control(code) => {
             m.push_control(code);
         }
         Push(q, nibble, dword) => push(m, q, nibble, dword),
+        Both(q, nibble, dword, count) => push_and_turns(m, q, nibble, dword, count),
         Fill(q, count) => {
             for i in 0..count {
                 push(m, q, 0, i);
@@ -192,6 +204,37 @@ fn one_line_by_bursts(rt: HostRuntime) -> Result<(), Fail> {
     let mut m = made(rt.alloc(), &ONE_LINE, 0)?;
     assert!(rt; stores_by_bursts(&mut m));
     assert!(rt; m.program().base() == 0x1000);
+    Ok(())
+}
+
+// The start of a line, which the turn behind it takes by its verdict; a DWORD that falls through the queue, with a turn to
+// spare; and the end, to which no turn belongs.
+#[test]
+fn entries_with_turns_behind_them(rt: HostRuntime) -> Result<(), Fail> {
+    let words = [
+        0x8000_8004,
+        0,
+        0x8000_0006,
+        0,
+        0x1c00_000c,
+        0x20000,
+        0x71e1_0000,
+        0x1000,
+    ];
+    let actions = [
+        Control(Code::Vre),
+        Control(Code::Fm1),
+        Turns(5),
+        Both(One, 2, 0x1312_1110, 1),
+        Both(One, 0, 0x1716_1514, 2),
+        Both(One, 1, 0x1b1a_1918, 0),
+        Turns(3),
+    ];
+    let bytes = [
+        0x10, 0x11, 0x12, 0x13, 0x14, 0x15, 0x16, 0x17, 0x18, 0x19, 0x1a, 0x1b, 0,
+    ];
+    let want = report(11, 12, [0; 4], 0x1000_0800);
+    assert!(rt; comes_to(rt.alloc(), (&words, 0), &actions, &want, &[(0, &bytes)])?);
     Ok(())
 }
 

@@ -57,6 +57,18 @@ GoesOn-from act at used m reader after last piece now later one two more =
     subst (λ bytes. GoesOn act m (resumed reader (piece ++ more)) later (resumed last (bytes ++ more))) (drop-drop used at piece)
     (GoesOn-then act m (resumed reader (piece ++ more)) now (resumed after (drop at piece ++ more)) later (resumed last (drop used (drop at piece) ++ more)) (one more) (two more))
 
+-- what is handed behind the first bytes is handed with them
+pub handed_behind : {S : Type 0} (act : Step → S → S) (at used : ℕ) (m : S) (reader after last : Reader) (piece rest : List ℕ) (now later : S) → rest ≡ drop at piece →
+    at ≤ length piece → after.place ≡ reader.place + at → ((more : List ℕ) → GoesOn act m (resumed reader (piece ++ more)) now (resumed after (drop at piece ++ more))) →
+    HandedPart act used now after rest later last → HandedPart act (at + used) m reader piece later last
+handed_behind act at used m reader after last piece rest now later is within place one two =
+    let behind = subst (λ bytes. HandedPart act used now after bytes later last) is two in
+    let size = length-drop at piece in (
+      omega (arith, behind.0, size, within),
+      omega (arith, behind.1, place),
+      GoesOn-from act at used m reader after last piece now later one behind.2,
+    )
+
 -- where nothing was handed yet
 module _ {S : Type 0} (act : Step → S → S) (m now later : S) (reader after last : Reader) (piece : List ℕ) (run : ℕ) (none : run ≡ 0) (part : HandedPart act run m reader piece now after) where
   before : (more : List ℕ) → GoesOn act m (resumed reader (piece ++ more)) now (resumed after (piece ++ more))

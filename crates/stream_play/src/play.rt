@@ -3,6 +3,7 @@
 ghost use Rattle.std.specs.Prelude.{◌≡◌, ◌+◌, ◌≤◌, drop, length, take, IfErr, IfNone, IfOk, IfSome, IsTrue, None, Some};
 ghost use Rattle.capture_file.specs.Readers.{fresh, front_record, resumed};
 ghost use Rattle.capture_file.specs.Records.{StepFits};
+ghost use Rattle.capture_file.specs.declared.Step.TheVariants as Step;
 ghost use Rattle.command_steps.specs.Inputs.{OfRest, apart};
 ghost use Rattle.command_steps.specs.Reading.{AreAllReads, AreReads, Calls};
 ghost use Rattle.stream_play.specs.Plays.{EndsWell, Handed, HandedAll, HandedFront, HandedPart, IsOther, IsAtFault, MayStand, PlaysAll, ReadsForm, StopsPlaying, longest_stream};
@@ -13,6 +14,7 @@ use capture_desk::Desk;
 use capture_file::{FileFault, Got, Input, Step, StepReader};
 use command_steps::{PIECE, read_into};
 use command_texts::Refusal;
+use fifo_model::{Entry, Queue};
 use std::mem::replace;
 
 /// The most bytes of a stream.
@@ -34,8 +36,35 @@ fn hand<P: Player>(player: &mut P, step: Step)
     }
 }
 
-/// Hands the data push or the turns that lie whole at the front of a piece to the player, and answers
-/// how many bytes their record has.
+/// Hands a data push to the player, with the turns that lie whole at the front of the bytes behind its record, and answers
+/// how many bytes the record of the turns has, 0 where they are no whole record of turns.
+#[inline(always)]
+fn hand_push<P: Player>(
+    player: &mut P,
+    reader: &mut StepReader,
+    queue: Queue,
+    entry: Entry,
+    rest: &[u8],
+) -> usize
+    requires form { ReadsForm P.has_slots reader.old }
+    requires fits { StepFits (Step.Push queue entry) }
+    ensures form { ReadsForm P.has_slots reader.new }
+    ensures handed { HandedPart P.act result (P.act (Step.Push queue entry) player.old) reader.old rest.now player.new reader.new }
+{
+    match reader.take_turns(rest) {
+        Some(count) => {
+            player.push_and_turns(queue, entry, count);
+            5
+        }
+        None => {
+            player.push(queue, entry);
+            0
+        }
+    }
+}
+
+/// Hands the data push, with the turns behind it, or the turns that lie whole at the front of a piece to the player, and
+/// answers how many bytes their records have.
 #[inline(always)]
 fn hand_plain<P: Player>(player: &mut P, reader: &mut StepReader, piece: &[u8]) -> Option<usize>
     requires form { ReadsForm P.has_slots reader.old }
@@ -44,9 +73,8 @@ fn hand_plain<P: Player>(player: &mut P, reader: &mut StepReader, piece: &[u8]) 
     ensures none { IfNone result ((player.new ≡ player.old) × (reader.new ≡ reader.old)) }
     ensures other { IfNone result (IsOther (front_record reader.old piece.now)) }
 {
-    if let Some((q, e)) = reader.take_push(piece) {
-        player.push(q, e);
-        return Some(6);
+    if let Some((queue, entry)) = reader.take_push(piece) {
+        return Some(6 + hand_push(player, reader, queue, entry, &piece[6..]));
     }
     if let Some(count) = reader.take_turns(piece) {
         player.turns(count);

@@ -42,6 +42,16 @@ pub trait Player {
     fn turns(&mut self, count: u32)
         ensures { self.new ≡ act (Step.Turns count) self.old };
 
+    /// Takes a data entry for one of the three queues, and so many turns behind it.
+    #[inline(always)]
+    fn push_and_turns(&mut self, queue: Queue, entry: Entry, count: u32)
+        requires { StepFits (Step.Push queue entry) }
+        ensures { self.new ≡ act (Step.Turns count) (act (Step.Push queue entry) self.old) }
+    {
+        self.push(queue, entry);
+        self.turns(count);
+    }
+
     /// Takes a write of the host to a register of the interrupts or of the trigger point.
     fn host(&mut self, write: HostWrite)
         requires { StepFits (Step.Host write) }
@@ -75,6 +85,11 @@ impl<R: Ram> Player for Machine<R> {
     #[inline(always)]
     fn turns(&mut self, count: u32) {
         Machine::turns(self, count);
+    }
+
+    #[inline(always)]
+    fn push_and_turns(&mut self, queue: Queue, entry: Entry, count: u32) {
+        Machine::push_and_turns(self, queue, entry, count);
     }
 
     #[inline(always)]

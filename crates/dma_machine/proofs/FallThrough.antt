@@ -1,0 +1,235 @@
+-- The turn behind the push of an entry that falls through stores its bytes, and leaves the queues as they were.
+use Rattle.std.proofs.Common.{◌≡◌, ℕ, ◌+◌, ◌<◌, ◌≤◌, ◌⊎◌, inl, inr, Bool, true, false, not, ◌==◌, List, [], ◌∷◌, ◌++◌, length, Some, None, refl, sym, ap, subst, ◌∙◌, arith, if◌then◌else◌}
+use Rattle.std.specs.Prelude.{◌&&◌, is_none}
+use Rattle.std.proofs.lemmas.Bool.{and_parts}
+use Rattle.risc_word.specs.declared.Instr.{Instr}
+use Rattle.sync_status.specs.declared.Verdict.TheVariants.{Take}
+use Rattle.sync_status.specs.Statuses.{kind_of, valid_bytes, verdict_on}
+use Rattle.fifo_model.specs.declared.Entry.{Entry}
+use Rattle.fifo_model.specs.declared.Queue.{Queue}
+use Rattle.fifo_model.specs.declared.Queue.TheVariants.{One, Two, Three}
+use Rattle.fifo_model.specs.Queues.{QueueState, Queues, IsFifo, IsQueue, entered, first, front, front_valid, is_full, is_ready, more, overrun, queue_state, taken_from, taken_more, valid_of, with_queue_state}
+use Rattle.machine_model.specs.declared.Demand.{Demand}
+use Rattle.machine_model.specs.declared.Demands.{Demands}
+use Rattle.machine_model.specs.declared.Job.TheVariants.{Running}
+use Rattle.machine_model.specs.States.{State}
+use Rattle.machine_model.specs.Steps.{push, push_if, with_fbus_if}
+use Rattle.machine_model.specs.Turns.{Store, apply, apply_in, burst, burst_of, demand_less, demand_on, ended, is_done, is_served, judged, lowest_served, ran, served, stored_all, stores_of, took, turn_if, verdict_at, with_demand, worked}
+use Rattle.dma_machine.specs.declared.engine.Phase.{Phase}
+use Rattle.dma_machine.specs.declared.engine.Phase.TheVariants as phase
+use Rattle.dma_machine.specs.declared.engine.Wait.{Wait}
+use Rattle.dma_machine.specs.Views.{job_of}
+use Rattle.dma_machine.specs.Counts.{acted}
+use Rattle.dma_machine.specs.FallThrough.{fallen_through, falls_in, falls_through, none_before}
+use Rattle.dma_machine.specs.Stills.{StillIf, runs_still, works_still}
+use Rattle.dma_machine.specs.WholeTakes.{takes_whole}
+use Rattle.dma_machine.proofs.WholeTakes.{IsWhole, plain_whole}
+
+-- ---- an empty queue
+
+record IsEmpty (held : QueueState) : Type 0 where
+  entries : held.entries ≡ []
+  taken : held.taken ≡ 0
+  room : is_full held ≡ false
+
+no_front : (entries : List Entry) → is_none (first entries) ≡ true → entries ≡ []
+no_front [] e = refl
+no_front (entry ∷ rest) e = absurd cc
+
+none_taken : (held : QueueState) → front_valid held ≡ 0 → (held.taken ≡ 0) ⊎ (held.taken < front_valid held) → held.taken ≡ 0
+none_taken held none (inl e) = e
+none_taken held none (inr less) = omega (arith, none, less)
+
+unequal : (a b : ℕ) → a < b → (a == b) ≡ false
+unequal a b less = grind (arith, less)
+
+empty_queue : (held : QueueState) → IsQueue held → is_none (front held) ≡ true → IsEmpty held
+empty_queue held is none =
+    let entries : held.entries ≡ [] = no_front held.entries none in
+    let count : length held.entries ≡ 0 = ap length entries in
+    record {
+      entries = entries;
+      taken = none_taken held (ap (λ rest. valid_of (first rest)) entries) is.part;
+      room = unequal (length held.entries) held.capacity (omega (arith, count, is.some_room));
+    }
+
+each_queue : (q : Queue) (queues : Queues) → IsFifo queues → IsQueue (queue_state q queues)
+each_queue One queues h = h.one
+each_queue Two queues h = h.two
+each_queue Three queues h = h.three
+
+-- ---- the queues with an entry more
+
+held_now : (q : Queue) (held : QueueState) (queues : Queues) → queue_state q (with_queue_state q held queues) ≡ held
+held_now One held queues = refl
+held_now Two held queues = refl
+held_now Three held queues = refl
+
+-- and without it again
+put_back : (q : Queue) (held now : QueueState) (queues : Queues) → now ≡ queue_state q queues → with_queue_state q now (with_queue_state q held queues) ≡ queues
+put_back One held now queues e = ap (λ (one : QueueState). record queues { one = one }) e
+put_back Two held now queues e = ap (λ (two : QueueState). record queues { two = two }) e
+put_back Three held now queues e = ap (λ (three : QueueState). record queues { three = three }) e
+
+four_taken : (entry : Entry) (held : QueueState) → valid_bytes entry.status ≡ 4 → IsEmpty held → taken_from 4 (entered entry held) ≡ held
+four_taken entry held valid is =
+    let all : (held.taken + 4 == valid_bytes entry.status) ≡ true = grind (arith, valid, is.taken) in
+    ap (λ rest. taken_more 4 (record held { entries = rest ++ entry ∷ [] }) (rest ++ entry ∷ [])) is.entries
+    ∙ ap (λ whole. if whole then (record held { entries = []; taken = 0 }) else (record held { entries = entry ∷ []; taken = held.taken + 4 })) all
+    ∙ ap (λ rest. record held { entries = rest; taken = 0 }) (sym is.entries)
+    ∙ ap (λ taken. record held { taken = taken }) (sym is.taken)
+
+-- ---- what is asked
+
+asks_some : (rest : ℕ) → 4 ≤ rest → (rest == 0) ≡ false
+asks_some rest some = grind (arith, some)
+
+and_none : (a b : Bool) → b ≡ false → (a && b) ≡ false
+and_none true b e = e
+and_none false b e = refl
+
+-- so the instruction is not done
+not_done : (q : Queue) (ds : Demands) → ((demand_on q ds).rest == 0) ≡ false → is_done ds ≡ false
+not_done One ds e = ap (λ none. none && (ds.two.rest == 0) && (ds.three.rest == 0)) e
+not_done Two ds e = ap (λ none. none && (ds.three.rest == 0)) (and_none (ds.one.rest == 0) (ds.two.rest == 0) e)
+not_done Three ds e = and_none ((ds.one.rest == 0) && (ds.two.rest == 0)) (ds.three.rest == 0) e
+
+-- and the queue is the lowest one that is served
+unserved : (served : Bool) → not served ≡ true → served ≡ false
+unserved true e = absurd cc
+unserved false e = refl
+
+lowest : (q : Queue) (ds : Demands) (m : State) (held : QueueState) →
+    none_before q ds m ≡ true → is_served q ds (record m { queues = with_queue_state q held m.queues }) ≡ true →
+    lowest_served ds (record m { queues = with_queue_state q held m.queues }) ≡ Some q
+lowest One ds m held before e = ap (λ one. if one then Some One else (if is_served Two ds m then Some Two else (if is_served Three ds m then Some Three else None))) e
+lowest Two ds m held before e =
+    ap (λ one. if one then Some One else (if is_served Two ds (record m { queues = with_queue_state Two held m.queues }) then Some Two else (if is_served Three ds m then Some Three else None)))
+    (unserved _ before)
+    ∙ ap (λ two. if two then Some Two else (if is_served Three ds m then Some Three else None)) e
+lowest Three ds m held before e =
+    let parts = and_parts (not (is_served One ds m)) (not (is_served Two ds m)) before in
+    ap (λ one. if one then Some One else (if is_served Two ds m then Some Two else (if is_served Three ds (record m { queues = with_queue_state Three held m.queues }) then Some Three else None)))
+    (unserved _ parts.0)
+    ∙ ap (λ two. if two then Some Two else (if is_served Three ds (record m { queues = with_queue_state Three held m.queues }) then Some Three else None)) (unserved _ parts.1)
+    ∙ ap (λ three. if three then Some Three else None) e
+
+-- ---- the push and the turn
+
+module _ (q : Queue) (entry : Entry) (m : State) (instr : Instr) (ds : Demands) (fifo : IsFifo m.queues) (on : m.fifo_on ≡ true) (runs : m.risc_on ≡ true) (running : m.job ≡ Running instr ds)
+    (one : m.trigger ≡ 1) (none : is_none (front (queue_state q m.queues)) ≡ true) (takes : takes_whole (kind_of entry.status) (demand_on q ds).needs_sol 0 (demand_on q ds).rest ≡ true)
+    (before : none_before q ds m ≡ true) where
+  abbrev held : QueueState
+  held = queue_state q m.queues
+
+  abbrev rest : ℕ
+  rest = (demand_on q ds).rest
+
+  empty : IsEmpty held
+  empty = empty_queue held (each_queue q m.queues fifo) none
+
+  whole : IsWhole (kind_of entry.status) (demand_on q ds).needs_sol 0 rest
+  whole = plain_whole _ _ _ _ takes
+
+  -- behind the push
+  abbrev came : State
+  came = record m { queues = with_queue_state q (entered entry held) m.queues }
+
+  entry_came : push q entry m ≡ came
+  entry_came =
+      ap (λ is_on. push_if is_on q entry m) on
+      ∙ ap (λ full. record (with_fbus_if full m) { queues = if full then (with_queue_state q (overrun held) m.queues) else (with_queue_state q (entered entry held) m.queues) }) empty.room
+
+  asks : (rest == 0) ≡ false
+  asks = asks_some rest whole.asked
+
+  is_front : front (queue_state q came.queues) ≡ Some entry
+  is_front = ap front (held_now q (entered entry held) m.queues) ∙ ap (λ entries. first (entries ++ entry ∷ [])) empty.entries
+
+  ready : is_served q ds came ≡ true
+  ready =
+      ap (λ none. not none && is_ready m.trigger (queue_state q came.queues)) asks
+      ∙ ap (λ trigger. is_ready trigger (queue_state q came.queues)) one
+      ∙ ap (is_ready 1) (held_now q (entered entry held) m.queues)
+      ∙ ap (λ entries. is_ready 1 (record held { entries = entries ++ entry ∷ [] })) empty.entries
+
+  -- the turn takes it
+  verdict : verdict_on (kind_of entry.status) (demand_on q ds).needs_sol (queue_state q came.queues).taken rest ≡ Take 4
+  verdict =
+      ap (λ (at : QueueState). verdict_on (kind_of entry.status) (demand_on q ds).needs_sol at.taken rest) (held_now q (entered entry held) m.queues)
+      ∙ ap (λ taken. verdict_on (kind_of entry.status) (demand_on q ds).needs_sol taken rest) empty.taken
+      ∙ whole.verdict
+
+  applied : apply q came ≡ Some (took q 4 instr ds entry came)
+  applied =
+      ap (λ job. apply_in job q came) running
+      ∙ ap (λ at. served at q instr ds came) is_front
+      ∙ ap (λ none. if none then None else Some (judged (verdict_at q ds entry came) q instr ds entry came)) asks
+      ∙ ap (λ v. Some (judged v q instr ds entry came)) verdict
+      ∙ ap (λ end. Some (ended (end && ((queue_state q came.queues).taken + 4 == valid_bytes entry.status) && not (rest == 4)) instr (took q 4 instr ds entry came))) whole.no_end
+
+  -- and its queue is empty again
+  back : took q 4 instr ds entry came ≡ fallen_through q instr ds entry m
+  back =
+      ap (λ (at : QueueState). taken_as at) (held_now q (entered entry held) m.queues)
+      ∙ ap (λ taken. stored_as taken (with_queue_state q (taken_from 4 (entered entry held)) came.queues)) empty.taken
+      ∙ ap (λ queues. stored_as 0 queues) (put_back q (entered entry held) (taken_from 4 (entered entry held)) m.queues (four_taken entry held whole.valid empty))
+    where
+      stored_as : ℕ → Queues → State
+      stored_as taken queues =
+          let d : Demand = demand_on q ds in
+          let stores : List Store = stores_of instr d entry taken 4 in
+          record m {
+            job = Running instr (with_demand q (demand_less 4 d) ds);
+            queues = queues;
+            memory = stored_all m.memory stores;
+            moved = more m.moved (length stores);
+          }
+
+      taken_as : QueueState → State
+      taken_as at = stored_as at.taken (with_queue_state q (taken_from 4 at) came.queues)
+
+  pub entry_falls : acted (push q entry m) ≡ fallen_through q instr ds entry m
+  entry_falls =
+      ap acted entry_came
+      ∙ ap (λ is_on. turn_if is_on came) runs
+      ∙ ap (λ job. worked job came) running
+      ∙ ap (λ done. ran done instr ds came) (not_done q ds asks)
+      ∙ ap (λ at. burst_of at came) (lowest q ds m (entered entry held) before ready)
+      ∙ ap (λ count. burst count q came) one
+      ∙ ap (λ after. elim after [ None ↦ came | Some state ↦ state ]) applied
+      ∙ back
+
+-- by what is asked of an entry before it is pushed
+pub falls_acted : (q : Queue) (entry : Entry) (m : State) (instr : Instr) (ds : Demands) → IsFifo m.queues → m.job ≡ Running instr ds → falls_through q entry.status m ≡ true →
+    acted (push q entry m) ≡ fallen_through q instr ds entry m
+falls_acted q entry m instr ds fifo running e =
+    let on = and_parts m.fifo_on (m.risc_on && falls_in m.job q entry.status m) e in
+    let runs = and_parts m.risc_on (falls_in m.job q entry.status m) on.1 in
+    let falls : falls_in (Running instr ds) q entry.status m ≡ true = subst (λ job. falls_in job q entry.status m ≡ true) running runs.1 in
+    let one = and_parts (m.trigger == 1) (is_none (front (queue_state q m.queues)) && (takes_whole (kind_of entry.status) (demand_on q ds).needs_sol 0 (demand_on q ds).rest && none_before q ds m)) falls in
+    let none = and_parts (is_none (front (queue_state q m.queues))) (takes_whole (kind_of entry.status) (demand_on q ds).needs_sol 0 (demand_on q ds).rest && none_before q ds m) one.1 in
+    let takes = and_parts (takes_whole (kind_of entry.status) (demand_on q ds).needs_sol 0 (demand_on q ds).rest) (none_before q ds m) none.1 in
+    entry_falls q entry m instr ds fifo on.0 runs.0 running (grind (arith, one.0)) none.0 takes.0 takes.1
+
+-- the machine runs an instruction
+pub falls_running : (at : Phase) (wait : Wait) (instr : Instr) (ds : Demands) (q : Queue) (status : ℕ) (m : State) → m.job ≡ job_of at wait instr ds →
+    falls_through q status m ≡ true → at ≡ phase.Running
+falls_running at wait instr ds q status m is e =
+    let on = and_parts m.fifo_on (m.risc_on && falls_in m.job q status m) e in
+    let runs = and_parts m.risc_on (falls_in m.job q status m) on.1 in
+    by_phase at (subst (λ job. falls_in job q status m ≡ true) is runs.1)
+  where
+    by_phase : (at : Phase) → falls_in (job_of at wait instr ds) q status m ≡ true → at ≡ phase.Running
+    by_phase phase.Idle e = absurd cc
+    by_phase phase.Waiting e = absurd cc
+    by_phase phase.Running e = refl
+
+-- so it stands still where no queue is served and more is asked
+pub running_still : (flag : Bool) (m after : State) (q : Queue) (status : ℕ) (instr : Instr) (ds : Demands) → falls_through q status m ≡ true → after.risc_on ≡ m.risc_on →
+    after.job ≡ Running instr ds → flag ≡ runs_still ds after → StillIf flag after
+running_still true m after q status instr ds e same running is =
+    let on = and_parts m.fifo_on (m.risc_on && falls_in m.job q status m) e in
+    let runs = and_parts m.risc_on (falls_in m.job q status m) on.1 in
+    ap (λ on. if on then works_still after.job after else true) (same ∙ runs.0) ∙ ap (λ job. works_still job after) running ∙ sym is
+running_still false m after q status instr ds e same running is = tt
