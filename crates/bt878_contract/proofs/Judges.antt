@@ -27,7 +27,7 @@ use Rattle.command_inputs.specs.Listings.{HoldsListing, IsBadText, a_listing}
 use Rattle.capture_desc.specs.declared.desc.Desc.{Desc}
 use Rattle.picture_model.specs.declared.BuildFault.{BuildFault}
 use Rattle.picture_model.specs.Geometry.{first_fault, frame_fault}
-use Rattle.double_buffer.specs.declared.faults.ChainFault.{ChainFault}
+use Rattle.chain_model.specs.declared.ChainFault.{ChainFault}
 use Rattle.command_inputs.specs.Chains.{GivesChain, HasFault, HoldsFrame, HoldsSecond, IsBadSecond, a_first_description, a_second_description, frame_of}
 use Rattle.command_inputs.specs.Rings.{HoldsRing, IsBadRing, a_ring, ring_of}
 use Rattle.bt878_contract.specs.Tasks.{Task, Lists, Verifies, Runs, Compiles, Captures, Generates, Chains, Damages, Rings, Assembles, meaning}

@@ -1,6 +1,6 @@
 //! Chains, apart from any code: a standing loop of slots that the host patches between any two steps, each slot to a part
-//! of its own or on to the next slot (this project's own form). The type of a part stands here; the definitions stand in
-//! `specs/`.
+//! of its own or on to the next slot (this project's own form). The types of a part and of what two descriptions lack for a
+//! chain stand here; the definitions stand in `specs/`.
 #![tactic(auto)]
 
 pub mod laws;
@@ -14,4 +14,20 @@ pub struct PartWords {
     pub slot: u32,
     /// The words of the part.
     pub words: Numbers,
+}
+
+/// Why two descriptions make no chain, in the order in which it is judged (this project's own rule).
+#[derive(Clone, Copy, Debug, PartialEq, Eq)]
+pub enum ChainFault {
+    /// The base of the first description is no multiple of 4.
+    Base,
+    /// The chunk of this number of the second description shares a byte with a chunk of the first. It is the first such
+    /// chunk; they are counted from 0, in the order of the description.
+    Shared(u32),
+    /// The chunks of both are more than 4,096, or have more than 16,777,216 bytes together.
+    TooMany,
+    /// The chain has more words than a program may have, or ends above 0x10000000.
+    TooLong,
+    /// The chain shares a byte with the memory that it may write.
+    OnPage,
 }

@@ -3,7 +3,7 @@ use Rattle.std.specs.Prelude.{◌≡◌, ℕ, ⊤, List, Option, Some, Result, O
 use Rattle.capture_desk.specs.Desks.{Inputs}
 use Rattle.capture_desc.specs.declared.desc.Desc.{Desc}
 use Rattle.picture_model.specs.Geometry.{frame_fault}
-use Rattle.double_buffer.specs.declared.faults.ChainFault.{ChainFault}
+use Rattle.chain_model.specs.declared.ChainFault.{ChainFault}
 use Rattle.double_buffer.specs.Faults.{chain_fault}
 use Rattle.double_buffer.specs.Promises.{IsPair}
 use Rattle.command_texts.specs.declared.refusal.Refusal.{Refusal}

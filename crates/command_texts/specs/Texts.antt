@@ -18,8 +18,8 @@ use Rattle.capture_desc.specs.declared.fault.DescFault.TheVariants.{NotToml, Unk
 use Rattle.capture_desc.specs.Keys.{name_of}
 use Rattle.picture_model.specs.declared.BuildFault.{BuildFault}
 use Rattle.picture_model.specs.declared.BuildFault.TheVariants as geometry
-use Rattle.double_buffer.specs.declared.faults.ChainFault.{ChainFault}
-use Rattle.double_buffer.specs.declared.faults.ChainFault.TheVariants as chain
+use Rattle.chain_model.specs.declared.ChainFault.{ChainFault}
+use Rattle.chain_model.specs.declared.ChainFault.TheVariants as chain
 use Rattle.ring_compile.specs.declared.fault.RingKey.{RingKey}
 use Rattle.ring_compile.specs.declared.fault.RingFault.{RingFault}
 use Rattle.ring_compile.specs.declared.fault.RingFault.TheVariants as ring

@@ -6,7 +6,7 @@ ghost use Rattle.command_texts.specs.Answers.{status_of};
 use bt878_words::UsageFault;
 use capture_desc::DescFault;
 use capture_file::{FileFault, Input};
-use double_buffer::ChainFault;
+use chain_model::ChainFault;
 use machine_model::Cause;
 use picture_model::BuildFault;
 use ring_compile::RingFault;

@@ -3,7 +3,7 @@ use Rattle.std.proofs.Common.{◌≡◌, ℕ, ◌+◌, ◌*◌, ◌≤◌, [], �
 use Rattle.capture_desc.specs.declared.desc.Desc.{Desc}
 use Rattle.chain_model.specs.declared.PartWords.{PartWords}
 use Rattle.chain_model.specs.Chains.{words_of_parts}
-use Rattle.double_buffer.specs.declared.faults.ChainFault.TheVariants.{Base, Shared, TooMany, TooLong, OnPage}
+use Rattle.chain_model.specs.declared.ChainFault.TheVariants.{Base, Shared, TooMany, TooLong, OnPage}
 use Rattle.double_buffer.specs.declared.faults.DoubleBufferError.{DoubleBufferError}
 use Rattle.double_buffer.specs.declared.faults.DoubleBufferError.TheVariants.{Fault, Memory}
 use Rattle.double_buffer.specs.Fragments.{IsBeyond, IsLong}

@@ -22,7 +22,7 @@ use Rattle.slot_chain.specs.declared.making.ChainError.{ChainError}
 use Rattle.slot_chain.specs.declared.making.ChainError.TheVariants as error
 use Rattle.slot_chain.proofs.MadeChain.{is_chain}
 use Rattle.slot_chain.proofs.Placing.{word_count_is}
-use Rattle.double_buffer.specs.declared.faults.ChainFault.TheVariants.{Base, Shared, TooMany, TooLong, OnPage}
+use Rattle.chain_model.specs.declared.ChainFault.TheVariants.{Base, Shared, TooMany, TooLong, OnPage}
 use Rattle.double_buffer.specs.declared.faults.DoubleBufferError.{DoubleBufferError}
 use Rattle.double_buffer.specs.declared.faults.DoubleBufferError.TheVariants.{Fault, Memory}
 use Rattle.double_buffer.specs.Faults.{Refuses, are_too_many, chain_fault, shared_chunk}

@@ -4,8 +4,8 @@ use Rattle.std.proofs.lemmas.Bool.{eq-eqb, ne_eqb}
 use Rattle.capture_desc.specs.declared.desc.Desc.{Desc}
 use Rattle.chain_model.specs.Chains.{Chain}
 use Rattle.slot_chain.specs.Making.{is_on_page, is_too_long}
-use Rattle.double_buffer.specs.declared.faults.ChainFault.{ChainFault}
-use Rattle.double_buffer.specs.declared.faults.ChainFault.TheVariants.{Base, Shared, TooMany, TooLong, OnPage}
+use Rattle.chain_model.specs.declared.ChainFault.{ChainFault}
+use Rattle.chain_model.specs.declared.ChainFault.TheVariants.{Base, Shared, TooMany, TooLong, OnPage}
 use Rattle.double_buffer.specs.declared.faults.DoubleBufferError.{DoubleBufferError}
 use Rattle.double_buffer.specs.Faults.{Refuses, are_too_many, chain_fault, memory_fault, shared_chunk, unless_shared}
 use Rattle.double_buffer.specs.Pairs.{chain_of_two}

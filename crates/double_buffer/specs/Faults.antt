@@ -6,8 +6,8 @@ use Rattle.page_table.specs.Taken.{shares}
 use Rattle.capture_desc.specs.declared.desc.Desc.{Desc}
 use Rattle.picture_model.specs.Described.{memory_of}
 use Rattle.slot_chain.specs.Making.{is_on_page, is_too_long}
-use Rattle.double_buffer.specs.declared.faults.ChainFault.{ChainFault}
-use Rattle.double_buffer.specs.declared.faults.ChainFault.TheVariants.{Base, Shared, TooMany, TooLong, OnPage}
+use Rattle.chain_model.specs.declared.ChainFault.{ChainFault}
+use Rattle.chain_model.specs.declared.ChainFault.TheVariants.{Base, Shared, TooMany, TooLong, OnPage}
 use Rattle.double_buffer.specs.declared.faults.DoubleBufferError.{DoubleBufferError}
 use Rattle.double_buffer.specs.declared.faults.DoubleBufferError.TheVariants.{Fault, Memory}
 use Rattle.double_buffer.specs.Pairs.{chain_of_two, memory_of_two}

@@ -3,7 +3,7 @@ use Rattle.std.specs.Prelude.{◌≡◌, ℕ, ◌<◌, ⊤, true}
 use Rattle.capture_desc.specs.declared.desc.Desc.{Desc}
 use Rattle.chain_model.specs.Chains.{chain_limit}
 use Rattle.slot_chain.specs.Making.{is_too_long}
-use Rattle.double_buffer.specs.declared.faults.ChainFault.TheVariants.{TooLong}
+use Rattle.chain_model.specs.declared.ChainFault.TheVariants.{TooLong}
 use Rattle.double_buffer.specs.declared.faults.DoubleBufferError.{DoubleBufferError}
 use Rattle.double_buffer.specs.declared.faults.DoubleBufferError.TheVariants.{Fault, Memory}
 use Rattle.double_buffer.specs.Pairs.{chain_of_two}

@@ -2,7 +2,7 @@
 use Rattle.std.specs.Prelude.{⊤}
 use Rattle.slot_chain.specs.declared.making.ChainError.{ChainError}
 use Rattle.slot_chain.specs.declared.making.ChainError.TheVariants as chain
-use Rattle.double_buffer.specs.declared.faults.ChainFault.TheVariants as fault
+use Rattle.chain_model.specs.declared.ChainFault.TheVariants as fault
 use Rattle.double_buffer.specs.declared.faults.DoubleBufferError.{DoubleBufferError}
 use Rattle.double_buffer.specs.declared.faults.DoubleBufferError.TheVariants.{Fault, Memory}
 

@@ -7,9 +7,10 @@ ghost use Rattle.double_buffer.specs.Pairs.{first_of_two};
 ghost use Rattle.double_buffer.specs.Plays.{part_asked};
 ghost use Rattle.double_buffer.specs.Promises.{IsPair};
 
-use crate::faults::{ChainFault, DoubleBufferError};
+use crate::faults::DoubleBufferError;
 use crate::fragments::{SLOTS, fragments_of_two};
 use crate::memory::grants_of_both;
+use chain_model::ChainFault;
 use dma_machine::Report;
 use fifo_model::{CHROMA_CAPACITY, Entry, Fifo, LUMA_CAPACITY, Pushed, Queue};
 use irq_status::HostWrite;

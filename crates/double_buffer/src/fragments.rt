@@ -6,7 +6,8 @@ ghost use Rattle.picture_model.specs.Described.{IsDescription};
 ghost use Rattle.double_buffer.specs.Fragments.{IsBeyond, IsLong};
 ghost use Rattle.double_buffer.specs.Pairs.{after_slot, fragment_of, fragments_of_two};
 
-use crate::faults::{ChainFault, DoubleBufferError};
+use crate::faults::DoubleBufferError;
+use chain_model::ChainFault;
 use planar_plan::Frame;
 use slot_chain::{PartWords, fragment};
 use std::alloc::Global;

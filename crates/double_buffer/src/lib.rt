@@ -9,4 +9,4 @@ pub mod laws;
 mod memory;
 
 pub use buffer::DoubleBuffer;
-pub use faults::{ChainFault, DoubleBufferError};
+pub use faults::DoubleBufferError;

@@ -9,8 +9,9 @@ ghost use Rattle.planar_plan.specs.Frames.{IsFramed};
 ghost use Rattle.double_buffer.specs.Faults.{Refuses, are_too_many, memory_fault, shared_chunk};
 ghost use Rattle.double_buffer.specs.Pairs.{memory_of_two};
 
-use crate::faults::{ChainFault, DoubleBufferError};
+use crate::faults::DoubleBufferError;
 use capture_desc::Desc;
+use chain_model::ChainFault;
 use page_table::{PageFault, PageSet, whole_pages};
 use planar_plan::Frame;
 use std::alloc::{AllocError, Global};

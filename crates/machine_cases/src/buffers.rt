@@ -1,8 +1,9 @@
 //! Worked double buffers.
 
 use capture_desc::read_desc;
+use chain_model::ChainFault;
 use dma_machine::Report;
-use double_buffer::{ChainFault, DoubleBuffer, DoubleBufferError};
+use double_buffer::{DoubleBuffer, DoubleBufferError};
 use fifo_model::{Entry, Queue};
 use irq_status::HostWrite;
 use page_ram::{PageRam, Ram};
