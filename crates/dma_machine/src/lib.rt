@@ -196,7 +196,7 @@ impl<R: Ram> Machine<R> {
     }
 
     /// A push, and then so many turns.
-    #[inline(never)]
+    #[inline(always)]
     fn push_apart(&mut self, q: Queue, e: Entry, count: u32)
         requires { is_control (kind_of e.status) ≡ false }
         ensures state { self.new ≡ run (push q e self.old) (replicate count Turn) }
