@@ -9,6 +9,8 @@ use Rattle.fifo_model.specs.declared.Entry.{Entry}
 use Rattle.fifo_model.specs.declared.Queue.{Queue}
 use Rattle.fifo_model.specs.declared.Queue.TheVariants.{One, Two, Three}
 use Rattle.fifo_model.specs.Queues.{QueueState, Queues, IsFifo, IsQueue, entered, first, front, front_valid, is_full, is_ready, more, overrun, queue_state, taken_from, taken_more, valid_of, with_queue_state}
+use Rattle.fifo_model.proofs.ChangesKeepQueues.{IsQueue-queue_state}
+use Rattle.fifo_model.proofs.QueueStates.{queue_state-with_queue_state, with_queue_state-same, with_queue_state-twice}
 use Rattle.machine_model.specs.declared.Demand.{Demand}
 use Rattle.machine_model.specs.declared.Demands.{Demands}
 use Rattle.machine_model.specs.declared.Job.TheVariants.{Running}
@@ -23,6 +25,7 @@ use Rattle.dma_machine.specs.Counts.{acted}
 use Rattle.dma_machine.specs.FallThrough.{fallen_through, falls_in, falls_through, none_before}
 use Rattle.dma_machine.specs.Stills.{StillIf, runs_still, works_still}
 use Rattle.dma_machine.specs.WholeTakes.{takes_whole}
+use Rattle.dma_machine.proofs.Standing.{not_true}
 use Rattle.dma_machine.proofs.WholeTakes.{IsWhole, plain_whole}
 
 -- ---- an empty queue
@@ -53,23 +56,11 @@ empty_queue held is none =
       room = unequal (length held.entries) held.capacity (omega (arith, count, is.some_room));
     }
 
-each_queue : (q : Queue) (queues : Queues) → IsFifo queues → IsQueue (queue_state q queues)
-each_queue One queues h = h.one
-each_queue Two queues h = h.two
-each_queue Three queues h = h.three
-
 -- ---- the queues with an entry more
 
-held_now : (q : Queue) (held : QueueState) (queues : Queues) → queue_state q (with_queue_state q held queues) ≡ held
-held_now One held queues = refl
-held_now Two held queues = refl
-held_now Three held queues = refl
-
--- and without it again
+-- without it they are as they were
 put_back : (q : Queue) (held now : QueueState) (queues : Queues) → now ≡ queue_state q queues → with_queue_state q now (with_queue_state q held queues) ≡ queues
-put_back One held now queues e = ap (λ (one : QueueState). record queues { one = one }) e
-put_back Two held now queues e = ap (λ (two : QueueState). record queues { two = two }) e
-put_back Three held now queues e = ap (λ (three : QueueState). record queues { three = three }) e
+put_back q held now queues e = with_queue_state-twice q held now queues ∙ ap (λ before. with_queue_state q before queues) e ∙ with_queue_state-same q queues
 
 four_taken : (entry : Entry) (held : QueueState) → valid_bytes entry.status ≡ 4 → IsEmpty held → taken_from 4 (entered entry held) ≡ held
 four_taken entry held valid is =
@@ -95,23 +86,19 @@ not_done Two ds e = ap (λ none. none && (ds.three.rest == 0)) (and_none (ds.one
 not_done Three ds e = and_none ((ds.one.rest == 0) && (ds.two.rest == 0)) (ds.three.rest == 0) e
 
 -- and the queue is the lowest one that is served
-unserved : (served : Bool) → not served ≡ true → served ≡ false
-unserved true e = absurd cc
-unserved false e = refl
-
 lowest : (q : Queue) (ds : Demands) (m : State) (held : QueueState) →
     none_before q ds m ≡ true → is_served q ds (record m { queues = with_queue_state q held m.queues }) ≡ true →
     lowest_served ds (record m { queues = with_queue_state q held m.queues }) ≡ Some q
 lowest One ds m held before e = ap (λ one. if one then Some One else (if is_served Two ds m then Some Two else (if is_served Three ds m then Some Three else None))) e
 lowest Two ds m held before e =
     ap (λ one. if one then Some One else (if is_served Two ds (record m { queues = with_queue_state Two held m.queues }) then Some Two else (if is_served Three ds m then Some Three else None)))
-    (unserved _ before)
+    (not_true _ before)
     ∙ ap (λ two. if two then Some Two else (if is_served Three ds m then Some Three else None)) e
 lowest Three ds m held before e =
     let parts = and_parts (not (is_served One ds m)) (not (is_served Two ds m)) before in
     ap (λ one. if one then Some One else (if is_served Two ds m then Some Two else (if is_served Three ds (record m { queues = with_queue_state Three held m.queues }) then Some Three else None)))
-    (unserved _ parts.0)
-    ∙ ap (λ two. if two then Some Two else (if is_served Three ds (record m { queues = with_queue_state Three held m.queues }) then Some Three else None)) (unserved _ parts.1)
+    (not_true _ parts.0)
+    ∙ ap (λ two. if two then Some Two else (if is_served Three ds (record m { queues = with_queue_state Three held m.queues }) then Some Three else None)) (not_true _ parts.1)
     ∙ ap (λ three. if three then Some Three else None) e
 
 -- ---- the push and the turn
@@ -126,7 +113,7 @@ module _ (q : Queue) (entry : Entry) (m : State) (instr : Instr) (ds : Demands) 
   rest = (demand_on q ds).rest
 
   empty : IsEmpty held
-  empty = empty_queue held (each_queue q m.queues fifo) none
+  empty = empty_queue held (IsQueue-queue_state q m.queues fifo) none
 
   whole : IsWhole (kind_of entry.status) (demand_on q ds).needs_sol 0 rest
   whole = plain_whole _ _ _ _ takes
@@ -144,19 +131,19 @@ module _ (q : Queue) (entry : Entry) (m : State) (instr : Instr) (ds : Demands) 
   asks = asks_some rest whole.asked
 
   is_front : front (queue_state q came.queues) ≡ Some entry
-  is_front = ap front (held_now q (entered entry held) m.queues) ∙ ap (λ entries. first (entries ++ entry ∷ [])) empty.entries
+  is_front = ap front (queue_state-with_queue_state q (entered entry held) m.queues) ∙ ap (λ entries. first (entries ++ entry ∷ [])) empty.entries
 
   ready : is_served q ds came ≡ true
   ready =
       ap (λ none. not none && is_ready m.trigger (queue_state q came.queues)) asks
       ∙ ap (λ trigger. is_ready trigger (queue_state q came.queues)) one
-      ∙ ap (is_ready 1) (held_now q (entered entry held) m.queues)
+      ∙ ap (is_ready 1) (queue_state-with_queue_state q (entered entry held) m.queues)
       ∙ ap (λ entries. is_ready 1 (record held { entries = entries ++ entry ∷ [] })) empty.entries
 
   -- the turn takes it
   verdict : verdict_on (kind_of entry.status) (demand_on q ds).needs_sol (queue_state q came.queues).taken rest ≡ Take 4
   verdict =
-      ap (λ (at : QueueState). verdict_on (kind_of entry.status) (demand_on q ds).needs_sol at.taken rest) (held_now q (entered entry held) m.queues)
+      ap (λ (at : QueueState). verdict_on (kind_of entry.status) (demand_on q ds).needs_sol at.taken rest) (queue_state-with_queue_state q (entered entry held) m.queues)
       ∙ ap (λ taken. verdict_on (kind_of entry.status) (demand_on q ds).needs_sol taken rest) empty.taken
       ∙ whole.verdict
 
@@ -171,7 +158,7 @@ module _ (q : Queue) (entry : Entry) (m : State) (instr : Instr) (ds : Demands) 
   -- and its queue is empty again
   back : took q 4 instr ds entry came ≡ fallen_through q instr ds entry m
   back =
-      ap (λ (at : QueueState). taken_as at) (held_now q (entered entry held) m.queues)
+      ap (λ (at : QueueState). taken_as at) (queue_state-with_queue_state q (entered entry held) m.queues)
       ∙ ap (λ taken. stored_as taken (with_queue_state q (taken_from 4 (entered entry held)) came.queues)) empty.taken
       ∙ ap (λ queues. stored_as 0 queues) (put_back q (entered entry held) (taken_from 4 (entered entry held)) m.queues (four_taken entry held whole.valid empty))
     where

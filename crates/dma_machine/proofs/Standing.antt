@@ -32,9 +32,9 @@ none_seen (Some q) code e = absurd cc
 none_seen None (Some seen) e = absurd cc
 none_seen None None e = record { no_stray = refl; no_common = refl }
 
-not_done : (done : Bool) → not done ≡ true → done ≡ false
-not_done true e = absurd cc
-not_done false e = refl
+pub not_true : (b : Bool) → not b ≡ true → b ≡ false
+not_true true e = absurd cc
+not_true false e = refl
 
 worked-still : (job : Job) (m : State) → works_still job m ≡ true → worked job m ≡ m
 worked-still Idle m e = absurd cc
@@ -43,7 +43,7 @@ worked-still (Waiting ctl resync code) m e =
     ap (λ stray. stray_seen stray ctl resync code m) none.no_stray ∙ ap (λ seen. code_seen seen ctl resync code m) none.no_common
 worked-still (Running instr ds) m e =
     let parts = and_parts (not (is_done ds)) (none_served ds m) e in
-    ap (λ done. ran done instr ds m) (not_done (is_done ds) parts.0) ∙ ap (λ q. burst_of q m) (none_lowest _ _ _ parts.1)
+    ap (λ done. ran done instr ds m) (not_true (is_done ds) parts.0) ∙ ap (λ q. burst_of q m) (none_lowest _ _ _ parts.1)
 
 turn_if-still : (on : Bool) (m : State) → (if on then works_still m.job m else true) ≡ true → turn_if on m ≡ m
 turn_if-still false m e = refl
