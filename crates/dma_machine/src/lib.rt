@@ -195,8 +195,7 @@ impl<R: Ram> Machine<R> {
         self.engine.fall_through(q, e);
     }
 
-    /// A push, and then so many turns. It is never inlined: beside it the way of an entry that falls through has too few
-    /// registers.
+    /// A push, and then so many turns.
     #[inline(never)]
     fn push_apart(&mut self, q: Queue, e: Entry, count: u32)
         requires { is_control (kind_of e.status) ≡ false }

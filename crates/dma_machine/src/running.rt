@@ -270,13 +270,14 @@ impl<R: Ram> Engine<R> {
     pub fn falls_through(&self, q: Queue, status: Status) -> bool
         ensures { result ≡ falls_through q status (state_of R.memory self.now) }
     {
-        if self.trigger != 1 || !self.fifo_on || !self.risc_on {
+        if !self.fifo_on || !self.risc_on {
             return false;
         }
         let demand = demand_on(&self.demands, q);
         match self.phase {
             Phase::Running => {
-                self.queues.front(q).is_none()
+                self.trigger == 1
+                    && self.queues.front(q).is_none()
                     && takes_whole(status, demand.needs_sol, 0, demand.rest)
                     && self.none_before(q)
             }
