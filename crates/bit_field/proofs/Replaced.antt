@@ -14,9 +14,6 @@ pub split_twice : (low width word : ℕ) → (word / 2 ^ (low + width) * 2 ^ wid
 split_twice low width word =
     rw (← shr-shr word low width) (rw (shr_split (word / 2 ^ low) width) (shr_split word low))
 
-pub field_within : (low width word : ℕ) → bits low width word * 2 ^ low ≤ word
-field_within low width word = omega (arith, split_twice low width word)
-
 pub replaced_parts : (low width word value : ℕ) → with_bits low width word value ≡ upper low width word value * 2 ^ low + word % 2 ^ low
 replaced_parts low width word value = omega (arith, split_twice low width word)
 

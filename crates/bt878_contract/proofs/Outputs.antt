@@ -3,31 +3,28 @@ use Rattle.std.proofs.Common.{◌≡◌, ◌≢◌, ℕ, ◌⊎◌, length, arit
 use Rattle.std.specs.Prelude.{⊤}
 use Rattle.std.specs.Str.{bytes_eq}
 use Rattle.std.proofs.lemmas.Slice.Eq.{bytes_eq-Decides}
+use Rattle.std.proofs.lemmas.Bool.{or_right, or_parts}
 use Rattle.capture_desk.specs.Desks.{HasRisen, Seen, Outputs, Told, counted, is_among, output_named, created, written, after_say}
 use Rattle.capture_desk.proofs.Outputs.{output_created, output_created_other, output_appended, output_appended_other}
-use Rattle.bt878_words.proofs.Asked.{or_false, same_name}
+use Rattle.bt878_words.proofs.Asked.{same_name}
 use Rattle.command_steps.specs.Outputs.{LastWriteFailed, Says, IsPart, after_file, delivered, names_of}
 use Rattle.command_steps.specs.Inputs.{WritesRose, apart}
 use Rattle.bt878_contract.specs.Clauses.{CreatesNone, IsCutOff, IsOutput, OnlySays, SameNames, SameOutput, SameOutputs, SaysAll}
 
 -- ---- names
 
-or_true : (a b : Bool) → b ≡ true → (a || b) ≡ true
-or_true true b h = refl
-or_true false b h = h
-
 pub first_among : (name : List ℕ) (names : List (List ℕ)) → is_among name (name ∷ names) ≡ true
 first_among name names = ap (λ t. t || is_among name names) (same_name name)
 
 pub later_among : (name other : List ℕ) (names : List (List ℕ)) → is_among name names ≡ true → is_among name (other ∷ names) ≡ true
-later_among name other names h = or_true (bytes_eq other name) (is_among name names) h
+later_among name other names h = or_right (bytes_eq other name) (is_among name names) h
 
 -- a name that isn't among some
 not_first : (name other : List ℕ) (names : List (List ℕ)) → is_among name (other ∷ names) ≡ false → name ≢ other
 not_first name other names e same = let there = first_among name names in let equal : is_among name (other ∷ names) ≡ is_among name (name ∷ names) = ap (λ n. is_among name (n ∷ names)) (sym same) in absurd (cc)
 
 not_later : (name other : List ℕ) (names : List (List ℕ)) → is_among name (other ∷ names) ≡ false → is_among name names ≡ false
-not_later name other names e = (or_false (bytes_eq other name) (is_among name names) e).1
+not_later name other names e = (or_parts (bytes_eq other name) (is_among name names) e).1
 
 pub not_among : (name other : List ℕ) (names : List (List ℕ)) → name ≢ other → is_among name names ≡ false → is_among name (other ∷ names) ≡ false
 not_among name other names h e = by_test (bytes_eq other name) refl

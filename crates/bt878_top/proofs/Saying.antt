@@ -1,7 +1,7 @@
 -- A text that is said piece by piece.
-use Rattle.std.proofs.Common.{◌≡◌, ℕ, List, [], ◌∷◌, Result, Ok, Err, ◌++◌, ◌∙◌, ap, subst, append_assoc}
+use Rattle.std.proofs.Common.{◌≡◌, ℕ, List, [], ◌∷◌, Result, ◌++◌, ◌∙◌, ap, subst, append_assoc}
 use Rattle.capture_desk.specs.declared.calls.Call.TheVariants.{Say}
-use Rattle.capture_desk.specs.Desks.{IsWriteFault, OnlySaid, Puts, SayCounts, Seen, Tells, Told, after_say, counted}
+use Rattle.capture_desk.specs.Desks.{IsWriteFault, OnlySaid, Puts, Seen, Tells, Told, after_say, counted}
 use Rattle.capture_desk.proofs.Telling.{say_both, say_more}
 use Rattle.capture_desk.proofs.Laws.{after_say-after_say}
 use Rattle.capture_desk.proofs.Pieces as pieces
@@ -48,7 +48,3 @@ said_both a b old mid new one two = (two.0 ∙ one.0, two.1 ∙ one.1, say_both 
 pub fault_later : {E : Type 0} (a b whole : List ℕ) (failed : E) (old mid new : Seen) → OnlySaid a old mid → IsWriteFault mid new × Tells (Say ∷ []) mid.calls new.calls →
     IsWriteFault old new × Tells (Say ∷ []) old.calls new.calls
 fault_later a b whole failed old mid new one two = ((two.0.0 ∙ one.0, two.0.1 ∙ ap counted one.1, two.0.2), say_more a old.calls mid.calls new.calls one.2 two.1)
-
-pub last_counts : (A E : Type 0) (a b : List ℕ) (result : Result A E) (old mid new : Seen) → OnlySaid a old mid → SayCounts b result mid new → SayCounts (a ++ b) result old new
-last_counts A E a b (Ok done) old mid new one two = said_both a b old mid new one two
-last_counts A E a b (Err failed) old mid new one two = fault_later a b (a ++ b) failed old mid new one two

@@ -1,6 +1,6 @@
 -- What words without a fault are, and the names that they give.
 use Rattle.std.proofs.Common.{◌≡◌, ◌≢◌, ℕ, ◌≤◌, ◌||◌, true, false, Bool, List, [], ◌∷◌, length, Option, Some, None, Result, Ok, Err, refl, sym, ap, subst, ◌∙◌, arith}
-use Rattle.std.proofs.lemmas.Bool.{and_parts, eqb-true, leb-true}
+use Rattle.std.proofs.lemmas.Bool.{and_parts, eqb-true, leb-true, or_parts}
 use Rattle.std.specs.Prelude.{◌==◌, ◌&&◌, nat_le, if◌then◌else◌}
 use Rattle.std.specs.Str.{bytes_eq}
 use Rattle.std.proofs.lemmas.Slice.Eq.{bytes_eq-Decides}
@@ -166,10 +166,6 @@ Asks words command.Ring = AsksCapture words
 Asks words command.Damage = AsksDamage words
 Asks words command.Assemble = AsksBuilt words
 
-pub or_false : (a b : Bool) → (a || b) ≡ false → (a ≡ false) × (b ≡ false)
-or_false true b e = absurd (cc)
-or_false false b e = (refl, e)
-
 pub same_name : (name : List ℕ) → bytes_eq name name ≡ true
 same_name name = (bytes_eq-Decides name name).1 refl
 
@@ -179,7 +175,7 @@ among_itself name = ap (λ t. t || false) (same_name name)
 
 unlike : (taken : List (List ℕ)) (a b : List ℕ) → has_clash taken (a ∷ b ∷ []) ≡ false → a ≢ b
 unlike taken a b e same =
-    let none = or_false (is_among a taken) (is_among a (b ∷ [])) (or_false (is_among a taken || is_among a (b ∷ [])) (has_clash taken (b ∷ [])) e).0 in
+    let none = or_parts (is_among a taken) (is_among a (b ∷ [])) (or_parts (is_among a taken || is_among a (b ∷ [])) (has_clash taken (b ∷ [])) e).0 in
     let there : is_among a (b ∷ []) ≡ true = subst (λ other. is_among a (other ∷ []) ≡ true) same (among_itself a) in
     absurd (cc)
 

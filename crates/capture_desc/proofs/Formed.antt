@@ -1,7 +1,7 @@
 -- A description that is read meets what every description meets.
-use Rattle.std.proofs.Common.{◌≡◌, ℕ, ◌≤◌, Bool, true, false, not, ◌&&◌, ◌==◌, nat_le, List, [], length, Option, Some, None, Result, Ok, Err, refl, inl, inr, ◌⊎◌, arith}
+use Rattle.std.proofs.Common.{◌≡◌, ℕ, ◌≤◌, Bool, true, false, not, ◌&&◌, ◌==◌, nat_le, List, [], length, Option, Some, None, Result, Ok, Err, inl, inr, ◌⊎◌, arith}
 use Rattle.std.specs.Prelude.{IfSome, IfOk}
-use Rattle.std.proofs.lemmas.Bool.{and_parts, false≢true}
+use Rattle.std.proofs.lemmas.Bool.{and_parts, not-true}
 use Rattle.std.proofs.lemmas.Bool.Decides.{nat_tests}
 use Rattle.toml.specs.Data.{Members, get_member}
 use Rattle.toml_keys.specs.Keys.{document_of, is_there, least, unknown_names}
@@ -62,10 +62,6 @@ no_pages ms read absent h =
       | inr none ↦ none
     ]
 
-not_true : (b : Bool) → not b ≡ true → b ≡ false
-not_true true h = absurd (false≢true h)
-not_true false h = refl
-
 -- chunks that fit
 record Fit (has_pages : Bool) (list : List (ℕ × ℕ)) : Type 0 where
   few : length list ≤ max_chunks
@@ -76,7 +72,7 @@ fit : (has_pages : Bool) (list : List (ℕ × ℕ)) → chunks_fit has_pages lis
 fit has_pages list h =
     let (sizes, alone) = and_parts (nat_le (length list) max_chunks && nat_le (total (listed list)) max_bytes) (not has_pages) h in
     let (few, small) = and_parts (nat_le (length list) max_chunks) (nat_le (total (listed list)) max_bytes) sizes in
-    record { few = grind (arith, nat_tests); small = grind (arith, nat_tests); alone = not_true has_pages alone }
+    record { few = grind (arith, nat_tests); small = grind (arith, nat_tests); alone = not-true has_pages alone }
 
 chunks_read : (ms : Members) (read : Option (List (ℕ × ℕ))) → chunks ms ≡ Ok read → IfSome read (Fit (is_there (name_of key.Pages) ms))
 chunks_read ms read h =

@@ -17,9 +17,6 @@ all_of_both (call ∷ first) later calls = all_of_both first later (recorded cal
 pub tells_none : (calls : Option (List Call)) → Tells [] calls calls
 tells_none calls = inr refl
 
-pub tells_same : (old new : Option (List Call)) → new ≡ old → Tells [] old new
-tells_same old new e = inr e
-
 tells_later : (first later : List Call) (old mid new : Option (List Call)) → Tells first old mid → new ≡ all_recorded later mid → Tells (first ++ later) old new
 tells_later first later old mid new (inl e) f = inl (f ∙ ap (all_recorded later) e ∙ all_of_none later)
 tells_later first later old mid new (inr e) f = inr (f ∙ ap (all_recorded later) e ∙ sym (all_of_both first later old))

@@ -97,7 +97,7 @@ taken-moves r piece is = phase-moves r.phase r piece is.at
 
 -- Where no byte comes any more.
 
-not-over : (limit count : ℕ) (found : Reading) → count ≤ limit → within limit count found ≡ found
+pub not-over : (limit count : ℕ) (found : Reading) → count ≤ limit → within limit count found ≡ found
 not-over limit count found h = ap (λ (b : Bool). within_if b limit found) (le-ltb limit count h)
 
 none-four : (word : Option ℕ) (count : ℕ) → HasFour word count → count < 4 → word ≡ None

@@ -2,7 +2,7 @@
 use Rattle.std.proofs.Common.{◌≡◌, ℕ, zero, suc, ◌+◌, ◌*◌, ◌%◌, ◌^◌, max, ◌<◌, ◌≤◌, Bool, true, false, cond, not, ◌&&◌, List, [], ◌∷◌, ◌++◌, length, get_or, drop, Option, Some, None, Result, Ok, Err, refl, sym, ap, subst, ◌∙◌, arith, append_assoc}
 use Rattle.std.specs.Prelude.{nat_lt, nat_le, ◌==◌}
 use Rattle.std.specs.List.{All, list_any, position, prefix_len}
-use Rattle.std.proofs.lemmas.Bool.{and_parts, ltb-false, leb-true, eqb-true, le-ltb, lt-ltb, le-leb}
+use Rattle.std.proofs.lemmas.Bool.{and_parts, ltb-false, leb-true, eqb-true, le-ltb, lt-ltb, le-leb, not-false}
 use Rattle.std.proofs.lemmas.List.{get_or-drop, append-nil}
 use Rattle.std.proofs.lemmas.List.Elements.{All-cons}
 use Rattle.byteorder.specs.Endian.{little_number}
@@ -36,10 +36,6 @@ no_fault false kind next e = (refl, e)
 pub some_fault : (b : Bool) (kind : FileKind) → cond b None (Some kind) ≡ None → b ≡ true
 some_fault true kind e = refl
 some_fault false kind e = absurd (cc)
-
-pub not_false : (b : Bool) → not b ≡ false → b ≡ true
-not_false true e = refl
-not_false false e = absurd (cc)
 
 abbrev pub IsBytes : List ℕ → Type 0
 IsBytes bytes = (i : ℕ) → get_or bytes i 0 < 256
@@ -75,14 +71,14 @@ page_right program from at e low =
     let a = no_fault (not (at % 4096 == 0)) fault.Page (cond (nat_lt at from) (Some fault.Order) (cond (shares_byte program (chunk at 4096)) (Some fault.Overlap) None)) e in
     let b = no_fault (nat_lt at from) fault.Order (cond (shares_byte program (chunk at 4096)) (Some fault.Overlap) None) a.1 in
     let c = no_fault (shares_byte program (chunk at 4096)) fault.Overlap None b.1 in
-    let paged : at % 4096 ≡ 0 = eqb-true (at % 4096) 0 (not_false (at % 4096 == 0) a.0) in
+    let paged : at % 4096 ≡ 0 = eqb-true (at % 4096) 0 (not-false (at % 4096 == 0) a.0) in
     (ltb-false at from b.0, record { at_aligned = omega arith; len_aligned = refl; some = omega arith; ends = omega arith }, c.0)
 
 address_right : (from at : ℕ) → address_fault from at ≡ None → (at % 4 ≡ 0) × (from ≤ at)
 address_right from at e =
     let a = no_fault (not (at % 4 == 0)) fault.Page (cond (nat_lt at from) (Some fault.Order) None) e in
     let b = no_fault (nat_lt at from) fault.Order None a.1 in
-    (eqb-true (at % 4) 0 (not_false (at % 4 == 0) a.0), ltb-false at from b.0)
+    (eqb-true (at % 4) 0 (not-false (at % 4 == 0) a.0), ltb-false at from b.0)
 
 not_zero : (n : ℕ) → not (n == 0) ≡ true → 0 < n
 not_zero zero e = absurd (cc)
@@ -92,7 +88,7 @@ length_right : (program : RiscProgram) (from sum at len : ℕ) → length_fault 
 length_right program from sum at len e h =
     let a = no_fault (not (is_length sum at len)) fault.Length (cond (shares_byte program (chunk at len)) (Some fault.Overlap) None) e in
     let b = no_fault (shares_byte program (chunk at len)) fault.Overlap None a.1 in
-    let all : is_length sum at len ≡ true = not_false (is_length sum at len) a.0 in
+    let all : is_length sum at len ≡ true = not-false (is_length sum at len) a.0 in
     let last = and_parts (not (len == 0) && len % 4 == 0 && nat_le (at + len) (2 ^ 32)) (nat_le (sum + len) 16777216) all in
     let third = and_parts (not (len == 0) && len % 4 == 0) (nat_le (at + len) (2 ^ 32)) last.0 in
     let second = and_parts (not (len == 0)) (len % 4 == 0) third.0 in
@@ -120,21 +116,42 @@ page_read size program from sum bytes x fits e =
     let same : (chunk a.0.0 4096, a.0.1) ≡ x = ok_is (chunk a.0.0 4096, a.0.1) x b.2 in
     subst (λ (y : Chunk × List ℕ). ChunkRight Paged program from sum y) same (right, refl, number.1)
 
-long_chunk_read : (size : ℕ) (program : RiscProgram) (from sum : ℕ) (bytes : List ℕ) (x : Chunk × List ℕ) → IsBytes bytes → long_chunk_field size program from sum bytes ≡ Ok x → ChunkRight Chunked program from sum x
+-- what was read of a chunk and its length, neither of which is at fault
+pub record LongChunk (size : ℕ) (program : RiscProgram) (from sum : ℕ) (bytes : List ℕ) (x : Chunk × List ℕ) : Type 0 where
+  pub at : ℕ × List ℕ
+  pub at_read : number_field size bytes ≡ Ok at
+  pub at_fine : address_fault from at.0 ≡ None
+  pub len : ℕ × List ℕ
+  pub len_read : number_field size at.1 ≡ Ok len
+  pub len_fine : length_fault program sum at.0 len.0 ≡ None
+  pub is : (chunk at.0 len.0, len.1) ≡ x
+
+pub long_chunk_parts : (size : ℕ) (program : RiscProgram) (from sum : ℕ) (bytes : List ℕ) (x : Chunk × List ℕ) → long_chunk_field size program from sum bytes ≡ Ok x → LongChunk size program from sum bytes x
 unfolding long_chunk_field
-long_chunk_read size program from sum bytes x fits e =
+long_chunk_parts size program from sum bytes x e =
     let a = bind_ok (number_field size bytes)
     (λ at. judged (address_fault from at.0) size bytes >>= λ _. number_field size at.1 >>= λ len. judged (length_fault program sum at.0 len.0) size at.1 >>= λ _. Ok (chunk at.0 len.0, len.1)) x e in
     let b = bind_ok (judged (address_fault from a.0.0) size bytes)
     (λ _. number_field size a.0.1 >>= λ len. judged (length_fault program sum a.0.0 len.0) size a.0.1 >>= λ _. Ok (chunk a.0.0 len.0, len.1)) x a.2 in
     let c = bind_ok (number_field size a.0.1) (λ len. judged (length_fault program sum a.0.0 len.0) size a.0.1 >>= λ _. Ok (chunk a.0.0 len.0, len.1)) x b.2 in
     let d = bind_ok (judged (length_fault program sum a.0.0 c.0.0) size a.0.1) (λ _. Ok (chunk a.0.0 c.0.0, c.0.1)) x c.2 in
-    let first = number_fits size bytes a.0 fits a.1 in
-    let second = number_fits size a.0.1 c.0 first.1 c.1 in
-    let address = address_right from a.0.0 (judged_ok (address_fault from a.0.0) size bytes b.0 b.1) in
-    let right = length_right program from sum a.0.0 c.0.0 (judged_ok (length_fault program sum a.0.0 c.0.0) size a.0.1 d.0 d.1) address in
-    let same : (chunk a.0.0 c.0.0, c.0.1) ≡ x = ok_is (chunk a.0.0 c.0.0, c.0.1) x d.2 in
-    subst (λ (y : Chunk × List ℕ). ChunkRight Chunked program from sum y) same (right.0, right.1, second.1)
+    record {
+      at = a.0;
+      at_read = a.1;
+      at_fine = judged_ok (address_fault from a.0.0) size bytes b.0 b.1;
+      len = c.0;
+      len_read = c.1;
+      len_fine = judged_ok (length_fault program sum a.0.0 c.0.0) size a.0.1 d.0 d.1;
+      is = ok_is (chunk a.0.0 c.0.0, c.0.1) x d.2;
+    }
+
+long_chunk_read : (size : ℕ) (program : RiscProgram) (from sum : ℕ) (bytes : List ℕ) (x : Chunk × List ℕ) → IsBytes bytes → long_chunk_field size program from sum bytes ≡ Ok x → ChunkRight Chunked program from sum x
+long_chunk_read size program from sum bytes x fits e =
+    let c = long_chunk_parts size program from sum bytes x e in
+    let first = number_fits size bytes c.at fits c.at_read in
+    let second = number_fits size c.at.1 c.len first.1 c.len_read in
+    let right = length_right program from sum c.at.0 c.len.0 c.len_fine (address_right from c.at.0 c.at_fine) in
+    subst (λ (y : Chunk × List ℕ). ChunkRight Chunked program from sum y) c.is (right.0, right.1, second.1)
 
 chunk_read : (layout : Layout) (size : ℕ) (program : RiscProgram) (from sum : ℕ) (bytes : List ℕ) (x : Chunk × List ℕ) → IsBytes bytes → chunk_field layout size program from sum bytes ≡ Ok x → ChunkRight layout program from sum x
 chunk_read Paged size program from sum bytes x fits e = page_read size program from sum bytes x fits e

@@ -43,9 +43,6 @@ number_at-six (a ∷ b ∷ c ∷ d ∷ rest) = refl
 abbrev pub Keeps : Found → Found → Type 0
 Keeps found longer = (found ≡ Cut) ⊎ (longer ≡ found)
 
-abbrev pub KeepsNumber : (Option ℕ → Found) → Option ℕ → Option ℕ → Type 0
-KeepsNumber f short long = Keeps (f short) (f long)
-
 keeps_number : (f : Option ℕ → Found) (short long : Option ℕ) → f None ≡ Cut → (short ≡ None) ⊎ (long ≡ short) → Keeps (f short) (f long)
 keeps_number f short long cut (inl e) = inl (ap f e ∙ cut)
 keeps_number f short long cut (inr e) = inr (ap f e)

@@ -7,6 +7,7 @@ mod Wanting
 pub mod Fronts
 pub mod Programs
 pub mod Chunks
+pub mod FourBytes
 pub mod Puts
 pub mod Images
 pub mod Spelled

@@ -13,7 +13,7 @@ use Rattle.capture_file.specs.declared.records.Form.{Form}
 use Rattle.capture_file.specs.declared.records.Form.TheVariants.{Bfs1, Bfs2, Bfs3}
 use Rattle.capture_file.specs.declared.records.Found.{Found}
 use Rattle.capture_file.specs.declared.records.Found.TheVariants.{Cut, Wrong, Last, Whole}
-use Rattle.capture_file.specs.Streams.{Reading, reading, with_step, Unfinished, Ended, Bad, fault_at, number_at, form_of, record_at, records, within, within_if, too_long, after_end, first_trigger, turns_of, stream_of, judged, opened, opened_by}
+use Rattle.capture_file.specs.Streams.{Reading, reading, with_step, Ended, Bad, fault_at, number_at, form_of, record_at, records, within, within_if, too_long, after_end, first_trigger, turns_of, stream_of, judged, opened, opened_by}
 use Rattle.capture_file.specs.Records.{HasFour, Spans, Passes}
 use Rattle.capture_file.proofs.Fields.{Keeps, number_at-four, number_at-append, record_at-spans, record_at-passes, record_at-append}
 use Rattle.capture_file.proofs.Readings.{records-front, front_of}
@@ -179,10 +179,6 @@ module _ (form : Form) (limit : ℕ) (chained : Bool) (place turns : ℕ) (held 
       (record_at-append form turns (held ++ take (limit - place) piece) (take (limit - place - length piece) more))
 
 -- In the first word.
-
--- a stream whose first word is not whole
-opening-short : (limit : ℕ) (chained : Bool) (bytes : List ℕ) → number_at (take limit bytes) ≡ None → judged chained (take limit bytes) ≡ reading [] Unfinished
-opening-short limit chained bytes e = ap (λ (word : Option ℕ). opened_by chained word (drop 4 (take limit bytes))) e
 
 module _ (limit : ℕ) (chained : Bool) (held piece more : List ℕ) (below : length held ≤ limit) where
   joined : take limit (held ++ (piece ++ more)) ≡ held ++ take (limit - length held) (piece ++ more)

@@ -2,9 +2,7 @@
 use Rattle.std.proofs.Common.{◌≡◌, ℕ, zero, suc, ◌+◌, ◌*◌, ◌%◌, ◌^◌, ◌<◌, ◌≤◌, ◌⊎◌, inl, inr, Bool, true, false, cond, not, ◌&&◌, List, [], ◌∷◌, ◌++◌, length, drop, Option, Some, None, Ok, Err, refl, sym, ap, subst, ◌∙◌, arith, append_assoc}
 use Rattle.std.specs.Prelude.{nat_lt, nat_le, ◌==◌, codes}
 use Rattle.std.specs.List.{All, flat_map, list_all}
-use Rattle.std.specs.Int.{w32, from_le_bytes}
-use Rattle.std.proofs.lemmas.Bool.{and_parts, leb-true, eqb-true}
-use Rattle.std.proofs.lemmas.Nat.{le_bytes_4}
+use Rattle.std.proofs.lemmas.Bool.{and_parts, leb-true, eqb-true, not-false}
 use Rattle.std.proofs.lemmas.List.Elements.{All-cons}
 use Rattle.byteorder.specs.Endian.{little_number, little_bytes}
 use Rattle.page_table.specs.Grants.{Chunk, chunk, AreGrants, is_page}
@@ -14,9 +12,10 @@ use Rattle.capture_file.specs.declared.FileKind.TheVariants as fault
 use Rattle.capture_file.specs.declared.program.Layout.{Layout}
 use Rattle.capture_file.specs.declared.program.Layout.TheVariants.{Paged, Chunked}
 use Rattle.capture_file.specs.declared.program.ProgramFile.{ProgramFile}
-use Rattle.capture_file.specs.Programs.{◌>>=◌, number_field, layout_field, layout_or_magic, base_field, word_count_field, words_in, words_field, chunk_count_field, page_field, long_chunk_field, chunk_field, chunks_field, fill_field, program_of, without_grants, base_fault, word_count_fault, chunk_count_fault, page_fault, address_fault, length_fault, fill_fault, judged, nothing_after, numbers_spelled, page_spelled, chunk_spelled, chunk_in, name_of, layout_for, spelled, spelled_as, cut, IsFile}
-use Rattle.capture_file.proofs.Chunks.{bind_ok, judged_ok, ok_is, no_fault, not_false, IsBytes, IsBytes-drop, chunks_read, totals_small, some_fault}
+use Rattle.capture_file.specs.Programs.{◌>>=◌, number_field, layout_field, layout_or_magic, base_field, word_count_field, words_in, words_field, chunk_count_field, page_field, long_chunk_field, chunk_field, chunks_field, fill_field, program_of, without_grants, base_fault, word_count_fault, chunk_count_fault, page_fault, fill_fault, judged, nothing_after, numbers_spelled, page_spelled, chunk_spelled, chunk_in, name_of, layout_for, spelled, spelled_as, cut, IsFile}
+use Rattle.capture_file.proofs.Chunks.{bind_ok, judged_ok, ok_is, no_fault, IsBytes, IsBytes-drop, chunks_read, totals_small, some_fault, long_chunk_parts}
 use Rattle.capture_file.proofs.Spelled.{tail_of, line_of, in_line, with_layout, with_base, with_count, with_words, with_chunk_count, with_chunks, field_by_field}
+use Rattle.capture_file.proofs.FourBytes.{four_back, number_low}
 
 -- ---- numbers
 
@@ -32,18 +31,8 @@ number_takes size (a ∷ b ∷ c ∷ []) x fits e = absurd (cc)
 number_takes size (a ∷ b ∷ c ∷ d ∷ rest) x fits e =
     let front : List ℕ = a ∷ b ∷ c ∷ d ∷ [] in
     let same : (little_number 4 front, rest) ≡ x = ok_is (little_number 4 front, rest) x e in
-    let low : little_number 4 front < 2 ^ 32 = omega (arith, fits 0, fits 1, fits 2, fits 3) in
-    let word : little_number 4 front ≡ from_le_bytes w32 front = omega arith in
-    let back : little_bytes 4 (little_number 4 front) ≡ front = le_bytes_4 front (little_number 4 front) refl (four_fit a b c d rest fits) word in
     subst (λ (p : ℕ × List ℕ). Takes (a ∷ b ∷ c ∷ d ∷ rest) (little_bytes 4 p.0) p.1 × (p.0 < 2 ^ 32)) same
-    (record { parts = ap (λ (zs : List ℕ). zs ++ rest) (sym back); fits = IsBytes-drop 4 (a ∷ b ∷ c ∷ d ∷ rest) fits }, low)
-  where
-    four_fit : (a b c d : ℕ) (rest : List ℕ) → IsBytes (a ∷ b ∷ c ∷ d ∷ rest) → IsBytes (a ∷ b ∷ c ∷ d ∷ [])
-    four_fit a b c d rest fits zero = fits 0
-    four_fit a b c d rest fits (suc zero) = fits 1
-    four_fit a b c d rest fits (suc (suc zero)) = fits 2
-    four_fit a b c d rest fits (suc (suc (suc zero))) = fits 3
-    four_fit a b c d rest fits (suc (suc (suc (suc i)))) = omega arith
+    (record { parts = ap (λ (zs : List ℕ). zs ++ rest) (sym (four_back a b c d rest fits)); fits = IsBytes-drop 4 (a ∷ b ∷ c ∷ d ∷ rest) fits }, number_low a b c d rest fits)
 
 -- ---- the first word
 
@@ -176,26 +165,19 @@ page_takes size program from bytes x fits e =
     let right = judged_ok (page_fault program from a.0.0) size bytes b.0 b.1 in
     let paged = no_fault (not (a.0.0 % 4096 == 0)) fault.Page (cond (nat_lt a.0.0 from) (Some fault.Order) (cond (shares_byte program (chunk a.0.0 4096)) (Some fault.Overlap) None)) right in
     let same : (chunk a.0.0 4096, a.0.1) ≡ x = ok_is (chunk a.0.0 4096, a.0.1) x b.2 in
-    let page : is_page (chunk a.0.0 4096) ≡ true = ap (λ (t : Bool). t && true) (not_false (a.0.0 % 4096 == 0) paged.0) in
+    let page : is_page (chunk a.0.0 4096) ≡ true = ap (λ (t : Bool). t && true) (not-false (a.0.0 % 4096 == 0) paged.0) in
     subst (λ (y : Chunk × List ℕ). Takes bytes (page_spelled y.0) y.1 × (is_page y.0 ≡ true)) same (n.0, page)
 
 long_chunk_takes : (size : ℕ) (program : RiscProgram) (from sum : ℕ) (bytes : List ℕ) (x : Chunk × List ℕ) → IsBytes bytes → long_chunk_field size program from sum bytes ≡ Ok x →
     Takes bytes (chunk_spelled x.0) x.1
-unfolding long_chunk_field
 long_chunk_takes size program from sum bytes x fits e =
-    let a = bind_ok (number_field size bytes)
-    (λ at. judged (address_fault from at.0) size bytes >>= λ _. number_field size at.1 >>= λ len. judged (length_fault program sum at.0 len.0) size at.1 >>= λ _. Ok (chunk at.0 len.0, len.1)) x e in
-    let b = bind_ok (judged (address_fault from a.0.0) size bytes)
-    (λ _. number_field size a.0.1 >>= λ len. judged (length_fault program sum a.0.0 len.0) size a.0.1 >>= λ _. Ok (chunk a.0.0 len.0, len.1)) x a.2 in
-    let c = bind_ok (number_field size a.0.1) (λ len. judged (length_fault program sum a.0.0 len.0) size a.0.1 >>= λ _. Ok (chunk a.0.0 len.0, len.1)) x b.2 in
-    let d = bind_ok (judged (length_fault program sum a.0.0 c.0.0) size a.0.1) (λ _. Ok (chunk a.0.0 c.0.0, c.0.1)) x c.2 in
-    let first = number_takes size bytes a.0 fits a.1 in
-    let second = number_takes size a.0.1 c.0 first.0.fits c.1 in
-    let same : (chunk a.0.0 c.0.0, c.0.1) ≡ x = ok_is (chunk a.0.0 c.0.0, c.0.1) x d.2 in
-    subst (λ (y : Chunk × List ℕ). Takes bytes (chunk_spelled y.0) y.1) same
+    let c = long_chunk_parts size program from sum bytes x e in
+    let first = number_takes size bytes c.at fits c.at_read in
+    let second = number_takes size c.at.1 c.len first.0.fits c.len_read in
+    subst (λ (y : Chunk × List ℕ). Takes bytes (chunk_spelled y.0) y.1) c.is
     (record {
       parts =
-          first.0.parts ∙ ap (λ (zs : List ℕ). little_bytes 4 a.0.0 ++ zs) second.0.parts ∙ sym (append_assoc (little_bytes 4 a.0.0) (little_bytes 4 c.0.0) c.0.1);
+          first.0.parts ∙ ap (λ (zs : List ℕ). little_bytes 4 c.at.0 ++ zs) second.0.parts ∙ sym (append_assoc (little_bytes 4 c.at.0) (little_bytes 4 c.len.0) c.len.1);
       fits = second.0.fits;
     })
 

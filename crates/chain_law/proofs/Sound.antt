@@ -1,6 +1,6 @@
 -- A part that is the fragment of a description is sound alone.
 use Rattle.std.proofs.Common.{◌≡◌, ℕ, zero, suc, ◌+◌, ◌*◌, ◌<◌, ◌≤◌, ◌⊎◌, inl, inr, true, List, [], ◌∷◌, ◌++◌, length, append_assoc, Option, Some, None, Ok, refl, sym, ap, ◌∙◌, subst, arith}
-use Rattle.std.proofs.lemmas.Bool.{cond-true, cases_eq, cases_lt}
+use Rattle.std.proofs.lemmas.Bool.{cases_eq, cases_lt}
 use Rattle.std.proofs.lemmas.List.{get_or-set_other}
 use Rattle.risc_word.specs.declared.Instr.{Instr}
 use Rattle.risc_word.specs.declared.Instr.TheVariants.{Write, Skip, WriteC, Jump, Sync, Write123, Skip123, Write1S23}
@@ -12,19 +12,20 @@ use Rattle.pixel_layout.specs.declared.Parity.TheVariants.{Top, Bottom}
 use Rattle.machine_model.specs.declared.Cause.{Cause}
 use Rattle.machine_model.specs.Paths.{RiscProgram, Place, AreWithin, IsSound, cause_at, fetch, instr_cause, is_word, next_by, next_place, path, place_after, place_read, reading_cause, target_before}
 use Rattle.machine_model.proofs.Wider.{data-wider}
+use Rattle.machine_model.proofs.BeforeTurns.{word_there}
 use Rattle.capture_desc.specs.declared.desc.Desc.{Desc}
 use Rattle.capture_desc.specs.declared.desc.Fields.{Fields}
 use Rattle.capture_desc.specs.declared.desc.Fields.TheVariants as fields
 use Rattle.picture_model.specs.Described.{describes, memory_of}
 use Rattle.picture_model.specs.Programs.{body, closing, opening, section, section_length, sections, sections_by, words_of}
-use Rattle.picture_model.proofs.Circle.{Goes, IsAt, IsFineInstr, IsPlain, IsSome, Lead, lead_at, lead_plain, split_length, words_split}
+use Rattle.picture_model.proofs.Circle.{IsAt, IsFineInstr, IsPlain, IsSome, Lead, lead_at, lead_plain, split_length, words_split, goes_after}
 use Rattle.picture_model.proofs.Each.{Each, each_append, each_only}
 use Rattle.picture_model.proofs.FaultlessLines.{IsGoodInstr}
 use Rattle.picture_model.proofs.FaultlessGeometry.{IsRight, IsFrame-IsRight}
 use Rattle.picture_model.proofs.Sections.{closing_fine, good_body, section_long}
 use Rattle.chain_model.specs.Chains.{Chain, IsChain, alone, alone_in, head, jump_word, next, part_at, part_of, slot_at, target, unpatched}
 use Rattle.chain_model.proofs.Slots.{jumps_to, length-alone, part_at-own, part_at-unpatched, slot_is_word}
-use Rattle.chain_model.proofs.Words.{back_read, slot_read, word_there}
+use Rattle.chain_model.proofs.Words.{back_read, slot_read}
 use Rattle.chain_law.specs.Fragments.{FragmentIsSound, FragmentsAreSound, IsFragment}
 use Rattle.chain_law.proofs.Splits.{fetch_there, fine_there, following, head_there, part_split, word_at_there, words_after, words_before}
 
@@ -250,16 +251,6 @@ module _ (chain : Chain) (is : IsChain chain) (part : ℕ) (there : part < lengt
   more_by place at (i ∷ rest) e some =
       inr (following program (words_before chain (alone_in chain (Some part)) part) (words_after chain (alone_in chain (Some part)) part) instrs split begin at_begin fine place.pc at i rest e)
 
-  goes_by : (i : Instr) (count : ℕ) (after : List Instr) (place : Place) → Goes Here i after → (IsSome after → Here (place.pc + 4 * count)) → Here (place_after i count place).pc
-  goes_by (Jump ctl address) count after place goes more = goes
-  goes_by (Write ctl ends off n addr) count after place goes more = more goes
-  goes_by (Skip ctl ends n) count after place goes more = more goes
-  goes_by (WriteC ctl ends off n) count after place goes more = more goes
-  goes_by (Sync ctl resync code) count after place goes more = more goes
-  goes_by (Write123 ctl ends off counts addrs) count after place goes more = more goes
-  goes_by (Skip123 ctl ends counts) count after place goes more = more goes
-  goes_by (Write1S23 ctl ends off counts addr) count after place goes more = more goes
-
   instr_on : (place : Place) → IsAt begin instrs place.pc → GoesOn place
   instr_on place at =
       let front = words_before chain (alone_in chain (Some part)) part in
@@ -274,7 +265,7 @@ module _ (chain : Chain) (is : IsChain chain) (part : ℕ) (there : part < lengt
         no_cause = none;
         onwards =
             subst (λ (p : Place). Here p.pc) (sym next)
-            (goes_by at.instr (length (encoded at.instr)) at.after place goes (λ some. more_by place at at.after refl some));
+            (goes_after Here at.instr (length (encoded at.instr)) at.after place goes (λ some. more_by place at at.after refl some));
       }
 
   goes_on : (place : Place) → Here place.pc → GoesOn place

@@ -4,8 +4,9 @@ use Rattle.std.specs.Prelude.{slice_index_or}
 use Rattle.risc_word.specs.declared.Instr.{Instr}
 use Rattle.risc_word.specs.Words.{encoded}
 use Rattle.machine_model.specs.Paths.{RiscProgram, is_word, fetch}
+use Rattle.machine_model.proofs.BeforeTurns.{word_there}
 use Rattle.picture_model.specs.Programs.{words_of}
-use Rattle.picture_model.proofs.Circle.{IsAt, IsFineInstr, a_word, split_length, words_split}
+use Rattle.picture_model.proofs.Circle.{IsAt, IsFineInstr, split_length, words_split}
 use Rattle.picture_model.proofs.Each.{Each, each_at}
 use Rattle.picture_law.proofs.Program.{fetched_at}
 use Rattle.chain_model.specs.declared.PartWords.{PartWords}
@@ -70,7 +71,7 @@ module _ (program : RiscProgram) (before after : List ℕ) (instrs : List Instr)
       let all : length program.words ≡ length front + (length (encoded at.instr) + length (words_of at.after ++ after)) =
       ap length (words_there address at) ∙ split_length front (encoded at.instr) (words_of at.after ++ after) in
       let some = (fine_there address at).some in
-      ap (is_word program) (address_there address at) ∙ a_word program (length front) (omega arith)
+      ap (is_word program) (address_there address at) ∙ word_there program (length front) (omega arith)
 
   -- the instruction after one that stands at an address
   pub following : (address : ℕ) (at : IsAt begin instrs address) (next : Instr) (rest : List Instr) → at.after ≡ next ∷ rest →

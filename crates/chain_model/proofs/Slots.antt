@@ -1,5 +1,5 @@
 -- The paths of a chain's programs over the slots: a slot that leads to no part leads on to the next.
-use Rattle.std.proofs.Common.{◌≡◌, ℕ, zero, suc, ◌+◌, ◌-◌, ◌*◌, ◌/◌, ◌%◌, ◌<◌, ◌≤◌, ◌⊎◌, inl, inr, Bool, true, false, All, List, length, Option, Some, None, Ok, Err, IsTrue, refl, sym, ap, subst, ◌∙◌, arith, if◌then◌else◌}
+use Rattle.std.proofs.Common.{◌≡◌, ℕ, zero, suc, ◌+◌, ◌-◌, ◌*◌, ◌/◌, ◌%◌, ◌<◌, ◌≤◌, ◌⊎◌, inl, inr, true, length, Option, Some, None, Ok, Err, refl, sym, ap, subst, ◌∙◌, arith}
 use Rattle.std.proofs.lemmas.Bool.{cond-true, cases_lt, cases_eq}
 use Rattle.std.proofs.lemmas.List.{get_or-replicate, get_or-set_other, get_or-set_same, get_or_past, length-replicate, length-set}
 use Rattle.risc_word.specs.declared.Ctl.{Ctl}
@@ -11,9 +11,9 @@ use Rattle.risc_word.specs.Words.{Reading, control_bits}
 use Rattle.machine_model.specs.declared.Cause.{Cause}
 use Rattle.machine_model.specs.Paths.{RiscProgram, Place, is_word, word_number, fetch, reading_cause, cause_at, next_by, next_place, place_after, place_read, path, IsSound}
 use Rattle.machine_model.proofs.Places.{place-IsFine, path-suc, jump-is_word, instr-fine}
-use Rattle.machine_model.proofs.BeforeTurns.{is_word-IsWord, fetch-is_word}
+use Rattle.machine_model.proofs.BeforeTurns.{is_word-IsWord, fetch-is_word, word_there}
 use Rattle.chain_model.specs.Chains.{Chain, Patching, IsChain, IsPart, IsSoundChain, Belongs, alone, alone_in, chain_limit, head, jump_word, next, part_at, part_of, patched, slot_at, target, unpatched}
-use Rattle.chain_model.proofs.Words.{word_there, slot_read, back_read, operand_read, length-patched}
+use Rattle.chain_model.proofs.Words.{slot_read, back_read, operand_read, length-patched}
 
 -- ---- patchings
 

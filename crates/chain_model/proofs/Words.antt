@@ -8,14 +8,10 @@ use Rattle.risc_word.specs.declared.WordFault.TheVariants.{Cut, Reserved}
 use Rattle.risc_word.specs.Words.{by_opcode, control_bits, first_instr, instr_at}
 use Rattle.machine_model.specs.Paths.{RiscProgram, is_word, word_number, fetch}
 use Rattle.machine_model.specs.Accesses.{AreFetchedAlike}
-use Rattle.machine_model.proofs.BeforeTurns.{IsWord-is_word, is_word-IsWord}
+use Rattle.machine_model.proofs.BeforeTurns.{is_word-IsWord, word_there}
 use Rattle.chain_model.specs.Chains.{Chain, Patching, chain_limit, jump_word, loop_words, part_at, patched, slot_at, target, words_of_parts}
 
 -- ---- a word of a program, by its number
-
-pub word_there : (program : RiscProgram) (n : ℕ) → n < length program.words → is_word program (program.base + 4 * n) ≡ true
-word_there program n inside =
-    IsWord-is_word program (program.base + 4 * n) (record { begins = omega arith; aligned = omega arith; inside = omega arith })
 
 pub read_there : (program : RiscProgram) (n : ℕ) → n < length program.words → fetch program (program.base + 4 * n) ≡ instr_at program.words n
 read_there program n inside =

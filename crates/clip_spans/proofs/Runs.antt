@@ -19,7 +19,7 @@ other_answer true false e = refl
 other_answer false true e = refl
 other_answer false false e = cc
 
-never_both : (b : Bool) → b ≡ not b → ⊥
+pub never_both : (b : Bool) → b ≡ not b → ⊥
 never_both true e = cc
 never_both false e = cc
 

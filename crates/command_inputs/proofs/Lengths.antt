@@ -8,9 +8,9 @@ use Rattle.capture_file.specs.declared.FileKind.{FileKind}
 use Rattle.capture_file.specs.declared.FileKind.TheVariants as fault
 use Rattle.capture_file.specs.declared.program.Layout.{Layout}
 use Rattle.capture_file.specs.declared.program.Layout.TheVariants.{Paged, Chunked}
-use Rattle.capture_file.specs.Programs.{◌>>=◌, number_or_cut, number_field, layout_field, layout_or_magic, layout_of, base_field, word_count_field, words_in, words_field, chunk_count_field, page_field, long_chunk_field, chunk_field, chunks_field, base_fault, word_count_fault, chunk_count_fault, page_fault, address_fault, length_fault, judged, cut}
+use Rattle.capture_file.specs.Programs.{◌>>=◌, number_or_cut, number_field, layout_field, layout_or_magic, layout_of, base_field, word_count_field, words_in, words_field, chunk_count_field, page_field, long_chunk_field, chunk_field, chunks_field, base_fault, word_count_fault, chunk_count_fault, page_fault, judged, cut}
 use Rattle.capture_file.specs.Streams.{number_at}
-use Rattle.capture_file.proofs.Chunks.{bind_ok, judged_ok, ok_is, some_fault}
+use Rattle.capture_file.proofs.Chunks.{bind_ok, judged_ok, ok_is, some_fault, long_chunk_parts}
 
 number_rest : (size : ℕ) (n : Option ℕ) (rest : List ℕ) (x : ℕ × List ℕ) → number_or_cut size n rest ≡ Ok x → rest ≡ x.1
 number_rest size None rest x e = absurd (cc)
@@ -83,18 +83,11 @@ page_len size program from bytes x e =
     subst (λ (y : Chunk × List ℕ). length bytes ≤ 8 + length y.1) same (omega (arith, one))
 
 long_chunk_len : (size : ℕ) (program : RiscProgram) (from sum : ℕ) (bytes : List ℕ) (x : Chunk × List ℕ) → long_chunk_field size program from sum bytes ≡ Ok x → length bytes ≤ 8 + length x.1
-unfolding long_chunk_field
 long_chunk_len size program from sum bytes x e =
-    let a = bind_ok (number_field size bytes)
-    (λ at. judged (address_fault from at.0) size bytes >>= λ _. number_field size at.1 >>= λ len. judged (length_fault program sum at.0 len.0) size at.1 >>= λ _. Ok (chunk at.0 len.0, len.1)) x e in
-    let b = bind_ok (judged (address_fault from a.0.0) size bytes)
-    (λ _. number_field size a.0.1 >>= λ len. judged (length_fault program sum a.0.0 len.0) size a.0.1 >>= λ _. Ok (chunk a.0.0 len.0, len.1)) x a.2 in
-    let c = bind_ok (number_field size a.0.1) (λ len. judged (length_fault program sum a.0.0 len.0) size a.0.1 >>= λ _. Ok (chunk a.0.0 len.0, len.1)) x b.2 in
-    let d = bind_ok (judged (length_fault program sum a.0.0 c.0.0) size a.0.1) (λ _. Ok (chunk a.0.0 c.0.0, c.0.1)) x c.2 in
-    let same : (chunk a.0.0 c.0.0, c.0.1) ≡ x = ok_is (chunk a.0.0 c.0.0, c.0.1) x d.2 in
-    let one = number_len size bytes a.0 a.1 in
-    let two = number_len size a.0.1 c.0 c.1 in
-    subst (λ (y : Chunk × List ℕ). length bytes ≤ 8 + length y.1) {x = (chunk a.0.0 c.0.0, c.0.1)} same (omega (arith, one, two))
+    let c = long_chunk_parts size program from sum bytes x e in
+    let one = number_len size bytes c.at c.at_read in
+    let two = number_len size c.at.1 c.len c.len_read in
+    subst (λ (y : Chunk × List ℕ). length bytes ≤ 8 + length y.1) c.is (omega (arith, one, two))
 
 pub chunk_len : (layout : Layout) (size : ℕ) (program : RiscProgram) (from sum : ℕ) (bytes : List ℕ) (x : Chunk × List ℕ) → chunk_field layout size program from sum bytes ≡ Ok x → length bytes ≤ 8 + length x.1
 chunk_len Paged size program from sum bytes x e = page_len size program from bytes x e

@@ -4,13 +4,12 @@ use Rattle.std.proofs.Math.Seq.{drop-cons}
 use Rattle.std.proofs.Math.ListN.{drop_of_length-le}
 use Rattle.capture_desk.specs.declared.calls.Call.{Call}
 use Rattle.capture_desk.specs.declared.calls.Call.TheVariants.{CreateOut, Finish, Say}
-use Rattle.capture_desk.specs.Desks.{IsWriteFault, OnlySaid, SayCounts, Seen, Told, Tells, after_say, counted, said_by}
-use Rattle.capture_desk.proofs.Telling.{tells_both, tells_none}
+use Rattle.capture_desk.specs.Desks.{OnlySaid, SayCounts, Seen, Told, Tells, said_by}
+use Rattle.capture_desk.proofs.Telling.{tells_both}
 use Rattle.command_steps.specs.declared.outputs.Output.{Output}
 use Rattle.command_steps.specs.Inputs.{SameCounts}
 use Rattle.command_steps.specs.Reading.{Calls}
-use Rattle.command_steps.specs.Outputs.{IsDeliveryOf, IsDeliveryPart, IsFileOf, IsFilePart, IsPart, after_file, delivered, delivery, files_of, names_of}
-use Rattle.command_steps.proofs.Parts.{file_part}
+use Rattle.command_steps.specs.Outputs.{IsDeliveryOf, IsDeliveryPart, IsFileOf, IsPart, after_file, delivered, delivery, files_of, names_of}
 
 -- Of all files some were written, and these are left: what comes of them, comes of all.
 pub record IsUnderWay (files left : List (List ℕ × List ℕ)) (old now : Seen) : Type 0 where
@@ -21,18 +20,6 @@ pub record IsUnderWay (files left : List (List ℕ × List ℕ)) (old now : Seen
   pub tells : Tells made old.calls now.calls
   pub all_made : (text : List ℕ) → made ++ delivery (names_of left) text ≡ delivery (names_of files) text
   pub part_made : (calls : List Call) → IsDeliveryPart (names_of left) calls → IsDeliveryPart (names_of files) (made ++ calls)
-
-pub nothing_written : (files : List (List ℕ × List ℕ)) (s : Seen) → IsUnderWay files files s s
-nothing_written files s =
-    record {
-      whole = λ text. refl;
-      part = λ text t h. h;
-      counts = (refl, refl);
-      made = [];
-      tells = tells_none s.calls;
-      all_made = λ text. refl;
-      part_made = λ calls h. h;
-    }
 
 abbrev both : List ℕ → List Call
 both name = CreateOut name true ∷ Finish true ∷ []
@@ -51,11 +38,6 @@ one_written A E done files left name bytes old mid new h is counts (calls, same,
       part_made = λ calls p. subst (IsDeliveryPart (names_of files)) (sym (append_assoc h.made (both name) calls)) (h.part_made (both name ++ calls) (inr (inr (inr (calls, refl, p)))));
     }
 
--- or it is not
-pub not_written : (A E : Type 0) (failed : E) (files left : List (List ℕ × List ℕ)) (name bytes text : List ℕ) (old mid new : Seen) → IsUnderWay files ((name, bytes) ∷ left) old mid →
-    IsFilePart name bytes mid.told new.told → IsPart files text old.told new.told
-not_written A E failed files left name bytes text old mid new h p = h.part text new.told (file_part name bytes left text mid.told new.told p)
-
 pub not_written_calls : (A E : Type 0) (failed : E) (files left : List (List ℕ × List ℕ)) (name bytes : List ℕ) (old mid new : Seen) → IsUnderWay files ((name, bytes) ∷ left) old mid →
     Calls (IsFileOf {A = A} {E = E} name (Err failed)) mid new → Calls (IsDeliveryPart (names_of files)) old new
 not_written_calls A E failed files left name bytes old mid new h (calls, is, tells) =
@@ -66,14 +48,7 @@ not_written_calls A E failed files left name bytes old mid new h (calls, is, tel
     a_part (inr (inl e)) = inr (inl e)
     a_part (inr (inr e)) = inr (inr (inl e))
 
--- a fault follows
-pub fault_follows : (files left : List (List ℕ × List ℕ)) (old mid new : Seen) → IsUnderWay files left old mid → IsWriteFault mid new → IsWriteFault old new
-fault_follows files left old mid new h w = (w.0 ∙ h.counts.0, w.1 ∙ ap counted h.counts.1, w.2)
-
 -- ---- all are written, and the text is said
-
-pub text_said : (files : List (List ℕ × List ℕ)) (text : List ℕ) (old mid new : Seen) → IsUnderWay files [] old mid → new.told ≡ after_say text mid.told → new.told ≡ delivered files text old.told
-text_said files text old mid new h e = e ∙ h.whole text
 
 pub text_calls : (files : List (List ℕ × List ℕ)) (text : List ℕ) (old mid new : Seen) → IsUnderWay files [] old mid → OnlySaid text mid new →
     Tells (delivery (names_of files) text) old.calls new.calls

@@ -12,10 +12,6 @@ OfInput-map name (Some inputs) P Q f h = of_file (named name inputs) h
     of_file None h = h
     of_file (Some bytes) h = f bytes h
 
-pub OfRest-map : (rest : Option (List ℕ)) (P Q : List ℕ → Type 0) → ((bytes : List ℕ) → P bytes → Q bytes) → OfRest rest P → OfRest rest Q
-OfRest-map None P Q f h = tt
-OfRest-map (Some bytes) P Q f h = f bytes h
-
 -- the inputs stay through what only reads
 pub same_inputs : (a b : Told) → apart a ≡ apart b → a.inputs ≡ b.inputs
 same_inputs a b e = ap (λ (t : Told). t.inputs) e

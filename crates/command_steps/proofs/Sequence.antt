@@ -70,10 +70,6 @@ module _ (input : Input) (old mid : Seen) (reads : Reads input old mid) where
 pub took_none : (s : Seen) → Took [] s s
 took_none s = record { told = refl; reads = refl; writes = refl; calls = ([], refl, inr refl) }
 
--- behind all inputs only memory may be short
-pub stopped_none : (s : Seen) → Stopped [] NoMemory s s
-stopped_none s = record { told = refl; writes = refl; why = refl; calls = ([], refl, inr refl) }
-
 -- one input alone
 pub took_one : (input : Input) (old new : Seen) → Reads input old new → Through input old new → IsThereAndGood input old.told.inputs → Took (input ∷ []) old new
 took_one input old new reads through good = took_first input old new reads [] new through good (took_none new)

@@ -69,9 +69,6 @@ then_nothing f = simp or-false
 
 -- ---- one queue of three
 
-same_queue : (q : Queue) (held : QueueState) (queues : Queues) → queue_state q (with_queue_state q held queues) ≡ held
-same_queue q held queues = queue_state-with_queue_state q held queues
-
 other_queue : (p q : Queue) (held : QueueState) (queues : Queues) → is_queue p q ≡ false → queue_state p (with_queue_state q held queues) ≡ queue_state p queues
 other_queue One One held queues apart = cc
 other_queue One Two held queues apart = refl
@@ -252,7 +249,7 @@ module _ (q : Queue) (moved : Bool) (instr : Instr) (at : ℕ) where
         OneApplied m (judged Discard q instr ds entry m) ds place ts [] mark (record { took = false; left = not awaits; ended = false; gave = false })
     discards awaits is =
         let one = one_less (queue_state q m.queues).entries entry there in
-        let now = same_queue q (removed (queue_state q m.queues)) m.queues in
+        let now = queue_state-with_queue_state q (removed (queue_state q m.queues)) m.queues in
         let count = ap (λ (held : QueueState). length held.entries) now in
         record {
           served = record {
@@ -323,7 +320,7 @@ module _ (q : Queue) (moved : Bool) (instr : Instr) (at : ℕ) where
       goes_on_within false is not_fresh = not_started (kind_of entry.status) held.taken (demand_on q ds).rest count (verdict_by false is)
 
       now_held : queue_state q (took q count instr ds entry m).queues ≡ held_after at place held entry count there some whole
-      now_held = same_queue q (taken_from count held) m.queues ∙ taken_front count held held.entries entry there
+      now_held = queue_state-with_queue_state q (taken_from count held) m.queues ∙ taken_front count held held.entries entry there
 
       told : Tells (place_after at place held entry count there some whole) (held_after at place held entry count there some whole)
           (ts ++ taking at place held entry count there some ∷ []) (taken_mark (is_end (kind_of entry.status) && whole) mark)

@@ -189,9 +189,6 @@ module _ (memory : List Chunk) (strip : Strip) (laid : IsLaid memory strip) wher
 
 -- ---- the lines of a description
 
-one_moves : (planar : Bool) → moves planar One ≡ true
-one_moves planar = refl
-
 module _ (d : Desc) (right : IsRight d) where
   has_moved : (q : Queue) → moves (layout_of d).planar q ≡ true → has_plane d q ≡ true
   has_moved q does = plane_moves (layout_of d).planar q does

@@ -123,9 +123,6 @@ is_there at (a ∷ before) after = or_true (at == a) (is_among (before ++ at ∷
 
 -- ---- takings
 
-AreAt : ℕ → List Taking → Type 0
-AreAt here new = Each (λ t. t.at ≡ here) new
-
 none_taken : (addresses : List ℕ) (ts : List Taking) → Each (λ t. is_among addresses t.at ≡ false) ts → takes_in addresses ts ≡ []
 none_taken addresses [] none = refl
 none_taken addresses (t ∷ rest) none = cond-false (is_among addresses t.at) (t ∷ takes_in addresses rest) (takes_in addresses rest) none.0 ∙ none_taken addresses rest none.1

@@ -66,10 +66,6 @@ still_turn m machine still = turn-acted m ∙ ap counted_as (seen-acted m machin
     counted_as : State → State
     counted_as after = with_turns (counted m).turns after
 
-pub still-after : (m after : State) (s : Seen) → s ≡ seen m → (s.did ≡ Still → after ≡ counted m) → s.did ≡ Still → (seen after).did ≡ Still
-still-after m after s saw same still =
-    ap (λ (x : State). (seen x).did) (same still) ∙ ap (λ (x : Seen). x.did) (seen-counted m ∙ sym saw) ∙ still
-
 turned_still : (m : State) (s : Seen) (t : FieldTrack) (did : Did) → did ≡ Still → turned m.program did s t ≡ t
 turned_still m s t did is = ap (λ (x : Did). turned m.program x s t) is
 

@@ -1,7 +1,7 @@
 -- The turn behind the push of an entry that falls through stores its bytes, and leaves the queues as they were.
 use Rattle.std.proofs.Common.{◌≡◌, ℕ, ◌+◌, ◌<◌, ◌≤◌, ◌⊎◌, inl, inr, Bool, true, false, not, ◌==◌, List, [], ◌∷◌, ◌++◌, length, Some, None, refl, sym, ap, subst, ◌∙◌, arith, if◌then◌else◌}
 use Rattle.std.specs.Prelude.{◌&&◌, is_none}
-use Rattle.std.proofs.lemmas.Bool.{and_parts}
+use Rattle.std.proofs.lemmas.Bool.{and_parts, and_right, not-true}
 use Rattle.risc_word.specs.declared.Instr.{Instr}
 use Rattle.sync_status.specs.declared.Verdict.TheVariants.{Take}
 use Rattle.sync_status.specs.Statuses.{kind_of, valid_bytes, verdict_on}
@@ -25,7 +25,6 @@ use Rattle.dma_machine.specs.Counts.{acted}
 use Rattle.dma_machine.specs.FallThrough.{fallen_through, falls_in, falls_through, none_before}
 use Rattle.dma_machine.specs.Stills.{StillIf, runs_still, works_still}
 use Rattle.dma_machine.specs.WholeTakes.{takes_whole}
-use Rattle.dma_machine.proofs.Standing.{not_true}
 use Rattle.dma_machine.proofs.WholeTakes.{IsWhole, plain_whole}
 
 -- ---- an empty queue
@@ -75,15 +74,11 @@ four_taken entry held valid is =
 asks_some : (rest : ℕ) → 4 ≤ rest → (rest == 0) ≡ false
 asks_some rest some = grind (arith, some)
 
-and_none : (a b : Bool) → b ≡ false → (a && b) ≡ false
-and_none true b e = e
-and_none false b e = refl
-
 -- so the instruction is not done
 not_done : (q : Queue) (ds : Demands) → ((demand_on q ds).rest == 0) ≡ false → is_done ds ≡ false
 not_done One ds e = ap (λ none. none && (ds.two.rest == 0) && (ds.three.rest == 0)) e
-not_done Two ds e = ap (λ none. none && (ds.three.rest == 0)) (and_none (ds.one.rest == 0) (ds.two.rest == 0) e)
-not_done Three ds e = and_none ((ds.one.rest == 0) && (ds.two.rest == 0)) (ds.three.rest == 0) e
+not_done Two ds e = ap (λ none. none && (ds.three.rest == 0)) (and_right (ds.one.rest == 0) (ds.two.rest == 0) e)
+not_done Three ds e = and_right ((ds.one.rest == 0) && (ds.two.rest == 0)) (ds.three.rest == 0) e
 
 -- and the queue is the lowest one that is served
 lowest : (q : Queue) (ds : Demands) (m : State) (held : QueueState) →
@@ -92,13 +87,13 @@ lowest : (q : Queue) (ds : Demands) (m : State) (held : QueueState) →
 lowest One ds m held before e = ap (λ one. if one then Some One else (if is_served Two ds m then Some Two else (if is_served Three ds m then Some Three else None))) e
 lowest Two ds m held before e =
     ap (λ one. if one then Some One else (if is_served Two ds (record m { queues = with_queue_state Two held m.queues }) then Some Two else (if is_served Three ds m then Some Three else None)))
-    (not_true _ before)
+    (not-true _ before)
     ∙ ap (λ two. if two then Some Two else (if is_served Three ds m then Some Three else None)) e
 lowest Three ds m held before e =
     let parts = and_parts (not (is_served One ds m)) (not (is_served Two ds m)) before in
     ap (λ one. if one then Some One else (if is_served Two ds m then Some Two else (if is_served Three ds (record m { queues = with_queue_state Three held m.queues }) then Some Three else None)))
-    (not_true _ parts.0)
-    ∙ ap (λ two. if two then Some Two else (if is_served Three ds (record m { queues = with_queue_state Three held m.queues }) then Some Three else None)) (not_true _ parts.1)
+    (not-true _ parts.0)
+    ∙ ap (λ two. if two then Some Two else (if is_served Three ds (record m { queues = with_queue_state Three held m.queues }) then Some Three else None)) (not-true _ parts.1)
     ∙ ap (λ three. if three then Some Three else None) e
 
 -- ---- the push and the turn

@@ -1,7 +1,7 @@
 -- A turn of a machine that stands still only counts.
 use Rattle.std.proofs.Common.{◌≡◌, Bool, ℕ, true, false, not, Some, None, Option, refl, ap, ◌∙◌, if◌then◌else◌}
 use Rattle.std.specs.Prelude.{◌&&◌, is_none}
-use Rattle.std.proofs.lemmas.Bool.{and_parts}
+use Rattle.std.proofs.lemmas.Bool.{and_parts, not-true}
 use Rattle.fifo_model.specs.declared.Queue.{Queue}
 use Rattle.fifo_model.specs.declared.Queue.TheVariants.{One, Two, Three}
 use Rattle.risc_word.specs.declared.Code.{Code}
@@ -32,10 +32,6 @@ none_seen (Some q) code e = absurd cc
 none_seen None (Some seen) e = absurd cc
 none_seen None None e = record { no_stray = refl; no_common = refl }
 
-pub not_true : (b : Bool) → not b ≡ true → b ≡ false
-not_true true e = absurd cc
-not_true false e = refl
-
 worked-still : (job : Job) (m : State) → works_still job m ≡ true → worked job m ≡ m
 worked-still Idle m e = absurd cc
 worked-still (Waiting ctl resync code) m e =
@@ -43,7 +39,7 @@ worked-still (Waiting ctl resync code) m e =
     ap (λ stray. stray_seen stray ctl resync code m) none.no_stray ∙ ap (λ seen. code_seen seen ctl resync code m) none.no_common
 worked-still (Running instr ds) m e =
     let parts = and_parts (not (is_done ds)) (none_served ds m) e in
-    ap (λ done. ran done instr ds m) (not_true (is_done ds) parts.0) ∙ ap (λ q. burst_of q m) (none_lowest _ _ _ parts.1)
+    ap (λ done. ran done instr ds m) (not-true (is_done ds) parts.0) ∙ ap (λ q. burst_of q m) (none_lowest _ _ _ parts.1)
 
 turn_if-still : (on : Bool) (m : State) → (if on then works_still m.job m else true) ≡ true → turn_if on m ≡ m
 turn_if-still false m e = refl

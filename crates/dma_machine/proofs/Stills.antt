@@ -1,12 +1,8 @@
 -- A flag that isn't set tells nothing, and one that is set tells that the machine stands still.
 use Rattle.std.proofs.Common.{◌≡◌, Bool, true, false}
 use Rattle.machine_model.specs.States.{State}
-use Rattle.dma_machine.specs.Stills.{StillIf, is_still}
+use Rattle.dma_machine.specs.Stills.{StillIf}
 
 pub not_still : (still : Bool) (m : State) → still ≡ false → StillIf still m
 not_still true m e = cc
 not_still false m e = tt
-
-pub still_if : (still : Bool) (m : State) → is_still m ≡ true → StillIf still m
-still_if true m e = e
-still_if false m e = tt

@@ -1,8 +1,8 @@
 -- The memory of two descriptions together.
-use Rattle.std.proofs.Common.{◌≡◌, ℕ, ◌+◌, ◌<◌, ◌≤◌, Bool, true, false, cond, not, ◌||◌, All, List, [], ◌∷◌, ◌++◌, length, get_or, map, append_assoc, Option, Some, None, refl, sym, ap, ◌∙◌, subst, arith, ⊎_elim}
+use Rattle.std.proofs.Common.{◌≡◌, ℕ, ◌+◌, ◌<◌, ◌≤◌, Bool, true, false, cond, not, All, List, [], ◌∷◌, ◌++◌, length, get_or, map, append_assoc, Option, Some, None, refl, sym, ap, ◌∙◌, subst, arith, ⊎_elim}
 use Rattle.std.specs.Prelude.{nat_lt}
 use Rattle.std.specs.List.{list_any, position, position_or_len}
-use Rattle.std.proofs.lemmas.Bool.{cases_Bool, cond-false, cond-true, ltb-false, not-true, or_from}
+use Rattle.std.proofs.lemmas.Bool.{cases_Bool, cond-false, cond-true, ltb-false, not-true, or_from, not_from_true, both_ways}
 use Rattle.std.proofs.lemmas.List.{append-nil, get_or-map, length-map}
 use Rattle.std.proofs.lemmas.List.Elements.{All-head, All-tail}
 use Rattle.std.proofs.lemmas.List.Folds.{list_any-append}
@@ -10,58 +10,27 @@ use Rattle.std.proofs.lemmas.List.Quantifiers.{position-Some}
 use Rattle.std.proofs.lemmas.List.Sums.{prefix_len_passes}
 use Rattle.page_table.proofs.Listed.{any_map}
 use Rattle.page_table.specs.Grants.{Chunk}
-use Rattle.page_table.specs.Taken.{all_placed, first_shared, is_aligned, listed, pair_chunk, placed, shares}
-use Rattle.page_table.proofs.Placing.{list_any-placed}
-
-or_nothing : (b : Bool) → b ≡ (b || false)
-or_nothing true = refl
-or_nothing false = refl
-
-or_turned : (a b c : Bool) → ((a || b) || c) ≡ (b || (a || c))
-or_turned true true c = refl
-or_turned true false c = refl
-or_turned false b c = refl
-
--- putting chunks into order keeps them
-pub any_in_order : (p : Chunk → Bool) (rising rest : List Chunk) → list_any p (all_placed rising rest) ≡ (list_any p rising || list_any p rest)
-any_in_order p rising [] = or_nothing (list_any p rising)
-any_in_order p rising (c ∷ rest) =
-    any_in_order p (placed c rising) rest ∙ ap (λ (b : Bool). b || list_any p rest) (list_any-placed p c rising)
-    ∙ or_turned (p c) (list_any p rising) (list_any p rest)
+use Rattle.page_table.specs.Taken.{first_shared, is_aligned, listed, pair_chunk, shares}
+use Rattle.page_table.proofs.Scattered.{first_shared-head}
 
 -- ---- chunks that share no byte
-
-parted : (earlier : List Chunk) (c : Chunk) (rest : List Chunk) → first_shared earlier (c ∷ rest) ≡ None →
-    (list_any (shares c) earlier ≡ false) × (first_shared (earlier ++ c ∷ []) rest ≡ None)
-parted earlier c rest none = by (list_any (shares c) earlier) refl none
-  where
-    later : Option ℕ
-    later = first_shared (earlier ++ c ∷ []) rest
-
-    by : (b : Bool) → list_any (shares c) earlier ≡ b → cond b (Some (length earlier)) later ≡ None → (list_any (shares c) earlier ≡ false) × (later ≡ None)
-    by true e none = absurd cc
-    by false e none = (e, none)
 
 first_apart : (earlier one two : List Chunk) → first_shared earlier one ≡ None → first_shared (earlier ++ one) two ≡ None → first_shared earlier (one ++ two) ≡ None
 first_apart earlier [] two none more = subst (λ (cs : List Chunk). first_shared cs two ≡ None) (append-nil earlier) more
 first_apart earlier (c ∷ one) two none more =
-    let parts = parted earlier c one none in
+    let parts = first_shared-head earlier c one none in
     cond-false (list_any (shares c) earlier) (Some (length earlier)) (first_shared (earlier ++ c ∷ []) (one ++ two)) parts.0
     ∙ first_apart (earlier ++ c ∷ []) one two parts.1 (subst (λ (cs : List Chunk). first_shared cs two ≡ None) (sym (append_assoc earlier (c ∷ []) one)) more)
 
 apart_beside : (others earlier rest : List Chunk) → All (λ c. list_any (shares c) others ≡ false) rest → first_shared earlier rest ≡ None → first_shared (others ++ earlier) rest ≡ None
 apart_beside others earlier [] apart none = refl
 apart_beside others earlier (c ∷ rest) apart none =
-    let parts = parted earlier c rest none in
+    let parts = first_shared-head earlier c rest none in
     let head = All-head (λ c. list_any (shares c) others ≡ false) c rest apart in
     cond-false (list_any (shares c) (others ++ earlier)) (Some (length (others ++ earlier))) (first_shared ((others ++ earlier) ++ c ∷ []) rest)
     (list_any-append (shares c) others earlier ∙ or_from (list_any (shares c) others) (list_any (shares c) earlier) head parts.0)
     ∙ ap (λ (cs : List Chunk). first_shared cs rest) (append_assoc others earlier (c ∷ []))
     ∙ apart_beside others (earlier ++ c ∷ []) rest (All-tail (λ c. list_any (shares c) others ≡ false) c rest apart) parts.1
-
-not_not : (b : Bool) → b ≡ not (not b)
-not_not true = refl
-not_not false = refl
 
 -- ---- tests of chunks that are told by their addresses and lengths
 
@@ -99,15 +68,11 @@ none_pass {X = X} p xs none k d within =
     not-true (p (get_or xs k d)) (prefix_len_passes (λ (x : X). not (p x)) xs k d (omega arith)))
     (cases_Bool (nat_lt (position_or_len p xs) (length xs)))
 
-both_ways_no : (b : Bool) → b ≡ true → b ≡ false → ⊥
-both_ways_no true is is_not = cc
-both_ways_no false is is_not = cc
-
 no_place : {X : Type 0} (p : X → Bool) (xs : List X) (d : X) → All (λ x. p x ≡ false) xs → (found : Option ℕ) → position p xs ≡ found → found ≡ None
 no_place p xs d none None is = refl
 no_place p xs d none (Some i) is =
     let there = position-Some p xs i d is in
-    absurd (both_ways_no (p (get_or xs i d)) there.1 (none i d there.0))
+    absurd (both_ways (p (get_or xs i d)) (none i d there.0) there.1)
 
 -- chunks of two memories share no byte, where no chunk of the second shares one with the first
 pub apart_both : (one two : List Chunk) → first_shared [] one ≡ None → first_shared [] two ≡ None → position (λ c. list_any (shares c) one) two ≡ None → first_shared [] (one ++ two) ≡ None
@@ -115,14 +80,10 @@ apart_both one two first second none =
     first_apart [] one two first
     (ap (λ (cs : List Chunk). first_shared cs two) (sym (append-nil one)) ∙ apart_beside one [] two (none_pass (λ (c : Chunk). list_any (shares c) one) two none) second)
 
-not_aligned : (b : Bool) → b ≡ true → not b ≡ false
-not_aligned true e = refl
-not_aligned false e = cc
-
 pub all_aligned : (pairs : List (ℕ × ℕ)) → All (λ c. is_aligned c ≡ true) (listed pairs) → position (λ pair. not (is_aligned (pair_chunk pair))) pairs ≡ None
 all_aligned pairs aligned =
     no_place (λ (pair : ℕ × ℕ). not (is_aligned (pair_chunk pair))) pairs (0, 0)
-    (λ k d within. not_aligned (is_aligned (pair_chunk (get_or pairs k d)))
+    (λ k d within. not_from_true (is_aligned (pair_chunk (get_or pairs k d)))
     (subst (λ (c : Chunk). is_aligned c ≡ true) (get_or-map pair_chunk pairs k d (pair_chunk d) within)
     (aligned k (pair_chunk d) (subst (λ (n : ℕ). k < n) (sym (length-map pairs pair_chunk)) within))))
     (position (λ (pair : ℕ × ℕ). not (is_aligned (pair_chunk pair))) pairs) refl

@@ -1,15 +1,15 @@
 -- What there is where two descriptions have no fault, and what a chain that isn't made says of them.
-use Rattle.std.proofs.Common.{◌≡◌, ℕ, zero, suc, ◌+◌, ◌*◌, ◌%◌, ◌<◌, ◌≤◌, Bool, true, false, ◌||◌, All, List, [], ◌∷◌, ◌++◌, length, Option, Some, None, IsTrue, refl, sym, ap, ◌∙◌, subst, arith, if◌then◌else◌, ◌==◌}
+use Rattle.std.proofs.Common.{◌≡◌, ℕ, zero, suc, ◌+◌, ◌*◌, ◌%◌, ◌<◌, ◌≤◌, Bool, true, false, ◌||◌, List, [], ◌++◌, length, Option, Some, None, IsTrue, refl, sym, ap, ◌∙◌, subst, arith, if◌then◌else◌, ◌==◌}
 use Rattle.std.specs.Prelude.{nat_lt}
-use Rattle.std.specs.List.{list_any}
-use Rattle.std.proofs.lemmas.Bool.{eq-eqb, eqb-true, le-ltb, lt-ltb, or_from}
-use Rattle.std.proofs.lemmas.List.Elements.{All-from_recursion, All-head, All-tail}
+use Rattle.std.proofs.lemmas.Bool.{eq-eqb, eqb-true, le-ltb, lt-ltb, or_from, or_right, or_left}
+use Rattle.std.proofs.lemmas.List.Elements.{All-from_recursion}
 use Rattle.std.proofs.lemmas.List.Folds.{list_any-append, list_any_none}
 use Rattle.page_table.specs.Grants.{Chunk, covers, granted}
 use Rattle.page_table.specs.Taken.{in_order}
 use Rattle.machine_model.specs.Paths.{max_words, shares_byte}
 use Rattle.capture_desc.specs.declared.desc.Desc.{Desc}
 use Rattle.picture_model.specs.Described.{IsDescription, memory_of}
+use Rattle.picture_model.proofs.Places.{any-all_placed}
 use Rattle.planar_plan.specs.Frames.{IsFramed}
 use Rattle.chain_model.specs.declared.PartWords.{PartWords}
 use Rattle.chain_model.specs.Chains.{Chain, IsChain, IsSoundChain, alone, chain_limit, words_of_parts}
@@ -30,7 +30,6 @@ use Rattle.double_buffer.specs.Fragments.{IsLong}
 use Rattle.double_buffer.specs.Making.{IsOfFragments, told}
 use Rattle.double_buffer.specs.Pairs.{chain_of_two, fragments_of_two, memory_of_two, part_for, shown_by, slot_count}
 use Rattle.double_buffer.specs.Promises.{IsPair, ShowsDescription}
-use Rattle.double_buffer.proofs.Granting.{any_in_order}
 use Rattle.double_buffer.proofs.Reasons.{fault_by, fault_is}
 use Rattle.double_buffer.proofs.Standing.{is_fragment}
 
@@ -107,14 +106,10 @@ module _ (first second : Desc) where
 
 -- ---- a chain that ends beyond the limit
 
-left_or : (a b : Bool) → b ≡ true → (a || b) ≡ true
-left_or true b e = refl
-left_or false b e = e
-
 pub too_long_from : (c : Chain) (words : ℕ) → words ≤ 2 * c.slots + 2 + length (words_of_parts c.parts) → chain_limit < c.base + 4 * words → is_too_long c ≡ true
 too_long_from c words most beyond =
     let count = word_count_is c in
-    left_or (nat_lt max_words (word_count c)) (nat_lt chain_limit (c.base + 4 * word_count c)) (lt-ltb chain_limit (c.base + 4 * word_count c) (omega arith))
+    or_right (nat_lt max_words (word_count c)) (nat_lt chain_limit (c.base + 4 * word_count c)) (lt-ltb chain_limit (c.base + 4 * word_count c) (omega arith))
 
 -- ---- no fault
 
@@ -147,22 +142,18 @@ no_fault first second aligned apart few is =
 
 -- ---- what is granted
 
-left_true : (a b : Bool) → a ≡ true → (a || b) ≡ true
-left_true true b e = refl
-left_true false b e = cc
-
 module _ (address : ℕ) where
   abbrev there : Chunk → Bool
   there = λ c. covers c address
 
   both_granted : (one two : List Chunk) → granted (in_order (one ++ two)) address ≡ (granted one address || granted two address)
-  both_granted one two = any_in_order there [] (one ++ two) ∙ list_any-append there one two
+  both_granted one two = any-all_placed there [] (one ++ two) ∙ list_any-append there one two
 
   in_first : (one two : List Chunk) → IsTrue (granted (in_order one) address) → IsTrue (granted (in_order (one ++ two)) address)
-  in_first one two is = both_granted one two ∙ left_true (granted one address) (granted two address) (sym (any_in_order there [] one) ∙ is)
+  in_first one two is = both_granted one two ∙ or_left (granted one address) (granted two address) (sym (any-all_placed there [] one) ∙ is)
 
   in_second : (one two : List Chunk) → IsTrue (granted (in_order two) address) → IsTrue (granted (in_order (one ++ two)) address)
-  in_second one two is = both_granted one two ∙ left_or (granted one address) (granted two address) (sym (any_in_order there [] two) ∙ is)
+  in_second one two is = both_granted one two ∙ or_right (granted one address) (granted two address) (sym (any-all_placed there [] two) ∙ is)
 
 -- ---- pairs
 

@@ -7,23 +7,15 @@ use Rattle.std.proofs.lemmas.List.Elements.{All-append}
 use Rattle.page_table.specs.Grants.{Chunk, max_bytes, max_chunks, total}
 use Rattle.page_table.specs.declared.PageFault.TheVariants.{TooMany, Unaligned, Twice, Memory}
 use Rattle.page_table.specs.Taken.{Answers, Taking, first_shared, in_order, is_aligned, listed, page_at, pair_chunk, shares, taken_chunks, unless_many, unless_shared}
-use Rattle.page_table.proofs.Pages.{pages_aligned}
-use Rattle.page_table.proofs.ScatterLists.{chunks_aligned}
 use Rattle.capture_desc.specs.declared.desc.Desc.{Desc}
 use Rattle.picture_model.specs.Described.{memory_from, memory_of}
-use Rattle.picture_model.specs.Geometry.{first_unaligned}
-use Rattle.picture_model.proofs.FaultlessGeometry.{IsFrame-memory}
+use Rattle.picture_model.proofs.FaultlessGeometry.{IsFrame-memory, aligned_memory as aligned_chunks}
 use Rattle.planar_plan.specs.Frames.{IsFramed}
 use Rattle.double_buffer.specs.Faults.{are_too_many, shared_chunk}
 use Rattle.double_buffer.specs.Pairs.{memory_of_two}
 use Rattle.double_buffer.proofs.Granting.{all_aligned, apart_both, shared-listed}
 
 -- ---- the memory of one description
-
-aligned_by : (chunks : Option (List (ℕ × ℕ))) (pages : List ℕ) → All (λ page. page < 2 ^ 32) pages → first_unaligned chunks pages ≡ None →
-    first_shared [] (memory_from chunks pages) ≡ None → All (λ c. is_aligned c ≡ true) (memory_from chunks pages)
-aligned_by None pages fit aligned apart = pages_aligned pages (λ k within. fit k 0 within) aligned
-aligned_by (Some pairs) pages fit aligned apart = chunks_aligned pairs (record { aligned = aligned; apart = apart })
 
 few_by : (chunks : Option (List (ℕ × ℕ))) (pages : List ℕ) → length pages ≤ max_chunks → IfSome chunks (λ cs. length cs ≤ max_chunks) → length (memory_from chunks pages) ≤ max_chunks
 few_by None pages few short = let size = length-map pages page_at in omega arith
@@ -33,7 +25,7 @@ module _ (d : Desc) (framed : IsFramed d) where
   aligned_memory : All (λ c. is_aligned c ≡ true) (memory_of d)
   aligned_memory =
       let memory = IsFrame-memory d framed.geometry in
-      aligned_by d.chunks d.pages framed.pages memory.0 memory.1
+      aligned_chunks d.chunks d.pages framed.pages memory.0 memory.1
 
   apart_memory : first_shared [] (memory_of d) ≡ None
   apart_memory = (IsFrame-memory d framed.geometry).1

@@ -25,9 +25,6 @@ pub record IsLeft (old out : List ℕ) (rest all : List Instr) : Type 0 where
 pub all_left : (old : List ℕ) (all : List Instr) → IsLeft old old all all
 all_left old all = record { kept = begins_here old; whole = refl }
 
-pub none_left : (old out : List ℕ) (all : List Instr) → IsLeft old out [] all → out ≡ old ++ words_of all
-none_left old out all left = sym (append-nil out) ∙ left.whole
-
 -- some instructions more
 pub fewer_left : (old out new : List ℕ) (next rest all : List Instr) → IsLeft old out (next ++ rest) all → BeginsWith out new → new ≡ out ++ words_of next → IsLeft old new rest all
 fewer_left old out new next rest all left kept added =

@@ -1,12 +1,12 @@
 -- A sound program holds each section that stands on its path.
-use Rattle.std.proofs.Common.{◌≡◌, ℕ, suc, ◌+◌, ◌*◌, Bool, true, false, List, [], ◌∷◌, length, Option, Some, None, Ok, if◌then◌else◌, refl, sym, ap, ◌∙◌}
+use Rattle.std.proofs.Common.{◌≡◌, ℕ, suc, ◌+◌, ◌*◌, List, [], ◌∷◌, length, Option, None, Ok, refl, sym, ap, ◌∙◌}
 use Rattle.risc_word.specs.declared.Ctl.{Ctl}
 use Rattle.risc_word.specs.declared.Instr.{Instr}
 use Rattle.risc_word.specs.declared.Instr.TheVariants.{Write, Skip, WriteC, Jump, Sync, Write123, Skip123, Write1S23}
 use Rattle.risc_word.specs.Words.{Reading, encoded}
 use Rattle.machine_model.specs.declared.Cause.{Cause}
-use Rattle.machine_model.specs.declared.Cause.TheVariants.{JumpOut}
 use Rattle.machine_model.specs.Paths.{RiscProgram, Place, is_word, fetch, path, IsSound, demands_of, demands_cause, instr_cause, reading_cause, next_by, place_read, place_after}
+use Rattle.machine_model.proofs.Places.{inside_if}
 use Rattle.field_law.specs.Sections.{Section, IsPlain, HoldsFrom, Holds, StandsFrom, Stands}
 
 -- what an instruction without a fault writes is granted
@@ -32,10 +32,6 @@ pc_after (Write123 ctl ends off counts addrs) count place plain = refl
 pc_after (Skip123 ctl ends counts) count place plain = refl
 pc_after (Write1S23 ctl ends off counts addr) count place plain = refl
 
-leads_to_word : (there : Bool) (address : ℕ) → (if there then None else Some (JumpOut address)) ≡ None → there ≡ true
-leads_to_word true address fine = refl
-leads_to_word false address fine = cc
-
 module _ (program : RiscProgram) (sound : IsSound program) where
   fine_at : (number : ℕ) (instr : Instr) (count : ℕ) → fetch program (path program number).pc ≡ Ok (instr, count) → instr_cause program instr (path program number).target ≡ None
   fine_at number instr count e = sym (ap (λ (reading : Reading). reading_cause program (path program number).target reading) e) ∙ sound number
@@ -43,7 +39,7 @@ module _ (program : RiscProgram) (sound : IsSound program) where
   holds_from : (instrs : List Instr) (at : ℕ) (closing : Ctl) (target number : ℕ) → (path program number).pc ≡ at → StandsFrom program at instrs closing target →
       HoldsFrom program at instrs closing target
   holds_from [] at closing target number here stands =
-      (stands, leads_to_word (is_word program target) target (fine_at number (Jump closing target) 2 (ap (fetch program) here ∙ stands)))
+      (stands, inside_if (is_word program target) target (fine_at number (Jump closing target) 2 (ap (fetch program) here ∙ stands)))
   holds_from (instr ∷ rest) at closing target number here stands =
       let long = length (encoded instr) in
       let place = path program number in

@@ -1,5 +1,5 @@
 -- Bytes that are drafted and put, one part after the other.
-use Rattle.std.proofs.Common.{◌≡◌, ℕ, zero, suc, ◌+◌, ◌-◌, ◌<◌, IsTrue, zero-add, suc-add, List, [], ◌∷◌, ◌++◌, length, take, Result, Ok, Err, refl, sym, ap, subst, ◌∙◌, arith, append_assoc, length-append}
+use Rattle.std.proofs.Common.{◌≡◌, ℕ, zero, suc, ◌+◌, ◌-◌, ◌<◌, zero-add, suc-add, List, [], ◌∷◌, ◌++◌, length, take, Result, Ok, Err, refl, sym, ap, subst, ◌∙◌, arith, append_assoc, length-append}
 use Rattle.std.proofs.lemmas.List.{take-append-le, append-nil}
 use Rattle.std.proofs.Math.Seq.{take-append-add}
 use Rattle.capture_desk.specs.Desks.{Told, after_write, Puts}
@@ -19,10 +19,6 @@ pushed_all-bytes (push ∷ rest) d =
 -- nothing was put
 pub moved_none : (d : Drafted) (old : Told) → IsMoved d d old old
 moved_none d old = record { front = []; bytes = refl; put = sym (after_write-nil old); number = refl }
-
--- all was put
-pub moved_all : (d : Drafted) (old told : Told) → told ≡ after_write d.bytes old → IsMoved d (record d { bytes = [] }) old told
-moved_all d old told e = record { front = d.bytes; bytes = sym (append-nil d.bytes); put = e; number = refl }
 
 pushed_on : (push : Push) (whole held : Drafted) (old told : Told) → IsMoved whole held old told → IsMoved (pushed push whole) (pushed push held) old told
 pushed_on push whole held old told m =
@@ -87,9 +83,6 @@ moves_more pushes whole mid held old t told r m n =
 pub moved_filled : (pushes : List Push) (whole held now : Drafted) (old told : Told) → IsMoved whole held old told → now ≡ pushed_all pushes held →
     IsMoved (pushed_all pushes whole) now old told
 moved_filled pushes whole held now old told m e = rw e (moved_on pushes whole held old told m)
-
-pub still_open : (whole held : Drafted) (old told : Told) → IsMoved whole held old told → IsTrue old.output_open → IsTrue told.output_open
-still_open whole held old told m h = subst (λ (t : Told). IsTrue t.output_open) (sym m.put) h
 
 -- ---- the same pushes again and again
 

@@ -1,5 +1,5 @@
 -- One of three queues: reading it and changing it.
-use Rattle.std.proofs.Common.{◌≡◌, ◌≢◌, refl}
+use Rattle.std.proofs.Common.{◌≡◌, refl}
 use Rattle.fifo_model.specs.declared.Queue.{Queue}
 use Rattle.fifo_model.specs.declared.Queue.TheVariants.{One, Two, Three}
 use Rattle.fifo_model.specs.Queues.{QueueState, Queues, queue_state, with_queue_state}
@@ -9,18 +9,6 @@ pub queue_state-with_queue_state : (queue : Queue) (held : QueueState) (queues :
 queue_state-with_queue_state One held queues = refl
 queue_state-with_queue_state Two held queues = refl
 queue_state-with_queue_state Three held queues = refl
-
--- the others
-pub queue_state-with_other : (queue other : Queue) (held : QueueState) (queues : Queues) → other ≢ queue → queue_state other (with_queue_state queue held queues) ≡ queue_state other queues
-queue_state-with_other One One held queues differ = absurd (differ refl)
-queue_state-with_other One Two held queues differ = refl
-queue_state-with_other One Three held queues differ = refl
-queue_state-with_other Two One held queues differ = refl
-queue_state-with_other Two Two held queues differ = absurd (differ refl)
-queue_state-with_other Two Three held queues differ = refl
-queue_state-with_other Three One held queues differ = refl
-queue_state-with_other Three Two held queues differ = refl
-queue_state-with_other Three Three held queues differ = absurd (differ refl)
 
 -- a queue put back as it was
 pub with_queue_state-same : (queue : Queue) (queues : Queues) → with_queue_state queue (queue_state queue queues) queues ≡ queues

@@ -13,7 +13,7 @@ use Rattle.picture_model.specs.Programs.{data_code, vertical}
 use Rattle.picture_model.proofs.FaultlessGeometry.{IsRight, IsFrame-IsRight}
 use Rattle.field_law.specs.Arrivals.{is_queue, pushed_in}
 use Rattle.field_law.specs.Fields.{Mark, Brings}
-use Rattle.field_law.proofs.Bringing.{mark_brings}
+use Rattle.field_law.proofs.Bringing.{mark_brings, brings-append}
 use Rattle.picture_law.specs.Pictures.{AreLines, AreRows, HoldBytes, IsField, IsPicture, Picture, field_tokens, lines_of, lines_on, picture_tokens, plane_of, rows_on, vbi_on, vbi_tokens}
 use Rattle.field_stream.specs.Pushes.{Push, packed_line, picture_line, picture_pushes, repeated, vbi_pushes}
 use Rattle.field_stream.proofs.Moving.{repeated_split}
@@ -21,7 +21,7 @@ use Rattle.generated_law.specs.Drawn.{BringsPicture, DrawsPicture, bytes_before,
 use Rattle.generated_law.specs.Drawn as drawn
 use Rattle.generated_law.proofs.Statuses.{pushed_in-drawn, packed_nothing, packed_statuses}
 use Rattle.generated_law.proofs.WholeLines.{AreBytes}
-use Rattle.generated_law.proofs.Repeated.{AreDrawn, brings-append, lines_drawn, nothing_drawn, rows_drawn}
+use Rattle.generated_law.proofs.Repeated.{AreDrawn, lines_drawn, nothing_drawn, rows_drawn}
 use Rattle.generated_law.proofs.Cutting.{bytes_in, bytes_in-append, bytes_in-lines, bytes_in-vbi, carried-brings, cut-concat, drop_both, length-concat}
 
 -- ---- VBI lines

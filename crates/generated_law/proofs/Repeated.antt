@@ -8,7 +8,7 @@ use Rattle.fifo_model.specs.declared.Queue.{Queue}
 use Rattle.capture_desc.specs.declared.desc.Desc.{Desc}
 use Rattle.picture_model.specs.Described.{plane_row_bytes}
 use Rattle.picture_model.proofs.FaultlessGeometry.{IsRight}
-use Rattle.field_law.specs.Fields.{Token, Mark, Row, Brings, carried}
+use Rattle.field_law.specs.Fields.{Row, Brings, carried}
 use Rattle.picture_law.specs.Pictures.{AreLines, HoldBytes, has_plane, lines_of, lines_on, plane_of}
 use Rattle.field_law.specs.Arrivals.{pushed_in}
 use Rattle.field_stream.specs.Pushes.{Push, picture_line, repeated}
@@ -16,24 +16,6 @@ use Rattle.generated_law.specs.Drawn.{drawn_steps, number_behind}
 use Rattle.generated_law.proofs.Statuses.{pushed_in-drawn, line_statuses, statuses, statuses-pushed_in, statuses_of}
 use Rattle.generated_law.proofs.WholeLines.{AreBytes, carried_hold, whole_line}
 use Rattle.generated_law.proofs.Rows.{row_nothing, row_statuses, row_wide}
-
--- what brings some tokens and then what brings others
-pub brings-append : (a b : List Token) (first rest : List Entry) → Brings a first → Brings b rest → Brings (a ++ b) (first ++ rest)
-brings-append [] b first rest here there = subst (λ (entries : List Entry). Brings b (entries ++ rest)) (sym here) there
-brings-append (Mark code ∷ a) b first rest here there = (
-  here.0,
-  here.1 ++ rest,
-  ap (λ (entries : List Entry). entries ++ rest) here.2,
-  here.3,
-  brings-append a b here.1 rest here.4 there,
-)
-brings-append (Row bytes ∷ a) b first rest here there = (
-  here.0,
-  here.1 ++ rest,
-  ap (λ (entries : List Entry). entries ++ rest) here.2 ∙ append_assoc here.0 here.1 rest,
-  here.3,
-  brings-append a b here.1 rest here.4 there,
-)
 
 -- so many whole lines of so many bytes
 pub record AreDrawn (count long : ℕ) (entries : List Entry) : Type 0 where

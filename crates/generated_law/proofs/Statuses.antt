@@ -7,17 +7,13 @@ use Rattle.fifo_model.specs.declared.Entry.{Entry}
 use Rattle.fifo_model.specs.declared.Queue.{Queue}
 use Rattle.fifo_model.specs.declared.Queue.TheVariants.{One}
 use Rattle.machine_model.specs.Steps.{Step}
-use Rattle.field_law.specs.Arrivals.{is_queue, pushed_by, pushed_in}
+use Rattle.field_law.specs.Arrivals.{is_queue, pushed_in}
+use Rattle.field_law.proofs.Bringing.{pushed_in-append}
 use Rattle.field_stream.specs.Made.{after}
 use Rattle.field_stream.specs.Pushes.{Push, Mark, Fill, line_entries, packed_line, status_at}
 use Rattle.generated_law.specs.Drawn.{drawn_steps, number_behind}
 
 -- ---- what comes over a queue
-
-pub pushed_in-append : (a b : List Step) (q : Queue) → pushed_in (a ++ b) q ≡ pushed_in a q ++ pushed_in b q
-pushed_in-append [] b q = refl
-pushed_in-append (first ∷ a) b q =
-    ap (λ (rest : List Entry). pushed_by first q ++ rest) (pushed_in-append a b q) ∙ sym (append_assoc (pushed_by first q) (pushed_in a q) (pushed_in b q))
 
 pub drawn_steps-append : (number : ℕ) (a b : List Push) → drawn_steps number (a ++ b) ≡ drawn_steps number a ++ drawn_steps (number_behind number a) b
 drawn_steps-append number [] b = refl

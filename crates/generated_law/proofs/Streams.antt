@@ -22,12 +22,13 @@ use Rattle.field_stream.specs.Made.{after}
 use Rattle.field_stream.specs.Pushes.{Push, Mark, field_pushes, frame_pushes, picture_pushes, repeated, stream_pushes, vbi_pushes}
 use Rattle.field_law.specs.Arrivals.{AreKept, meeting, pushed_in}
 use Rattle.field_law.proofs.Meeting.{coming-meeting}
+use Rattle.field_law.proofs.Bringing.{pushed_in-append}
 use Rattle.picture_law.specs.Runs.{ArrivesAt, between, state_of}
 use Rattle.picture_law.proofs.Between.{between_both}
 use Rattle.picture_law.proofs.Places.{run_shows_picture}
 use Rattle.generated_law.specs.Drawn.{drawn_entries, drawn_step, drawn_steps, number_behind}
 use Rattle.generated_law.specs.Streams.{Awaits, FieldsArrive, FieldsAreSignalled, FieldsStand, HasField, PicturesAreShown, fields_before, place_behind, place_of, pushes_before, stream_picture, stream_steps}
-use Rattle.generated_law.proofs.Statuses.{pushed_in-append, drawn_steps-append}
+use Rattle.generated_law.proofs.Statuses.{drawn_steps-append}
 use Rattle.field_stream.proofs.Moving.{repeated_split}
 use Rattle.generated_law.proofs.Fields.{brings_picture, draws_picture}
 use Rattle.generated_law.proofs.Steps.{steps_made, stream_data}

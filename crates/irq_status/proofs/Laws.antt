@@ -1,11 +1,11 @@
 -- Laws of the interrupt status register.
 use Rattle.std.proofs.Common.{ℕ, ◌+◌, ◌-◌, ◌*◌, ◌/◌, ◌%◌, ◌^◌, ◌<◌, max, Bool, true, false, ◌==◌, ◌||◌, bit_and, bit_or, ◌≡◌, refl, sym, ap, ◌∙◌, arith}
-use Rattle.std.proofs.lemmas.Nat.{and_mask, and_block, or_block, or_lt, and_le_r, and_shr, or_shr}
+use Rattle.std.proofs.lemmas.Nat.{and_mask, and_block, or_block, or_lt}
 use Rattle.std.proofs.lemmas.Nat.Bits.{bit_at_and, bit_at_or, bit_at-lt, bit_at_cat_low, same_from_bits}
 use Rattle.std.specs.Int.{bit_at}
 use Rattle.std.specs.Int.Bits.{or_zero_r}
 use Rattle.risc_word.specs.declared.Ctl.{Ctl}
-use Rattle.irq_status.specs.Register.{IsKnown, acknowledged, applied, below_status, fbus, fdsr, has, has_ocerr, interrupts, irq_bit, ocerr, raised, risc_status, risci, status_after}
+use Rattle.irq_status.specs.Register.{IsKnown, acknowledged, applied, below_status, fdsr, has, has_ocerr, interrupts, irq_bit, ocerr, raised, risc_status, risci, status_after}
 
 -- ---- which bits there are
 
@@ -28,9 +28,6 @@ IsKnown-raised register flags h k = or_within _ register flags h k
 
 pub IsKnown-acknowledged : (register mask : ℕ) → IsKnown register → IsKnown (acknowledged register mask)
 IsKnown-acknowledged register mask h = and_within _ register _ h
-
-pub IsKnown-lt : (register : ℕ) → IsKnown register → register < 2 ^ 32
-IsKnown-lt register h = omega (arith, h, and_le_r register (15 * 2 ^ 28 + interrupts))
 
 -- the RISC status is known, whatever it is
 known_status : (s : ℕ) → s < 16 → IsKnown (s * 2 ^ 28)
@@ -112,17 +109,6 @@ IsKnown-applied ctl register s r h =
 
 -- ---- the RISC status
 
-pub risc_status-raised : (register flags : ℕ) → flags < 2 ^ 28 → risc_status (raised register flags) ≡ risc_status register
-risc_status-raised register flags h =
-    let high : flags / 2 ^ 28 ≡ 0 = omega arith in
-    or_shr register flags 28 ∙ ap (bit_or (register / 2 ^ 28)) high ∙ or_zero_r (register / 2 ^ 28)
-
-pub risc_status-acknowledged : (register mask : ℕ) → IsKnown register → risc_status (acknowledged register mask) ≡ risc_status register
-risc_status-acknowledged register mask h =
-    let above : register / 2 ^ 28 < 16 = omega (arith, IsKnown-lt register h) in
-    let high : (2 ^ 32 - 1 - bit_and mask interrupts) / 2 ^ 28 ≡ 2 ^ 4 - 1 = omega (arith, and_le_r mask interrupts) in
-    and_shr register (2 ^ 32 - 1 - bit_and mask interrupts) 28 ∙ ap (bit_and (register / 2 ^ 28)) high ∙ and_mask (register / 2 ^ 28) 4 ∙ omega arith
-
 pub risc_status-applied : (ctl : Ctl) (register : ℕ) → risc_status (applied ctl register) ≡ status_after (risc_status register) ctl.set ctl.reset
 risc_status-applied ctl register = omega (arith, or_lt 28 (below_status register) (irq_bit ctl.irq) (omega arith) (small_irq ctl.irq))
 
@@ -142,9 +128,6 @@ other_irq false i h = omega arith
 
 other_applied : (ctl : Ctl) (register i : ℕ) → i < 28 → bit_at risci i ≡ 0 → bit_at (applied ctl register) i ≡ bit_at register i
 other_applied ctl register i h k = omega (arith, bit_at-applied ctl register i h, other_irq ctl.irq i k)
-
-pub fbus-applied : (ctl : Ctl) (register : ℕ) → has fbus (applied ctl register) ≡ has fbus register
-fbus-applied ctl register = ap (λ x. x == 1) (other_applied ctl register 12 (omega arith) refl)
 
 pub fdsr-applied : (ctl : Ctl) (register : ℕ) → has fdsr (applied ctl register) ≡ has fdsr register
 fdsr-applied ctl register = ap (λ x. x == 1) (other_applied ctl register 14 (omega arith) refl)
@@ -180,18 +163,6 @@ risci-applied ctl register =
 -- a raised flag leaves the others
 other_raised : (register flags i : ℕ) → bit_at flags i ≡ 0 → bit_at (raised register flags) i ≡ bit_at register i
 other_raised register flags i h = omega (arith, h, bit_at_or register flags i)
-
-pub risci-raised_fbus : (register : ℕ) → has risci (raised register fbus) ≡ has risci register
-risci-raised_fbus register = ap (λ x. x == 1) (other_raised register fbus 11 refl)
-
-pub risci-raised_fdsr : (register : ℕ) → has risci (raised register fdsr) ≡ has risci register
-risci-raised_fdsr register = ap (λ x. x == 1) (other_raised register fdsr 11 refl)
-
-pub fdsr-raised_fbus : (register : ℕ) → has fdsr (raised register fbus) ≡ has fdsr register
-fdsr-raised_fbus register = ap (λ x. x == 1) (other_raised register fbus 14 refl)
-
-pub fbus-raised_fdsr : (register : ℕ) → has fbus (raised register fdsr) ≡ has fbus register
-fbus-raised_fdsr register = ap (λ x. x == 1) (other_raised register fdsr 12 refl)
 
 pub fdsr-raised_ocerr : (register : ℕ) → has fdsr (raised register ocerr) ≡ has fdsr register
 fdsr-raised_ocerr register = ap (λ x. x == 1) (other_raised register ocerr 14 refl)

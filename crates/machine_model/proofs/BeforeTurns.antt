@@ -54,6 +54,11 @@ IsWord-is_word program address h =
     three_from (nat_le program.base address) ((address - program.base) % 4 == 0) (nat_lt (word_number program address) (length program.words))
     (le-leb _ _ h.begins) (eq-eqb _ _ h.aligned) (lt-ltb _ _ h.inside)
 
+-- the words of a program are among them
+pub word_there : (program : RiscProgram) (n : ℕ) → n < length program.words → is_word program (program.base + 4 * n) ≡ true
+word_there program n inside =
+    IsWord-is_word program (program.base + 4 * n) (record { begins = omega arith; aligned = omega arith; inside = omega arith })
+
 -- the address of a word that stands some words later
 pub IsWord-later : (program : RiscProgram) (address words : ℕ) → IsWord program address → word_number program address + words < length program.words →
     IsWord program (address + 4 * words)
@@ -100,9 +105,9 @@ abbrev pub Reaches : Option ℕ → Type 0
 Reaches None = Unit {0}
 Reaches (Some address) = address ≤ 2 ^ 32
 
-before_reaches : (sol : Bool) (target : Option ℕ) → Reaches target → Reaches (if sol then None else target)
-before_reaches true target h = tt
-before_reaches false target h = h
+unless_Reaches : (left : Bool) (target : Option ℕ) → Reaches target → Reaches (if left then None else target)
+unless_Reaches true target h = tt
+unless_Reaches false target h = h
 
 moved_on : (grants : List Chunk) (count : ℕ) (target : Option ℕ) (others : Option Cause) →
     first_cause (range_cause grants target count) others ≡ None → Reaches (option_map (λ at. at + count) target)
@@ -117,17 +122,13 @@ moved-Reaches grants (Skip ctl ends count) target d c h = h
 moved-Reaches grants (WriteC ctl ends off count) target d c h = moved_on grants count target _ (first-none _ _ c).1
 moved-Reaches grants instr target d c h = tt
 
-after_reaches : (eol : Bool) (moved : Option ℕ) → Reaches moved → Reaches (if eol then None else moved)
-after_reaches true moved h = tt
-after_reaches false moved h = h
-
 next_reaches : (program : RiscProgram) (instr : Instr) (count : ℕ) (place : Place) → instr_cause program instr place.target ≡ None → Reaches place.target →
     Reaches (place_after instr count place).target
 next_reaches program (Jump ctl addr) count place c h = tt
 next_reaches program (Sync ctl resync code) count place c h = tt
 next_reaches program instr count place c h =
-    after_reaches (instr_ends instr).eol (target_moved instr (target_before instr place.target))
-    (moved-Reaches program.grants instr (target_before instr place.target) refl c (before_reaches (instr_ends instr).sol place.target h))
+    unless_Reaches (instr_ends instr).eol (target_moved instr (target_before instr place.target))
+    (moved-Reaches program.grants instr (target_before instr place.target) refl c (unless_Reaches (instr_ends instr).sol place.target h))
 
 pub path-Reaches : (program : RiscProgram) (number : ℕ) → IsSound program → Reaches (path program number).target
 path-Reaches program zero sound = tt
@@ -217,7 +218,7 @@ module _ (m : State) (sound : IsSound m.program) (safe : IsSafe m) where
       subst Reaches (sym (waits_there m.program place m.pc m.skipping m.target m.job ctl resync code e safe.on_path.there).2) tt
   target_of (Running instr ds) e =
       subst Reaches (sym (running-RunsAt instr ds e).acting)
-      (before_reaches (instr_ends instr).sol place.target (path-Reaches m.program number sound))
+      (unless_Reaches (instr_ends instr).sol place.target (path-Reaches m.program number sound))
 
   -- the target is an address up to 2^32, and so is that which the running instruction leaves
   pub target-Reaches : Reaches m.target

@@ -113,14 +113,6 @@ ends_kinds : all_ends kinds
 unfolding ends_some all_ends
 ends_kinds = search arith
 
-end_valid : (kind : StatusKind) (count : ℕ) → kind ≡ End count → ends_some kind → 1 ≤ count
-unfolding ends_some
-end_valid (End valid) count e h = let same : valid ≡ count = cc in omega (arith, h.0)
-end_valid Start count e h = cc
-end_valid Pixels count e h = cc
-end_valid (Control code) count e h = cc
-end_valid Reserved count e h = cc
-
 takes_some : (kind : StatusKind) → ends_some kind → (kind ≡ Start) ⊎ ((kind ≡ Pixels) ⊎ ((valid : ℕ) × (kind ≡ End valid))) → 1 ≤ valid_lanes kind
 unfolding ends_some
 takes_some Start e h = omega arith

@@ -44,7 +44,7 @@ cause-data program (Jump ctl addr) target h = cc
 cause-data program (Sync ctl resync code) target h = cc
 cause-data program instr target h = refl
 
-inside_if : (inside : Bool) (addr : ℕ) → (if inside then None else Some (JumpOut addr)) ≡ None → inside ≡ true
+pub inside_if : (inside : Bool) (addr : ℕ) → (if inside then None else Some (JumpOut addr)) ≡ None → inside ≡ true
 inside_if true addr h = refl
 inside_if false addr h = cc
 

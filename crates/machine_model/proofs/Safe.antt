@@ -1,15 +1,9 @@
 -- Safety is kept by every step of a sound program.
-use Rattle.std.proofs.Common.{◌≡◌, ℕ, false, refl, sym, ap, subst, ◌∙◌}
-use Rattle.risc_word.specs.declared.Code.{Code}
-use Rattle.sync_status.specs.Statuses.{kind_of, is_control}
-use Rattle.fifo_model.specs.declared.Entry.{Entry}
-use Rattle.fifo_model.specs.declared.Queue.{Queue}
-use Rattle.irq_status.specs.declared.HostWrite.{HostWrite}
+use Rattle.std.proofs.Common.{ℕ, refl, sym, ap, subst, ◌∙◌}
 use Rattle.page_table.proofs.Memory.{chunks_of-filled}
 use Rattle.machine_model.specs.Paths.{RiscProgram, path, IsSound}
 use Rattle.machine_model.specs.States.{State, first_state}
-use Rattle.machine_model.specs.Turns.{turn}
-use Rattle.machine_model.specs.Steps.{Step, Push, Control, Turn, Host, push, push_control, host, step}
+use Rattle.machine_model.specs.Steps.{Step, step}
 use Rattle.machine_model.specs.Safety.{JobAt, IsOnPath, IsSafe, IsStep}
 use Rattle.machine_model.proofs.Orderly.{IsOrderly-step, IsOrderly-first_state}
 use Rattle.machine_model.proofs.ProgramStays.{program-step, chunks-step}
@@ -34,18 +28,6 @@ IsSafe-step s m n sound h =
       no_error = next.no_error;
       orderly = IsOrderly-step s m n h.orderly;
     }
-
-pub IsSafe-turn : (m : State) → IsSound m.program → IsSafe m → IsSafe (turn m)
-IsSafe-turn m sound h = IsSafe-step Turn m tt sound h
-
-pub IsSafe-push : (q : Queue) (entry : Entry) (m : State) → is_control (kind_of entry.status) ≡ false → IsSound m.program → IsSafe m → IsSafe (push q entry m)
-IsSafe-push q entry m n sound h = IsSafe-step (Push q entry) m n sound h
-
-pub IsSafe-push_control : (code : Code) (m : State) → IsSound m.program → IsSafe m → IsSafe (push_control code m)
-IsSafe-push_control code m sound h = IsSafe-step (Control code) m tt sound h
-
-pub IsSafe-host : (write : HostWrite) (m : State) → IsSound m.program → IsSafe m → IsSafe (host write m)
-IsSafe-host write m sound h = IsSafe-step (Host write) m tt sound h
 
 pub IsSafe-first_state : (program : RiscProgram) (fill : ℕ) → IsSafe (first_state program fill)
 IsSafe-first_state program fill =

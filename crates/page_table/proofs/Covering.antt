@@ -127,9 +127,6 @@ scan_meets all from end c rest next scan before gap =
 pub scan_runs_out : (all : List Chunk) (from end next : ℕ) → IsScanned all from end [] next → next < end → ungranted all from end ≡ Some next
 scan_runs_out all from end next scan before = scan.same ∙ ungranted_here [] next end before refl
 
-pub scan_ends : (all : List Chunk) (from end : ℕ) (rest : List Chunk) (next : ℕ) → IsScanned all from end rest next → end ≤ next → ungranted all from end ≡ None
-scan_ends all from end rest next scan past = scan.same ∙ ungranted-end rest next end past
-
 -- the same at a place of a list of pairs
 begins_at : (pairs : List (ℕ × ℕ)) (i : ℕ) → i < length pairs → listed (drop i pairs) ≡ pair_chunk (get_or pairs i (0, 0)) ∷ listed (drop (i + 1) pairs)
 begins_at pairs i within = ap listed (drop_more pairs i (0, 0) within)

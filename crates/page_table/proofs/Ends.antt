@@ -1,8 +1,7 @@
 -- The offsets at which chunks end, and the chunk in which an offset lies.
-use Rattle.std.proofs.Common.{◌≡◌, ◌⊎◌, ℕ, zero, suc, ◌+◌, ◌-◌, ◌^◌, ◌≤◌, ◌<◌, true, List, [], ◌∷◌, ◌++◌, length, get_or, drop, refl, sym, ap, ◌∙◌, arith, subst, ⊎_elim}
+use Rattle.std.proofs.Common.{◌≡◌, ◌⊎◌, ℕ, zero, suc, ◌+◌, ◌-◌, ◌^◌, ◌≤◌, ◌<◌, true, List, [], ◌∷◌, length, get_or, refl, sym, ap, ◌∙◌, arith, subst, ⊎_elim}
 use Rattle.std.proofs.lemmas.Bool.{cases_Bool, cond-true, cond-false, leb-true, leb-false, le-leb, lt-leb}
 use Rattle.std.proofs.lemmas.List.Sums.{prefix_len_is}
-use Rattle.std.proofs.lemmas.List.{append_assoc, drop_more}
 use Rattle.std.specs.List.{prefix_len, All}
 use Rattle.std.specs.List.Sorted.{IsNonDecreasingBy}
 use Rattle.std.specs.Prelude.{nat_le}
@@ -31,19 +30,6 @@ ends_from-rise begin (c ∷ rest) zero (suc j) d order within = le-end (begin + 
 ends_from-rise begin (c ∷ rest) (suc i) zero d order within = absurd (omega arith)
 ends_from-rise begin (c ∷ rest) (suc i) (suc j) d order within =
     ends_from-rise (begin + c.len) rest i j d (omega arith) (omega arith)
-
--- one more end, of which the first i are done
-pub one_more_end : (pairs : List (ℕ × ℕ)) (ends : List ℕ) (i end : ℕ) → i < length pairs → ends ++ ends_from end (listed (drop i pairs)) ≡ ends_from 0 (listed pairs) →
-    (ends ++ (end + (get_or pairs i (0, 0)).1) ∷ []) ++ ends_from (end + (get_or pairs i (0, 0)).1) (listed (drop (i + 1) pairs)) ≡ ends_from 0 (listed pairs)
-one_more_end pairs ends i end within so_far =
-    let last = end + (get_or pairs i (0, 0)).1 in
-    append_assoc ends (last ∷ []) (ends_from last (listed (drop (i + 1) pairs)))
-    ∙ sym (ap (λ rest. ends ++ ends_from end (listed rest)) (drop_more pairs i (0, 0) within)) ∙ so_far
-
-pub one_more_total : (pairs : List (ℕ × ℕ)) (i : ℕ) → i < length pairs → total (listed (drop i pairs)) ≡ (get_or pairs i (0, 0)).1 + total (listed (drop (i + 1) pairs))
-one_more_total pairs i within =
-    ap (λ rest. total (listed rest)) (drop_more pairs i (0, 0) within)
-    ∙ total-cons (pair_chunk (get_or pairs i (0, 0))) (listed (drop (i + 1) pairs))
 
 -- how many ends are at an offset or before it
 abbrev pub ended_at : ℕ → List ℕ → ℕ

@@ -59,12 +59,6 @@ one_more rising earlier rest all c so_far good apart =
       bytes = let new = total-placed c rising in let last = sum_by-append (λ (d : Chunk). d.len) earlier (c ∷ []) in let one = total-cons c [] in let old = so_far.bytes in omega arith;
     }
 
--- the first that shares a byte with an earlier one
-pub one_shared : (rising earlier rest all : List Chunk) (c : Chunk) → IsGathered rising earlier (c ∷ rest) all → list_any (shares c) rising ≡ true → first_shared [] all ≡ Some (length earlier)
-one_shared rising earlier rest all c so_far shared =
-    let shared_too : list_any (shares c) earlier ≡ true = sym (so_far.same c) ∙ shared in
-    sym so_far.first ∙ cond-true _ _ _ shared_too
-
 -- the same over pairs, of which i are done
 pub pair_chunk_at : (pairs : List (ℕ × ℕ)) (i : ℕ) → All (λ c. is_aligned c ≡ true) (listed pairs) → i < length pairs → IsChunk (pair_chunk (get_or pairs i (0, 0)))
 pair_chunk_at pairs i aligned within =

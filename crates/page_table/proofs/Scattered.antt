@@ -145,7 +145,7 @@ shares-sym c d apart =
     ⊎_elim (λ no. and_right second first no) (λ no. and_left second first no) (and_cases first second apart)
 
 -- where none shares a byte with an earlier one, the first shares none
-first_shared-head : (earlier : List Chunk) (c : Chunk) (rest : List Chunk) → first_shared earlier (c ∷ rest) ≡ None → (list_any (shares c) earlier ≡ false) × (first_shared (earlier ++ c ∷ []) rest ≡ None)
+pub first_shared-head : (earlier : List Chunk) (c : Chunk) (rest : List Chunk) → first_shared earlier (c ∷ rest) ≡ None → (list_any (shares c) earlier ≡ false) × (first_shared (earlier ++ c ∷ []) rest ≡ None)
 first_shared-head earlier c rest none =
     ⊎_elim
     (λ yes. let some : Some (length earlier) ≡ None = sym (cond-true (list_any (shares c) earlier) (Some (length earlier)) (first_shared (earlier ++ c ∷ []) rest) yes) ∙ none in cc)

@@ -10,6 +10,7 @@ use Rattle.risc_word.proofs.ReadBack.{reads_back}
 use Rattle.pixel_layout.specs.declared.Parity.{Parity}
 use Rattle.pixel_layout.specs.declared.Parity.TheVariants.{Top, Bottom}
 use Rattle.machine_model.specs.Paths.{RiscProgram, is_word, word_number, fetch}
+use Rattle.machine_model.proofs.BeforeTurns.{word_there}
 use Rattle.capture_desc.specs.declared.desc.Desc.{Desc}
 use Rattle.capture_desc.specs.declared.desc.Fields.{Fields}
 use Rattle.capture_desc.specs.declared.desc.Fields.TheVariants as fields
@@ -19,7 +20,7 @@ use Rattle.picture_model.specs.declared.Piece.{Piece}
 use Rattle.picture_model.specs.Described.{describes, memory_of}
 use Rattle.picture_model.specs.Plans.{Strip, plan}
 use Rattle.picture_model.specs.Programs.{begin_by, body, closing, closing_begin, compiled, instr_by, instr_of, line_instrs, lines_instrs, next_by, opening, picture_strips, section, section_begin, section_length, section_next, signal, vbi_from, vbi_instrs, vbi_strips, field_instrs, words_of}
-use Rattle.picture_model.proofs.Circle.{a_word, split_length, words_split}
+use Rattle.picture_model.proofs.Circle.{split_length, words_split}
 use Rattle.picture_model.proofs.Each.{Each, each_append}
 use Rattle.picture_model.proofs.FaultlessLines.{IsGoodInstr}
 use Rattle.picture_model.proofs.FaultlessGeometry.{IsRight}
@@ -62,7 +63,7 @@ pub fetched_at : (program : RiscProgram) (before after : List ℕ) (i : Instr) (
     address ≡ program.base + 4 * length before → IsInstr i → 0 < length (encoded i) → fetch program address ≡ Ok (i, length (encoded i))
 fetched_at program before after i address words at is some =
     let all : length program.words ≡ length before + (length (encoded i) + length after) = ap length words ∙ split_length before (encoded i) after in
-    let word : is_word program address ≡ true = subst (λ (a : ℕ). is_word program a ≡ true) (sym at) (a_word program (length before) (omega arith)) in
+    let word : is_word program address ≡ true = subst (λ (a : ℕ). is_word program a ≡ true) (sym at) (word_there program (length before) (omega arith)) in
     let number : word_number program address ≡ length before = omega arith in
     cond-true (is_word program address) _ _ word
     ∙ ap (instr_at program.words) number
@@ -117,7 +118,7 @@ begin_is_word d field is =
     let part = words_of (section d field (section_next d d.base d.base field)) in
     let all : length (compiled d).words ≡ length stands.before + (length part + length stands.after) = ap length stands.split ∙ split_length stands.before part stands.after in
     let some = section_some d field (section_next d d.base d.base field) in
-    subst (λ (a : ℕ). is_word (compiled d) a ≡ true) (sym stands.at) (a_word (compiled d) (length stands.before) (omega arith))
+    subst (λ (a : ℕ). is_word (compiled d) a ≡ true) (sym stands.at) (word_there (compiled d) (length stands.before) (omega arith))
 
 pub next_is_word : (d : Desc) (field : Parity) → describes d.fields field ≡ true → is_word (compiled d) (section_next d d.base d.base field) ≡ true
 next_is_word d field is =

@@ -1,12 +1,13 @@
 -- A program of instructions without a fault, each of which leads to another, is sound.
-use Rattle.std.proofs.Common.{◌≡◌, ℕ, zero, suc, ◌+◌, ◌-◌, ◌*◌, ◌%◌, ◌<◌, true, List, [], ◌∷◌, ◌++◌, length, length-append, append_assoc, Option, None, Ok, sym, ap, ◌∙◌, subst, arith}
-use Rattle.std.proofs.lemmas.Bool.{and_from, le-leb, lt-ltb, eq-eqb, cond-true}
+use Rattle.std.proofs.Common.{◌≡◌, ℕ, zero, suc, ◌+◌, ◌-◌, ◌*◌, ◌<◌, true, List, [], ◌∷◌, ◌++◌, length, length-append, append_assoc, Option, None, Ok, sym, ap, ◌∙◌, subst, arith}
+use Rattle.std.proofs.lemmas.Bool.{cond-true}
 use Rattle.std.proofs.lemmas.Grind.{flat_map-append}
 use Rattle.risc_word.specs.declared.Instr.{Instr}
 use Rattle.risc_word.specs.declared.Instr.TheVariants.{Write, Skip, WriteC, Jump, Sync, Write123, Skip123, Write1S23}
 use Rattle.risc_word.specs.Words.{IsInstr, encoded, instr_at}
 use Rattle.risc_word.proofs.ReadBack.{reads_back}
 use Rattle.machine_model.specs.Paths.{RiscProgram, Place, cause_at, fetch, instr_cause, is_word, next_by, next_place, path, place_after, place_read, reading_cause, word_number, IsSound}
+use Rattle.machine_model.proofs.BeforeTurns.{word_there}
 use Rattle.picture_model.specs.Programs.{words_of}
 use Rattle.picture_model.proofs.Each.{Each, each_at}
 
@@ -31,6 +32,16 @@ IsSome (i ∷ rest) = Unit {0}
 abbrev pub Goes : (ℕ → Type 0) → Instr → List Instr → Type 0
 Goes There (Jump ctl target) rest = There target
 Goes There i rest = IsSome rest
+
+pub goes_after : (There : ℕ → Type 0) (i : Instr) (count : ℕ) (after : List Instr) (place : Place) → Goes There i after → (IsSome after → There (place.pc + 4 * count)) → There (place_after i count place).pc
+goes_after There (Jump ctl target) count after place goes more = goes
+goes_after There (Write ctl ends off n addr) count after place goes more = more goes
+goes_after There (Skip ctl ends n) count after place goes more = more goes
+goes_after There (WriteC ctl ends off n) count after place goes more = more goes
+goes_after There (Sync ctl resync code) count after place goes more = more goes
+goes_after There (Write123 ctl ends off counts addrs) count after place goes more = more goes
+goes_after There (Skip123 ctl ends counts) count after place goes more = more goes
+goes_after There (Write1S23 ctl ends off counts addr) count after place goes more = more goes
 
 abbrev pub Lead : (ℕ → Type 0) → List Instr → Type 0
 Lead There [] = Unit {0}
@@ -73,15 +84,6 @@ words_split before i after = flat_map-append encoded before (i ∷ after)
 pub split_length : (before i after : List ℕ) → length (before ++ (i ++ after)) ≡ length before + (length i + length after)
 split_length before i after = length-append before (i ++ after) ∙ ap (λ n. length before + n) (length-append i after)
 
--- a word of a program
-pub a_word : (program : RiscProgram) (n : ℕ) → n < length program.words → is_word program (program.base + 4 * n) ≡ true
-a_word program n inside =
-    let back : program.base + 4 * n - program.base ≡ 4 * n = omega arith in
-    let number : word_number program (program.base + 4 * n) ≡ n = omega arith in
-    and_from _ _
-    (and_from _ _ (le-leb program.base (program.base + 4 * n) (omega arith)) (eq-eqb ((program.base + 4 * n - program.base) % 4) 0 (omega arith)))
-    (lt-ltb (word_number program (program.base + 4 * n)) (length program.words) (omega arith))
-
 plus_none : (a b : ℕ) → a + (b + 0) ≡ a + b
 plus_none a b = omega arith
 
@@ -106,7 +108,7 @@ module _ (program : RiscProgram) (instrs : List Instr) (spelled : program.words 
       let words = words_at address at in
       let all : length program.words ≡ length (words_of at.before) + (length (encoded at.instr) + length (words_of at.after)) = ap length words ∙ split_length (words_of at.before) (encoded at.instr) (words_of at.after) in
       let some = (instr_fine address at).some in
-      subst (λ (a : ℕ). is_word program a ≡ true) (sym at.at) (a_word program (length (words_of at.before)) (omega arith))
+      subst (λ (a : ℕ). is_word program a ≡ true) (sym at.at) (word_there program (length (words_of at.before)) (omega arith))
 
   pub fetch_at : (address : ℕ) (at : IsAt program.base instrs address) → fetch program address ≡ Ok (at.instr, length (encoded at.instr))
   fetch_at address at =
@@ -137,22 +139,12 @@ module _ (program : RiscProgram) (instrs : List Instr) (spelled : program.words 
         at = omega arith;
       }
 
-  goes_by : (i : Instr) (count : ℕ) (after : List Instr) (place : Place) → Goes (IsAt program.base instrs) i after → (IsSome after → IsAt program.base instrs (place.pc + 4 * count)) → IsAt program.base instrs (place_after i count place).pc
-  goes_by (Jump ctl target) count after place goes more = goes
-  goes_by (Write ctl ends off n addr) count after place goes more = more goes
-  goes_by (Skip ctl ends n) count after place goes more = more goes
-  goes_by (WriteC ctl ends off n) count after place goes more = more goes
-  goes_by (Sync ctl resync code) count after place goes more = more goes
-  goes_by (Write123 ctl ends off counts addrs) count after place goes more = more goes
-  goes_by (Skip123 ctl ends counts) count after place goes more = more goes
-  goes_by (Write1S23 ctl ends off counts addr) count after place goes more = more goes
-
   -- the instruction after one that stands at an address
   one_on : (place : Place) (at : IsAt program.base instrs place.pc) → IsSome at.after → IsAt program.base instrs (place.pc + 4 * length (encoded at.instr))
   one_on place at some = following at.before at.instr at.after place.pc at.split at.at some
 
   goes_on : (place : Place) (at : IsAt program.base instrs place.pc) → Goes (IsAt program.base instrs) at.instr at.after → IsAt program.base instrs (place_after at.instr (length (encoded at.instr)) place).pc
-  goes_on place at goes = goes_by at.instr (length (encoded at.instr)) at.after place goes (one_on place at)
+  goes_on place at goes = goes_after (IsAt program.base instrs) at.instr (length (encoded at.instr)) at.after place goes (one_on place at)
 
   module _ (leads : Lead (IsAt program.base instrs) instrs) where
     stands : (number : ℕ) → IsAt program.base instrs program.base → IsAt program.base instrs (path program number).pc

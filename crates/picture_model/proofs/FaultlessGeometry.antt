@@ -63,7 +63,7 @@ none_in_range test from (suc count) p none low high =
     (λ before. let same : from ≡ p = omega arith in subst (λ (q : ℕ). test q ≡ false) same parts.0)
     (cases_lt from p)
 
-aligned_memory : (chunks : Option (List (ℕ × ℕ))) (pages : List ℕ) → All (λ page. page < 2 ^ 32) pages → first_unaligned chunks pages ≡ None → first_shared [] (memory_from chunks pages) ≡ None →
+pub aligned_memory : (chunks : Option (List (ℕ × ℕ))) (pages : List ℕ) → All (λ page. page < 2 ^ 32) pages → first_unaligned chunks pages ≡ None → first_shared [] (memory_from chunks pages) ≡ None →
     All (λ c. is_aligned c ≡ true) (memory_from chunks pages)
 aligned_memory None pages fit aligned apart = pages_aligned pages (λ k within. fit k 0 within) aligned
 aligned_memory (Some pairs) pages fit aligned apart = chunks_aligned pairs (record { aligned = aligned; apart = apart })

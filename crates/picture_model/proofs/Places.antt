@@ -26,7 +26,7 @@ or_turn true true c = refl
 or_turn true false c = refl
 or_turn false b c = refl
 
-any-all_placed : (test : Chunk → Bool) (rising rest : List Chunk) → list_any test (all_placed rising rest) ≡ (list_any test rising || list_any test rest)
+pub any-all_placed : (test : Chunk → Bool) (rising rest : List Chunk) → list_any test (all_placed rising rest) ≡ (list_any test rising || list_any test rest)
 any-all_placed test rising [] = or_none (list_any test rising)
 any-all_placed test rising (c ∷ rest) =
     any-all_placed test (placed c rising) rest

@@ -11,13 +11,14 @@ use Rattle.pixel_layout.specs.declared.Parity.{Parity}
 use Rattle.pixel_layout.specs.declared.Parity.TheVariants.{Top, Bottom}
 use Rattle.page_table.specs.Taken.{in_order}
 use Rattle.machine_model.specs.Paths.{RiscProgram, IsSound, is_word}
+use Rattle.machine_model.proofs.BeforeTurns.{word_there}
 use Rattle.capture_desc.specs.declared.desc.Desc.{Desc}
 use Rattle.capture_desc.specs.declared.desc.Fields.{Fields}
 use Rattle.capture_desc.specs.declared.desc.Fields.TheVariants as fields
 use Rattle.picture_model.specs.Described.{both, describes, field_height, layout_of, memory_of, picture_row, rows_of}
 use Rattle.picture_model.specs.Plans.{Strip, row_strip, skipped_strip, vbi_strip}
 use Rattle.picture_model.specs.Programs.{Stands, begin_by, body, closing, closing_begin, compiled, data_code, field_instrs, field_words, line_instrs, lines_instrs, next_by, opening, picture_strips, section, section_begin, section_length, section_next, sections, sections_by, sections_words, vbi_from, vbi_instrs, vbi_strips, vbi_words, vertical, words_of}
-use Rattle.picture_model.proofs.Circle.{IsAt, IsFineInstr, IsPlain, Lead, a_word, circle_sound, lead_plain, split_length, words_split}
+use Rattle.picture_model.proofs.Circle.{IsAt, IsFineInstr, IsPlain, Lead, circle_sound, lead_plain, split_length, words_split}
 use Rattle.picture_model.proofs.Each.{Each, each_append, each_flat_map, each_map, each_only, each_range, each_replicate}
 use Rattle.picture_model.proofs.FaultlessLines.{AreWords, IsGoodInstr, good_line, good_sync}
 use Rattle.picture_model.proofs.FaultlessGeometry.{IsRight}
@@ -141,7 +142,7 @@ module _ (d : Desc) (program : RiscProgram) where
       let instrs = section d field program.base in
       let size = ap length words in
       let e : program.base + 4 * 0 ≡ program.base = omega arith in
-      let word : is_word program program.base ≡ true = subst (λ (a : ℕ). is_word program a ≡ true) e (a_word program 0 (omega arith)) in
+      let word : is_word program program.base ≡ true = subst (λ (a : ℕ). is_word program a ≡ true) e (word_there program 0 (omega arith)) in
       let first : IsAt program.base instrs program.base =
       record { before = []; instr = opening field; after = body d field ++ closing field program.base ∷ []; split = refl; at = omega arith }
       in
@@ -161,8 +162,8 @@ module _ (d : Desc) (program : RiscProgram) where
       let parts : words_of instrs ≡ words_of first ++ words_of last = flat_map-append encoded first last in
       let sizes : length program.words ≡ length (words_of first) + length (words_of last) = ap length words ∙ ap length parts ∙ length-append (words_of first) (words_of last) in
       let e : program.base + 4 * 0 ≡ program.base = omega arith in
-      let base_word : is_word program program.base ≡ true = subst (λ (a : ℕ). is_word program a ≡ true) e (a_word program 0 (omega arith)) in
-      let mid_word : is_word program mid ≡ true = a_word program (section_length d Top) (omega arith) in
+      let base_word : is_word program program.base ≡ true = subst (λ (a : ℕ). is_word program a ≡ true) e (word_there program 0 (omega arith)) in
+      let mid_word : is_word program mid ≡ true = word_there program (section_length d Top) (omega arith) in
       let at_base : There program.base =
       record { before = []; instr = opening Top; after = body d Top ++ closing Top mid ∷ [] ++ last; split = refl; at = omega arith }
       in

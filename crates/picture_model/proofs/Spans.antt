@@ -6,7 +6,7 @@ use Rattle.std.proofs.Math.Nat.{zero-mod, zero-div}
 use Rattle.clip_spans.specs.Clipping.{unit_clipped, clipped_at}
 use Rattle.clip_spans.specs.Runs.{span, spans_of, IsRun, AreRunsFrom}
 use Rattle.clip_spans.specs.declared.Span.{Span}
-use Rattle.clip_spans.proofs.Runs.{spans_of-spans}
+use Rattle.clip_spans.proofs.Runs.{spans_of-spans, never_both}
 use Rattle.pixel_layout.proofs.Table.{layout_sizes}
 use Rattle.capture_desc.specs.declared.desc.Desc.{Desc}
 use Rattle.picture_model.specs.Described.{layout_of}
@@ -15,10 +15,6 @@ use Rattle.picture_model.specs.Plans.{grain_bytes, grain_clipped, grains_of, row
 use Rattle.picture_model.proofs.FaultlessGeometry.{IsRight}
 use Rattle.picture_model.proofs.Grains.{other_planes}
 use Rattle.std.specs.Prelude.{◌==◌}
-
-not_both : (b : Bool) → b ≡ not b → ⊥
-not_both true e = cc
-not_both false e = cc
 
 pub mul_div : (a p : ℕ) → 1 ≤ p → a * p / p ≡ a
 mul_div a p some = let e : a * p ≡ a * p + 0 = omega arith in ap (λ n. n / p) e ∙ div-mul-add a p 0 some
@@ -63,7 +59,7 @@ module _ (answer : ℕ → Bool) (p w : ℕ) (some : 1 ≤ p) where
       (λ below.
       let turns : answer (s.to / p) ≡ not s.clipped = run.maximal below in
       let last : answer ((s.to - 1) / p) ≡ s.clipped = run.same (s.to - 1) (omega arith) (omega arith) in
-      absurd (not_both s.clipped (sym last ∙ ap answer (div_before s.to p some part) ∙ turns)))
+      absurd (never_both s.clipped (sym last ∙ ap answer (div_before s.to p some part) ∙ turns)))
       (λ at. let e : s.to ≡ w * p = omega arith in ap (λ n. n % p) e ∙ whole_product w p some)
       (cases_lt s.to (w * p)))
       (λ none. omega arith)

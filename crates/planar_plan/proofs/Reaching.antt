@@ -12,18 +12,6 @@ use Rattle.planar_plan.specs.declared.cut.Reach.{Reach}
 use Rattle.planar_plan.specs.declared.cut.Window.{Window}
 use Rattle.planar_plan.specs.Lines.{AreHeld, CanBeCut, IsHeld, IsWindow, Reaches}
 
--- a front of a line can be cut where the line can
-held_front : (s : ScatterList) (grains n size : ℕ) (start : Option ℕ) → n ≤ grains → AreHeld s grains size start → AreHeld s n size start
-held_front s grains n size None fewer held = tt
-held_front s grains n size (Some start) fewer held =
-    let less = fewer_grains n grains size fewer in
-    let all = held.1 in
-    (held.0, omega arith, λ at inside. held.2 at (omega arith))
-
-pub IsHeld-front : (s : ScatterList) (grains n : ℕ) (t : Track) → n ≤ grains → IsHeld s grains t → IsHeld s n t
-IsHeld-front s grains n t fewer is =
-    record { small = is.small; held = held_front s grains n t.size t.start fewer is.held }
-
 -- at the first of some grains that are left, their bytes are left too
 pub bytes_left : (at rest size start len : ℕ) → 1 ≤ rest → 1 ≤ size → start + (at + rest) * size ≤ len → (start + at * size < len) × (rest * size ≤ len - (start + at * size))
 bytes_left at rest size start len some wide within =

@@ -10,7 +10,7 @@ use Rattle.clip_spans.specs.declared.Span.{Span}
 use Rattle.std.proofs.lemmas.List.{append-nil, take_more}
 use Rattle.planar_plan.proofs.Cuts.{pieces-append}
 use Rattle.picture_model.specs.declared.Piece.{Piece}
-use Rattle.picture_model.specs.Plans.{FitsTrack, Strip, Track, address_of, Cut, bytes_free, cut, cuts_from, cuts_of, longest, most_of, piece_of, pieces_of, span_cuts, track}
+use Rattle.picture_model.specs.Plans.{Strip, Track, address_of, Cut, bytes_free, cut, cuts_from, cuts_of, longest, most_of, piece_of, pieces_of, span_cuts}
 use Rattle.planar_plan.proofs.Bounds.{fewer_grains}
 use Rattle.planar_plan.proofs.Reaching.{all_held, run_parts}
 use Rattle.std.proofs.lemmas.List.Elements.{All-append, All-cons, All-nil}
@@ -18,7 +18,7 @@ use Rattle.planar_plan.specs.Lines.{AreHeld, AreWithin, CountsFit, IsHeld, strip
 use Rattle.planar_plan.specs.declared.cut.Line.{Line}
 use Rattle.planar_plan.specs.declared.stretch.Stretch.{Stretch}
 use Rattle.planar_plan.specs.declared.stretch.Stretches.{Stretches}
-use Rattle.planar_plan.specs.Stretches.{AreStretches, FitsInOne, IsStretch, IsWhole, StandsAt, WholeLine, piece_in, pieces_in, place_on, whole_line}
+use Rattle.planar_plan.specs.Stretches.{AreStretches, IsStretch, IsWhole, StandsAt, WholeLine, piece_in, pieces_in, place_on, whole_line}
 
 -- the bytes left at a grain hold the grains that are left
 
@@ -138,26 +138,6 @@ pieces_are memory line w s are within =
 pub stretches-IsWhole : (memory : List Chunk) (line : Line) (w : Stretches) → AreStretches memory (strip_of line) w → IsWhole memory (strip_of line) (whole_line line w)
 stretches-IsWhole memory line w are =
     record { grains = refl; pieces = λ s within. pieces_are memory line w s are within }
-
--- a line in stretches, and one that one piece could move
-
-fits_track : (memory : List Chunk) (grains size : ℕ) (start : Option ℕ) (w : Stretch) → grains * size ≤ 4092 → StandsAt memory grains size start w → FitsTrack memory false 0 grains (track size start)
-fits_track memory grains size None w few stands = record { few = few; whole = tt }
-fits_track memory grains size (Some start) w few stands =
-    let here : start ≡ start + 0 * size = omega arith in
-    record { few = few; whole = subst (λ (from : ℕ). grains * size ≤ room_at memory from) here stands.1 }
-
-pub stretches-FitsInOne : (memory : List Chunk) (strip : Strip) (w : Stretches) → AreStretches memory strip w → FitsInOne memory strip
-stretches-FitsInOne memory strip w are =
-    record {
-      some = are.one.some;
-      fits = record {
-        within = omega arith;
-        one = fits_track memory strip.grains strip.one.size strip.one.start w.one are.one.fit.0 are.one.stands;
-        two = fits_track memory strip.grains strip.two.size strip.two.start w.two are.two.fit.0 are.two.stands;
-        three = fits_track memory strip.grains strip.three.size strip.three.start w.three are.three.fit.0 are.three.stands;
-      };
-    }
 
 -- the spans of a line
 

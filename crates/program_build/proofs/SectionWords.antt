@@ -26,18 +26,6 @@ pub open_long : (d : Desc) (field : Parity) → section_length d field ≡ lengt
 open_long d field =
     ap length (closed d field 0) ∙ length-append (open_words d field) (encoded (closing field 0))
 
--- the section of one field
-
-pub top_alone : (d : Desc) (at back : ℕ) (words : List ℕ) → d.fields ≡ fields.Top → words ≡ words_of (section d Top back) → AreSections d at back words
-top_alone d at back words same is =
-    let whole : words ≡ sections_words d at back = is ∙ sym (ap (λ (which : Fields). words_of (sections_by which d at back)) same) in
-    record { long = ap length whole; same = λ ends. whole }
-
-pub bottom_alone : (d : Desc) (at back : ℕ) (words : List ℕ) → d.fields ≡ fields.Bottom → words ≡ words_of (section d Bottom back) → AreSections d at back words
-bottom_alone d at back words same is =
-    let whole : words ≡ sections_words d at back = is ∙ sym (ap (λ (which : Fields). words_of (sections_by which d at back)) same) in
-    record { long = ap length whole; same = λ ends. whole }
-
 -- the sections of both fields
 
 module _ (d : Desc) (at back : ℕ) (both : d.fields ≡ fields.Both) where

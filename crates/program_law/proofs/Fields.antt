@@ -11,7 +11,7 @@ use Rattle.capture_file.specs.declared.FileKind.TheVariants as fault
 use Rattle.capture_file.specs.declared.program.Layout.{Layout}
 use Rattle.capture_file.specs.declared.program.Layout.TheVariants.{Paged, Chunked}
 use Rattle.capture_file.specs.Programs.{Field, ◌>>=◌, cut, judged, number_field, layout_field, layout_of, layout_or_magic, base_field, base_fault, word_count_field, word_count_fault, words_in, words_field, chunk_count_field, chunk_count_fault, page_field, page_fault, long_chunk_field, address_fault, length_fault, is_length, chunk_field, chunks_field}
-use Rattle.capture_file.proofs.Chunks.{IsBytes}
+use Rattle.capture_file.proofs.FourBytes.{number_low}
 use Rattle.program_law.specs.Beginnings.{IsWhole, field_width, has_good_beginning}
 use Rattle.program_law.proofs.Judging.{Reader, FieldGoes, Inside, IsField, field_then}
 
@@ -28,9 +28,6 @@ AtFront before kind = (before ≡ []) × (kind ≡ fault.AfterEnd → ⊥)
 
 pub AtFront-inside : Inside AtFront
 AtFront-inside before kind noted late = noted.1 late
-
-number_low : (a b c d : ℕ) (rest : List ℕ) → IsBytes (a ∷ b ∷ c ∷ d ∷ rest) → little_number 4 (a ∷ b ∷ c ∷ d ∷ []) < 2 ^ 32
-number_low a b c d rest fits = omega (arith, fits 0, fits 1, fits 2, fits 3)
 
 module _ (A : Type 0) (value : ℕ → A) (wrongs : ℕ → Option FileKind) (Known : A → Type 0) (of : (n : ℕ) (kind : FileKind) → wrongs n ≡ Some kind → IsOfNumber kind) (known : (n : ℕ) → wrongs n ≡ None → n < 2 ^ 32 → Known (value n)) where
   abbrev pub judged_number : Reader (A × List ℕ)

@@ -1,7 +1,7 @@
 -- What a judged ring meets.
-use Rattle.std.proofs.Common.{◌≡◌, ℕ, ◌+◌, ◌*◌, ◌%◌, ◌^◌, ◌<◌, ◌≤◌, Bool, true, false, nat_le, Ok, Err, List, [], ◌∷◌, ◌++◌, Option, Some, None, Result, length, map, get_or, refl, subst, sym, ap, ◌∙◌, arith, Fits, w32}
-use Rattle.std.specs.Prelude.{IfOk, ◌==◌}
-use Rattle.std.specs.List.{All, list_any, position, range_with_len}
+use Rattle.std.proofs.Common.{◌≡◌, ℕ, ◌+◌, ◌*◌, ◌%◌, ◌^◌, ◌<◌, ◌≤◌, Bool, true, false, nat_le, Ok, Err, List, [], ◌∷◌, ◌++◌, Some, None, Result, length, map, get_or, refl, subst, sym, ap, ◌∙◌, arith, Fits, w32}
+use Rattle.std.specs.Prelude.{IfOk}
+use Rattle.std.specs.List.{All, list_any, range_with_len}
 use Rattle.std.proofs.lemmas.Bool.{and_parts, eqb-true, leb-true, not-false}
 use Rattle.std.proofs.lemmas.Grind.{flat_map-append}
 use Rattle.std.proofs.lemmas.List.{append-nil, get_or_default}
@@ -18,7 +18,7 @@ use Rattle.page_table.specs.Taken.{in_order, page_at}
 use Rattle.page_table.proofs.Listed.{any_map}
 use Rattle.machine_model.specs.Paths.{IsSound, RiscProgram, shares_byte}
 use Rattle.page_table.specs.Scattered.{ArePages, IsScatterList, ScatterList}
-use Rattle.ring_model.specs.Rings.{IsRing, Ring, bytes_of, closing, ends, last_write, memory_of, opening, ring_program, round}
+use Rattle.ring_model.specs.Rings.{IsRing, Ring, closing, ends, last_write, memory_of, opening, ring_program, round}
 use Rattle.ring_model.proofs.Few.{ring_few}
 use Rattle.ring_model.proofs.RingProgram.{ring_made}
 use Rattle.ring_model.proofs.Sound.{ring_length, ring_sound}
@@ -48,9 +48,6 @@ pub addresses_shown : (pages shown : List ℕ) → shown ≡ pages → All (λ p
 addresses_shown pages shown same fit = subst (All (λ page. page < 2 ^ 32)) same fit
 
 -- where a block ends
-
-pub ends_found : (r : Ring) (places : List ℕ) (at : ℕ) (found : Option ℕ) → places ≡ map (last_write r) (range_with_len 0 r.blocks) → found ≡ position (λ place. place == at) places → found ≡ ends r at
-ends_found r places at found same is = is ∙ ap (position (λ place. place == at)) same
 
 pub few_places : (r : Ring) (places : List ℕ) (place : ℕ) → r.blocks ≤ 16 → places ≡ map (last_write r) (range_with_len 0 r.blocks) → place < length places → place < 16
 few_places r places place few same within =

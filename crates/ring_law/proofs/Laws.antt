@@ -1,6 +1,6 @@
 -- The law of rings.
 use Rattle.std.proofs.Common.{All, Bool, List, None, Some, [], append_assoc, arith, false, if◌then◌else◌, inl, inr, length, length-append, map, refl, suc, sym, true, ℕ, ◌%◌, ◌*◌, ◌++◌, ◌+◌, ◌<◌, ◌∙◌, ◌∷◌, ◌≡◌, ap, subst}
-use Rattle.field_law.specs.Arrivals.{AreKept, HasCode, meeting, over_queues, pushed_by, pushed_in}
+use Rattle.field_law.specs.Arrivals.{AreKept, HasCode, meeting, over_queues, pushed_in}
 use Rattle.page_table.specs.Blocks.{Block}
 use Rattle.field_law.specs.Fields.{Brings, Mark, Row, Token}
 use Rattle.ring_law.proofs.Ending.{Ended, UsedUp, block_end-Ended}
@@ -17,6 +17,7 @@ use Rattle.fifo_model.specs.declared.Queue.{Queue}
 use Rattle.ring_model.specs.Rings.{Ring, ends, ring_program}
 use Rattle.machine_model.specs.Paths.{RiscProgram}
 use Rattle.field_law.specs.Sections.{Section, Uses, UsesUp, asks, planned, section_stores}
+use Rattle.field_law.proofs.Bringing.{pushed_in-append}
 use Rattle.ring_law.proofs.Runs.{to_come, kept_next, Ran, IsReachedRing, runs, turn-TurnSteps}
 use Rattle.ring_law.proofs.Walks.{StandsFor, Walks}
 use Rattle.machine_model.specs.States.{State}
@@ -29,10 +30,6 @@ use Rattle.ring_law.proofs.Asks.{executed_quiet, lines_use, other_uses, ring_sto
 use Rattle.machine_model.proofs.ProgramStays.{program-step}
 use Rattle.fifo_model.specs.Queues.{queue_state}
 use Rattle.machine_model.specs.Turns.{sets_fdsr, stored_all, with_interrupts}
-
-pub pushed_in-append : (xs ys : List Step) (q : Queue) → pushed_in (xs ++ ys) q ≡ pushed_in xs q ++ pushed_in ys q
-pushed_in-append [] ys q = refl
-pushed_in-append (x ∷ xs) ys q = ap (λ (rest : List Entry). pushed_by x q ++ rest) (pushed_in-append xs ys q) ∙ sym (append_assoc (pushed_by x q) (pushed_in xs q) (pushed_in ys q))
 
 -- the ring as a section behind its SYNC, up to so many block ends
 abbrev pub ring_section : Ring → ℕ → Section

@@ -6,15 +6,8 @@ use Rattle.std.proofs.lemmas.List.{length-replicate, map-append}
 use Rattle.fifo_model.specs.declared.Entry.{Entry}
 use Rattle.risc_word.specs.declared.Code.TheVariants.{Fm1}
 use Rattle.field_law.specs.Fields.{IsLine, Mark, Row, Token, Brings}
+use Rattle.field_law.proofs.Bringing.{brings-append}
 use Rattle.ring_law.specs.RingRuns.{IsUnfinished}
-
-pub brings_append : (first later : List Token) (xs ys : List Entry) → Brings first xs → Brings later ys → Brings (first ++ later) (xs ++ ys)
-brings_append [] later xs ys one two = subst (λ (xs : List Entry). Brings later (xs ++ ys)) (sym one) two
-brings_append (Mark code ∷ first) later xs ys one two =
-    subst (λ (xs : List Entry). Brings (Mark code ∷ (first ++ later)) (xs ++ ys)) (sym one.2)
-    (one.0, one.1 ++ ys, refl, one.3, brings_append first later one.1 ys one.4 two)
-brings_append (Row bytes ∷ first) later xs ys one two =
-    (one.0, one.1 ++ ys, ap (λ (xs : List Entry). xs ++ ys) one.2 ∙ append_assoc one.0 one.1 ys, one.3, brings_append first later one.1 ys one.4 two)
 
 -- entries that bring tokens are those of the first, then those of the others
 pub record Parted (first later : List Token) (entries : List Entry) : Type 0 where
@@ -102,5 +95,5 @@ pads wanted bytes lines entries unfinished few long brings last =
       brings =
           subst (λ (rows : List Token). Brings (Mark Fm1 ∷ rows) (entries ++ (unfinished ++ (last.missing ++ copies more whole)))) (sym (map-append Row lines (replicate (suc more) line)))
           (subst (λ (more_entries : List Entry). Brings ((Mark Fm1 ∷ map Row lines) ++ map Row (replicate (suc more) line)) (entries ++ more_entries)) (append_assoc unfinished last.missing (copies more whole))
-          (brings_append (Mark Fm1 ∷ map Row lines) (map Row (replicate (suc more) line)) entries (copies (suc more) whole) brings (copies_bring (suc more) line whole last.is)));
+          (brings-append (Mark Fm1 ∷ map Row lines) (map Row (replicate (suc more) line)) entries (copies (suc more) whole) brings (copies_bring (suc more) line whole last.is)));
     }

@@ -1,21 +1,19 @@
 -- One turn of a ring's machine: the block at the address that retires is the block that ends.
-use Rattle.std.proofs.Common.{◌≡◌, ℕ, ◌+◌, true, List, [], ◌∷◌, Option, Some, None, refl, sym, ap, ◌∙◌, arith}
+use Rattle.std.proofs.Common.{◌≡◌, ℕ, true, List, refl, sym, ap, ◌∙◌}
 use Rattle.std.specs.Prelude.{option_and_then}
-use Rattle.fifo_model.specs.Queues.{more}
 use Rattle.machine_model.specs.declared.Did.{Did}
 use Rattle.machine_model.specs.declared.Did.TheVariants.{Retired, Still}
 use Rattle.machine_model.specs.Safety.{IsSafe}
 use Rattle.machine_model.specs.Seen.{seen}
 use Rattle.machine_model.specs.States.{State}
 use Rattle.machine_model.specs.Steps.{Step, Turn, run}
-use Rattle.machine_model.specs.Turns.{turn}
 use Rattle.machine_model.proofs.Runs.{program-run}
 use Rattle.ring_model.specs.Rings.{Ring, ends}
 use Rattle.dma_machine.specs.Looks.{next_retirement, retired_at}
 use Rattle.dma_machine.specs.Stills.{is_still}
-use Rattle.ring_model.specs.Runs.{BlockAt, block_end, end_by, end_seen, one_if}
+use Rattle.ring_model.specs.Runs.{BlockAt, block_end, end_by, end_seen}
 use Rattle.ring_law.proofs.Seeing.{turns_seen_end_blocks}
-use Rattle.ring_machine.specs.States.{IsRingMachine, RingState, StandsStill, ran}
+use Rattle.ring_machine.specs.States.{IsRingMachine, StandsStill}
 
 -- the program stays
 pub ran_stays : (ring : Ring) (m after : State) (steps : List Step) → IsRingMachine ring m → after ≡ run m steps → IsRingMachine ring after
@@ -39,11 +37,3 @@ module _ (ring : Ring) (m : State) (is : IsRingMachine ring m) (safe : IsSafe m)
   pub stands : (blocks : ℕ) → is_still m ≡ true → (seen m).did ≡ Still → StandsStill (record { ring = ring; machine = m; blocks = blocks })
   stands blocks still did =
       record { still = still; ends_none = sym end_is ∙ ap (λ (d : Did). end_by (ends ring) d (seen m).at) did }
-
--- one turn
-pub turn_ran : (ring : Ring) (m after : State) (blocks : ℕ) (ended : Option ℕ) → ended ≡ block_end (ends ring) m Turn → after ≡ turn m →
-    record { ring = ring; machine = after; blocks = more blocks (one_if ended) } ≡ ran (Turn ∷ []) (record { ring = ring; machine = m; blocks = blocks })
-turn_ran ring m after blocks ended is e =
-    let one : one_if ended ≡ one_if (block_end (ends ring) m Turn) + 0 = ap one_if is ∙ (omega arith) in
-    ap (λ (s : State). record { ring = ring; machine = s; blocks = more blocks (one_if ended) }) e
-    ∙ ap (λ (n : ℕ). record { ring = ring; machine = turn m; blocks = more blocks n }) one

@@ -4,12 +4,9 @@ use Rattle.std.specs.Prelude.{◌==◌}
 use Rattle.std.proofs.lemmas.Bool.{eqb-true}
 use Rattle.risc_text.specs.declared.Line.{Line}
 use Rattle.risc_text.specs.Readers.{line_at, ◌>>=◌}
-use Rattle.risc_text.specs.Drafts.{Draft, blank, drafted, gathered, taken}
+use Rattle.risc_text.specs.Drafts.{Draft, drafted, gathered, taken}
 use Rattle.risc_text.proofs.Spelling.{some_is}
 use Rattle.risc_asm.specs.Drafts.{Continues, carried}
-
-pub begin : (text : List ℕ) → Continues blank text text
-begin text = record { most = length text; enough = omega arith; same = refl }
 
 some_parts : (found : Option (Draft × List ℕ)) (d e : Draft) (x y : List ℕ) → found ≡ Some (d, x) → found ≡ Some (e, y) → (d ≡ e) × (x ≡ y)
 some_parts found d e x y one other =

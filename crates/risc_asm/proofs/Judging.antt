@@ -14,7 +14,7 @@ use Rattle.risc_text.specs.Drafts.{Draft, draft_of, drafted}
 use Rattle.risc_text.specs.Assembly.{BeginsListing, IsListed, IsListing, are_lines}
 use Rattle.risc_text.proofs.Cutting.{Starts, begun_starts, listing_begins, starts_begun}
 use Rattle.risc_text.proofs.Gathering.{listed_pairs, listing_is_read, trunk_is_read}
-use Rattle.risc_text.proofs.Spelling.{some_is}
+use Rattle.risc_text.proofs.Spelling.{some_is, none_some}
 use Rattle.risc_asm.specs.Verdicts.{Agrees, EndAgrees, IsBegun, StartsAs, all_but_fill}
 use Rattle.risc_asm.proofs.Agreeing.{starts_nowhere}
 use Rattle.risc_asm.specs.declared.judge.Agreement.TheVariants as agreement
@@ -106,9 +106,6 @@ start_by text d (inr (inr (program, fill, (listed_is, same)))) is some = record 
 
 pub start_of : (text : List ℕ) (d : Draft) → IsTrue (are_lines text) → BeginsListing text → drafted text ≡ Some d → 0 < length text → StartOf text d
 start_of text d whole begun is some = start_by text d (begun_starts text begun whole) is some
-
-none_some : {A : Type 0} (x : A) → None ≡ Some x → ⊥
-none_some x e = cc
 
 pub undrafted : (text : List ℕ) → drafted text ≡ None → 0 < length text → IsTrue (are_lines text) → BeginsListing text → ⊥
 undrafted text is some whole begun = by (begun_starts text begun whole)

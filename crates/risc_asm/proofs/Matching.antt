@@ -1,5 +1,5 @@
 -- A text is compared with the lines of words, piece by piece.
-use Rattle.std.proofs.Common.{◌≡◌, ℕ, ◌+◌, ◌*◌, ◌≤◌, true, false, List, [], ◌++◌, length, take, drop, refl, sym, ap, ◌∙◌, arith, append_assoc}
+use Rattle.std.proofs.Common.{◌≡◌, ℕ, ◌+◌, ◌*◌, ◌≤◌, true, false, List, ◌++◌, length, take, drop, sym, ap, ◌∙◌, append_assoc}
 use Rattle.std.specs.Prelude.{◌==◌}
 use Rattle.std.specs.Cmp.Lexicographic.{pointwise, bytes_decides}
 use Rattle.std.proofs.lemmas.List.{append-nil, append_cancel_left, drop_all, take-append-drop}
@@ -12,14 +12,6 @@ pub record Matched (base : ℕ) (words : List ℕ) (next : ℕ) (text rest : Lis
   pub shown : List ℕ
   pub text_is : text ≡ shown ++ rest
   pub lines_are : word_lines base 0 words ≡ shown ++ word_lines (base + 4 * next) 0 (drop next words)
-
-pub begin : (base : ℕ) (words text : List ℕ) → Matched base words 0 text text
-begin base words text = record {
-  within = omega arith;
-  shown = [];
-  text_is = refl;
-  lines_are = ap (λ (n : ℕ). word_lines n 0 words) (let e : base ≡ base + 4 * 0 = omega arith in e);
-}
 
 pub found : (rest piece : List ℕ) → pointwise (λ one other. one == other) (take (length piece) rest) piece ≡ true → rest ≡ piece ++ drop (length piece) rest
 found rest piece is =

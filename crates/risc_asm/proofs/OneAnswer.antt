@@ -7,7 +7,7 @@ use Rattle.std.proofs.lemmas.List.Sums.{sum_by-cons}
 use Rattle.machine_model.specs.Paths.{RiscProgram}
 use Rattle.risc_listing.specs.Listings.{fill_line, listing}
 use Rattle.risc_text.specs.Assembly.{Assembles, BeginsListing, EndsShort, IsListing, IsRestAtFault, IsWrongLine, LineAtFault, are_lines, has_no_newline, line_count}
-use Rattle.risc_text.proofs.Cutting.{Past, cut_line, listing_begins}
+use Rattle.risc_text.proofs.Cutting.{Past, cut_line, listing_begins, later_lines, not_newline}
 use Rattle.risc_text.proofs.Gathering.{one_program}
 use Rattle.risc_text.proofs.Plain.{IsLine, fill_line-is}
 use Rattle.capture_file.specs.declared.program.ProgramFile.{ProgramFile}
@@ -50,10 +50,6 @@ two_fronts (a ∷ front) rest (b ∷ other) left e =
 
 -- ---- whole lines
 
-later_lines : (byte : ℕ) (rest : List ℕ) → are_lines (byte ∷ rest) ≡ true → are_lines rest ≡ true
-later_lines byte [] is = refl
-later_lines byte (other ∷ rest) is = is
-
 last_lines : (front rest : List ℕ) → are_lines (front ++ rest) ≡ true → are_lines rest ≡ true
 last_lines [] rest is = is
 last_lines (byte ∷ front) rest is = last_lines front rest (later_lines byte (front ++ rest) is)
@@ -63,14 +59,11 @@ newline_last [] = refl
 newline_last (byte ∷ []) = refl
 newline_last (byte ∷ second ∷ front) = newline_last (second ∷ front)
 
-no_newline : (byte : ℕ) → not (byte == 10) ≡ true → (byte == 10) ≡ true → ⊥
-no_newline byte other is = cc
-
 -- a text without a newline that is whole lines is empty
 plain_lines : (text : List ℕ) → has_no_newline text ≡ true → are_lines text ≡ true → text ≡ []
 plain_lines [] plain whole = refl
 plain_lines (byte ∷ []) plain whole =
-    let parts = and_parts (not (byte == 10)) (has_no_newline []) plain in absurd (no_newline byte parts.0 whole)
+    let parts = and_parts (not (byte == 10)) (has_no_newline []) plain in absurd (not_newline byte parts.0 whole)
 plain_lines (byte ∷ second ∷ rest) plain whole =
     let parts = and_parts (not (byte == 10)) (has_no_newline (second ∷ rest)) plain in
     let none = plain_lines (second ∷ rest) parts.1 whole in
@@ -187,7 +180,7 @@ line_within before line after lines rest e is whole plain =
           absurd (line_not_plain line is (plain_front line after (plain_rest goes.more (line ++ after) (ap has_no_newline (sym goes.rest_is) ∙ plain))))
     ]
 
-begins_front : (front more : List ℕ) → BeginsListing (front ++ more) → BeginsListing front
+pub begins_front : (front more : List ℕ) → BeginsListing (front ++ more) → BeginsListing front
 begins_front front more begins = (more ++ begins.0, subst IsListing (append_assoc front more begins.0) begins.1)
 
 -- a wrong line is not among lines that begin a listing

@@ -7,13 +7,14 @@ use Rattle.std.proofs.Math.Dec.{leb}
 use Rattle.std.proofs.lemmas.List.{get_or-drop, get_or-take, length-take, take-append-drop, take_all, append-nil}
 use Rattle.std.proofs.lemmas.List.Sums.{sum_by-cons}
 use Rattle.std.proofs.Math.Seq.{take-length}
-use Rattle.risc_text.specs.Assembly.{Assembles, BeginsListing, EndsShort, IsListing, LineAtFault, are_lines, has_no_newline, line_count}
+use Rattle.risc_text.specs.Assembly.{BeginsListing, EndsShort, LineAtFault, are_lines, has_no_newline, line_count}
 use Rattle.risc_text.proofs.Cutting.{listing_begins}
 use Rattle.capture_file.specs.declared.program.ProgramFile.{ProgramFile}
 use Rattle.risc_asm.specs.Answers.{HasWrongLine, IsBetween}
 use Rattle.risc_asm.specs.Verdicts.{IsBegun, Judges}
 use Rattle.risc_asm.specs.declared.judge.Verdict.{Verdict}
 use Rattle.risc_asm.specs.declared.judge.Verdict.TheVariants.{Wrong, Begun, Whole}
+use Rattle.risc_asm.proofs.OneAnswer.{begins_front}
 
 -- a newline ends whole lines
 pub lines_to : (at : ℕ) (text : List ℕ) → at < length text → slice_index text at ≡ 10 → are_lines (take (suc at) text) ≡ true
@@ -58,13 +59,10 @@ take-take (suc low) zero text order = absurd (omega arith)
 take-take (suc low) (suc high) [] order = refl
 take-take (suc low) (suc high) (byte ∷ rest) order = ap (λ (list : List ℕ). byte ∷ list) (take-take low high rest (omega arith))
 
-shorter : (front rest : List ℕ) → BeginsListing (front ++ rest) → BeginsListing front
-shorter front rest begun = (rest ++ begun.0, subst IsListing (append_assoc front rest begun.0) begun.1)
-
 pub begin : (lines : List ℕ) (low begun : ℕ) → are_lines lines ≡ true → (BeginsListing lines → ⊥) → IsBegun lines begun → low ≤ begun → are_lines (take low lines) ≡ true → IsBetween lines low (length lines)
 begin lines low begun whole wrong is before low_whole =
     let front : take low (take begun lines) ≡ take low lines = take-take low begun lines before in
-    let low_begun = subst BeginsListing front (shorter (take low (take begun lines)) (drop low (take begun lines)) (subst BeginsListing (sym (take-append-drop low (take begun lines))) is.1)) in
+    let low_begun = subst BeginsListing front (begins_front (take low (take begun lines)) (drop low (take begun lines)) (subst BeginsListing (sym (take-append-drop low (take begun lines))) is.1)) in
     record {
       order = some low_begun;
       within = omega arith;
@@ -171,7 +169,3 @@ line_at_fault text end k found = record {
   number = found.number;
   wrong = inl found.wrong;
 }
-
-pub assembles_all : (text : List ℕ) (end : ℕ) (verdict : Verdict) (file : ProgramFile) → end ≡ length text → verdict ≡ Whole file → Judges (take end text) verdict → Assembles text file.program file.fill
-assembles_all text end verdict file all is told =
-    subst (λ (list : List ℕ). Assembles list file.program file.fill) (ap (λ (n : ℕ). take n text) all ∙ take-length text) (rw is at told)

@@ -1,5 +1,5 @@
 -- A text is kept as the words of its lines: what is read and told again stands for the same bytes.
-use Rattle.std.proofs.Common.{◌≡◌, ℕ, ◌+◌, ◌-◌, ◌*◌, ◌^◌, ◌<◌, ◌≤◌, true, List, [], ◌∷◌, ◌++◌, length, length-append, take, drop, Option, Some, None, refl, sym, ap, subst, ◌∙◌, arith, append_assoc}
+use Rattle.std.proofs.Common.{◌≡◌, ℕ, ◌+◌, ◌-◌, ◌*◌, ◌^◌, ◌<◌, ◌≤◌, true, List, [], ◌∷◌, ◌++◌, length, length-append, take, drop, Some, None, refl, sym, ap, subst, ◌∙◌, arith, append_assoc}
 use Rattle.std.specs.Prelude.{◌==◌}
 use Rattle.std.specs.Cmp.Lexicographic.{pointwise}
 use Rattle.std.proofs.lemmas.List.{append-nil, length-take-le, take-append-drop}
@@ -119,9 +119,6 @@ grows d (lines.Fill fill) = ([], sym (append-nil d.words))
 pub grown_further : (one two three : List ℕ) → IsGrown one two → IsGrown two three → IsGrown one three
 grown_further one two three first second =
     (first.0 ++ second.0, second.1 ∙ ap (λ (list : List ℕ). list ++ second.0) first.1 ∙ append_assoc one first.0 second.0)
-
-pub not_grown : (words : List ℕ) → IsGrown words words
-not_grown words = ([], sym (append-nil words))
 
 pub grown_by : (d new : Draft) (read : Read Line) (rest : List ℕ) → carried d read ≡ Some (new, rest) → IsGrown d.words new.words
 grown_by d new None rest is = absurd cc

@@ -1,4 +1,3 @@
-pub mod Beginnings
 pub mod Decimal
 pub mod Hexadecimal
 pub mod OneSpelling

@@ -32,10 +32,10 @@ no_cons byte text e = cc
 cons_parts : (a b : ℕ) (x y : List ℕ) → a ∷ x ≡ b ∷ y → (a ≡ b) × (x ≡ y)
 cons_parts a b x y e = (cc, cc)
 
-not_newline : (byte : ℕ) → not (byte == 10) ≡ true → (byte == 10) ≡ true → ⊥
+pub not_newline : (byte : ℕ) → not (byte == 10) ≡ true → (byte == 10) ≡ true → ⊥
 not_newline byte other is = cc
 
-later_lines : (byte : ℕ) (rest : List ℕ) → are_lines (byte ∷ rest) ≡ true → are_lines rest ≡ true
+pub later_lines : (byte : ℕ) (rest : List ℕ) → are_lines (byte ∷ rest) ≡ true → are_lines rest ≡ true
 later_lines byte [] is = refl
 later_lines byte (other ∷ rest) is = is
 

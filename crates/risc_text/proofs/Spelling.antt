@@ -24,7 +24,7 @@ pub record IsSpelled (words : List ℕ) (instr : Instr) (number : ℕ) : Type 0 
 pub some_is : {A : Type 0} (x y : A) → Some x ≡ Some y → x ≡ y
 some_is x y e = cc
 
-none_some : {A : Type 0} (x : A) → None ≡ Some x → ⊥
+pub none_some : {A : Type 0} (x : A) → None ≡ Some x → ⊥
 none_some x e = cc
 
 abbrev when : Bool → Instr × ℕ → Option (Instr × ℕ)

@@ -1,9 +1,7 @@
 -- What stands at each step of the walk along a path.
-use Rattle.std.proofs.Common.{◌≡◌, ℕ, zero, suc, ◌+◌, ◌<◌, ◌⊎◌, inl, inr, Bool, false, IsTrue, List, replicate, Some, None, refl, ap, sym, ◌∙◌, arith, add-one, below_more}
-use Rattle.machine_model.specs.declared.Cause.{Cause}
-use Rattle.machine_model.specs.Paths.{RiscProgram, Place, cause_at, next_place, path, IsSound, IsFirstBad}
+use Rattle.std.proofs.Common.{◌≡◌, ℕ, zero, suc, ◌+◌, ◌<◌, ◌⊎◌, inl, inr, Bool, false, IsTrue, List, replicate, None, refl, ap, sym, ◌∙◌, arith, add-one, below_more}
+use Rattle.machine_model.specs.Paths.{RiscProgram, Place, cause_at, next_place, path, IsSound}
 use Rattle.risc_verify.specs.Rounds.{AreFine}
-use Rattle.risc_verify.specs.Programs.{first_place}
 use Rattle.risc_verify.specs.Marks.{IsKnown, is_marked, plain_place}
 use Rattle.risc_verify.proofs.Rounds.{sound-from_repeat}
 
@@ -23,17 +21,6 @@ none_marked : (n word : ℕ) → is_marked (replicate n false) word ≡ false
 none_marked zero word = refl
 none_marked (suc n) zero = refl
 none_marked (suc n) (suc word) = none_marked n word
-
-no_mark : (n word : ℕ) → IsTrue (is_marked (replicate n false) word) → ⊥
-no_mark n word marked = absurd (cc (none_marked n word))
-
-pub Walks-first : (program : RiscProgram) (n : ℕ) → Walks program 0 (first_place program) (replicate n false)
-Walks-first program n =
-    record {
-      fine = λ k below. absurd (omega arith);
-      here = refl;
-      met = λ word marked. absurd (no_mark n word marked);
-    }
 
 pub Walks-next :
     (program : RiscProgram) (count : ℕ) (place next : Place) (marks after : List Bool)
@@ -61,7 +48,3 @@ pub sound-from_known : (program : RiscProgram) (count : ℕ) (place : Place) (ma
 sound-from_known program count place marks w known =
     let m = w.met known.word known.marked in
     sound-from_repeat program m.number count m.before (m.there ∙ sym (w.here ∙ known.here)) w.fine
-
-pub first_bad-from_walk : (program : RiscProgram) (count : ℕ) (place : Place) (marks : List Bool) (cause : Cause) → Walks program count place marks → cause_at program place ≡ Some cause → IsFirstBad program place.pc count cause
-first_bad-from_walk program count place marks cause w bad =
-    record { fine = w.fine; bad = ap (cause_at program) w.here ∙ bad; there = ap (λ (p : Place). p.pc) w.here }

@@ -1,5 +1,5 @@
 -- What is known of an instruction that was read, whatever the words are.
-use Rattle.std.proofs.Common.{ℕ, suc, ◌+◌, ◌-◌, ◌/◌, ◌^◌, ◌≡◌, ◌<◌, ◌≤◌, Bool, List, [], ◌∷◌, ◌++◌, length, drop, length-drop, add-zero, Option, Some, None, Ok, Err, refl, sym, subst, ◌∙◌, ap, arith}
+use Rattle.std.proofs.Common.{ℕ, suc, ◌+◌, ◌-◌, ◌/◌, ◌^◌, ◌≡◌, ◌<◌, ◌≤◌, List, [], ◌∷◌, length, drop, length-drop, add-zero, Option, Some, None, Ok, refl, sym, subst, ◌∙◌, ap, arith}
 use Rattle.std.specs.Prelude.{IsTrue, IfOk, ◌==◌, nat_lt, ◌&&◌, if◌then◌else◌, slice_index}
 use Rattle.std.proofs.lemmas.Bool.{and_from, lt-ltb, eqb-true, cond_both}
 use Rattle.std.proofs.lemmas.Nat.{mod_below, pow_pos}
@@ -9,7 +9,6 @@ use Rattle.bit_field.specs.Bits.{bits}
 use Rattle.risc_word.specs.declared.Code.{Code}
 use Rattle.risc_word.specs.declared.Instr.{Instr}
 use Rattle.risc_word.specs.Words.{Reading, by_opcode, code_numbered, control_bits, control_fits, counts_fit, encoded, first_instr, instr_at, jump_at, lanes_off, opcode_length, skip_123_at, skip_at, sync_at, sync_for, three_counts, write_123_at, write_1_s_23_at, write_at, write_c_at, IsInstr}
-use Rattle.risc_word.proofs.ReadBack.{begins, reads_back}
 
 -- what is known of an instruction that was read at a first word, by its opcode and the words after it
 pub record Known (opcode : ℕ) (rest : List ℕ) (instr : Instr) (number : ℕ) : Type 0 where
@@ -81,9 +80,6 @@ module _ (word : ℕ) where
   write_1_s_23_known (counts ∷ []) = tt
   write_1_s_23_known (counts ∷ address ∷ rest) = record { is_instr = (and_from _ _ (line_small word) (three_small word counts), refl); by_opcode_is = refl; spelled_is = refl; positive = omega arith; within = omega arith }
 
-small_choice : (test : Bool) (one other : ℕ) → one ≤ 5 → other ≤ 5 → (if test then one else other) ≤ 5
-small_choice test one other h k = cond_both test one other (λ n. n ≤ 5) (λ _. h) (λ _. k)
-
 -- a choice by the opcode
 chosen : (opcode this : ℕ) (rest : List ℕ) (yes_reading no_reading : Reading) → IsKnown this rest yes_reading → IsKnown opcode rest no_reading → IsKnown opcode rest (if opcode == this then yes_reading else no_reading)
 chosen opcode this rest yes_reading no_reading known other =
@@ -100,11 +96,6 @@ known_by_opcode opcode word rest =
     (chosen opcode 9 rest _ _ (write_123_known word rest)
     (chosen opcode 10 rest _ _ (skip_123_known word rest)
     (chosen opcode 11 rest _ _ (write_1_s_23_known word rest) tt)))))))
-
-pub length_small : (opcode : ℕ) → opcode_length opcode ≤ 5
-length_small opcode =
-    small_choice (opcode == 2) 1 _ (omega arith) (small_choice (opcode == 5) 1 _ (omega arith) (small_choice (opcode == 1) 2 _ (omega arith) (small_choice (opcode == 7) 2 _ (omega arith)
-    (small_choice (opcode == 8) 2 _ (omega arith) (small_choice (opcode == 10) 2 _ (omega arith) (small_choice (opcode == 11) 3 _ (omega arith) (small_choice (opcode == 9) 5 0 (omega arith) (omega arith))))))))
 
 -- the same at a word of a list
 pub record KnownAt (words : List ℕ) (at : ℕ) (instr : Instr) (number : ℕ) : Type 0 where
@@ -139,29 +130,6 @@ known_of_instr_at words at = known_first words at (drop at words) refl
 pub known_at : (words : List ℕ) (at : ℕ) (instr : Instr) (number : ℕ) → instr_at words at ≡ Ok (instr, number) → KnownAt words at instr number
 known_at words at instr number is =
     MatchResult-at_ok (λ read. KnownAt words at read.0 read.1) (λ _. Unit {0}) (instr, number) is (known_of_instr_at words at)
-
--- no instruction has more than five words
-pub known_length : (words : List ℕ) (at : ℕ) (instr : Instr) (number : ℕ) → KnownAt words at instr number → number ≤ 5
-known_length words at instr number known = rw known.by_opcode_is (length_small (bits 28 4 (slice_index words at)))
-
--- what was read is read again of its one spelling, wherever that stands
-pub spelled_again : (words : List ℕ) (at : ℕ) (instr : Instr) (number : ℕ) → instr_at words at ≡ Ok (instr, number) → (before after : List ℕ) → instr_at (before ++ encoded instr ++ after) (length before) ≡ Ok (instr, number)
-spelled_again words at instr number is before after =
-    let known = known_at words at instr number is
-    in rw known.spelled_is (reads_back instr known.is_instr before after)
-
--- no two instructions begin alike
-read_or : Instr → Reading → Instr
-read_or other (Ok read) = read.0
-read_or other (Err fault) = other
-
-pub same_instr : (first second : Instr) → IsInstr first → IsInstr second → (after_first after_second : List ℕ) → encoded first ++ after_first ≡ encoded second ++ after_second → first ≡ second
-unfolding read_or
-same_instr first second first_is second_is after_first after_second same =
-    let one = begins first first_is after_first
-    in let other = begins second second_is after_second
-    in let both : Ok (first, length (encoded first)) ≡ Ok (second, length (encoded second)) = cc (one, other, ap first_instr same)
-    in ap (read_or first) both
 
 -- the facts of a reading that is not known to be one
 module _ (words : List ℕ) (at : ℕ) (reading : Reading) (is : reading ≡ instr_at words at) where

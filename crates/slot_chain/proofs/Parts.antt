@@ -142,14 +142,11 @@ refused_by chain index program (Bad address number cause) is lt before bad =
     record { there = lt; before = before; bad = subst (λ (p : RiscProgram). IsFirstBad p address number cause) is bad }
 refused_by chain index program Memory is lt before bad = tt
 
-more_times : (one other each : ℕ) → one ≤ other → one * each ≤ other * each
-more_times one other each le = mul-le-mul_right each le
-
 -- the steps of the parts up to one, of all
 pub spent_to : (count index parts before after now : ℕ) → (before ≤ after) × (after ≤ before + index * (2 * count + 1)) → (after ≤ now) × (now ≤ after + (2 * count + 1)) → index < parts →
     (before ≤ now) × (now ≤ before + parts * (2 * count + 1))
 spent_to count index parts before after now first one lt =
     let more = spent_next count index before after now first.1 one.1 in
-    let all = more_times (index + 1) parts (2 * count + 1) (omega arith) in
+    let all = mul-le-mul_right {m = index + 1} {n = parts} (2 * count + 1) (omega arith) in
     let low = first.0 in
     let step = one.0 in (omega arith, omega arith)

@@ -1,7 +1,7 @@
 -- The place of a chain, judged.
-use Rattle.std.proofs.Common.{◌≡◌, ℕ, ◌+◌, ◌*◌, ◌%◌, ◌<◌, ◌≤◌, Bool, true, false, ◌||◌, List, length, Option, Some, None, Ok, Err, refl, sym, ap, ◌∙◌, subst, arith, if◌then◌else◌, ◌==◌, nat_lt, nat_le}
+use Rattle.std.proofs.Common.{◌≡◌, ℕ, ◌+◌, ◌*◌, ◌%◌, ◌<◌, ◌≤◌, Bool, true, false, List, length, Option, Some, None, Ok, Err, refl, sym, ap, ◌∙◌, subst, arith, if◌then◌else◌, ◌==◌, nat_lt, nat_le}
 use Rattle.std.specs.List.{list_any}
-use Rattle.std.proofs.lemmas.Bool.{eq-eqb, eqb-true, leb-false, leb-true, le-ltb, lt-ltb, ltb-false, or_from, or_parts}
+use Rattle.std.proofs.lemmas.Bool.{eq-eqb, eqb-true, leb-false, leb-true, le-ltb, lt-ltb, ltb-false, or_from, or_parts, or_right, or_left}
 use Rattle.page_table.specs.Grants.{AreGrants, Chunk, is_met}
 use Rattle.page_table.specs.Taken.{Answers, listed, taken_chunks}
 use Rattle.page_table.specs.declared.PageFault.{PageFault}
@@ -26,14 +26,6 @@ fault_is : (chain : Chain) (aligned long page : Bool) → (chain.base % 4 == 0) 
 fault_is chain aligned long page one two three =
     ap (λ (b : Bool). fault_by b (is_too_long chain) (is_on_page chain)) one
     ∙ ap (λ (b : Bool). fault_by aligned b (is_on_page chain)) two ∙ ap (fault_by aligned long) three
-
-left_true : (a b : Bool) → a ≡ true → (a || b) ≡ true
-left_true true b e = refl
-left_true false b e = cc
-
-right_true : (a b : Bool) → b ≡ true → (a || b) ≡ true
-right_true true b e = refl
-right_true false b e = e
 
 module _ (chain : Chain) (aligned : chain.base % 4 ≡ 0) where
   no_rest : chain.base % 4 == 0 ≡ true
@@ -62,7 +54,7 @@ module _ (chain : Chain) (aligned : chain.base % 4 ≡ 0) where
       let count = word_count_is chain in
       let n : ℕ = 2 * chain.slots + 2 + length (words_of_parts chain.parts) in
       let many = many_by n (nat_le n max_words) refl (sym none ∙ is) in
-      long_fault (left_true (nat_lt max_words (word_count chain)) (nat_lt chain_limit (chain.base + 4 * word_count chain)) (lt-ltb max_words (word_count chain) (omega arith)))
+      long_fault (or_left (nat_lt max_words (word_count chain)) (nat_lt chain_limit (chain.base + 4 * word_count chain)) (lt-ltb max_words (word_count chain) (omega arith)))
 
   module _ (result : Option ℕ) (count : ℕ) (is : result ≡ (if nat_le (2 * chain.slots + 2 + length (words_of_parts chain.parts)) max_words then Some (2 * chain.slots + 2 + length (words_of_parts chain.parts)) else None))
       (some : result ≡ Some count) where
@@ -75,7 +67,7 @@ module _ (chain : Chain) (aligned : chain.base % 4 ≡ 0) where
     pub beyond : chain_limit < chain.base + 4 * count → Some TooLong ≡ place_fault chain
     beyond high =
         let same = count_is in
-        long_fault (right_true (nat_lt max_words (word_count chain)) (nat_lt chain_limit (chain.base + 4 * word_count chain)) (lt-ltb chain_limit (chain.base + 4 * word_count chain) (omega arith)))
+        long_fault (or_right (nat_lt max_words (word_count chain)) (nat_lt chain_limit (chain.base + 4 * word_count chain)) (lt-ltb chain_limit (chain.base + 4 * word_count chain) (omega arith)))
 
     not_long : chain.base + 4 * count ≤ chain_limit → is_too_long chain ≡ false
     not_long low =

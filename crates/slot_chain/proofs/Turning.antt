@@ -1,6 +1,6 @@
 -- A turn of a chain: with the program of the slot's part in the machine it is one over the words as they are now.
 use Rattle.std.proofs.Common.{◌≡◌, ℕ, ◌+◌, ◌-◌, ◌*◌, ◌/◌, ◌%◌, ◌<◌, ◌≤◌, inl, inr, Bool, true, false, ◌&&◌, List, Option, Some, None, refl, sym, ap, subst, ◌∙◌, arith, if◌then◌else◌, ◌==◌, nat_le, nat_lt}
-use Rattle.std.proofs.lemmas.Bool.{and_from, le-leb, lt-ltb, eq-eqb, leb-true, ltb-true, eqb-true}
+use Rattle.std.proofs.lemmas.Bool.{and_from, both_ways, le-leb, lt-ltb, eq-eqb, leb-true, ltb-true, eqb-true}
 use Rattle.machine_model.specs.declared.Job.{Job}
 use Rattle.machine_model.specs.declared.Job.TheVariants.{Idle, Waiting, Running}
 use Rattle.machine_model.specs.Paths.{RiscProgram}
@@ -67,17 +67,13 @@ slot_there base slots address e =
     let below = ltb-true ((address - base) / 8) slots parts.2 in
     record { below = below; here = omega arith }
 
-not_both : (b : Bool) → b ≡ true → b ≡ false → ⊥
-not_both true is is_not = cc
-not_both false is is_not = cc
-
 no_slot : (base slots address : ℕ) → is_slot base slots address ≡ false → NoSlot base slots address
 no_slot base slots address none slot lt at =
-    not_both (is_slot base slots address)
+    both_ways (is_slot base slots address)
+    none
     (and_from _ _
     (and_from _ _ (le-leb base address (omega arith)) (eq-eqb ((address - base) % 8) 0 (omega arith)))
     (lt-ltb ((address - base) / 8) slots (omega arith)))
-    none
 
 -- ---- the program that comes into the machine
 

@@ -133,22 +133,3 @@ then_can chain part m after programs kept current now can left =
       home = subst (λ (s : State). IsSafe (with_program (alone chain None) s)) (sym left.machine) can.home;
       safe = subst (λ (s : State). IsSafe (with_program (alone chain part) s)) (sym left.machine) can.safe;
     }
-
-pub both_entered : (chain : Chain) (part : Option ℕ) (m middle after : State) (kept programs : List RiscProgram) (now current : Option ℕ) →
-    Entered chain None m middle kept now → Entered chain part middle after programs current → Entered chain part m after programs current
-both_entered chain part m middle after kept programs now current first second =
-    record {
-      wheel = second.wheel;
-      current_is = second.current_is;
-      machine = second.machine ∙ ap (with_program (alone chain part)) first.machine;
-    }
-
--- it is there already
-pub entered_already : (chain : Chain) (part : Option ℕ) (m : State) (programs : List RiscProgram) (current : Option ℕ) → CanEnter chain part m programs current → current ≡ part →
-    Entered chain part m m programs current
-entered_already chain part m programs current can e =
-    record {
-      wheel = can.wheel;
-      current_is = e;
-      machine = ap (λ (p : RiscProgram). with_program p m) (can.wheel.runs ∙ ap (alone chain) e);
-    }

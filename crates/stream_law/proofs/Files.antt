@@ -10,9 +10,10 @@ use Rattle.capture_file.specs.declared.records.Form.{Form}
 use Rattle.capture_file.specs.declared.records.Form.TheVariants.{Bfs1, Bfs2, Bfs3}
 use Rattle.capture_file.specs.Streams.{Ending, Unfinished, Ended, Bad, Reading, form_of, judged, opened, reading, records, steps_of, stream_of, too_long, whole_file, within_if}
 use Rattle.capture_file.proofs.Chunks.{IsBytes, IsBytes-drop}
+use Rattle.capture_file.proofs.FourBytes.{four_back}
 use Rattle.stream_law.specs.Spellings.{AreRecords, HasSpelling, first_steps, form_name, is_chained, spelled}
 use Rattle.stream_law.proofs.ReadBack.{spelled_back, stream_back}
-use Rattle.stream_law.proofs.Records.{AreSpelled, four_back, records_spell}
+use Rattle.stream_law.proofs.Records.{AreSpelled, records_spell}
 
 -- ---- a file that is read ends with its end record, within the limit
 

@@ -1,6 +1,6 @@
 -- What is spelled is read back.
 use Rattle.std.proofs.Common.{◌≡◌, ℕ, ◌+◌, ◌^◌, ◌<◌, ◌≤◌, ◌⊎◌, inl, inr, Bool, true, false, not, ◌&&◌, ◌||◌, List, [], ◌∷◌, ◌++◌, length, take, Some, Ok, refl, ap, ◌∙◌, arith}
-use Rattle.std.specs.Prelude.{nat_lt, nat_le, ◌==◌}
+use Rattle.std.specs.Prelude.{nat_le, ◌==◌}
 use Rattle.std.specs.List.{All, flat_map}
 use Rattle.std.proofs.lemmas.Bool.{lt-ltb}
 use Rattle.std.proofs.lemmas.Bool.Decides.{nat_tests}
@@ -20,8 +20,9 @@ use Rattle.capture_file.specs.declared.records.Form.{Form}
 use Rattle.capture_file.specs.declared.records.Form.TheVariants.{Bfs1, Bfs2, Bfs3}
 use Rattle.capture_file.specs.declared.records.Found.{Found}
 use Rattle.capture_file.specs.declared.records.Found.TheVariants.{Whole}
-use Rattle.capture_file.specs.Streams.{Ended, Reading, data_with, is_buffer, is_data, judged, most_turns, number_at, push_if, reading, record_at, records, slot_if, steps_of, stream_of, trigger_if, turns_if, turns_of, whole_file, with_step, within, within_if, ack_with, turns_with, buffer_if}
+use Rattle.capture_file.specs.Streams.{Ended, Reading, data_with, is_buffer, is_data, judged, most_turns, number_at, push_if, reading, record_at, records, slot_if, steps_of, stream_of, trigger_if, turns_if, turns_of, whole_file, with_step, ack_with, turns_with, buffer_if}
 use Rattle.capture_file.proofs.Readings.{front_of, records-front}
+use Rattle.capture_file.proofs.Answered.{not-over}
 use Rattle.stream_law.specs.Spellings.{AreRecords, IsRecord, first_steps, is_chained, record_bytes, spelled, turns_in}
 
 -- ---- one record
@@ -105,13 +106,10 @@ judged_back Bfs1 steps are = records_back Bfs1 0 4 steps are.each (let few = are
 judged_back Bfs2 steps are = ap (with_step (Host (Trigger 0))) (records_back Bfs2 0 4 steps are.each (let few = are.few in omega (arith, few)))
 judged_back Bfs3 steps are = ap (with_step (Host (Trigger 0))) (records_back Bfs3 0 4 steps are.each (let few = are.few in omega (arith, few)))
 
-within_limit : (limit count : ℕ) (below : Reading) → count ≤ limit → within limit count below ≡ below
-within_limit limit count below short = ap (λ (test : Bool). within_if test limit below) (let no : nat_lt limit count ≡ false = grind (arith, nat_tests) in no)
-
 pub stream_back : (limit : ℕ) (chained : Bool) (bytes : List ℕ) → length bytes ≤ limit → stream_of limit chained bytes ≡ judged chained bytes
 unfolding stream_of
 stream_back limit chained bytes short =
-    within_limit limit (length bytes) (judged chained (take limit bytes)) short ∙ ap (judged chained) (take_all limit bytes short)
+    not-over limit (length bytes) (judged chained (take limit bytes)) short ∙ ap (judged chained) (take_all limit bytes short)
 
 pub spelled_back : (form : Form) (steps : List Step) (limit : ℕ) → AreRecords form steps → length (spelled form steps) ≤ limit →
     steps_of limit (is_chained form) (spelled form steps) ≡ Ok (first_steps form ++ steps)

@@ -1,10 +1,8 @@
 -- Bytes that are read as records without a fault spell these records.
-use Rattle.std.proofs.Common.{◌≡◌, ℕ, zero, suc, ◌+◌, ◌^◌, ◌<◌, ◌≤◌, ◌⊎◌, inl, inr, Bool, true, false, cond, not, ◌||◌, List, [], ◌∷◌, ◌++◌, length, length-drop, drop, Option, Some, None, refl, sym, ap, subst, ◌∙◌, arith}
+use Rattle.std.proofs.Common.{◌≡◌, ℕ, zero, suc, ◌+◌, ◌<◌, ◌≤◌, ◌⊎◌, inl, inr, Bool, true, false, cond, not, ◌||◌, List, [], ◌∷◌, ◌++◌, length, length-drop, drop, Option, Some, None, refl, sym, ap, subst, ◌∙◌, arith}
 use Rattle.std.specs.Prelude.{nat_lt, nat_le, ◌==◌}
 use Rattle.std.specs.List.{All, flat_map}
-use Rattle.std.specs.Int.{w32, from_le_bytes}
-use Rattle.std.proofs.lemmas.Bool.{and_parts, ltb-true, leb-true, eqb-true}
-use Rattle.std.proofs.lemmas.Nat.{le_bytes_4}
+use Rattle.std.proofs.lemmas.Bool.{and_parts, ltb-true, leb-true, eqb-true, not-true}
 use Rattle.std.proofs.lemmas.List.{append_assoc}
 use Rattle.std.proofs.lemmas.List.Elements.{All-nil, All-cons}
 use Rattle.byteorder.specs.Endian.{little_number, little_bytes}
@@ -26,6 +24,7 @@ use Rattle.capture_file.specs.Streams.{Ending, Unfinished, Ended, Bad, Reading, 
 use Rattle.capture_file.proofs.Chunks.{IsBytes, IsBytes-drop}
 use Rattle.capture_file.proofs.Fields.{record_at-spans}
 use Rattle.capture_file.proofs.Readings.{front_of, records-front}
+use Rattle.capture_file.proofs.FourBytes.{four_back, number_low}
 use Rattle.stream_law.specs.Spellings.{IsRecord, has_patches, has_triggers, push_tag, record_bytes, turns_in}
 use Rattle.stream_law.proofs.ReadBack.{turns_same}
 
@@ -86,23 +85,6 @@ Fronts form turns bytes (Wrong from to fault) = Unit {0}
 Fronts form turns bytes Last = bytes ≡ 0 ∷ drop 1 bytes
 Fronts form turns bytes (Whole step len) = (turns ≤ most_turns) → IsFront form turns bytes step len
 
--- four bytes are those of their number
-pub four_back : (a b c d : ℕ) (rest : List ℕ) → IsBytes (a ∷ b ∷ c ∷ d ∷ rest) → little_bytes 4 (little_number 4 (a ∷ b ∷ c ∷ d ∷ [])) ≡ a ∷ b ∷ c ∷ d ∷ []
-four_back a b c d rest fits =
-    let front : List ℕ = a ∷ b ∷ c ∷ d ∷ [] in
-    let word : little_number 4 front ≡ from_le_bytes w32 front = omega arith in
-    le_bytes_4 front (little_number 4 front) refl (four_fit a b c d rest fits) word
-  where
-    four_fit : (a b c d : ℕ) (rest : List ℕ) → IsBytes (a ∷ b ∷ c ∷ d ∷ rest) → IsBytes (a ∷ b ∷ c ∷ d ∷ [])
-    four_fit a b c d rest fits zero = fits 0
-    four_fit a b c d rest fits (suc zero) = fits 1
-    four_fit a b c d rest fits (suc (suc zero)) = fits 2
-    four_fit a b c d rest fits (suc (suc (suc zero))) = fits 3
-    four_fit a b c d rest fits (suc (suc (suc (suc i)))) = omega arith
-
-number_low : (a b c d : ℕ) (rest : List ℕ) → IsBytes (a ∷ b ∷ c ∷ d ∷ rest) → little_number 4 (a ∷ b ∷ c ∷ d ∷ []) < 2 ^ 32
-number_low a b c d rest fits = omega (arith, fits 0, fits 1, fits 2, fits 3)
-
 -- bytes in front of four bytes of a number
 number_front : (front : List ℕ) (a b c d : ℕ) (rest : List ℕ) → IsBytes (a ∷ b ∷ c ∷ d ∷ rest) →
     front ++ (a ∷ b ∷ c ∷ d ∷ rest) ≡ front ++ (little_bytes 4 (little_number 4 (a ∷ b ∷ c ∷ d ∷ [])) ++ rest)
@@ -111,11 +93,7 @@ number_front front a b c d rest fits = ap (λ (four : List ℕ). front ++ (four 
 data_status : (status : ℕ) → is_data status ≡ true → (status < 16) × (is_control (kind_of status) ≡ false)
 data_status status is =
     let parts = and_parts (nat_lt status 16) (not (is_control (kind_of status))) is in
-    (ltb-true status 16 parts.0, not_true (is_control (kind_of status)) parts.1)
-  where
-    not_true : (b : Bool) → not b ≡ true → b ≡ false
-    not_true true e = absurd (cc)
-    not_true false e = refl
+    (ltb-true status 16 parts.0, not-true (is_control (kind_of status)) parts.1)
 
 push_four : (form : Form) (queue : Queue) (status turns : ℕ) (more : List ℕ) → (status < 16) × (is_control (kind_of status) ≡ false) → IsBytes more →
     Fronts form turns (push_tag queue ∷ status ∷ more) (data_with queue status (number_at more))
