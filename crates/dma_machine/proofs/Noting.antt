@@ -2,6 +2,7 @@
 use Rattle.std.proofs.Common.{◌≡◌, ℕ, zero, suc, ◌-◌, ◌<◌, ◌++◌, Bool, true, false, not, List, [], ◌∷◌, Option, Some, None, refl, sym, ap, ◌∙◌, arith, if◌then◌else◌}
 use Rattle.std.specs.Prelude.{◌&&◌, ◌||◌, ◌==◌, ◌+◌}
 use Rattle.std.specs.List.{list_any}
+use Rattle.std.proofs.Math.Bool.{or-false, or-true, or_assoc}
 use Rattle.fifo_model.specs.declared.Queue.{Queue}
 use Rattle.machine_model.specs.declared.Did.{Did}
 use Rattle.machine_model.specs.declared.Did.TheVariants.{GivenUp, Moved}
@@ -41,14 +42,6 @@ noted-applied (suc left) q made after before seen some h =
     ∙ ap (λ n. if made then all_noted q (applications n q after) (all_noted q (application q before) seen) else all_noted q (application q before) seen)
     (sym one_less)
 
-or_false : (one : Bool) → (one || false) ≡ one
-or_false true = refl
-or_false false = refl
-
-or_assoc : (one two three : Bool) → ((one || two) || three) ≡ (one || (two || three))
-or_assoc true two three = refl
-or_assoc false two three = refl
-
 either : (one other : Bool) (given otherwise : Did) → (if other then given else (if one then given else otherwise)) ≡ (if one || other then given else otherwise)
 either true true given otherwise = refl
 either true false given otherwise = refl
@@ -70,7 +63,7 @@ with_all q made seen =
 
 all_noted-with_all : (q : Queue) (made : List Application) (seen : Seen) → all_noted q made seen ≡ with_all q made seen
 all_noted-with_all q [] seen =
-    same_seen _ _ seen.at _ _ _ _ _ _ refl (sym (or_false seen.took)) (sym (or_false seen.ended)) (sym (or_false seen.reserved))
+    same_seen _ _ seen.at _ _ _ _ _ _ refl (sym (or-false seen.took)) (sym (or-false seen.ended)) (sym (or-false seen.reserved))
 all_noted-with_all q (a ∷ made) seen =
     all_noted-with_all q made (noted q a seen)
     ∙ same_seen _ _ seen.at _ _ _ _ _ _
@@ -84,10 +77,6 @@ all_noted-seen_burst q at made = all_noted-with_all q made (seen_alone (Moved q)
 
 -- what is noted of a front that is taken whole
 
-or_true : (one : Bool) → true ≡ (one || true)
-or_true true = refl
-or_true false = refl
-
 pub whole_noted : (q : Queue) (a : Application) (seen : Seen) → takes_whole (kind_of a.entry.status) a.demand.needs_sol a.taken a.demand.rest ≡ true →
     record seen { took = true } ≡ noted q a seen
 whole_noted q a seen e =
@@ -97,6 +86,6 @@ whole_noted q a seen e =
     same_seen _ _ seen.at _ _ _ _ _ _
     (ap (λ (b : Bool). if b && a.taken + 4 == valid_bytes a.entry.status && not (a.demand.rest == 4) then GivenUp q else seen.did) no_end
     ∙ ap (λ (v : Verdict). if gives_up_by v a then GivenUp q else seen.did) verdict)
-    (or_true seen.took ∙ ap (λ (v : Verdict). seen.took || takes_by v) verdict)
-    (sym (or_false seen.ended) ∙ ap (λ (b : Bool). seen.ended || (b && a.taken + 4 == valid_bytes a.entry.status)) no_end ∙ ap (λ (v : Verdict). seen.ended || ends_by v a) verdict)
-    (sym (or_false seen.reserved) ∙ ap (λ (v : Verdict). seen.reserved || discards_reserved_by v a) verdict)
+    (sym (or-true seen.took) ∙ ap (λ (v : Verdict). seen.took || takes_by v) verdict)
+    (sym (or-false seen.ended) ∙ ap (λ (b : Bool). seen.ended || (b && a.taken + 4 == valid_bytes a.entry.status)) no_end ∙ ap (λ (v : Verdict). seen.ended || ends_by v a) verdict)
+    (sym (or-false seen.reserved) ∙ ap (λ (v : Verdict). seen.reserved || discards_reserved_by v a) verdict)

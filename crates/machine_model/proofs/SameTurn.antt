@@ -1,5 +1,6 @@
 -- A turn is the same beside another program that is read alike, another INT_STAT and another count of turns.
 use Rattle.std.proofs.Common.{◌≡◌, ℕ, zero, suc, Bool, true, false, ◌||◌, Option, Some, None, Ok, Err, option_map, refl, sym, ap, ◌∙◌, if◌then◌else◌, ◌==◌}
+use Rattle.std.proofs.Math.Bool.{or-false, or-true, or_assoc}
 use Rattle.risc_word.specs.declared.Code.{Code}
 use Rattle.risc_word.specs.declared.Ctl.{Ctl}
 use Rattle.risc_word.specs.declared.Instr.{Instr}
@@ -45,38 +46,26 @@ record AppliesAlike (Fits : RiscProgram → Type 0) (applied_to : RiscProgram �
       applied_to program register count ≡ option_map (beside program (change register) count) made
   fdsr_after : (register : ℕ) → has fdsr (change register) ≡ (has fdsr register || sets)
 
-or-false : (b : Bool) → b ≡ (b || false)
-or-false true = refl
-or-false false = refl
-
-or-true : (b : Bool) → true ≡ (b || true)
-or-true true = refl
-or-true false = refl
-
-or-or : (a b c : Bool) → ((a || b) || c) ≡ (a || (b || c))
-or-or true b c = refl
-or-or false b c = refl
-
 module _ (Fits : RiscProgram → Type 0) where
   -- the four changes: none, FDSR, OCERR, and control bits
   stays : (acted : RiscProgram → ℕ → ℕ → State) (made : State) →
       ((program : RiscProgram) → Fits program → (register count : ℕ) → acted program register count ≡ beside program register count made) → ActsAlike Fits acted made
-  stays acted made alike = record { change = λ r. r; sets = false; alike = alike; fdsr_after = λ r. or-false (has fdsr r) }
+  stays acted made alike = record { change = λ r. r; sets = false; alike = alike; fdsr_after = λ r. sym (or-false (has fdsr r)) }
 
   signals : (acted : RiscProgram → ℕ → ℕ → State) (made : State) →
       ((program : RiscProgram) → Fits program → (register count : ℕ) → acted program register count ≡ beside program (raised register fdsr) count made) → ActsAlike Fits acted made
   signals acted made alike =
-      record { change = λ r. raised r fdsr; sets = true; alike = alike; fdsr_after = λ r. fdsr-raised_fdsr r ∙ or-true (has fdsr r) }
+      record { change = λ r. raised r fdsr; sets = true; alike = alike; fdsr_after = λ r. fdsr-raised_fdsr r ∙ sym (or-true (has fdsr r)) }
 
   halts : (acted : RiscProgram → ℕ → ℕ → State) (made : State) →
       ((program : RiscProgram) → Fits program → (register count : ℕ) → acted program register count ≡ beside program (raised register ocerr) count made) → ActsAlike Fits acted made
   halts acted made alike =
-      record { change = λ r. raised r ocerr; sets = false; alike = alike; fdsr_after = λ r. fdsr-raised_ocerr r ∙ or-false (has fdsr r) }
+      record { change = λ r. raised r ocerr; sets = false; alike = alike; fdsr_after = λ r. fdsr-raised_ocerr r ∙ sym (or-false (has fdsr r)) }
 
   applies : (ctl : Ctl) (acted : RiscProgram → ℕ → ℕ → State) (made : State) →
       ((program : RiscProgram) → Fits program → (register count : ℕ) → acted program register count ≡ beside program (applied ctl register) count made) → ActsAlike Fits acted made
   applies ctl acted made alike =
-      record { change = applied ctl; sets = false; alike = alike; fdsr_after = λ r. fdsr-applied ctl r ∙ or-false (has fdsr r) }
+      record { change = applied ctl; sets = false; alike = alike; fdsr_after = λ r. fdsr-applied ctl r ∙ sym (or-false (has fdsr r)) }
 
   -- ---- fetching
 
@@ -161,7 +150,7 @@ module _ (Fits : RiscProgram → Type 0) where
 
   none_applied : (applied_to : RiscProgram → ℕ → ℕ → Option State) →
       ((program : RiscProgram) → Fits program → (register count : ℕ) → applied_to program register count ≡ None) → AppliesAlike Fits applied_to None
-  none_applied applied_to none = record { change = λ r. r; sets = false; alike = none; fdsr_after = λ r. or-false (has fdsr r) }
+  none_applied applied_to none = record { change = λ r. r; sets = false; alike = none; fdsr_after = λ r. sym (or-false (has fdsr r)) }
 
   asks : (none : Bool) (acted : RiscProgram → ℕ → ℕ → State) (made : State) → ActsAlike Fits acted made →
       AppliesAlike Fits (λ p r t. if none then None else Some (acted p r t)) (if none then None else Some made)
@@ -196,7 +185,7 @@ module _ (Fits : RiscProgram → Type 0) where
             λ p f r t. ap (λ next. elim next as (λ _. State) [ None ↦ beside p r t m | Some after ↦ burst count q after ]) (one.alike p f r t)
             ∙ more.alike p f (one.change r) t;
         fdsr_after =
-            λ r. more.fdsr_after (one.change r) ∙ ap (λ b. b || more.sets) (one.fdsr_after r) ∙ or-or (has fdsr r) one.sets more.sets;
+            λ r. more.fdsr_after (one.change r) ∙ ap (λ b. b || more.sets) (one.fdsr_after r) ∙ or_assoc (has fdsr r) one.sets more.sets;
       }
 
   bursts : (count : ℕ) (q : Queue) (m : State) → ActsAlike Fits (λ p r t. burst count q (beside p r t m)) (burst count q m)

@@ -3,6 +3,7 @@ use Rattle.std.proofs.Common.{◌≡◌, ℕ, ◌+◌, ◌<◌, ◌≤◌, Bool,
 use Rattle.std.specs.List.{list_any}
 use Rattle.std.proofs.lemmas.Bool.{cases_order}
 use Rattle.std.proofs.lemmas.Nat.{same_from_place}
+use Rattle.std.proofs.Math.Bool.{or-false}
 use Rattle.pixel_layout.specs.declared.Parity.{Parity}
 use Rattle.page_table.specs.Grants.{Chunk, covers, granted, total}
 use Rattle.page_table.specs.Taken.{all_placed, in_order, placed}
@@ -17,17 +18,13 @@ use Rattle.picture_model.proofs.Offsets.{IsRowAt, areas_differ, mapped_some, pla
 
 -- some chunk of a list passes a test exactly where one in rising order does
 
-or_none : (a : Bool) → a ≡ (a || false)
-or_none true = refl
-or_none false = refl
-
 or_turn : (a b c : Bool) → ((a || b) || c) ≡ (b || (a || c))
 or_turn true true c = refl
 or_turn true false c = refl
 or_turn false b c = refl
 
 pub any-all_placed : (test : Chunk → Bool) (rising rest : List Chunk) → list_any test (all_placed rising rest) ≡ (list_any test rising || list_any test rest)
-any-all_placed test rising [] = or_none (list_any test rising)
+any-all_placed test rising [] = sym (or-false (list_any test rising))
 any-all_placed test rising (c ∷ rest) =
     any-all_placed test (placed c rising) rest
     ∙ ap (λ b. b || list_any test rest) (list_any-placed test c rising)

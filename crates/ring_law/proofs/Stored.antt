@@ -3,7 +3,7 @@ use Rattle.std.proofs.Common.{All, Bool, List, Option, Some, [], append_assoc, a
 use Rattle.std.proofs.lemmas.List.Elements.{All-drop, All-head, All-tail, All-take}
 use Rattle.std.proofs.lemmas.Bool.{cases_eq, cases_lt, cond-false, cond-true, or_from}
 use Rattle.std.proofs.lemmas.Nat.{div-add-mod', mod-mul-add, mul-le}
-use Rattle.std.proofs.Math.Nat.{div-lt_iff_lt-mul, mod-lt}
+use Rattle.std.proofs.Math.Nat.{div-lt_iff_lt-mul, mod-lt, mul_assoc}
 use Rattle.std.specs.List.{flat_map}
 use Rattle.page_table.proofs.Scattered.{AreDisjoint-from_first_shared, address_at-add, address_at-injective, granted-offset}
 use Rattle.page_table.specs.Blocks.{Block, chunks_of, byte_at}
@@ -61,9 +61,6 @@ below_end size count block x below inside =
 line_offset : (block lines bytes line x : ℕ) → (block * lines + line) * bytes + x ≡ block * (lines * bytes) + (line * bytes + x)
 line_offset block lines bytes line x = grind arith
 
-all_bytes : (blocks lines bytes : ℕ) → blocks * lines * bytes ≡ blocks * (lines * bytes)
-all_bytes blocks lines bytes = grind arith
-
 -- ---- lines of the same length one after another
 
 lines_long : (bytes : ℕ) (lines : List (List ℕ)) → All (λ line. length line ≡ bytes) lines → length (flat_map (λ line. line) lines) ≡ length lines * bytes
@@ -100,7 +97,7 @@ module _ (r : Ring) (is : IsRing r) where
 
   offset_within : (block x : ℕ) → block < r.blocks → x < size → block * size + x < bytes_of r
   offset_within block x below inside =
-      let whole = all_bytes r.blocks r.lines r.line_bytes in
+      let whole = mul_assoc r.blocks r.lines r.line_bytes in
       let here = below_end size r.blocks block x below inside in
       omega arith
 

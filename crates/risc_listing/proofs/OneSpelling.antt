@@ -5,6 +5,7 @@ use Rattle.std.specs.Prelude.{IfOk, IfSome, ◌==◌, ◌&&◌, if◌then◌else
 use Rattle.std.specs.List.{starts_with}
 use Rattle.std.proofs.lemmas.Bool.{cond_both, eq-eqb, eqb-true, ne_eqb}
 use Rattle.std.proofs.lemmas.Result.{MatchResult-at_ok}
+use Rattle.std.proofs.Math.Bool.{and-true}
 use Rattle.bit_field.specs.Bits.{bits}
 use Rattle.risc_word.specs.declared.Code.{Code}
 use Rattle.risc_word.specs.declared.Instr.{Instr}
@@ -43,10 +44,6 @@ by_fields word =
 
 fields_are : (word : ℕ) → word < 2 ^ 32 → word ≡ by_fields word
 fields_are word small = omega arith
-
-and_true : (b : Bool) → (b && true) ≡ b
-and_true true = refl
-and_true false = refl
 
 zero_test : (n : ℕ) → (0 == n) ≡ (n == 0)
 zero_test zero = refl
@@ -137,22 +134,22 @@ IsExact word rest reading =
 module _ (word : ℕ) (small : word < 2 ^ 32) where
   write_exact : bits 28 4 word ≡ 1 → (rest : List ℕ) → IsExact word rest (write_at word rest)
   write_exact is [] = tt
-  write_exact is (address ∷ rest) = rw (data_same word small 1 is, same address) (and_true (are_unnamed_zero_in_data word))
+  write_exact is (address ∷ rest) = rw (data_same word small 1 is, same address) (and-true (are_unnamed_zero_in_data word))
 
   skip_exact : bits 28 4 word ≡ 2 → (rest : List ℕ) → IsExact word rest (skip_at word)
-  skip_exact is rest = rw (skip_same word small 2 is) (and_true (are_unnamed_zero_in_skip word))
+  skip_exact is rest = rw (skip_same word small 2 is) (and-true (are_unnamed_zero_in_skip word))
 
   write_c_exact : bits 28 4 word ≡ 5 → (rest : List ℕ) → IsExact word rest (write_c_at word)
-  write_c_exact is rest = rw (data_same word small 5 is) (and_true (are_unnamed_zero_in_data word))
+  write_c_exact is rest = rw (data_same word small 5 is) (and-true (are_unnamed_zero_in_data word))
 
   jump_exact : bits 28 4 word ≡ 7 → (rest : List ℕ) → IsExact word rest (jump_at word rest)
   jump_exact is [] = tt
-  jump_exact is (target ∷ rest) = rw (jump_same word small is, same target) (and_true (are_unnamed_zero_in_jump word))
+  jump_exact is (target ∷ rest) = rw (jump_same word small is, same target) (and-true (are_unnamed_zero_in_jump word))
 
   sync_for_exact : bits 28 4 word ≡ 8 → (second : ℕ) (rest : List ℕ) (found : Option Code) → IsNumbered (bits 0 4 word) found → IsExact word (second ∷ rest) (sync_for word found)
   sync_for_exact is second rest None number = tt
   sync_for_exact is second rest (Some code) number =
-      rw (sync_same word small code is number, zero_test second) (ap (λ (b : Bool). are_unnamed_zero_in_sync word && b) (and_true (second == 0)))
+      rw (sync_same word small code is number, zero_test second) (ap (λ (b : Bool). are_unnamed_zero_in_sync word && b) (and-true (second == 0)))
 
   sync_exact : bits 28 4 word ≡ 8 → (rest : List ℕ) → IsExact word rest (sync_at word rest)
   sync_exact is [] = tt
@@ -164,18 +161,18 @@ module _ (word : ℕ) (small : word < 2 ^ 32) where
   write_123_exact is (counts ∷ first ∷ []) rest_small = tt
   write_123_exact is (counts ∷ first ∷ second ∷ []) rest_small = tt
   write_123_exact is (counts ∷ first ∷ second ∷ third ∷ rest) rest_small =
-      rw (data_same word small 9 is, counts_same counts rest_small, same first, same second, same third) (ap (λ (b : Bool). are_unnamed_zero_in_data word && b) (and_true (are_unnamed_zero_in_counts counts)))
+      rw (data_same word small 9 is, counts_same counts rest_small, same first, same second, same third) (ap (λ (b : Bool). are_unnamed_zero_in_data word && b) (and-true (are_unnamed_zero_in_counts counts)))
 
   skip_123_exact : bits 28 4 word ≡ 10 → (rest : List ℕ) → slice_index rest 0 < 2 ^ 32 → IsExact word rest (skip_123_at word rest)
   skip_123_exact is [] rest_small = tt
   skip_123_exact is (counts ∷ rest) rest_small =
-      rw (skip_same word small 10 is, counts_same counts rest_small) (ap (λ (b : Bool). are_unnamed_zero_in_skip word && b) (and_true (are_unnamed_zero_in_counts counts)))
+      rw (skip_same word small 10 is, counts_same counts rest_small) (ap (λ (b : Bool). are_unnamed_zero_in_skip word && b) (and-true (are_unnamed_zero_in_counts counts)))
 
   write_1_s_23_exact : bits 28 4 word ≡ 11 → (rest : List ℕ) → slice_index rest 0 < 2 ^ 32 → IsExact word rest (write_1_s_23_at word rest)
   write_1_s_23_exact is [] rest_small = tt
   write_1_s_23_exact is (counts ∷ []) rest_small = tt
   write_1_s_23_exact is (counts ∷ address ∷ rest) rest_small =
-      rw (data_same word small 11 is, counts_same counts rest_small, same address) (ap (λ (b : Bool). are_unnamed_zero_in_data word && b) (and_true (are_unnamed_zero_in_counts counts)))
+      rw (data_same word small 11 is, counts_same counts rest_small, same address) (ap (λ (b : Bool). are_unnamed_zero_in_data word && b) (and-true (are_unnamed_zero_in_counts counts)))
 
   chosen : (opcode this : ℕ) (rest : List ℕ) (one other : Reading) → (opcode ≡ this → IsExact word rest one) → IsExact word rest other → IsExact word rest (if opcode == this then one else other)
   chosen opcode this rest one other one_exact other_exact =

@@ -1,6 +1,6 @@
 -- The path of a program comes to a place again.
-use Rattle.std.proofs.Common.{◌≡◌, ℕ, zero, suc, ◌+◌, ◌-◌, ◌*◌, ◌/◌, ◌%◌, ◌^◌, ◌<◌, ◌≤◌, ◌⊎◌, inl, inr, Bool, true, false, ◌==◌, ◌&&◌, List, [], ◌∷◌, drop, length, if◌then◌else◌, nat_lt, Option, Some, None, Ok, Err, refl, ap, sym, subst, ◌∙◌, arith, add-zero, add-suc, eqb-true, ltb-true, ltb-false, leb-true}
-use Rattle.std.proofs.lemmas.Bool.{cases_Bool}
+use Rattle.std.proofs.Common.{◌≡◌, ℕ, zero, suc, ◌+◌, ◌-◌, ◌*◌, ◌/◌, ◌%◌, ◌^◌, ◌<◌, ◌≤◌, ◌⊎◌, inl, inr, Bool, true, false, ◌==◌, List, [], ◌∷◌, drop, length, if◌then◌else◌, nat_lt, Option, Some, None, Ok, Err, refl, ap, sym, subst, ◌∙◌, arith, add-zero, add-suc, eqb-true, ltb-true, ltb-false, leb-true}
+use Rattle.std.proofs.lemmas.Bool.{cases_Bool, and_parts}
 use Rattle.risc_word.specs.declared.Instr.{Instr}
 use Rattle.risc_word.specs.declared.Instr.TheVariants.{Write, Skip, WriteC, Jump, Sync, Write123, Skip123, Write1S23}
 use Rattle.risc_word.specs.Words.{Reading, write_at, jump_at, sync_for, sync_at, write_123_at, skip_123_at, write_1_s_23_at, by_opcode, first_instr}
@@ -209,10 +209,6 @@ jumps_or_grows program first (suc count) fine =
 
 -- The words of a program have as many addresses as there are words.
 
-both : (a b : Bool) → (a && b) ≡ true → (a ≡ true) × (b ≡ true)
-both true b h = (refl, h)
-both false b h = absurd (cc)
-
 word-there : (test : Bool) (r s : Reading) (x : Instr) (count : ℕ) → (fault : WordFault) → s ≡ Err fault → (if test then r else s) ≡ Ok (x, count) → test ≡ true
 word-there true r s x count fault wrong is = refl
 word-there false r s x count fault wrong is = absurd (cc)
@@ -227,8 +223,8 @@ word-from_fine program place fine =
     let r = reads program place fine in
     let there : is_word program place.pc ≡ true =
     word-there (is_word program place.pc) _ _ r.instr r.count Cut refl r.is in
-    let outer = both _ _ there in
-    let inner = both _ _ outer.0 in
+    let outer = and_parts _ _ there in
+    let inner = and_parts _ _ outer.0 in
     record {
       from = leb-true program.base place.pc inner.0;
       whole = eqb-true ((place.pc - program.base) % 4) 0 inner.1;
