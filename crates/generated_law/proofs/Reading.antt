@@ -18,13 +18,13 @@ use Rattle.capture_file.specs.declared.records.Form.TheVariants.{Bfs1}
 use Rattle.capture_file.specs.declared.records.Found.{Found}
 use Rattle.capture_file.specs.declared.records.Found.TheVariants.{Whole}
 use Rattle.capture_file.specs.Streams as file
-use Rattle.capture_file.specs.Streams.{Ended, Reading, atomic, data_with, is_data, judged, kind_of_tag, most_turns, number_at, push_if, reading, record_at, steps_of, steps_run, stream_of, turns_if, whole_file, with_step, within_if}
+use Rattle.capture_file.specs.Streams.{Ended, Reading, atomic, data_with, is_data, judged, most_turns, number_at, push_if, reading, record_at, steps_of, steps_run, stream_of, turns_if, whole_file, with_step, within_if}
 use Rattle.capture_file.proofs.Readings.{cons_of, records-cons, records-skip}
 use Rattle.field_law.proofs.Lines.{valid-most}
 use Rattle.field_stream.specs.Generator.{lanes}
 use Rattle.field_stream.specs.Made.{after, push_record, records, records_of, tag_of, turns_record}
 use Rattle.field_stream.specs.Pushes as pushes
-use Rattle.field_stream.specs.Pushes.{Mark, Fill, stream_pushes}
+use Rattle.field_stream.specs.Pushes.{Mark, Fill}
 use Rattle.generated_law.specs.Drawn.{drawn_step, drawn_steps}
 use Rattle.generated_law.proofs.Cutting.{drop_first}
 use Rattle.generated_law.proofs.Steps.{AreData, IsData}

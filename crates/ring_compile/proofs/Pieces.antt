@@ -1,26 +1,24 @@
 -- The WRITEs of a line one after the other, and the lines of a block.
-use Rattle.std.proofs.Common.{◌≡◌, ℕ, zero, suc, ◌+◌, ◌-◌, ◌*◌, ◌<◌, ◌≤◌, Bool, true, false, List, [], ◌∷◌, ◌++◌, map, refl, sym, ap, ◌∙◌, subst, append_assoc, arith, if◌then◌else◌, ⊎_elim}
-use Rattle.std.specs.Prelude.{◌==◌, Some, None, min}
+use Rattle.std.proofs.Common.{◌≡◌, ℕ, zero, suc, ◌+◌, ◌-◌, ◌*◌, ◌<◌, ◌≤◌, Bool, true, false, List, [], ◌∷◌, ◌++◌, map, refl, sym, ap, ◌∙◌, subst, append_assoc, arith, ⊎_elim}
+use Rattle.std.specs.Prelude.{◌==◌}
 use Rattle.std.specs.List.{flat_map, range_with_len}
 use Rattle.std.proofs.lemmas.Bool.{cases_Bool, cases_lt, eq-eqb, eqb-true, false≢true}
 use Rattle.std.proofs.lemmas.List.{append-nil}
 use Rattle.risc_word.specs.declared.Ctl.{Ctl}
 use Rattle.risc_word.specs.declared.Instr.{Instr}
 use Rattle.risc_word.specs.declared.Instr.TheVariants as instr
-use Rattle.page_table.specs.Grants.{Chunk}
-use Rattle.page_table.specs.Scattered.{address_at, room_at, run_at, scatter_list}
-use Rattle.clip_spans.specs.declared.Span.{Span}
+use Rattle.page_table.specs.Scattered.{address_at, room_at}
 use Rattle.clip_spans.specs.Runs.{span}
-use Rattle.picture_model.specs.Plans.{Cut, Strip, cut, cuts_left, ends_of, longest, piece_of, pieces_of, plan}
+use Rattle.picture_model.specs.Plans.{Cut, cut, cuts_left, longest, pieces_of, plan}
 use Rattle.picture_model.specs.declared.PieceKind.{PieceKind}
 use Rattle.picture_model.specs.declared.PieceKind.TheVariants as kind
 use Rattle.picture_model.specs.declared.Piece.{Piece}
 use Rattle.picture_model.specs.Programs.{instr_by, instr_of, no_control}
 use Rattle.picture_model.proofs.Cutting.{EachFits, next_cut, no_cut}
 use Rattle.picture_model.proofs.Strips.{all_fit}
-use Rattle.ring_model.specs.Rings.{IsRing, Ring, block_instrs, blocks_instrs, bytes_of, last_with, line_instrs, line_strip, lines_instrs, mark, memory_of, with_control}
+use Rattle.ring_model.specs.Rings.{IsRing, Ring, block_instrs, blocks_instrs, bytes_of, last_with, line_instrs, line_strip, lines_instrs, memory_of, with_control}
 use Rattle.ring_compile.specs.Writes.{control_at, run_length, write_at}
-use Rattle.ring_model.proofs.Lines.{line-IsStrip, line_within, line_end}
+use Rattle.ring_model.proofs.Lines.{line-IsStrip, line_end}
 use Rattle.std.proofs.lemmas.Nat.{mul-le}
 
 -- the WRITEs of a line from a byte on

@@ -3,7 +3,6 @@ use Rattle.std.specs.List.{list_all}
 use Rattle.page_table.specs.Grants.{Chunk, is_page}
 use Rattle.page_table.specs.Taken.{listed, pair_chunk}
 use Rattle.capture_file.specs.Programs.{layout_for}
-use Rattle.capture_file.specs.declared.program.Layout.{Layout}
 use Rattle.capture_file.specs.declared.program.Layout.TheVariants.{Paged, Chunked}
 use Rattle.capture_file.proofs.Programs.{all_listed}
 use Rattle.capture_file.proofs.writing.layout_of_grants.Goals as goal

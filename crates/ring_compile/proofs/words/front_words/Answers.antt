@@ -1,4 +1,4 @@
-use Rattle.std.proofs.Common.{◌≡◌, ℕ, ◌∙◌, ◌+◌, ◌-◌, ◌*◌, List, length, ap}
+use Rattle.std.proofs.Common.{ℕ, ◌∙◌, ◌+◌, ◌-◌, ◌*◌, List, length, ap}
 use Rattle.ring_model.specs.Rings.{Ring}
 use Rattle.ring_compile.proofs.Appending.{blocks_go_on, last_writes_go_on}
 use Rattle.ring_compile.proofs.words.front_words.Goals as goal

@@ -1,4 +1,4 @@
-use Rattle.std.proofs.Common.{[], ◌∷◌, ap, ◌∙◌}
+use Rattle.std.proofs.Common.{[], ◌∷◌}
 use Rattle.machine_model.specs.Steps.{Turn}
 use Rattle.ring_machine.proofs.Turning.{ran_stays}
 use Rattle.ring_machine.proofs.RingMachine.turn.Goals as goal

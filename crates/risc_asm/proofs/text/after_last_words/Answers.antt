@@ -1,4 +1,4 @@
-use Rattle.std.proofs.Common.{◌∙◌, ◌++◌, ◌+◌, ◌*◌, List, ℕ, drop, ap, arith}
+use Rattle.std.proofs.Common.{◌∙◌, ◌++◌, ◌+◌, ◌*◌, List, ℕ, drop, ap}
 use Rattle.risc_listing.specs.Listings.{word_lines}
 use Rattle.risc_asm.proofs.Reaching.{reach, reach_on, reach_end}
 use Rattle.risc_asm.proofs.text.after_last_words.Goals as goal

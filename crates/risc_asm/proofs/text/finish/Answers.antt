@@ -1,4 +1,3 @@
-use Rattle.std.proofs.Common.{◌∙◌, arith}
 use Rattle.risc_asm.proofs.Telling.{whole}
 use Rattle.risc_asm.proofs.text.finish.Goals as goal
 

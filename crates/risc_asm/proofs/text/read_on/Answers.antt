@@ -1,6 +1,4 @@
-use Rattle.std.proofs.Common.{◌∙◌, arith, ap, length, List, ℕ, take}
-use Rattle.risc_asm.specs.Texts.{told}
-use Rattle.risc_asm.proofs.Telling.{cut_back, stays}
+use Rattle.risc_asm.proofs.Telling.{stays}
 use Rattle.risc_asm.proofs.text.read_on.Goals as goal
 
 pub returns-then-fits : goal.returns-then-fits

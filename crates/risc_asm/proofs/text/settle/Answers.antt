@@ -1,4 +1,4 @@
-use Rattle.std.proofs.Common.{arith, length}
+use Rattle.std.proofs.Common.{arith}
 use Rattle.risc_asm.specs.Texts.{front_of}
 use Rattle.risc_asm.proofs.Settling.{further, long}
 use Rattle.risc_asm.proofs.text.settle.Goals as goal

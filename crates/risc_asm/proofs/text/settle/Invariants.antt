@@ -1,4 +1,4 @@
-use Rattle.std.proofs.Common.{length, ◌-◌, ◌≡◌, ◌≤◌}
+use Rattle.std.proofs.Common.{length, ◌-◌, ◌≤◌}
 use Rattle.risc_asm.specs.Texts.{front_of}
 use Rattle.risc_asm.proofs.Settling.{SoFar}
 use Rattle.risc_asm.proofs.text.settle.Given as goal

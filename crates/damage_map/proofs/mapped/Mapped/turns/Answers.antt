@@ -1,5 +1,4 @@
-use Rattle.std.proofs.Common.{◌≡◌, ◌+◌, ◌-◌, ◌∙◌, sym, ap, subst, arith}
-use Rattle.dma_machine.specs.Facts.{IsMachine}
+use Rattle.std.proofs.Common.{◌≡◌, ◌+◌, ◌-◌, ◌∙◌, sym, arith}
 use Rattle.machine_model.specs.Seen.{seen}
 use Rattle.damage_map.specs.Maps.{Map}
 use Rattle.damage_map.proofs.StillTurns.{one-more, rest-still}
