@@ -37,8 +37,12 @@ use Rattle.command_inputs.specs.Descriptions.{GivesCompiled, GivesDescribed, Hol
 use Rattle.command_inputs.specs.Listings.{GivesAssembled, HoldsListing}
 use Rattle.command_inputs.specs.Rings.{GivesRing, GivesRingProgram, HoldsRing}
 use Rattle.ring_model.specs.Rings.{Ring}
-use Rattle.bt878_contract.specs.Tasks.{Task, Lists, Verifies, Runs, Compiles, Captures, Generates, Chains, Damages, Rings, Assembles, Answers, ChainOf, DescMakes, Ends, IsDone, IsLiveRun, IsPartDone, IsRefused, ListingMakes, Makes, Reports, ReportsBlocks, TellsRows, RunMakes, RunOf, compiled_text, creates, image_of_run, meaning, no_file, program_and_image, program_file, program_text, task_of, task_with}
-use Rattle.bt878_contract.specs.Clauses.{AreTold, CreatesNone, IsAssembled, IsBadInput, IsCompiled, IsCut, IsInOrder, IsGenerated, IsGood, IsOutput, IsRefusal, IsUnreadOf, IsUsage, OfDesc, OfDescRun, OfLive, OfLiveRun, OfLiveSteps, OfRan, OfRingRun, OfSteps, OnlyOutputs, OnlySays, SameNames, SameOutput, SaysAccepted, SaysAll, SaysBlocks, SaysDamage, SaysListing, ShowsImage, ShowsLast, ShowsLastLive, ShowsProgram, StandsAt, StaysInside, TellsInput, UnlessCut}
+use Rattle.bt878_contract.specs.Tasks.{Task, Lists, Verifies, Runs, Compiles, Captures, Generates, Chains, Damages, Rings, Assembles, Answers, ChainOf, DescMakes, Ends, IsDone, IsLiveRun, IsPartDone}
+use Rattle.bt878_contract.specs.Tasks.{IsRefused, ListingMakes, Makes, Reports, ReportsBlocks, TellsRows, RunMakes, RunOf, compiled_text, creates, image_of_run, meaning, no_file, program_and_image}
+use Rattle.bt878_contract.specs.Tasks.{program_file, program_text, task_of, task_with}
+use Rattle.bt878_contract.specs.Clauses.{AreTold, CreatesNone, IsAssembled, IsBadInput, IsCompiled, IsCut, IsInOrder, IsGenerated, IsGood, IsOutput, IsRefusal, IsUnreadOf, IsUsage, OfDesc, OfDescRun}
+use Rattle.bt878_contract.specs.Clauses.{OfLive, OfLiveRun, OfLiveSteps, OfRan, OfRingRun, OfSteps, OnlyOutputs, OnlySays, SameNames, SameOutput, SaysAccepted, SaysAll, SaysBlocks, SaysDamage}
+use Rattle.bt878_contract.specs.Clauses.{SaysListing, ShowsImage, ShowsLast, ShowsLastLive, ShowsProgram, StandsAt, StaysInside, TellsInput, UnlessCut}
 use Rattle.bt878_contract.proofs.Asked.{IsAsked, is_asked}
 use Rattle.bt878_contract.proofs.Inputs.{both-map, first_good, run_file, run_stream, second_good, third_good, three-map}
 use Rattle.bt878_contract.proofs.Judges.{bad_in, bad_leads, good_leads, good_not_bad, judged, unread_in}

@@ -34,7 +34,8 @@ use Rattle.command_inputs.specs.Rings.{GivesRing, GivesRingProgram}
 use Rattle.chain_model.specs.Chains.{Chain}
 use Rattle.chain_model.specs.Live.{LiveStep}
 use Rattle.ring_model.specs.Rings.{Ring}
-use Rattle.bt878_contract.specs.Tasks.{Task, Lists, Verifies, Runs, Compiles, Captures, Generates, Chains, Damages, Rings, Assembles, IsLiveRun, IsPartOfWork, IsRefusedWork, IsWholeWork, Makes, blocks_of, rows_told, compiled_text, creates, meaning, program_text}
+use Rattle.bt878_contract.specs.Tasks.{Task, Lists, Verifies, Runs, Compiles, Captures, Generates, Chains, Damages, Rings, Assembles, IsLiveRun, IsPartOfWork, IsRefusedWork, IsWholeWork, Makes}
+use Rattle.bt878_contract.specs.Tasks.{blocks_of, rows_told, compiled_text, creates, meaning, program_text}
 
 -- ---- the words
 

@@ -35,7 +35,9 @@ use Rattle.ring_model.proofs.Sound.{ring_sound}
 use Rattle.ring_machine.specs.States.{RingState}
 use Rattle.stream_play.specs.Runs.{IsRun, LiveRan, OfRun, Ran, first_of, last_live_of, last_of}
 use Rattle.stream_play.proofs.Fitting.{all_fit, steps_fit}
-use Rattle.bt878_contract.specs.Tasks.{Task, Runs, Compiles, Captures, Generates, Chains, Damages, Rings, Assembles, ChainOf, DescMakes, Ends, IsDone, IsLiveRun, IsPartDone, IsRefused, ListingMakes, Makes, Reports, ReportsBlocks, TellsRows, RunMakes, RunOf, Stops, blocks_of, compiled_text, creates, image_file, image_of_run, meaning, no_file, program_and_image, rows_told, program_file, program_text}
+use Rattle.bt878_contract.specs.Tasks.{Task, Runs, Compiles, Captures, Generates, Chains, Damages, Rings, Assembles, ChainOf, DescMakes, Ends, IsDone, IsLiveRun, IsPartDone, IsRefused, ListingMakes}
+use Rattle.bt878_contract.specs.Tasks.{Makes, Reports, ReportsBlocks, TellsRows, RunMakes, RunOf, Stops, blocks_of, compiled_text, creates, image_file, image_of_run, meaning, no_file}
+use Rattle.bt878_contract.specs.Tasks.{program_and_image, rows_told, program_file, program_text}
 use Rattle.bt878_contract.specs.Clauses.{OfDescRun, OfLiveRun, OfRingRun}
 use Rattle.chain_model.specs.Live.{Live}
 use Rattle.double_buffer.proofs.Promising.{plays_keep_promises}

@@ -10,7 +10,8 @@ use Rattle.bt878_words.specs.declared.UsageFault.{UsageFault}
 use Rattle.bt878_words.specs.declared.UsageFault.TheVariants.{Number}
 use Rattle.bt878_words.specs.declared.Verb.{Verb}
 use Rattle.bt878_words.specs.declared.Verb.TheVariants as verb
-use Rattle.bt878_words.specs.Words.{command_of, command_with, verb_named, with_verb, of_length, clash_after, unless_clash, has_clash, is_among, operands, inputs_of, outputs_of, names_if, names_of, names_with, input_names, output_names, make_of, made_with, number_of}
+use Rattle.bt878_words.specs.Words.{command_of, command_with, verb_named, with_verb, of_length, clash_after, unless_clash, has_clash, is_among, operands, inputs_of, outputs_of, names_if, names_of}
+use Rattle.bt878_words.specs.Words.{names_with, input_names, output_names, make_of, made_with, number_of}
 
 -- the words after the command, of which there are as many as it takes, and no output has another's name
 pub record IsFound (words : List (List ℕ)) (c : Command) : Type 0 where

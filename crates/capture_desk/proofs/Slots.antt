@@ -1,5 +1,6 @@
 -- What a change of a slot, or of the open input, is for what the desk over memory holds.
-use Rattle.std.proofs.Common.{ℕ, ◌+◌, ◌-◌, ◌<◌, ◌≢◌, min, List, [], ◌++◌, map, set, get_or, take, drop, length, Option, Some, is_some, option_map, Bool, true, false, ◌==◌, Ok, Err, ◌≡◌, refl, sym, ap, ◌∙◌, arith, All, get_or-set_same, get_or-set_other}
+use Rattle.std.proofs.Common.{ℕ, ◌+◌, ◌-◌, ◌<◌, ◌≢◌, min, List, [], ◌++◌, map, set, get_or, take, drop, length, Option, Some, is_some, option_map, Bool, true, false, ◌==◌, Ok, Err, ◌≡◌, refl, sym, ap}
+use Rattle.std.proofs.Common.{◌∙◌, arith, All, get_or-set_same, get_or-set_other}
 use Rattle.std.proofs.lemmas.List.{length-map, length-set, map-set}
 use Rattle.std.proofs.lemmas.List.Elements.{All-get_or, All-set}
 use Rattle.std.proofs.lemmas.Slice.Eq.{bytes_eq-Decides}

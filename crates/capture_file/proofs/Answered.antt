@@ -13,7 +13,8 @@ use Rattle.capture_file.specs.declared.records.Found.{Found}
 use Rattle.capture_file.specs.declared.records.Found.TheVariants.{Cut, Wrong, Last, Whole}
 use Rattle.capture_file.specs.Records.{HasFour, Spans, Passes}
 use Rattle.capture_file.specs.Streams.{Reading, reading, Unfinished, Ended, number_at, form_of, record_at, records, within, within_if, opened_by, after_end, stream_of, judged, Bad}
-use Rattle.capture_file.specs.Readers.{Reader, Taken, taking, resumed, taken, taken_in, unfinished_if, found_taken, record_taken, form_taken, word_taken, closed_taken, behind_word, begun, resumed_in, ending_in, Uses, Counts, IsAt, IsReader, Stays, PlacedAt}
+use Rattle.capture_file.specs.Readers.{Reader, Taken, taking, resumed, taken, taken_in, unfinished_if, found_taken, record_taken, form_taken, word_taken, closed_taken, behind_word, begun, resumed_in}
+use Rattle.capture_file.specs.Readers.{ending_in, Uses, Counts, IsAt, IsReader, Stays, PlacedAt}
 use Rattle.capture_file.proofs.Fields.{number_at-four, record_at-spans, record_at-passes}
 use Rattle.capture_file.proofs.Readings.{records-front, front_of}
 

@@ -10,7 +10,8 @@ use Rattle.capture_file.specs.declared.records.RecordKind.TheVariants as kind
 use Rattle.capture_file.specs.declared.records.Found.{Found}
 use Rattle.capture_file.specs.declared.records.Found.TheVariants.{Cut, Wrong, Last, Whole}
 use Rattle.capture_file.specs.declared.Step.{Step}
-use Rattle.capture_file.specs.Streams.{number_at, kind_of_tag, is_data, push_if, push_at, data_with, control_with, control_at, turns_if, turns_with, most_turns, ack_with, enable_if, enable_at, trigger_if, trigger_at, is_buffer, buffer_if, slot_if, patch_at, fields_at, record_at}
+use Rattle.capture_file.specs.Streams.{number_at, kind_of_tag, is_data, push_if, push_at, data_with, control_with, control_at, turns_if, turns_with, most_turns, ack_with, enable_if, enable_at}
+use Rattle.capture_file.specs.Streams.{trigger_if, trigger_at, is_buffer, buffer_if, slot_if, patch_at, fields_at, record_at}
 use Rattle.capture_file.specs.Records.{HasFour, Spans, Passes, Sums, FoundFits}
 use Rattle.std.specs.Prelude.{nat_lt, nat_le, not, ◌&&◌, ◌||◌, ◌==◌}
 use Rattle.std.proofs.lemmas.Bool.{ltb-true, leb-true, eqb-true}

@@ -14,7 +14,9 @@ use Rattle.capture_file.specs.declared.FileFault.{FileFault}
 use Rattle.capture_file.specs.declared.program.Layout.{Layout}
 use Rattle.capture_file.specs.declared.program.Layout.TheVariants.{Paged, Chunked}
 use Rattle.capture_file.specs.declared.program.ProgramFile.{ProgramFile}
-use Rattle.capture_file.specs.Programs.{◌>>=◌, Field, number_field, layout_field, base_field, word_count_field, words_in, words_field, chunk_count_field, page_field, long_chunk_field, chunk_field, chunks_field, fill_field, program_in, program_of, without_grants, base_fault, word_count_fault, chunk_count_fault, page_fault, address_fault, length_fault, fill_fault, judged, numbers_spelled, chunk_in, name_of, grants_spelled, head_spelled, spelled_as, layout_for, spelled}
+use Rattle.capture_file.specs.Programs.{◌>>=◌, Field, number_field, layout_field, base_field, word_count_field, words_in, words_field, chunk_count_field, page_field, long_chunk_field, chunk_field}
+use Rattle.capture_file.specs.Programs.{chunks_field, fill_field, program_in, program_of, without_grants, base_fault, word_count_fault, chunk_count_fault, page_fault, address_fault, length_fault}
+use Rattle.capture_file.specs.Programs.{fill_fault, judged, numbers_spelled, chunk_in, name_of, grants_spelled, head_spelled, spelled_as, layout_for, spelled}
 
 -- ---- numbers
 

@@ -1,5 +1,6 @@
 -- A file that is read is the spelling of what was read.
-use Rattle.std.proofs.Common.{◌≡◌, ℕ, zero, suc, ◌+◌, ◌*◌, ◌%◌, ◌^◌, ◌<◌, ◌≤◌, ◌⊎◌, inl, inr, Bool, true, false, cond, not, ◌&&◌, List, [], ◌∷◌, ◌++◌, length, drop, Option, Some, None, Ok, Err, refl, sym, ap, subst, ◌∙◌, arith, append_assoc}
+use Rattle.std.proofs.Common.{◌≡◌, ℕ, zero, suc, ◌+◌, ◌*◌, ◌%◌, ◌^◌, ◌<◌, ◌≤◌, ◌⊎◌, inl, inr, Bool, true, false, cond, not, ◌&&◌, List, [], ◌∷◌, ◌++◌, length, drop, Option, Some, None, Ok, Err, refl}
+use Rattle.std.proofs.Common.{sym, ap, subst, ◌∙◌, arith, append_assoc}
 use Rattle.std.specs.Prelude.{nat_lt, nat_le, ◌==◌, codes}
 use Rattle.std.specs.List.{All, flat_map, list_all}
 use Rattle.std.proofs.lemmas.Bool.{and_parts, leb-true, eqb-true, not-false}
@@ -12,7 +13,9 @@ use Rattle.capture_file.specs.declared.FileKind.TheVariants as fault
 use Rattle.capture_file.specs.declared.program.Layout.{Layout}
 use Rattle.capture_file.specs.declared.program.Layout.TheVariants.{Paged, Chunked}
 use Rattle.capture_file.specs.declared.program.ProgramFile.{ProgramFile}
-use Rattle.capture_file.specs.Programs.{◌>>=◌, number_field, layout_field, layout_or_magic, base_field, word_count_field, words_in, words_field, chunk_count_field, page_field, long_chunk_field, chunk_field, chunks_field, fill_field, program_of, without_grants, base_fault, word_count_fault, chunk_count_fault, page_fault, fill_fault, judged, nothing_after, numbers_spelled, page_spelled, chunk_spelled, chunk_in, name_of, layout_for, spelled, spelled_as, cut, IsFile}
+use Rattle.capture_file.specs.Programs.{◌>>=◌, number_field, layout_field, layout_or_magic, base_field, word_count_field, words_in, words_field, chunk_count_field, page_field, long_chunk_field}
+use Rattle.capture_file.specs.Programs.{chunk_field, chunks_field, fill_field, program_of, without_grants, base_fault, word_count_fault, chunk_count_fault, page_fault, fill_fault, judged}
+use Rattle.capture_file.specs.Programs.{nothing_after, numbers_spelled, page_spelled, chunk_spelled, chunk_in, name_of, layout_for, spelled, spelled_as, cut, IsFile}
 use Rattle.capture_file.proofs.Chunks.{bind_ok, judged_ok, ok_is, no_fault, IsBytes, IsBytes-drop, chunks_read, totals_small, some_fault, long_chunk_parts}
 use Rattle.capture_file.proofs.Spelled.{tail_of, line_of, in_line, with_layout, with_base, with_count, with_words, with_chunk_count, with_chunks, field_by_field}
 use Rattle.capture_file.proofs.FourBytes.{four_back, number_low}

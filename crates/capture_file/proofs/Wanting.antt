@@ -13,7 +13,8 @@ use Rattle.capture_file.specs.declared.records.Found.{Found}
 use Rattle.capture_file.specs.declared.records.Found.TheVariants.{Cut, Wrong, Last, Whole}
 use Rattle.capture_file.specs.Records.{HasFour}
 use Rattle.capture_file.specs.Streams.{Bad, Reading, form_of, number_at, record_at}
-use Rattle.capture_file.specs.Readers.{Closed, Failed, IsAt, IsReader, Opening, Phase, Reader, Records, Taken, Uses, after_answer, begun, closed_taken, ending_in, form_taken, found_taken, record_taken, resumed, taken, taken_in, unfinished_if, word_taken}
+use Rattle.capture_file.specs.Readers.{Closed, Failed, IsAt, IsReader, Opening, Phase, Reader, Records, Taken, Uses, after_answer, begun, closed_taken, ending_in, form_taken, found_taken}
+use Rattle.capture_file.specs.Readers.{record_taken, resumed, taken, taken_in, unfinished_if, word_taken}
 use Rattle.capture_file.proofs.Answered.{reader-ends, taken-moves}
 use Rattle.capture_file.proofs.Fields.{number_at-four}
 use Rattle.capture_file.proofs.Resumed.{taken-goes}

@@ -1,6 +1,8 @@
 //! Program files.
 
-ghost use Rattle.capture_file.specs.Programs.{Gives, HasWords, Reads, address_fault, base_field, base_fault, chunk_count_fault, chunk_count_field, chunk_field, chunks_field, cut, fill_fault, fill_field, is_length, judged, layout_field, layout_of, length_fault, long_chunk_field, number_field, page_fault, page_field, program_of, without_grants, word_count_fault, word_count_field, words_field, words_in, wrong};
+ghost use Rattle.capture_file.specs.Programs.{Gives, HasWords, Reads, address_fault, base_field, base_fault, chunk_count_fault, chunk_count_field, chunk_field, chunks_field, cut, fill_fault};
+ghost use Rattle.capture_file.specs.Programs.{fill_field, is_length, judged, layout_field, layout_of, length_fault, long_chunk_field, number_field, page_fault, page_field, program_of, without_grants};
+ghost use Rattle.capture_file.specs.Programs.{word_count_fault, word_count_field, words_field, words_in, wrong};
 ghost use Rattle.std.specs.List.{All, list_all};
 ghost use Rattle.byteorder.specs.Endian.{little_number};
 ghost use Rattle.page_table.specs.Grants.{AreRising, chunk, is_page, total, max_bytes, max_chunks};

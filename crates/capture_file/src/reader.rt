@@ -1,6 +1,7 @@
 //! A reader of streams that come in pieces.
 
-ghost use Rattle.capture_file.specs.Readers.{AnswerFits, Closed, Failed, Opening, Records, Counts, IsReader, PlacedAt, Stays, Uses, after_answer, behind_word, closed_by, closed_taken, ending_in, fresh, record_taken, resumed, room, taken, taking, word_taken, Takes, front_record};
+ghost use Rattle.capture_file.specs.Readers.{AnswerFits, Closed, Failed, Opening, Records, Counts, IsReader, PlacedAt, Stays, Uses, after_answer, behind_word, closed_by, closed_taken, ending_in};
+ghost use Rattle.capture_file.specs.Readers.{fresh, record_taken, resumed, room, taken, taking, word_taken, Takes, front_record};
 ghost use Rattle.capture_file.specs.Records.{FoundFits, HasFour, Passes, Spans, StepFits, Sums, push_in, turns_in};
 ghost use Rattle.capture_file.specs.declared.FileFault.{FileFault};
 ghost use Rattle.capture_file.specs.declared.records.Found.TheVariants.{Cut};

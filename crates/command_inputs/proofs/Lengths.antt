@@ -8,7 +8,8 @@ use Rattle.capture_file.specs.declared.FileKind.{FileKind}
 use Rattle.capture_file.specs.declared.FileKind.TheVariants as fault
 use Rattle.capture_file.specs.declared.program.Layout.{Layout}
 use Rattle.capture_file.specs.declared.program.Layout.TheVariants.{Paged, Chunked}
-use Rattle.capture_file.specs.Programs.{◌>>=◌, number_or_cut, number_field, layout_field, layout_or_magic, layout_of, base_field, word_count_field, words_in, words_field, chunk_count_field, page_field, long_chunk_field, chunk_field, chunks_field, base_fault, word_count_fault, chunk_count_fault, page_fault, judged, cut}
+use Rattle.capture_file.specs.Programs.{◌>>=◌, number_or_cut, number_field, layout_field, layout_or_magic, layout_of, base_field, word_count_field, words_in, words_field, chunk_count_field}
+use Rattle.capture_file.specs.Programs.{page_field, long_chunk_field, chunk_field, chunks_field, base_fault, word_count_fault, chunk_count_fault, page_fault, judged, cut}
 use Rattle.capture_file.specs.Streams.{number_at}
 use Rattle.capture_file.proofs.Chunks.{bind_ok, judged_ok, ok_is, some_fault, long_chunk_parts}
 

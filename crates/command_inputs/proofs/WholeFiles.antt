@@ -12,7 +12,9 @@ use Rattle.capture_file.specs.declared.program.Layout.{Layout}
 use Rattle.capture_file.specs.declared.program.Layout.TheVariants.{Paged, Chunked}
 use Rattle.capture_file.specs.Streams.{fault_at}
 use Rattle.capture_file.specs.Programs as file
-use Rattle.capture_file.specs.Programs.{Field, ◌>>=◌, number_field, layout_field, layout_or_magic, base_field, word_count_field, words_in, words_field, chunk_count_field, page_field, long_chunk_field, chunk_field, chunks_field, fill_field, program_of, without_grants, base_fault, word_count_fault, chunk_count_fault, fill_fault, judged, wrong, nothing_after, cut}
+use Rattle.capture_file.specs.Programs.{Field, ◌>>=◌, number_field, layout_field, layout_or_magic, base_field, word_count_field, words_in, words_field, chunk_count_field, page_field, long_chunk_field}
+use Rattle.capture_file.specs.Programs.{chunk_field, chunks_field, fill_field, program_of, without_grants, base_fault, word_count_fault, chunk_count_fault, fill_fault, judged, wrong, nothing_after}
+use Rattle.capture_file.specs.Programs.{cut}
 use Rattle.capture_file.proofs.Spelled.{with_layout, with_base, with_count, with_words, with_chunk_count, with_chunks, field_by_field}
 use Rattle.command_inputs.specs.Programs.{longest_program}
 use Rattle.command_inputs.proofs.Lengths.{layout_len, base_len, word_count_len, words_len, chunk_count_len, chunk_len, chunks_len}

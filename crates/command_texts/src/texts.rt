@@ -1,7 +1,8 @@
 //! The texts that are said.
 
 ghost use Rattle.std.specs.Prelude.{◌≡◌, IfOk, Some, codes, string_bytes};
-ghost use Rattle.command_texts.specs.Texts.{answer_text, blocks_text, built_text, cause_words, chain_words, geometry_words, input_words, key_text, kind_words, listing_words, lost_words, made_text, need_words, not_toml_text, report_text, ring_place_text, usage_words};
+ghost use Rattle.command_texts.specs.Texts.{answer_text, blocks_text, built_text, cause_words, chain_words, geometry_words, input_words, key_text, kind_words, listing_words, lost_words, made_text};
+ghost use Rattle.command_texts.specs.Texts.{need_words, not_toml_text, report_text, ring_place_text, usage_words};
 
 use crate::answer::Answer;
 use bt878_words::UsageFault;

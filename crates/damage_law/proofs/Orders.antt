@@ -1,5 +1,6 @@
 -- Over steps the takings of a queue are in the order of its entries.
-use Rattle.std.proofs.Common.{◌≡◌, ℕ, zero, suc, ◌+◌, ◌-◌, ◌<◌, ◌≤◌, ◌⊎◌, inl, inr, ◌==◌, Bool, true, false, All, List, [], ◌∷◌, ◌++◌, append_assoc, drop, length, length-append, Option, Some, None, if◌then◌else◌, refl, sym, ap, subst, ◌∙◌, arith, slice_index_or}
+use Rattle.std.proofs.Common.{◌≡◌, ℕ, zero, suc, ◌+◌, ◌-◌, ◌<◌, ◌≤◌, ◌⊎◌, inl, inr, ◌==◌, Bool, true, false, All, List, [], ◌∷◌, ◌++◌, append_assoc, drop, length, length-append, Option, Some, None}
+use Rattle.std.proofs.Common.{if◌then◌else◌, refl, sym, ap, subst, ◌∙◌, arith, slice_index_or}
 use Rattle.std.specs.Prelude.{filter}
 use Rattle.std.proofs.lemmas.Bool.{cond-true, cond-false, eqb-false}
 use Rattle.std.proofs.lemmas.List.{append-nil, drop-append-le, drop-drop, drop_all, length-drop}
@@ -13,7 +14,8 @@ use Rattle.sync_status.proofs.Verdicts.{end-has_bytes, verdict-takes}
 use Rattle.fifo_model.specs.declared.Entry.{Entry}
 use Rattle.fifo_model.specs.declared.Queue.{Queue}
 use Rattle.fifo_model.specs.declared.Queue.TheVariants.{One, Two, Three}
-use Rattle.fifo_model.specs.Queues.{IsQueue, QueueState, Queues, all_entered, cleared, control_answer, control_entry, emptied, entered, first, front, is_full, more, overrun, push_answer, queue_state, removed, some_full, taken_from, taken_more, valid_of, with_queue_state}
+use Rattle.fifo_model.specs.Queues.{IsQueue, QueueState, Queues, all_entered, cleared, control_answer, control_entry, emptied, entered, first, front, is_full, more, overrun, push_answer, queue_state}
+use Rattle.fifo_model.specs.Queues.{removed, some_full, taken_from, taken_more, valid_of, with_queue_state}
 use Rattle.fifo_model.specs.declared.Pushed.TheVariants.{Held, Overrun}
 use Rattle.fifo_model.proofs.ChangesKeepQueues.{IsQueue-queue_state}
 use Rattle.irq_status.specs.declared.HostWrite.{HostWrite}

@@ -29,7 +29,8 @@ use Rattle.machine_model.specs.declared.Skipping.TheVariants.{Nothing, ToEol, To
 use Rattle.machine_model.specs.Paths.{RiscProgram, data_cause, demands_cause, demands_of, fetch, is_data, is_word, target_before}
 use Rattle.risc_word.specs.Parts.{instr_ends}
 use Rattle.machine_model.specs.States.{State}
-use Rattle.machine_model.specs.Turns.{apply, apply_in, begun_with, burst, burst_of, code_seen, common_code, counted, data_fetched, demand_on, ended, fetched, is_cut_short, is_done, judged, jumped, lowest_served, lowest_stray, met, passed, ran, retired, served, skipping_after, stray_seen, took, turn, turn_if, verdict_at, waited, with_fdsr_unless, worked}
+use Rattle.machine_model.specs.Turns.{apply, apply_in, begun_with, burst, burst_of, code_seen, common_code, counted, data_fetched, demand_on, ended, fetched, is_cut_short, is_done, judged, jumped}
+use Rattle.machine_model.specs.Turns.{lowest_served, lowest_stray, met, passed, ran, retired, served, skipping_after, stray_seen, took, turn, turn_if, verdict_at, waited, with_fdsr_unless, worked}
 use Rattle.machine_model.specs.Seen.{Application, address_before, application, application_in, applications, served_application, data_did, fetched_did, seen, seen_alone, seen_burst, seen_if, seen_in, seen_running, seen_served, waited_did}
 use Rattle.machine_model.specs.Steps.{Turn}
 use Rattle.machine_model.proofs.BeforeTurns.{fetch-KnownAt}

@@ -1,5 +1,6 @@
 -- Lines that are cut into parts are used up, and each of their bytes is stored at its address.
-use Rattle.std.proofs.Common.{◌≡◌, ℕ, zero, suc, ◌+◌, ◌-◌, ◌<◌, ◌≤◌, true, ◌==◌, List, [], ◌∷◌, ◌++◌, length, take, drop, map, replicate, All, Option, Some, None, option_map, nat_lt, slice_index, slice_index_or, get_or-take, get_or-drop, refl, sym, ap, subst, ◌∙◌, arith, ⊎_elim, append_assoc, length-drop, length-take}
+use Rattle.std.proofs.Common.{◌≡◌, ℕ, zero, suc, ◌+◌, ◌-◌, ◌<◌, ◌≤◌, true, ◌==◌, List, [], ◌∷◌, ◌++◌, length, take, drop, map, replicate, All, Option, Some, None, option_map, nat_lt, slice_index}
+use Rattle.std.proofs.Common.{slice_index_or, get_or-take, get_or-drop, refl, sym, ap, subst, ◌∙◌, arith, ⊎_elim, append_assoc, length-drop, length-take}
 use Rattle.std.proofs.lemmas.List.{nil_from_length}
 use Rattle.std.proofs.lemmas.List.Folds.{list_any-append}
 use Rattle.std.proofs.lemmas.Bool.{cases_lt, lt-ltb, le-ltb, or_left, or_right, eq-eqb, cond-true, cond-false}

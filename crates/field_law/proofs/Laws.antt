@@ -1,5 +1,6 @@
 -- The law of the picture.
-use Rattle.std.proofs.Common.{◌≡◌, ℕ, suc, ◌+◌, ◌-◌, ◌*◌, bit_and, bit_or, ◌≤◌, ◌||◌, Bool, true, false, All, List, [], ◌∷◌, ◌++◌, length, take, drop, refl, sym, ap, subst, ◌∙◌, arith, inl, inr, ⊎_elim, append_assoc, append-nil, length-append, take-append-drop, take_at}
+use Rattle.std.proofs.Common.{◌≡◌, ℕ, suc, ◌+◌, ◌-◌, ◌*◌, bit_and, bit_or, ◌≤◌, ◌||◌, Bool, true, false, All, List, [], ◌∷◌, ◌++◌, length, take, drop, refl, sym, ap, subst, ◌∙◌, arith, inl, inr}
+use Rattle.std.proofs.Common.{⊎_elim, append_assoc, append-nil, length-append, take-append-drop, take_at}
 use Rattle.std.proofs.lemmas.Bool.{cases_Bool, or_parts, or_from, true_from_ne_false}
 use Rattle.std.proofs.lemmas.List.{take-append-le}
 use Rattle.std.proofs.lemmas.List.Elements.{All-head, All-tail}

@@ -1,5 +1,6 @@
 -- A line of which some bytes were taken.
-use Rattle.std.proofs.Common.{rules, tests, ◌≡◌, ℕ, zero, suc, ◌+◌, ◌-◌, ◌<◌, ◌≤◌, ◌||◌, Bool, true, false, List, [], ◌∷◌, ◌++◌, length, take, drop, refl, sym, ap, subst, ◌∙◌, arith, inr, min, take-take, drop-drop, length-take, length-drop, length-append, slice_index_or}
+use Rattle.std.proofs.Common.{rules, tests, ◌≡◌, ℕ, zero, suc, ◌+◌, ◌-◌, ◌<◌, ◌≤◌, ◌||◌, Bool, true, false, List, [], ◌∷◌, ◌++◌, length, take, drop, refl, sym, ap, subst, ◌∙◌, arith, inr, min}
+use Rattle.std.proofs.Common.{take-take, drop-drop, length-take, length-drop, length-append, slice_index_or}
 use Rattle.std.specs.List.{list_any}
 use Rattle.std.proofs.lemmas.List.{drop-take, take-append-le, drop-append-le, drop_all}
 use Rattle.sync_status.specs.declared.StatusKind.{StatusKind}

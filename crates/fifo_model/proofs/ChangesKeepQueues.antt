@@ -6,7 +6,9 @@ use Rattle.sync_status.specs.Statuses.{kind_of, is_control, valid_bytes}
 use Rattle.fifo_model.specs.declared.Entry.{Entry}
 use Rattle.fifo_model.specs.declared.Queue.{Queue}
 use Rattle.fifo_model.specs.declared.Queue.TheVariants.{One, Two, Three}
-use Rattle.fifo_model.specs.Queues.{QueueState, Queues, queue_state, with_queue_state, empty_queue, empty_queues, max_capacity, is_full, entered, overrun, pushed, control_entry, control_pushed, all_entered, first, front, valid_of, front_valid, removed, taken_more, taken_from, more, front_code_of, front_code, codes_of, all_removed, emptied, cleared, IsQueue, IsFifo}
+use Rattle.fifo_model.specs.Queues.{QueueState, Queues, queue_state, with_queue_state, empty_queue, empty_queues, max_capacity, is_full, entered, overrun, pushed, control_entry, control_pushed}
+use Rattle.fifo_model.specs.Queues.{all_entered, first, front, valid_of, front_valid, removed, taken_more, taken_from, more, front_code_of, front_code, codes_of, all_removed, emptied, cleared}
+use Rattle.fifo_model.specs.Queues.{IsQueue, IsFifo}
 use Rattle.fifo_model.proofs.Codes.{codes-append, codes-entered, codes-without_data, codes-without_code, front-valid}
 
 -- One queue.

@@ -3,7 +3,8 @@
 
 ghost use Rattle.std.specs.Prelude.{◌≡◌, ◌+◌, ◌<◌, ◌≤◌, ◌⊎◌, ◌++◌, drop, slice_index, All, IfOk, IsSome, false};
 ghost use Rattle.sync_status.specs.Statuses.{kind_of, is_control};
-ghost use Rattle.fifo_model.specs.Queues.{queue_state, with_queue_state, empty_queues, max_capacity, push_answer, pushed, control_entry, control_answer, control_pushed, front, front_valid, front_bytes, taken_from, removed, is_ready, front_code, all_removed, cleared, overruns_of, IsFifo};
+ghost use Rattle.fifo_model.specs.Queues.{queue_state, with_queue_state, empty_queues, max_capacity, push_answer, pushed, control_entry, control_answer, control_pushed, front, front_valid};
+ghost use Rattle.fifo_model.specs.Queues.{front_bytes, taken_from, removed, is_ready, front_code, all_removed, cleared, overruns_of, IsFifo};
 ghost use Rattle.fifo_model.specs.Rings.{place_of};
 
 mod ring;

@@ -12,7 +12,8 @@ use Rattle.machine_model.specs.Safety.{IsStep}
 use Rattle.capture_desc.specs.declared.desc.Desc.{Desc}
 use Rattle.picture_model.specs.Described.{field_height, fields_of, layout_of, plane_row_bytes}
 use Rattle.field_stream.specs.Made.{after}
-use Rattle.field_stream.specs.Pushes.{Push, Mark, Fill, chroma_after, end_status, end_statuses, field_pushes, frame_pushes, line_entries, packed_line, picture_line, picture_pushes, planar_at, planar_line, repeated, status_at, stream_pushes, vbi_pushes}
+use Rattle.field_stream.specs.Pushes.{Push, Mark, Fill, chroma_after, end_status, end_statuses, field_pushes, frame_pushes, line_entries, packed_line, picture_line, picture_pushes, planar_at}
+use Rattle.field_stream.specs.Pushes.{planar_line, repeated, status_at, stream_pushes, vbi_pushes}
 use Rattle.generated_law.specs.Drawn.{drawn_step, drawn_steps}
 
 abbrev pub IsData : ℕ → Type 0

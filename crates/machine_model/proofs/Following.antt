@@ -23,7 +23,8 @@ use Rattle.machine_model.specs.declared.Skipping.TheVariants.{Nothing, ToEol, To
 use Rattle.machine_model.specs.Paths.{RiscProgram, Place, is_word, fetch, is_data, instr_cause, data_cause, target_before, target_after, target_moved, place_after, path, IsSound}
 use Rattle.risc_word.specs.Parts.{instr_ctl, instr_ends}
 use Rattle.machine_model.specs.States.{State}
-use Rattle.machine_model.specs.Turns.{given_up, rest_of_line, jumped, skipping_after, begun_with, data_fetched, instr_fetched, fetched, with_fdsr_unless, met, code_seen, stray_seen, demand_on, demand_less, with_demand, verdict_at, took, ended, judged, retired, turn}
+use Rattle.machine_model.specs.Turns.{given_up, rest_of_line, jumped, skipping_after, begun_with, data_fetched, instr_fetched, fetched, with_fdsr_unless, met, code_seen, stray_seen, demand_on}
+use Rattle.machine_model.specs.Turns.{demand_less, with_demand, verdict_at, took, ended, judged, retired, turn}
 use Rattle.machine_model.specs.Steps.{Step, Push, Control, Turn, Host, with_fbus_if, push_if, push_control_if, with_fifo, with_risc, host, step}
 use Rattle.machine_model.specs.Safety.{TargetAt, RunsAt, JobAt}
 use Rattle.machine_model.proofs.Fronts.{take-Takes}

@@ -23,7 +23,8 @@ use Rattle.machine_model.specs.declared.Skipping.TheVariants.{Nothing, ToEol, To
 use Rattle.machine_model.specs.Paths.{RiscProgram, fetch, is_data, target_after}
 use Rattle.risc_word.specs.Parts.{instr_ends}
 use Rattle.machine_model.specs.States.{State, first_state}
-use Rattle.machine_model.specs.Turns.{halted, jumped, skipping_after, passed, begun_with, data_fetched, instr_fetched, fetched, lowest_stray, common_code, with_fdsr_unless, without_codes, met, code_seen, stray_seen, rest_of_line, demand_on, verdict_at, took, ended, judged, retired, turn}
+use Rattle.machine_model.specs.Turns.{halted, jumped, skipping_after, passed, begun_with, data_fetched, instr_fetched, fetched, lowest_stray, common_code, with_fdsr_unless, without_codes, met}
+use Rattle.machine_model.specs.Turns.{code_seen, stray_seen, rest_of_line, demand_on, verdict_at, took, ended, judged, retired, turn}
 use Rattle.machine_model.specs.Steps.{Step, Push, Control, Turn, Host, with_fbus_if, push_if, push, push_control_if, push_control, with_fifo, with_risc, host, step, with_program}
 use Rattle.machine_model.specs.Safety.{NoTargetIn, JobFits, IsOrderly, IsStep}
 use Rattle.machine_model.proofs.Fronts.{front-stray, codes_there, discarded-data, Takes, take-Takes, valid-some}

@@ -22,7 +22,9 @@ use Rattle.machine_model.specs.declared.Skipping.TheVariants.{Nothing, ToEol, To
 use Rattle.machine_model.specs.Paths.{RiscProgram, is_word, fetch, target_before, data_cause}
 use Rattle.risc_word.specs.Parts.{instr_ctl}
 use Rattle.machine_model.specs.States.{State}
-use Rattle.machine_model.specs.Turns.{with_interrupts, sets_fdsr, jumped, begun_with, data_fetched, instr_fetched, fetched, with_fdsr_unless, met, code_seen, common_code, stray_seen, lowest_stray, demand_on, ended, took, with_queue, is_cut_short, judged, verdict_at, served, apply_in, apply, burst, lowest_served, burst_of, is_done, ran, worked, turn_if, turn}
+use Rattle.machine_model.specs.Turns.{with_interrupts, sets_fdsr, jumped, begun_with, data_fetched, instr_fetched, fetched, with_fdsr_unless, met, code_seen, common_code, stray_seen, lowest_stray}
+use Rattle.machine_model.specs.Turns.{demand_on, ended, took, with_queue, is_cut_short, judged, verdict_at, served, apply_in, apply, burst, lowest_served, burst_of, is_done, ran, worked, turn_if}
+use Rattle.machine_model.specs.Turns.{turn}
 use Rattle.machine_model.specs.Steps.{with_program}
 use Rattle.machine_model.specs.Accesses.{AreFetchedAlike}
 

@@ -21,7 +21,8 @@ use Rattle.machine_model.specs.declared.Skipping.{Skipping}
 use Rattle.machine_model.specs.declared.Skipping.TheVariants.{Nothing, ToEol, ToSync}
 use Rattle.machine_model.specs.Paths.{fetch}
 use Rattle.machine_model.specs.States.{State}
-use Rattle.machine_model.specs.Turns.{Store, stored_all, jumped, begun_with, data_fetched, instr_fetched, fetched, with_fdsr_unless, met, code_seen, stray_seen, demand_on, ended, judged, verdict_at, served, apply_in, apply, burst, lowest_served, burst_of, is_done, ran, worked, turn_if, counted, turn}
+use Rattle.machine_model.specs.Turns.{Store, stored_all, jumped, begun_with, data_fetched, instr_fetched, fetched, with_fdsr_unless, met, code_seen, stray_seen, demand_on, ended, judged, verdict_at}
+use Rattle.machine_model.specs.Turns.{served, apply_in, apply, burst, lowest_served, burst_of, is_done, ran, worked, turn_if, counted, turn}
 use Rattle.machine_model.specs.Accesses.{judged_stores, served_stores, stores_in, apply_stores, burst_stores, burst_stores_of, ran_stores, worked_stores, stores_if, stores, writes}
 
 -- ---- memory stays

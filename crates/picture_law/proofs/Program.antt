@@ -19,7 +19,8 @@ use Rattle.picture_model.specs.declared.PieceKind.TheVariants.{Write, WriteLuma,
 use Rattle.picture_model.specs.declared.Piece.{Piece}
 use Rattle.picture_model.specs.Described.{describes, memory_of}
 use Rattle.picture_model.specs.Plans.{Strip, plan}
-use Rattle.picture_model.specs.Programs.{begin_by, body, closing, closing_begin, compiled, instr_by, instr_of, line_instrs, lines_instrs, next_by, opening, picture_strips, section, section_begin, section_length, section_next, signal, vbi_from, vbi_instrs, vbi_strips, field_instrs, words_of}
+use Rattle.picture_model.specs.Programs.{begin_by, body, closing, closing_begin, compiled, instr_by, instr_of, line_instrs, lines_instrs, next_by, opening, picture_strips, section, section_begin}
+use Rattle.picture_model.specs.Programs.{section_length, section_next, signal, vbi_from, vbi_instrs, vbi_strips, field_instrs, words_of}
 use Rattle.picture_model.proofs.Circle.{split_length, words_split}
 use Rattle.picture_model.proofs.Each.{Each, each_append}
 use Rattle.picture_model.proofs.FaultlessLines.{IsGoodInstr}

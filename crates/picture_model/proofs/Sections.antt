@@ -17,7 +17,8 @@ use Rattle.capture_desc.specs.declared.desc.Fields.{Fields}
 use Rattle.capture_desc.specs.declared.desc.Fields.TheVariants as fields
 use Rattle.picture_model.specs.Described.{both, describes, field_height, layout_of, memory_of, picture_row, rows_of}
 use Rattle.picture_model.specs.Plans.{Strip, row_strip, skipped_strip, vbi_strip}
-use Rattle.picture_model.specs.Programs.{Stands, begin_by, body, closing, closing_begin, compiled, data_code, field_instrs, field_words, line_instrs, lines_instrs, next_by, opening, picture_strips, section, section_begin, section_length, section_next, sections, sections_by, sections_words, vbi_from, vbi_instrs, vbi_strips, vbi_words, vertical, words_of}
+use Rattle.picture_model.specs.Programs.{Stands, begin_by, body, closing, closing_begin, compiled, data_code, field_instrs, field_words, line_instrs, lines_instrs, next_by, opening, picture_strips}
+use Rattle.picture_model.specs.Programs.{section, section_begin, section_length, section_next, sections, sections_by, sections_words, vbi_from, vbi_instrs, vbi_strips, vbi_words, vertical, words_of}
 use Rattle.picture_model.proofs.Circle.{IsAt, IsFineInstr, IsPlain, Lead, circle_sound, lead_plain, split_length, words_split}
 use Rattle.picture_model.proofs.Each.{Each, each_append, each_flat_map, each_map, each_only, each_range, each_replicate}
 use Rattle.picture_model.proofs.FaultlessLines.{AreWords, IsGoodInstr, good_line, good_sync}

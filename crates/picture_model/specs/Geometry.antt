@@ -7,7 +7,8 @@ use Rattle.page_table.specs.Taken.{first_shared, is_aligned, is_page_address, li
 use Rattle.machine_model.specs.Paths.{shares_byte}
 use Rattle.capture_desc.specs.declared.desc.Desc.{Desc}
 use Rattle.picture_model.specs.declared.BuildFault.{BuildFault}
-use Rattle.picture_model.specs.declared.BuildFault.TheVariants.{WidthRange, HeightRange, WidthOffUnit, OddHeight, TooNarrow, StrideShort, OffUnit, Overlap, VbiRange, PageUnaligned, PageTwice, TooFewPages, TooFewBytes, ProgramBase, ProgramOnPage}
+use Rattle.picture_model.specs.declared.BuildFault.TheVariants.{WidthRange, HeightRange, WidthOffUnit, OddHeight, TooNarrow, StrideShort, OffUnit, Overlap, VbiRange, PageUnaligned, PageTwice}
+use Rattle.picture_model.specs.declared.BuildFault.TheVariants.{TooFewPages, TooFewBytes, ProgramBase, ProgramOnPage}
 use Rattle.picture_model.specs.Described.{Extent, both, layout_of, memory_of, planes, plane_row_bytes, stride, offset, taken, highest_end}
 use Rattle.picture_model.specs.Plans.{max_piece}
 use Rattle.picture_model.specs.Programs.{compiled}

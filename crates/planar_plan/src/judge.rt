@@ -5,7 +5,8 @@ ghost use Rattle.std.specs.List.{list_any};
 ghost use Rattle.std.specs.Result.{result_err};
 ghost use Rattle.picture_model.specs.Described.{highest_end, layout_of, offset, plane_row_bytes, planes, stride, vbi_size};
 ghost use Rattle.capture_desc.specs.WellFormed.{IsWellFormed};
-ghost use Rattle.picture_model.specs.Geometry.{first_after, height_range, max_height, max_width, min_line_bytes, odd_height, off_unit, overlaps, size_faults, some_overlap, stride_short, too_narrow, vbi_range, when, width_off_unit, width_range};
+ghost use Rattle.picture_model.specs.Geometry.{first_after, height_range, max_height, max_width, min_line_bytes, odd_height, off_unit, overlaps, size_faults, some_overlap, stride_short, too_narrow};
+ghost use Rattle.picture_model.specs.Geometry.{vbi_range, when, width_off_unit, width_range};
 ghost use Rattle.planar_plan.specs.Sizes.{IsPlane, IsSized};
 ghost use Rattle.planar_plan.specs.declared.judge.BuildError.TheVariants.{Bad, Memory};
 

@@ -3,7 +3,8 @@
 
 ghost use Rattle.std.specs.Prelude.{◌≡◌, ℕ, ◌+◌, ◌^◌, ◌≤◌, length, unwrap_or, IfOk, IfSome};
 ghost use Rattle.pixel_layout.specs.Layouts.{layout};
-ghost use Rattle.picture_model.specs.Described.{default_offset, describes, extent, extents, field_height, given_or, highest_end, is_both, offset, plane_bytes, plane_row_bytes, plane_rows, stride, taken, vbi_area, vbi_begin, vbi_offset, vbi_size};
+ghost use Rattle.picture_model.specs.Described.{default_offset, describes, extent, extents, field_height, given_or, highest_end, is_both, offset, plane_bytes, plane_row_bytes, plane_rows, stride};
+ghost use Rattle.picture_model.specs.Described.{taken, vbi_area, vbi_begin, vbi_offset, vbi_size};
 ghost use Rattle.planar_plan.specs.Sizes.{IsPlane, IsSized};
 
 use capture_desc::{Desc, Fields, Numbers};

@@ -10,7 +10,8 @@ use Rattle.capture_file.specs.declared.FileKind.{FileKind}
 use Rattle.capture_file.specs.declared.FileKind.TheVariants as fault
 use Rattle.capture_file.specs.declared.program.Layout.{Layout}
 use Rattle.capture_file.specs.declared.program.Layout.TheVariants.{Paged, Chunked}
-use Rattle.capture_file.specs.Programs.{Field, ◌>>=◌, cut, judged, number_field, layout_field, layout_of, layout_or_magic, base_field, base_fault, word_count_field, word_count_fault, words_in, words_field, chunk_count_field, chunk_count_fault, page_field, page_fault, long_chunk_field, address_fault, length_fault, is_length, chunk_field, chunks_field}
+use Rattle.capture_file.specs.Programs.{Field, ◌>>=◌, cut, judged, number_field, layout_field, layout_of, layout_or_magic, base_field, base_fault, word_count_field, word_count_fault, words_in}
+use Rattle.capture_file.specs.Programs.{words_field, chunk_count_field, chunk_count_fault, page_field, page_fault, long_chunk_field, address_fault, length_fault, is_length, chunk_field, chunks_field}
 use Rattle.capture_file.proofs.FourBytes.{number_low}
 use Rattle.program_law.specs.Beginnings.{IsWhole, field_width, has_good_beginning}
 use Rattle.program_law.proofs.Judging.{Reader, FieldGoes, Inside, IsField, field_then}

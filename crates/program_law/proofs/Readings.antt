@@ -13,7 +13,8 @@ use Rattle.capture_file.specs.declared.FileFault.{FileFault}
 use Rattle.capture_file.specs.declared.program.Layout.{Layout}
 use Rattle.capture_file.specs.declared.program.Layout.TheVariants.{Paged, Chunked}
 use Rattle.capture_file.specs.declared.program.ProgramFile.{ProgramFile}
-use Rattle.capture_file.specs.Programs.{Field, ◌>>=◌, cut, wrong, judged, layout_field, name_of, base_field, base_fault, word_count_field, word_count_fault, words_field, chunk_count_field, chunks_field, fill_fault, fill_field, without_grants, chunk_in}
+use Rattle.capture_file.specs.Programs.{Field, ◌>>=◌, cut, wrong, judged, layout_field, name_of, base_field, base_fault, word_count_field, word_count_fault, words_field, chunk_count_field}
+use Rattle.capture_file.specs.Programs.{chunks_field, fill_fault, fill_field, without_grants, chunk_in}
 use Rattle.capture_file.proofs.Chunks.{IsBytes, some_fault}
 use Rattle.capture_file.proofs.Spelled.{layout_again, base_again, word_count_again, chunk_count_again, chunks_again, words_field_again, with_layout, with_base, with_count, with_words, with_chunk_count, with_chunks}
 use Rattle.program_law.specs.Beginnings.{IsWhole, field_width, has_good_beginning}

@@ -1,5 +1,6 @@
 -- What the law says of a ring run, whether its last lines came whole or not.
-use Rattle.std.proofs.Common.{All, List, Option, Some, [], append-nil, append_assoc, arith, drop, false, if◌then◌else◌, length, length-append, length-take, refl, subst, suc, take, take-take, zero, ℕ, ◌%◌, ◌*◌, ◌++◌, ◌+◌, ◌-◌, ◌<◌, ◌==◌, ◌∙◌, ◌∷◌, ◌≡◌, ◌≤◌, ap, ⊎_elim, sym}
+use Rattle.std.proofs.Common.{All, List, Option, Some, [], append-nil, append_assoc, arith, drop, false, if◌then◌else◌, length, length-append, length-take, refl, subst, suc, take, take-take, zero, ℕ}
+use Rattle.std.proofs.Common.{◌%◌, ◌*◌, ◌++◌, ◌+◌, ◌-◌, ◌<◌, ◌==◌, ◌∙◌, ◌∷◌, ◌≡◌, ◌≤◌, ap, ⊎_elim, sym}
 use Rattle.std.proofs.lemmas.List.Elements.{All-take}
 use Rattle.std.proofs.lemmas.Bool.{cases_lt}
 use Rattle.std.proofs.lemmas.List.{drop-take}

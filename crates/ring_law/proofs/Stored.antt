@@ -1,5 +1,6 @@
 -- Memory after the stores of block ends.
-use Rattle.std.proofs.Common.{All, Bool, List, Option, Some, [], append_assoc, arith, drop, eq-eqb, false, length, length-append, length-drop, length-take, ne_eqb, refl, slice_index_or, suc, sym, take, true, zero, ℕ, ◌%◌, ◌*◌, ◌++◌, ◌+◌, ◌-◌, ◌/◌, ◌<◌, ◌==◌, ◌∙◌, ◌∷◌, ◌≡◌, ◌≤◌, ap, slice_index, append-nil, ⊎_elim, drop-drop}
+use Rattle.std.proofs.Common.{All, Bool, List, Option, Some, [], append_assoc, arith, drop, eq-eqb, false, length, length-append, length-drop, length-take, ne_eqb, refl, slice_index_or, suc, sym}
+use Rattle.std.proofs.Common.{take, true, zero, ℕ, ◌%◌, ◌*◌, ◌++◌, ◌+◌, ◌-◌, ◌/◌, ◌<◌, ◌==◌, ◌∙◌, ◌∷◌, ◌≡◌, ◌≤◌, ap, slice_index, append-nil, ⊎_elim, drop-drop}
 use Rattle.std.proofs.lemmas.List.Elements.{All-drop, All-head, All-tail, All-take}
 use Rattle.std.proofs.lemmas.Bool.{cases_eq, cases_lt, cond-false, cond-true, or_from}
 use Rattle.std.proofs.lemmas.Nat.{div-add-mod', mod-mul-add, mul-le}

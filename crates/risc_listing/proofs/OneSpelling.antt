@@ -9,7 +9,8 @@ use Rattle.std.proofs.Math.Bool.{and-true}
 use Rattle.bit_field.specs.Bits.{bits}
 use Rattle.risc_word.specs.declared.Code.{Code}
 use Rattle.risc_word.specs.declared.Instr.{Instr}
-use Rattle.risc_word.specs.Words.{Reading, by_opcode, code_number, code_numbered, control_bits, counts_word, data_word, encoded, first_count, first_instr, flag, head_word, instr_at, jump_at, lanes_off, line_ends, skip_123_at, skip_at, sync_at, sync_for, sync_word, write_123_at, write_1_s_23_at, write_at, write_c_at}
+use Rattle.risc_word.specs.Words.{Reading, by_opcode, code_number, code_numbered, control_bits, counts_word, data_word, encoded, first_count, first_instr, flag, head_word, instr_at, jump_at}
+use Rattle.risc_word.specs.Words.{lanes_off, line_ends, skip_123_at, skip_at, sync_at, sync_for, sync_word, write_123_at, write_1_s_23_at, write_at, write_c_at}
 use Rattle.risc_listing.specs.Listings.{if_spelled, spelled}
 use Rattle.risc_listing.specs.Unnamed.{TellsPlain, are_unnamed_zero, are_unnamed_zero_in_counts, are_unnamed_zero_in_data, are_unnamed_zero_in_jump, are_unnamed_zero_in_skip, are_unnamed_zero_in_sync}
 

@@ -18,12 +18,15 @@ use Rattle.risc_text.specs.declared.Line.{Line}
 use Rattle.risc_text.specs.declared.Line.TheVariants as lines
 use Rattle.risc_text.specs.declared.Name.{Name}
 use Rattle.risc_text.specs.declared.Name.TheVariants as names
-use Rattle.risc_text.specs.Readers.{Read, after, address, any_line, named_line, base_line, chunk_line, fill_line, decimal_digits, page_line, code, control, count, data_fields, fields_of, flag, as_line, jump_fields, line_at, name_at, skip_name, write_name, skip_123_fields, skip_fields, sync_fields, three_addresses, three_counts, word_field, words_line, write_123_fields, write_1_s_23_fields, write_c_fields, write_fields, ◌>>=◌}
+use Rattle.risc_text.specs.Readers.{Read, after, address, any_line, named_line, base_line, chunk_line, fill_line, decimal_digits, page_line, code, control, count, data_fields, fields_of, flag}
+use Rattle.risc_text.specs.Readers.{as_line, jump_fields, line_at, name_at, skip_name, write_name, skip_123_fields, skip_fields, sync_fields, three_addresses, three_counts, word_field, words_line}
+use Rattle.risc_text.specs.Readers.{write_123_fields, write_1_s_23_fields, write_c_fields, write_fields, ◌>>=◌}
 use Rattle.page_table.specs.Grants.{Chunk, is_page}
 use Rattle.risc_listing.specs.Listings as listings
 use Rattle.risc_listing.proofs.Hexadecimal.{address_digits}
 use Rattle.risc_text.proofs.Digits.{byte_back, glyph-large, number_back}
-use Rattle.risc_text.proofs.Fields.{NoData, Spaced, address_is_no_field, addresses_back, addresses_grouped, addresses_then, at_back, control_back, control_grouped, control_then, count_back, count_is_no_field, counts_back, counts_grouped, counts_then, data_back, data_grouped, data_spaced, data_then, flag_back, control_not}
+use Rattle.risc_text.proofs.Fields.{NoData, Spaced, address_is_no_field, addresses_back, addresses_grouped, addresses_then, at_back, control_back, control_grouped, control_then, count_back}
+use Rattle.risc_text.proofs.Fields.{count_is_no_field, counts_back, counts_grouped, counts_then, data_back, data_grouped, data_spaced, data_then, flag_back, control_not}
 
 abbrev Data : Type 0
 Data = Ctl × Ends × ℕ

@@ -8,7 +8,8 @@ use Rattle.std.proofs.lemmas.Result.{MatchResult-weaker, MatchResult-at_ok}
 use Rattle.bit_field.specs.Bits.{bits}
 use Rattle.risc_word.specs.declared.Code.{Code}
 use Rattle.risc_word.specs.declared.Instr.{Instr}
-use Rattle.risc_word.specs.Words.{Reading, by_opcode, code_numbered, control_bits, control_fits, counts_fit, encoded, first_instr, instr_at, jump_at, lanes_off, opcode_length, skip_123_at, skip_at, sync_at, sync_for, three_counts, write_123_at, write_1_s_23_at, write_at, write_c_at, IsInstr}
+use Rattle.risc_word.specs.Words.{Reading, by_opcode, code_numbered, control_bits, control_fits, counts_fit, encoded, first_instr, instr_at, jump_at, lanes_off, opcode_length, skip_123_at, skip_at}
+use Rattle.risc_word.specs.Words.{sync_at, sync_for, three_counts, write_123_at, write_1_s_23_at, write_at, write_c_at, IsInstr}
 
 -- what is known of an instruction that was read at a first word, by its opcode and the words after it
 pub record Known (opcode : ℕ) (rest : List ℕ) (instr : Instr) (number : ℕ) : Type 0 where

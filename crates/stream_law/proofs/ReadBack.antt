@@ -20,7 +20,8 @@ use Rattle.capture_file.specs.declared.records.Form.{Form}
 use Rattle.capture_file.specs.declared.records.Form.TheVariants.{Bfs1, Bfs2, Bfs3}
 use Rattle.capture_file.specs.declared.records.Found.{Found}
 use Rattle.capture_file.specs.declared.records.Found.TheVariants.{Whole}
-use Rattle.capture_file.specs.Streams.{Ended, Reading, data_with, is_buffer, is_data, judged, most_turns, number_at, push_if, reading, record_at, records, slot_if, steps_of, stream_of, trigger_if, turns_if, turns_of, whole_file, with_step, ack_with, turns_with, buffer_if}
+use Rattle.capture_file.specs.Streams.{Ended, Reading, data_with, is_buffer, is_data, judged, most_turns, number_at, push_if, reading, record_at, records, slot_if, steps_of, stream_of, trigger_if}
+use Rattle.capture_file.specs.Streams.{turns_if, turns_of, whole_file, with_step, ack_with, turns_with, buffer_if}
 use Rattle.capture_file.proofs.Readings.{front_of, records-front}
 use Rattle.capture_file.proofs.Answered.{not-over}
 use Rattle.stream_law.specs.Spellings.{AreRecords, IsRecord, first_steps, is_chained, record_bytes, spelled, turns_in}

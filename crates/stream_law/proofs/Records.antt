@@ -20,7 +20,9 @@ use Rattle.capture_file.specs.declared.records.RecordKind.TheVariants as kind
 use Rattle.capture_file.specs.declared.records.Found.{Found}
 use Rattle.capture_file.specs.declared.records.Found.TheVariants.{Cut, Wrong, Last, Whole}
 use Rattle.capture_file.specs.Records.{Spans}
-use Rattle.capture_file.specs.Streams.{Ending, Unfinished, Ended, Bad, Reading, ack_with, after_end, buffer_if, control_at, control_with, data_with, enable_at, enable_if, fields_at, is_buffer, is_data, kind_of_tag, most_turns, number_at, patch_at, patch_in, push_at, push_if, record_at, records, slot_if, trigger_at, trigger_if, trigger_in, turns_if, turns_of, turns_with}
+use Rattle.capture_file.specs.Streams.{Ending, Unfinished, Ended, Bad, Reading, ack_with, after_end, buffer_if, control_at, control_with, data_with, enable_at, enable_if, fields_at, is_buffer}
+use Rattle.capture_file.specs.Streams.{is_data, kind_of_tag, most_turns, number_at, patch_at, patch_in, push_at, push_if, record_at, records, slot_if, trigger_at, trigger_if, trigger_in, turns_if}
+use Rattle.capture_file.specs.Streams.{turns_of, turns_with}
 use Rattle.capture_file.proofs.Chunks.{IsBytes, IsBytes-drop}
 use Rattle.capture_file.proofs.Fields.{record_at-spans}
 use Rattle.capture_file.proofs.Readings.{front_of, records-front}

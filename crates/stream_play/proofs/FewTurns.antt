@@ -12,7 +12,9 @@ use Rattle.capture_file.specs.declared.records.RecordKind.{RecordKind}
 use Rattle.capture_file.specs.declared.records.RecordKind.TheVariants as kind
 use Rattle.capture_file.specs.declared.records.Found.{Found}
 use Rattle.capture_file.specs.declared.records.Found.TheVariants.{Cut, Wrong, Last, Whole}
-use Rattle.capture_file.specs.Streams.{Reading, reading, with_step, Unfinished, Bad, after_end, ack_with, buffer_if, control_with, data_with, enable_if, fault_at, fields_at, form_of, is_buffer, is_data, judged, kind_of_tag, most_turns, number_at, opened, opened_by, patch_at, push_at, push_if, record_at, records, slot_if, steps_of, stream_of, trigger_if, turns_if, turns_of, turns_with, within_if}
+use Rattle.capture_file.specs.Streams.{Reading, reading, with_step, Unfinished, Bad, after_end, ack_with, buffer_if, control_with, data_with, enable_if, fault_at, fields_at, form_of, is_buffer}
+use Rattle.capture_file.specs.Streams.{is_data, judged, kind_of_tag, most_turns, number_at, opened, opened_by, patch_at, push_at, push_if, record_at, records, slot_if, steps_of, stream_of, trigger_if}
+use Rattle.capture_file.specs.Streams.{turns_if, turns_of, turns_with, within_if}
 use Rattle.stream_play.specs.Runs.{turns_in}
 use Rattle.stream_play.proofs.Fitting.{whole_steps}
 

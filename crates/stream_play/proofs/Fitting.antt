@@ -13,7 +13,8 @@ use Rattle.capture_file.specs.declared.records.Form.TheVariants.{Bfs1, Bfs2, Bfs
 use Rattle.capture_file.specs.declared.records.Found.{Found}
 use Rattle.capture_file.specs.declared.records.Found.TheVariants.{Cut, Wrong, Last, Whole}
 use Rattle.capture_file.specs.Records.{StepFits, FoundFits}
-use Rattle.capture_file.specs.Streams.{Reading, reading, with_step, Ending, Unfinished, Ended, Bad, after_end, fault_at, first_trigger, turns_of, atomic, steps_run, record_at, records, opened, opened_by, judged, within_if, stream_of, form_of, number_at, whole_file, steps_of}
+use Rattle.capture_file.specs.Streams.{Reading, reading, with_step, Ending, Unfinished, Ended, Bad, after_end, fault_at, first_trigger, turns_of, atomic, steps_run, record_at, records, opened}
+use Rattle.capture_file.specs.Streams.{opened_by, judged, within_if, stream_of, form_of, number_at, whole_file, steps_of}
 use Rattle.capture_file.proofs.Fields.{record_at-fits}
 use Rattle.stream_play.specs.Plays.{longest_stream}
 

@@ -12,7 +12,8 @@ use Rattle.capture_file.specs.declared.records.Found.{Found}
 use Rattle.capture_file.specs.declared.records.Found.TheVariants.{Cut, Wrong, Last, Whole}
 use Rattle.capture_file.specs.declared.records.RecordKind.{RecordKind}
 use Rattle.capture_file.specs.declared.records.RecordKind.TheVariants as kind
-use Rattle.capture_file.specs.Streams.{ack_with, buffer_if, control_with, data_with, enable_if, fields_at, form_of, is_buffer, is_data, kind_of_tag, number_at, patch_at, patch_in, push_at, push_if, record_at, slot_if, trigger_if, trigger_in, turns_if, turns_with}
+use Rattle.capture_file.specs.Streams.{ack_with, buffer_if, control_with, data_with, enable_if, fields_at, form_of, is_buffer, is_data, kind_of_tag, number_at, patch_at, patch_in, push_at, push_if}
+use Rattle.capture_file.specs.Streams.{record_at, slot_if, trigger_if, trigger_in, turns_if, turns_with}
 use Rattle.capture_file.specs.Readers.{Closed, Failed, Opening, Phase, Reader, Records, Taken, begun, behind_word, closed_taken, form_taken, found_taken, record_taken, room, taken, taken_in, taking, unfinished_if, word_taken}
 use Rattle.stream_play.specs.Plays.{IsFormOf, IsPhaseOf, MayGive, MayStand, ReadsForm}
 

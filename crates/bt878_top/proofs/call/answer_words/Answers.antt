@@ -2,7 +2,10 @@ use Rattle.std.proofs.Common.{◌∙◌, ap, map, sym, subst, Bor, List, ℕ, Ok
 use Rattle.bt878_words.proofs.Asked.{asked, few_frames}
 use Rattle.bt878_words.specs.declared.Command.TheVariants as command
 use Rattle.bt878_contract.specs.Tasks.{Answers}
-use Rattle.bt878_top.proofs.Asking.{assemble_program_allowed, assemble_task, assemble_text_allowed, damage_desc_allowed, damage_stream_allowed, damage_task, chain_first_allowed, chain_image_allowed, chain_second_allowed, chain_stream_allowed, chain_task, capture_image_allowed, capture_program_allowed, capture_source_allowed, capture_stream_allowed, capture_task, compile_desc_allowed, compile_program_allowed, compile_task, list_allowed, list_task, make_desc_allowed, make_stream_allowed, make_task, ring_task, run_image_allowed, run_program_allowed, run_stream_allowed, run_task, verify_allowed, verify_task}
+use Rattle.bt878_top.proofs.Asking.{assemble_program_allowed, assemble_task, assemble_text_allowed, damage_desc_allowed, damage_stream_allowed, damage_task, chain_first_allowed, chain_image_allowed}
+use Rattle.bt878_top.proofs.Asking.{chain_second_allowed, chain_stream_allowed, chain_task, capture_image_allowed, capture_program_allowed, capture_source_allowed, capture_stream_allowed}
+use Rattle.bt878_top.proofs.Asking.{capture_task, compile_desc_allowed, compile_program_allowed, compile_task, list_allowed, list_task, make_desc_allowed, make_stream_allowed, make_task, ring_task}
+use Rattle.bt878_top.proofs.Asking.{run_image_allowed, run_program_allowed, run_stream_allowed, run_task, verify_allowed, verify_task}
 use Rattle.bt878_top.proofs.call.answer_words.Goals as goal
 
 abbrev text : Bor (List ℕ) → List ℕ

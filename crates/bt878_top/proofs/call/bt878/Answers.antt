@@ -8,7 +8,9 @@ use Rattle.bt878_contract.specs.Rings.{RingsShowNoFault, ShowsRings}
 use Rattle.bt878_contract.proofs.Rings.{no_fault_in_rings, rings_shown}
 use Rattle.machine_model.specs.States.{first_state}
 use Rattle.chain_law.specs.Runs.{LiveRunShowsNoFault, LiveRunShowsPictures, LiveRunStaysInside}
-use Rattle.bt878_contract.proofs.Consequences.{bad_input_comes, bad_input_must, completes, done_assemble, done_capture, done_captured, done_chain, done_compile, done_counts, done_damage, done_inside, done_list, done_live, done_make, done_ring, done_run, done_sound, done_verify, ends_at_fault, in_order, names_kept, others_untouched, read_fault_comes, refused_only_says, usage_comes, write_fault_comes, write_fault_stands}
+use Rattle.bt878_contract.proofs.Consequences.{bad_input_comes, bad_input_must, completes, done_assemble, done_capture, done_captured, done_chain, done_compile, done_counts, done_damage, done_inside}
+use Rattle.bt878_contract.proofs.Consequences.{done_list, done_live, done_make, done_ring, done_run, done_sound, done_verify, ends_at_fault, in_order, names_kept, others_untouched, read_fault_comes}
+use Rattle.bt878_contract.proofs.Consequences.{refused_only_says, usage_comes, write_fault_comes, write_fault_stands}
 use Rattle.bt878_top.proofs.call.bt878.Goals as goal
 
 abbrev text : Bor (List ℕ) → List ℕ
