@@ -145,8 +145,8 @@ pub fn bt878<D: Desk>(alloc: Global, words: &[&str], desk: &mut D) -> Answer
         OfRan (task_of (texts words.now)) (D.seen desk.old).told.inputs (OfSteps HasArrivedRows) }
 
     // At Done of these four, for every valid description whose program is the one that ran, every field of it and
-    // every signal of the field, whatever came before: right after the signal each byte of a row that is whole stands
-    // at its place, where it has one, and is that byte of the line that the row's instructions took.
+    // every signal of the field, whatever came before: right after the signal each byte of a row that is whole and
+    // isn't clipped stands at its place, where it has one, and is that byte of the line that the row's instructions took.
     ensures whole_rows { (result ≡ Answer.Done) →
         OfRan (task_of (texts words.now)) (D.seen desk.old).told.inputs (OfSteps HoldsWholeRows) }
 

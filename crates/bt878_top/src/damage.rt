@@ -11,13 +11,13 @@ ghost use Rattle.command_steps.specs.Reading.{OnlyReads, ReadsThrough, Takes};
 ghost use Rattle.damage_map.specs.Laws.{map_after};
 ghost use Rattle.damage_map.specs.Maps.{rows_of};
 ghost use Rattle.damage_text.specs.Texts.{damage_text};
-ghost use Rattle.picture_model.specs.Programs.{compiled};
 ghost use Rattle.stream_play.specs.Plays.{longest_stream};
 ghost use Rattle.stream_play.specs.Runs.{HasPlayedMap, HoldsNoFault, IsBadStream, a_stream};
 
 use crate::contents::Contents;
+use crate::runs::accept_sound;
 use capture_desk::Desk;
-use command_inputs::{check_file, verify_program};
+use command_inputs::check_file;
 use command_steps::{Output, finish, refuse};
 use command_texts::{Answer, Refusal};
 use damage_map::Mapped;
@@ -25,26 +25,14 @@ use damage_text::damage_text;
 use page_ram::PageRam;
 use pixel_layout::Parity;
 use program_build::{Checked, build};
-use risc_verify::{Accepted, Why};
 use std::alloc::{AllocError, Global};
 use stream_play::{machine_of, play_file};
-
-/// The program of a checked description, as the machine takes it: verified as any other is, and sound.
-fn accepted(alloc: Global, checked: &Checked) -> Result<Accepted, AllocError>
-    ensures { IfOk result (λ accepted. accepted ≡ compiled checked.now) }
-{
-    match verify_program(alloc, build(alloc, checked)?) {
-        Ok(accepted) => Ok(accepted),
-        Err(Why::Bad { .. }) => unreachable!(),
-        Err(Why::Memory) => Err(AllocError),
-    }
-}
 
 /// The machine of a description before its first step; nothing is told of its rows yet.
 fn map_of(alloc: Global, checked: &Checked) -> Result<Mapped<PageRam>, AllocError>
     ensures { IfOk result (λ map. map ≡ map_after checked.now checked.now.fill []) }
 {
-    let accepted = accepted(alloc, checked)?;
+    let accepted = accept_sound(alloc, build(alloc, checked)?)?;
     let machine = machine_of(alloc, accepted, checked.fill())?;
     Mapped::new(alloc, machine, checked)
 }

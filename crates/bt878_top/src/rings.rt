@@ -16,14 +16,14 @@ ghost use Rattle.stream_play.specs.Plays.{longest_stream};
 ghost use Rattle.stream_play.specs.Runs.{HasPlayedRing, HoldsNoFault, IsBadStream, a_stream};
 
 use crate::contents::Contents;
+use crate::runs::accept_sound;
 use capture_desk::Desk;
-use command_inputs::{ring_file, verify_program};
+use command_inputs::ring_file;
 use command_steps::{Output, finish, refuse};
 use command_texts::{Answer, Refusal, blocks_text};
 use page_ram::PageRam;
 use ring_compile::{Ring, compile_ring};
 use ring_machine::RingMachine;
-use risc_verify::{Accepted, Why};
 use std::alloc::{AllocError, Global};
 use stream_play::{machine_of, play_file};
 
@@ -34,22 +34,11 @@ struct PlayedRing {
     text: String,
 }
 
-/// The program of a ring, as the machine takes it: verified as any other is, and sound.
-fn accepted_ring(alloc: Global, ring: &Ring) -> Result<Accepted, AllocError>
-    ensures { IfOk result (λ accepted. accepted ≡ ring_program ring.now) }
-{
-    match verify_program(alloc, compile_ring(alloc, ring)?) {
-        Ok(accepted) => Ok(accepted),
-        Err(Why::Bad { .. }) => unreachable!(),
-        Err(Why::Memory) => Err(AllocError),
-    }
-}
-
 /// The machine of a ring before its first step.
 fn machine_of_ring(alloc: Global, ring: Ring) -> Result<RingMachine<PageRam>, AllocError>
     ensures { IfOk result (λ m. m ≡ record { ring = ring; machine = first_state (ring_program ring) ring.fill; blocks = 0 }) }
 {
-    let accepted = accepted_ring(alloc, &ring)?;
+    let accepted = accept_sound(alloc, compile_ring(alloc, &ring)?)?;
     let machine = machine_of(alloc, accepted, ring.fill())?;
     Ok(RingMachine::new(machine, ring))
 }

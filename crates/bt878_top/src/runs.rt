@@ -7,6 +7,7 @@ ghost use Rattle.command_inputs.specs.Programs.{GivesSound, a_sound_program};
 ghost use Rattle.command_steps.specs.Reading.{Takes};
 ghost use Rattle.command_texts.specs.Texts.{report_text};
 ghost use Rattle.dma_machine.specs.Facts.{report_of};
+ghost use Rattle.machine_model.specs.Paths.{IsSound};
 ghost use Rattle.picture_model.specs.Programs.{compiled};
 ghost use Rattle.program_build.specs.Checks.{IsChecked};
 ghost use Rattle.stream_play.specs.Runs.{OfRun, a_stream, last_of};
@@ -15,7 +16,7 @@ use capture_desk::Desk;
 use command_inputs::{Loaded, accept, check_file, verify_program};
 use command_texts::Refusal;
 use program_build::Checked;
-use risc_verify::{Accepted, Why};
+use risc_verify::{Accepted, Program, Why};
 use std::alloc::{AllocError, Global};
 use stream_play::{Played, play_program};
 
@@ -39,16 +40,23 @@ pub fn run_program<D: Desk>(
     }
 }
 
-/// The program that a checked description asks for, as the machine takes it: verified as any other is, and
-/// sound.
-fn accepted_program(alloc: Global, checked: Checked) -> Result<Accepted, AllocError>
-    ensures { IfOk result (λ accepted. accepted ≡ compiled checked) }
+/// A program that is surely sound, as the machine takes it: verified as any other is.
+pub fn accept_sound(alloc: Global, program: Program) -> Result<Accepted, AllocError>
+    requires { IsSound program }
+    ensures { IfOk result (λ accepted. accepted ≡ program) }
 {
-    match verify_program(alloc, checked.into_program(alloc)?) {
+    match verify_program(alloc, program) {
         Ok(accepted) => Ok(accepted),
         Err(Why::Bad { .. }) => unreachable!(),
         Err(Why::Memory) => Err(AllocError),
     }
+}
+
+/// The program that a checked description asks for, as the machine takes it.
+fn accepted_program(alloc: Global, checked: Checked) -> Result<Accepted, AllocError>
+    ensures { IfOk result (λ accepted. accepted ≡ compiled checked) }
+{
+    accept_sound(alloc, checked.into_program(alloc)?)
 }
 
 /// Runs the program of a description file over a stream file.

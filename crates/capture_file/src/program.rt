@@ -15,7 +15,9 @@ use super::records::number;
 use super::{FileFault, FileKind};
 use byteorder::{ByteOrder, LittleEndian};
 use machine_model::MAX_WORDS;
-use page_table::{MAX_BYTES, MAX_CHUNKS, PAGE_SIZE, PageFault, PageSet, is_met, is_page};
+use page_table::{
+    ADDRESSES, MAX_BYTES, MAX_CHUNKS, PAGE_SIZE, PageFault, PageSet, is_met, is_page,
+};
 use risc_verify::Program;
 use std::alloc::{AllocError, AllocFailed, Global};
 
@@ -66,8 +68,6 @@ pub enum Layout {
     /// Some chunk isn't: `BRP2`, `BMI2`.
     Chunked,
 }
-
-const ADDRESSES: u64 = 0x1_0000_0000;
 
 const BRP1: u32 = 0x3150_5242;
 

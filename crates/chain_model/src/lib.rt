@@ -7,6 +7,10 @@ pub mod laws;
 
 use capture_desc::Numbers;
 
+/// The address at or below which a chain ends (this project's own limit): so the second word of a slot is no first word of
+/// an instruction.
+pub const CHAIN_LIMIT: u64 = 0x1000_0000;
+
 /// A part of a chain: the slot that may lead to it, counted from 0, and its words.
 #[derive(Drop)]
 pub struct PartWords {

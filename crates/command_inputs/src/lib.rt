@@ -1,4 +1,4 @@
-//! Inputs that are read whole and judged: program files, description files, and texts of listings.
+//! Inputs that are read and judged: program files, descriptions, one or the two of a chain, ring files, and texts of listings.
 #![tactic(auto)]
 
 mod chains;

@@ -11,12 +11,9 @@ use capture_desk::Desk;
 use capture_file::ProgramFile;
 use command_steps::{Keeps, read_pieces};
 use command_texts::Refusal;
-use risc_asm::{AsmError, Text};
+use risc_asm::{AsmError, MOST_BYTES, Text};
 use std::alloc::{AllocError, Global};
 use std::mem::replace;
-
-/// The most bytes of a text.
-const LONGEST_TEXT: usize = 67_108_864;
 
 // A text of which pieces are read.
 #[derive(Drop)]
@@ -45,7 +42,7 @@ fn read_text<D: Desk>(alloc: Global, name: &str, desk: &mut D) -> Result<Text, R
     let mut pieces = Pieces {
         text: Text::new(alloc),
     };
-    read_pieces(alloc, name, LONGEST_TEXT, desk, &mut pieces)?;
+    read_pieces(alloc, name, MOST_BYTES, desk, &mut pieces)?;
     Ok(pieces.text)
 }
 

@@ -5,7 +5,7 @@ ghost use Rattle.std.specs.Prelude.{◌≡◌, ◌<◌};
 use capture_desc::read_desc;
 use damage_map::Mapped;
 use dma_machine::Machine;
-use fifo_model::{CHROMA_CAPACITY, Fifo, LUMA_CAPACITY};
+use fifo_model::{CAPACITIES, Fifo};
 use page_ram::MapRam;
 use program_build::{Checked, build, check};
 use risc_verify::{Accepted, Steps, verify};
@@ -30,7 +30,7 @@ fn accepted<L: Ledger>(alloc: Global, checked: &Checked, blank: Blank) -> Result
 
 fn machine(alloc: Global, accepted: Accepted, fill: u8) -> Result<Machine<MapRam>, Fail> {
     let ram = MapRam::new(alloc, accepted.program().grants(), fill)?;
-    let fifo = Fifo::new(alloc, [LUMA_CAPACITY, CHROMA_CAPACITY, CHROMA_CAPACITY])?;
+    let fifo = Fifo::new(alloc, CAPACITIES)?;
     Ok(Machine::new(accepted, ram, fifo))
 }
 

@@ -39,7 +39,7 @@ pub record StandsAt (entries : List Entry) (x address : ℕ) (m : State) : Type 
   pub inside : x < length (carried entries)
   pub byte : byte_at m.memory address ≡ slice_index (carried entries) x
 
--- right after the signal each byte of a row that is whole stands at its place, where it has one
+-- right after the signal each byte of a row that is whole and isn't clipped stands at its place, where it has one
 abbrev pub WholeRowsStand : Type 0
 WholeRowsStand = (d : Desc) (field : Parity) (fill : ℕ) (steps : List Step) (j k : ℕ) → IsSignalSince d field fill steps j k → (q : Queue) (number x address : ℕ) →
     slice_index_or (marks d field (state_of d fill steps j) (between j k steps)) number false ≡ true → IsKeptAt d field (of_row q number x) address →

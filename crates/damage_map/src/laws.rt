@@ -21,8 +21,8 @@ pub fn arrived_rows_are_whole()
     ensures { ArrivedRowsAreWhole }
 {}
 
-/// Over every list of steps from the first state, right after a signal of a field: each byte of a row that is whole stands at
-/// its place, where it has one, and is that byte of the line that the row's instructions took from the plane's queue.
+/// Over every list of steps from the first state, right after a signal of a field: each byte of a row that is whole and isn't
+/// clipped stands at its place, where it has one, and is that byte of the line that the row's instructions took from the plane's queue.
 pub fn whole_rows_stand()
     ensures { WholeRowsStand }
 {}

@@ -8,6 +8,7 @@ ghost use Rattle.picture_model.specs.Described.{field_height, is_both, picture_r
 ghost use Rattle.damage_text.specs.Texts.{bad_line, bad_rows, by_field, damage_text, field_name, field_text, whole_text};
 
 use capture_desc::{Desc, Fields};
+use picture_model::field_height;
 use pixel_layout::Parity;
 use std::alloc::{AllocError, Global};
 use std::fmt::Write;
@@ -18,17 +19,6 @@ fn field_name(field: Parity) -> &'static str
     match field {
         Parity::Top => "top",
         Parity::Bottom => "bottom",
-    }
-}
-
-// The rows of a field: none where it isn't described.
-fn field_height(desc: &Desc, field: Parity) -> u32
-    ensures { result ≡ field_height desc.now field }
-{
-    match (desc.fields, field) {
-        (Fields::Both, _) => desc.height / 2,
-        (Fields::Top, Parity::Top) | (Fields::Bottom, Parity::Bottom) => desc.height,
-        (Fields::Top, Parity::Bottom) | (Fields::Bottom, Parity::Top) => 0,
     }
 }
 

@@ -28,8 +28,8 @@ pub struct Wait {
     pub code: Code,
 }
 
-/// The machine's parts, those that each turn asks for first: near the front they are reached by shorter instructions. `wait` means something while it waits, `instr`
-/// and `demands` while it runs.
+/// The machine's parts. Those that each turn asks for come first: near the front, shorter instructions reach them. `wait` means
+/// something while the machine waits, `instr` and `demands` while it runs.
 #[derive(Drop)]
 pub struct Engine<R> {
     pub phase: Phase,

@@ -8,7 +8,7 @@ use irq_status::{FBUS, HostWrite, IntStat};
 use machine_model::Skipping;
 use page_ram::Ram;
 use risc_verify::Accepted;
-use risc_word::{Code, Ctl, Instr};
+use risc_word::{Code, Instr, NO_CONTROL};
 
 impl<R: Ram> Engine<R> {
     ghost use Rattle.dma_machine.specs.Facts.{IsMachine, report_of};
@@ -157,12 +157,10 @@ impl<R: Ram> Engine<R> {
         ensures still { result.still ≡ false }
         ensures facts { IsMachine (state_of R.memory result) }
     {
-        let ctl = Ctl {
-            irq: false,
-            set: 0,
-            reset: 0,
+        let instr = Instr::Jump {
+            ctl: NO_CONTROL,
+            target: 0,
         };
-        let instr = Instr::Jump { ctl, target: 0 };
         let pc = u64::from(accepted.program().base());
         Engine {
             accepted,
@@ -177,7 +175,7 @@ impl<R: Ram> Engine<R> {
             target: None,
             phase: Phase::Idle,
             wait: Wait {
-                ctl,
+                ctl: NO_CONTROL,
                 resync: false,
                 code: Code::Vre,
             },

@@ -12,7 +12,7 @@ use crate::fragments::{SLOTS, fragments_of_two};
 use crate::memory::grants_of_both;
 use chain_model::ChainFault;
 use dma_machine::Report;
-use fifo_model::{CHROMA_CAPACITY, Entry, Fifo, LUMA_CAPACITY, Pushed, Queue};
+use fifo_model::{CAPACITIES, Entry, Fifo, Pushed, Queue};
 use irq_status::HostWrite;
 use page_ram::{PageRam, Ram};
 use planar_plan::Frame;
@@ -90,7 +90,7 @@ fn made_over<L: Ledger>(
     let grants = grants_of_both(alloc, first, second)?;
     let parts = fragments_of_two(alloc, first, second)?;
     let ram = PageRam::new(alloc, &grants, first.desc().fill)?;
-    let fifo = Fifo::new(alloc, [LUMA_CAPACITY, CHROMA_CAPACITY, CHROMA_CAPACITY])?;
+    let fifo = Fifo::new(alloc, CAPACITIES)?;
     let mut steps = Steps::<L>::new(blank);
     match Chain::new(alloc, base, SLOTS, parts, grants, ram, fifo, &mut steps) {
         Ok(running) => Ok(DoubleBuffer { running }),
@@ -150,7 +150,7 @@ impl<R: Ram> DoubleBuffer<R> {
         self.running.turns(count);
     }
 
-    /// A write of the host to a register of the interrupts or of the trigger point.
+    /// A write of the host to a register.
     pub fn host(&mut self, write: HostWrite)
         requires { StepFits (Step.Host write) }
         ensures { self.new ≡ chain_act (Step.Host write) self.old }

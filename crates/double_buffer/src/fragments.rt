@@ -7,16 +7,13 @@ ghost use Rattle.double_buffer.specs.Fragments.{IsBeyond, IsLong};
 ghost use Rattle.double_buffer.specs.Pairs.{after_slot, fragment_of, fragments_of_two};
 
 use crate::faults::DoubleBufferError;
-use chain_model::ChainFault;
+use chain_model::{CHAIN_LIMIT, ChainFault};
 use planar_plan::Frame;
 use slot_chain::{PartWords, fragment};
 use std::alloc::Global;
 
 /// The slots of a double buffer.
 pub(crate) const SLOTS: u32 = 2;
-
-/// The address at or below which a chain ends (this project's own limit).
-const CHAIN_LIMIT: u64 = 0x1000_0000;
 
 /// The fragment of a frame for a slot, at an address behind the slots.
 fn fragment_at(

@@ -10,7 +10,7 @@ ghost use Rattle.risc_word.specs.Words.{encoded, fits};
 
 use clip_spans::Span;
 use planar_plan::{Piece, PieceKind, WholeRow};
-use risc_word::{Code, Ctl, Ends, Instr, encode};
+use risc_word::{Code, Ends, Instr, NO_CONTROL, encode};
 use std::alloc::AllocError;
 
 // The pieces whose words are appended at once.
@@ -19,12 +19,6 @@ const GROUP: usize = 64;
 // The most words of a row each span of which is one piece: five for each of at most 129 spans, since each of
 // at most 64 rectangles adds at most two of them.
 pub(crate) const ROW_WORDS: usize = 645;
-
-const NO_CONTROL: Ctl = Ctl {
-    irq: false,
-    set: 0,
-    reset: 0,
-};
 
 /// The SYNC that waits for a code and does nothing else. With `resync` what it passes over sets no FDSR
 /// (Bt878 data sheet, "SYNC").

@@ -21,6 +21,9 @@ pub const LUMA_CAPACITY: usize = 70;
 /// The room of queue 2, and of queue 3, in entries (Bt878 data sheet, "FIFO interface").
 pub const CHROMA_CAPACITY: usize = 35;
 
+/// The rooms of queues 1, 2 and 3.
+pub const CAPACITIES: [usize; 3] = [LUMA_CAPACITY, CHROMA_CAPACITY, CHROMA_CAPACITY];
+
 /// A queue of the FIFO: queue 1 takes packed data or luma, queues 2 and 3 chroma
 /// (Bt878 data sheet, "FIFO interface").
 #[derive(Clone, Copy, Debug, PartialEq, Eq)]

@@ -3,7 +3,7 @@
 ghost use Rattle.std.specs.Prelude.{◌≡◌, ◌<◌};
 
 use dma_machine::{Did, Machine, Report, Seen};
-use fifo_model::{CHROMA_CAPACITY, Entry, Fifo, LUMA_CAPACITY, Queue};
+use fifo_model::{CAPACITIES, Entry, Fifo, Queue};
 use irq_status::HostWrite;
 use page_ram::{MapRam, Ram};
 use page_table::PageSet;
@@ -63,7 +63,7 @@ fn accepted<L: Ledger>(alloc: Global, words: &[u32], blank: Blank) -> Result<Acc
 // Its machine, each byte of the page being `fill`.
 fn machine(alloc: Global, accepted: Accepted, fill: u8) -> Result<Machine<MapRam>, Fail> {
     let ram = MapRam::new(alloc, accepted.program().grants(), fill)?;
-    let fifo = Fifo::new(alloc, [LUMA_CAPACITY, CHROMA_CAPACITY, CHROMA_CAPACITY])?;
+    let fifo = Fifo::new(alloc, CAPACITIES)?;
     Ok(Machine::new(accepted, ram, fifo))
 }
 

@@ -2,7 +2,7 @@
 
 ghost use Rattle.std.specs.Prelude.{◌≡◌, ◌<◌, ◌≤◌};
 
-use fifo_model::{CHROMA_CAPACITY, Entry, Fifo, LUMA_CAPACITY, Pushed, Queue};
+use fifo_model::{CAPACITIES, Entry, Fifo, Pushed, Queue};
 use risc_word::Code;
 use sync_status::{Status, Verdict, judge};
 
@@ -32,11 +32,7 @@ fn next(fifo: &mut Fifo, rest: u16) -> Option<(u8, [u8; 4])>
 
 #[test]
 fn takes_lanes_in_order(rt: HostRuntime) {
-    let mut fifo = Fifo::new(
-        rt.alloc(),
-        [LUMA_CAPACITY, CHROMA_CAPACITY, CHROMA_CAPACITY],
-    )
-    .expect(&rt, "memory");
+    let mut fifo = Fifo::new(rt.alloc(), CAPACITIES).expect(&rt, "memory");
     assert_eq!(rt; fifo.push(Queue::One, data(0, 0x13121110)), Pushed::Held);
     assert_eq!(rt; fifo.push(Queue::One, data(13, 0xff161514)), Pushed::Held);
     assert_eq!(rt; next(&mut fifo, 3), Some((0, [0x10, 0x11, 0x12, 0xee])));

@@ -5,7 +5,7 @@ ghost use Rattle.chain_model.specs.Chains.{part_of};
 
 use capture_desc::{Numbers, read_desc};
 use dma_machine::Report;
-use fifo_model::{CHROMA_CAPACITY, Entry, Fifo, LUMA_CAPACITY, Queue};
+use fifo_model::{CAPACITIES, Entry, Fifo, Queue};
 use irq_status::HostWrite;
 use machine_model::Cause;
 use page_ram::{MapRam, Ram};
@@ -61,7 +61,7 @@ fn two_slots<L: Ledger>(alloc: Global, blank: Blank) -> Result<Chain<MapRam>, Fa
     parts.push(part_of(alloc, SECOND, 1, 0x1078, 0x1010)?)?;
     let grants = PageSet::from_list(alloc, &[0x20000, 0x30000])?;
     let ram = MapRam::new(alloc, &grants, 0)?;
-    let fifo = Fifo::new(alloc, [LUMA_CAPACITY, CHROMA_CAPACITY, CHROMA_CAPACITY])?;
+    let fifo = Fifo::new(alloc, CAPACITIES)?;
     let mut steps = Steps::<L>::new(blank);
     match Chain::new(alloc, 0x1000, 2, parts, grants, ram, fifo, &mut steps) {
         Ok(chain) => Ok(chain),
@@ -147,7 +147,7 @@ fn said<L: Ledger>(alloc: Global, words: &[u32], blank: Blank) -> Result<Option<
     })?;
     let grants = PageSet::from_list(alloc, &[0x20000])?;
     let ram = MapRam::new(alloc, &grants, 0)?;
-    let fifo = Fifo::new(alloc, [LUMA_CAPACITY, CHROMA_CAPACITY, CHROMA_CAPACITY])?;
+    let fifo = Fifo::new(alloc, CAPACITIES)?;
     let mut steps = Steps::<L>::new(blank);
     match Chain::new(alloc, 0x1000, 1, parts, grants, ram, fifo, &mut steps) {
         Ok(_chain) => Ok(None),

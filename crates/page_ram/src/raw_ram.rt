@@ -8,7 +8,7 @@ use crate::Ram;
 use crate::each::{ByteStore, store_each};
 use crate::raw_block::RawBlock;
 use crate::span::{Span, place_of};
-use page_table::PageSet;
+use page_table::{PAGE_SIZE, PageSet};
 use std::alloc::{AllocError, Global};
 use std::marker::Model;
 
@@ -39,7 +39,7 @@ impl Span for Extent {
 fn guess_of(addr: u32) -> usize
     ensures { result < 256 }
 {
-    (addr / 4096) as usize % GUESSES
+    (addr / PAGE_SIZE) as usize % GUESSES
 }
 
 // Where the byte at an address stands: the place of its chunk, looked for first at the place `near`, and its

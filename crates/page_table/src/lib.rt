@@ -25,6 +25,9 @@ pub const MAX_BYTES: u64 = 16_777_216;
 /// The bytes of a page.
 pub const PAGE_SIZE: u32 = 4096;
 
+/// The first number that is no address.
+pub const ADDRESSES: u64 = 0x1_0000_0000;
+
 /// Why a list makes no set of grants. A number is the place in the list, counted from 0, of the
 /// first entry at fault. The order of the faults and their limits are this project's own rule.
 #[derive(Clone, Copy, Debug, PartialEq)]
@@ -98,7 +101,7 @@ pub fn any_page_met(begin: u32, end: u64, pages: &[u32]) -> bool
 fn is_aligned(at: u32, len: u32) -> bool
     ensures { result ≡ is_aligned (chunk at len) }
 {
-    at % 4 == 0 && len % 4 == 0 && len > 0 && u64::from(at) + u64::from(len) <= 1 << 32
+    at % 4 == 0 && len % 4 == 0 && len > 0 && u64::from(at) + u64::from(len) <= ADDRESSES
 }
 
 fn total(chunks: &[(u32, u32)]) -> u64

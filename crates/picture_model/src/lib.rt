@@ -1,12 +1,14 @@
 //! The picture that a description asks for, apart from any code: its places in memory, its geometry, the
 //! plans of its lines and its program. The types that the definitions and the code share stand here, with
-//! the control codes of a field; the definitions stand in `specs/`.
+//! the rows and the control codes of a field; the definitions stand in `specs/`.
 #![tactic(auto)]
 
 mod codes;
+mod fields;
 pub mod laws;
 
 pub use codes::{data_code, vertical};
+pub use fields::{describes, field_height, is_both};
 use risc_word::Ends;
 
 /// The most pixels of a row (this project's own limit).

@@ -10,9 +10,11 @@ ghost use Rattle.picture_model.specs.Geometry.{vbi_range, when, width_off_unit, 
 ghost use Rattle.planar_plan.specs.Sizes.{IsPlane, IsSized};
 ghost use Rattle.planar_plan.specs.declared.judge.BuildError.TheVariants.{Bad, Memory};
 
-use crate::places::{Area, is_both, offset, plane_row_bytes, stride};
+use crate::places::{Area, offset, plane_row_bytes, stride};
 use capture_desc::Desc;
-use picture_model::{BuildFault, MAX_HEIGHT, MAX_PIECE, MAX_VBI_LINES, MAX_WIDTH, MIN_LINE_BYTES};
+use picture_model::{
+    BuildFault, MAX_HEIGHT, MAX_PIECE, MAX_VBI_LINES, MAX_WIDTH, MIN_LINE_BYTES, is_both,
+};
 use std::alloc::{AllocError, AllocFailed};
 
 /// Why no frame or program is made of a description.

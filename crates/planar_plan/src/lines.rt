@@ -10,9 +10,9 @@ ghost use Rattle.planar_plan.specs.Lines.{bare, strip_of, track_of};
 ghost use Rattle.planar_plan.specs.Sizes.{IsPlane, IsSized};
 
 use crate::cut::{Line, PlaneTrack, grains_of, unit_bytes};
-use crate::places::{is_both, offset, stride, vbi_offset};
+use crate::places::{offset, stride, vbi_offset};
 use capture_desc::Desc;
-use picture_model::PieceKind;
+use picture_model::{PieceKind, is_both};
 use pixel_layout::{Format, Parity};
 
 // The bytes of a grain of a row on a plane; 0 where the format has no such plane.

@@ -3,11 +3,12 @@
 
 ghost use Rattle.std.specs.Prelude.{◌≡◌, ℕ, ◌+◌, ◌^◌, ◌≤◌, length, unwrap_or, IfOk, IfSome};
 ghost use Rattle.pixel_layout.specs.Layouts.{layout};
-ghost use Rattle.picture_model.specs.Described.{default_offset, describes, extent, extents, field_height, given_or, highest_end, is_both, offset, plane_bytes, plane_row_bytes, plane_rows, stride};
+ghost use Rattle.picture_model.specs.Described.{default_offset, extent, extents, given_or, highest_end, offset, plane_bytes, plane_row_bytes, plane_rows, stride};
 ghost use Rattle.picture_model.specs.Described.{taken, vbi_area, vbi_begin, vbi_offset, vbi_size};
 ghost use Rattle.planar_plan.specs.Sizes.{IsPlane, IsSized};
 
 use capture_desc::{Desc, Fields, Numbers};
+use picture_model::is_both;
 use pixel_layout::{Format, Parity};
 use std::alloc::{AllocError, Global};
 use std::marker::Model;
@@ -28,37 +29,6 @@ impl Model for Area {
     ghost view = { λ s. record { from = s.from; to = s.to } };
 
     ghost inverse = { λ e. record { from = e.from; to = e.to } };
-}
-
-pub(crate) fn is_both(fields: Fields) -> bool
-    ensures { result ≡ is_both fields }
-{
-    match fields {
-        Fields::Top | Fields::Bottom => false,
-        Fields::Both => true,
-    }
-}
-
-pub(crate) fn describes(fields: Fields, field: Parity) -> bool
-    ensures { result ≡ describes fields field }
-{
-    match (fields, field) {
-        (Fields::Both, _) | (Fields::Top, Parity::Top) | (Fields::Bottom, Parity::Bottom) => true,
-        (Fields::Top, Parity::Bottom) | (Fields::Bottom, Parity::Top) => false,
-    }
-}
-
-// The rows of a field: none where it isn't described.
-pub(crate) fn field_height(desc: &Desc, field: Parity) -> u32
-    ensures { result ≡ field_height desc.now field }
-{
-    if !describes(desc.fields, field) {
-        0
-    } else if is_both(desc.fields) {
-        desc.height / 2
-    } else {
-        desc.height
-    }
 }
 
 // How many rows of a field share a row of chroma.

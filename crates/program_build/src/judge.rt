@@ -11,7 +11,7 @@ ghost use Rattle.planar_plan.specs.Frames.{Judges};
 
 use crate::sections::sections_words;
 use capture_desc::Desc;
-use page_table::{any_met, any_page_met};
+use page_table::{ADDRESSES, any_met, any_page_met};
 use picture_model::BuildFault;
 use planar_plan::{BuildError, Frame};
 use std::alloc::Global;
@@ -20,7 +20,7 @@ use std::alloc::Global;
 fn program_base(base: u32, end: u64) -> Result<(), BuildFault>
     ensures { result_err result ≡ when (not (is_multiple 4 base && nat_le end (2 ^ 32))) BuildFault.ProgramBase }
 {
-    if base % 4 == 0 && end <= 1 << 32 {
+    if base % 4 == 0 && end <= ADDRESSES {
         Ok(())
     } else {
         Err(BuildFault::ProgramBase)

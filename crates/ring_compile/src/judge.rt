@@ -16,7 +16,7 @@ use crate::fault::{RingError, RingFault};
 use crate::ring::{Ring, Values};
 use crate::words::{closing, front_words};
 use field_compile::push_instr;
-use page_table::{PageFault, PageSet, Scatter, ScatterFault, any_page_met};
+use page_table::{ADDRESSES, PageFault, PageSet, Scatter, ScatterFault, any_page_met};
 use std::alloc::Global;
 
 fn taken(alloc: Global, pages: &[u32]) -> Result<PageSet, PageFault>
@@ -85,7 +85,7 @@ fn judged_base(values: &Values, end: u64) -> Result<(), RingFault>
     requires { end ≡ program_end values.now }
     ensures { result_err result ≡ program_base values.now }
 {
-    if values.base % 4 == 0 && end <= 1 << 32 {
+    if values.base % 4 == 0 && end <= ADDRESSES {
         Ok(())
     } else {
         Err(RingFault::ProgramBase)

@@ -9,14 +9,8 @@ ghost use Rattle.ring_compile.specs.Writes.{control_at, run_length, scattered, w
 use crate::ring::Values;
 use field_compile::{push_instr, sync};
 use page_table::Scatter;
-use risc_word::{Code, Ctl, Ends, Instr};
+use risc_word::{Code, Ctl, Ends, Instr, NO_CONTROL};
 use std::alloc::{AllocError, Global};
-
-const NO_CONTROL: Ctl = Ctl {
-    irq: false,
-    set: 0,
-    reset: 0,
-};
 
 // The signal of a block: an interrupt, and the block's number as the RISC status.
 fn mark(block: u8) -> Ctl

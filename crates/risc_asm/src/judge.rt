@@ -13,12 +13,10 @@ ghost use Rattle.std.specs.Prelude.{◌≡◌, ◌≢◌, ◌≤◌, ◌<◌, �
 use super::draft::{Draft, read_draft};
 use capture_file::ProgramFile;
 use machine_model::MAX_WORDS;
-use page_table::{MAX_CHUNKS, PageFault, PageSet};
+use page_table::{ADDRESSES, MAX_CHUNKS, PageFault, PageSet};
 use risc_listing::{Lines, memory_lines, push_base, push_words};
 use risc_verify::Program;
 use std::alloc::{AllocError, Global};
-
-const ADDRESSES: u64 = 0x1_0000_0000;
 
 // The length of the last line of a listing, `fill` and two digits.
 const FILL_LINE: usize = 8;

@@ -18,7 +18,8 @@ use search::{count_lines, first_wrong, whole_lines};
 use std::alloc::{AllocError, Global};
 pub use text::Text;
 
-const MOST_BYTES: usize = 67_108_864;
+/// The most bytes of a text that is assembled (this project's own limit).
+pub const MOST_BYTES: usize = 67_108_864;
 
 /// Why a text is not assembled. Lines end with their newline and are counted from 1.
 #[derive(Clone, Copy, Debug, PartialEq)]

@@ -9,18 +9,7 @@ ghost use Rattle.risc_word.specs.Words.{control_fits, counts_fit, fits};
 ghost use Rattle.std.specs.Prelude.{◌≡◌, ◌+◌, ◌*◌, ◌≤◌, ◌<◌, ◌^◌, IfSome, IsTrue, codes, length};
 
 use risc_text::Name;
-use risc_word::{Code, Ctl, Ends, Instr};
-
-const NO_CONTROL: Ctl = Ctl {
-    irq: false,
-    set: 0,
-    reset: 0,
-};
-
-const NO_ENDS: Ends = Ends {
-    sol: false,
-    eol: false,
-};
+use risc_word::{Code, Ctl, Ends, Instr, NO_CONTROL, NO_ENDS};
 
 // The text after these bytes, where it begins with them.
 #[inline(always)]

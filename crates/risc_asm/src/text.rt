@@ -14,6 +14,7 @@ use super::lines::read_named_line;
 use super::{AsmError, MOST_BYTES, assemble};
 use capture_file::ProgramFile;
 use machine_model::MAX_WORDS;
+use page_table::ADDRESSES;
 use risc_listing::{
     LONGEST_INSTR, Lines, memory_lines, push_base, push_settled, push_words, put_words,
 };
@@ -21,8 +22,6 @@ use risc_text::Line;
 use risc_verify::Program;
 use std::alloc::{AllocError, Global};
 use std::marker::Model;
-
-const ADDRESSES: u64 = 0x1_0000_0000;
 
 // A listing has fewer bytes after the lines of its words, with a piece before that.
 const LONGEST_TAIL: usize = 1_048_576;
@@ -123,8 +122,8 @@ fn fits(base: u32, words: &[u32]) -> bool
     words.len() <= MAX_WORDS as usize && u64::from(base) + 4 * words.len() as u64 <= ADDRESSES
 }
 
-// Reads on behind what was read of the bytes after the lines. None where there are more words than a program
-// can have.
+// Reads on behind what was read of the bytes after the lines. Err, with the words as they were, where there are more than
+// a program can have.
 fn read_on(settled: Settled, tail: &[u8]) -> Result<Result<Settled, Settled>, AllocError>
     requires { Holds settled }
     ensures { IfOk result (λ read. MatchResult read (λ s. Holds s × (front_of s ≡ front_of settled)) (λ s. Holds s × (front_of s ≡ front_of settled))) }

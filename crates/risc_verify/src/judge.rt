@@ -7,7 +7,7 @@ ghost use Rattle.std.specs.Prelude.{◌≡◌, ◌+◌, ◌*◌, ◌^◌, ◌<�
 use super::Program;
 use super::memo::ChunkMemo;
 use machine_model::Cause;
-use page_table::PageSet;
+use page_table::{ADDRESSES, PageSet};
 use risc_word::{Instr, WordFault};
 use std::marker::Model;
 
@@ -71,7 +71,7 @@ fn written_cause(grants: &PageSet, memo: &mut ChunkMemo, address: u64, count: u1
     requires { address ≤ 2 ^ 32 }
     ensures { result ≡ written_cause grants.now address count }
 {
-    if address + u64::from(count) > 1 << 32 {
+    if address + u64::from(count) > ADDRESSES {
         return Some(Cause::Wrap);
     }
     if count == 0 {

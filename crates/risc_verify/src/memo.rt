@@ -4,10 +4,8 @@ ghost use Rattle.page_table.specs.Grants.{first_ungranted};
 ghost use Rattle.std.specs.Prelude.{◌≡◌, ◌+◌, ◌^◌, ◌≤◌, IfOk, IsTrue, None};
 ghost use Rattle.std.specs.Result.{result_err};
 
-use page_table::PageSet;
+use page_table::{PAGE_SIZE, PageSet};
 use std::alloc::{AllocError, Global};
-
-const PAGE: u32 = 4096;
 
 const SLOTS: u32 = 8192;
 
@@ -62,7 +60,7 @@ impl ChunkMemo {
         requires { addr + len ≤ 2 ^ 32 }
         ensures { result_err result ≡ first_ungranted grants.now addr len }
     {
-        let slot = (addr / PAGE % SLOTS) as usize;
+        let slot = (addr / PAGE_SIZE % SLOTS) as usize;
         let place = usize::from(self.places.get(slot).copied().unwrap_or(0));
         if is_within(grants, place, addr, len) || self.searches(grants, slot, addr, len) {
             Ok(())

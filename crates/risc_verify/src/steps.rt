@@ -1,4 +1,4 @@
-//! A counter that costs nothing.
+//! A count of steps that contracts alone see.
 
 ghost use Rattle.std.specs.Prelude.{◌≡◌, ◌+◌, ◌<◌};
 

@@ -83,6 +83,19 @@ pub struct Ends {
     pub eol: bool,
 }
 
+/// Control bits that change nothing: no interrupt, and the RISC status stays.
+pub const NO_CONTROL: Ctl = Ctl {
+    irq: false,
+    set: 0,
+    reset: 0,
+};
+
+/// The place of an instruction that neither begins nor ends a line.
+pub const NO_ENDS: Ends = Ends {
+    sol: false,
+    eol: false,
+};
+
 /// An instruction. Counts are bytes, addresses are those of bytes in memory; `off` has a bit for each
 /// lane of a DWORD that is not written, bit k for lane k (this project's own rule).
 #[derive(Clone, Copy, Debug, PartialEq, Eq)]
@@ -209,10 +222,7 @@ impl Instr {
             | Instr::Write123 { ends, .. }
             | Instr::Skip123 { ends, .. }
             | Instr::Write1S23 { ends, .. } => ends,
-            Instr::Jump { .. } | Instr::Sync { .. } => Ends {
-                sol: false,
-                eol: false,
-            },
+            Instr::Jump { .. } | Instr::Sync { .. } => NO_ENDS,
         }
     }
 

@@ -11,7 +11,7 @@ ghost use Rattle.slot_chain.specs.Making.{AreAlone, IsPlaced, Refuses, RefusesPa
 ghost use Rattle.slot_chain.specs.States.{chain_of};
 ghost use Rattle.slot_chain.specs.declared.making.ChainError.TheVariants.{Memory};
 
-use chain_model::PartWords;
+use chain_model::{CHAIN_LIMIT, PartWords};
 use machine_model::{Cause, MAX_WORDS};
 use page_table::{PageFault, PageSet};
 use risc_verify::{Accepted, Program, Steps, Why, verify};
@@ -49,10 +49,6 @@ impl From<AllocError> for ChainError {
 
 /// The first word of a JUMP without control bits.
 const JUMP: u32 = 0x7000_0000;
-
-/// The address at or below which a chain ends (this project's own limit): so the second word of a slot is no first word of
-/// an instruction.
-const CHAIN_LIMIT: u64 = 0x1000_0000;
 
 /// How many words a chain has; none where there are more than a program may have.
 fn count_words(slots: u32, parts: &[PartWords]) -> Option<u32>

@@ -16,7 +16,7 @@ use capture_desk::Desk;
 use command_steps::{PIECE, open};
 use command_texts::{Refusal, report_text};
 use dma_machine::Machine;
-use fifo_model::{CHROMA_CAPACITY, Fifo, LUMA_CAPACITY};
+use fifo_model::{CAPACITIES, Fifo};
 use page_ram::{PageRam, Ram};
 use risc_verify::Accepted;
 use std::alloc::{AllocError, Global};
@@ -41,7 +41,7 @@ pub fn machine_of(
     ensures { IfOk result (λ machine. machine ≡ first_state accepted fill) }
 {
     let ram = PageRam::new(alloc, accepted.program().grants(), fill)?;
-    let fifo = Fifo::new(alloc, [LUMA_CAPACITY, CHROMA_CAPACITY, CHROMA_CAPACITY])?;
+    let fifo = Fifo::new(alloc, CAPACITIES)?;
     Ok(Machine::new(accepted, ram, fifo))
 }
 

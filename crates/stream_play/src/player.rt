@@ -52,7 +52,7 @@ pub trait Player {
         self.turns(count);
     }
 
-    /// Takes a write of the host to a register of the interrupts or of the trigger point.
+    /// Takes a write of the host to a register.
     fn host(&mut self, write: HostWrite)
         requires { StepFits (Step.Host write) }
         ensures { self.new ≡ act (Step.Host write) self.old };
