@@ -1,4 +1,4 @@
-// Whole pieces, written to the open output or said.
+//! Whole pieces, written to the open output or said.
 ghost use Rattle.std.specs.Prelude.{◌≡◌, ◌<◌, length, IsTrue};
 ghost use Rattle.capture_desk.specs.Desks.{Appends, CallCounts, Puts, SayCounts, WriteCounts, after_say, after_write};
 ghost use Rattle.capture_desk.specs.Sinks.{AppendCalls, AppendCounts, IsReady, after_append};

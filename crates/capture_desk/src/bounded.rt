@@ -1,4 +1,4 @@
-// Bytes that never pass their room, for which all memory is taken at once.
+//! Bytes that never pass their room, for which all memory is taken at once.
 ghost use Rattle.std.specs.Prelude.{◌≡◌, ℕ, ◌+◌, ◌-◌, ◌≤◌, [], ◌++◌, length, IfOk};
 ghost use Rattle.capture_desk.specs.Bounds.{Bounds};
 

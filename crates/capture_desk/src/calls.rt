@@ -1,4 +1,4 @@
-// What is told of a call.
+//! What is told of a call.
 
 use crate::octets::Octets;
 

@@ -1,4 +1,4 @@
-// A desk that keeps the calls of another.
+//! A desk that keeps the calls of another.
 ghost use Rattle.std.specs.Prelude.{◌≡◌, [], ◌∷◌, IfOk, Some, option_map};
 ghost use Rattle.capture_desk.specs.Desks.{Tells, joined, moved_by};
 

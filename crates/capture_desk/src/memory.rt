@@ -1,4 +1,4 @@
-// The desk over memory.
+//! The desk over memory.
 ghost use Rattle.std.specs.Prelude.{All, IfOk, IsTrue, MatchOption, None, [], drop, is_some, length, map, option_copied, take, true, ℕ, ◌++◌, ◌+◌, ◌<◌, ◌∷◌, ◌≡◌, ◌≤◌};
 ghost use Rattle.capture_desk.specs.declared.memory.Slot.{Slot};
 ghost use Rattle.capture_desk.specs.Inside.{IsFirstInput, IsFirstSlot, entry, kept};

@@ -1,4 +1,4 @@
-// A list of bytes, as a name or a file.
+//! A list of bytes, as a name or a file.
 ghost use Rattle.std.specs.Prelude.{◌≡◌, IfOk};
 
 use std::alloc::{AllocError, Global};

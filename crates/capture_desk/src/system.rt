@@ -1,4 +1,4 @@
-// The desk over the system's files and its standard output.
+//! The desk over the system's files and its standard output.
 ghost use Rattle.std.specs.Prelude.{false, true, ◌≡◌};
 ghost use Rattle.capture_desk.specs.Desks.{counted};
 ghost use Rattle.capture_desk.specs.System.{System, seen_of};

@@ -83,8 +83,9 @@ pub enum FileKind {
 /// `Short` the length of the file.
 #[derive(Clone, Copy, Debug, PartialEq)]
 pub struct FileFault {
-    /// In bytes.
+    /// The place, in bytes.
     pub at: u64,
+    /// What is at fault there.
     pub kind: FileKind,
 }
 

@@ -24,6 +24,7 @@ use std::alloc::{AllocError, AllocFailed, Global};
 /// What a program file holds.
 #[derive(Drop)]
 pub struct ProgramFile {
+    /// The program, with the chunks that it may write. It need not be sound.
     pub program: Program,
     /// The byte that the granted memory holds at the start.
     pub fill: u8,

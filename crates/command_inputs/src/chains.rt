@@ -20,7 +20,9 @@ use std::alloc::Global;
 /// The second frame of a chain, and the chain of both before its first step.
 #[derive(Drop)]
 pub struct Paired {
+    /// The frame of the second description.
     pub second: Frame,
+    /// The chain of both before its first step.
     pub buffer: DoubleBuffer<PageRam>,
 }
 

@@ -24,6 +24,7 @@ const LONGEST_PROGRAM: usize = 4_227_089;
 /// The sound program and the fill that a program file holds.
 #[derive(Drop)]
 pub struct Loaded {
+    /// The program, which is sound.
     pub accepted: Accepted,
     /// The byte that fills the memory at first.
     pub fill: u8,

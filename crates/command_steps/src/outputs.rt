@@ -22,7 +22,9 @@ pub trait Content {
 /// An output: its name, and what it holds.
 #[derive(Drop)]
 pub struct Output<'a, C> {
+    /// Its name, as the words of the command line have it.
     pub name: &'a str,
+    /// What is written to it.
     pub content: C,
 }
 

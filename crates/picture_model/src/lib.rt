@@ -79,6 +79,7 @@ pub enum PieceKind {
 /// A part of a line that one instruction moves.
 #[derive(Clone, Copy, Debug, PartialEq, Eq)]
 pub struct Piece {
+    /// What it does with its bytes.
     pub kind: PieceKind,
     /// Whether it is the line's first, and its last.
     pub ends: Ends,

@@ -369,7 +369,9 @@ pub fn push_word_line<const CAP: usize>(text: &mut ArrayString<CAP>, at: u32, wo
 /// The line of an instruction that stands at an address, for messages of callers of the library.
 #[derive(Drop)]
 pub struct InstrLine<'a> {
+    /// The address of its first word.
     pub at: u32,
+    /// The instruction.
     pub instr: &'a Instr,
 }
 

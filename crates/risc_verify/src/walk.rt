@@ -39,6 +39,7 @@ impl From<AllocError> for Why {
 pub struct Rejected {
     /// The program, unchanged.
     pub program: Program,
+    /// What was found, or that memory was short.
     pub why: Why,
 }
 

@@ -24,6 +24,7 @@ use std::alloc::{AllocError, Global};
 /// A machine after its stream, the byte that filled its memory, and the text of its report.
 #[derive(Drop)]
 pub struct Played {
+    /// The machine after all steps of the stream.
     pub machine: Machine<PageRam>,
     /// The byte that filled the memory at first.
     pub fill: u8,
