@@ -104,9 +104,6 @@ pub stays : (base : ℕ) (words new : List ℕ) (number front : ℕ) → IsSettl
 stays base words new number front is grown ends =
     subst (λ (list : List ℕ). Stays base words list number front) (sym grown.1) (stays_by base words grown.0 number front is (subst (λ (list : List ℕ). base + 4 * length list ≤ 2 ^ 32) grown.1 ends))
 
-pub cut_back : (words new : List ℕ) → IsGrown words new → take (length words) new ≡ words
-cut_back words new grown = ap (take (length words)) grown.1 ∙ take-append_seam words grown.0
-
 -- ---- lines add words
 
 grows : (d : Draft) (l : Line) → IsGrown d.words (taken d l).words
