@@ -9,5 +9,4 @@ pub mod Agreeing
 pub mod DigitTable
 pub mod ShortName
 mod Telling
-mod Reaching
 mod Settling

@@ -8,7 +8,7 @@ ghost use Rattle.risc_asm.specs.Limits.{IsWithinLimits, follows, rising};
 ghost use Rattle.risc_asm.specs.Verdicts.{Agrees, EndAgrees, IsBegun, Judges, WithoutWords};
 ghost use Rattle.risc_text.specs.Drafts.{drafted};
 ghost use Rattle.std.specs.List.{All};
-ghost use Rattle.std.specs.Prelude.{◌≡◌, ◌≢◌, ◌≤◌, ◌<◌, ◌^◌, ◌↔◌, false, IfErr, IfOk, IsTrue, Ok, Some, [], length, slice_index, take, ◌++◌, List, ℕ};
+ghost use Rattle.std.specs.Prelude.{◌≡◌, ◌≢◌, ◌+◌, ◌*◌, ◌≤◌, ◌<◌, ◌^◌, ◌↔◌, false, IfErr, IfOk, IsTrue, Ok, Some, [], drop, length, slice_index, take, ◌++◌, List, ℕ};
 
 use super::draft::{Draft, read_draft};
 use capture_file::ProgramFile;
@@ -106,14 +106,15 @@ fn alike(text: &[u8], other: &[u8]) -> usize
     at
 }
 
-// The text after the lines of a program's words, where it begins with them, and else how many bytes agree
-// with them.
-fn after_words<'a>(text: &'a [u8], program: &Program) -> Result<&'a [u8], usize>
-    ensures { WithoutWords program.now.base program.now.words text.now result }
+/// The text after the lines of a program's words from one on, where it begins with them, and else how many bytes agree
+/// with them.
+pub fn after_words<'a>(text: &'a [u8], program: &Program, from: usize) -> Result<&'a [u8], usize>
+    requires { from ≤ length program.now.words }
+    ensures { WithoutWords (program.now.base + 4 * from) (drop from program.now.words) text.now result }
 {
     let mut lines = Lines::new();
     let mut rest = text;
-    let mut next = 0;
+    let mut next = from;
     while next < program.words().len() {
         lines.clear();
         next = push_words(&mut lines, program, next);
@@ -154,7 +155,7 @@ fn compare(alloc: Global, text: &[u8], program: &Program, fill: u8) -> Result<Ag
     let Some(words) = text.strip_prefix(line.as_str().as_bytes()) else {
         return Ok(Agreement::No(0));
     };
-    let rest = match after_words(words, program) {
+    let rest = match after_words(words, program, 0) {
         Ok(rest) => rest,
         Err(number) => return Ok(Agreement::No(text.len() - words.len() + number)),
     };

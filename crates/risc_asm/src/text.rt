@@ -9,15 +9,13 @@ ghost use Rattle.std.specs.List.{flat_map};
 ghost use Rattle.std.specs.Prelude.{[], ◌≡◌, ◌+◌, ◌*◌, ◌^◌, ◌≤◌, ◌<◌, ◌++◌, IfOk, IfSome, IsTrue, MatchResult, drop, length, take};
 
 use super::draft::{Draft, read_draft};
-use super::judge::program_of;
+use super::judge::{after_words, program_of};
 use super::lines::read_named_line;
 use super::{AsmError, MOST_BYTES, assemble};
 use capture_file::ProgramFile;
 use machine_model::MAX_WORDS;
 use page_table::ADDRESSES;
-use risc_listing::{
-    LONGEST_INSTR, Lines, memory_lines, push_base, push_settled, push_words, put_words,
-};
+use risc_listing::{LONGEST_INSTR, Lines, memory_lines, push_base, push_settled, put_words};
 use risc_text::Line;
 use risc_verify::Program;
 use std::alloc::{AllocError, Global};
@@ -259,22 +257,6 @@ fn advance(alloc: Global, settled: Settled, tail: Vec<u8>) -> Result<Text, Alloc
     })
 }
 
-// What stands after the lines of a program's words from one on, where a text begins with them.
-fn after_last_words<'a>(text: &'a [u8], program: &Program, from: usize) -> Option<&'a [u8]>
-    requires { from ≤ length program.now.words }
-    ensures { IfSome result (λ rest. text.now ≡ word_lines (program.now.base + 4 * from) 0 (drop from program.now.words) ++ rest.now) }
-{
-    let mut lines = Lines::new();
-    let mut rest = text;
-    let mut next = from;
-    while next < program.words().len() {
-        lines.clear();
-        next = push_words(&mut lines, program, next);
-        rest = rest.strip_prefix(lines.as_str().as_bytes())?;
-    }
-    Some(rest)
-}
-
 // Whether a text is what a listing has from the line of a word on.
 fn is_end(
     alloc: Global,
@@ -287,7 +269,7 @@ fn is_end(
     ensures end { IfOk result (λ yes. IsTrue yes → text.now ≡ word_lines (program.now.base + 4 * from) 0 (drop from program.now.words) ++ (flat_map chunk_line program.now.grants ++ fill_line fill)) }
     ensures made { IfOk result (λ yes. IsTrue yes → IsProgram program.now × (fill < 256)) }
 {
-    let Some(rest) = after_last_words(text, program, from) else {
+    let Ok(rest) = after_words(text, program, from) else {
         return Ok(false);
     };
     let last = memory_lines(alloc, program.grants(), fill)?;

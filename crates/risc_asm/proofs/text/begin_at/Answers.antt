@@ -1,4 +1,4 @@
-use Rattle.std.proofs.Common.{◌∙◌, ◌++◌, ◌+◌, List, ℕ, refl, ap, arith}
+use Rattle.std.proofs.Common.{◌∙◌, ◌++◌, List, ℕ, refl, ap, arith}
 use Rattle.risc_listing.specs.Listings.{base_line}
 use Rattle.risc_text.specs.Drafts.{Draft}
 use Rattle.risc_asm.proofs.Telling.{begins}
