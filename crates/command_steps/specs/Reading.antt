@@ -112,7 +112,6 @@ abbrev pub OpensBy : {A E : Type 0} → List ℕ → Result A E → List Call �
 OpensBy name (Ok _) calls = calls ≡ OpenIn name true ∷ []
 OpensBy name (Err _) calls = calls ≡ OpenIn name false ∷ []
 
--- what a piece that was read added to the bytes before it
-abbrev pub Grows : ℕ → ℕ → List ℕ → List ℕ → List ℕ → Type 0
-Grows at n rest bytes new_bytes =
-    (n ≤ length rest) × (n ≡ 0 → rest ≡ []) × (take (at + n) new_bytes ≡ take at bytes ++ take n rest)
+-- the first bytes of a buffer are so many that were left of an input; none only at its end
+abbrev pub IsPiece : ℕ → List ℕ → List ℕ → Type 0
+IsPiece n rest buffer = (n ≤ length rest) × (n ≡ 0 → rest ≡ []) × (take n buffer ≡ take n rest)

@@ -4,7 +4,7 @@ ghost use Rattle.std.specs.Prelude.{◌≡◌, ◌+◌, ◌-◌, ◌<◌, ◌≤
 ghost use Rattle.capture_desk.specs.declared.calls.Call.TheVariants as Call;
 ghost use Rattle.capture_desk.specs.Desks.{IsAllowed, ReadCounts, Tells, after_read, moved_by};
 ghost use Rattle.command_steps.specs.Inputs.{Always, OfInput, OfRest, StopsAtRead, StopsReading, apart};
-ghost use Rattle.command_steps.specs.Reading.{AreAllReads, AreReads, Calls, Grows, OnlyReads, ReadsThrough, Opened, OpensBy};
+ghost use Rattle.command_steps.specs.Reading.{AreAllReads, AreReads, Calls, IsPiece, OnlyReads, ReadsThrough, Opened, OpensBy};
 
 use crate::keeps::Keeps;
 use capture_desk::{Desk, Failed, OpenFault};
@@ -29,24 +29,19 @@ pub fn open<D: Desk>(name: &str, desk: &mut D) -> Result<(), Refusal>
     }
 }
 
-/// Reads a piece of the open input into the bytes from `at` to `end`, and answers its length.
-pub fn read_into<D: Desk>(
-    bytes: &mut [u8],
-    at: usize,
-    end: usize,
-    desk: &mut D,
-) -> Result<usize, Failed>
+/// Reads a piece of the open input, of at most so many bytes, to the front of a buffer, and answers its length.
+pub fn read_into<D: Desk>(buffer: &mut [u8], most: usize, desk: &mut D) -> Result<usize, Failed>
     requires open { IsTrue (D.seen desk.old).told.input_open }
-    requires some { at < end }
-    requires room { end ≤ length bytes.old }
-    ensures few { IfOk result (λ n. n ≤ end - at) }
-    ensures grows { IfOk result (λ n. OfRest (D.seen desk.old).told.rest (λ rest. Grows at n rest bytes.old bytes.new)) }
+    requires some { 0 < most }
+    requires room { most ≤ length buffer.old }
+    ensures few { IfOk result (λ n. n ≤ most) }
+    ensures piece { IfOk result (λ n. OfRest (D.seen desk.old).told.rest (λ rest. IsPiece n rest buffer.new)) }
     ensures told { IfOk result (λ n. (D.seen desk.new).told ≡ after_read n (D.seen desk.old).told) }
     ensures same { IfErr result (λ _. (D.seen desk.new).told ≡ (D.seen desk.old).told) }
     ensures counts { ReadCounts result (D.seen desk.old) (D.seen desk.new) }
-    ensures calls { Tells (Call.Read (end - at) (moved_by result) ∷ []) (D.seen desk.old).calls (D.seen desk.new).calls }
+    ensures calls { Tells (Call.Read most (moved_by result) ∷ []) (D.seen desk.old).calls (D.seen desk.new).calls }
 {
-    desk.read(&mut bytes[at..end])
+    desk.read(&mut buffer[..most])
 }
 
 /// Reads the open input until it ends or one byte more than `most` was read, and gives each piece to its
@@ -71,8 +66,8 @@ fn keep_rest<D: Desk, K: Keeps>(
 {
     let mut at = 0;
     while at <= most {
-        let end = (most + 1 - at).min(PIECE);
-        let count = match read_into(buffer, 0, end, desk) {
+        let piece = (most + 1 - at).min(PIECE);
+        let count = match read_into(buffer, piece, desk) {
             Ok(count) => count,
             Err(_) => return Err(Refusal::ReadFault),
         };

@@ -1,12 +1,12 @@
 -- Laws of players and of streams that come in pieces.
 use Rattle.std.proofs.Common.{◌≡◌, ℕ, ◌+◌, ◌-◌, ◌<◌, ◌≤◌, ◌⊎◌, inl, inr, Bool, false, List, [], ◌∷◌, ◌++◌, length, take, drop, option_map, Option, Some, None, Ok, Err, Result, refl, sym, ap, subst}
-use Rattle.std.proofs.Common.{◌∙◌, arith, length-drop, length-take, zero-add, append_assoc}
+use Rattle.std.proofs.Common.{◌∙◌, arith, length-drop, length-take, append_assoc}
 use Rattle.std.specs.Prelude.{IfErr, IfOk}
 use Rattle.std.proofs.lemmas.Bool.{lt-ltb}
 use Rattle.std.proofs.Math.Seq.{take-add}
 use Rattle.std.proofs.lemmas.List.{append-nil, take_all, drop-drop, take-append-drop, take-take}
 use Rattle.command_steps.specs.Inputs.{OfRest}
-use Rattle.command_steps.specs.Reading.{Grows}
+use Rattle.command_steps.specs.Reading.{IsPiece}
 use Rattle.capture_file.specs.Streams.{steps_of, Reading, reading, with_step, Ending, Unfinished, Ended, Bad, atomic, steps_run, stream_of, whole_file, within_if, too_long, judged}
 use Rattle.capture_file.specs.declared.FileFault.{FileFault}
 use Rattle.machine_model.specs.States.{State}
@@ -112,26 +112,26 @@ module _ {S : Type 0} (act : Step → S → S) (chained : Bool) (m now : S) (aft
   abbrev pub HandedTo : ℕ → Option (List ℕ) → S → Reader → Type 0
   HandedTo at o later last = OfRest o (λ bytes. (at ≤ length bytes) × Handed act m (fresh longest_stream chained) (take at bytes) later last)
 
-  pub handed_more : (at n : ℕ) (o : Option (List ℕ)) (old new : List ℕ) (later : S) (last : Reader) → HandedTo at o now after →
-      OfRest (option_map (λ bytes. drop at bytes) o) (λ rest. Grows 0 n rest old new) → Handed act now after (take n new) later last →
+  pub handed_more : (at n : ℕ) (o : Option (List ℕ)) (new : List ℕ) (later : S) (last : Reader) → HandedTo at o now after →
+      OfRest (option_map (λ bytes. drop at bytes) o) (λ rest. IsPiece n rest new) → Handed act now after (take n new) later last →
       HandedTo (at + n) o later last
-  handed_more at n None old new later last one grows two = tt
-  handed_more at n (Some bytes) old new later last one grows two =
-      let piece : take n new ≡ take n (drop at bytes) = ap (λ k. take k new) (sym (zero-add n)) ∙ grows.2 in
+  handed_more at n None new later last one read two = tt
+  handed_more at n (Some bytes) new later last one read two =
+      let piece : take n new ≡ take n (drop at bytes) = read.2 in
       let whole : take at bytes ++ take n new ≡ take (at + n) bytes = ap (λ x. take at bytes ++ x) piece ∙ sym (take-add at n bytes) in
-      let few = simp length-drop at grows.0 in (
+      let few = simp length-drop at read.0 in (
         omega (arith, few, one.0),
         subst (λ x. Handed act m (fresh longest_stream chained) x later last) whole
             (Handed-then act m now later (fresh longest_stream chained) after last (take at bytes) (take n new) one.1 two),
       )
 
-  pub fault_found : (at n : ℕ) (o : Option (List ℕ)) (old new : List ℕ) (fault : FileFault) → HandedTo at o now after →
-      OfRest (option_map (λ bytes. drop at bytes) o) (λ rest. Grows 0 n rest old new) → IsAtFault after (take n new) fault →
+  pub fault_found : (at n : ℕ) (o : Option (List ℕ)) (new : List ℕ) (fault : FileFault) → HandedTo at o now after →
+      OfRest (option_map (λ bytes. drop at bytes) o) (λ rest. IsPiece n rest new) → IsAtFault after (take n new) fault →
       OfRest o (λ bytes. steps_of longest_stream chained bytes ≡ Err fault)
   unfolding resumed
-  fault_found at n None old new fault one grows is = tt
-  fault_found at n (Some bytes) old new fault one grows is =
-      let piece : take n new ≡ take n (drop at bytes) = ap (λ k. take k new) (sym (zero-add n)) ∙ grows.2 in
+  fault_found at n None new fault one read is = tt
+  fault_found at n (Some bytes) new fault one read is =
+      let piece : take n new ≡ take n (drop at bytes) = read.2 in
       let rest : List ℕ = drop n (drop at bytes) in
       let whole : take at bytes ++ (take n new ++ rest) ≡ bytes =
       ap (λ x. take at bytes ++ (x ++ rest)) piece ∙ ap (λ x. take at bytes ++ x) (take-append-drop n (drop at bytes)) ∙ take-append-drop at bytes in
@@ -139,12 +139,12 @@ module _ {S : Type 0} (act : Step → S → S) (chained : Bool) (m now : S) (aft
       ap (λ x. (stream_of longest_stream chained x).ending) (sym whole) ∙ sym (one.1 (take n new ++ rest)).ending ∙ is rest in
       ap (λ e. whole_file (length bytes) (stream_of longest_stream chained bytes).steps e) ending
 
-  pub ended : (at n : ℕ) (o : Option (List ℕ)) (old new : List ℕ) → HandedTo at o now after →
-      OfRest (option_map (λ bytes. drop at bytes) o) (λ rest. Grows 0 n rest old new) → n ≡ 0 → after.place ≡ at →
+  pub ended : (at n : ℕ) (o : Option (List ℕ)) (new : List ℕ) → HandedTo at o now after →
+      OfRest (option_map (λ bytes. drop at bytes) o) (λ rest. IsPiece n rest new) → n ≡ 0 → after.place ≡ at →
       OfRest o (λ bytes. HandedAll act chained bytes m now after)
-  ended at n None old new one grows is place = tt
-  ended at n (Some bytes) old new one grows is place =
-      let none : length bytes - at ≡ 0 = sym (length-drop at bytes) ∙ ap length (grows.1 is) in
+  ended at n None new one read is place = tt
+  ended at n (Some bytes) new one read is place =
+      let none : length bytes - at ≡ 0 = sym (length-drop at bytes) ∙ ap length (read.1 is) in
       record {
         handed = subst (λ k. Handed act m (fresh longest_stream chained) (take k bytes) now after) (sym place) one.1;
         all = inl (omega (arith, none, one.0, place));

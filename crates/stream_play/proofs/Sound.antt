@@ -1,5 +1,5 @@
 -- What was handed to a player holds no fault, so that the next piece may be read.
-use Rattle.std.proofs.Common.{◌≡◌, ℕ, ◌+◌, Bool, List, [], ◌++◌, take, drop, option_map, Option, Some, None, Result, Ok, Err, sym, ap, subst, ◌∙◌, zero-add}
+use Rattle.std.proofs.Common.{◌≡◌, ℕ, ◌+◌, Bool, List, [], ◌++◌, take, drop, option_map, Option, Some, None, Result, Ok, Err, sym, ap, subst, ◌∙◌}
 use Rattle.std.specs.Prelude.{IfOk}
 use Rattle.std.proofs.Math.Seq.{take-add}
 use Rattle.std.proofs.lemmas.List.{append-nil}
@@ -8,7 +8,7 @@ use Rattle.capture_file.specs.declared.Step.{Step}
 use Rattle.capture_file.specs.Streams.{Reading, stream_of}
 use Rattle.capture_file.specs.Readers.{Reader, resumed}
 use Rattle.command_steps.specs.Inputs.{OfRest}
-use Rattle.command_steps.specs.Reading.{Grows}
+use Rattle.command_steps.specs.Reading.{IsPiece}
 use Rattle.stream_play.specs.Plays.{EndsWell, GoesOn, HandedPart, longest_stream}
 use Rattle.stream_play.specs.Runs.{HoldsNoFault}
 use Rattle.stream_play.proofs.Playing.{HandedTo}
@@ -47,13 +47,13 @@ nothing_wrong chained None = tt
 nothing_wrong chained (Some bytes) = λ fault bad. absurd (cc)
 
 -- one more piece was read
-pub still_sound : {S : Type 0} (act : Step → S → S) (chained : Bool) (m now : S) (after : Reader) (at n : ℕ) (o : Option (List ℕ)) (old new : List ℕ) → HandedTo act chained m now after at o now after →
-    OfRest (option_map (λ bytes. drop at bytes) o) (λ rest. Grows 0 n rest old new) → EndsWell (resumed after (take n new)) →
+pub still_sound : {S : Type 0} (act : Step → S → S) (chained : Bool) (m now : S) (after : Reader) (at n : ℕ) (o : Option (List ℕ)) (new : List ℕ) → HandedTo act chained m now after at o now after →
+    OfRest (option_map (λ bytes. drop at bytes) o) (λ rest. IsPiece n rest new) → EndsWell (resumed after (take n new)) →
     OfRest o (λ bytes. HoldsNoFault chained (take (at + n) bytes))
 unfolding resumed
-still_sound act chained m now after at n None old new one grows well = tt
-still_sound act chained m now after at n (Some bytes) old new one grows well =
-    let piece : take n new ≡ take n (drop at bytes) = ap (λ k. take k new) (sym (zero-add n)) ∙ grows.2 in
+still_sound act chained m now after at n None new one read well = tt
+still_sound act chained m now after at n (Some bytes) new one read well =
+    let piece : take n new ≡ take n (drop at bytes) = read.2 in
     let whole : take at bytes ++ take n new ≡ take (at + n) bytes = ap (λ x. take at bytes ++ x) piece ∙ sym (take-add at n bytes) in
     subst (HoldsNoFault chained) whole
     (well_from act m (stream_of longest_stream chained (take at bytes ++ take n new)) now (resumed after (take n new)) (one.1 (take n new)) well)

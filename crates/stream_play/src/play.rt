@@ -190,8 +190,8 @@ fn hand_all<D: Desk, P: Player>(
 {
     let mut place: u64 = 0;
     while place <= LONGEST_STREAM {
-        let end = (LONGEST_STREAM + 1 - place).min(PIECE as u64) as usize;
-        let count = match read_into(buffer, 0, end, desk) {
+        let piece = (LONGEST_STREAM + 1 - place).min(PIECE as u64) as usize;
+        let count = match read_into(buffer, piece, desk) {
             Ok(count) => count,
             Err(_) => return Err(Refusal::ReadFault),
         };
