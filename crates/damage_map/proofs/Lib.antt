@@ -17,3 +17,4 @@ pub mod PlacedTurns
 pub mod PlacedSteps
 pub mod PlacedRows
 pub mod StandingRows
+mod TakenEntries

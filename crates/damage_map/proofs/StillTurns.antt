@@ -78,10 +78,10 @@ still_tracks (suc count) m t machine still =
     (ap (λ (x : State). (seen x).did) next ∙ ap (λ (x : Seen). x.did) (seen-counted m) ∙ still)
 
 -- so a machine that stands still only takes its turns
-pub rest-still : (before self after : Map) (count at rest : ℕ) (machine : State) → self ≡ mapped (turns at) before → after ≡ mapped (turns 1) self → IsMachine after.machine → (seen after.machine).did ≡ Still →
-    machine ≡ run after.machine (turns rest) → at + 1 + rest ≡ count → record after { machine = machine } ≡ mapped (turns count) before
-rest-still before self after count at rest machine taken made facts still ran all =
-    let track : after.track ≡ tracked after.machine (turns rest) after.track = sym (still_tracks rest after.machine after.track facts still) in
-    ap₂ (λ (m : State) (t : FieldTrack). record after { machine = m; track = t }) ran track
-    ∙ ap (mapped (turns rest)) (one-more before self after at taken made)
-    ∙ sym (mapped-append before (turns (at + 1)) (turns rest)) ∙ ap (λ (ts : List Step). mapped ts before) (sym (turns-split (at + 1) rest) ∙ ap turns all)
+pub rest-still : (before self : Map) (count at rest : ℕ) (machine : State) → self ≡ mapped (turns at) before → IsMachine self.machine → (seen self.machine).did ≡ Still →
+    machine ≡ run self.machine (turns rest) → at + rest ≡ count → record self { machine = machine } ≡ mapped (turns count) before
+rest-still before self count at rest machine taken facts still ran all =
+    let track : self.track ≡ tracked self.machine (turns rest) self.track = sym (still_tracks rest self.machine self.track facts still) in
+    ap₂ (λ (m : State) (t : FieldTrack). record self { machine = m; track = t }) ran track
+    ∙ ap (mapped (turns rest)) taken
+    ∙ sym (mapped-append before (turns at) (turns rest)) ∙ ap (λ (ts : List Step). mapped ts before) (sym (turns-split at rest) ∙ ap turns all)

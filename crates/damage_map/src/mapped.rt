@@ -1,6 +1,7 @@
 //! A machine that tells which rows of its fields are whole lines.
-ghost use Rattle.std.specs.Prelude.{◌≡◌, ◌+◌, false, IfOk, option_map};
+ghost use Rattle.std.specs.Prelude.{◌≡◌, ◌+◌, false, true, IfOk, option_map};
 ghost use Rattle.dma_machine.specs.Facts.{report_of};
+ghost use Rattle.dma_machine.specs.FallThrough.{falls_through};
 ghost use Rattle.irq_status.specs.Writes.{IsWrite};
 ghost use Rattle.machine_model.specs.Steps.{Control, Host, Push, Turn, control_pushed_as, host, push, push_control, pushed_as};
 ghost use Rattle.machine_model.specs.Turns.{turn};
@@ -64,6 +65,21 @@ impl<R: Ram> Mapped<R> {
         self.machine.push(q, e)
     }
 
+    /// A push of a data entry, and the turn behind it where this turn takes the entry whole; whether it was taken.
+    #[inline(always)]
+    pub fn push_and_take(&mut self, q: Queue, e: Entry) -> bool
+        requires { is_control (kind_of e.status) ≡ false }
+        ensures falls { result ≡ falls_through q e.status self.old.machine }
+        ensures pushed { result ≡ false → self.new ≡ record self.old { machine = push q e self.old.machine } }
+        ensures taken { result ≡ true → self.new ≡ mapped (turns 1) (record self.old { machine = push q e self.old.machine }) }
+    {
+        let taken = self.machine.push_and_take(q, e);
+        if taken {
+            self.track.take_whole(q);
+        }
+        taken
+    }
+
     /// A push of a control code, as `Machine::push_control`.
     pub fn push_control(&mut self, c: Code) -> Pushed
         ensures state { self.new ≡ record self.old { machine = push_control c self.old.machine } }
@@ -86,11 +102,11 @@ impl<R: Ram> Mapped<R> {
         ensures { self.new ≡ mapped (turns count) self.old }
     {
         for turn in 0..count {
-            self.turn();
             if self.machine.stands_still() {
-                self.machine.stand(count - turn - 1);
+                self.machine.stand(count - turn);
                 return;
             }
+            self.turn();
         }
     }
 

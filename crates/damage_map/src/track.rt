@@ -1,5 +1,5 @@
 //! What is kept of a field under way.
-ghost use Rattle.std.specs.Prelude.{◌≡◌, ◌∷◌, ℕ, Bool, List, Option, drop, option_map, IfOk};
+ghost use Rattle.std.specs.Prelude.{◌≡◌, ◌∷◌, ℕ, Bool, List, Option, drop, false, option_map, IfOk};
 ghost use Rattle.damage_map.specs.Tracks.{emptied_marks, fresh, is_good, is_whole, left_mark, lines_at_signal, mark_on, met, met_mark, opened, signalled, taken_mark, through, turned, untold, with_loss, with_mark};
 
 use crate::lines::{Lines, Told};
@@ -184,6 +184,14 @@ impl Track {
             }
             Did::Still | Did::Begun | Did::Dropped | Did::Matched | Did::Missed => {}
         }
+    }
+
+    /// A turn that takes an entry of a queue whole, within its line.
+    pub fn take_whole(&mut self, q: Queue)
+        ensures { self.new ≡ record self.old { marks = with_mark q (taken_mark false (mark_on q self.old.marks)) self.old.marks } }
+    {
+        let mark = self.marks.on(q).taken(false);
+        self.marks.put(q, mark);
     }
 
     /// The queues are emptied, of which these hold an entry.

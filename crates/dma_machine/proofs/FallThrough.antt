@@ -1,5 +1,5 @@
 -- The turn behind the push of an entry that falls through stores its bytes, and leaves the queues as they were.
-use Rattle.std.proofs.Common.{◌≡◌, ℕ, ◌+◌, ◌<◌, ◌≤◌, ◌⊎◌, inl, inr, Bool, true, false, not, ◌==◌, List, [], ◌∷◌, ◌++◌, length, Some, None, refl, sym, ap, subst, ◌∙◌, arith, if◌then◌else◌}
+use Rattle.std.proofs.Common.{◌≡◌, ℕ, ◌+◌, ◌<◌, ◌≤◌, ◌⊎◌, inl, inr, Bool, true, false, not, ◌==◌, List, [], ◌∷◌, ◌++◌, length, Option, Some, None, refl, sym, ap, subst, ◌∙◌, arith, if◌then◌else◌}
 use Rattle.std.specs.Prelude.{◌&&◌, is_none}
 use Rattle.std.proofs.lemmas.Bool.{and_parts, and_right, not-true}
 use Rattle.risc_word.specs.declared.Instr.{Instr}
@@ -13,7 +13,11 @@ use Rattle.fifo_model.proofs.ChangesKeepQueues.{IsQueue-queue_state}
 use Rattle.fifo_model.proofs.QueueStates.{queue_state-with_queue_state, with_queue_state-same, with_queue_state-twice}
 use Rattle.machine_model.specs.declared.Demand.{Demand}
 use Rattle.machine_model.specs.declared.Demands.{Demands}
-use Rattle.machine_model.specs.declared.Job.TheVariants.{Running}
+use Rattle.machine_model.specs.declared.Did.TheVariants.{Moved}
+use Rattle.machine_model.specs.declared.Job.{Job}
+use Rattle.machine_model.specs.declared.Job.TheVariants.{Idle, Running, Waiting}
+use Rattle.machine_model.specs.declared.Seen.{Seen}
+use Rattle.machine_model.specs.Seen.{Application, address_before, application_in, applications, seen, seen_alone, seen_burst, seen_if, seen_in, seen_running, seen_served, served_application}
 use Rattle.machine_model.specs.States.{State}
 use Rattle.machine_model.specs.Steps.{push, push_if, with_fbus_if}
 use Rattle.machine_model.specs.Turns.{Store, apply, apply_in, burst, burst_of, demand_less, demand_on, ended, is_done, is_served, judged, lowest_served, ran, served, stored_all, stores_of, took, turn_if, verdict_at, with_demand, worked}
@@ -22,9 +26,10 @@ use Rattle.dma_machine.specs.declared.engine.Phase.TheVariants as phase
 use Rattle.dma_machine.specs.declared.engine.Wait.{Wait}
 use Rattle.dma_machine.specs.Views.{job_of}
 use Rattle.dma_machine.specs.Counts.{acted}
-use Rattle.dma_machine.specs.FallThrough.{fallen_through, falls_in, falls_through, none_before}
+use Rattle.dma_machine.specs.FallThrough.{MovesWhole, fallen_through, falls_in, falls_through, moved_whole, none_before}
 use Rattle.dma_machine.specs.Stills.{StillIf, runs_still, works_still}
 use Rattle.dma_machine.specs.WholeTakes.{takes_whole}
+use Rattle.dma_machine.proofs.Noting.{all_noted-seen_burst, whole_noted}
 use Rattle.dma_machine.proofs.WholeTakes.{IsWhole, plain_whole}
 
 -- ---- an empty queue
@@ -98,9 +103,20 @@ lowest Three ds m held before e =
 
 -- ---- the push and the turn
 
-module _ (q : Queue) (entry : Entry) (m : State) (instr : Instr) (ds : Demands) (fifo : IsFifo m.queues) (on : m.fifo_on ≡ true) (runs : m.risc_on ≡ true) (running : m.job ≡ Running instr ds)
-    (one : m.trigger ≡ 1) (none : is_none (front (queue_state q m.queues)) ≡ true) (takes : takes_whole (kind_of entry.status) (demand_on q ds).needs_sol 0 (demand_on q ds).rest ≡ true)
-    (before : none_before q ds m ≡ true) where
+-- behind the last application of a burst there are no others
+abbrev others_after : Queue → Option State → List Application
+others_after q after = elim after as (λ _. List Application) [ None ↦ [] | Some next ↦ applications 0 q next ]
+
+-- what is asked before it, one by one
+record Falls (q : Queue) (entry : Entry) (m : State) (ds : Demands) : Type 0 where
+  on : m.fifo_on ≡ true
+  runs : m.risc_on ≡ true
+  one : m.trigger ≡ 1
+  none : is_none (front (queue_state q m.queues)) ≡ true
+  takes : takes_whole (kind_of entry.status) (demand_on q ds).needs_sol 0 (demand_on q ds).rest ≡ true
+  before : none_before q ds m ≡ true
+
+module _ (q : Queue) (entry : Entry) (m : State) (instr : Instr) (ds : Demands) (fifo : IsFifo m.queues) (running : m.job ≡ Running instr ds) (falls : Falls q entry m ds) where
   abbrev held : QueueState
   held = queue_state q m.queues
 
@@ -108,10 +124,10 @@ module _ (q : Queue) (entry : Entry) (m : State) (instr : Instr) (ds : Demands) 
   rest = (demand_on q ds).rest
 
   empty : IsEmpty held
-  empty = empty_queue held (IsQueue-queue_state q m.queues fifo) none
+  empty = empty_queue held (IsQueue-queue_state q m.queues fifo) falls.none
 
   whole : IsWhole (kind_of entry.status) (demand_on q ds).needs_sol 0 rest
-  whole = plain_whole _ _ _ _ takes
+  whole = plain_whole _ _ _ _ falls.takes
 
   -- behind the push
   abbrev came : State
@@ -119,7 +135,7 @@ module _ (q : Queue) (entry : Entry) (m : State) (instr : Instr) (ds : Demands) 
 
   entry_came : push q entry m ≡ came
   entry_came =
-      ap (λ is_on. push_if is_on q entry m) on
+      ap (λ is_on. push_if is_on q entry m) falls.on
       ∙ ap (λ full. record (with_fbus_if full m) { queues = if full then (with_queue_state q (overrun held) m.queues) else (with_queue_state q (entered entry held) m.queues) }) empty.room
 
   asks : (rest == 0) ≡ false
@@ -131,7 +147,7 @@ module _ (q : Queue) (entry : Entry) (m : State) (instr : Instr) (ds : Demands) 
   ready : is_served q ds came ≡ true
   ready =
       ap (λ none. not none && is_ready m.trigger (queue_state q came.queues)) asks
-      ∙ ap (λ trigger. is_ready trigger (queue_state q came.queues)) one
+      ∙ ap (λ trigger. is_ready trigger (queue_state q came.queues)) falls.one
       ∙ ap (is_ready 1) (queue_state-with_queue_state q (entered entry held) m.queues)
       ∙ ap (λ entries. is_ready 1 (record held { entries = entries ++ entry ∷ [] })) empty.entries
 
@@ -171,28 +187,94 @@ module _ (q : Queue) (entry : Entry) (m : State) (instr : Instr) (ds : Demands) 
       taken_as : QueueState → State
       taken_as at = stored_as at.taken (with_queue_state q (taken_from 4 at) came.queues)
 
-  pub entry_falls : acted (push q entry m) ≡ fallen_through q instr ds entry m
+  lowest_is : lowest_served ds came ≡ Some q
+  lowest_is = lowest q ds m (entered entry held) falls.before ready
+
+  entry_falls : acted (push q entry m) ≡ fallen_through q instr ds entry m
   entry_falls =
       ap acted entry_came
-      ∙ ap (λ is_on. turn_if is_on came) runs
+      ∙ ap (λ is_on. turn_if is_on came) falls.runs
       ∙ ap (λ job. worked job came) running
       ∙ ap (λ done. ran done instr ds came) (not_done q ds asks)
-      ∙ ap (λ at. burst_of at came) (lowest q ds m (entered entry held) before ready)
-      ∙ ap (λ count. burst count q came) one
+      ∙ ap (λ at. burst_of at came) lowest_is
+      ∙ ap (λ count. burst count q came) falls.one
       ∙ ap (λ after. elim after [ None ↦ came | Some state ↦ state ]) applied
       ∙ back
 
+  -- ---- what is seen of the turn
+
+  abbrev whole_take : Application
+  whole_take = record { entry = entry; taken = (queue_state q came.queues).taken; demand = demand_on q ds }
+
+  takes_it : takes_whole (kind_of entry.status) (demand_on q ds).needs_sol whole_take.taken rest ≡ true
+  takes_it =
+      ap (λ (at : QueueState). takes_whole (kind_of entry.status) (demand_on q ds).needs_sol at.taken rest) (queue_state-with_queue_state q (entered entry held) m.queues)
+      ∙ ap (λ taken. takes_whole (kind_of entry.status) (demand_on q ds).needs_sol taken rest) empty.taken
+      ∙ falls.takes
+
+  -- it is the only application
+  one_application : applications 1 q came ≡ whole_take ∷ []
+  one_application =
+      ap (λ job. application_in job q came ++ others_after q (apply q came)) running
+      ∙ ap (λ at. served_application at q ds came ++ others_after q (apply q came)) is_front
+      ∙ ap (λ none. (if none then [] else whole_take ∷ []) ++ others_after q (apply q came)) asks
+      ∙ ap (λ after. (whole_take ∷ []) ++ others_after q after) applied
+
+  abbrev at : ℕ
+  at = address_before came.pc instr
+
+  came_seen : seen came ≡ moved_whole q at
+  came_seen =
+      ap (λ is_on. seen_if is_on came) falls.runs
+      ∙ ap (λ job. seen_in job came) running
+      ∙ ap (λ done. seen_running done at ds came) (not_done q ds asks)
+      ∙ ap (λ served. seen_served served at came) lowest_is
+      ∙ ap (λ count. seen_burst q at (applications count q came)) falls.one
+      ∙ ap (seen_burst q at) one_application
+      ∙ sym (all_noted-seen_burst q at (whole_take ∷ []))
+      ∙ sym (whole_noted q whole_take (seen_alone (Moved q) at) takes_it)
+
+  entry_seen : MovesWhole q (seen (push q entry m))
+  entry_seen =
+      let is : seen (push q entry m) ≡ moved_whole q at = ap seen entry_came ∙ came_seen in
+      is ∙ ap (moved_whole q) (sym (ap (λ (s : Seen). s.at) is))
+
 -- by what is asked of an entry before it is pushed
-pub falls_acted : (q : Queue) (entry : Entry) (m : State) (instr : Instr) (ds : Demands) → IsFifo m.queues → m.job ≡ Running instr ds → falls_through q entry.status m ≡ true →
-    acted (push q entry m) ≡ fallen_through q instr ds entry m
-falls_acted q entry m instr ds fifo running e =
+falls_in_parts : (q : Queue) (entry : Entry) (m : State) (instr : Instr) (ds : Demands) → m.job ≡ Running instr ds → falls_through q entry.status m ≡ true → Falls q entry m ds
+falls_in_parts q entry m instr ds running e =
     let on = and_parts m.fifo_on (m.risc_on && falls_in m.job q entry.status m) e in
     let runs = and_parts m.risc_on (falls_in m.job q entry.status m) on.1 in
     let falls : falls_in (Running instr ds) q entry.status m ≡ true = subst (λ job. falls_in job q entry.status m ≡ true) running runs.1 in
     let one = and_parts (m.trigger == 1) (is_none (front (queue_state q m.queues)) && (takes_whole (kind_of entry.status) (demand_on q ds).needs_sol 0 (demand_on q ds).rest && none_before q ds m)) falls in
     let none = and_parts (is_none (front (queue_state q m.queues))) (takes_whole (kind_of entry.status) (demand_on q ds).needs_sol 0 (demand_on q ds).rest && none_before q ds m) one.1 in
     let takes = and_parts (takes_whole (kind_of entry.status) (demand_on q ds).needs_sol 0 (demand_on q ds).rest) (none_before q ds m) none.1 in
-    entry_falls q entry m instr ds fifo on.0 runs.0 running (grind (arith, one.0)) none.0 takes.0 takes.1
+    record { on = on.0; runs = runs.0; one = grind (arith, one.0); none = none.0; takes = takes.0; before = takes.1 }
+
+pub falls_acted : (q : Queue) (entry : Entry) (m : State) (instr : Instr) (ds : Demands) → IsFifo m.queues → m.job ≡ Running instr ds → falls_through q entry.status m ≡ true →
+    acted (push q entry m) ≡ fallen_through q instr ds entry m
+falls_acted q entry m instr ds fifo running e = entry_falls q entry m instr ds fifo running (falls_in_parts q entry m instr ds running e)
+
+-- an instruction runs
+record FallsOn (q : Queue) (entry : Entry) (m : State) : Type 0 where
+  instr : Instr
+  demands : Demands
+  runs : m.job ≡ Running instr demands
+  falls : Falls q entry m demands
+
+falls_on : (q : Queue) (entry : Entry) (m : State) → falls_through q entry.status m ≡ true → FallsOn q entry m
+falls_on q entry m e =
+    let on = and_parts m.fifo_on (m.risc_on && falls_in m.job q entry.status m) e in
+    by_job m.job refl (and_parts m.risc_on (falls_in m.job q entry.status m) on.1).1
+  where
+    by_job : (job : Job) → m.job ≡ job → falls_in job q entry.status m ≡ true → FallsOn q entry m
+    by_job Idle is falls = absurd cc
+    by_job (Waiting ctl resync code) is falls = absurd cc
+    by_job (Running instr ds) is falls = record { instr = instr; demands = ds; runs = is; falls = falls_in_parts q entry m instr ds is e }
+
+pub falls_seen : (q : Queue) (entry : Entry) (m : State) → IsFifo m.queues → falls_through q entry.status m ≡ true → MovesWhole q (seen (push q entry m))
+falls_seen q entry m fifo e =
+    let on = falls_on q entry m e in
+    entry_seen q entry m on.instr on.demands fifo on.runs on.falls
 
 -- the machine runs an instruction
 pub falls_running : (at : Phase) (wait : Wait) (instr : Instr) (ds : Demands) (q : Queue) (status : ℕ) (m : State) → m.job ≡ job_of at wait instr ds →

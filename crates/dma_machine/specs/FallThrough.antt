@@ -1,5 +1,5 @@
 -- An entry that falls through an empty queue: the turn behind its push takes it whole.
-use Rattle.std.specs.Prelude.{ℕ, Bool, true, false, not, ◌&&◌, ◌==◌, is_none, List, length}
+use Rattle.std.specs.Prelude.{◌≡◌, ℕ, Bool, true, false, not, ◌&&◌, ◌==◌, is_none, List, length}
 use Rattle.risc_word.specs.declared.Instr.{Instr}
 use Rattle.risc_word.specs.Parts.{instr_off}
 use Rattle.sync_status.specs.Statuses.{kind_of}
@@ -9,8 +9,10 @@ use Rattle.fifo_model.specs.declared.Queue.TheVariants.{One, Two, Three}
 use Rattle.fifo_model.specs.Queues.{front, lane_bytes, more, queue_state}
 use Rattle.machine_model.specs.declared.Demand.{Demand}
 use Rattle.machine_model.specs.declared.Demands.{Demands}
+use Rattle.machine_model.specs.declared.Did.TheVariants.{Moved}
 use Rattle.machine_model.specs.declared.Job.{Job}
 use Rattle.machine_model.specs.declared.Job.TheVariants.{Running}
+use Rattle.machine_model.specs.declared.Seen.{Seen}
 use Rattle.machine_model.specs.States.{State}
 use Rattle.machine_model.specs.Turns.{Store, demand_less, demand_on, is_served, stored_all, stores_at, with_demand}
 use Rattle.dma_machine.specs.WholeTakes.{takes_whole}
@@ -45,3 +47,10 @@ put_down q count instr ds lane bytes m =
 -- its four bytes are stored, and the queues are as they were
 abbrev pub fallen_through : Queue → Instr → Demands → Entry → State → State
 fallen_through q instr ds entry m = put_down q 4 instr ds 0 (lane_bytes entry.dword) m
+
+-- what is seen of that turn: bytes of the queue are taken, the line goes on, and nothing is given up or discarded
+abbrev pub moved_whole : Queue → ℕ → Seen
+moved_whole q at = record { did = Moved q; at = at; took = true; ended = false; reserved = false }
+
+abbrev pub MovesWhole : Queue → Seen → Type 0
+MovesWhole q s = s ≡ moved_whole q s.at

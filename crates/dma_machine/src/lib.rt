@@ -3,7 +3,7 @@
 #![tactic(auto)]
 
 ghost use Rattle.dma_machine.specs.Counts.{acted, acted_times, with_turns};
-ghost use Rattle.dma_machine.specs.FallThrough.{falls_through};
+ghost use Rattle.dma_machine.specs.FallThrough.{MovesWhole, falls_through};
 ghost use Rattle.dma_machine.specs.Facts.{IsMachine, report_of};
 ghost use Rattle.dma_machine.specs.Looks.{CanGoOn, RetiresAt, holds, next_fetch, next_retirement};
 ghost use Rattle.dma_machine.specs.Stills.{is_still};
@@ -146,6 +146,15 @@ impl<R: Ram> Machine<R> {
         self.engine.still
     }
 
+    /// Notes that the machine stands still, so that the compiler sees it too.
+    #[inline(always)]
+    fn know_still(&mut self)
+        requires { is_still self.old ≡ true }
+        ensures { self.new ≡ self.old }
+    {
+        self.engine.still = true;
+    }
+
     /// Takes so many turns, which are counted, of a machine that stands still: they do nothing. In a loop of their own the
     /// compiler sees it.
     #[inline(always)]
@@ -238,6 +247,47 @@ impl<R: Ram> Machine<R> {
         }
     }
 
+    /// A push of a data entry, and the turn behind it where this turn takes the entry whole; whether it was taken.
+    #[inline(always)]
+    fn push_and_take_on(&mut self, q: Queue, e: Entry) -> bool
+        requires { is_control (kind_of e.status) ≡ false }
+        ensures falls { result ≡ falls_through q e.status self.old }
+        ensures pushed { result ≡ false → self.new ≡ push q e self.old }
+        ensures taken { result ≡ true → self.new ≡ turn (push q e self.old) }
+        ensures seen { result ≡ true → MovesWhole q (seen (push q e self.old)) }
+        ensures before { IsMachine self.old }
+        ensures facts { IsMachine self.new }
+    {
+        let falls = self.engine.falls_through(q, e.status);
+        if falls {
+            self.fall_through(q, e);
+            self.count(1);
+        } else {
+            self.push(q, e);
+        }
+        falls
+    }
+
+    /// A push of a data entry to a queue, and the turn behind it where this turn takes the entry whole, as within a line most
+    /// are taken: such an entry need not stand in its queue. Whether the turn was taken. It neither fetches an instruction
+    /// nor retires one.
+    #[inline(never)]
+    pub fn push_and_take(&mut self, q: Queue, e: Entry) -> bool
+        requires { is_control (kind_of e.status) ≡ false }
+        ensures falls { result ≡ falls_through q e.status self.old }
+        ensures pushed { result ≡ false → self.new ≡ push q e self.old }
+        ensures taken { result ≡ true → self.new ≡ turn (push q e self.old) }
+        ensures seen { result ≡ true → MovesWhole q (seen (push q e self.old)) }
+        ensures before { IsMachine self.old }
+        ensures facts { IsMachine self.new }
+    {
+        match q {
+            Queue::One => self.push_and_take_on(Queue::One, e),
+            Queue::Two => self.push_and_take_on(Queue::Two, e),
+            Queue::Three => self.push_and_take_on(Queue::Three, e),
+        }
+    }
+
     /// So many turns of a machine that stands still: beside being counted they do nothing.
     #[inline]
     pub fn stand(&mut self, count: u32)
@@ -245,6 +295,7 @@ impl<R: Ram> Machine<R> {
         ensures state { self.new ≡ run self.old (replicate count Turn) }
         ensures facts { IsMachine self.new }
     {
+        self.know_still();
         self.count(count);
         self.stay(count);
     }

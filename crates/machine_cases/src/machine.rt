@@ -21,12 +21,14 @@ enum Action {
     Push(Queue, u8, u32),
     /// A push, and turns behind it.
     Both(Queue, u8, u32, u8),
+    /// A push, and the turn behind it where it takes the entry whole.
+    Through(Queue, u8, u32),
     Fill(Queue, u32),
     Turns(u8),
     Host(HostWrite),
 }
 
-use Action::{Both, Control, Fill, Host, Push, Turns};
+use Action::{Both, Control, Fill, Host, Push, Through, Turns};
 use Queue::{One, Three, Two};
 
 const ONE_LINE: [u32; 8] = [
@@ -81,6 +83,15 @@ fn push(m: &mut Machine<MapRam>, q: Queue, nibble: u8, dword: u32) {
     }
 }
 
+fn push_and_take(m: &mut Machine<MapRam>, q: Queue, nibble: u8, dword: u32) {
+    if nibble < 16 {
+        let status = Status::of(nibble);
+        if !matches!(kind(status), StatusKind::Control(_)) {
+            m.push_and_take(q, Entry { status, dword });
+        }
+    }
+}
+
 fn push_and_turns(m: &mut Machine<MapRam>, q: Queue, nibble: u8, dword: u32, count: u8) {
     if nibble < 16 {
         let status = Status::of(nibble);
@@ -97,6 +108,7 @@ fn act(m: &mut Machine<MapRam>, action: Action) {
         }
         Push(q, nibble, dword) => push(m, q, nibble, dword),
         Both(q, nibble, dword, count) => push_and_turns(m, q, nibble, dword, count),
+        Through(q, nibble, dword) => push_and_take(m, q, nibble, dword),
         Fill(q, count) => {
             for i in 0..count {
                 push(m, q, 0, i);
@@ -208,7 +220,7 @@ fn one_line_by_bursts(rt: HostRuntime) -> Result<(), Fail> {
 }
 
 // The start of a line, which the turn behind it takes by its verdict; a DWORD that falls through the queue, with a turn to
-// spare; and the end, to which no turn belongs.
+// spare; and the end, to which no turn belongs. Pushed with the turns behind them, and with the one turn that takes an entry whole.
 #[test]
 fn entries_with_turns_behind_them(rt: HostRuntime) -> Result<(), Fail> {
     let words = [
@@ -221,7 +233,7 @@ fn entries_with_turns_behind_them(rt: HostRuntime) -> Result<(), Fail> {
         0x71e1_0000,
         0x1000,
     ];
-    let actions = [
+    let with_turns = [
         Control(Code::Vre),
         Control(Code::Fm1),
         Turns(5),
@@ -230,11 +242,23 @@ fn entries_with_turns_behind_them(rt: HostRuntime) -> Result<(), Fail> {
         Both(One, 1, 0x1b1a_1918, 0),
         Turns(3),
     ];
+    let taken = [
+        Control(Code::Vre),
+        Control(Code::Fm1),
+        Turns(5),
+        Through(One, 2, 0x1312_1110),
+        Turns(1),
+        Through(One, 0, 0x1716_1514),
+        Turns(1),
+        Through(One, 1, 0x1b1a_1918),
+        Turns(3),
+    ];
     let bytes = [
         0x10, 0x11, 0x12, 0x13, 0x14, 0x15, 0x16, 0x17, 0x18, 0x19, 0x1a, 0x1b, 0,
     ];
     let want = report(11, 12, [0; 4], 0x1000_0800);
-    assert!(rt; comes_to(rt.alloc(), (&words, 0), &actions, &want, &[(0, &bytes)])?);
+    assert!(rt; comes_to(rt.alloc(), (&words, 0), &with_turns, &want, &[(0, &bytes)])?);
+    assert!(rt; comes_to(rt.alloc(), (&words, 0), &taken, &want, &[(0, &bytes)])?);
     Ok(())
 }
 

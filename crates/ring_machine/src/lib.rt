@@ -3,6 +3,7 @@
 
 ghost use Rattle.std.specs.Prelude.{◌≡◌, [], ◌∷◌, false, replicate, true};
 ghost use Rattle.dma_machine.specs.Facts.{report_of};
+ghost use Rattle.dma_machine.specs.FallThrough.{falls_through};
 ghost use Rattle.fifo_model.specs.Queues.{more};
 ghost use Rattle.irq_status.specs.Writes.{IsWrite};
 ghost use Rattle.machine_model.specs.Steps.{Control, Host, Push, Turn};
@@ -62,6 +63,20 @@ impl<R: Ram> RingMachine<R> {
         ensures { self.new ≡ ran (Push queue entry ∷ []) self.old }
     {
         let _ = self.machine.push(queue, entry);
+    }
+
+    /// A push of a data entry, and the turn behind it where this turn takes the entry whole; whether it was taken. It ends no
+    /// block, since it retires nothing.
+    #[inline(always)]
+    pub fn push_and_take(&mut self, queue: Queue, entry: Entry) -> bool
+        requires { is_control (kind_of entry.status) ≡ false }
+        ensures falls { result ≡ falls_through queue entry.status self.old.machine }
+        ensures pushed { result ≡ false → self.new ≡ ran (Push queue entry ∷ []) self.old }
+        ensures taken { result ≡ true → self.new ≡ ran (Turn ∷ []) (ran (Push queue entry ∷ []) self.old) }
+    {
+        // the call tells that the count has 64 bits
+        let _blocks = self.blocks();
+        self.machine.push_and_take(queue, entry)
     }
 
     /// A push of a control code, as `Machine::push_control`.
@@ -136,12 +151,12 @@ impl<R: Ram> RingMachine<R> {
         let _blocks = self.blocks();
         let mut left = count;
         while left > 0 {
-            left -= 1;
-            self.turn();
             if self.stands_still() {
                 self.stand(left);
                 return;
             }
+            left -= 1;
+            self.turn();
         }
     }
 

@@ -26,7 +26,7 @@ live_both chain live (suc first) later =
     let more : suc (first + later) ≡ suc first + later = omega arith in
     live_both chain (live_step chain (Plain Turn) live) first later ∙ ap (λ (n : ℕ). live_run chain live (replicate n (Plain Turn))) more
 
-pub turned_rest : (state before after : ChainState) (count at rest : ℕ) → before ≡ turned at state → after ≡ turned rest (lived (Plain Turn) before) → at + 1 + rest ≡ count → after ≡ turned count state
+pub turned_rest : (state before after : ChainState) (count at rest : ℕ) → before ≡ turned at state → after ≡ turned rest before → at + rest ≡ count → after ≡ turned count state
 turned_rest state before after count at rest taken made all =
-    made ∙ ap (turned rest) (turned_more state before at taken)
-    ∙ ap (λ (live : Live). record state { live = live }) (live_both state.chain state.live (at + 1) rest) ∙ ap (λ (n : ℕ). turned n state) all
+    made ∙ ap (turned rest) taken
+    ∙ ap (λ (live : Live). record state { live = live }) (live_both state.chain state.live at rest) ∙ ap (λ (n : ℕ). turned n state) all

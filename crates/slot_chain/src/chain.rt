@@ -156,11 +156,11 @@ impl<R: Ram> Chain<R> {
         ensures { self.new ≡ turned count self.old }
     {
         for turn in 0..count {
-            self.turn();
             if self.stands_still() {
-                self.stand(count - turn - 1);
+                self.stand(count - turn);
                 return;
             }
+            self.turn();
         }
     }
 

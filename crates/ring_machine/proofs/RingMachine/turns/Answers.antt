@@ -24,9 +24,7 @@ loop-left-preserved g c =
     }
 
 pub returns-then-stands_still : goal.returns-then-stands_still
-returns-then-stands_still g c =
-    c.stand.ensures
-    ∙ taken c.args.count c.loop-left.left c.loop-left.self c.turn.new.self c.args.self.now (omega (arith, c.loop-left-test.true)) c.turn.ensures c.loop-left.invariant.taken
+returns-then-stands_still g c = c.stand.ensures ∙ c.loop-left.invariant.taken
 
 pub returns : goal.returns
 returns g c =

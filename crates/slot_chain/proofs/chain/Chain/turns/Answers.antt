@@ -1,5 +1,4 @@
-use Rattle.std.proofs.Common.{◌≡◌, ◌+◌, ◌-◌, ap, arith, ◌∙◌}
-use Rattle.slot_chain.specs.States.{turned}
+use Rattle.std.proofs.Common.{◌≡◌, ◌+◌, ◌-◌, arith, ◌∙◌}
 use Rattle.slot_chain.proofs.Counted.{turned_more, turned_rest}
 use Rattle.slot_chain.proofs.chain.Chain.turns.Goals as goal
 
@@ -10,6 +9,6 @@ loop-turn-preserved g c =
 pub returns-then-stands_still : goal.returns-then-stands_still
 returns-then-stands_still g c =
     let below = c.loop-turn-test.true in
-    let rest = c.args.count - c.loop-turn.turn - 1 in
-    let all : c.loop-turn.turn + 1 + (c.args.count - c.loop-turn.turn - 1) ≡ c.args.count = omega arith in
-    turned_rest c.args.self.now c.loop-turn.self c.stand.new.self c.args.count c.loop-turn.turn rest c.loop-turn.invariant (c.stand.ensures ∙ ap (turned rest) c.turn.ensures.state) all
+    let rest = c.args.count - c.loop-turn.turn in
+    let all : c.loop-turn.turn + (c.args.count - c.loop-turn.turn) ≡ c.args.count = omega arith in
+    turned_rest c.args.self.now c.loop-turn.self c.stand.new.self c.args.count c.loop-turn.turn rest c.loop-turn.invariant c.stand.ensures all
