@@ -46,16 +46,3 @@ pub fn marks(n: u8) -> (u8, u8)
     }
     marks_of!(0 1 2 3 4 5 6 7 8 9 10 11 12 13 14 15)
 }
-
-#[cfg(test)]
-mod tests {
-    use super::*;
-
-    #[test]
-    fn fields_and_marks(rt: HostRuntime) {
-        assert_eq!(rt; Field::<28, 4>::get(0x71e1_0000), 7);
-        assert_eq!(rt; Field::<16, 4>::put(0x71e1_0000, 2), 0x71e2_0000);
-        assert_eq!(rt; Field::<0, 32>::put(5, 0xffff_ffff), 0xffff_ffff);
-        assert_eq!(rt; marks(1), (1, 14));
-    }
-}

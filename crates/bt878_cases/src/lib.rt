@@ -25,3 +25,5 @@ mod order;
 mod painting;
 #[cfg(test)]
 mod tests;
+#[cfg(test)]
+mod words;

@@ -16,4 +16,6 @@ mod streams;
 #[cfg(test)]
 mod tests;
 #[cfg(test)]
+mod texts;
+#[cfg(test)]
 mod worked;

@@ -124,6 +124,3 @@ pub fn damage_text(
     }
     Ok(text)
 }
-
-#[cfg(test)]
-mod tests;

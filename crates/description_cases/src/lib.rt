@@ -6,6 +6,8 @@ mod descriptions;
 #[cfg(test)]
 mod fields;
 #[cfg(test)]
+mod layouts;
+#[cfg(test)]
 mod plans;
 #[cfg(test)]
 mod programs;

@@ -176,38 +176,3 @@ impl IntStat {
         self.bits.0
     }
 }
-
-#[cfg(test)]
-mod tests {
-    use crate::{IntStat, interrupt_bits};
-    use bitflags::Flags;
-    use risc_word::Ctl;
-
-    #[test]
-    fn a_register_is_raised_applied_and_acknowledged(rt: HostRuntime) {
-        let mut status = IntStat::none();
-        let [_, fbus, fdsr, ocerr] = interrupt_bits();
-        status.raise(fbus);
-        status.raise(fdsr);
-        status.raise(ocerr);
-        assert_eq!(rt; status.word(), 0x0004_5000);
-        status.apply(Ctl {
-            irq: true,
-            set: 3,
-            reset: 0,
-        });
-        status.apply(Ctl {
-            irq: false,
-            set: 8,
-            reset: 1,
-        });
-        assert_eq!(rt; status.word(), 0xa004_5800);
-        status.ack(0xffff_bfff);
-        assert_eq!(rt; status.word(), 0xa000_4000);
-    }
-
-    #[test]
-    fn the_flags_are_all_the_named_bits(rt: HostRuntime) {
-        assert_eq!(rt; crate::StatusBits::all().bits(), 0xf004_5800);
-    }
-}

@@ -19,4 +19,6 @@ mod scatters;
 #[cfg(test)]
 mod slots;
 #[cfg(test)]
+mod statuses;
+#[cfg(test)]
 mod words;

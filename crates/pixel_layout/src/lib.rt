@@ -177,31 +177,3 @@ impl Format {
         }
     }
 }
-
-#[cfg(test)]
-mod tests {
-    use super::*;
-
-    #[test]
-    fn a_packed_format(rt: HostRuntime) {
-        let format = Format::named("btyuv").unwrap_or(Format::Y8);
-        assert_eq!(rt; format, Format::BtYuv);
-        assert_eq!(rt; format.planes(), 1);
-        assert_eq!(rt; format.unit_pixels(), 8);
-        assert_eq!(rt; format.is_planar(), false);
-        assert_eq!(rt; format.row_bytes(1, 16), 24);
-        assert_eq!(rt; format.chroma_row(true, 0), None);
-        assert_eq!(rt; Format::named("BtYuv"), None);
-    }
-
-    #[test]
-    fn a_planar_format(rt: HostRuntime) {
-        let format = Format::named("yuv410p").unwrap_or(Format::Y8);
-        assert_eq!(rt; format.row_bytes(1, 1024), 1024);
-        assert_eq!(rt; format.row_bytes(3, 1024), 256);
-        assert_eq!(rt; format.chroma_row(false, 8), Some(2));
-        assert_eq!(rt; format.chroma_row(false, 9), None);
-        assert_eq!(rt; format.chroma_row(true, 9), Some(3));
-        assert_eq!(rt; format.chroma_row(true, 11), None);
-    }
-}

@@ -1,5 +1,7 @@
-use crate::damage_text;
+//! Texts of rows that are whole.
+
 use capture_desc::{Desc, read_desc};
+use damage_text::damage_text;
 use std::alloc::{AllocError, Global};
 use std::test::Fail;
 
