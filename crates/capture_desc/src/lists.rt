@@ -30,9 +30,8 @@ impl Numbers {
     pub fn from_list(alloc: Global, numbers: &[u32]) -> Result<Numbers, AllocError>
         ensures { IfOk result (λ kept. kept ≡ numbers.now) }
     {
-        let mut kept = Vec::new(alloc);
-        kept.extend_from_slice(numbers)?;
-        Ok(Numbers { numbers: kept })
+        let numbers = Vec::from_slice(alloc, numbers)?;
+        Ok(Numbers { numbers })
     }
 
     /// The list.
@@ -69,9 +68,8 @@ impl ChunkList {
     pub fn from_list(alloc: Global, pairs: &[(u32, u32)]) -> Result<ChunkList, AllocError>
         ensures { IfOk result (λ kept. kept ≡ pairs.now) }
     {
-        let mut kept = Vec::new(alloc);
-        kept.extend_from_slice(pairs)?;
-        Ok(ChunkList { pairs: kept })
+        let pairs = Vec::from_slice(alloc, pairs)?;
+        Ok(ChunkList { pairs })
     }
 
     /// The list.
@@ -101,9 +99,8 @@ impl KeyText {
     pub fn from_list(alloc: Global, bytes: &[u8]) -> Result<KeyText, AllocError>
         ensures { IfOk result (λ kept. kept ≡ bytes.now) }
     {
-        let mut kept = Vec::new(alloc);
-        kept.extend_from_slice(bytes)?;
-        Ok(KeyText { bytes: kept })
+        let bytes = Vec::from_slice(alloc, bytes)?;
+        Ok(KeyText { bytes })
     }
 
     /// The bytes.

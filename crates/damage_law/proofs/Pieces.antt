@@ -21,12 +21,13 @@ use Rattle.picture_model.specs.Programs.{compiled, instr_by, instr_of}
 use Rattle.picture_model.proofs.Grains.{row_grains}
 use Rattle.picture_model.proofs.FaultlessGeometry.{IsRight}
 use Rattle.picture_model.proofs.Safe.{cuts_follow}
+use Rattle.picture_model.proofs.Sections.{row_below}
 use Rattle.picture_model.proofs.Strips.{IsStrip, row-IsStrip, skipped-IsStrip, vbi-IsStrip}
 use Rattle.field_law.specs.CutLines.{address_in}
 use Rattle.field_law.specs.Sections.{Ask, Await, Begin, GoOn, ask, ask_of, asked}
 use Rattle.field_law.proofs.CutLines.{address_behind, address_here}
 use Rattle.picture_law.specs.Pictures.{FieldByte, of_row, of_vbi, IsKeptAt, has_plane, plane_of}
-use Rattle.picture_law.proofs.Body.{field_row_strip, row_below, row_starts, skipped_starts}
+use Rattle.picture_law.proofs.Body.{field_row_strip, row_starts, skipped_starts}
 use Rattle.picture_law.proofs.Cuts.{Starts, cut_address, cut_asks, line_part_of, line_parts_of, moves, piece_asks, track_on}
 use Rattle.picture_law.proofs.BytePlaces.{queue_plane, queue_row_goes, row_track_on, skipped_goes, vbi_goes}
 use Rattle.picture_law.proofs.KeptBytes.{kept_granted, kept_once, unless_clipped}

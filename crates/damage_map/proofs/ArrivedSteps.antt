@@ -263,11 +263,11 @@ module _ (d : Desc) (right : IsRight d) (skips : d.skip_lines ≤ 255) (m : Stat
                 let long = left_later (demand_on q ds).needs_sol (demand_on q ds).rest (demand_on q ds).address (asks q w.body) is in absurd (omega arith)
 
         marked_by : (took_some ended_there : Bool) → list_any takes made ≡ took_some → list_any ends made ≡ ended_there → IsMarked (left_after q) (met_mark took_some false ended_there mark)
-        marked_by false ended_there is ends_is =
+        marked_by false ended_there is _ =
             subst (λ (x : Demands). IsMarked (left_in_line (ask_of (demand_on q x) ∷ asks q w.body)) mark) (sym (took_there.none is).1) marked_before
-        marked_by true ended_there is ends_is =
-            marked_taken ended_there (left_of q w.body) (left_after q) mark marked_before (still_open (took_there.some is)) (λ last. took_there.ended (ends_is ∙ last))
-            (λ goes. took_there.unended is (ends_is ∙ goes))
+        marked_by true ended_there is there_ends =
+            marked_taken ended_there (left_of q w.body) (left_after q) mark marked_before (still_open (took_there.some is)) (λ last. took_there.ended (there_ends ∙ last))
+            (λ goes. took_there.unended is (there_ends ∙ goes))
 
         marked_here : IsMarked (left_after q) next_mark
         marked_here =

@@ -31,6 +31,7 @@ use Rattle.picture_model.specs.Places.{byte_clipped, place}
 use Rattle.picture_model.specs.Programs.{compiled, opening, section_next, signal}
 use Rattle.picture_model.proofs.Each.{Each, each_map, each_range}
 use Rattle.picture_model.proofs.FaultlessGeometry.{IsRight, IsFrame-IsRight, IsValid-IsFrame}
+use Rattle.picture_model.proofs.Sections.{row_below}
 use Rattle.field_law.specs.Arrivals.{is_signal}
 use Rattle.field_law.specs.CutLines.{address_in}
 use Rattle.field_law.specs.Fields.{carried, is_line}
@@ -39,7 +40,6 @@ use Rattle.picture_law.specs.Pictures.{of_row, IsKeptAt, plane_of}
 use Rattle.picture_law.specs.Runs.{between, state_of, step_at}
 use Rattle.picture_law.specs.Sections.{section_of}
 use Rattle.picture_law.proofs.Between.{signal_turn, state_next}
-use Rattle.picture_law.proofs.Body.{row_below}
 use Rattle.picture_law.proofs.Cuts.{line_parts_of, moves, track_on}
 use Rattle.picture_law.proofs.BytePlaces.{queue_row_goes}
 use Rattle.damage_law.specs.Lines.{are_line, entries_taken, follow_on, make_line}

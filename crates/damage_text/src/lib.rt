@@ -4,11 +4,11 @@
 
 ghost use Rattle.std.specs.Prelude.{◌≡◌, ◌++◌, ◌<◌, ◌≤◌, ◌^◌, IfOk, Some, codes, count_by, length, option_map, string_bytes};
 ghost use Rattle.std.specs.List.{flat_map};
-ghost use Rattle.picture_model.specs.Described.{field_height, is_both, picture_row, rows_of};
+ghost use Rattle.picture_model.specs.Described.{field_height, rows_of};
 ghost use Rattle.damage_text.specs.Texts.{bad_line, bad_rows, by_field, damage_text, field_name, field_text, whole_text};
 
 use capture_desc::{Desc, Fields};
-use picture_model::field_height;
+use picture_model::{field_height, picture_row};
 use pixel_layout::Parity;
 use std::alloc::{AllocError, Global};
 use std::fmt::Write;
@@ -19,18 +19,6 @@ fn field_name(field: Parity) -> &'static str
     match field {
         Parity::Top => "top",
         Parity::Bottom => "bottom",
-    }
-}
-
-// The picture row that is row `number` of a field.
-fn picture_row(fields: Fields, field: Parity, number: usize) -> usize
-    requires { number < 2 ^ 32 }
-    ensures { result ≡ picture_row (is_both fields) field number }
-{
-    match (fields, field) {
-        (Fields::Both, Parity::Top) => 2 * number,
-        (Fields::Both, Parity::Bottom) => 2 * number + 1,
-        _ => number,
     }
 }
 
@@ -47,7 +35,7 @@ fn push_bad_rows(
 {
     for (number, &is_whole) in marks.iter().enumerate() {
         if !is_whole {
-            let row = picture_row(desc.fields, field, number);
+            let row = picture_row(desc.fields, field, number as u32);
             writeln!(text, "bad {row}")?;
         }
     }

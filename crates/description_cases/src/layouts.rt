@@ -1,7 +1,9 @@
-//! Formats of pixels, and spans of rows with clips.
+//! Formats of pixels, the rows of fields, and spans of rows with clips.
 
+use capture_desc::Fields;
 use clip_spans::{ClipFault, Clips, Rect, Span};
-use pixel_layout::Format;
+use picture_model::picture_row;
+use pixel_layout::{Format, Parity};
 use std::test::Fail;
 
 #[test]
@@ -25,6 +27,17 @@ fn a_planar_format(rt: HostRuntime) {
     assert_eq!(rt; format.chroma_row(false, 9), None);
     assert_eq!(rt; format.chroma_row(true, 9), Some(3));
     assert_eq!(rt; format.chroma_row(true, 11), None);
+}
+
+#[test]
+fn rows_of_one_field_and_of_both(rt: HostRuntime) {
+    assert_eq!(rt; picture_row(Fields::Bottom, Parity::Bottom, 7), 7);
+    assert_eq!(rt; picture_row(Fields::Both, Parity::Top, 7), 14);
+    assert_eq!(rt; picture_row(Fields::Both, Parity::Bottom, 7), 15);
+    assert_eq!(rt;
+        picture_row(Fields::Both, Parity::Bottom, 0xffff_ffff),
+        0x1_ffff_ffff
+    );
 }
 
 const RECTS: [Rect; 6] = [

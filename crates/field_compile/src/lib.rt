@@ -8,13 +8,12 @@ mod words;
 
 ghost use Rattle.std.specs.Prelude.{◌≡◌, ◌++◌, ◌^◌, ◌<◌, true, map, replicate, OnOk};
 ghost use Rattle.field_compile.specs.Kept.{BeginsWith};
-ghost use Rattle.picture_model.specs.Described.{IsDescription, describes, is_both, picture_row, rows_of};
+ghost use Rattle.picture_model.specs.Described.{IsDescription, describes, rows_of};
 ghost use Rattle.picture_model.specs.Plans.{row_strip, skipped_strip};
 ghost use Rattle.picture_model.specs.Programs.{field_words, line_instrs, lines_instrs, words_of};
 ghost use Rattle.planar_plan.specs.Lines.{AreSpansOf};
 
-use capture_desc::Fields;
-use picture_model::data_code;
+use picture_model::{data_code, picture_row};
 use pixel_layout::Parity;
 use planar_plan::{Frame, Pieces, RowSpans};
 use std::alloc::{AllocError, Global};
@@ -32,18 +31,6 @@ fn push_skipped_lines(alloc: Global, frame: &Frame, out: &mut Vec<u32>) -> Resul
         push_pieces(planar, pieces.as_slice(), out)?;
     }
     Ok(())
-}
-
-// The picture row that is row `number` of a field.
-fn picture_row(fields: Fields, field: Parity, number: u32) -> u32
-    requires { picture_row (is_both fields) field number < 2 ^ 32 }
-    ensures { result ≡ picture_row (is_both fields) field number }
-{
-    match (fields, field) {
-        (Fields::Both, Parity::Top) => 2 * number,
-        (Fields::Both, Parity::Bottom) => 2 * number + 1,
-        _ => number,
-    }
 }
 
 // Appends a picture row, where the spans of some rows are known. Its spans come in their place unless it is
@@ -94,7 +81,7 @@ fn push_rows(
     let mut pieces = Pieces::new(alloc);
     let mut words = [0; ROW_WORDS];
     for number in 0..frame.rows_of(field) {
-        let row = picture_row(fields, field, number);
+        let row = picture_row(fields, field, number) as u32;
         push_row(alloc, frame, row, &mut spans, &mut pieces, &mut words, out)?;
     }
     Ok(())

@@ -5,7 +5,6 @@ use Rattle.std.specs.List.{range_with_len}
 use Rattle.std.proofs.lemmas.Bool.{cases_Bool, cond-true, cond-false}
 use Rattle.std.proofs.lemmas.Grind.{flat_map-append}
 use Rattle.std.proofs.lemmas.List.{nil_from_length}
-use Rattle.std.proofs.lemmas.List.FromFn.{get_or-map-range_with_len, length-map-range_with_len}
 use Rattle.std.proofs.lemmas.Simd.{map-map}
 use Rattle.risc_word.specs.declared.Code.TheVariants.{Fm1}
 use Rattle.risc_word.specs.declared.Instr.{Instr}
@@ -19,10 +18,9 @@ use Rattle.picture_model.specs.declared.PieceKind.TheVariants.{Skip}
 use Rattle.picture_model.specs.Described.{both, describes, field_height, layout_of, memory_of, offset, picture_row, plane_row_bytes, rows_of, stride}
 use Rattle.picture_model.specs.Plans.{Strip, grain_bytes, grains_of, kind_by, row_strip, skipped_strip, vbi_strip}
 use Rattle.picture_model.specs.Programs.{body, data_code, field_instrs, line_instrs, lines_instrs, picture_strips, sync, vbi_from, vbi_instrs, vbi_strips}
-use Rattle.picture_model.proofs.Each.{each_All}
 use Rattle.picture_model.proofs.Grains.{row_grains}
 use Rattle.picture_model.proofs.FaultlessGeometry.{IsRight}
-use Rattle.picture_model.proofs.Sections.{rows_below}
+use Rattle.picture_model.proofs.Sections.{row_below}
 use Rattle.picture_model.proofs.Strips.{row-IsStrip, skipped-IsStrip, vbi-IsStrip}
 use Rattle.field_law.specs.Fields.{Mark}
 use Rattle.field_law.specs.Sections.{Uses, section_stores}
@@ -63,12 +61,6 @@ skipped_size : (d : Desc) (q : Queue) → (track_on q (skipped_strip d)).size �
 skipped_size d One = refl
 skipped_size d Two = refl
 skipped_size d Three = refl
-
-pub row_below : (d : Desc) (field : Parity) (k : ℕ) → k < field_height d field → picture_row (both d) field k < d.height
-row_below d field k within =
-    let here : 0 + k ≡ k = omega arith in
-    subst (λ (row : ℕ). row < d.height) (get_or-map-range_with_len (picture_row (both d) field) 0 (field_height d field) k k 0 within here)
-    (each_All (λ row. row < d.height) (rows_of d field) (rows_below d field) k 0 (omega (arith, length-map-range_with_len (picture_row (both d) field) 0 (field_height d field))))
 
 -- ---- what a queue brings of each line
 

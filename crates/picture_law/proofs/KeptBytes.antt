@@ -16,13 +16,14 @@ use Rattle.picture_model.specs.Places.{IsByte, byte_clipped, place, row_byte, vb
 use Rattle.picture_model.specs.Plans.{vbi_strip}
 use Rattle.picture_model.proofs.Places.{place_granted, places_differ}
 use Rattle.picture_model.proofs.FaultlessGeometry.{IsRight}
+use Rattle.picture_model.proofs.Sections.{row_below}
 use Rattle.field_law.specs.Sections.{is_stored}
 use Rattle.field_law.specs.CutLines.{EachByte, lines_stores}
 use Rattle.field_law.proofs.CutLines.{stored_first, stored_second}
 use Rattle.picture_law.specs.Pictures.{Picture, AreRows, FieldByte, of_row, of_vbi, IsKeptAt, IsPicture, IsUnclipped, byte_in, has_plane, plane_of, rows_on, shown_as}
 use Rattle.picture_law.proofs.BytePlaces.{queue_plane, queue_row_goes, skipped_goes, vbi_goes}
 use Rattle.picture_law.proofs.Lines.{all_stores, cut_line, cut_lines, stored_there}
-use Rattle.picture_law.proofs.Body.{field_row_strip, field_stores, row_below, row_stores, rows_all, rows_many, skipped_all, skipped_stores, skipped_strips, vbi_all, vbi_stores}
+use Rattle.picture_law.proofs.Body.{field_row_strip, field_stores, row_stores, rows_all, rows_many, skipped_all, skipped_stores, skipped_strips, vbi_all, vbi_stores}
 
 -- a store of a byte that is kept
 pub record IsOfPicture (d : Desc) (field : Parity) (picture : Picture) (store : Store) : Type 0 where

@@ -26,16 +26,19 @@ use Rattle.picture_model.proofs.FaultlessGeometry.{IsRight}
 use Rattle.picture_model.proofs.Strips.{IsStrip, row-IsStrip, skipped-IsStrip, vbi-IsStrip}
 
 -- the rows of a field are rows of the picture
-row_below : (described two : Bool) (field : Parity) (k height : ℕ) → k < (if described then (if two then height / 2 else height) else 0) → picture_row two field k < height
-row_below true true Top k height below = omega arith
-row_below true true Bottom k height below = omega arith
-row_below true false field k height below = below
-row_below false two field k height below = absurd (omega arith)
+below_height : (described two : Bool) (field : Parity) (k height : ℕ) → k < (if described then (if two then height / 2 else height) else 0) → picture_row two field k < height
+below_height true true Top k height below = omega arith
+below_height true true Bottom k height below = omega arith
+below_height true false field k height below = below
+below_height false two field k height below = absurd (omega arith)
+
+pub row_below : (d : Desc) (field : Parity) (k : ℕ) → k < field_height d field → picture_row (both d) field k < d.height
+row_below d field k below = below_height (describes d.fields field) (both d) field k d.height below
 
 pub rows_below : (d : Desc) (field : Parity) → Each (λ row. row < d.height) (rows_of d field)
 rows_below d field =
     each_map (λ k. k < field_height d field) (λ row. row < d.height) (picture_row (both d) field) (range_with_len 0 (field_height d field))
-    (λ k below. row_below (describes d.fields field) (both d) field k d.height below)
+    (row_below d field)
     (each_range 0 (field_height d field) (field_height d field) (omega arith))
 
 module _ (d : Desc) (right : IsRight d) where

@@ -1,6 +1,6 @@
 //! The fields of a description.
 
-ghost use Rattle.picture_model.specs.Described.{describes, field_height, is_both};
+ghost use Rattle.picture_model.specs.Described.{describes, field_height, is_both, picture_row};
 ghost use Rattle.std.specs.Prelude.{◌≡◌};
 
 use capture_desc::{Desc, Fields};
@@ -37,5 +37,18 @@ pub fn field_height(desc: &Desc, field: Parity) -> u32
         desc.height / 2
     } else {
         desc.height
+    }
+}
+
+/// The picture row that is row `number` of a field: where both are described, the top field has the even rows (bttv's
+/// interlaced frames). Rows are counted from 0.
+pub fn picture_row(fields: Fields, field: Parity, number: u32) -> u64
+    ensures { result ≡ picture_row (is_both fields) field number }
+{
+    let number = u64::from(number);
+    match (fields, field) {
+        (Fields::Both, Parity::Top) => 2 * number,
+        (Fields::Both, Parity::Bottom) => 2 * number + 1,
+        (Fields::Top | Fields::Bottom, _) => number,
     }
 }

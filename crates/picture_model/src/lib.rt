@@ -8,7 +8,7 @@ mod fields;
 pub mod laws;
 
 pub use codes::{data_code, vertical};
-pub use fields::{describes, field_height, is_both};
+pub use fields::{describes, field_height, is_both, picture_row};
 use risc_word::Ends;
 
 /// The most pixels of a row (this project's own limit).

@@ -18,7 +18,7 @@ use Rattle.page_table.specs.Taken.{in_order, page_at}
 use Rattle.page_table.proofs.Listed.{any_map}
 use Rattle.machine_model.specs.Paths.{IsSound, RiscProgram, shares_byte}
 use Rattle.page_table.specs.Scattered.{ArePages, IsScatterList, ScatterList}
-use Rattle.ring_model.specs.Rings.{IsRing, Ring, closing, ends, last_write, memory_of, opening, ring_program, round}
+use Rattle.ring_model.specs.Rings.{IsRing, Ring, closing, last_write, memory_of, opening, ring_program, round}
 use Rattle.ring_model.proofs.Few.{ring_few}
 use Rattle.ring_model.proofs.RingProgram.{ring_made}
 use Rattle.ring_model.proofs.Sound.{ring_length, ring_sound}
