@@ -5,12 +5,13 @@
 
 The DUMPs of a field are its VBI list, if there is one, and its picture list, each as it lies in memory up to and with
 its closing JUMP, which is left out. Around them come the opening SYNC on the field's vertical code and the closing
-JUMP, with the interrupt and the status of a compiled program. CHUNK as in lay_out.py.
+JUMP, with the interrupt and the status of a compiled program. All stand in one span, from BASE on. CHUNK as in
+lay_out.py.
 """
 
 import sys
 
-from formats import IS_IRQ, JUMP, RESYNC, SYNC, VRE, VRO, program, words_of
+from formats import IS_IRQ, JUMP, RESYNC, SYNC, VRE, VRO, one_span, program, words_of
 
 FIELDS = {"top": (VRE, 0x1, 0xE), "bottom": (VRO, 0x2, 0xD)}  # vertical code, status bits to set and to clear
 
@@ -33,7 +34,7 @@ def main(out, base, fill, chunks, *fields):
     dumps = [[words_of(open(name, "rb").read()) for name in names.split(",")] for names in fields[1::2]]
     words = as_compiled(int(base, 0), list(zip(fields[0::2], dumps, strict=True)))
     with open(out, "wb") as file:
-        file.write(program(int(base, 0), words, chunks, int(fill, 0)))
+        file.write(program(int(base, 0), one_span(int(base, 0), words), chunks, int(fill, 0)))
 
 
 if __name__ == "__main__":

@@ -11,9 +11,9 @@ import sys
 from typing import NamedTuple
 
 import bttv
-from formats import FM3, IS_EOL, IS_IRQ, IS_SOL, RESYNC, SYNC, WRITE, bytes_of, program
+from formats import FM3, IS_EOL, IS_IRQ, IS_SOL, RESYNC, SYNC, WRITE, bytes_of
 from lay_out import lay_out
-from make_examples import BASE, HERE, cases, write
+from make_examples import HERE, LOOP, cases, write
 
 RIGHT = next(case for case in cases() if case.name == "scattered")
 FIRST, SECOND, THIRD = RIGHT.grants
@@ -58,6 +58,10 @@ def without_resync(loop, top, bottom):
     loop[8] &= ~RESYNC
 
 
+def never_hooked(loop, top, bottom):
+    top[-2:] = bttv.NO_JUMP
+
+
 def without_jump(loop, top, bottom):
     del top[-2:]
 
@@ -71,32 +75,31 @@ PAGES = [FIRST, SECOND, THIRD]
 OK = "accepted"
 BUGS = [
     Bug("a page that was freed", top_list([FIRST, FREED, THIRD], 0, 600, 1200, 7),
-        "rejected at 0000106c, step 9: ungranted 03007000", 8),
+        "rejected at 00a01028, step 9: ungranted 03007000", 8),
     Bug("a page end not split", top_list([(FIRST[0], 3 * 4096)], 0, 600, 1200, 7),
-        "rejected at 00001064, step 8: ungranted 03006000", 33),
+        "rejected at 00a01020, step 8: ungranted 03006000", 33),
     Bug("a JUMP into a list that is gone", word(0, 7, lambda w: 0x00A05000),
-        "rejected at 00001018, step 3: jump out 00a05000"),
-    Bug("a list whose end was never hooked", word(1, -1, lambda w: 0),
-        "rejected at 0000108c, step 13: jump out 00000000"),
-    Bug("a list without its JUMP", without_jump, "rejected at 0000108c, step 13: reserved 0"),
-    Bug("a JUMP a word too far", word(0, 7, lambda w: w + 4), "rejected at 00001048, step 4: reserved 0"),
-    Bug("bytes not swapped", swap, "rejected at 00001000, step 0: reserved 0", None),
-    Bug("a length in pixels", top_list(PAGES, 0, 300, 1200, 7), OK, 39, "20004800", 6300, False),
-    Bug("four bytes too few", top_list(PAGES, 0, 596, 1200, 7), OK, 14, "20004800", 8372, False),
-    Bug("four bytes too many", top_list(PAGES, 0, 604, 1200, 7), OK, 14, "20004800"),
-    Bug("a count of 4,096", word(1, 2, lambda w: WRITE << 28 | IS_SOL | IS_EOL | 4096), OK, 2, "20000800", 7800, False),
-    Bug("pages exchanged", top_list([SECOND, FIRST, THIRD], 0, 600, 1200, 7), OK, 16, "20000800", 8400, False),
-    Bug("no EOL", word(1, 2, lambda w: w & ~IS_EOL), OK, 2, "20000800"),
-    Bug("no SOL", word(1, 2, lambda w: w & ~IS_SOL), OK, 2, "20004800", 7800, False),
-    Bug("SOL on the rest of a split line", word(1, 10, lambda w: w | IS_SOL), OK, 2, "20004800", 7800, False),
+        "rejected at 00a00018, step 3: jump out 00a05000"),
+    Bug("a list whose end was never hooked", never_hooked, "rejected at 00a01048, step 13: reserved 0"),
+    Bug("a list without its JUMP", without_jump, "rejected at 00a01048, step 13: cut"),
+    Bug("a JUMP a word too far", word(0, 7, lambda w: w + 4), "rejected at 00a01004, step 4: reserved 0"),
+    Bug("bytes not swapped", swap, "rejected at 00a00000, step 0: reserved 0", None),
+    Bug("a length in pixels", top_list(PAGES, 0, 300, 1200, 7), OK, 39, "10004800", 6300, False),
+    Bug("four bytes too few", top_list(PAGES, 0, 596, 1200, 7), OK, 14, "10004800", 8372, False),
+    Bug("four bytes too many", top_list(PAGES, 0, 604, 1200, 7), OK, 14, "10004800"),
+    Bug("a count of 4,096", word(1, 2, lambda w: WRITE << 28 | IS_SOL | IS_EOL | 4096), OK, 2, "10000800", 7800, False),
+    Bug("pages exchanged", top_list([SECOND, FIRST, THIRD], 0, 600, 1200, 7), OK, 16, "10000800", 8400, False),
+    Bug("no EOL", word(1, 2, lambda w: w & ~IS_EOL), OK, 2, "10000800"),
+    Bug("no SOL", word(1, 2, lambda w: w & ~IS_SOL), OK, 2, "10004800", 7800, False),
+    Bug("SOL on the rest of a split line", word(1, 10, lambda w: w | IS_SOL), OK, 2, "10004800", 7800, False),
     Bug("FM3 for packed data", word(1, 0, lambda w: SYNC << 28 | FM3), OK, 2, "00004000", 0, False),
-    Bug("a line too many", top_list(PAGES, 0, 600, 1200, 8), OK, 25, "20004800"),
-    Bug("a line too few", top_list(PAGES, 0, 600, 1200, 6), OK, 25, "20000800", 7800, False),
-    Bug("fields exchanged", exchange, OK, 32, "20000800", 8400, False),
-    Bug("no IRQ", word(2, -2, lambda w: w & ~IS_IRQ), OK, None, "20000000"),
-    Bug("the other field's status", word(2, -2, lambda w: w ^ (0x33 << 16)), OK, None, "10000800"),
-    Bug("a status that is never cleared", word(2, -2, lambda w: w & ~(0xF << 20)), OK, None, "30000800"),
-    Bug("no RESYNC", without_resync, OK, None, "20000800"),
+    Bug("a line too many", top_list(PAGES, 0, 600, 1200, 8), OK, 25, "10004800"),
+    Bug("a line too few", top_list(PAGES, 0, 600, 1200, 6), OK, 25, "10000800", 7800, False),
+    Bug("fields exchanged", exchange, OK, 32, "10000800", 8400, False),
+    Bug("no IRQ", word(2, -2, lambda w: w & ~IS_IRQ), OK, None, "10000000"),
+    Bug("the top field's status", word(2, -2, lambda w: w ^ (0x33 << 16)), OK, None, "20000800"),
+    Bug("a status that is never cleared", word(2, -2, lambda w: w & ~(0xF << 20)), OK, None, "10000800"),
+    Bug("no RESYNC", without_resync, OK, None, "10000800"),
 ]  # fmt: skip
 FILES = {"stale_jump": 2, "page_end": 1, "no_eol": 12}  # those that are written, by their place in BUGS
 
@@ -108,8 +111,8 @@ def buffers_with(bug):
 
 
 def laid_out(bug):
-    """The program file: the buffers as they are, bug and all."""
-    return program(BASE, lay_out(BASE, buffers_with(bug)), RIGHT.grants, RIGHT.description.fill)
+    """The program file: the buffers where they are, bug and all."""
+    return lay_out(LOOP, buffers_with(bug), RIGHT.grants, RIGHT.description.fill)
 
 
 def lists_with(bug):

@@ -1,6 +1,11 @@
 """RISC lists as Linux bttv makes them (drivers/media/pci/bt8xx/bttv-risc.c), written anew for the examples.
 
-A list is a list of words. A scatter list is a list of (address, length), the pieces of memory one after another.
+They are those of Linux 6.12; `overlay` is that of 6.1, since 6.12 has none.
+
+A list is a list of words. A scatter list is a list of (address, length), the pieces of memory one after another. The
+status that a list's closing JUMP sets: VIDEO on the last picture list of a frame; TOP on the top list where the top
+field is a buffer of its own and a bottom field follows; VBI on the last VBI list; none, and no interrupt, on the top
+list of an interlaced frame or before a bottom VBI list.
 """
 
 from formats import (
@@ -8,23 +13,34 @@ from formats import (
 )  # fmt: skip
 
 TOP_VBI, TOP_FIELD, BOTTOM_VBI, BOTTOM_FIELD = 4, 6, 10, 12  # places of the slots in the main loop, in words
-NO_JUMP = [JUMP << 28, 0]  # the end of a list that isn't hooked yet
+LOOP_JUMP = 14  # the closing JUMP of the main loop
+VIDEO, TOP, VBI = 1, 2, 4  # RISC status
+NO_JUMP = [0, 0]  # the end of a list that isn't hooked yet: memory as it was allocated
+CHROMA_FIRST = {1: 0, 2: 1, 4: 2}  # by the step down: the first row with chroma of an interlaced frame's bottom field
+
+
+def jump(status):
+    """The first word of a JUMP, with an interrupt and the status where there is one."""
+    return JUMP << 28 | (IS_IRQ | (~status & 15) << 20 | status << 16 if status else 0)
 
 
 def main_loop(at):
-    """The standing loop of 16 words: a SYNC for each field, and slots that jump on to the next word."""
+    """The standing loop of 16 words: a SYNC for each field, and slots that jump on to the next word.
+
+    It is as it stands once the first picture is queued: until its lists are hooked the closing JUMP has the interrupt, so
+    that there is one to hook lists at.
+    """
     words = [SYNC << 28 | RESYNC | VRE, 0] + [0] * 6 + [SYNC << 28 | RESYNC | VRO, 0] + [0] * 6
     for slot in (2, 4, 6, 10, 12):
         words[slot : slot + 2] = [JUMP << 28, at + 4 * (slot + 2)]
-    words[14:16] = [JUMP << 28, at]
+    words[LOOP_JUMP : LOOP_JUMP + 2] = [jump(VIDEO), at]
     return words
 
 
 def hook(loop, at, slot, words, list_at, status):
     """The slot leads to the list, and the list's closing JUMP back behind the slot, with an interrupt if `status`."""
-    irq = IS_IRQ | (~status & 15) << 20 | status << 16 if status else 0
-    words[-2:] = [JUMP << 28 | irq, at + 4 * (slot + 2)]
-    loop[slot + 1] = list_at
+    words[-2:] = [jump(status), at + 4 * (slot + 2)]
+    loop[slot + 1], loop[LOOP_JUMP] = list_at, jump(0)
 
 
 def skip_to(scatter, offset):
@@ -50,11 +66,15 @@ def packed(scatter, offset, line_bytes, pitch, lines, skip_lines=0):
     return words + NO_JUMP
 
 
-def planar(scatter, offsets, line_bytes, pitch, lines, across, down):
-    """A planar field: SYNC on FM3, then WRITE123 where chroma is kept and WRITE1S23 where it isn't."""
+def planar(scatter, offsets, line_bytes, pitch, lines, across, down, first=0):
+    """A planar field: SYNC on FM3, then WRITE123 where chroma is kept and WRITE1S23 where it isn't.
+
+    Of `down` lines one keeps chroma, of the first ones line `first`: 0, but CHROMA_FIRST for the bottom field of an
+    interlaced frame.
+    """
     words, (luma, blue, red) = [SYNC << 28 | FM3, 0], offsets
     for line in range(lines):
-        done, keeps = 0, line % down == 0
+        done, keeps = 0, line % down == first
         chroma = line // down * (pitch // across)
         while done < line_bytes:
             spots = [skip_to(scatter, luma + line * pitch + done)[0]]

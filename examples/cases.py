@@ -19,7 +19,7 @@ from bttv import packed
 from description import Description
 from formats import (
     ENDS, FM1, FM3, IS_EOL, IS_IRQ, IS_SOL, JUMP, PXV, RESYNC, SKIP123, SOL, SYNC, VRE, VRO, WRITE123, Stream, image,
-    listing, program, read_program,
+    listing, one_span, program, read_program,
 )  # fmt: skip
 from make_examples import BASE, HERE, write
 from paint import filled, paint
@@ -32,16 +32,16 @@ def report(turns, moved, overruns, status):
 
 
 REPORTS = {  # turns, moved, overruns, status
-    ("main_loop", "main_loop"): (1120, 256, 0, "20000800"),
-    ("scattered", "scattered"): (33664, 8400, 0, "20000800"),
-    ("chroma", "chroma"): (4160, 768, 0, "20000800"),
+    ("main_loop", "main_loop"): (1504, 256, 0, "10000800"),
+    ("scattered", "scattered"): (33664, 8400, 0, "10000800"),
+    ("chroma", "chroma"): (4160, 768, 0, "10000800"),
     ("overlay", "overlay"): (1184, 240, 0, "10000800"),
     ("one_line", "one_line"): (9, 8, 0, "10000800"),
     ("one_line", "overrun"): (84, 8, 32, "10005800"),
     ("two_lines", "early_eol"): (15, 23, 0, "10004800"),
     ("one_line", "resync"): (12, 8, 0, "10000800"),
     ("one_line", "stray"): (10, 8, 0, "10004800"),
-    ("no_eol", "scattered"): (33664, 8400, 0, "20000800"),
+    ("no_eol", "scattered"): (33664, 8400, 0, "10000800"),
 }
 IMAGES = {"overrun": "one_line", "resync": "one_line", "stray": "one_line"}  # where it isn't the stream's own name
 VERDICTS = {"into_operand": "rejected at 00001004, step 2: ungranted 70000000"}
@@ -88,7 +88,7 @@ def compiled():
         lines = [packed(Description(f"{HERE}/{name}.toml").chunks, 0, 8, 8, 1)]
         words[name] = as_compiled(BASE, [("top", lines)])
     described = {name: Description(f"{HERE}/{name}.toml") for name in words}
-    return {name: program(BASE, words[name], d.chunks, d.fill) for name, d in described.items()}
+    return {name: program(BASE, one_span(BASE, words[name]), d.chunks, d.fill) for name, d in described.items()}
 
 
 # what `make` must write (docs/FORMATS.md, "Generated streams")
@@ -131,6 +131,8 @@ def made(description, seed):
         stream.control(VRE if field == "top" else VRO)
         if description.vbi_lines:
             stream.control(FM1)
+            for _ in range(description.vbi_skip[field]):
+                draw.line(stream, [description.vbi_bytes])
         for line in range(description.vbi_lines):
             (picture["vbi", field, line],) = draw.line(stream, [description.vbi_bytes])
         stream.control(FM3 if description.chroma else FM1)
@@ -142,7 +144,7 @@ def made(description, seed):
     return stream.end(), picture
 
 
-MADE = {"planar": "fields 2 entries 32\n", "one_line": "fields 1 entries 2\n", "main_loop": "fields 2 entries 64\n"}
+MADE = {"planar": "fields 2 entries 32\n", "one_line": "fields 1 entries 2\n", "main_loop": "fields 2 entries 88\n"}
 
 
 # the cases
@@ -157,8 +159,8 @@ class Case(NamedTuple):
 
 
 def size(data):
-    _, words, chunks, _ = read_program(data)
-    return f"words {len(words)} pages {len(chunks)}\n"
+    _, spans, chunks, _ = read_program(data)
+    return f"words {sum(len(words) for _, words in spans)} pages {len(chunks)}\n"
 
 
 def read(name):
@@ -211,8 +213,9 @@ def captured():
     for name, stream, numbers in (
         ("one_line", "one_line", REPORTS["one_line", "one_line"]),
         ("two_lines", "early_eol", REPORTS["two_lines", "early_eol"]),
-        ("scattered", "scattered", REPORTS["scattered", "scattered"]),
-        ("chroma", "chroma", REPORTS["chroma", "chroma"]),
+        ("main_loop", "main_loop", (1504, 256, 0, "20000800")),
+        ("scattered", "scattered", (33664, 8400, 0, "20000800")),
+        ("chroma", "chroma", (4160, 768, 0, "20000800")),
         ("planar", "planar_made", (576, 112, 0, "20000800")),
     ):
         outputs = (("out.brp", compiled_as(name)), ("out.bmi", stream + ".bmi"))

@@ -23,12 +23,13 @@ import broken
 import cases
 import descriptions
 import emulator
+import lay_out
 import make_examples
 import rings_and_chains
 from as_compiled import as_compiled
 from cases import CHAINED, DAMAGED, IMAGES, REPORTS, RINGED, VERDICTS, report
 from description import Description
-from formats import image, program, read_program
+from formats import JUMP, image, one_span, program, read_program
 from machine import Machine, Program
 from make_examples import BASE, HERE
 
@@ -52,7 +53,8 @@ class Check:
         return done.stdout.decode()
 
     def script(self, name, *words):
-        subprocess.run([sys.executable, os.path.join(HERE, name), *words], cwd=self.folder, check=True)
+        words = [sys.executable, os.path.join(HERE, name), *words]
+        subprocess.run(words, cwd=self.folder, check=True, stdout=subprocess.DEVNULL)
 
     def same(self, name, got, wanted, later=False):
         if got == wanted:
@@ -110,6 +112,29 @@ def check_machine(check):
             check.same("machine.py, image, " + bug.name, image(machine.memory) == broken.RIGHT.image(), bug.same_image)
 
 
+def check_lay_out(check):
+    """The dumps of each driver's program give it, and what can't be in a program file is told."""
+    for name in ("main_loop", "scattered", "chroma", "overlay", "stale_jump", "page_end", "no_eol"):
+        entry, _, chunks, fill = read_program(check.read(f"{HERE}/{name}.brp"))
+        dumps = sorted(glob.glob(f"{HERE}/dumps/{name}_[0-9]_*.bin"))
+        buffers = [f"0x{dump[-12:-4]}:{dump}" for dump in dumps]
+        granted = ",".join(f"{address}+{length}" for address, length in chunks)
+        check.script("lay_out.py", "laid_out", str(entry), str(fill), granted, *buffers)
+        check.same(name + ", laid out", check.read("laid_out"), check.read(f"{HERE}/{name}.brp"))
+    check.same("buffers that touch", lay_out.spans_of([(8, [3]), (0, [1, 2])]), [(0, [1, 2, 3])])
+    check.same("chunks outward", lay_out.outward([(6, 4), (1, 4), (20, 4)]), [(0, 12), (20, 4)])
+    told = [
+        "chunk 00000002 of 4 bytes is off 4 bytes (--outward rounds it)", "buffer 0 and buffer 1 share byte 00000004",
+        "buffer 0 and chunk 00000002 share byte 00000002", "buffer 1 and chunk 00000002 share byte 00000004",
+    ]  # fmt: skip
+    check.same("faults of buffers", list(lay_out.faults([(0, [1, 2]), (4, [3])], [(2, 4)])), told)
+    told = [
+        "jump at 00000000 leads to 00000008, which is in no buffer",
+        "old address 00000004 lies in buffer 0; jumps that lead there: none",
+    ]
+    check.same("warnings of buffers", list(lay_out.warnings([(0, [JUMP << 28, 8])], [4, 12])), told)
+
+
 def check_later(check):
     """Commands that are unknown to the program are skipped."""
     check.same("ring, verdict", check.run("verify", "@ring.brp"), "accepted\n")
@@ -127,7 +152,7 @@ def check_compiled(check):
     for case in make_examples.cases():
         d = case.description
         check.run("compile", f"@{case.name}.toml", "compiled")
-        lists = program(BASE, as_compiled(BASE, case.fields()), d.chunks, d.fill)
+        lists = program(BASE, one_span(BASE, as_compiled(BASE, case.fields())), d.chunks, d.fill)
         check.same(case.name + ", compiled", check.read("compiled"), lists)
         check.write("listing", check.run("list", f"@{case.name}.brp").encode())
         check.run("assemble", "listing", "again")
@@ -154,7 +179,8 @@ def check_bugs(check):
             check.same(bug.name + ", image", check.read("image") == broken.RIGHT.image(), bug.same_image)
         if bug.diff is not None:
             d = broken.RIGHT.description
-            check.write("lists", program(BASE, as_compiled(BASE, broken.lists_with(bug)), d.chunks, d.fill))
+            words = as_compiled(BASE, broken.lists_with(bug))
+            check.write("lists", program(BASE, one_span(BASE, words), d.chunks, d.fill))
             lines = difflib.unified_diff(right, check.run("list", "lists").splitlines(), n=0, lineterm="")
             changed = sum(line[:1] in "+-" and line[:3] not in ("+++", "---") for line in lines)
             check.same(bug.name + ", diff", changed, bug.diff)
@@ -199,8 +225,8 @@ def check_pages(check):
 
 
 PARTS = [
-    check_files, check_runs, check_machine, check_later, check_compiled, check_descriptions, check_bugs, check_pictures,
-    check_pages,
+    check_files, check_runs, check_machine, check_lay_out, check_later, check_compiled, check_descriptions, check_bugs,
+    check_pictures, check_pages,
 ]  # fmt: skip
 
 

@@ -23,15 +23,18 @@ class Description:
         self.unit = UNITS.get(self.format, 1)
         fields = keys.get("fields", "both")
         self.fields = ["top", "bottom"] if fields == "both" else [fields]
-        across, down = self.chroma or (1, 1)
+        across = self.chroma[0] if self.chroma else 1
         self.row_bytes = [self.width * in_eight // 8] + ([self.width // across] * 2 if self.chroma else [])
-        half = self.height // len(self.fields)
-        self.rows = [self.height] + ([len(self.fields) * -(-half // down)] * 2 if self.chroma else [])
+        self.chroma_first = dict(zip(self.fields, keys.get("chroma_first", [0, 0])))
+        kept = [row for row in map(self.chroma_row, range(self.height)) if row is not None]
+        self.rows = [self.height] + ([max(kept, default=-1) + 1] * 2 if self.chroma else [])
         self.stride = keys.get("stride", self.row_bytes)
         self.offset = keys.get("offset") or self.offsets()
         ends = map(self.end, range(len(self.rows)))
         self.vbi_lines, self.vbi_bytes = keys.get("vbi_lines", 0), keys.get("vbi_bytes", 2044)
         self.vbi_offset = keys.get("vbi_offset", max(ends))
+        self.vbi_skip = dict(zip(self.fields, keys.get("vbi_skip", [0, 0])))
+        self.vbi_stride = keys.get("vbi_stride", self.vbi_bytes)
         self.skip_lines, self.clip = keys.get("skip_lines", 0), keys.get("clip", [])
         self.chunks = keys.get("chunks") or [(page, 4096) for page in keys["pages"]]
         self.fill = keys.get("fill", 0)
@@ -43,6 +46,8 @@ class Description:
         return self.offset
 
     def end(self, plane):
+        if not self.rows[plane]:
+            return self.offset[plane]
         return self.offset[plane] + (self.rows[plane] - 1) * self.stride[plane] + self.row_bytes[plane]
 
     def rows_of(self, field):
@@ -54,7 +59,8 @@ class Description:
         """The row of planes 2 and 3 that a picture row's chroma goes to, or None where it isn't kept."""
         both, down = len(self.fields) == 2, self.chroma[1] if self.chroma else 0
         number = row // 2 if both else row
-        if not down or number % down:
+        field = self.fields[row % 2 if both else 0]
+        if not down or number % down != self.chroma_first[field]:
             return None
         return 2 * (number // down) + row % 2 if both else number // down
 
@@ -75,7 +81,7 @@ class Description:
 
     def vbi_places(self, field, line):
         area = self.fields.index(field) * self.vbi_lines
-        first = self.vbi_offset + (area + line) * self.vbi_bytes
+        first = self.vbi_offset + (area + line) * self.vbi_stride
         return [self.address(first + x) for x in range(self.vbi_bytes)]
 
     def is_clipped(self, row, pixel):

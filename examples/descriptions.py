@@ -16,6 +16,10 @@ def more(line):
     return PLAIN + line
 
 
+def values(key, *given):
+    return [more(key + b" = " + value + b"\n") for value in given]
+
+
 def says(text, *descriptions):
     return [(description, f"description: {text}\n") for description in descriptions]
 
@@ -26,7 +30,7 @@ def nested(opening, closing, depth):
 
 TAKEN = [
     PLAIN, b"\xef\xbb\xbf" + PLAIN, PLAIN.replace(b"\n", b"\r\n"), PLAIN[:-1], more(b"#\t \xc3\xa9\n"),
-    more(b"fill = -0\n"),
+    more(b"fill = -0\n"), more(b"chroma_first = [0]\nvbi_skip = [255]\nvbi_stride = 0\n"),
     width(b"0x10"), width(b"0o20"), width(b"0b10000"), width(b"1_6"), width(b"+16"),
     name(b'"width"'), name(b"'width'"), name(b'"wi\\u0064th"'),
     PLAIN.replace(b'"y8"', b'"""\ny8"""'), PLAIN.replace(b'"y8"', b"'y8'"), PLAIN.replace(b'"y8"', b"'''y8'''"),
@@ -48,6 +52,12 @@ CASES = (
     + says("wrong kind of key width", name(b"width.x"), PLAIN.replace(b"width = 16\n", b"") + b"[width]\n")
     + says("out of range key width", *map(width, [b"-1", b"4294967296", b"9223372036854775807"]))
     + says("out of range key format", PLAIN.replace(b"y8", b"Y8"), PLAIN.replace(b'"y8"', b'"\\e"'))
+    + says("out of range key chroma_first", *values(b"chroma_first", b"[1]", b"[]", b"[0, 0]", b"[-1]"))
+    + says("out of range key vbi_skip", *values(b"vbi_skip", b"[256]", b"[]", b"[0, 0]", b"[-1]"))
+    + says("out of range key vbi_stride", *values(b"vbi_stride", b"-1", b"4294967296"))
+    + says("wrong kind of key chroma_first", *values(b"chroma_first", b"0", b"[[0]]", b"[0.5]", b"[true]"))
+    + says("wrong kind of key vbi_skip", *values(b"vbi_skip", b"0", b"[[0]]", b"[0.5]", b"[true]"))
+    + says("wrong kind of key vbi_stride", *values(b"vbi_stride", b"[0]", b"1.0", b"true"))
     + says("unknown key Beta", more(b"zeta = 1\nalpha = 2\nBeta = 3\n"))
     + says("unknown key a\nb", more(b'"a\\nb" = 1\n'))
     + says("unknown key a", nested(b"[", b"]", 80), nested(b"{a=", b"}", 80), more(b"a = {b = 1,\n c = 2,}\n"))

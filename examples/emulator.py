@@ -8,7 +8,7 @@ import sys
 
 import bttv
 from as_compiled import as_compiled
-from formats import EOL4, FM1, PXV, SOL, VRE, Stream, image, program
+from formats import EOL4, FM1, PXV, SOL, VRE, Stream, image, one_span, program
 from make_examples import BASE, HERE, write
 
 STRAY = bytes.fromhex("ee ee ee ee")
@@ -18,7 +18,7 @@ CHUNKS = [(0x20000, 12), (0x20010, 20)]  # those of two_lines.toml
 def two_lines():
     """The program of two_lines.toml."""
     lists = [("top", [bttv.packed(CHUNKS, 0, 16, 16, 2)])]
-    return program(BASE, as_compiled(BASE, lists), CHUNKS, 0)
+    return program(BASE, one_span(BASE, as_compiled(BASE, lists)), CHUNKS, 0)
 
 
 def short_line(stream):

@@ -2,6 +2,8 @@
 
 import struct
 
+from program_faults import program_fault
+
 VRE, FM1, VRO, FM3 = 4, 6, 12, 14  # control codes
 PXV, EOL4, SOL, EOL1, EOL2, EOL3 = 0, 1, 2, 5, 9, 13  # status codes
 ENDS = {1: EOL1, 2: EOL2, 3: EOL3, 4: EOL4}  # by the valid bytes of a line's last DWORD
@@ -29,23 +31,47 @@ def walk(words):
         at += LENGTHS.get(words[at] >> 28, 1)
 
 
-def program(base, words, chunks, fill):
-    """A program file: BRP1 where all chunks are pages, else BRP2. Chunks are (address, length), in any order."""
-    chunks = sorted(chunks)
-    pages = all(address % 4096 == 0 and length == 4096 for address, length in chunks)
-    head = (b"BRP1" if pages else b"BRP2") + struct.pack("<II", base, len(words)) + bytes_of(words)
+def one_span(base, words):
+    """The spans of words that begin at a base: none where there are no words."""
+    return [(base, list(words))] if words else []
+
+
+def begins_alone(entry, spans):
+    """Whether a program is one of BRP1 or BRP2: it has no span, or one whose first word is the entry."""
+    return not spans or (len(spans) == 1 and spans[0][0] == entry)
+
+
+def program(entry, spans, chunks, fill):
+    """A program file. Spans are (address, words), chunks (address, length), both in any order."""
+    spans, chunks = sorted(spans), sorted(chunks)
+    pages = begins_alone(entry, spans) and all(at % 4096 == 0 and length == 4096 for at, length in chunks)
+    if begins_alone(entry, spans):
+        words = spans[0][1] if spans else []
+        head = (b"BRP1" if pages else b"BRP2") + bytes_of([entry, len(words), *words])
+    else:
+        head = b"BRP3" + bytes_of([len(spans)])
+        for at, words in spans:
+            head += bytes_of([at, len(words), *words])
+        head += bytes_of([entry])
     memory = [address for address, _ in chunks] if pages else [n for chunk in chunks for n in chunk]
-    return head + struct.pack("<I", len(chunks)) + bytes_of(memory) + bytes([fill])
+    return head + bytes_of([len(chunks), *memory]) + bytes([fill])
 
 
 def read_program(data):
-    """(base, words, chunks, fill) of a program file without a fault."""
-    base, count = struct.unpack_from("<II", data, 4)
-    words = words_of(data[12 : 12 + 4 * count])
-    memory = words_of(data[16 + 4 * count : -1])
+    """(entry, spans, chunks, fill) of a program file without a fault (program_faults.py finds those of others)."""
+    numbers, spans = iter(words_of(data[4:-1])), []
+    if data[:4] == b"BRP3":
+        for _ in range(next(numbers)):
+            at, count = next(numbers), next(numbers)
+            spans.append((at, [next(numbers) for _ in range(count)]))
+        entry = next(numbers)
+    else:
+        entry, count = next(numbers), next(numbers)
+        spans = one_span(entry, [next(numbers) for _ in range(count)])
+    _, *memory = numbers
     pages = data[:4] == b"BRP1"
     chunks = [(page, 4096) for page in memory] if pages else list(zip(memory[::2], memory[1::2], strict=True))
-    return base, words, chunks, data[-1]
+    return entry, spans, chunks, data[-1]
 
 
 NAMES = {
@@ -80,21 +106,80 @@ def parts(words):
     return [NAMES[opcode], *filter(None, fields), *rest], spelled + further
 
 
-def listing(base, words, chunks, fill):
-    """What `list` says of a program (docs/FORMATS.md, "Listings")."""
-    lines, at = [f"base {base:08x}"], 0
-    while at < len(words):
-        length = LENGTHS.get(words[at] >> 28, 0)
-        here = words[at : at + length]
+def word_lines(at, words):
+    """The lines of the words of a span, which are read by themselves."""
+    place = 0
+    while place < len(words):
+        length = LENGTHS.get(words[place] >> 28, 0)
+        here = words[place : place + length]
         told, spelled = parts(here) if length and len(here) == length else ([], [])
         if not spelled or spelled != here:
-            told, length = ["word", f"{words[at]:08x}"], 1
-        lines.append(" ".join([f"{base + 4 * at:08x}", *told]))
-        at += length
+            told, length = ["word", f"{words[place]:08x}"], 1
+        yield " ".join([f"{at + 4 * place:08x}", *told])
+        place += length
+
+
+def listing(entry, spans, chunks, fill):
+    """What `list` says of a program (docs/FORMATS.md, "Listings")."""
+    alone = begins_alone(entry, spans)
+    lines = [f"base {entry:08x}"] if alone else []
+    for at, words in sorted(spans):
+        lines += [*([] if alone else [f"span {at:08x}"]), *word_lines(at, words)]
+    lines += [] if alone else [f"entry {entry:08x}"]
     for address, count in sorted(chunks):
         is_page = address % 4096 == 0 and count == 4096
         lines.append(f"page {address:08x}" if is_page else f"chunk {address:08x} {count}")
     return "\n".join([*lines, f"fill {fill:02x}"]) + "\n"
+
+
+OPCODES = {name: opcode for opcode, name in NAMES.items()}
+
+
+def words_of_line(told):
+    """The words that the parts of a line, behind its address, spell."""
+    name, *rest = told
+    if name == "word":
+        return [int(rest[0], 16)]
+    first, opcode, numbers = OPCODES[name] << 28, OPCODES[name], []
+    flags = {"sol": IS_SOL, "eol": IS_EOL, "irq": IS_IRQ, "resync": RESYNC}
+    flags |= {word: code for code, word in CODES.items()}
+    for part in rest:
+        if part in flags:
+            first |= flags[part]
+        elif "=" in part:
+            field, _, value = part.partition("=")
+            first |= int(value, 16) << {"set": 16, "reset": 20, "off": 12}[field]
+        else:
+            numbers.append(part)
+    counts = 0 if opcode in (JUMP, SYNC) else 3 if opcode in (WRITE123, SKIP123, WRITE1S23) else 1
+    further = [int(number, 16) for number in numbers[counts:]]
+    own = [int(number) for number in numbers[:counts]]
+    if counts == 3:
+        further = [own[1] | own[2] << 16, *further]
+    return [first | (own[0] if own else 0), *further, *([0] if opcode == SYNC else [])]
+
+
+def assembled(text):
+    """(entry, spans, chunks, fill) of which a text is the listing, or None. It is listed again to see."""
+    entry, spans, chunks, fill = None, [], [], None
+    try:
+        for line in text.splitlines():
+            name, *told = line.split(" ")
+            if name in ("base", "entry"):
+                entry = int(told[0], 16)
+            elif name in ("page", "chunk"):
+                chunks.append((int(told[0], 16), int(told[1]) if name == "chunk" else 4096))
+            elif name == "fill":
+                fill = int(told[0], 16)
+            elif name == "span":
+                spans.append((int(told[0], 16), []))
+            else:
+                spans = spans or [(int(name, 16), [])]
+                spans[-1][1].extend(words_of_line(told))
+        found = entry, spans, chunks, fill
+        return found if program_fault(program(*found)) is None and listing(*found) == text else None
+    except (ValueError, KeyError, IndexError, TypeError, struct.error):
+        return None
 
 
 def image(memory):

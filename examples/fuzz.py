@@ -1,10 +1,13 @@
 #!/usr/bin/env python3
-"""Compares the program with machine.py on drawn programs and streams.
+"""Compares the program with the models of this folder on what is drawn.
 
     fuzz.py --bin PATH [--count N] [--seed N]
 
-Each drawn program is verified, and run on two streams where it is accepted. A line is printed for each difference, and
-last how many programs were accepted and how many answers differ.
+Programs of one span and of several: each is listed, assembled again, verified, and run on two streams where it is
+accepted (machine.py). Files and listings of it that were changed in a place: the first fault of a file
+(program_faults.py), and whether a text is a listing. Descriptions: the stream that `make` draws (cases.py), and the
+memory after its capture (paint.py) and the report (machine.py). A line is printed for each difference, and last how
+many programs were accepted and how many answers differ.
 """
 
 import argparse
@@ -14,39 +17,61 @@ import subprocess
 import sys
 import tempfile
 
+import cases
+from description import FORMATS, Description
 from formats import (
-    IS_EOL, IS_SOL, JUMP, PXV, SKIP, SKIP123, SYNC, WRITE, WRITE1S23, WRITE123, WRITEC, Stream, image, program,
+    IS_EOL, IS_SOL, JUMP, PXV, SKIP, SKIP123, SYNC, WRITE, WRITE1S23, WRITE123, WRITEC, Stream, assembled, image,
+    listing, program, read_program,
 )  # fmt: skip
 from machine import CODES, Machine, Program
+from paint import filled, paint
+from program_faults import program_fault
 
 BASE = 0x1000
 MEMORIES = [[(0x20000, 4096)], [(0x20000, 64), (0x20040, 32)], [(0x20004, 8), (0x20010, 4)], [(0xFFFFF000, 4096)]]
 
 
+def drawn_instruction(draw, address, target):
+    opcode = draw.choice([SYNC] * 3 + [WRITE] * 3 + [SKIP, WRITEC, WRITE123, SKIP123, WRITE1S23, JUMP])
+    control = draw.choice([0, 0, 0, draw.randrange(2) << 24 | draw.randrange(256) << 16])
+    ends = draw.choice([0, IS_SOL, IS_EOL, IS_SOL | IS_EOL]) if opcode != WRITEC else draw.choice([0, IS_EOL])
+    off = draw.choice([0, 0, 0, draw.randrange(16)]) << 12 if opcode not in (SKIP, SKIP123) else 0
+    first = opcode << 28 | control | ends | off | draw.choice([0, 1, 2, 3, 4, 5, 7, 8])
+    counts = draw.choice([0, 1, 4, 5]) << 16 | draw.choice([0, 1, 4, 5])
+    return {
+        SYNC: lambda: [SYNC << 28 | control | draw.randrange(2) << 15 | draw.choice(sorted(CODES)), 0],
+        WRITE: lambda: [first, address()],
+        WRITE123: lambda: [first, counts, address(), address(), address()],
+        SKIP123: lambda: [first, counts],
+        WRITE1S23: lambda: [first, counts, address()],
+        JUMP: lambda: [JUMP << 28 | control, target()],
+    }.get(opcode, lambda: [first])()
+
+
 def drawn_program(draw):
-    chunks, words = draw.choice(MEMORIES), []
+    """Up to four spans, each ended by a JUMP; few words stand between one and the next."""
+    chunks, bases, spans = draw.choice(MEMORIES), [BASE], []
+    for _ in range(draw.choice([0, 0, 1, 2, 3])):
+        bases.append(bases[-1] + 4 * draw.choice([24, 40, 1024]))
 
     def address():
         first, length = draw.choice(chunks)
         return first + draw.randrange(length) if draw.random() < 0.97 else draw.randrange(1 << 32)
 
-    for _ in range(draw.randrange(2, 9)):
-        opcode = draw.choice([SYNC] * 3 + [WRITE] * 3 + [SKIP, WRITEC, WRITE123, SKIP123, WRITE1S23, JUMP])
-        control = draw.choice([0, 0, 0, draw.randrange(2) << 24 | draw.randrange(256) << 16])
-        ends = draw.choice([0, IS_SOL, IS_EOL, IS_SOL | IS_EOL]) if opcode != WRITEC else draw.choice([0, IS_EOL])
-        off = draw.choice([0, 0, 0, draw.randrange(16)]) << 12 if opcode not in (SKIP, SKIP123) else 0
-        first = opcode << 28 | control | ends | off | draw.choice([0, 1, 2, 3, 4, 5, 7, 8])
-        counts = draw.choice([0, 1, 4, 5]) << 16 | draw.choice([0, 1, 4, 5])
-        words += {
-            SYNC: lambda: [SYNC << 28 | control | draw.randrange(2) << 15 | draw.choice(sorted(CODES)), 0],
-            WRITE: lambda: [first, address()],
-            WRITE123: lambda: [first, counts, address(), address(), address()],
-            SKIP123: lambda: [first, counts],
-            WRITE1S23: lambda: [first, counts, address()],
-            JUMP: lambda: [JUMP << 28 | control, BASE + 4 * draw.randrange(12)],
-        }.get(opcode, lambda: [first])()
-    words += [JUMP << 28, BASE if draw.random() < 0.8 else BASE + 4 * draw.randrange(len(words))]
-    return Program(BASE, words, chunks, draw.randrange(256))
+    def target():
+        return draw.choice(bases) + (4 * draw.randrange(12) if draw.random() < 0.2 else 0)
+
+    for base in bases:
+        words = []
+        for _ in range(draw.randrange(1 if len(bases) > 1 else 2, 9)):
+            instruction = drawn_instruction(draw, address, target)
+            words += instruction if len(words) + len(instruction) < 21 else []
+        spans.append((base, words + [JUMP << 28, target()]))
+    at, words = draw.choice(spans)
+    entry = at if draw.random() < 0.9 else at + 4 * draw.randrange(len(words))
+    if len(spans) == 1 and draw.random() < 0.8:
+        entry = at
+    return Program(entry, spans, chunks, draw.randrange(256))
 
 
 def drawn_stream(draw, form):
@@ -73,29 +98,116 @@ def drawn_stream(draw, form):
     return stream.end()
 
 
-def compare(binary, folder, drawn, draw):
-    """Whether the program is accepted, and the answers that differ."""
+def drawn_description(draw):
+    """The text of a description that has no fault, but for the odd one."""
+    form = draw.choice(sorted(FORMATS))
+    chroma = FORMATS[form][1]
+    across, down = chroma or (1, 1)
+    fields = draw.choice(["top", "bottom", "both"])
+    both = fields == "both"
+    width, height = 8 * draw.randrange(across, across + 4), draw.randrange(1, 6) * (2 if both else 1)
+    keys = {"format": f'"{form}"', "width": max(width, 24), "height": height, "fields": f'"{fields}"'}
+    count = 2 if both else 1
+    keys["chroma_first"] = [draw.randrange(down) for _ in range(count)]
+    keys["skip_lines"] = draw.randrange(3)
+    vbi_bytes = draw.randrange(5, 40)
+    keys |= {"vbi_lines": draw.randrange(4), "vbi_bytes": vbi_bytes}
+    keys["vbi_stride"] = vbi_bytes + draw.choice([0, 1, 4, 30])
+    keys["vbi_skip"] = [draw.randrange(4) for _ in range(count)]
+    keys["clip"] = [[draw.randrange(30), draw.randrange(6), draw.randrange(9), draw.randrange(4)] for _ in range(2)]
+    keys["chunks"], at = [], 0x20000
+    for length in (64, 4 * draw.randrange(1, 40), 4096):
+        keys["chunks"].append([at, length])
+        at += length + draw.choice([0, 4, 4096])
+    needed = ("format", "width", "height", "fields", "chunks", "vbi_bytes")
+    keys = {key: value for key, value in keys.items() if key in needed or draw.random() < 0.8}
+    return "".join(f"{key} = {value}\n" for key, value in (keys | {"fill": draw.randrange(256)}).items())
 
-    def run(*words):
-        return subprocess.run([binary, *words], cwd=folder, capture_output=True).stdout.decode()
 
-    def write(name, data):
-        with open(os.path.join(folder, name), "wb") as file:
+class Tool:
+    """The program, in a scratch folder."""
+
+    def __init__(self, binary, folder):
+        self.binary, self.folder = binary, folder
+
+    def run(self, words):
+        """The status, and what is said."""
+        done = subprocess.run([self.binary, *words.split()], cwd=self.folder, capture_output=True)
+        return done.returncode, done.stdout.decode()
+
+    def says(self, words):
+        return self.run(words)[1]
+
+    def write(self, name, data):
+        with open(os.path.join(self.folder, name), "wb") as file:
             file.write(data)
 
-    write("program", program(BASE, drawn.words, drawn.chunks, drawn.fill))
-    wanted = drawn.verdict()
-    differences = [] if run("verify", "program") == wanted else [wanted]
+    def read(self, name):
+        with open(os.path.join(self.folder, name), "rb") as file:
+            return file.read()
+
+
+def compare(tool, drawn, draw):
+    """Whether the program is accepted, and what was wanted where the answers differ."""
+    parts = drawn.entry, drawn.spans, drawn.chunks, drawn.fill
+    data, text, wanted = program(*parts), listing(*parts), drawn.verdict()
+    tool.write("program", data)
+    tool.write("text", text.encode())
+    differences = [] if tool.says("verify program") == wanted else [wanted]
+    differences += [] if tool.says("list program") == text else [text]
+    tool.run("assemble text again")
+    differences += [] if tool.read("again") == data else ["assembled " + text]
     for form in (b"BFS1", b"BFS2") if wanted == "accepted\n" else ():
         machine, stream = Machine(drawn), drawn_stream(draw, form)
         machine.play(stream)
-        write("stream", stream)
-        write("image", b"")
-        said = run("run", "program", "stream", "image")
-        with open(os.path.join(folder, "image"), "rb") as file:
-            if said != machine.report() or file.read() != image(machine.memory):
-                differences.append(machine.report())
-    return wanted == "accepted\n", differences
+        tool.write("stream", stream)
+        tool.write("image", b"")
+        said = tool.says("run program stream image")
+        if said != machine.report() or tool.read("image") != image(machine.memory):
+            differences.append(machine.report())
+    return wanted == "accepted\n", differences + compare_changed(tool, data, text, draw)
+
+
+def compare_changed(tool, data, text, draw):
+    """A file with a number changed or cut, and a text with lines changed."""
+    changed = bytearray(data)
+    at = draw.randrange(len(data)) // 4 * 4
+    changed[at : at + 4] = draw.choice([bytes(4), changed[at : at + 4][::-1], draw.randbytes(4), changed[4:8], b""])
+    if draw.random() < 0.2:
+        changed = changed[: draw.randrange(len(changed))] if draw.random() < 0.5 else changed + b"\0"
+    tool.write("changed", changed)
+    fault = program_fault(bytes(changed))
+    wanted = f"program file: {fault[0]} at {fault[1]}\n" if fault else listing(*read_program(bytes(changed)))
+    differences = [] if tool.says("list changed") == wanted else [wanted]
+    lines = text.splitlines(keepends=True)
+    first, second = draw.randrange(len(lines)), draw.randrange(len(lines))
+    lines[first : first + 1] = draw.choice([[], [lines[first]] * 2, [lines[second]]])
+    tool.write("text", "".join(lines).encode())
+    found = assembled("".join(lines))
+    status, said = tool.run("assemble text again")
+    if (status == 0) != (found is not None) or (found and tool.read("again") != program(*found)):
+        differences.append(f"assembled {found is not None}, said {said!r} of {''.join(lines)!r}")
+    return differences
+
+
+def compare_description(tool, text):
+    """A frame is made and captured."""
+    tool.write("description", text.encode())
+    status, said = tool.run("compile description compiled")
+    if said.startswith("geometry: too few bytes"):
+        return []
+    if status:
+        return [f"{said!r} of {text!r}"]
+    description = Description(os.path.join(tool.folder, "description"))
+    stream, picture = cases.made(description, 1)
+    machine = Machine(Program(*read_program(tool.read("compiled"))))
+    machine.play(stream)
+    tool.run("make description 1 1 stream")
+    report = tool.says("capture description stream program image")
+    answers = tool.read("stream") == stream, report == machine.report(), tool.read("program") == tool.read("compiled")
+    shown = image(paint(description, picture, filled(description)))
+    answers += tool.read("image") == shown, image(machine.memory) == shown
+    return [] if all(answers) else [f"stream, report, program, image, machine.py {answers} of {text!r}"]
 
 
 def main():
@@ -105,9 +217,11 @@ def main():
     words.add_argument("--seed", type=int, default=1)
     given, accepted, differ = words.parse_args(), 0, 0
     with tempfile.TemporaryDirectory() as folder:
+        tool = Tool(os.path.abspath(given.bin), folder)
         for number in range(given.count):
             draw = random.Random(given.seed + number)
-            good, differences = compare(os.path.abspath(given.bin), folder, drawn_program(draw), draw)
+            good, differences = compare(tool, drawn_program(draw), draw)
+            differences += compare_description(tool, drawn_description(draw)) if number % 4 == 0 else []
             accepted, differ = accepted + good, differ + len(differences)
             for difference in differences:
                 print(f"seed {given.seed + number}: wanted {difference!r}")

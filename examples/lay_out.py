@@ -1,46 +1,142 @@
 #!/usr/bin/env python3
-"""A program that lies in several buffers, as a driver keeps it, laid out as one span for bt878.
+"""A program that lies in several buffers, as a driver keeps it, as one program file for bt878. Nothing is moved.
 
-    lay_out.py OUT.brp BASE FILL CHUNK[,CHUNK..] ADDRESS:DUMP [ADDRESS:DUMP ..]
+    lay_out.py [--outward] [--old ADDRESS[,ADDRESS..]] OUT.brp ENTRY FILL CHUNK[,CHUNK..] ADDRESS:DUMP [ADDRESS:DUMP ..]
 
-A DUMP is a buffer as it lies in memory, ADDRESS the bus address that the chip sees it at. The first buffer is the
-entry. A CHUNK, ADDRESS+LENGTH, is memory that the program may write. The buffers are laid one after another from BASE
-on, each followed by a word 0 (a list that lacks its closing JUMP runs into it), and the target of each JUMP that lies
-in one of them moves with it. A target that lies in none stays as it is. Numbers may be hexadecimal (0x..).
+A DUMP is a buffer as it lies in memory, ADDRESS the bus address that the chip sees it at, ENTRY the bus address at
+which the controller begins. A CHUNK, ADDRESS+LENGTH, is memory that the program may write. `--outward` rounds chunks
+that begin or end off 4 bytes outward; `--old` names addresses at which lists lay that are gone. Numbers may be
+hexadecimal (0x..).
+
+The buffers are said in order. Buffers that touch become one span. Said too are JUMPs to an address that is in no
+buffer, and old addresses that lie in a buffer again, with the JUMPs that lead there: `verify` tells the former where
+the path comes to them, and can't tell the latter. Where buffers overlap, a chunk shares a byte with a buffer or
+another chunk, or something else can't be in a program file, no file is written and the status is 1.
 """
 
+import argparse
 import sys
 
 from formats import JUMP, program, walk, words_of
+from program_faults import program_fault
 
 
-def lay_out(base, buffers):
-    """The words, at `base`, of buffers (address, words). Each buffer's place moves by a number of its own."""
-    spans, at = [], base
-    for address, words in buffers:
-        spans.append((address, address + 4 * len(words), at - address))
-        at += 4 * len(words) + 4
+def spans_of(buffers):
+    """The spans of buffers (address, words), which rise: buffers that touch are one."""
+    spans = []
+    for at, words in sorted(buffers):
+        if spans and spans[-1][0] + 4 * len(spans[-1][1]) == at:
+            spans[-1][1].extend(words)
+        elif words:
+            spans.append((at, list(words)))
+    return spans
 
-    def moved(target):
-        return next((target + by for first, end, by in spans if first <= target < end), target)
 
-    out = []
-    for _, words in buffers:
-        words = list(words)
+def lay_out(entry, buffers, chunks, fill):
+    """The program file of buffers (address, words) at their own addresses."""
+    return program(entry, spans_of(buffers), chunks, fill)
+
+
+def outward(chunks):
+    """Chunks from a multiple of 4 to one. Those that share a byte then are one."""
+    rounded = []
+    for at, length in sorted(chunks):
+        first, end = at & ~3, (at + length + 3) & ~3
+        if rounded and first < sum(rounded[-1]):
+            first, end = rounded[-1][0], max(end, sum(rounded.pop()))
+        rounded.append((first, end - first))
+    return rounded
+
+
+def jumps(buffers):
+    """(address, target) of each JUMP, as each buffer reads from its first word on."""
+    for at, words in buffers:
         for place in walk(words):
             if words[place] >> 28 == JUMP and place + 1 < len(words):
-                words[place + 1] = moved(words[place + 1])
-        out += words + [0]
-    return out
+                yield at + 4 * place, words[place + 1]
 
 
-def main(out, base, fill, chunks, *buffers):
-    chunks = [tuple(int(n, 0) for n in chunk.split("+")) for chunk in chunks.split(",")]
-    dumps = [(int(address, 0), open(name, "rb").read()) for address, name in (b.split(":", 1) for b in buffers)]
-    words = lay_out(int(base, 0), [(address, words_of(dump)) for address, dump in dumps])
-    with open(out, "wb") as file:
-        file.write(program(int(base, 0), words, chunks, int(fill, 0)))
+def buffer_at(buffers, address):
+    """The number of the buffer that has a byte at an address, or None."""
+    return next((n for n, (at, words) in enumerate(buffers) if at <= address < at + 4 * len(words)), None)
+
+
+def faults(buffers, chunks):
+    """What can't be in a program file."""
+    ranges = [(at, at + 4 * len(words), f"buffer {number}") for number, (at, words) in enumerate(buffers)]
+    ranges += [(at, at + length, f"chunk {at:08x}") for at, length in chunks]
+    for at, length in chunks:
+        if at % 4 or length % 4:
+            yield f"chunk {at:08x} of {length} bytes is off 4 bytes (--outward rounds it)"
+    for number, (first, end, name) in enumerate(ranges):
+        for other, other_end, other_name in ranges[:number]:
+            if max(first, other) < min(end, other_end):
+                yield f"{other_name} and {name} share byte {max(first, other):08x}"
+
+
+def warnings(buffers, old):
+    """JUMPs to an address in no buffer, and old addresses that lie in a buffer."""
+    for at, target in jumps(buffers):
+        if buffer_at(buffers, target) is None:
+            yield f"jump at {at:08x} leads to {target:08x}, which is in no buffer"
+    for address in old:
+        number = buffer_at(buffers, address)
+        if number is not None:
+            led = " ".join(f"{at:08x}" for at, target in jumps(buffers) if target == address) or "none"
+            yield f"old address {address:08x} lies in buffer {number}; jumps that lead there: {led}"
+
+
+def number(text):
+    return int(text, 0)
+
+
+def numbers(text):
+    return [number(part) for part in text.split(",")]
+
+
+def chunks_of(text):
+    return [tuple(number(n) for n in chunk.split("+")) for chunk in text.split(",")]
+
+
+def buffer(text):
+    address, _, name = text.partition(":")
+    with open(name, "rb") as file:
+        dump = file.read()
+    if len(dump) % 4:
+        raise argparse.ArgumentTypeError(f"{name} has {len(dump)} bytes, which are no whole words")
+    return number(address), words_of(dump), name
+
+
+def main():
+    words = argparse.ArgumentParser(description=__doc__.splitlines()[0])
+    words.add_argument("--outward", action="store_true", help="round chunks outward to multiples of 4")
+    words.add_argument("--old", type=numbers, default=[], help="addresses of lists that are gone")
+    words.add_argument("out", metavar="OUT.brp")
+    words.add_argument("entry", type=number, metavar="ENTRY")
+    words.add_argument("fill", type=number, metavar="FILL")
+    words.add_argument("chunks", type=chunks_of, metavar="CHUNK[,CHUNK..]")
+    words.add_argument("buffers", type=buffer, nargs="+", metavar="ADDRESS:DUMP")
+    given = words.parse_args()
+    buffers = [(at, dump) for at, dump, _ in given.buffers]
+    chunks = outward(given.chunks) if given.outward else given.chunks
+    for place, (at, dump, name) in enumerate(given.buffers):
+        print(f"buffer {place}: {at:08x}, {len(dump)} words, {name}")
+    for at, length in sorted(set(chunks) - set(given.chunks)):
+        print(f"chunk {at:08x} of {length} bytes is rounded")
+    for warning in warnings(buffers, given.old):
+        print(warning)
+    found = list(faults(buffers, chunks))
+    if not found:
+        data = lay_out(given.entry, buffers, chunks, given.fill)
+        fault = program_fault(data)
+        found = [f"no program file: {fault[0]} at {fault[1]}"] if fault else []
+    for fault in found:
+        print(fault)
+    if found:
+        sys.exit(1)
+    with open(given.out, "wb") as file:
+        file.write(data)
 
 
 if __name__ == "__main__":
-    main(*sys.argv[1:]) if len(sys.argv) > 5 else sys.exit(__doc__)
+    main()

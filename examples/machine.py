@@ -56,17 +56,20 @@ class Instruction:
 
 
 class Program:
-    def __init__(self, base, words, chunks, fill):
-        self.base, self.words, self.chunks, self.fill = base, words, chunks, fill
+    """An entry, spans (address, words), chunks (address, length) and a fill. Words are known by their addresses."""
+
+    def __init__(self, entry, spans, chunks, fill):
+        self.entry, self.spans, self.chunks, self.fill = entry, spans, chunks, fill
+        self.words = {at + 4 * k: word for at, words in spans for k, word in enumerate(words)}
         self.granted = {address + k for address, length in chunks for k in range(length)}
 
     def is_word(self, address):
-        return (address - self.base) % 4 == 0 and 0 <= (address - self.base) // 4 < len(self.words)
+        return address in self.words
 
     def word(self, address):
         if not self.is_word(address):
             raise Fault("cut")
-        return self.words[(address - self.base) // 4]
+        return self.words[address]
 
     def instruction(self, pc):
         opcode = self.word(pc) >> 28
@@ -95,7 +98,7 @@ class Program:
 
     def verdict(self):
         """What `verify` says."""
-        place, number, seen = (self.base, None), 0, set()
+        place, number, seen = (self.entry, None), 0, set()
         while place not in seen:
             seen.add(place)
             pc, target = place
@@ -121,7 +124,7 @@ class Machine:
         self.restart()
 
     def restart(self):
-        self.pc, self.skip, self.target, self.waiting, self.running = self.program.base, None, None, None, None
+        self.pc, self.skip, self.target, self.waiting, self.running = self.program.entry, None, None, None, None
 
     # the decoder
 

@@ -3,23 +3,24 @@
 
     make_examples.py [FOLDER]
 
-The programs are lists as bttv makes them (bttv.py), laid out as one span (lay_out.py); the pictures are drawn, sent
-(picture_stream.py) and painted by the rules alone (paint.py). Nothing here calls bt878.
+The programs are a main loop and lists as bttv makes them (bttv.py), in buffers of their own at bus addresses
+(lay_out.py); the pictures are drawn, sent (picture_stream.py) and painted by the rules alone (paint.py). Nothing
+here calls bt878.
 """
 
 import os
 import sys
 
 import bttv
-from bttv import BOTTOM_FIELD, BOTTOM_VBI, TOP_FIELD, TOP_VBI
+from bttv import BOTTOM_FIELD, BOTTOM_VBI, CHROMA_FIRST, TOP_FIELD, TOP_VBI, VBI, VIDEO
 from description import Description
-from formats import Stream, bytes_of, image, program
+from formats import Stream, bytes_of, image
 from lay_out import lay_out
 from paint import drawn, paint
 from picture_stream import send_field
 
 HERE = os.path.dirname(os.path.abspath(__file__))
-BASE = 0x1000  # clear of all pages, and of the addresses below
+BASE = 0x1000  # of compiled programs
 LOOP, LISTS = 0x00A00000, [0x00A01000, 0x00A02000, 0x00A03000, 0x00A04000]  # where the driver's buffers lie
 
 
@@ -41,7 +42,7 @@ class Case:
         return [(LOOP, loop)] + out
 
     def program(self):
-        return program(BASE, lay_out(BASE, self.buffers()), self.grants, self.description.fill)
+        return lay_out(LOOP, self.buffers(), self.grants, self.description.fill)
 
     def fields(self):
         """(name, lists) of each field, as as_compiled.py takes them."""
@@ -67,29 +68,29 @@ def pages(*addresses):
 def cases():
     frame, vbi = [(0x02000000, 4096)], [(0x02001000, 4096)]
     hooks = [
-        (TOP_VBI, bttv.packed(vbi, 0, 32, 64, 2), 0),
-        (TOP_FIELD, bttv.packed(frame, 0, 32, 64, 2), 1),
-        (BOTTOM_VBI, bttv.packed(vbi, 128, 32, 64, 2), 4),
-        (BOTTOM_FIELD, bttv.packed(frame, 32, 32, 64, 2), 2),
+        (TOP_VBI, bttv.packed(vbi, 0, 32, 64, 2, skip_lines=1), 0),
+        (TOP_FIELD, bttv.packed(frame, 0, 32, 64, 2), 0),
+        (BOTTOM_VBI, bttv.packed(vbi, 128, 32, 64, 2, skip_lines=2), VBI),
+        (BOTTOM_FIELD, bttv.packed(frame, 32, 32, 64, 2), VIDEO),
     ]
     yield Case("main_loop", hooks, frame + vbi)
 
     scatter = pages(0x03005000, 0x03001000, 0x03004000)
     hooks = [
-        (TOP_FIELD, bttv.packed(scatter, 0, 600, 1200, 7), 1),
-        (BOTTOM_FIELD, bttv.packed(scatter, 600, 600, 1200, 7), 2),
+        (TOP_FIELD, bttv.packed(scatter, 0, 600, 1200, 7), 0),
+        (BOTTOM_FIELD, bttv.packed(scatter, 600, 600, 1200, 7), VIDEO),
     ]
     yield Case("scattered", hooks, scatter)
 
     scatter = pages(0x05001000, 0x05000000)
     hooks = [
-        (TOP_FIELD, bttv.planar(scatter, (3700, 4212, 4340), 64, 128, 4, 2, 2), 1),
-        (BOTTOM_FIELD, bttv.planar(scatter, (3764, 4244, 4372), 64, 128, 4, 2, 2), 2),
+        (TOP_FIELD, bttv.planar(scatter, (3700, 4212, 4340), 64, 128, 4, 2, 2), 0),
+        (BOTTOM_FIELD, bttv.planar(scatter, (3764, 4244, 4372), 64, 128, 4, 2, 2, CHROMA_FIRST[2]), VIDEO),
     ]
     yield Case("chroma", hooks, scatter)
 
     window = bttv.overlay(0x040004A0, 128, 2, 24, 6, [(4, 1, 8, 3)])
-    yield Case("overlay", [(TOP_FIELD, window, 1)], [(0x040004A0 + 128 * row, 48) for row in range(6)])
+    yield Case("overlay", [(TOP_FIELD, window, VIDEO)], [(0x040004A0 + 128 * row, 48) for row in range(6)])
 
 
 def write(folder, name, data):

@@ -34,6 +34,8 @@ def send_field(stream, description, field, picture):
     stream.acknowledge(RISCI).control(VRE if field == "top" else VRO)
     if description.vbi_lines:
         stream.control(FM1)
+        for _ in range(description.vbi_skip[field]):
+            stream.line(bytes(description.vbi_bytes))
     for line in range(description.vbi_lines):
         stream.line(picture["vbi", field, line])
     stream.control(FM3 if description.chroma else FM1)

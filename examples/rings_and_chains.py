@@ -7,7 +7,9 @@
 import random
 import sys
 
-from formats import EOL4, FM1, IS_EOL, IS_IRQ, IS_SOL, JUMP, RESYNC, SOL, SYNC, VRE, WRITE, Stream, image, program
+from formats import (
+    EOL4, FM1, IS_EOL, IS_IRQ, IS_SOL, JUMP, RESYNC, SOL, SYNC, VRE, WRITE, Stream, image, one_span, program,
+)  # fmt: skip
 from make_examples import BASE, HERE, write
 
 BLOCKS, LINES, BYTES, PAGES = 2, 2, 1500, [0x06000000, 0x06008000]  # those of ring.toml
@@ -36,7 +38,7 @@ def ring_program():
                 first_word |= IS_IRQ | (15 - block) << 20 | block << 16
             words += [first_word, address]
     words += [JUMP << 28, BASE + 8]
-    return program(BASE, words, [(page, 4096) for page in PAGES], 0x80)
+    return program(BASE, one_span(BASE, words), [(page, 4096) for page in PAGES], 0x80)
 
 
 def ring_stream():

@@ -54,9 +54,21 @@ def brp2(words, chunks, base=0x1000, fill=0):
     return b"BRP2" + le(base) + le(len(words) // 4) + words + le(len(chunks)) + listed + bytes([fill])
 
 
+def brp3(spans, entry, chunks, fill=0):
+    """A program file of spans (address, words as bytes) and of chunks (address, length)."""
+    listed = b"".join(le(at) + le(len(words) // 4) + words for at, words in spans)
+    granted = b"".join(le(at) + le(length) for at, length in chunks)
+    return b"BRP3" + le(len(spans)) + listed + le(entry) + le(len(chunks)) + granted + bytes([fill])
+
+
 ONE_LINE = numbers("80008004 0 80000006 0 1c000008 00020000 71e10000 00001000")
 PROGRAM = brp1(ONE_LINE, [0x20000])
 CHUNKED = brp2(numbers("80008004 0 80000006 0 1c000008 00020004 71e10000 00001000"), [(0x20004, 8)])
+# a loop of one slot, and the list that hangs in it
+SPANNED = brp3(
+    [(0x1000, numbers("80008004 0 70000000 00002000")),
+     (0x2000, numbers("80000006 0 1c000008 00020000 71e10000 00001000"))],
+    0x1000, [(0x20000, 8)])  # fmt: skip
 FIELD = bytes.fromhex("0404 0406 010210111213 010114151617 0509000000")
 STREAM = b"BFS1" + FIELD + b"\0"
 # every tag of each form
@@ -80,6 +92,17 @@ DESC_LARGE = description(
     vbi_lines=16, clip=[[0, 0, 64, 32], [576, 0, 64, 32], [0, 448, 64, 32], [576, 448, 64, 32]])  # fmt: skip
 DESC_LARGE_OTHER = DESC_LARGE.replace(b"pages", b"base = 4096\npages", 1)
 LISTING_OTHER = b"base 00001000\n00001000 word 80008004\nchunk 00020004 8\nfill 00\n"
+LISTING_SPANS = b"""span 00001000
+00001000 sync vre resync
+00001008 jump 00002000
+span 00002000
+00002000 sync fm1
+00002008 write sol eol 8 00020000
+00002010 jump irq set=1 reset=e 00001000
+entry 00001000
+chunk 00020000 8
+fill 00
+"""
 RING = b"blocks = 2\nlines = 1\nline_bytes = 8\npages = [0x20000]\n"
 RING_PAGES = [0x1000000 + 0x1000 * i for i in range(1024)]
 RING_LARGE = ("blocks = 16\nlines = 64\nline_bytes = 4092\npages = %s\n" % RING_PAGES).encode()
@@ -151,7 +174,7 @@ STREAMS = {"run": b"BFS1", "capture": b"BFS1", "damage": b"BFS1", "ring": b"BFS1
 # Answers
 
 KIND = (
-    r"(magic|short|count|base|page|order|overlap|length|pages|after end|too long|too many turns"
+    r"(magic|short|count|base|page|order|entry|overlap|length|pages|after end|too long|too many turns"
     r"|(tag|status|code|enable|trigger|slot|buffer) [0-9a-f]{2})"
 )
 KEY = r"(not toml|(unknown key .*|(missing|wrong kind of|out of range) key [a-z_]+))"
@@ -471,34 +494,54 @@ def program_fault(data):
     fields = Fields(data)
     try:
         form = fields.bytes(4)
-        fields.owe(form in (b"BRP1", b"BRP2"), "magic")
-        base = fields.number()
-        fields.owe(base % 4 == 0, "base")
-        count = fields.number()
-        fields.owe(count <= 1_048_576 and base + 4 * count <= 1 << 32, "count")
-        fields.bytes(4 * count)
+        fields.owe(form in (b"BRP1", b"BRP2", b"BRP3"), "magic")
+        spans = spans_fault(fields) if form == b"BRP3" else [span_fault(fields, 0, 0, 0)]
         chunks = fields.number()
         fields.owe(chunks <= 4096, "count")
         all_pages, end, total = True, 0, 0
         for _ in range(chunks):
-            end, total, page = chunk_fault(fields, form, (base, base + 4 * count), end, total)
+            end, total, page = chunk_fault(fields, form, spans, end, total)
             all_pages = all_pages and page
         fields.byte()
-        fields.owe(form == b"BRP1" or not all_pages, "pages", 1)
+        fields.owe(form != b"BRP2" or not all_pages, "pages", 1)
         fields.end()
     except Fault as fault:
         return str(fault)
     return None
 
 
-def chunk_fault(fields, form, program, end, total):
+def span_fault(fields, least, first, before):
+    """A span's first byte and end: it has at least so many words, begins there or later, behind so many words."""
+    at = fields.number()
+    fields.owe(at % 4 == 0, "base")
+    fields.owe(at >= first, "order")
+    count = fields.number()
+    fields.owe(least <= count <= 1_048_576 - before and at + 4 * count <= 1 << 32, "count")
+    fields.bytes(4 * count)
+    return at, at + 4 * count
+
+
+def spans_fault(fields):
+    count = fields.number()
+    fields.owe(0 < count <= 4096, "count")
+    spans = []
+    for _ in range(count):
+        words = sum(end - at for at, end in spans) // 4
+        spans.append(span_fault(fields, 1, spans[-1][1] + 1 if spans else 0, words))
+    entry = fields.number()
+    is_word = entry % 4 == 0 and any(at <= entry < end for at, end in spans)
+    fields.owe(is_word and not (count == 1 and entry == spans[0][0]), "entry")
+    return spans
+
+
+def chunk_fault(fields, form, spans, end, total):
     at, length = fields.number(), 4096
     fields.owe(at % (4096 if form == b"BRP1" else 4) == 0, "page")
     fields.owe(at >= end, "order")
-    if form == b"BRP2":
+    if form != b"BRP1":
         length = fields.number()
         fields.owe(length and length % 4 == 0 and at + length <= 1 << 32 and total + length <= 16_777_216, "length")
-    fields.owe(max(at, program[0]) >= min(at + length, program[1]), "overlap")
+    fields.owe(all(max(at, first) >= min(at + length, last) for first, last in spans if first < last), "overlap")
     return at + length, total + length, at % 4096 == 0 and length == 4096
 
 
@@ -550,6 +593,8 @@ FORMS = [
     # a name, the command that reads it, the input, its bytes, and the text of its first fault
     ("BRP1", "list", "P", PROGRAM, lambda data: named("program file", program_fault(data))),
     ("BRP2", "list", "P", CHUNKED, lambda data: named("program file", program_fault(data))),
+    ("BRP3", "list", "P", SPANNED, lambda data: named("program file", program_fault(data))),
+    ("BRP3 verified", "verify", "P", SPANNED, lambda data: named("program file", program_fault(data))),
     ("BRP2 verified", "verify", "P", CHUNKED, lambda data: named("program file", program_fault(data))),
     ("BFS1", "run", "S", STREAM_TAGS, lambda data: named("stream file", stream_fault(data, False))),
     ("BFS2", "run", "S", STREAM_TRIGGERS, lambda data: named("stream file", stream_fault(data, False))),
@@ -562,6 +607,7 @@ FORMS = [
     ("ring", "ring", "R", RING, None),
     ("listing", "assemble", "T", LISTING, None),
     ("listing of other words", "assemble", "T", LISTING_OTHER, None),
+    ("listing of spans", "assemble", "T", LISTING_SPANS, None),
 ]
 
 

@@ -56,10 +56,11 @@ fn programs_are_listed(rt: HostRuntime) -> Result<(), Fail> {
 /// What `list` says is assembled to the program that it was said of.
 #[test]
 fn listings_are_assembled(rt: HostRuntime) -> Result<(), Fail> {
-    let words: [&[u8]; 3] = [
+    let words: [&[u8]; 4] = [
         b"words 8 pages 1\n",
         b"words 4 pages 1\n",
         b"words 8 pages 1\n",
+        b"words 4 pages 1\n",
     ];
     for (case, said) in LISTED.iter().zip(words) {
         assert!(rt; assembles(rt.alloc(), case, said)?);

@@ -9,7 +9,7 @@ use Rattle.bt878_words.specs.Words.{command_of}
 use Rattle.capture_desk.specs.declared.calls.Call.{Call}
 use Rattle.capture_desk.specs.Desks.{Inputs, IsWriteFault, Seen, is_among, said_by}
 use Rattle.capture_desc.specs.declared.desc.Desc.{Desc}
-use Rattle.machine_model.specs.Paths.{RiscProgram, IsSound}
+use Rattle.machine_model.specs.Paths.{RiscProgram, IsSound, all_words}
 use Rattle.machine_model.specs.Safety.{IsInside}
 use Rattle.machine_model.specs.Steps.{state_at}
 use Rattle.capture_file.specs.declared.program.ProgramFile.{ProgramFile}
@@ -150,7 +150,7 @@ pub record DescMakes (file : Desc → List ℕ × List ℕ) (text : Desc → Lis
 
 -- what `compile` and `assemble` say of a program: its words and its chunks
 abbrev pub program_text : RiscProgram → List ℕ
-program_text program = built_text (length program.words) (length program.grants)
+program_text program = built_text (length (all_words program)) (length program.grants)
 
 abbrev pub compiled_text : Desc → List ℕ
 compiled_text d = program_text (compiled d)

@@ -227,13 +227,13 @@ module _ (file stream program image : List ℕ) (inputs : Option Inputs) (m : St
 
 module _ (ring stream program image : List ℕ) (inputs : Option Inputs) (m : RingState) where
   abbrev ring_text : List ℕ
-  ring_text = blocks_text m.blocks (report_of m.machine)
+  ring_text = blocks_text m.kept.blocks (report_of m.machine)
 
   pub ring_product : OfRingRun ring stream inputs (ShowsRing m) →
-      Makes (Rings ring stream program image) inputs (record { files = (program, spelled m.machine.program m.ring.fill) ∷ (image, image_of m.machine.memory) ∷ []; text = ring_text })
+      Makes (Rings ring stream program image) inputs (record { files = (program, spelled m.machine.program m.kept.ring.fill) ∷ (image, image_of m.machine.memory) ∷ []; text = ring_text })
   ring_product h = (
     both-map ring stream inputs (λ a b. (x : Ring) × (r : Ran) × IsRun (GivesRing x) a b r × ShowsRing m x r)
-        (λ a b. RunOf GivesRingProgram (program_and_image program image) ReportsBlocks (a ∷ b ∷ []) (record { files = (program, spelled m.machine.program m.ring.fill) ∷ (image, image_of m.machine.memory) ∷ []; text = ring_text }))
+        (λ a b. RunOf GivesRingProgram (program_and_image program image) ReportsBlocks (a ∷ b ∷ []) (record { files = (program, spelled m.machine.program m.kept.ring.fill) ∷ (image, image_of m.machine.memory) ∷ []; text = ring_text }))
         (λ a b k.
         let x = k.0 in
         let r = k.1 in
@@ -245,8 +245,8 @@ module _ (ring stream program image : List ℕ) (inputs : Option Inputs) (m : Ri
         record { ring = x; gives = gives; says = ap (λ n. blocks_text n (report_of m.machine)) shows.blocks ∙ ap (λ s. blocks_text (blocks_of x r) (report_of s)) shows.last } in (
           r,
           is,
-          run_makes r m.machine m.ring.fill sound shows.last GivesRingProgram a b is (program_and_image program image r)
-              ((program, spelled m.machine.program m.ring.fill) ∷ (image, image_of m.machine.memory) ∷ []) (same_both r m.machine m.ring.fill sound shows.last shows.fills program image) (ReportsBlocks a r) ring_text says,
+          run_makes r m.machine m.kept.ring.fill sound shows.last GivesRingProgram a b is (program_and_image program image r)
+              ((program, spelled m.machine.program m.kept.ring.fill) ∷ (image, image_of m.machine.memory) ∷ []) (same_both r m.machine m.kept.ring.fill sound shows.last shows.fills program image) (ReportsBlocks a r) ring_text says,
         )) h,
     tt,
   )

@@ -89,7 +89,7 @@ module _ (file stream : List ℕ) (old mid : Told) (ring : Ring) (m : RingState)
         ring,
         record { program = ring_program ring; fill = ring.fill; steps = p.0 },
         record { gives = record { holds = holds; compiles = refl; fills = refl }; reads = p.1 },
-        record { last = ap (λ (s : RingState). s.machine) p.2; fills = ap (λ (s : RingState). s.ring.fill) p.2; blocks = ap (λ (s : RingState). s.blocks) p.2 },
+        record { last = ap (λ (s : RingState). s.machine) p.2; fills = ap (λ (s : RingState). s.kept.ring.fill) p.2; blocks = ap (λ (s : RingState). s.kept.blocks) p.2 },
       )) is
       (subst (λ inputs. OfInput stream inputs (λ b. HasPlayedRing b ring (first_state (ring_program ring) ring.fill) m)) (same_inputs mid old same) played)
 

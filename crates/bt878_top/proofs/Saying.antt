@@ -1,5 +1,10 @@
 -- A text that is said piece by piece.
-use Rattle.std.proofs.Common.{◌≡◌, ℕ, List, [], ◌∷◌, Result, ◌++◌, ◌∙◌, ap, subst, append_assoc}
+use Rattle.std.proofs.Common.{◌≡◌, ℕ, ◌+◌, ◌<◌, List, [], ◌∷◌, Result, ◌++◌, ◌∙◌, length, drop, get_or, sym, ap, subst, append_assoc}
+use Rattle.std.specs.List.{flat_map}
+use Rattle.std.proofs.lemmas.List.{drop_more}
+use Rattle.machine_model.specs.Paths.{Span}
+use Rattle.risc_listing.specs.Listings.{span_lines}
+use Rattle.risc_listing.proofs.Spans.{no_span}
 use Rattle.capture_desk.specs.declared.calls.Call.TheVariants.{Say}
 use Rattle.capture_desk.specs.Desks.{IsWriteFault, OnlySaid, Puts, Seen, Tells, Told, after_say, counted}
 use Rattle.capture_desk.proofs.Telling.{say_both, say_more}
@@ -34,12 +39,6 @@ piece_breaks_off said piece rest front whole old mid new split so_far before is 
     (breaks_off_after said front old mid new before
     (subst (λ (text : List ℕ). BreaksOff text mid new) split (breaks_off_within piece rest mid new is)))
 
--- two pieces, and a last one
-pub last_said : {A E : Type 0} (a b c : List ℕ) (old mid later new : Told) (result : Result A E) → mid ≡ after_say a old → later ≡ after_say b mid →
-    Puts c result after_say later new → Puts (a ++ (b ++ c)) result after_say old new
-last_said a b c old mid later new result first second is =
-    pieces.puts_then after_say after_say-after_say a (b ++ c) old mid new result first (pieces.puts_then after_say after_say-after_say b c mid later new result second is)
-
 -- ---- what is counted and told
 
 pub said_both : (a b : List ℕ) (old mid new : Seen) → OnlySaid a old mid → OnlySaid b mid new → OnlySaid (a ++ b) old new
@@ -48,3 +47,15 @@ said_both a b old mid new one two = (two.0 ∙ one.0, two.1 ∙ one.1, say_both 
 pub fault_later : {E : Type 0} (a b whole : List ℕ) (failed : E) (old mid new : Seen) → OnlySaid a old mid → IsWriteFault mid new × Tells (Say ∷ []) mid.calls new.calls →
     IsWriteFault old new × Tells (Say ∷ []) old.calls new.calls
 fault_later a b whole failed old mid new one two = ((two.0.0 ∙ one.0, two.0.1 ∙ ap counted one.1, two.0.2), say_more a old.calls mid.calls new.calls one.2 two.1)
+
+-- the text of two parts, of which the first was said
+pub then_said : {A E : Type 0} (a b : List ℕ) (old mid new : Told) (result : Result A E) → mid ≡ after_say a old → Puts b result after_say mid new →
+    Puts (a ++ b) result after_say old new
+then_said = pieces.puts_then after_say after_say-after_say
+
+-- the lines of a span, and those of the spans behind it
+pub spans_split : (spans : List Span) (number : ℕ) (s : Span) → number < length spans → s ≡ get_or spans number no_span →
+    span_lines s ++ flat_map span_lines (drop (number + 1) spans) ≡ flat_map span_lines (drop number spans)
+spans_split spans number s inside is =
+    ap (λ (s : Span). span_lines s ++ flat_map span_lines (drop (number + 1) spans)) is
+    ∙ sym (ap (flat_map span_lines) (drop_more spans number no_span inside))

@@ -3,7 +3,7 @@ use Rattle.std.specs.Prelude.{ℕ, List, ◌++◌}
 use Rattle.capture_file.specs.Images.{image_of}
 use Rattle.capture_file.specs.Programs.{spelled}
 use Rattle.machine_model.specs.Paths.{RiscProgram}
-use Rattle.risc_listing.specs.Listings.{base_line, word_lines}
+use Rattle.risc_listing.specs.Listings.{all_word_lines}
 use Rattle.field_stream.specs.Made.{made}
 use Rattle.bt878_top.specs.declared.contents.Contents.{Contents}
 use Rattle.bt878_top.specs.declared.contents.Contents.TheVariants.{Program, Image, Stream}
@@ -15,4 +15,4 @@ bytes_of (Stream frame seed frames) = made frame.now seed frames
 
 -- the listing of a program, by its last lines
 abbrev pub listing_with : RiscProgram → List ℕ → List ℕ
-listing_with program memory = base_line program.base ++ (word_lines program.base 0 program.words ++ memory)
+listing_with program memory = all_word_lines program ++ memory

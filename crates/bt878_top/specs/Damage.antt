@@ -4,10 +4,11 @@ use Rattle.capture_desc.specs.declared.desc.Desc.{Desc}
 use Rattle.damage_map.specs.Laws.{map_after}
 use Rattle.damage_map.specs.Maps.{Map, rows_of}
 use Rattle.damage_text.specs.Texts.{damage_text}
-use Rattle.stream_play.specs.Runs.{HasPlayedMap}
+use Rattle.damage_map.specs.Tracks.{track_notes}
+use Rattle.stream_play.specs.Plays.{HasPlayedWatched}
 
 -- a machine of the description took its steps, and the text tells of its rows
 pub record TellsPlayed (bytes : List ℕ) (d : Desc) (text : List ℕ) : Type 0 where
   pub map : Map
-  pub played : HasPlayedMap bytes (map_after d d.fill []) map
+  pub played : HasPlayedWatched track_notes bytes (map_after d d.fill []) map
   pub tells : text ≡ damage_text d (λ field. rows_of field map)

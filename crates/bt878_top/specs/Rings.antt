@@ -8,5 +8,5 @@ use Rattle.bt878_contract.specs.Tasks.{blocks_of}
 -- it shows the last state of what ran, the fill, and the block ends over all steps
 pub record ShowsRing (m : RingState) (ring : Ring) (r : Ran) : Type 0 where
   pub last : m.machine ≡ last_of r
-  pub fills : m.ring.fill ≡ r.fill
-  pub blocks : m.blocks ≡ blocks_of ring r
+  pub fills : m.kept.ring.fill ≡ r.fill
+  pub blocks : m.kept.blocks ≡ blocks_of ring r

@@ -10,9 +10,10 @@ ghost use Rattle.command_steps.specs.Inputs.{OfInput, StopsAt};
 ghost use Rattle.command_steps.specs.Reading.{OnlyReads, ReadsThrough, Takes};
 ghost use Rattle.damage_map.specs.Laws.{map_after};
 ghost use Rattle.damage_map.specs.Maps.{rows_of};
+ghost use Rattle.damage_map.specs.Tracks.{track_notes};
 ghost use Rattle.damage_text.specs.Texts.{damage_text};
-ghost use Rattle.stream_play.specs.Plays.{longest_stream};
-ghost use Rattle.stream_play.specs.Runs.{HasPlayedMap, HoldsNoFault, IsBadStream, a_stream};
+ghost use Rattle.stream_play.specs.Plays.{HasPlayedWatched, longest_stream};
+ghost use Rattle.stream_play.specs.Runs.{HoldsNoFault, IsBadStream, a_stream};
 
 use crate::contents::Contents;
 use crate::runs::accept_sound;
@@ -20,8 +21,9 @@ use capture_desk::Desk;
 use command_inputs::check_file;
 use command_steps::{Output, finish, refuse};
 use command_texts::{Answer, Refusal};
-use damage_map::Mapped;
+use damage_map::Track;
 use damage_text::damage_text;
+use machine_watch::Watched;
 use page_ram::PageRam;
 use pixel_layout::Parity;
 use program_build::{Checked, build};
@@ -29,12 +31,12 @@ use std::alloc::{AllocError, Global};
 use stream_play::{machine_of, play_file};
 
 /// The machine of a description before its first step; nothing is told of its rows yet.
-fn map_of(alloc: Global, checked: &Checked) -> Result<Mapped<PageRam>, AllocError>
+fn map_of(alloc: Global, checked: &Checked) -> Result<Watched<PageRam, Track>, AllocError>
     ensures { IfOk result (λ map. map ≡ map_after checked.now checked.now.fill []) }
 {
     let accepted = accept_sound(alloc, build(alloc, checked)?)?;
     let machine = machine_of(alloc, accepted, checked.fill())?;
-    Mapped::new(alloc, machine, checked)
+    Ok(Watched::new(machine, Track::new(alloc, checked)?))
 }
 
 /// Plays a whole stream file on the machine of a description.
@@ -43,9 +45,9 @@ fn play_map<D: Desk>(
     checked: &Checked,
     stream: &str,
     desk: &mut D,
-) -> Result<Mapped<PageRam>, Refusal>
+) -> Result<Watched<PageRam, Track>, Refusal>
     requires { IsAllowed stream.now (D.seen desk.old).told.may_open }
-    ensures played { IfOk result (λ map. OfInput stream.now (D.seen desk.old).told.inputs (λ bytes. HasPlayedMap bytes (map_after checked.now checked.now.fill []) map)) }
+    ensures played { IfOk result (λ map. OfInput stream.now (D.seen desk.old).told.inputs (λ bytes. HasPlayedWatched track_notes bytes (map_after checked.now checked.now.fill []) map)) }
     ensures stops { IfErr result (λ refusal. StopsAt (IsBadStream false) stream.now refusal (D.seen desk.old) (D.seen desk.new)) }
     ensures reads { OnlyReads stream.now longest_stream (HoldsNoFault false) (D.seen desk.old) (D.seen desk.new) }
     ensures through { IfOk result (λ _. ReadsThrough stream.now longest_stream (HoldsNoFault false) (D.seen desk.old) (D.seen desk.new)) }
@@ -61,14 +63,18 @@ fn play_map<D: Desk>(
 }
 
 /// What is said of the rows of a description.
-fn rows_text(alloc: Global, checked: &Checked, map: &Mapped<PageRam>) -> Result<String, AllocError>
+fn rows_text(
+    alloc: Global,
+    checked: &Checked,
+    map: &Watched<PageRam, Track>,
+) -> Result<String, AllocError>
     ensures { IfOk result (λ text. string_bytes text ≡ damage_text checked.now (λ field. rows_of field map.now)) }
 {
     damage_text(
         alloc,
         checked.frame().desc(),
-        map.rows(Parity::Top),
-        map.rows(Parity::Bottom),
+        map.watch().rows(Parity::Top),
+        map.watch().rows(Parity::Bottom),
     )
 }
 

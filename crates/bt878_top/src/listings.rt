@@ -1,6 +1,8 @@
 //! A program file that is listed.
 
-ghost use Rattle.std.specs.Prelude.{[], IfErr, IfOk};
+ghost use Rattle.std.specs.Prelude.{◌≡◌, ◌+◌, ◌*◌, ◌^◌, ◌≤◌, [], true, false, length, IfErr, IfOk};
+ghost use Rattle.std.specs.List.{All, flat_map};
+ghost use Rattle.machine_model.specs.Paths.{begins_at_base, end_of, span};
 ghost use Rattle.bt878_contract.specs.Tasks.{IsListed};
 ghost use Rattle.bt878_top.specs.Contents.{listing_with};
 ghost use Rattle.capture_desk.specs.Desks.{IsAllowed, Puts, SayCounts, after_say};
@@ -8,14 +10,14 @@ ghost use Rattle.command_inputs.specs.Programs.{IsBadFile, longest_program};
 ghost use Rattle.command_steps.specs.Inputs.{Always, OfInput, StopsAt};
 ghost use Rattle.command_steps.specs.Outputs.{Finishes};
 ghost use Rattle.command_steps.specs.Reading.{OnlyReads, ReadsThrough};
-ghost use Rattle.risc_listing.specs.Listings.{base_line, word_lines};
+ghost use Rattle.risc_listing.specs.Listings.{all_word_lines, base_line, entry_line, lines_by, span_line, span_lines, word_lines};
 
 use capture_desk::{Desk, Failed, say_all};
 use capture_file::ProgramFile;
 use command_inputs::read_file;
 use command_texts::{Answer, Refusal};
-use risc_listing::{Lines, memory_lines, push_base, push_words};
-use risc_verify::Program;
+use risc_listing::{Lines, memory_lines, push_base, push_entry, push_span, push_words};
+use risc_verify::{Program, Spans};
 use std::alloc::Global;
 
 /// A program that is to be listed, and the last lines of its listing: those of its memory.
@@ -42,24 +44,25 @@ pub fn list_file<D: Desk>(alloc: Global, name: &str, desk: &mut D) -> Result<Lis
     }
 }
 
-/// Says the lines of a program's words, piece by piece. Its piece of text stands on the stack, so it is never inlined: a frame
-/// is touched page by page when it begins.
+/// Says the lines of words that stand from an address on, piece by piece. Its piece of text stands on the stack, so it is never
+/// inlined: a frame is touched page by page when it begins.
 #[inline(never)]
-fn say_words<D: Desk>(program: &Program, desk: &mut D) -> Result<(), Failed>
-    ensures says { Puts (word_lines program.now.base 0 program.now.words) result after_say (D.seen desk.old).told (D.seen desk.new).told }
-    ensures counts { SayCounts (word_lines program.now.base 0 program.now.words) result (D.seen desk.old) (D.seen desk.new) }
+fn say_words<D: Desk>(base: u32, words: &[u32], desk: &mut D) -> Result<(), Failed>
+    requires { base + 4 * length words.now ≤ 2 ^ 32 }
+    ensures says { Puts (word_lines base 0 words.now) result after_say (D.seen desk.old).told (D.seen desk.new).told }
+    ensures counts { SayCounts (word_lines base 0 words.now) result (D.seen desk.old) (D.seen desk.new) }
 {
     let mut lines = Lines::new();
     let mut next = 0;
-    while next < program.words().len() {
+    while next < words.len() {
         lines.clear();
-        next = push_words(&mut lines, program, next);
+        next = push_words(&mut lines, base, words, next);
         say_all(desk, lines.as_str().as_bytes())?;
     }
     Ok(())
 }
 
-/// Says the first line of a listing; never inlined either.
+/// Says the first line of a listing by the base; never inlined either.
 #[inline(never)]
 fn say_base<D: Desk>(base: u32, desk: &mut D) -> Result<(), Failed>
     ensures says { Puts (base_line base) result after_say (D.seen desk.old).told (D.seen desk.new).told }
@@ -70,14 +73,88 @@ fn say_base<D: Desk>(base: u32, desk: &mut D) -> Result<(), Failed>
     say_all(desk, lines.as_str().as_bytes())
 }
 
+/// Says the first line of a span; never inlined either.
+#[inline(never)]
+fn say_address<D: Desk>(at: u32, desk: &mut D) -> Result<(), Failed>
+    ensures says { Puts (span_line at) result after_say (D.seen desk.old).told (D.seen desk.new).told }
+    ensures counts { SayCounts (span_line at) result (D.seen desk.old) (D.seen desk.new) }
+{
+    let mut lines = Lines::new();
+    push_span(&mut lines, at);
+    say_all(desk, lines.as_str().as_bytes())
+}
+
+/// Says the line behind the last span; never inlined either.
+#[inline(never)]
+fn say_entry<D: Desk>(entry: u32, desk: &mut D) -> Result<(), Failed>
+    ensures says { Puts (entry_line entry) result after_say (D.seen desk.old).told (D.seen desk.new).told }
+    ensures counts { SayCounts (entry_line entry) result (D.seen desk.old) (D.seen desk.new) }
+{
+    let mut lines = Lines::new();
+    push_entry(&mut lines, entry);
+    say_all(desk, lines.as_str().as_bytes())
+}
+
+/// Says the lines of a span.
+fn say_span<D: Desk>(at: u32, words: &[u32], desk: &mut D) -> Result<(), Failed>
+    requires { at + 4 * length words.now ≤ 2 ^ 32 }
+    ensures says { Puts (span_lines (span at words.now)) result after_say (D.seen desk.old).told (D.seen desk.new).told }
+    ensures counts { SayCounts (span_lines (span at words.now)) result (D.seen desk.old) (D.seen desk.new) }
+{
+    say_address(at, desk)?;
+    say_words(at, words, desk)
+}
+
+/// Says the lines of spans, one after the other.
+fn say_spans<D: Desk>(spans: &Spans, desk: &mut D) -> Result<(), Failed>
+    requires { All (λ s. end_of s ≤ 2 ^ 32) spans.now }
+    ensures says { Puts (flat_map span_lines spans.now) result after_say (D.seen desk.old).told (D.seen desk.new).told }
+    ensures counts { SayCounts (flat_map span_lines spans.now) result (D.seen desk.old) (D.seen desk.new) }
+{
+    for number in 0..spans.len() {
+        say_span(spans.at(number), spans.words_of(number), desk)?;
+    }
+    Ok(())
+}
+
+/// Says the lines of spans, and the entry behind them.
+fn say_spans_and_entry<D: Desk>(program: &Program, desk: &mut D) -> Result<(), Failed>
+    ensures says { Puts (lines_by false program.now) result after_say (D.seen desk.old).told (D.seen desk.new).told }
+    ensures counts { SayCounts (lines_by false program.now) result (D.seen desk.old) (D.seen desk.new) }
+{
+    say_spans(program.spans(), desk)?;
+    say_entry(program.base(), desk)
+}
+
+/// Says the base, and the lines of the words behind it.
+fn say_base_and_words<D: Desk>(program: &Program, desk: &mut D) -> Result<(), Failed>
+    requires { begins_at_base program.now ≡ true }
+    ensures says { Puts (lines_by true program.now) result after_say (D.seen desk.old).told (D.seen desk.new).told }
+    ensures counts { SayCounts (lines_by true program.now) result (D.seen desk.old) (D.seen desk.new) }
+{
+    say_base(program.base(), desk)?;
+    say_words(program.base(), program.words(), desk)
+}
+
+/// Says the lines of all words of a program, by its base or span by span.
+fn say_all_words<D: Desk>(program: &Program, desk: &mut D) -> Result<(), Failed>
+    ensures says { Puts (all_word_lines program.now) result after_say (D.seen desk.old).told (D.seen desk.new).told }
+    ensures counts { SayCounts (all_word_lines program.now) result (D.seen desk.old) (D.seen desk.new) }
+{
+    if program.begins_at_base() {
+        say_base_and_words(program, desk)
+    } else {
+        say_spans_and_entry(program, desk)
+    }
+}
+
 /// Says the listing of a program. It takes no memory. Where the desk fails, a front of the listing was
 /// said.
 fn say_listing<D: Desk>(listed: &Listed, desk: &mut D) -> Result<(), Failed>
     ensures says { Puts (listing_with listed.now.program listed.now.memory.items) result after_say (D.seen desk.old).told (D.seen desk.new).told }
     ensures counts { SayCounts (listing_with listed.now.program listed.now.memory.items) result (D.seen desk.old) (D.seen desk.new) }
 {
-    say_base(listed.program.base(), desk)?;
-    say_words(&listed.program, desk)?;
+    say_all_words(&listed.program, desk)?;
     say_all(desk, &listed.memory)
 }
 

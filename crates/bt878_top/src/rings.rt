@@ -11,7 +11,8 @@ ghost use Rattle.command_steps.specs.Reading.{OnlyReads, ReadsThrough, Takes};
 ghost use Rattle.command_texts.specs.Texts.{blocks_text};
 ghost use Rattle.dma_machine.specs.Facts.{report_of};
 ghost use Rattle.machine_model.specs.States.{first_state};
-ghost use Rattle.ring_model.specs.Rings.{ring_program};
+ghost use Rattle.machine_watch.specs.Watches.{watching};
+ghost use Rattle.ring_model.specs.Rings.{IsRing, ring_program};
 ghost use Rattle.stream_play.specs.Plays.{longest_stream};
 ghost use Rattle.stream_play.specs.Runs.{HasPlayedRing, HoldsNoFault, IsBadStream, a_stream};
 
@@ -21,9 +22,10 @@ use capture_desk::Desk;
 use command_inputs::ring_file;
 use command_steps::{Output, finish, refuse};
 use command_texts::{Answer, Refusal, blocks_text};
+use machine_watch::Watched;
 use page_ram::PageRam;
 use ring_compile::{Ring, compile_ring};
-use ring_machine::RingMachine;
+use ring_machine::{BlockCount, RingMachine};
 use std::alloc::{AllocError, Global};
 use stream_play::{machine_of, play_file};
 
@@ -36,11 +38,12 @@ struct PlayedRing {
 
 /// The machine of a ring before its first step.
 fn machine_of_ring(alloc: Global, ring: Ring) -> Result<RingMachine<PageRam>, AllocError>
-    ensures { IfOk result (λ m. m ≡ record { ring = ring; machine = first_state (ring_program ring) ring.fill; blocks = 0 }) }
+    ensures first { IfOk result (λ m. m ≡ watching (first_state (ring_program ring) ring.fill) (record { ring = ring; blocks = 0 })) }
+    ensures ring { IfOk result (λ _. IsRing ring) }
 {
     let accepted = accept_sound(alloc, compile_ring(alloc, &ring)?)?;
     let machine = machine_of(alloc, accepted, ring.fill())?;
-    Ok(RingMachine::new(machine, ring))
+    Ok(Watched::new(machine, BlockCount::new(ring)))
 }
 
 /// Plays a whole stream file on the machine of a ring.
@@ -76,13 +79,13 @@ fn play_ring<D: Desk>(
 ) -> Result<PlayedRing, Refusal>
     requires { IsAllowed stream.now (D.seen desk.old).told.may_open }
     ensures played { IfOk result (λ played. OfInput stream.now (D.seen desk.old).told.inputs (λ bytes. HasPlayedRing bytes ring (first_state (ring_program ring) ring.fill) played.machine)) }
-    ensures text { IfOk result (λ played. string_bytes played.text ≡ blocks_text played.machine.blocks (report_of played.machine.machine)) }
+    ensures text { IfOk result (λ played. string_bytes played.text ≡ blocks_text played.machine.kept.blocks (report_of played.machine.machine)) }
     ensures stops { IfErr result (λ refusal. StopsAt (IsBadStream false) stream.now refusal (D.seen desk.old) (D.seen desk.new)) }
     ensures reads { OnlyReads stream.now longest_stream (HoldsNoFault false) (D.seen desk.old) (D.seen desk.new) }
     ensures through { IfOk result (λ _. ReadsThrough stream.now longest_stream (HoldsNoFault false) (D.seen desk.old) (D.seen desk.new)) }
 {
     let machine = play_on_ring(alloc, ring, stream, desk)?;
-    match blocks_text(alloc, machine.blocks(), &machine.report()) {
+    match blocks_text(alloc, machine.watch().blocks(), &machine.report()) {
         Ok(text) => Ok(PlayedRing { machine, text }),
         Err(_) => Err(Refusal::NoMemory),
     }
@@ -98,7 +101,7 @@ fn run_ring<D: Desk>(
     requires ring { IsAllowed ring.now (D.seen desk.old).told.may_open }
     requires stream { IsAllowed stream.now (D.seen desk.old).told.may_open }
     ensures ran { IfOk result (λ played. OfRingRun ring.now stream.now (D.seen desk.old).told.inputs (ShowsRing played.machine)) }
-    ensures text { IfOk result (λ played. string_bytes played.text ≡ blocks_text played.machine.blocks (report_of played.machine.machine)) }
+    ensures text { IfOk result (λ played. string_bytes played.text ≡ blocks_text played.machine.kept.blocks (report_of played.machine.machine)) }
     ensures takes { Takes (a_ring ring.now ∷ a_stream stream.now ∷ []) result (D.seen desk.old) (D.seen desk.new) }
 {
     let ring = ring_file(alloc, ring, desk)?;
@@ -128,14 +131,15 @@ pub fn ring<D: Desk>(
         Ok(played) => played,
         Err(refusal) => return refuse(alloc, refusal, desk),
     };
+    let machine = played.machine.machine();
     let outputs = [
         Output {
             name: program,
-            content: Contents::Program(played.machine.program(), played.machine.fill()),
+            content: Contents::Program(machine.program(), played.machine.watch().ring().fill()),
         },
         Output {
             name: image,
-            content: Contents::Image(played.machine.ram()),
+            content: Contents::Image(machine.ram()),
         },
     ];
     finish(&outputs, &played.text, desk)

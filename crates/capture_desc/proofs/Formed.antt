@@ -1,7 +1,9 @@
 -- A description that is read meets what every description meets.
-use Rattle.std.proofs.Common.{◌≡◌, ℕ, ◌≤◌, Bool, true, false, not, ◌&&◌, ◌==◌, nat_le, List, [], length, Option, Some, None, Result, Ok, Err, inl, inr, ◌⊎◌, arith}
+use Rattle.std.proofs.Common.{◌≡◌, ℕ, ◌≤◌, Bool, true, false, not, ◌&&◌, ◌==◌, nat_le, List, [], length, get_or, Option, Some, None, Result, Ok, Err, inl, inr, ◌⊎◌, arith}
 use Rattle.std.specs.Prelude.{IfSome, IfOk}
-use Rattle.std.proofs.lemmas.Bool.{and_parts, not-true}
+use Rattle.std.specs.List.{All, list_all}
+use Rattle.std.proofs.lemmas.Bool.{and_parts, leb-true, not-true}
+use Rattle.std.proofs.lemmas.List.Sums.{AllPass-from_list_all}
 use Rattle.std.proofs.lemmas.Bool.Decides.{nat_tests}
 use Rattle.toml.specs.Data.{Members, get_member}
 use Rattle.toml_keys.specs.Keys.{document_of, is_there, least, unknown_names}
@@ -13,13 +15,14 @@ use Rattle.pixel_layout.specs.Layouts.{layout, planes_of}
 use Rattle.page_table.specs.Grants.{max_bytes, max_chunks, total}
 use Rattle.page_table.specs.Taken.{listed}
 use Rattle.capture_desc.specs.declared.desc.Desc.{Desc}
+use Rattle.capture_desc.specs.declared.desc.Fields.{Fields}
 use Rattle.capture_desc.specs.declared.fault.Key.{Key}
 use Rattle.capture_desc.specs.declared.fault.DescError.{DescError}
 use Rattle.capture_desc.specs.declared.fault.Key.TheVariants as key
 use Rattle.capture_desc.specs.Keys.{is_known, name_of}
 use Rattle.capture_desc.specs.Values.{Reading, fault_of}
-use Rattle.capture_desc.specs.WellFormed.{IsWellFormed}
-use Rattle.capture_desc.specs.Description.{Answers, values, plane_numbers, pages, pages_beside, chunks, chunks_fit, described, described_in, unless_unknown}
+use Rattle.capture_desc.specs.WellFormed.{IsWellFormed, count, last_first, max_skip_lines}
+use Rattle.capture_desc.specs.Description.{Answers, values, field_numbers, fit_fields, plane_numbers, pages, pages_beside, chunks, chunks_fit, described, described_in, unless_unknown}
 use Rattle.capture_desc.proofs.Parts.{HasLists, values-lists}
 
 some_map : {A : Type 0} (P Q : A → Type 0) (o : Option A) → ((a : A) → P a → Q a) → IfSome o P → IfSome o Q
@@ -33,6 +36,16 @@ pub HasPlanes-read : (ms : Members) (d : Desc) (k : Key) (read : Option (List �
 HasPlanes-read ms d k read h =
     some_map _ _ read (λ ns fits. equal_from_test _ _ fits)
     (list_fits is_integer u32_of (λ ns. length ns == planes_of (layout d.format)) (name_of k) ms read (told-ok (fault_of k) _ read h))
+
+fit_fields-HasFields : (which : Fields) (most : ℕ) (ns : List ℕ) → fit_fields which most ns ≡ true → (length ns ≡ count which) × All (λ n. n ≤ most) ns
+fit_fields-HasFields which most ns h =
+    let parts = and_parts (length ns == count which) (list_all (λ n. nat_le n most) ns) h in
+    (equal_from_test _ _ parts.0, λ k e below. leb-true (get_or ns k e) most (AllPass-from_list_all (λ n. nat_le n most) ns parts.1 k e below))
+
+HasFields-read : (ms : Members) (which : Fields) (most : ℕ) (k : Key) (read : Option (List ℕ)) → field_numbers which most k ms ≡ Ok read → IfSome read (λ ns. (length ns ≡ count which) × All (λ n. n ≤ most) ns)
+HasFields-read ms which most k read h =
+    some_map _ _ read (fit_fields-HasFields which most)
+    (list_fits is_integer u32_of (fit_fields which most) (name_of k) ms read (told-ok (fault_of k) _ read h))
 
 -- pages that are read are those of the key, or none beside chunks
 pages_read : (has_chunks : Bool) (reading : keys.Reading (Option (List ℕ))) (read : List ℕ) → pages_beside has_chunks reading ≡ Ok read → (reading ≡ Ok (Some read)) ⊎ (read ≡ [])
@@ -85,6 +98,8 @@ HasLists-IsWellFormed ms d has =
     record {
       stride = HasPlanes-read ms d key.Stride d.stride has.stride;
       offset = HasPlanes-read ms d key.Offset d.offset has.offset;
+      chroma_first = HasFields-read ms d.fields (last_first d.format) key.ChromaFirst d.chroma_first has.chroma_first;
+      vbi_skip = HasFields-read ms d.fields max_skip_lines key.VbiSkip d.vbi_skip has.vbi_skip;
       pages = few_pages ms d.pages has.pages;
       no_pages = some_map _ _ d.chunks (λ cs fit. no_pages ms d.pages fit.alone has.pages) fits;
       chunks = some_map _ _ d.chunks (λ cs fit. fit.few) fits;

@@ -12,7 +12,9 @@ use Rattle.toml_keys.proofs.Shown as keys_shown
 use Rattle.pixel_layout.specs.declared.Format.{Format}
 use Rattle.pixel_layout.specs.Layouts.{format_named, layout, planes_of}
 use Rattle.capture_desc.specs.declared.desc.Desc.{Desc}
+use Rattle.capture_desc.specs.declared.desc.Fields.{Fields}
 use Rattle.capture_desc.specs.declared.desc.Fields.TheVariants.{Both}
+use Rattle.capture_desc.specs.WellFormed.{last_first, max_skip_lines}
 use Rattle.capture_desc.specs.declared.fault.Key.{Key}
 use Rattle.capture_desc.specs.declared.fault.Key.TheVariants as key
 use Rattle.capture_desc.specs.declared.fault.DescError.{DescError}
@@ -20,7 +22,7 @@ use Rattle.capture_desc.specs.declared.fault.DescError.TheVariants.{Bad, Memory}
 use Rattle.capture_desc.specs.declared.fault.DescFault.{DescFault}
 use Rattle.capture_desc.specs.Keys.{is_known, name_of}
 use Rattle.capture_desc.specs.Values.{Reading, fault_of, number_or, optional_number, required_number, required_word, word_or}
-use Rattle.capture_desc.specs.Description.{Answers, values, fields_named, plane_numbers, clips, pages, pages_beside, chunks, chunks_fit, described, described_in, unless_unknown}
+use Rattle.capture_desc.specs.Description.{Answers, chroma_first, values, vbi_lines, field_numbers, fields_named, fit_fields, plane_numbers, clips, pages, pages_beside, chunks, chunks_fit, described, described_in, unless_unknown}
 use Rattle.capture_desc.specs.Faults.{Explains, Shows}
 
 module _ (ms : Members) where
@@ -65,6 +67,10 @@ module _ (ms : Members) where
         let fits : List ℕ → Bool = λ ns. length ns == planes_of (layout format) in
         told_says (list is_integer u32_of fits (name_of k) ms) (keys_shown.list_says (name_of k) ms is_integer u32_of fits)
 
+    field_numbers_says : (fields : Fields) (most : ℕ) → Says (field_numbers fields most k ms)
+    field_numbers_says fields most =
+        told_says (list is_integer u32_of (fit_fields fields most) (name_of k) ms) (keys_shown.list_says (name_of k) ms is_integer u32_of (fit_fields fields most))
+
   clips_says : Says (clips ms)
   clips_says =
       let few : List (ℕ × ℕ × ℕ × ℕ) → Bool = λ rows. nat_le (length rows) 64 in
@@ -92,6 +98,14 @@ module _ (ms : Members) where
       let fits = chunks_fit (is_there (name_of key.Pages) ms) in
       told_says key.Chunks (list is_row two_of fits (name_of key.Chunks) ms) (keys_shown.list_says (name_of key.Chunks) ms is_row two_of fits)
 
+vbi_lines_says : (fields : Fields) (ms : Members) → Says ms (vbi_lines fields ms)
+vbi_lines_says fields ms =
+    then ms (number_or 0 u32_max key.VbiLines ms) _ (number_or_says ms key.VbiLines 0 u32_max) (λ lines _.
+    then ms (number_or 2044 u32_max key.VbiBytes ms) _ (number_or_says ms key.VbiBytes 2044 u32_max) (λ bytes _.
+    then ms (optional_number key.VbiOffset ms) _ (optional_number_says ms key.VbiOffset) (λ offset _.
+    then ms (field_numbers fields max_skip_lines key.VbiSkip ms) _ (field_numbers_says ms key.VbiSkip fields max_skip_lines) (λ skip _.
+    then ms (optional_number key.VbiStride ms) _ (optional_number_says ms key.VbiStride) (λ stride _. tt)))))
+
 values_says : (ms : Members) → Says ms (values ms)
 values_says ms =
     then ms (required_word format_named key.Format ms) _ (required_word_says ms key.Format format_named) (λ format _.
@@ -100,15 +114,14 @@ values_says ms =
     then ms (word_or Both fields_named key.Fields ms) _ (word_or_says ms key.Fields Both fields_named) (λ fields _.
     then ms (plane_numbers format key.Stride ms) _ (plane_numbers_says ms key.Stride format) (λ stride _.
     then ms (plane_numbers format key.Offset ms) _ (plane_numbers_says ms key.Offset format) (λ offset _.
+    then ms (chroma_first format fields ms) _ (field_numbers_says ms key.ChromaFirst fields (last_first format)) (λ chroma_first _.
     then ms (number_or 0 255 key.SkipLines ms) _ (number_or_says ms key.SkipLines 0 255) (λ skip_lines _.
-    then ms (number_or 0 u32_max key.VbiLines ms) _ (number_or_says ms key.VbiLines 0 u32_max) (λ vbi_lines _.
-    then ms (number_or 2044 u32_max key.VbiBytes ms) _ (number_or_says ms key.VbiBytes 2044 u32_max) (λ vbi_bytes _.
-    then ms (optional_number key.VbiOffset ms) _ (optional_number_says ms key.VbiOffset) (λ vbi_offset _.
+    then ms (vbi_lines fields ms) _ (vbi_lines_says fields ms) (λ vbi _.
     then ms (clips ms) _ (clips_says ms) (λ clip _.
     then ms (number_or 4096 u32_max key.Base ms) _ (number_or_says ms key.Base 4096 u32_max) (λ base _.
     then ms (pages ms) _ (pages_says ms) (λ all_pages _.
     then ms (chunks ms) _ (chunks_says ms) (λ all_chunks _.
-    then ms (number_or 0 255 key.Fill ms) _ (number_or_says ms key.Fill 0 255) (λ fill _. tt)))))))))))))))
+    then ms (number_or 0 255 key.Fill ms) _ (number_or_says ms key.Fill 0 255) (λ fill _. tt))))))))))))))
 
 known_says : (ms : Members) (unknown : Option (List ℕ)) → unknown ≡ least (unknown_names is_known ms) → Says ms (unless_unknown unknown (values ms))
 known_says ms None is = values_says ms

@@ -1,5 +1,6 @@
 -- What a text describes, or its first fault.
 use Rattle.std.specs.Prelude.{ℕ, Bool, ◌&&◌, not, ◌==◌, List, [], length, map, Option, Some, None, Ok, Err, Result, ⊤, ◌≡◌, if◌then◌else◌, nat_le, codes, bytes_eq}
+use Rattle.std.specs.List.{list_all}
 use Rattle.toml.specs.Data.{Members}
 use Rattle.toml_keys.specs.Keys.{document_of, is_there, least, unknown_names}
 use Rattle.toml_keys.specs.Values.{◌>>=◌, four_of, is_integer, is_row, list, otherwise, required, told, two_of, u32_max, u32_of}
@@ -13,6 +14,7 @@ use Rattle.clip_spans.specs.declared.Rect.{Rect}
 use Rattle.capture_desc.specs.declared.desc.Desc.{Desc}
 use Rattle.capture_desc.specs.declared.desc.Fields.{Fields}
 use Rattle.capture_desc.specs.declared.desc.Fields.TheVariants.{Top, Bottom, Both}
+use Rattle.capture_desc.specs.declared.read.VbiLines.{VbiLines}
 use Rattle.capture_desc.specs.declared.fault.Key.{Key}
 use Rattle.capture_desc.specs.declared.fault.Key.TheVariants as key
 use Rattle.capture_desc.specs.declared.fault.DescFault.TheVariants.{NotToml, Unknown}
@@ -20,7 +22,7 @@ use Rattle.capture_desc.specs.declared.fault.DescError.{DescError}
 use Rattle.capture_desc.specs.declared.fault.DescError.TheVariants.{Bad, Memory}
 use Rattle.capture_desc.specs.Keys.{is_known, name_of}
 use Rattle.capture_desc.specs.Values.{Reading, fault_of, number_or, optional_number, rect, required_number, required_word, word_or}
-use Rattle.capture_desc.specs.WellFormed.{max_skip_lines}
+use Rattle.capture_desc.specs.WellFormed.{count, last_first, max_skip_lines}
 
 abbrev pub fields_named : List ℕ → Option Fields
 fields_named name =
@@ -33,6 +35,27 @@ fields_named name =
 abbrev pub plane_numbers : Format → Key → Members → Reading (Option (List ℕ))
 plane_numbers format key members =
     told (fault_of key) (list is_integer u32_of (λ ns. length ns == planes_of (layout format)) (name_of key) members)
+
+-- a number for each described field, of at most so much
+abbrev pub fit_fields : Fields → ℕ → List ℕ → Bool
+fit_fields fields most ns = length ns == count fields && list_all (λ n. nat_le n most) ns
+
+abbrev pub field_numbers : Fields → ℕ → Key → Members → Reading (Option (List ℕ))
+field_numbers fields most key members =
+    told (fault_of key) (list is_integer u32_of (fit_fields fields most) (name_of key) members)
+
+abbrev pub chroma_first : Format → Fields → Members → Reading (Option (List ℕ))
+chroma_first format fields members = field_numbers fields (last_first format) key.ChromaFirst members
+
+-- the keys of the vertical blanking interval
+abbrev pub vbi_lines : Fields → Members → Reading VbiLines
+vbi_lines fields members =
+    number_or 0 u32_max key.VbiLines members >>= (λ lines.
+    number_or 2044 u32_max key.VbiBytes members >>= (λ bytes.
+    optional_number key.VbiOffset members >>= (λ offset.
+    field_numbers fields max_skip_lines key.VbiSkip members >>= (λ skip.
+    optional_number key.VbiStride members >>= (λ stride.
+    Ok (record { lines = lines; bytes = bytes; offset = offset; skip = skip; stride = stride }))))))
 
 abbrev pub clips : Members → Reading (List Rect)
 clips members =
@@ -69,10 +92,9 @@ values members =
     word_or Both fields_named key.Fields members >>= (λ fields.
     plane_numbers format key.Stride members >>= (λ stride.
     plane_numbers format key.Offset members >>= (λ offset.
+    chroma_first format fields members >>= (λ chroma_first.
     number_or 0 max_skip_lines key.SkipLines members >>= (λ skip_lines.
-    number_or 0 u32_max key.VbiLines members >>= (λ vbi_lines.
-    number_or 2044 u32_max key.VbiBytes members >>= (λ vbi_bytes.
-    optional_number key.VbiOffset members >>= (λ vbi_offset.
+    vbi_lines fields members >>= (λ vbi.
     clips members >>= (λ clip.
     number_or 4096 u32_max key.Base members >>= (λ base.
     pages members >>= (λ pages.
@@ -85,16 +107,19 @@ values members =
       fields = fields;
       stride = stride;
       offset = offset;
+      chroma_first = chroma_first;
       skip_lines = skip_lines;
-      vbi_lines = vbi_lines;
-      vbi_bytes = vbi_bytes;
-      vbi_offset = vbi_offset;
+      vbi_lines = vbi.lines;
+      vbi_bytes = vbi.bytes;
+      vbi_offset = vbi.offset;
+      vbi_skip = vbi.skip;
+      vbi_stride = vbi.stride;
       clip = clip;
       base = base;
       pages = pages;
       chunks = chunks;
       fill = fill;
-    }))))))))))))))))
+    })))))))))))))))
 
 -- a key that no description has comes before the faults of the others
 abbrev pub unless_unknown : Option (List ℕ) → Reading Desc → Reading Desc

@@ -11,10 +11,13 @@ name_of key.Height = codes "height"
 name_of key.Fields = codes "fields"
 name_of key.Stride = codes "stride"
 name_of key.Offset = codes "offset"
+name_of key.ChromaFirst = codes "chroma_first"
 name_of key.SkipLines = codes "skip_lines"
 name_of key.VbiLines = codes "vbi_lines"
 name_of key.VbiBytes = codes "vbi_bytes"
 name_of key.VbiOffset = codes "vbi_offset"
+name_of key.VbiSkip = codes "vbi_skip"
+name_of key.VbiStride = codes "vbi_stride"
 name_of key.Clip = codes "clip"
 name_of key.Base = codes "base"
 name_of key.Pages = codes "pages"
@@ -24,7 +27,8 @@ name_of key.Fill = codes "fill"
 abbrev pub keys : List Key
 keys =
     key.Format ∷ key.Width ∷ key.Height ∷ key.Fields ∷ key.Stride ∷ key.Offset
-    ∷ key.SkipLines ∷ key.VbiLines ∷ key.VbiBytes ∷ key.VbiOffset ∷ key.Clip
+    ∷ key.ChromaFirst ∷ key.SkipLines ∷ key.VbiLines ∷ key.VbiBytes ∷ key.VbiOffset
+    ∷ key.VbiSkip ∷ key.VbiStride ∷ key.Clip
     ∷ key.Base ∷ key.Pages ∷ key.Chunks ∷ key.Fill ∷ []
 
 abbrev pub is_known : List ℕ → Bool

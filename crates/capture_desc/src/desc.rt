@@ -1,4 +1,7 @@
 //! The values of a description.
+ghost use Rattle.std.specs.Prelude.{◌≡◌};
+ghost use Rattle.capture_desc.specs.WellFormed.{count};
+
 use crate::lists::{ChunkList, Numbers};
 use clip_spans::Clips;
 use pixel_layout::Format;
@@ -12,6 +15,18 @@ pub enum Fields {
     Bottom,
     /// Both, whose rows alternate in the picture.
     Both,
+}
+
+impl Fields {
+    /// How many fields are captured.
+    pub fn count(self) -> usize
+        ensures { result ≡ count self }
+    {
+        match self {
+            Fields::Top | Fields::Bottom => 1,
+            Fields::Both => 2,
+        }
+    }
 }
 
 /// The values of a description, with None for a key that is absent and has no value of its own then.
@@ -31,6 +46,8 @@ pub struct Desc {
     pub stride: Option<Numbers>,
     /// For each plane where its first row begins.
     pub offset: Option<Numbers>,
+    /// For each described field, top before bottom, the row of the field whose chroma is the first that is kept.
+    pub chroma_first: Option<Numbers>,
     /// The lines of each field that are passed over before its first row.
     pub skip_lines: u8,
     /// The lines of each field that are captured in the vertical blanking interval.
@@ -39,6 +56,10 @@ pub struct Desc {
     pub vbi_bytes: u32,
     /// Where the first such line begins.
     pub vbi_offset: Option<u32>,
+    /// For each described field, top before bottom, the lines that are passed over before its first such line.
+    pub vbi_skip: Option<Numbers>,
+    /// The bytes from the beginning of such a line to that of the next.
+    pub vbi_stride: Option<u32>,
     /// The rectangles of the picture that keep what memory held, in pixels and picture rows.
     pub clip: Clips,
     /// The address of the program.

@@ -22,6 +22,8 @@ pub enum Key {
     Stride,
     /// `offset`: for each plane where its first byte stands among the picture's bytes.
     Offset,
+    /// `chroma_first`: for each described field the row of it whose chroma is the first that is kept.
+    ChromaFirst,
     /// `skip_lines`: the lines of a field that are passed over before its first row.
     SkipLines,
     /// `vbi_lines`: the lines of a field that are captured in the vertical blanking interval.
@@ -30,6 +32,10 @@ pub enum Key {
     VbiBytes,
     /// `vbi_offset`: where the first of these bytes stands among the picture's bytes.
     VbiOffset,
+    /// `vbi_skip`: for each described field the lines that are passed over before its first such line.
+    VbiSkip,
+    /// `vbi_stride`: the bytes from such a line to the next.
+    VbiStride,
     /// `clip`: rectangles that keep what memory held.
     Clip,
     /// `base`: the address of the program.
@@ -54,10 +60,13 @@ impl Key {
             Key::Fields => "fields",
             Key::Stride => "stride",
             Key::Offset => "offset",
+            Key::ChromaFirst => "chroma_first",
             Key::SkipLines => "skip_lines",
             Key::VbiLines => "vbi_lines",
             Key::VbiBytes => "vbi_bytes",
             Key::VbiOffset => "vbi_offset",
+            Key::VbiSkip => "vbi_skip",
+            Key::VbiStride => "vbi_stride",
             Key::Clip => "clip",
             Key::Base => "base",
             Key::Pages => "pages",
@@ -73,8 +82,9 @@ impl KnownKeys for Key {
     fn is_known(name: &str) -> bool {
         match name {
             "format" | "width" | "height" | "fields" => true,
-            "stride" | "offset" | "skip_lines" => true,
+            "stride" | "offset" | "chroma_first" | "skip_lines" => true,
             "vbi_lines" | "vbi_bytes" | "vbi_offset" => true,
+            "vbi_skip" | "vbi_stride" => true,
             "clip" | "base" | "pages" | "chunks" | "fill" => true,
             _ => false,
         }

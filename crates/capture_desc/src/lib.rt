@@ -1,6 +1,6 @@
 //! Descriptions of a capture: the picture's format and size, where its bytes go, and what is left out.
 //!
-//! A description is a TOML table of fifteen keys (this project's own form), which `read_desc` reads.
+//! A description is a TOML table of eighteen keys (this project's own form), which `read_desc` reads.
 #![tactic(auto)]
 
 mod desc;

@@ -7,7 +7,7 @@ ghost use Rattle.page_table.specs.Taken.{listed};
 ghost use Rattle.pixel_layout.specs.Layouts.{format_named};
 ghost use Rattle.capture_desc.specs.Values.{rect, required_word, word_or};
 ghost use Rattle.capture_desc.specs.WellFormed.{IsWellFormed};
-ghost use Rattle.capture_desc.specs.Description.{Answers, chunks, clips, described, fields_named, pages, plane_numbers, values};
+ghost use Rattle.capture_desc.specs.Description.{Answers, chroma_first, chunks, clips, described, field_numbers, fields_named, fit_fields, pages, plane_numbers, values, vbi_lines};
 ghost use Rattle.capture_desc.specs.Faults.{Explains, Shows};
 
 use crate::desc::{Desc, Fields};
@@ -21,7 +21,7 @@ use std::alloc::{AllocError, Global};
 use toml::Table;
 use toml_keys::TableError;
 
-// The most lines that a field may skip.
+// The most lines that a field may skip, before its rows or before its VBI lines.
 const MAX_SKIP_LINES: u32 = 255;
 
 fn format(table: &Table) -> Result<Format, DescFault>
@@ -53,6 +53,32 @@ fn plane_numbers(
         return Ok(None);
     };
     if numbers.len() != format.planes() as usize {
+        return Err(DescError::Bad(DescFault::OutOfRange(key)));
+    }
+    Ok(Some(Numbers::from_vec(numbers)))
+}
+
+// Whether there is a number for each field, of at most so much.
+fn fit_fields(fields: Fields, most: u32, numbers: &[u32]) -> bool
+    ensures { result ≡ fit_fields fields most numbers.now }
+{
+    numbers.len() == fields.count() && numbers.iter().all(|number| *number <= most)
+}
+
+// A number for each described field, of at most so much.
+fn field_numbers(
+    alloc: Global,
+    table: &Table,
+    key: Key,
+    fields: Fields,
+    most: u32,
+) -> Result<Option<Numbers>, DescError>
+    ensures { Answers (field_numbers fields most key (table_view table.now)) result }
+{
+    let Some(numbers) = list::<u32>(alloc, table, key)? else {
+        return Ok(None);
+    };
+    if !fit_fields(fields, most, &numbers) {
         return Err(DescError::Bad(DescFault::OutOfRange(key)));
     }
     Ok(Some(Numbers::from_vec(numbers)))
@@ -124,6 +150,46 @@ fn chunks(alloc: Global, table: &Table) -> Result<Option<ChunkList>, DescError>
     Ok(Some(ChunkList::from_vec(chunks)))
 }
 
+// The rows of the fields whose chroma is the first that is kept.
+fn chroma_first(
+    alloc: Global,
+    table: &Table,
+    format: Format,
+    fields: Fields,
+) -> Result<Option<Numbers>, DescError>
+    ensures { Answers (chroma_first format fields (table_view table.now)) result }
+{
+    let last = format.rows_of_chroma() - 1;
+    field_numbers(alloc, table, Key::ChromaFirst, fields, last)
+}
+
+// What a description says of the lines of the vertical blanking interval.
+#[derive(Drop)]
+struct VbiLines {
+    lines: u32,
+    bytes: u32,
+    offset: Option<u32>,
+    skip: Option<Numbers>,
+    stride: Option<u32>,
+}
+
+fn vbi_lines(alloc: Global, table: &Table, fields: Fields) -> Result<VbiLines, DescError>
+    ensures { Answers (vbi_lines fields (table_view table.now)) result }
+{
+    let lines = number_or(table, Key::VbiLines, 0, u32::MAX)?;
+    let bytes = number_or(table, Key::VbiBytes, 2044, u32::MAX)?;
+    let offset = optional_number(table, Key::VbiOffset)?;
+    let skip = field_numbers(alloc, table, Key::VbiSkip, fields, MAX_SKIP_LINES)?;
+    let stride = optional_number(table, Key::VbiStride)?;
+    Ok(VbiLines {
+        lines,
+        bytes,
+        offset,
+        skip,
+        stride,
+    })
+}
+
 // The values of a table whose keys are known.
 fn values(alloc: Global, table: &Table) -> Result<Desc, DescError>
     ensures { Answers (values (table_view table.now)) result }
@@ -134,10 +200,9 @@ fn values(alloc: Global, table: &Table) -> Result<Desc, DescError>
     let fields = fields(table)?;
     let stride = plane_numbers(alloc, table, Key::Stride, format)?;
     let offset = plane_numbers(alloc, table, Key::Offset, format)?;
+    let chroma_first = chroma_first(alloc, table, format, fields)?;
     let skip_lines = number_or(table, Key::SkipLines, 0, MAX_SKIP_LINES)?;
-    let vbi_lines = number_or(table, Key::VbiLines, 0, u32::MAX)?;
-    let vbi_bytes = number_or(table, Key::VbiBytes, 2044, u32::MAX)?;
-    let vbi_offset = optional_number(table, Key::VbiOffset)?;
+    let vbi = vbi_lines(alloc, table, fields)?;
     let clip = clips(alloc, table)?;
     let base = number_or(table, Key::Base, 4096, u32::MAX)?;
     let pages = pages(alloc, table)?;
@@ -150,10 +215,13 @@ fn values(alloc: Global, table: &Table) -> Result<Desc, DescError>
         fields,
         stride,
         offset,
+        chroma_first,
         skip_lines: skip_lines as u8,
-        vbi_lines,
-        vbi_bytes,
-        vbi_offset,
+        vbi_lines: vbi.lines,
+        vbi_bytes: vbi.bytes,
+        vbi_offset: vbi.offset,
+        vbi_skip: vbi.skip,
+        vbi_stride: vbi.stride,
         clip,
         base,
         pages,
@@ -187,10 +255,14 @@ fn read_text(alloc: Global, text: &[u8]) -> Result<Desc, DescError>
 /// - `width`, `height`: numbers. Required.
 /// - `fields`: `"top"`, `"bottom"` or `"both"`, by default both.
 /// - `stride`, `offset`: arrays with a number for each plane of the format. Optional.
+/// - `chroma_first`: an array with a number for each described field, top before bottom, each below the number of a field's
+///   rows that share a row of chroma: 0 for packed formats. Optional.
 /// - `skip_lines`: 0 to 255, by default 0.
 /// - `vbi_lines`: a number, by default 0.
 /// - `vbi_bytes`: a number, by default 2,044.
 /// - `vbi_offset`: a number. Optional.
+/// - `vbi_skip`: an array with a number of 0 to 255 for each described field, top before bottom. Optional.
+/// - `vbi_stride`: a number. Optional.
 /// - `clip`: an array of at most 64 arrays `[x, y, w, h]` of numbers, by default none.
 /// - `base`: a number, by default 4,096.
 /// - `pages`: an array of at most 4,096 numbers. Required where `chunks` is absent.

@@ -81,9 +81,9 @@ address_right from at e =
     let b = no_fault (nat_lt at from) fault.Order None a.1 in
     (eqb-true (at % 4) 0 (not-false (at % 4 == 0) a.0), ltb-false at from b.0)
 
-not_zero : (n : ℕ) → not (n == 0) ≡ true → 0 < n
-not_zero zero e = absurd (cc)
-not_zero (suc n) e = omega arith
+pub above_zero : (n : ℕ) → not (n == 0) ≡ true → 0 < n
+above_zero zero e = absurd (cc)
+above_zero (suc n) e = omega arith
 
 length_right : (program : RiscProgram) (from sum at len : ℕ) → length_fault program sum at len ≡ None → (at % 4 ≡ 0) × (from ≤ at) → Follows program from (chunk at len) × (sum + len ≤ 16777216)
 length_right program from sum at len e h =
@@ -93,7 +93,7 @@ length_right program from sum at len e h =
     let last = and_parts (not (len == 0) && len % 4 == 0 && nat_le (at + len) (2 ^ 32)) (nat_le (sum + len) 16777216) all in
     let third = and_parts (not (len == 0) && len % 4 == 0) (nat_le (at + len) (2 ^ 32)) last.0 in
     let second = and_parts (not (len == 0)) (len % 4 == 0) third.0 in
-    let some : 0 < len = not_zero len second.0 in
+    let some : 0 < len = above_zero len second.0 in
     let even : len % 4 ≡ 0 = eqb-true (len % 4) 0 second.1 in
     let ends : at + len ≤ 2 ^ 32 = leb-true (at + len) (2 ^ 32) third.1 in
     let small : sum + len ≤ 16777216 = leb-true (sum + len) 16777216 last.1 in

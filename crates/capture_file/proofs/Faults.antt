@@ -21,7 +21,7 @@ program_or_fault bytes fits = by_result (program_of bytes) refl
 pub program_and_fault : (bytes : List ℕ) → HasProgram bytes → HasFault bytes → ⊥
 program_and_fault bytes held wrong =
     let is = held.1 in
-    not_both held.0 wrong.0 (program_of bytes) (ap program_of is.parts ∙ spelled_again held.0.program held.0.fill is.made is.base) wrong.1
+    not_both held.0 wrong.0 (program_of bytes) (ap program_of is.parts ∙ spelled_again held.0.program held.0.fill is.made) wrong.1
 
 pub ok_or_err : {A E : Type 0} (r : Result A E) → IsOk r ⊎ IsErr r
 ok_or_err (Ok x) = inl refl

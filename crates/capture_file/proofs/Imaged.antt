@@ -12,7 +12,7 @@ use Rattle.capture_file.specs.declared.program.Layout.TheVariants.{Paged, Chunke
 use Rattle.capture_file.specs.Images.{block_image, image_as, image_of}
 use Rattle.capture_file.specs.Programs.{number_field, layout_for}
 use Rattle.capture_file.proofs.Chunks.{ok_is}
-use Rattle.capture_file.proofs.Spelled.{number_again, IsFor, is_for}
+use Rattle.capture_file.proofs.Spelled.{number_again, AreFor, are_for}
 
 number_same : (n m : ℕ) (rest others : List ℕ) → n < 2 ^ 32 → m < 2 ^ 32 → little_bytes 4 n ++ rest ≡ little_bytes 4 m ++ others → (n ≡ m) × (rest ≡ others)
 number_same n m rest others low low' e =
@@ -110,7 +110,7 @@ fits_chunks from (block ∷ rest) rising small =
     let sum = total-cons (chunk_of block) (chunks_of rest) in
     ((omega arith, omega arith), fits_chunks (block.at + length block.bytes) rest rising.2 (omega arith))
 
-all_fit : (layout : Layout) (memory : List Block) → AreBlocks memory → IsFor layout (chunks_of memory) → AllFit layout memory
+all_fit : (layout : Layout) (memory : List Block) → AreBlocks memory → AreFor layout (chunks_of memory) → AllFit layout memory
 all_fit Paged memory is form = fits_pages 0 memory is.grants.rising form
 all_fit Chunked memory is form = fits_chunks 0 memory is.grants.rising is.grants.small
 
@@ -123,9 +123,9 @@ few_blocks memory is = let few = is.grants.few in let len = blocks_few memory in
 
 pub memory_same : (memory other : List Block) → AreBlocks memory → AreBlocks other → image_of memory ≡ image_of other → memory ≡ other
 unfolding image_of
-memory_same memory other is is' e = by_form (layout_for (chunks_of memory)) (layout_for (chunks_of other)) (is_for (chunks_of memory)) (is_for (chunks_of other)) e
+memory_same memory other is is' e = by_form (layout_for (chunks_of memory)) (layout_for (chunks_of other)) (are_for (chunks_of memory)) (are_for (chunks_of other)) e
   where
-    by_form : (layout layout' : Layout) → IsFor layout (chunks_of memory) → IsFor layout' (chunks_of other) → image_as layout memory ≡ image_as layout' other → memory ≡ other
+    by_form : (layout layout' : Layout) → AreFor layout (chunks_of memory) → AreFor layout' (chunks_of other) → image_as layout memory ≡ image_as layout' other → memory ≡ other
     by_form Paged Paged form form' same = image_same Paged memory other (few_blocks memory is) (few_blocks other is') (all_fit Paged memory is form) (all_fit Paged other is' form') same
     by_form Chunked Chunked form form' same = image_same Chunked memory other (few_blocks memory is) (few_blocks other is') (all_fit Chunked memory is form) (all_fit Chunked other is' form') same
     by_form Paged Chunked form form' same = absurd (other_name memory other same)

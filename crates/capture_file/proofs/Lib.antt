@@ -10,6 +10,7 @@ pub mod Chunks
 pub mod FourBytes
 pub mod Puts
 pub mod Images
+pub mod SpansRead
 pub mod Spelled
 pub mod Unspelled
 pub mod Feeding

@@ -11,6 +11,8 @@ use Rattle.page_table.specs.Taken.{listed, pair_chunk}
 use Rattle.machine_model.specs.Paths.{RiscProgram}
 use Rattle.capture_file.specs.declared.FileFault.{FileFault}
 use Rattle.capture_file.specs.declared.program.Layout.{Layout}
+use Rattle.capture_file.specs.declared.program.ProgramForm.{ProgramForm}
+use Rattle.capture_file.specs.declared.program.ProgramForm.TheVariants.{Based}
 use Rattle.capture_file.specs.Programs.{◌>>=◌, words_in, chunk_field, chunks_field, fill_fault}
 
 pub words_more : (front : List ℕ) (count i : ℕ) (rest total : List ℕ) → i < count → front ++ words_in (count - i) rest ≡ total →
@@ -104,8 +106,10 @@ pub all_listed : (pairs : List (ℕ × ℕ)) → list_all (λ (pair : ℕ × ℕ
 all_listed [] = refl
 all_listed (pair ∷ pairs) = ap (λ (b : Bool). is_page (pair_chunk pair) && b) (all_listed pairs)
 
-pub fill_pages : (layout : Layout) (pairs : List (ℕ × ℕ)) → layout ≡ Chunked → list_all (λ (pair : ℕ × ℕ). is_page (pair_chunk pair)) pairs ≡ true → fill_fault layout (listed pairs) ≡ Some fault.Pages
-fill_pages layout pairs e h = rw (e, ← all_listed pairs, h) refl
+pub fill_pages : (form : ProgramForm) (layout : Layout) (pairs : List (ℕ × ℕ)) → form ≡ Based layout → layout ≡ Chunked → list_all (λ (pair : ℕ × ℕ). is_page (pair_chunk pair)) pairs ≡ true →
+    fill_fault form (listed pairs) ≡ Some fault.Pages
+fill_pages form layout pairs e f h = rw (e, f, ← all_listed pairs, h) refl
 
-pub fill_other : (layout : Layout) (pairs : List (ℕ × ℕ)) → layout ≡ Chunked → list_all (λ (pair : ℕ × ℕ). is_page (pair_chunk pair)) pairs ≡ false → fill_fault layout (listed pairs) ≡ None
-fill_other layout pairs e h = rw (e, ← all_listed pairs, h) refl
+pub fill_other : (form : ProgramForm) (layout : Layout) (pairs : List (ℕ × ℕ)) → form ≡ Based layout → layout ≡ Chunked → list_all (λ (pair : ℕ × ℕ). is_page (pair_chunk pair)) pairs ≡ false →
+    fill_fault form (listed pairs) ≡ None
+fill_other form layout pairs e f h = rw (e, f, ← all_listed pairs, h) refl

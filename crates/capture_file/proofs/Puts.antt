@@ -1,6 +1,6 @@
 -- Pieces that are put one after the other are one piece.
-use Rattle.std.proofs.Common.{◌≡◌, ℕ, ◌+◌, ◌-◌, ◌*◌, ◌≤◌, List, [], ◌∷◌, ◌++◌, length, map, take, drop, Result, refl, sym, ap, subst, ◌∙◌, arith, length-take, length-drop}
-use Rattle.std.proofs.lemmas.List.{take-append-drop}
+use Rattle.std.proofs.Common.{◌≡◌, ℕ, ◌+◌, ◌-◌, ◌*◌, ◌<◌, ◌≤◌, List, [], ◌∷◌, ◌++◌, length, map, take, drop, get_or, Result, refl, sym, ap, subst, ◌∙◌, arith, length-take, length-drop}
+use Rattle.std.proofs.lemmas.List.{append-nil, take-append-drop, take_more}
 use Rattle.std.proofs.Math.Seq.{take-add}
 use Rattle.std.proofs.lemmas.List.Concat.{flat_map-append}
 use Rattle.std.specs.List.{flat_map}
@@ -11,8 +11,9 @@ use Rattle.capture_desk.proofs.Laws.{after_write-after_write}
 use Rattle.capture_desk.proofs.Pieces.{BreaksOff, put_after, breaks_off_after, breaks_off_within}
 use Rattle.capture_desk.proofs.Pieces as pieces
 use Rattle.capture_file.specs.declared.program.Layout.{Layout}
-use Rattle.capture_file.specs.Programs.{numbers_spelled, page_spelled, chunk_spelled, chunk_in, chunk_numbers, grants_spelled, head_spelled, spelled_as}
-use Rattle.machine_model.specs.Paths.{RiscProgram}
+use Rattle.capture_file.specs.Programs.{numbers_spelled, page_spelled, chunk_spelled, chunk_in, chunk_numbers, grants_spelled, layout_of, name_of, placed_spelled, span_spelled, spanned_spelled, spelled_as}
+use Rattle.capture_file.specs.declared.program.ProgramForm.{ProgramForm}
+use Rattle.machine_model.specs.Paths.{RiscProgram, Span}
 
 -- a piece of which a front was written, and then came a fault
 abbrev pub Breaks : List ℕ → Told → Told → Type 0
@@ -100,31 +101,79 @@ pub chunks_then : {A E : Type 0} (layout : Layout) (chunks : List Chunk) (old mi
     mid ≡ after_write (little_bytes 4 (length chunks)) old → Puts (flat_map (chunk_in layout) chunks) r after_write mid new → Puts (grants_spelled layout chunks) r after_write old new
 chunks_then layout chunks old mid new r e h = puts_then (little_bytes 4 (length chunks)) (flat_map (chunk_in layout) chunks) old mid new r e h
 
+-- ---- a span, and the spans and the entry
+
+-- two numbers, and others
+pub two_then : {A E : Type 0} (a b : ℕ) (words : List ℕ) (old mid new : Told) (r : Result A E) → mid ≡ after_write (numbers_spelled (a ∷ b ∷ [])) old →
+    Puts (numbers_spelled words) r after_write mid new → Puts ((little_bytes 4 a ++ little_bytes 4 b) ++ numbers_spelled words) r after_write old new
+two_then a b words old mid new r e h = puts_then (little_bytes 4 a ++ little_bytes 4 b) (numbers_spelled words) old mid new r e h
+
+pub two_break : (a b : ℕ) (words : List ℕ) (old new : Told) → Breaks (numbers_spelled (a ∷ b ∷ [])) old new → Breaks ((little_bytes 4 a ++ little_bytes 4 b) ++ numbers_spelled words) old new
+two_break a b words old new h = breaks_within (little_bytes 4 a ++ little_bytes 4 b) (numbers_spelled words) old new h
+
+module _ (spans : List Span) (at : ℕ) (within : at < length spans) (s : Span) (is : (d : Span) → s ≡ get_or spans at d) (old mid new : Told) (done : mid ≡ after_write (flat_map span_spelled (take at spans)) old) where
+  one_more : flat_map span_spelled (take at spans) ++ span_spelled s ≡ flat_map span_spelled (take (at + 1) spans)
+  one_more =
+      ap (λ (zs : List ℕ). flat_map span_spelled (take at spans) ++ zs) (sym (append-nil (span_spelled s)))
+      ∙ sym (flat_map-append span_spelled (take at spans) (s ∷ []))
+      ∙ ap (λ (t : Span). flat_map span_spelled (take at spans ++ t ∷ [])) (is s)
+      ∙ ap (flat_map span_spelled) (sym (take_more spans at s within))
+
+  pub span_more : new ≡ after_write (span_spelled s) mid → new ≡ after_write (flat_map span_spelled (take (at + 1) spans)) old
+  span_more e =
+      puts_after (flat_map span_spelled (take at spans)) (span_spelled s) old mid new done e ∙ ap (λ (zs : List ℕ). after_write zs old) one_more
+
+  pub span_breaks : Breaks (span_spelled s) mid new → Breaks (flat_map span_spelled spans) old new
+  span_breaks h =
+      let c = breaks_after (flat_map span_spelled (take at spans)) (span_spelled s) old mid new done h in
+      let d : Breaks (flat_map span_spelled (take (at + 1) spans)) old new = subst (λ (zs : List ℕ). Breaks zs old new) one_more c in
+      subst (λ (zs : List ℕ). Breaks zs old new)
+      (sym (flat_map-append span_spelled (take (at + 1) spans) (drop (at + 1) spans)) ∙ ap (flat_map span_spelled) (take-append-drop (at + 1) spans))
+      (breaks_within (flat_map span_spelled (take (at + 1) spans)) (flat_map span_spelled (drop (at + 1) spans)) old new d)
+
+-- the number of the spans, the spans, and the entry
+module _ (entry : ℕ) (spans : List Span) where
+  abbrev count : List ℕ
+  count = little_bytes 4 (length spans)
+
+  abbrev each : List ℕ
+  each = flat_map span_spelled spans
+
+  pub count_breaks : (old new : Told) → Breaks count old new → Breaks (spanned_spelled entry spans) old new
+  count_breaks old new h = breaks_within (count ++ each) (little_bytes 4 entry) old new (breaks_within count each old new h)
+
+  pub each_breaks : (old a new : Told) → a ≡ after_write count old → Breaks each a new → Breaks (spanned_spelled entry spans) old new
+  each_breaks old a new e h = breaks_within (count ++ each) (little_bytes 4 entry) old new (breaks_after count each old a new e h)
+
+  pub entry_then : {A E : Type 0} (old a b new : Told) (r : Result A E) → a ≡ after_write count old → b ≡ after_write each a → Puts (little_bytes 4 entry) r after_write b new →
+      Puts (spanned_spelled entry spans) r after_write old new
+  entry_then old a b new r e f h = puts_then (count ++ each) (little_bytes 4 entry) old b new r (puts_after count each old a b e f) h
+
 -- ---- a program
 
-module _ (layout : Layout) (program : RiscProgram) (fill : ℕ) where
-  abbrev head : List ℕ
-  head = head_spelled layout program.base (length program.words)
+module _ (form : ProgramForm) (program : RiscProgram) (fill : ℕ) where
+  abbrev name : List ℕ
+  name = name_of form
 
-  abbrev words : List ℕ
-  words = numbers_spelled program.words
+  abbrev placed : List ℕ
+  placed = placed_spelled form program
 
   abbrev grants : List ℕ
-  grants = grants_spelled layout program.grants
+  grants = grants_spelled (layout_of form) program.grants
 
-  pub head_break : (old new : Told) → Breaks head old new → Breaks (spelled_as layout program fill) old new
-  head_break old new h =
-      breaks_within (head ++ words ++ grants) (fill ∷ []) old new (breaks_within (head ++ words) grants old new (breaks_within head words old new h))
+  pub name_breaks : (old new : Told) → Breaks name old new → Breaks (spelled_as form program fill) old new
+  name_breaks old new h =
+      breaks_within (name ++ placed ++ grants) (fill ∷ []) old new (breaks_within (name ++ placed) grants old new (breaks_within name placed old new h))
 
-  pub words_break : (old a new : Told) → a ≡ after_write head old → Breaks words a new → Breaks (spelled_as layout program fill) old new
-  words_break old a new e h =
-      breaks_within (head ++ words ++ grants) (fill ∷ []) old new (breaks_within (head ++ words) grants old new (breaks_after head words old a new e h))
+  pub placed_breaks : (old a new : Told) → a ≡ after_write name old → Breaks placed a new → Breaks (spelled_as form program fill) old new
+  placed_breaks old a new e h =
+      breaks_within (name ++ placed ++ grants) (fill ∷ []) old new (breaks_within (name ++ placed) grants old new (breaks_after name placed old a new e h))
 
-  pub grants_break_after : (old a b new : Told) → a ≡ after_write head old → b ≡ after_write words a → Breaks grants b new → Breaks (spelled_as layout program fill) old new
+  pub grants_break_after : (old a b new : Told) → a ≡ after_write name old → b ≡ after_write placed a → Breaks grants b new → Breaks (spelled_as form program fill) old new
   grants_break_after old a b new e f h =
-      breaks_within (head ++ words ++ grants) (fill ∷ []) old new (breaks_after (head ++ words) grants old b new (puts_after head words old a b e f) h)
+      breaks_within (name ++ placed ++ grants) (fill ∷ []) old new (breaks_after (name ++ placed) grants old b new (puts_after name placed old a b e f) h)
 
-  pub fill_then : {A E : Type 0} (old a b c new : Told) (r : Result A E) → a ≡ after_write head old → b ≡ after_write words a → c ≡ after_write grants b → Puts (fill ∷ []) r after_write c new →
-      Puts (spelled_as layout program fill) r after_write old new
+  pub fill_then : {A E : Type 0} (old a b c new : Told) (r : Result A E) → a ≡ after_write name old → b ≡ after_write placed a → c ≡ after_write grants b → Puts (fill ∷ []) r after_write c new →
+      Puts (spelled_as form program fill) r after_write old new
   fill_then old a b c new r e f g h =
-      puts_then (head ++ words ++ grants) (fill ∷ []) old c new r (puts_after (head ++ words) grants old b c (puts_after head words old a b e f) g) h
+      puts_then (name ++ placed ++ grants) (fill ∷ []) old c new r (puts_after (name ++ placed) grants old b c (puts_after name placed old a b e f) g) h

@@ -6,12 +6,12 @@ ghost use Rattle.capture_file.specs.Streams.{GoesOn, steps_of, stream_of};
 ghost use Rattle.capture_file.specs.declared.program.ProgramFile.{ProgramFile};
 ghost use Rattle.machine_model.specs.Paths.{IsProgram, RiscProgram};
 ghost use Rattle.page_table.specs.Blocks.{AreBlocks, Block};
-ghost use Rattle.std.specs.Prelude.{◌≡◌, ◌⊎◌, ◌++◌, ◌^◌, ◌<◌, Bool, IsErr, IsOk, List, ℕ, Ok, slice_index};
+ghost use Rattle.std.specs.Prelude.{◌≡◌, ◌⊎◌, ◌++◌, ◌<◌, Bool, IsErr, IsOk, List, ℕ, Ok, slice_index};
 
 /// Each program, with a fill, has exactly one file: its spelling is read as it, and bytes that are read
 /// as it are its spelling. What is read is a program that can be made.
 pub fn one_spelling()
-    ensures read { (program : RiscProgram) (fill : ℕ) → IsProgram program → program.base < 2 ^ 32
+    ensures read { (program : RiscProgram) (fill : ℕ) → IsProgram program
         → program_of (spelled program fill) ≡ Ok (record { program = program; fill = fill }) }
     ensures only { (bytes : List ℕ) (file : ProgramFile) → ((i : ℕ) → slice_index bytes i < 256)
         → program_of bytes ≡ Ok file → bytes ≡ spelled file.program file.fill }

@@ -42,13 +42,14 @@ pub enum FileKind {
     Magic,
     /// The file ends within a field.
     Short,
-    /// More than 1,048,576 words, more than 4,096 pages or chunks, or a program that ends above 2^32.
+    /// More than 1,048,576 words, more than 4,096 spans, pages or chunks, words that end above 2^32, or no span or no
+    /// word in a span.
     Count,
-    /// The base is no multiple of 4.
+    /// The base, or the address of a span, is no multiple of 4.
     Base,
     /// An address is no multiple of 4,096, or of 4 for a chunk.
     Page,
-    /// A page or chunk doesn't stand above the one before it.
+    /// A page or chunk doesn't stand above the one before it, or a span touches the one before it or stands below.
     Order,
     /// A page or chunk shares a byte with the program.
     Overlap,
@@ -77,6 +78,8 @@ pub enum FileKind {
     Slot(u8),
     /// A buffer that is not 0, 1 or 255.
     Buffer(u8),
+    /// The entry is the address of no word, or that of the first word of the only span, which is another form of file.
+    Entry,
 }
 
 /// A fault of a file: the place of the first byte of the field at fault, counted from 0, or for

@@ -1,15 +1,17 @@
 //! Program files.
 
-ghost use Rattle.capture_file.specs.Programs.{Gives, HasWords, Reads, address_fault, base_field, base_fault, chunk_count_fault, chunk_count_field, chunk_field, chunks_field, cut, fill_fault};
-ghost use Rattle.capture_file.specs.Programs.{fill_field, is_length, judged, layout_field, layout_of, length_fault, long_chunk_field, number_field, page_fault, page_field, program_of, without_grants};
-ghost use Rattle.capture_file.specs.Programs.{word_count_fault, word_count_field, words_field, words_in, wrong};
+ghost use Rattle.capture_file.specs.Programs.{Gives, HasWords, Reads, address_fault, based_field, base_field, base_fault, chunk_count_fault, chunk_count_field};
+ghost use Rattle.capture_file.specs.Programs.{chunk_field, chunks_field, cut, entry_fault, entry_field, fill_fault, fill_field, first_words_field, form_field, is_length, judged, layout_of, length_fault};
+ghost use Rattle.capture_file.specs.Programs.{long_chunk_field, number_field, page_fault, page_field, passed, placed_field, program_of, span_address_fault, span_address_field, span_field, span_length_fault};
+ghost use Rattle.capture_file.specs.Programs.{span_length_field, span_number_fault, span_number_field, spanned_field, spans_field, with_grants, with_span, with_words, without_grants, word_count_fault, word_count_field, words_field, words_in, wrong};
 ghost use Rattle.std.specs.List.{All, list_all};
 ghost use Rattle.byteorder.specs.Endian.{little_number};
 ghost use Rattle.page_table.specs.Grants.{AreRising, chunk, is_page, total, max_bytes, max_chunks};
 ghost use Rattle.capture_file.specs.declared.program.ProgramError.TheVariants.{File, Memory};
+ghost use Rattle.capture_file.specs.declared.program.ProgramForm.TheVariants.{Spanned};
 ghost use Rattle.page_table.specs.Taken.{listed, pair_chunk};
-ghost use Rattle.machine_model.specs.Paths.{shares_byte, max_words};
-ghost use Rattle.std.specs.Prelude.{false, ◌%◌, ◌≡◌, ◌+◌, ◌-◌, ◌*◌, ◌^◌, ◌≤◌, ◌<◌, List, ℕ, [], drop, length, IfOk, IfErr, IsOk, Ok};
+ghost use Rattle.machine_model.specs.Paths.{IsProgram, Span, end_of, is_there, max_spans, max_words, shares_byte, span, spans_of, word_among};
+ghost use Rattle.std.specs.Prelude.{false, nat_le, nat_lt, ◌&&◌, ◌==◌, ◌/◌, ◌%◌, ◌≡◌, ◌+◌, ◌-◌, ◌*◌, ◌^◌, ◌≤◌, ◌<◌, ◌∷◌, ◌++◌, List, ℕ, [], drop, length, slice_index_or, IfOk, IfErr, IsOk, Ok, OnOk};
 
 use super::records::number;
 use super::{FileFault, FileKind};
@@ -18,7 +20,7 @@ use machine_model::MAX_WORDS;
 use page_table::{
     ADDRESSES, MAX_BYTES, MAX_CHUNKS, PAGE_SIZE, PageFault, PageSet, is_met, is_page,
 };
-use risc_verify::Program;
+use risc_verify::{Program, Spans};
 use std::alloc::{AllocError, AllocFailed, Global};
 
 /// What a program file holds.
@@ -61,21 +63,36 @@ impl From<AllocError> for ProgramError {
     }
 }
 
-/// The two forms of a program file and of an image.
+/// How a program file and an image say their chunks.
 #[derive(Clone, Copy)]
 pub enum Layout {
-    /// All chunks are pages: `BRP1`, `BMI1`.
+    /// By their addresses, since all of them are pages.
     Paged,
-    /// Some chunk isn't: `BRP2`, `BMI2`.
+    /// By their addresses and lengths.
     Chunked,
+}
+
+/// The three forms of a program file.
+#[derive(Clone, Copy)]
+pub enum ProgramForm {
+    /// The words stand one after another from the entry on, or there are none: `BRP1` where all chunks are pages,
+    /// else `BRP2`.
+    Based(Layout),
+    /// Any other program, by its spans: `BRP3`.
+    Spanned,
 }
 
 const BRP1: u32 = 0x3150_5242;
 
 const BRP2: u32 = 0x3250_5242;
 
+const BRP3: u32 = 0x3350_5242;
+
 // The words that are read at once.
 const GROUP: usize = 1_024;
+
+// How many spans a program may have.
+const MAX_SPANS: u32 = 4_096;
 
 impl<T: Drop> From<AllocFailed<T>> for ProgramError {
     ghost use Rattle.std.specs.Prelude.{◌≡◌};
@@ -95,11 +112,18 @@ struct Rest<'a> {
     bytes: &'a [u8],
 }
 
-/// The words of a program and where they stand.
+/// The spans of a program, and the address at which its path begins.
+#[derive(Drop)]
+struct Placed {
+    start: u32,
+    spans: Spans,
+}
+
+/// From where on a span may begin, and how many words the spans before it have.
 #[derive(Clone, Copy)]
-struct Placed<'a> {
-    base: u32,
-    words: &'a [u32],
+struct Above {
+    from: u64,
+    words: u32,
 }
 
 /// Where the chunks before one end, and how many bytes they have.
@@ -126,6 +150,78 @@ fn word_count_wrong(base: u32, count: u32) -> Option<FileKind>
         None
     } else {
         Some(FileKind::Count)
+    }
+}
+
+fn span_number_wrong(count: u32) -> Option<FileKind>
+    ensures { result ≡ span_number_fault count }
+{
+    if count != 0 && count <= MAX_SPANS {
+        None
+    } else {
+        Some(FileKind::Count)
+    }
+}
+
+fn span_address_wrong(from: u64, at: u32) -> Option<FileKind>
+    ensures { result ≡ span_address_fault from at }
+{
+    if at % 4 != 0 {
+        Some(FileKind::Base)
+    } else if u64::from(at) < from {
+        Some(FileKind::Order)
+    } else {
+        None
+    }
+}
+
+fn span_length_wrong(at: u32, sum: u32, count: u32) -> Option<FileKind>
+    ensures { result ≡ span_length_fault at sum count }
+{
+    if count != 0
+        && u64::from(sum) + u64::from(count) <= u64::from(MAX_WORDS)
+        && u64::from(at) + 4 * u64::from(count) <= ADDRESSES
+    {
+        None
+    } else {
+        Some(FileKind::Count)
+    }
+}
+
+// The address behind a span.
+fn span_end(spans: &Spans, number: usize) -> u64
+    requires { number < length spans.now }
+    ensures { (d : Span) → result ≡ end_of (slice_index_or spans.now number d) }
+{
+    u64::from(spans.at(number)) + 4 * spans.words_of(number).len() as u64
+}
+
+// Whether an address is that of one of so many words.
+fn stands_in(at: u32, count: usize, address: u32) -> bool
+    ensures { result ≡ (nat_le at address && (address - at) % 4 == 0 && nat_lt ((address - at) / 4) count) }
+{
+    at <= address && (address - at) % 4 == 0 && (((address - at) / 4) as usize) < count
+}
+
+// Whether an address is that of a word.
+fn is_in(spans: &Spans, address: u32) -> bool
+    ensures { result ≡ is_there (word_among spans.now address) }
+{
+    for number in 0..spans.len() {
+        if stands_in(spans.at(number), spans.words_of(number).len(), address) {
+            return true;
+        }
+    }
+    false
+}
+
+fn entry_wrong(spans: &Spans, entry: u32) -> Option<FileKind>
+    ensures { result ≡ entry_fault spans.now entry }
+{
+    if is_in(spans, entry) && !spans.begins_at(entry) {
+        None
+    } else {
+        Some(FileKind::Entry)
     }
 }
 
@@ -177,19 +273,49 @@ fn words_of(alloc: Global, count: u32, bytes: &[u8]) -> Result<Vec<u32>, Program
     Ok(words)
 }
 
-impl<'a> Placed<'a> {
+// Appends the words in some bytes to the last span.
+fn push_words(spans: &mut Spans, count: u32, bytes: &[u8]) -> Result<(), AllocError>
+    requires some { 0 < length spans.old }
+    requires long { 4 * count ≤ length bytes.now }
+    ensures { OnOk result (spans.new ≡ with_words spans.old (words_in count bytes.now)) }
+{
+    for number in 0..count as usize {
+        spans.push(number_from(bytes, 4 * number))?;
+    }
+    Ok(())
+}
+
+impl Placed {
     // Whether a chunk shares a byte with the program.
-    fn shares(self, at: u32, len: u32) -> bool
-        requires { length self.words.now ≤ max_words }
-        ensures { result ≡ shares_byte (without_grants self.entry.base self.entry.words.now) (chunk at len) }
+    fn shares(&self, at: u32, len: u32) -> bool
+        ensures { result ≡ shares_byte (without_grants self.now.start self.now.spans) (chunk at len) }
     {
-        let end = u64::from(self.base) + 4 * self.words.len() as u64;
-        is_met(self.base, end, at, len)
+        for number in 0..self.spans.len() {
+            if is_met(
+                self.spans.at(number),
+                span_end(&self.spans, number),
+                at,
+                len,
+            ) {
+                return true;
+            }
+        }
+        false
     }
 
-    fn page_wrong(self, from: u64, at: u32) -> Option<FileKind>
-        requires { length self.words.now ≤ max_words }
-        ensures { result ≡ page_fault (without_grants self.entry.base self.entry.words.now) from at }
+    // The file of the program, with the chunks that it may write.
+    fn file(self, grants: PageSet, fill: u8) -> ProgramFile
+        requires { IsProgram (with_grants (without_grants self.start self.spans) grants) }
+        ensures { result ≡ record { program = with_grants (without_grants self.start self.spans) grants; fill = fill } }
+    {
+        ProgramFile {
+            program: Program::of_spans(self.start, self.spans, grants),
+            fill,
+        }
+    }
+
+    fn page_wrong(&self, from: u64, at: u32) -> Option<FileKind>
+        ensures { result ≡ page_fault (without_grants self.now.start self.now.spans) from at }
     {
         if at % PAGE_SIZE != 0 {
             Some(FileKind::Page)
@@ -202,10 +328,9 @@ impl<'a> Placed<'a> {
         }
     }
 
-    fn length_wrong(self, sum: u64, at: u32, len: u32) -> Option<FileKind>
-        requires few { length self.words.now ≤ max_words }
-        requires small { sum < 2 ^ 62 }
-        ensures { result ≡ length_fault (without_grants self.entry.base self.entry.words.now) sum at len }
+    fn length_wrong(&self, sum: u64, at: u32, len: u32) -> Option<FileKind>
+        requires { sum < 2 ^ 62 }
+        ensures { result ≡ length_fault (without_grants self.now.start self.now.spans) sum at len }
     {
         if !is_right_length(sum, at, len) {
             Some(FileKind::Length)
@@ -245,18 +370,30 @@ pub(super) fn are_pages(chunks: &[(u32, u32)]) -> bool
     chunks.iter().all(|pair| is_page(pair.0, pair.1))
 }
 
-fn fill_wrong(layout: Layout, chunks: &[(u32, u32)]) -> Option<FileKind>
-    ensures { result ≡ fill_fault layout (listed chunks.now) }
+pub(super) fn layout_of(form: ProgramForm) -> Layout
+    ensures { result ≡ layout_of form }
 {
-    match layout {
-        Layout::Paged => None,
-        Layout::Chunked => {
-            if are_pages(chunks) {
-                Some(FileKind::Pages)
-            } else {
-                None
+    match form {
+        ProgramForm::Based(layout) => layout,
+        ProgramForm::Spanned => Layout::Chunked,
+    }
+}
+
+fn fill_wrong(form: ProgramForm, chunks: &[(u32, u32)]) -> Option<FileKind>
+    ensures { result ≡ fill_fault form (listed chunks.now) }
+{
+    match form {
+        ProgramForm::Spanned => None,
+        ProgramForm::Based(layout) => match layout {
+            Layout::Paged => None,
+            Layout::Chunked => {
+                if are_pages(chunks) {
+                    Some(FileKind::Pages)
+                } else {
+                    None
+                }
             }
-        }
+        },
     }
 }
 
@@ -316,16 +453,17 @@ impl<'a> Rest<'a> {
         }
     }
 
-    #[tactic(auto, unfolding(crate::specs::Programs::layout_field))]
-    fn layout(self) -> Result<(Layout, Rest<'a>), FileFault>
+    #[tactic(auto, unfolding(crate::specs::Programs::form_field))]
+    fn form(self) -> Result<(ProgramForm, Rest<'a>), FileFault>
         requires { length self.bytes.now ≤ self.size }
-        ensures value { Reads (λ x. (x.0, x.1.bytes.now)) result (layout_field self.entry.size self.entry.bytes.now) }
+        ensures value { Reads (λ x. (x.0, x.1.bytes.now)) result (form_field self.entry.size self.entry.bytes.now) }
         ensures rest { IfOk result (λ x. (x.1.size ≡ self.entry.size) × (length x.1.bytes.now ≤ length self.entry.bytes.now)) }
     {
         let (word, rest) = self.number()?;
         match word {
-            BRP1 => Ok((Layout::Paged, rest)),
-            BRP2 => Ok((Layout::Chunked, rest)),
+            BRP1 => Ok((ProgramForm::Based(Layout::Paged), rest)),
+            BRP2 => Ok((ProgramForm::Based(Layout::Chunked), rest)),
+            BRP3 => Ok((ProgramForm::Spanned, rest)),
             _ => Err(self.fault(FileKind::Magic)),
         }
     }
@@ -359,7 +497,6 @@ impl<'a> Rest<'a> {
     fn words(self, alloc: Global, count: u32) -> Result<(Vec<u32>, Rest<'a>), ProgramError>
         ensures value { Gives (λ x. (x.0.items, x.1.bytes.now)) result (words_field self.entry.size count self.entry.bytes.now) }
         ensures rest { IfOk result (λ x. (x.1.size ≡ self.entry.size) × (length x.1.bytes.now ≤ length self.entry.bytes.now)) }
-        ensures len { IfOk result (λ x. length x.0.items ≡ count) }
         ensures memory { IfErr result (λ e. e ≡ Memory → IsOk (words_field self.entry.size count self.entry.bytes.now)) }
     {
         let long = 4 * u64::from(count);
@@ -368,6 +505,128 @@ impl<'a> Rest<'a> {
         }
         let words = words_of(alloc, count, self.bytes)?;
         Ok((words, self.after(long as usize)))
+    }
+
+    // The base and the words that stand one after another from it on.
+    #[tactic(auto, unfolding(crate::specs::Programs::based_field))]
+    fn based(self, alloc: Global) -> Result<(Placed, Rest<'a>), ProgramError>
+        requires { length self.bytes.now ≤ self.size }
+        ensures value { Gives (λ x. (without_grants x.0.start x.0.spans, x.1.bytes.now)) result (based_field self.entry.size self.entry.bytes.now) }
+        ensures rest { IfOk result (λ x. (x.1.size ≡ self.entry.size) × (length x.1.bytes.now ≤ length self.entry.bytes.now)) }
+        ensures memory { IfErr result (λ e. e ≡ Memory → IsOk (based_field self.entry.size self.entry.bytes.now)) }
+    {
+        let (start, rest) = self.base()?;
+        let (count, rest) = rest.word_count(start)?;
+        let (words, rest) = rest.words(alloc, count)?;
+        let spans = Spans::one(start, words);
+        Ok((Placed { start, spans }, rest))
+    }
+
+    #[tactic(auto, unfolding(crate::specs::Programs::span_number_field))]
+    fn span_number(self) -> Result<(u32, Rest<'a>), FileFault>
+        requires { length self.bytes.now ≤ self.size }
+        ensures value { Reads (λ x. (x.0, x.1.bytes.now)) result (span_number_field self.entry.size self.entry.bytes.now) }
+        ensures rest { IfOk result (λ x. (x.1.size ≡ self.entry.size) × (length x.1.bytes.now ≤ length self.entry.bytes.now)) }
+        ensures some { IfOk result (λ x. 0 < x.0) }
+    {
+        let (count, rest) = self.number()?;
+        self.judge(span_number_wrong(count))?;
+        Ok((count, rest))
+    }
+
+    #[tactic(auto, unfolding(crate::specs::Programs::span_address_field))]
+    fn span_address(self, from: u64) -> Result<(u32, Rest<'a>), FileFault>
+        requires { length self.bytes.now ≤ self.size }
+        ensures value { Reads (λ x. (x.0, x.1.bytes.now)) result (span_address_field self.entry.size from self.entry.bytes.now) }
+        ensures rest { IfOk result (λ x. (x.1.size ≡ self.entry.size) × (length x.1.bytes.now ≤ length self.entry.bytes.now)) }
+    {
+        let (at, rest) = self.number()?;
+        self.judge(span_address_wrong(from, at))?;
+        Ok((at, rest))
+    }
+
+    #[tactic(auto, unfolding(crate::specs::Programs::span_length_field))]
+    fn span_length(self, at: u32, sum: u32) -> Result<(u32, Rest<'a>), FileFault>
+        requires { length self.bytes.now ≤ self.size }
+        ensures value { Reads (λ x. (x.0, x.1.bytes.now)) result (span_length_field self.entry.size at sum self.entry.bytes.now) }
+        ensures rest { IfOk result (λ x. (x.1.size ≡ self.entry.size) × (length x.1.bytes.now ≤ length self.entry.bytes.now)) }
+        ensures few { IfOk result (λ x. sum + x.0 ≤ max_words) }
+    {
+        let (count, rest) = self.number()?;
+        self.judge(span_length_wrong(at, sum, count))?;
+        Ok((count, rest))
+    }
+
+    // Appends the words at the front as a span of their own.
+    #[tactic(auto, unfolding(crate::specs::Programs::words_field))]
+    fn span_words(self, spans: &mut Spans, at: u32, count: u32) -> Result<Rest<'a>, ProgramError>
+        ensures value { Gives (λ x. (spans.new, x.bytes.now)) result (with_span spans.old at (words_field self.entry.size count self.entry.bytes.now)) }
+        ensures rest { IfOk result (λ x. (x.size ≡ self.entry.size) × (length x.bytes.now ≤ length self.entry.bytes.now)) }
+        ensures memory { IfErr result (λ e. e ≡ Memory → IsOk (words_field self.entry.size count self.entry.bytes.now)) }
+    {
+        let long = 4 * u64::from(count);
+        if (self.bytes.len() as u64) < long {
+            return Err(ProgramError::File(self.short()));
+        }
+        spans.begin(at)?;
+        push_words(spans, count, self.bytes)?;
+        Ok(self.after(long as usize))
+    }
+
+    // Appends the span at the front, and answers where the next may begin.
+    #[tactic(auto, unfolding(crate::specs::Programs::span_field))]
+    fn span(self, spans: &mut Spans, above: Above) -> Result<(Above, Rest<'a>), ProgramError>
+        requires { length self.bytes.now ≤ self.size }
+        ensures value { Gives (λ x. (((x.0.from, x.0.words), spans.new), x.1.bytes.now)) result
+            (passed spans.old above.words (span_field self.entry.size above.from above.words self.entry.bytes.now)) }
+        ensures rest { IfOk result (λ x. (x.1.size ≡ self.entry.size) × (length x.1.bytes.now ≤ length self.entry.bytes.now)) }
+        ensures memory { IfErr result (λ e. e ≡ Memory → IsOk (span_field self.entry.size above.from above.words self.entry.bytes.now)) }
+    {
+        let (at, rest) = self.span_address(above.from)?;
+        let (count, rest) = rest.span_length(at, above.words)?;
+        let rest = rest.span_words(spans, at, count)?;
+        let above = Above {
+            from: u64::from(at) + 4 * u64::from(count) + 1,
+            words: above.words + count,
+        };
+        Ok((above, rest))
+    }
+
+    #[tactic(auto, unfolding(crate::specs::Programs::entry_field))]
+    fn entry(self, spans: &Spans) -> Result<(u32, Rest<'a>), FileFault>
+        requires { length self.bytes.now ≤ self.size }
+        ensures value { Reads (λ x. (x.0, x.1.bytes.now)) result (entry_field self.entry.size spans.now self.entry.bytes.now) }
+        ensures rest { IfOk result (λ x. (x.1.size ≡ self.entry.size) × (length x.1.bytes.now ≤ length self.entry.bytes.now)) }
+    {
+        let (entry, rest) = self.number()?;
+        self.judge(entry_wrong(spans, entry))?;
+        Ok((entry, rest))
+    }
+
+    // The spans and the entry.
+    #[tactic(auto, unfolding(crate::specs::Programs::spanned_field))]
+    fn spanned(self, alloc: Global) -> Result<(Placed, Rest<'a>), ProgramError>
+        requires { length self.bytes.now ≤ self.size }
+        ensures value { Gives (λ x. (without_grants x.0.start x.0.spans, x.1.bytes.now)) result (spanned_field self.entry.size self.entry.bytes.now) }
+        ensures rest { IfOk result (λ x. (x.1.size ≡ self.entry.size) × (length x.1.bytes.now ≤ length self.entry.bytes.now)) }
+        ensures memory { IfErr result (λ e. e ≡ Memory → IsOk (first_words_field Spanned self.entry.size self.entry.bytes.now)) }
+    {
+        let (count, rest) = self.span_number()?;
+        let (spans, rest) = read_spans(alloc, count, rest.size, rest.bytes)?;
+        let (start, rest) = rest.entry(&spans)?;
+        Ok((Placed { start, spans }, rest))
+    }
+
+    fn placed(self, alloc: Global, form: ProgramForm) -> Result<(Placed, Rest<'a>), ProgramError>
+        requires { length self.bytes.now ≤ self.size }
+        ensures value { Gives (λ x. (without_grants x.0.start x.0.spans, x.1.bytes.now)) result (placed_field form self.entry.size self.entry.bytes.now) }
+        ensures rest { IfOk result (λ x. (x.1.size ≡ self.entry.size) × (length x.1.bytes.now ≤ length self.entry.bytes.now)) }
+        ensures memory { IfErr result (λ e. e ≡ Memory → IsOk (first_words_field form self.entry.size self.entry.bytes.now)) }
+    {
+        match form {
+            ProgramForm::Based(_) => self.based(alloc),
+            ProgramForm::Spanned => self.spanned(alloc),
+        }
     }
 
     #[tactic(auto, unfolding(crate::specs::Programs::chunk_count_field))]
@@ -383,10 +642,9 @@ impl<'a> Rest<'a> {
     }
 
     #[tactic(auto, unfolding(crate::specs::Programs::page_field))]
-    fn page(self, program: Placed<'_>, from: u64) -> Result<((u32, u32), Rest<'a>), FileFault>
+    fn page(self, program: &Placed, from: u64) -> Result<((u32, u32), Rest<'a>), FileFault>
         requires inside { length self.bytes.now ≤ self.size }
-        requires few { length program.words.now ≤ max_words }
-        ensures value { Reads (λ x. (pair_chunk x.0, x.1.bytes.now)) result (page_field self.entry.size (without_grants program.entry.base program.entry.words.now) from self.entry.bytes.now) }
+        ensures value { Reads (λ x. (pair_chunk x.0, x.1.bytes.now)) result (page_field self.entry.size (without_grants program.now.start program.now.spans) from self.entry.bytes.now) }
         ensures rest { IfOk result (λ x. (x.1.size ≡ self.entry.size) × (length x.1.bytes.now ≤ length self.entry.bytes.now)) }
         ensures wide { IfOk result (λ x. x.0.1 < 2 ^ 32) }
     {
@@ -398,13 +656,12 @@ impl<'a> Rest<'a> {
     #[tactic(auto, unfolding(crate::specs::Programs::long_chunk_field))]
     fn long_chunk(
         self,
-        program: Placed<'_>,
+        program: &Placed,
         before: Before,
     ) -> Result<((u32, u32), Rest<'a>), FileFault>
         requires inside { length self.bytes.now ≤ self.size }
-        requires few { length program.words.now ≤ max_words }
         requires small { before.bytes < 2 ^ 62 }
-        ensures value { Reads (λ x. (pair_chunk x.0, x.1.bytes.now)) result (long_chunk_field self.entry.size (without_grants program.entry.base program.entry.words.now) before.end before.bytes self.entry.bytes.now) }
+        ensures value { Reads (λ x. (pair_chunk x.0, x.1.bytes.now)) result (long_chunk_field self.entry.size (without_grants program.now.start program.now.spans) before.end before.bytes self.entry.bytes.now) }
         ensures rest { IfOk result (λ x. (x.1.size ≡ self.entry.size) × (length x.1.bytes.now ≤ length self.entry.bytes.now)) }
         ensures wide { IfOk result (λ x. x.0.1 < 2 ^ 32) }
     {
@@ -418,13 +675,12 @@ impl<'a> Rest<'a> {
     fn chunk(
         self,
         layout: Layout,
-        program: Placed<'_>,
+        program: &Placed,
         before: Before,
     ) -> Result<((u32, u32), Rest<'a>), FileFault>
         requires inside { length self.bytes.now ≤ self.size }
-        requires few { length program.words.now ≤ max_words }
         requires small { before.bytes < 2 ^ 62 }
-        ensures value { Reads (λ x. (pair_chunk x.0, x.1.bytes.now)) result (chunk_field layout self.entry.size (without_grants program.entry.base program.entry.words.now) before.end before.bytes self.entry.bytes.now) }
+        ensures value { Reads (λ x. (pair_chunk x.0, x.1.bytes.now)) result (chunk_field layout self.entry.size (without_grants program.now.start program.now.spans) before.end before.bytes self.entry.bytes.now) }
         ensures rest { IfOk result (λ x. (x.1.size ≡ self.entry.size) × (length x.1.bytes.now ≤ length self.entry.bytes.now)) }
         ensures wide { IfOk result (λ x. x.0.1 < 2 ^ 32) }
     {
@@ -436,14 +692,14 @@ impl<'a> Rest<'a> {
 
     // The last byte of a file.
     #[tactic(auto, unfolding(crate::specs::Programs::fill_field))]
-    fn fill(self, layout: Layout, chunks: &[(u32, u32)]) -> Result<u8, FileFault>
+    fn fill(self, form: ProgramForm, chunks: &[(u32, u32)]) -> Result<u8, FileFault>
         requires { length self.bytes.now ≤ self.size }
-        ensures { result ≡ fill_field layout self.entry.size (listed chunks.now) self.entry.bytes.now }
+        ensures { result ≡ fill_field form self.entry.size (listed chunks.now) self.entry.bytes.now }
     {
         match self.bytes {
             [] => Err(self.short()),
             [fill, rest @ ..] => {
-                self.judge(fill_wrong(layout, chunks))?;
+                self.judge(fill_wrong(form, chunks))?;
                 if rest.is_empty() {
                     Ok(*fill)
                 } else {
@@ -454,23 +710,43 @@ impl<'a> Rest<'a> {
     }
 }
 
+// The spans at the front of these last bytes of a file of `size` bytes, and what is left behind them.
+fn read_spans<'a>(
+    alloc: Global,
+    count: u32,
+    size: usize,
+    bytes: &'a [u8],
+) -> Result<(Spans, Rest<'a>), ProgramError>
+    requires inside { length bytes.now ≤ size }
+    requires some { 0 < count }
+    ensures value { Gives (λ x. (x.0, x.1.bytes.now)) result (spans_field size count 0 0 bytes.now) }
+    ensures rest { IfOk result (λ x. (x.1.size ≡ size) × (length x.1.bytes.now ≤ length bytes.now)) }
+    ensures memory { IfErr result (λ e. e ≡ Memory → IsOk (span_field size 0 0 bytes.now)) }
+{
+    let mut spans = Spans::new(alloc);
+    let mut rest = Rest { size, bytes };
+    let mut above = Above { from: 0, words: 0 };
+    for _ in 0..count {
+        (above, rest) = rest.span(&mut spans, above)?;
+    }
+    Ok((spans, rest))
+}
+
 // The chunks at the front of these last bytes of a file of `size` bytes, and what is left behind them.
 fn read_chunks<'a>(
     alloc: Global,
     layout: Layout,
-    program: Placed<'_>,
+    program: &Placed,
     count: u32,
     size: usize,
     bytes: &'a [u8],
 ) -> Result<(Vec<(u32, u32)>, Rest<'a>), ProgramError>
     requires inside { length bytes.now ≤ size }
-    requires few { length program.words.now ≤ max_words }
     requires count { count ≤ max_chunks }
-    ensures value { Gives (λ x. (listed x.0.items, x.1.bytes.now)) result (chunks_field layout size (without_grants program.entry.base program.entry.words.now) count 0 0 bytes.now) }
+    ensures value { Gives (λ x. (listed x.0.items, x.1.bytes.now)) result (chunks_field layout size (without_grants program.now.start program.now.spans) count 0 0 bytes.now) }
     ensures rest { IfOk result (λ x. (x.1.size ≡ size) × (length x.1.bytes.now ≤ length bytes.now)) }
     ensures rising { IfOk result (λ x. AreRising 0 (listed x.0.items)) }
     ensures small { IfOk result (λ x. total (listed x.0.items) ≤ max_bytes) }
-    ensures apart { IfOk result (λ x. All (λ c. shares_byte (without_grants program.entry.base program.entry.words.now) c ≡ false) (listed x.0.items)) }
     ensures len { IfOk result (λ x. length x.0.items ≡ count) }
 {
     let mut chunks = Vec::new(alloc);
@@ -505,10 +781,12 @@ fn grants_of(alloc: Global, chunks: &[(u32, u32)]) -> Result<PageSet, ProgramErr
     }
 }
 
-/// The program that a file holds, or the first field of the file that is cut or at fault. A file begins
-/// with `BRP1` where its chunks are pages, and else with `BRP2`; the fields are the base, the number of
-/// words and the words, the number of pages or chunks and these in rising order, and the fill (this
-/// project's own formats). Memory is taken only where the fields up to the words are right and whole.
+/// The program that a file holds, or the first field of the file that is cut or at fault (this project's own formats).
+/// A file begins with `BRP1` or `BRP2` where the words stand one after another from the entry on, or where there are
+/// none: `BRP1` where all chunks are pages. The fields are then the base, the number of words and the words, the number
+/// of pages or chunks and these in rising order, and the fill. Any other begins with `BRP3`; in place of base and words
+/// it has the number of spans, these in rising order, each its address, its number of words and its words, and the
+/// entry. Memory is taken only where the fields up to the first words are right and whole.
 #[tactic(auto, unfolding(crate::specs::Programs::program_in, crate::specs::Programs::words_read))]
 pub fn read_program(alloc: Global, bytes: &[u8]) -> Result<ProgramFile, ProgramError>
     ensures value { Gives (λ x. x) result (program_of bytes.now) }
@@ -518,20 +796,12 @@ pub fn read_program(alloc: Global, bytes: &[u8]) -> Result<ProgramFile, ProgramE
         size: bytes.len(),
         bytes,
     };
-    let (layout, rest) = file.layout()?;
-    let (base, rest) = rest.base()?;
-    let (count, rest) = rest.word_count(base)?;
-    let (words, rest) = rest.words(alloc, count)?;
+    let (form, rest) = file.form()?;
+    let (placed, rest) = rest.placed(alloc, form)?;
     let (count, rest) = rest.chunk_count()?;
-    let program = Placed {
-        base,
-        words: &words,
-    };
-    let (chunks, rest) = read_chunks(alloc, layout, program, count, rest.size, rest.bytes)?;
-    let fill = rest.fill(layout, &chunks)?;
+    let layout = layout_of(form);
+    let (chunks, rest) = read_chunks(alloc, layout, &placed, count, rest.size, rest.bytes)?;
+    let fill = rest.fill(form, &chunks)?;
     let grants = grants_of(alloc, &chunks)?;
-    Ok(ProgramFile {
-        program: Program::new(base, words, grants),
-        fill,
-    })
+    Ok(placed.file(grants, fill))
 }

@@ -1,18 +1,19 @@
 //! Program files written to a desk.
 
-ghost use Rattle.machine_model.specs.Paths.{max_words};
+ghost use Rattle.capture_file.specs.declared.program.ProgramForm.TheVariants.{Based, Spanned};
+ghost use Rattle.machine_model.specs.Paths.{max_spans, max_words, span, words_of};
 ghost use Rattle.byteorder.specs.Endian.{little_bytes};
 ghost use Rattle.capture_desk.specs.Desks.{Puts, WriteCounts, after_write};
-ghost use Rattle.capture_file.specs.Programs.{chunk_in, chunk_numbers, grants_spelled, head_spelled, layout_for, name_of, numbers_spelled, spelled, spelled_as};
+ghost use Rattle.capture_file.specs.Programs.{chunk_in, chunk_numbers, form_for, grants_spelled, layout_for, name_of, numbers_spelled, placed_spelled, span_spelled, spanned_spelled, spelled, spelled_as};
 ghost use Rattle.page_table.specs.Grants.{chunk_at, is_page, max_chunks};
 ghost use Rattle.std.specs.List.{flat_map, list_all};
 ghost use Rattle.std.specs.Prelude.{◌≡◌, ◌+◌, ◌*◌, ◌≤◌, ◌++◌, List, ℕ, [], drop, length, map, take, IsTrue};
 
-use super::program::{Layout, are_pages};
+use super::program::{Layout, ProgramForm, are_pages, layout_of};
 use byteorder::{ByteOrder, LittleEndian};
 use capture_desk::{Desk, Failed, put};
 use page_table::PageSet;
-use risc_verify::Program;
+use risc_verify::{Program, Spans};
 
 // How many bytes are put at once where there are few, and where there are many.
 const FEW: usize = 4_096;
@@ -74,29 +75,17 @@ pub fn put_numbers<D: Desk>(desk: &mut D, numbers: &[u32]) -> Result<(), Failed>
     }
 }
 
-fn name(layout: Layout) -> [u8; 4]
-    ensures { result ≡ name_of layout }
+fn name(form: ProgramForm) -> [u8; 4]
+    ensures { result ≡ name_of form }
 {
-    match layout {
-        Layout::Paged => *b"BRP1",
-        Layout::Chunked => *b"BRP2",
+    match form {
+        ProgramForm::Based(Layout::Paged) => *b"BRP1",
+        ProgramForm::Based(Layout::Chunked) => *b"BRP2",
+        ProgramForm::Spanned => *b"BRP3",
     }
 }
 
-// Appends the first word of a program file, the base and the number of words.
-fn put_head<D: Desk>(desk: &mut D, layout: Layout, base: u32, count: u32) -> Result<(), Failed>
-    requires open { IsTrue (D.seen desk.old).told.output_open }
-    ensures puts { Puts (head_spelled layout base count) result after_write (D.seen desk.old).told (D.seen desk.new).told }
-    ensures counts { WriteCounts result (D.seen desk.old) (D.seen desk.new) }
-{
-    let mut piece = [0; 12];
-    piece[..4].copy_from_slice(&name(layout));
-    spell_one(base, &mut piece, 4);
-    spell_one(count, &mut piece, 8);
-    put(desk, &piece)
-}
-
-// The form of a program's file: whether all chunks are pages.
+// How a program's file says its chunks: whether all are pages.
 fn layout_of_grants(grants: &PageSet) -> Layout
     ensures { result ≡ layout_for grants.now }
 {
@@ -185,36 +174,91 @@ fn put_grants<D: Desk>(desk: &mut D, layout: Layout, grants: &PageSet) -> Result
     put_chunks(desk, layout, grants)
 }
 
-// Appends the file of a program, in the form of one of the two layouts.
-fn put_all<D: Desk>(
+// The form of a program's file.
+fn form_of_program(program: &Program) -> ProgramForm
+    ensures { result ≡ form_for program.now }
+{
+    if program.begins_at_base() {
+        ProgramForm::Based(layout_of_grants(program.grants()))
+    } else {
+        ProgramForm::Spanned
+    }
+}
+
+// Appends an address, the number of the words that stand there, and the words.
+fn put_span<D: Desk>(desk: &mut D, at: u32, words: &[u32]) -> Result<(), Failed>
+    requires open { IsTrue (D.seen desk.old).told.output_open }
+    requires few { length words.now ≤ max_words }
+    ensures puts { Puts (span_spelled (span at words.now)) result after_write (D.seen desk.old).told (D.seen desk.new).told }
+    ensures counts { WriteCounts result (D.seen desk.old) (D.seen desk.new) }
+{
+    put_numbers(desk, &[at, words.len() as u32])?;
+    put_numbers(desk, words)
+}
+
+// Appends the spans to the open output.
+fn put_spans<D: Desk>(desk: &mut D, spans: &Spans) -> Result<(), Failed>
+    requires open { IsTrue (D.seen desk.old).told.output_open }
+    requires few { length (words_of spans.now) ≤ max_words }
+    ensures puts { Puts (flat_map span_spelled spans.now) result after_write (D.seen desk.old).told (D.seen desk.new).told }
+    ensures counts { WriteCounts result (D.seen desk.old) (D.seen desk.new) }
+{
+    for number in 0..spans.len() {
+        put_span(desk, spans.at(number), spans.words_of(number))?;
+    }
+    Ok(())
+}
+
+// Appends the number of the spans, the spans and the entry.
+fn put_spanned<D: Desk>(desk: &mut D, entry: u32, spans: &Spans) -> Result<(), Failed>
+    requires open { IsTrue (D.seen desk.old).told.output_open }
+    requires many { length spans.now ≤ max_spans }
+    requires few { length (words_of spans.now) ≤ max_words }
+    ensures puts { Puts (spanned_spelled entry spans.now) result after_write (D.seen desk.old).told (D.seen desk.new).told }
+    ensures counts { WriteCounts result (D.seen desk.old) (D.seen desk.new) }
+{
+    put_numbers(desk, &[spans.len() as u32])?;
+    put_spans(desk, spans)?;
+    put_numbers(desk, &[entry])
+}
+
+// Appends the words of a program where they stand, and its entry.
+fn put_placed<D: Desk>(desk: &mut D, form: ProgramForm, program: &Program) -> Result<(), Failed>
+    requires open { IsTrue (D.seen desk.old).told.output_open }
+    ensures puts { Puts (placed_spelled form program.now) result after_write (D.seen desk.old).told (D.seen desk.new).told }
+    ensures counts { WriteCounts result (D.seen desk.old) (D.seen desk.new) }
+{
+    match form {
+        ProgramForm::Based(_) => put_span(desk, program.base(), program.words()),
+        ProgramForm::Spanned => put_spanned(desk, program.base(), program.spans()),
+    }
+}
+
+// Appends the file of a program and a fill in a form.
+fn put_as<D: Desk>(
     desk: &mut D,
-    layout: Layout,
-    base: u32,
-    words: &[u32],
-    grants: &PageSet,
+    form: ProgramForm,
+    program: &Program,
     fill: u8,
 ) -> Result<(), Failed>
     requires open { IsTrue (D.seen desk.old).told.output_open }
-    requires few { length words.now ≤ max_words }
-    ensures puts { Puts (spelled_as layout (record { base = base; words = words.now; grants = grants.now }) fill) result after_write
-        (D.seen desk.old).told (D.seen desk.new).told }
+    ensures puts { Puts (spelled_as form program.now fill) result after_write (D.seen desk.old).told (D.seen desk.new).told }
     ensures counts { WriteCounts result (D.seen desk.old) (D.seen desk.new) }
 {
-    put_head(desk, layout, base, words.len() as u32)?;
-    put_numbers(desk, words)?;
-    put_grants(desk, layout, grants)?;
+    put(desk, &name(form))?;
+    put_placed(desk, form, program)?;
+    put_grants(desk, layout_of(form), program.grants())?;
     put(desk, &[fill])
 }
 
-/// Appends the one file of a program and a fill to the open output: `BRP1` where all its chunks are
-/// pages, else `BRP2`. Where a write fails, a front of the file was appended.
+/// Appends the one file of a program and a fill to the open output: `BRP1` or `BRP2` where the words stand one after
+/// another from the entry on, or where there are none, by whether all chunks are pages; else `BRP3`. Where a write
+/// fails, a front of the file was appended.
 #[tactic(auto, unfolding(crate::specs::Programs::spelled))]
 pub fn write_program<D: Desk>(program: &Program, fill: u8, desk: &mut D) -> Result<(), Failed>
     requires open { IsTrue (D.seen desk.old).told.output_open }
     ensures puts { Puts (spelled program.now fill) result after_write (D.seen desk.old).told (D.seen desk.new).told }
     ensures counts { WriteCounts result (D.seen desk.old) (D.seen desk.new) }
 {
-    let grants = program.grants();
-    let layout = layout_of_grants(grants);
-    put_all(desk, layout, program.base(), program.words(), grants, fill)
+    put_as(desk, form_of_program(program), program, fill)
 }

@@ -10,9 +10,9 @@ use Rattle.page_table.specs.Taken.{in_order}
 use Rattle.pixel_layout.specs.declared.Parity.{Parity}
 use Rattle.pixel_layout.specs.declared.Parity.TheVariants.{Top, Bottom}
 use Rattle.machine_model.specs.declared.Cause.{Cause}
-use Rattle.machine_model.specs.Paths.{RiscProgram, Place, AreWithin, IsSound, cause_at, fetch, instr_cause, is_word, next_by, next_place, path, place_after, place_read, reading_cause, target_before}
+use Rattle.machine_model.specs.Paths.{RiscProgram, Place, AreWithin, IsSound, cause_at, fetch, instr_cause, is_word, next_by, next_place, path, place_after, place_read, reading_cause, spans_of, target_before}
 use Rattle.machine_model.proofs.Wider.{data-wider}
-use Rattle.machine_model.proofs.BeforeTurns.{word_there}
+use Rattle.machine_model.proofs.OneSpan.{word_there}
 use Rattle.capture_desc.specs.declared.desc.Desc.{Desc}
 use Rattle.capture_desc.specs.declared.desc.Fields.{Fields}
 use Rattle.capture_desc.specs.declared.desc.Fields.TheVariants as fields
@@ -23,7 +23,7 @@ use Rattle.picture_model.proofs.Each.{Each, each_append, each_only}
 use Rattle.picture_model.proofs.FaultlessLines.{IsGoodInstr}
 use Rattle.picture_model.proofs.FaultlessGeometry.{IsRight, IsFrame-IsRight}
 use Rattle.picture_model.proofs.Sections.{closing_fine, good_body, section_long}
-use Rattle.chain_model.specs.Chains.{Chain, IsChain, alone, alone_in, head, jump_word, next, part_at, part_of, slot_at, target, unpatched}
+use Rattle.chain_model.specs.Chains.{Chain, IsChain, alone, alone_in, head, jump_word, next, part_at, part_of, patched_words, slot_at, target, unpatched}
 use Rattle.chain_model.proofs.Slots.{jumps_to, length-alone, part_at-own, part_at-unpatched, slot_is_word}
 use Rattle.chain_model.proofs.Words.{back_read, slot_read}
 use Rattle.chain_law.specs.Fragments.{FragmentIsSound, FragmentsAreSound, IsFragment}
@@ -144,7 +144,7 @@ module _ (chain : Chain) (is : IsChain chain) (part : ℕ) (there : part < lengt
   right : IsRight d
   right = IsFrame-IsRight d frag.description frag.frame
 
-  split : program.words ≡ words_before chain (alone_in chain (Some part)) part ++ (words_of instrs ++ words_after chain (alone_in chain (Some part)) part)
+  split : patched_words chain (alone_in chain (Some part)) ≡ words_before chain (alone_in chain (Some part)) part ++ (words_of instrs ++ words_after chain (alone_in chain (Some part)) part)
   split =
       part_split chain (alone_in chain (Some part)) part there
       ∙ ap (λ (words : List ℕ). words_before chain (alone_in chain (Some part)) part ++ (words ++ words_after chain (alone_in chain (Some part)) part)) frag.words
@@ -165,7 +165,7 @@ module _ (chain : Chain) (is : IsChain chain) (part : ℕ) (there : part < lengt
       each_only (IsGoodInstr (record program { grants = in_order (memory_of d) })) IsPlain (opening field ∷ body d field) (λ i good. good.plain) (inner field described)
 
   -- the words of the fragment are fine, once the way back and the second section are at words
-  size : length program.words ≡ length (words_before chain (alone_in chain (Some part)) part) + (length (words_of instrs) + length (words_after chain (alone_in chain (Some part)) part))
+  size : length (patched_words chain (alone_in chain (Some part))) ≡ length (words_before chain (alone_in chain (Some part)) part) + (length (words_of instrs) + length (words_after chain (alone_in chain (Some part)) part))
   size = ap length split ∙ split_length (words_before chain (alone_in chain (Some part)) part) (words_of instrs) (words_after chain (alone_in chain (Some part)) part)
 
   back_word : is_word program back ≡ true
@@ -186,7 +186,7 @@ module _ (chain : Chain) (is : IsChain chain) (part : ℕ) (there : part < lengt
       let some = found.1 in
       let n : ℕ = length front + length (words_of mid.before) in
       let at : middle d begin back ≡ program.base + 4 * n = omega arith in
-      ap (is_word program) at ∙ word_there program n (omega arith)
+      ap (is_word program) at ∙ word_there program (patched_words chain (alone_in chain (Some part))) n refl (omega arith)
 
   fine : Each (IsFineInstr program) instrs
   fine = fine_by d begin back program d.fields inner_fine back_word middle_word
@@ -198,7 +198,7 @@ module _ (chain : Chain) (is : IsChain chain) (part : ℕ) (there : part < lengt
 
   here_word : (address : ℕ) → Here address → is_word program address ≡ true
   here_word address (inl at) = ap (is_word program) at.2 ∙ slot_is_word chain (alone_in chain (Some part)) long at.0 at.1
-  here_word address (inr at) = word_at_there program (words_before chain (alone_in chain (Some part)) part) (words_after chain (alone_in chain (Some part)) part) instrs split begin at_begin fine address at
+  here_word address (inr at) = word_at_there program (words_before chain (alone_in chain (Some part)) part) (words_after chain (alone_in chain (Some part)) part) instrs begin (ap (spans_of chain.base) split) at_begin fine address at
 
   leads : Lead Here instrs
   leads =
@@ -249,14 +249,14 @@ module _ (chain : Chain) (is : IsChain chain) (part : ℕ) (there : part < lengt
   more_by : (place : Place) (at : IsAt begin instrs place.pc) (after : List Instr) → at.after ≡ after → IsSome after → Here (place.pc + 4 * length (encoded at.instr))
   more_by place at [] e some = absurd some
   more_by place at (i ∷ rest) e some =
-      inr (following program (words_before chain (alone_in chain (Some part)) part) (words_after chain (alone_in chain (Some part)) part) instrs split begin at_begin fine place.pc at i rest e)
+      inr (following program (words_before chain (alone_in chain (Some part)) part) (words_after chain (alone_in chain (Some part)) part) instrs begin (ap (spans_of chain.base) split) at_begin fine place.pc at i rest e)
 
   instr_on : (place : Place) → IsAt begin instrs place.pc → GoesOn place
   instr_on place at =
       let front = words_before chain (alone_in chain (Some part)) part in
       let rest = words_after chain (alone_in chain (Some part)) part in
-      let read = fetch_there program front rest instrs split begin at_begin fine place.pc at in
-      let clean = fine_there program front rest instrs split begin at_begin fine place.pc at in
+      let read = fetch_there program front rest instrs begin (ap (spans_of chain.base) split) at_begin fine place.pc at in
+      let clean = fine_there program front rest instrs begin (ap (spans_of chain.base) split) at_begin fine place.pc at in
       let none : cause_at program place ≡ None = ap (reading_cause program place.target) read ∙ clean.fine place.target in
       let next : next_place program place ≡ place_after at.instr (length (encoded at.instr)) place =
       ap (λ (cause : Option Cause). next_by cause program place) none ∙ ap (λ (reading : Reading). place_read reading place) read in

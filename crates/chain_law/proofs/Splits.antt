@@ -3,14 +3,14 @@ use Rattle.std.proofs.Common.{◌≡◌, ℕ, zero, suc, ◌+◌, ◌*◌, ◌<�
 use Rattle.std.specs.Prelude.{slice_index_or}
 use Rattle.risc_word.specs.declared.Instr.{Instr}
 use Rattle.risc_word.specs.Words.{encoded}
-use Rattle.machine_model.specs.Paths.{RiscProgram, is_word, fetch}
-use Rattle.machine_model.proofs.BeforeTurns.{word_there}
+use Rattle.machine_model.specs.Paths.{RiscProgram, is_word, fetch, spans_of}
+use Rattle.machine_model.proofs.OneSpan.{word_there}
 use Rattle.picture_model.specs.Programs.{words_of}
 use Rattle.picture_model.proofs.Circle.{IsAt, IsFineInstr, split_length, words_split}
 use Rattle.picture_model.proofs.Each.{Each, each_at}
 use Rattle.picture_law.proofs.Program.{fetched_at}
 use Rattle.chain_model.specs.declared.PartWords.{PartWords}
-use Rattle.chain_model.specs.Chains.{Chain, Patching, head, loop_words, part_of, patched, words_of_parts}
+use Rattle.chain_model.specs.Chains.{Chain, Patching, head, loop_words, part_of, patched_words, words_of_parts}
 use Rattle.chain_model.proofs.Words.{length-loop}
 
 split_parts : (parts : List PartWords) (k : ℕ) (other : PartWords) → k < length parts →
@@ -28,7 +28,7 @@ module _ (chain : Chain) (patching : Patching) (part : ℕ) where
   abbrev pub words_after : List ℕ
   words_after = words_of_parts (drop (suc part) chain.parts)
 
-  pub part_split : part < length chain.parts → (patched chain patching).words ≡ words_before ++ ((part_of chain part).words ++ words_after)
+  pub part_split : part < length chain.parts → patched_words chain patching ≡ words_before ++ ((part_of chain part).words ++ words_after)
   part_split there =
       ap (λ (words : List ℕ). loop_words chain 0 patching ++ words) (split_parts chain.parts part (record { slot = 0; words = [] }) there)
       ∙ sym (append_assoc (loop_words chain 0 patching) (words_of_parts (take part chain.parts)) ((part_of chain part).words ++ words_after))
@@ -41,7 +41,8 @@ module _ (chain : Chain) (patching : Patching) (part : ℕ) where
 
 -- ---- instructions that stand somewhere in a program
 
-module _ (program : RiscProgram) (before after : List ℕ) (instrs : List Instr) (split : program.words ≡ before ++ (words_of instrs ++ after)) (begin : ℕ)
+module _ (program : RiscProgram) (before after : List ℕ) (instrs : List Instr) (begin : ℕ)
+    (split : program.spans ≡ spans_of program.base (before ++ (words_of instrs ++ after)))
     (at_begin : begin ≡ program.base + 4 * length before) (fine : Each (IsFineInstr program) instrs) where
   pub fine_there : (address : ℕ) (at : IsAt begin instrs address) → IsFineInstr program at.instr
   fine_there address at = each_at (IsFineInstr program) at.before at.instr at.after (subst (Each (IsFineInstr program)) at.split fine)
@@ -50,10 +51,11 @@ module _ (program : RiscProgram) (before after : List ℕ) (instrs : List Instr)
   regrouped a b c e f = simp append_assoc
 
   words_there : (address : ℕ) (at : IsAt begin instrs address) →
-      program.words ≡ (before ++ words_of at.before) ++ (encoded at.instr ++ (words_of at.after ++ after))
+      program.spans ≡ spans_of program.base ((before ++ words_of at.before) ++ (encoded at.instr ++ (words_of at.after ++ after)))
   words_there address at =
-      split ∙ ap (λ (words : List ℕ). before ++ (words ++ after)) (ap words_of at.split ∙ words_split at.before at.instr at.after)
-      ∙ regrouped before (words_of at.before) (encoded at.instr) (words_of at.after) after
+      split
+      ∙ ap (λ (words : List ℕ). spans_of program.base (before ++ (words ++ after))) (ap words_of at.split ∙ words_split at.before at.instr at.after)
+      ∙ ap (spans_of program.base) (regrouped before (words_of at.before) (encoded at.instr) (words_of at.after) after)
 
   address_there : (address : ℕ) (at : IsAt begin instrs address) → address ≡ program.base + 4 * length (before ++ words_of at.before)
   address_there address at =
@@ -63,15 +65,16 @@ module _ (program : RiscProgram) (before after : List ℕ) (instrs : List Instr)
   pub fetch_there : (address : ℕ) (at : IsAt begin instrs address) → fetch program address ≡ Ok (at.instr, length (encoded at.instr))
   fetch_there address at =
       fetched_at program (before ++ words_of at.before) (words_of at.after ++ after) at.instr address (words_there address at) (address_there address at)
-      (fine_there address at).spelled (fine_there address at).some
+      (fine_there address at).spelled
 
   pub word_at_there : (address : ℕ) (at : IsAt begin instrs address) → is_word program address ≡ true
   word_at_there address at =
       let front = before ++ words_of at.before in
-      let all : length program.words ≡ length front + (length (encoded at.instr) + length (words_of at.after ++ after)) =
-      ap length (words_there address at) ∙ split_length front (encoded at.instr) (words_of at.after ++ after) in
+      let words : List ℕ = front ++ (encoded at.instr ++ (words_of at.after ++ after)) in
+      let all : length words ≡ length front + (length (encoded at.instr) + length (words_of at.after ++ after)) =
+      split_length front (encoded at.instr) (words_of at.after ++ after) in
       let some = (fine_there address at).some in
-      ap (is_word program) (address_there address at) ∙ word_there program (length front) (omega arith)
+      ap (is_word program) (address_there address at) ∙ word_there program words (length front) (words_there address at) (omega arith)
 
   -- the instruction after one that stands at an address
   pub following : (address : ℕ) (at : IsAt begin instrs address) (next : Instr) (rest : List Instr) → at.after ≡ next ∷ rest →

@@ -8,7 +8,7 @@ use Rattle.risc_word.specs.Words.{IsInstr, encoded}
 use Rattle.pixel_layout.specs.declared.Parity.{Parity}
 use Rattle.pixel_layout.specs.declared.Parity.TheVariants.{Top, Bottom}
 use Rattle.machine_model.specs.Accesses.{AreFetchedAlike}
-use Rattle.machine_model.specs.Paths.{RiscProgram, Place, IsSound, fetch, path, demands_cause, demands_of}
+use Rattle.machine_model.specs.Paths.{RiscProgram, Place, IsSound, fetch, path, demands_cause, demands_of, spans_of}
 use Rattle.machine_model.proofs.Places.{path-suc}
 use Rattle.capture_desc.specs.declared.desc.Desc.{Desc}
 use Rattle.capture_desc.specs.declared.desc.Fields.{Fields}
@@ -21,7 +21,7 @@ use Rattle.picture_model.proofs.Sections.{good_body, section_stands, signal_spel
 use Rattle.field_law.specs.Sections.{Holds, HoldsFrom, IsPlain, Stands, StandsFrom}
 use Rattle.field_law.proofs.OnPath.{pc_after, sound_holds}
 use Rattle.picture_law.proofs.Program.{body_plain, fetched_at, stands_from}
-use Rattle.chain_model.specs.Chains.{Chain, IsChain, IsSoundChain, Patching, alone, alone_in, head, next, part_of, patched, slot_at}
+use Rattle.chain_model.specs.Chains.{Chain, IsChain, IsSoundChain, Patching, alone, alone_in, head, next, part_of, patched, patched_words, slot_at}
 use Rattle.chain_model.proofs.Slots.{length-alone, path_to_head}
 use Rattle.chain_model.proofs.Words.{behind_alike}
 use Rattle.chain_law.specs.Fragments.{IsFragment}
@@ -85,14 +85,14 @@ module _ (chain : Chain) (part : ℕ) (there : part < length chain.parts) (d : D
     abbrev rest : List ℕ
     rest = words_after chain patching part
 
-    split : program.words ≡ front ++ (words_of (sections d begin back) ++ rest)
+    split : patched_words chain patching ≡ front ++ (words_of (sections d begin back) ++ rest)
     split = part_split chain patching part there ∙ ap (λ (words : List ℕ). front ++ (words ++ rest)) frag.words
 
     module _ (field : Parity) (is : describes d.fields field ≡ true) where
       abbrev to : ℕ
       to = section_next d begin back field
 
-      section_split : program.words ≡ (front ++ (section_stands d begin back field is).before)
+      section_split : patched_words chain patching ≡ (front ++ (section_stands d begin back field is).before)
           ++ (encoded (opening field) ++ (words_of (body d field) ++ (encoded (closing field to) ++ ((section_stands d begin back field is).after ++ rest))))
       section_split =
           let stands = section_stands d begin back field is in
@@ -117,7 +117,7 @@ module _ (chain : Chain) (part : ℕ) (there : part < length chain.parts) (d : D
       opening_read =
           fetched_at program (front ++ (section_stands d begin back field is).before)
           (words_of (body d field) ++ (encoded (closing field to) ++ ((section_stands d begin back field is).after ++ rest)))
-          (opening field) (section_begin d begin field) section_split at_section (opening_spelled field) (omega arith)
+          (opening field) (section_begin d begin field) (ap (spans_of chain.base) section_split) at_section (opening_spelled field)
         where
           opening_spelled : (field : Parity) → IsInstr (opening field)
           opening_spelled Top = (refl, tt)
@@ -130,7 +130,8 @@ module _ (chain : Chain) (part : ℕ) (there : part < length chain.parts) (d : D
           let there = at_section in
           stands_from program (compiled d) (signal field) to (signal_spelled field to) (stands.after ++ rest) (body d field)
           ((front ++ stands.before) ++ start) (section_in chain part d field).at
-          (section_split ∙ sym (append_assoc (front ++ stands.before) start (words_of (body d field) ++ (encoded (closing field to) ++ (stands.after ++ rest)))))
+          (ap (spans_of chain.base)
+          (section_split ∙ sym (append_assoc (front ++ stands.before) start (words_of (body d field) ++ (encoded (closing field to) ++ (stands.after ++ rest))))))
           (omega (arith, length-append (front ++ stands.before) start)) (good_body d right (compiled d) refl field is).1 (body_plain d field)
 
   -- ---- alone, the path comes to each section

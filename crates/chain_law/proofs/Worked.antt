@@ -39,7 +39,7 @@ is_chain =
 other_described : IsDescription other
 other_described =
     record {
-      formed = record { stride = tt; offset = tt; pages = omega arith; no_pages = tt; chunks = tt; bytes = tt };
+      formed = record { stride = tt; offset = tt; chroma_first = tt; vbi_skip = tt; pages = omega arith; no_pages = tt; chunks = tt; bytes = tt };
       pages = All-from_recursion (λ page. page < 2 ^ 32) (0x30000 ∷ []) (omega arith, tt);
       clips = omega arith;
       skipped = omega arith;
@@ -146,7 +146,7 @@ first_arrives =
       rest = worked.entries;
       order = first_order;
       unmarked = λ q. All-nil IsOther;
-      brought = record { skipped = λ q. []; lines = pictures.no_skips; brings = pictures.brings };
+      brought = record { skipped = pictures.none_skipped; lines = pictures.no_skips; brings = pictures.brings };
     }
 
 pub first_signalled : IsSignalled two_slots 0 smallest Top picture 0 steps 7 19
@@ -185,7 +185,8 @@ second_arrives =
       rest = λ q. [];
       order = second_order;
       unmarked = λ q. All-nil IsOther;
-      brought = record { skipped = λ q. []; lines = pictures.no_skips; brings = pictures.brings };
+      brought = let skips = pictures.no_skips in
+          record { skipped = pictures.none_skipped; lines = record { vbi = skips.vbi; rows = skips.rows }; brings = pictures.brings };
     }
 
 pub second_signalled : IsSignalled two_slots 1 other Top picture 0 steps 24 31

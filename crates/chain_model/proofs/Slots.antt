@@ -9,10 +9,11 @@ use Rattle.risc_word.specs.declared.WordFault.{WordFault}
 use Rattle.risc_word.specs.declared.WordFault.TheVariants.{Reserved}
 use Rattle.risc_word.specs.Words.{Reading, control_bits}
 use Rattle.machine_model.specs.declared.Cause.{Cause}
-use Rattle.machine_model.specs.Paths.{RiscProgram, Place, is_word, word_number, fetch, reading_cause, cause_at, next_by, next_place, place_after, place_read, path, IsSound}
+use Rattle.machine_model.specs.Paths.{RiscProgram, Place, is_word, fetch, reading_cause, cause_at, next_by, next_place, place_after, place_read, path, IsSound}
 use Rattle.machine_model.proofs.Places.{place-IsFine, path-suc, jump-is_word, instr-fine}
-use Rattle.machine_model.proofs.BeforeTurns.{is_word-IsWord, fetch-is_word, word_there}
-use Rattle.chain_model.specs.Chains.{Chain, Patching, IsChain, IsPart, IsSoundChain, Belongs, alone, alone_in, chain_limit, head, jump_word, next, part_at, part_of, patched, slot_at, target, unpatched}
+use Rattle.machine_model.proofs.BeforeTurns.{fetch-is_word}
+use Rattle.machine_model.proofs.OneSpan.{stands_among, word_there}
+use Rattle.chain_model.specs.Chains.{Chain, Patching, IsChain, IsPart, IsSoundChain, Belongs, alone, alone_in, chain_limit, head, jump_word, next, part_at, part_of, patched, patched_words, slot_at, target, unpatched}
 use Rattle.chain_model.proofs.Words.{slot_read, back_read, operand_read, length-patched}
 
 -- ---- patchings
@@ -81,7 +82,7 @@ module _ (chain : Chain) (patching : Patching) (long : length patching ≡ chain
   slot_is_word slot le =
       let size = length-patched chain patching long in
       let here : chain.base + 4 * (2 * slot) ≡ slot_at chain slot = omega arith in
-      ap (is_word program) (sym here) ∙ word_there program (2 * slot) (omega arith)
+      ap (is_word program) (sym here) ∙ word_there program (patched_words chain patching) (2 * slot) refl (omega arith)
 
   -- the path goes over slots that lead to no part
   pub path_to_slot : (slot : ℕ) → slot ≤ chain.slots → ((k : ℕ) → k < slot → part_at patching k ≡ None) → path program slot ≡ place_of (slot_at chain slot)
@@ -158,7 +159,7 @@ module _ (chain : Chain) (is : IsChain chain) (sound : IsSoundChain chain) where
   pub slot_below : (part : ℕ) → part < length chain.parts → (part_of chain part).slot < chain.slots
   slot_below part there = is.belong part (record { slot = 0; words = Rattle.std.proofs.Common.[] }) there
 
-  ends_low : (patching : Patching) → length patching ≡ chain.slots → chain.base + 4 * length (patched chain patching).words ≤ chain_limit
+  ends_low : (patching : Patching) → length patching ≡ chain.slots → chain.base + 4 * length (patched_words chain patching) ≤ chain_limit
   ends_low patching long =
       let ends = is.ends in
       let mine = length-patched chain patching long in
@@ -199,7 +200,7 @@ module _ (chain : Chain) (is : IsChain chain) (sound : IsSoundChain chain) where
       let size = length-patched chain (unpatched chain) (length-alone chain None) in omega arith
   target_low slot (Some part) lt there =
       let long = length-alone chain (Some part) in
-      let word = is_word-IsWord (alone chain (Some part)) (head chain part) (head_is_word part there) in
+      let word = stands_among (alone chain (Some part)) (patched_words chain (alone_in chain (Some part))) (head chain part) refl (head_is_word part there) in
       let ends = ends_low (alone_in chain (Some part)) long in
       let begins = word.begins in
       let aligned = word.aligned in
@@ -238,10 +239,10 @@ module _ (chain : Chain) (is : IsChain chain) (sound : IsSoundChain chain) where
 
     pub instr_stands : (address : ℕ) (instr : Instr) (count : ℕ) → fetch member address ≡ Ok (instr, count) → Stands address
     instr_stands address instr count read =
-        let word = is_word-IsWord member address (fetch-is_word member address instr count read) in
+        let word = stands_among member (patched_words chain (alone_in chain part)) address refl (fetch-is_word member address instr count read) in
         let begins = word.begins in
         let aligned = word.aligned in
-        let number : ℕ = word_number member address in
+        let number : ℕ = (address - chain.base) / 4 in
         stands_by address number instr count read (omega arith) (cases_lt number (2 * chain.slots))
 
     pub path_stands : (number : ℕ) → Stands (path member number).pc

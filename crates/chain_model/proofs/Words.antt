@@ -1,22 +1,23 @@
 -- The words of a chain: what is read at a slot, and that behind the slots all patchings have the same words.
-use Rattle.std.proofs.Common.{◌≡◌, ℕ, zero, suc, ◌+◌, ◌-◌, ◌*◌, ◌/◌, ◌%◌, ◌<◌, ◌≤◌, Bool, true, false, ◌&&◌, List, [], ◌∷◌, ◌++◌, length, drop, length-append, Ok, Err, refl, sym, ap, ◌∙◌, arith, if◌then◌else◌, ◌==◌, nat_lt, nat_le}
-use Rattle.std.proofs.lemmas.Bool.{cond-true}
+use Rattle.std.proofs.Common.{◌≡◌, ℕ, zero, suc, ◌+◌, ◌-◌, ◌*◌, ◌/◌, ◌%◌, ◌<◌, ◌≤◌, Bool, true, false, ◌&&◌, List, [], ◌∷◌, ◌++◌, length, drop, length-append, Option, Some, None, Ok, Err, refl, sym, ap, ◌∙◌, arith, if◌then◌else◌, ◌==◌, nat_lt, nat_le}
 use Rattle.std.proofs.lemmas.List.{drop-drop}
 use Rattle.bit_field.specs.Bits.{bits}
 use Rattle.risc_word.specs.declared.Instr.TheVariants.{Jump}
 use Rattle.risc_word.specs.declared.WordFault.TheVariants.{Cut, Reserved}
 use Rattle.risc_word.specs.Words.{by_opcode, control_bits, first_instr, instr_at}
-use Rattle.machine_model.specs.Paths.{RiscProgram, is_word, word_number, fetch}
+use Rattle.machine_model.specs.Paths.{RiscProgram, is_there, is_word, word_at, words_from, fetch}
 use Rattle.machine_model.specs.Accesses.{AreFetchedAlike}
-use Rattle.machine_model.proofs.BeforeTurns.{is_word-IsWord, word_there}
-use Rattle.chain_model.specs.Chains.{Chain, Patching, chain_limit, jump_word, loop_words, part_at, patched, slot_at, target, words_of_parts}
+use Rattle.machine_model.proofs.OneSpan.{fetch_there, is_word-there, stands_among}
+use Rattle.chain_model.specs.Chains.{Chain, Patching, chain_limit, jump_word, loop_words, part_at, patched, patched_words, slot_at, target, words_of_parts}
 
--- ---- a word of a program, by its number
+-- nothing is fetched where no word stands
+without : (program : RiscProgram) (pc : ℕ) (word : Option ℕ) → word_at program pc ≡ word → is_there word ≡ false → fetch program pc ≡ Err Cut
+without program pc None e lacks =
+    ap (λ (word : Option ℕ). first_instr (elim word as (λ _. List ℕ) [ None ↦ [] | Some word ↦ word ∷ words_from 4 program (pc + 4) ])) e
+without program pc (Some word) e lacks = cc
 
-pub read_there : (program : RiscProgram) (n : ℕ) → n < length program.words → fetch program (program.base + 4 * n) ≡ instr_at program.words n
-read_there program n inside =
-    let number : word_number program (program.base + 4 * n) ≡ n = omega arith in
-    cond-true (is_word program (program.base + 4 * n)) _ _ (word_there program n inside) ∙ ap (instr_at program.words) number
+not_there : (program : RiscProgram) (pc : ℕ) → is_word program pc ≡ false → fetch program pc ≡ Err Cut
+not_there program pc lacks = without program pc (word_at program pc) refl lacks
 
 -- ---- the words of a loop, before some others
 
@@ -54,70 +55,72 @@ module _ (chain : Chain) where
     abbrev program : RiscProgram
     program = patched chain patching
 
-    pub length-patched : length program.words ≡ 2 * chain.slots + 2 + length (words_of_parts chain.parts)
+    pub length-patched : length (patched_words chain patching) ≡ 2 * chain.slots + 2 + length (words_of_parts chain.parts)
     length-patched =
         let loop = length-loop 0 patching in
         let whole = length-append (loop_words chain 0 patching) (words_of_parts chain.parts) in
         omega arith
 
+    -- what is read at a word, by its number
+    pub read_there : (n : ℕ) → fetch program (chain.base + 4 * n) ≡ instr_at (patched_words chain patching) n
+    read_there n = fetch_there program (patched_words chain patching) n refl
+
     -- a slot is a JUMP to where the patching says
     pub slot_read : (slot : ℕ) → slot < chain.slots →
         fetch program (slot_at chain slot) ≡ Ok (Jump (control_bits jump_word) (target chain slot (part_at patching slot)), 2)
     slot_read slot lt =
-        let size = length-patched in
         let here : slot_at chain slot ≡ chain.base + 4 * (2 * slot) = omega arith in
         let words = slot_drop 0 patching (words_of_parts chain.parts) slot (2 * slot) slot (omega arith) refl (omega arith) in
-        ap (fetch program) here ∙ read_there program (2 * slot) (omega arith) ∙ ap first_instr words.1
+        ap (fetch program) here ∙ read_there (2 * slot) ∙ ap first_instr words.1
 
     -- behind the slots stands the JUMP to the base
     pub back_read : fetch program (slot_at chain chain.slots) ≡ Ok (Jump (control_bits jump_word) chain.base, 2)
     back_read =
-        let size = length-patched in
         let here : slot_at chain chain.slots ≡ chain.base + 4 * (2 * chain.slots) = omega arith in
-        ap (fetch program) here ∙ read_there program (2 * chain.slots) (omega arith)
+        ap (fetch program) here ∙ read_there (2 * chain.slots)
         ∙ ap first_instr (behind_drop 0 patching (words_of_parts chain.parts) 0 (2 * chain.slots) (omega arith))
 
     -- no instruction begins at the second word of a slot
     pub operand_read : (slot : ℕ) → slot < chain.slots → target chain slot (part_at patching slot) < chain_limit →
         fetch program (slot_at chain slot + 4) ≡ Err (Reserved 0)
     operand_read slot lt low =
-        let size = length-patched in
         let t = target chain slot (part_at patching slot) in
         let here : slot_at chain slot + 4 ≡ chain.base + 4 * (2 * slot + 1) = omega arith in
         let words = slot_drop 0 patching (words_of_parts chain.parts) slot (2 * slot) slot (omega arith) refl (omega arith) in
         let opcode : bits 28 4 t ≡ 0 = omega arith in
-        ap (fetch program) here ∙ read_there program (2 * slot + 1) (omega arith)
-        ∙ ap first_instr (sym (drop-drop 1 (2 * slot) program.words) ∙ ap (drop 1) words.1)
+        ap (fetch program) here ∙ read_there (2 * slot + 1)
+        ∙ ap first_instr (sym (drop-drop 1 (2 * slot) (patched_words chain patching)) ∙ ap (drop 1) words.1)
         ∙ ap (λ (o : ℕ). by_opcode o t words.0) opcode
 
   -- ---- two patchings of its length
 
   module _ (first second : Patching) (long : length first ≡ chain.slots) (also : length second ≡ chain.slots) where
-    same_count : length (patched chain first).words ≡ length (patched chain second).words
+    same_count : length (patched_words chain first) ≡ length (patched_words chain second)
     same_count = length-patched first long ∙ sym (length-patched second also)
 
     pub same_words : (address : ℕ) → is_word (patched chain first) address ≡ is_word (patched chain second) address
     same_words address =
-        ap (λ (n : ℕ). nat_le chain.base address && (address - chain.base) % 4 == 0 && nat_lt ((address - chain.base) / 4) n) same_count
+        is_word-there (patched chain first) (patched_words chain first) address refl
+        ∙ ap (λ (n : ℕ). nat_le chain.base address && (address - chain.base) % 4 == 0 && nat_lt ((address - chain.base) / 4) n) same_count
+        ∙ sym (is_word-there (patched chain second) (patched_words chain second) address refl)
 
     read_if : (inside : Bool) (pc : ℕ) → is_word (patched chain first) pc ≡ inside → slot_at chain chain.slots ≤ pc →
         fetch (patched chain first) pc ≡ fetch (patched chain second) pc
     read_if true pc there low =
-        let word = is_word-IsWord (patched chain first) pc there in
+        let word = stands_among (patched chain first) (patched_words chain first) pc refl there in
         let begins = word.begins in
         let aligned = word.aligned in
-        let n : ℕ = word_number (patched chain first) pc in
+        let n : ℕ = (pc - chain.base) / 4 in
         let k : ℕ = n - 2 * chain.slots in
-        cond-true (is_word (patched chain first) pc) _ _ there
+        let here : pc ≡ chain.base + 4 * n = omega arith in
+        ap (fetch (patched chain first)) here
+        ∙ read_there first long n
         ∙ ap first_instr
         (behind_drop 0 first (words_of_parts chain.parts) k n (omega arith)
         ∙ sym (behind_drop 0 second (words_of_parts chain.parts) k n (omega arith)))
-        ∙ sym (cond-true (is_word (patched chain second) pc) _ _ (sym (same_words pc) ∙ there))
-    read_if false pc there low =
-        let without : (program : RiscProgram) (inside : Bool) → is_word program pc ≡ inside → inside ≡ false → fetch program pc ≡ Err Cut =
-        λ program inside e no. ap (λ (b : Bool). if b then instr_at program.words (word_number program pc) else Err Cut) (e ∙ no) in
-        without (patched chain first) false there refl
-        ∙ sym (without (patched chain second) false (sym (same_words pc) ∙ there) refl)
+        ∙ sym (read_there second also n)
+        ∙ ap (fetch (patched chain second)) (sym here)
+    read_if false pc there low = not_there (patched chain first) pc there ∙ sym (not_there (patched chain second) pc (sym (same_words pc) ∙ there))
 
     -- behind the slots the same is fetched
     pub behind_alike : (pc : ℕ) → slot_at chain chain.slots ≤ pc → AreFetchedAlike pc (patched chain first) (patched chain second)

@@ -2,7 +2,7 @@
 use Rattle.std.specs.Prelude.{◌≡◌, ℕ, suc, ◌+◌, ◌*◌, ◌%◌, ◌^◌, ◌<◌, ◌≤◌, false, All, List, [], ◌∷◌, ◌++◌, length, take, replicate, Option, Some, None, slice_index_or, slice_set}
 use Rattle.std.specs.List.{flat_map}
 use Rattle.page_table.specs.Grants.{Chunk}
-use Rattle.machine_model.specs.Paths.{RiscProgram, IsSound, max_words, shares_byte}
+use Rattle.machine_model.specs.Paths.{RiscProgram, IsSound, max_words, one_span, shares_byte}
 use Rattle.chain_model.specs.declared.PartWords.{PartWords}
 
 -- the address of the first slot, the number of slots, the parts, and the memory that may be written
@@ -55,14 +55,12 @@ abbrev pub loop_words : Chain → ℕ → Patching → List ℕ
 loop_words chain slot [] = jump_word ∷ chain.base ∷ []
 loop_words chain slot (part ∷ rest) = jump_word ∷ target chain slot part ∷ loop_words chain (suc slot) rest
 
--- the program in which each slot leads where a patching says
+-- the words in which each slot leads where a patching says, and the program that they are
+abbrev pub patched_words : Chain → Patching → List ℕ
+patched_words chain patching = loop_words chain 0 patching ++ words_of_parts chain.parts
+
 abbrev pub patched : Chain → Patching → RiscProgram
-patched chain patching =
-    record {
-      base = chain.base;
-      words = loop_words chain 0 patching ++ words_of_parts chain.parts;
-      grants = chain.grants;
-    }
+patched chain patching = one_span chain.base (patched_words chain patching) chain.grants
 
 -- patchings
 
@@ -109,8 +107,8 @@ pub record IsChain (chain : Chain) : Type 0 where
   pub parts : length chain.parts ≤ max_parts
   pub belong : All (λ part. part.slot < chain.slots) chain.parts
   pub aligned : chain.base % 4 ≡ 0
-  pub few : length (alone chain None).words ≤ max_words
-  pub ends : chain.base + 4 * length (alone chain None).words ≤ chain_limit
+  pub few : length (patched_words chain (unpatched chain)) ≤ max_words
+  pub ends : chain.base + 4 * length (patched_words chain (unpatched chain)) ≤ chain_limit
   pub apart : All (λ c. shares_byte (alone chain None) c ≡ false) chain.grants
 
 -- with each part alone patched in the program is sound

@@ -4,20 +4,22 @@ use Rattle.std.specs.Prelude.{nat_le}
 use Rattle.std.proofs.lemmas.Bool.{le-leb, leb-true, leb-false}
 use Rattle.std.proofs.lemmas.List.{drop-append-le, length-take, take_all, take-append-drop}
 use Rattle.page_table.specs.Grants.{Chunk}
-use Rattle.machine_model.specs.Paths.{RiscProgram}
+use Rattle.machine_model.specs.Paths.{RiscProgram, Span, end_of, one_span, span}
 use Rattle.capture_file.specs.declared.FileKind.{FileKind}
 use Rattle.capture_file.specs.declared.FileKind.TheVariants as fault
 use Rattle.capture_file.specs.declared.FileFault.{FileFault}
 use Rattle.capture_file.specs.declared.program.Layout.{Layout}
 use Rattle.capture_file.specs.declared.program.Layout.TheVariants.{Paged, Chunked}
+use Rattle.capture_file.specs.declared.program.ProgramForm.{ProgramForm}
+use Rattle.capture_file.specs.declared.program.ProgramForm.TheVariants.{Based, Spanned}
 use Rattle.capture_file.specs.Streams.{fault_at}
 use Rattle.capture_file.specs.Programs as file
-use Rattle.capture_file.specs.Programs.{Field, ◌>>=◌, number_field, layout_field, layout_or_magic, base_field, word_count_field, words_in, words_field, chunk_count_field, page_field, long_chunk_field}
+use Rattle.capture_file.specs.Programs.{Field, ◌>>=◌, number_field, form_field, form_or_magic, base_field, word_count_field, words_in, words_field, chunk_count_field, page_field, long_chunk_field}
 use Rattle.capture_file.specs.Programs.{chunk_field, chunks_field, fill_field, program_of, without_grants, base_fault, word_count_fault, chunk_count_fault, fill_fault, judged, wrong, nothing_after}
-use Rattle.capture_file.specs.Programs.{cut}
-use Rattle.capture_file.proofs.Spelled.{with_layout, with_base, with_count, with_words, with_chunk_count, with_chunks, field_by_field}
+use Rattle.capture_file.specs.Programs.{based_field, cut, entry_fault, entry_field, layout_of, placed_field, span_address_fault, span_address_field, span_field, span_length_fault, span_length_field, span_number_fault, span_number_field, spanned_field, spans_field, with_grants}
+use Rattle.capture_file.proofs.Spelled.{with_form, with_placed, with_chunk_count, with_chunks, field_by_field}
 use Rattle.command_inputs.specs.Programs.{longest_program}
-use Rattle.command_inputs.proofs.Lengths.{layout_len, base_len, word_count_len, words_len, chunk_count_len, chunk_len, chunks_len}
+use Rattle.command_inputs.proofs.Lengths.{base_len, chunk_count_len, chunk_len, chunks_len, form_len, most_placed, placed_len, span_address_len, span_len, span_length_len, span_number_len, spans_len, word_count_len}
 
 -- A file of `size` bytes, and the same with more bytes at its end.
 module _ (size : ℕ) (more : List ℕ) where
@@ -63,17 +65,17 @@ module _ (size : ℕ) (more : List ℕ) where
   judged_number_same kind (a ∷ b ∷ c ∷ []) long = absurd (omega arith)
   judged_number_same kind (a ∷ b ∷ c ∷ d ∷ rest) long = judged_same _ (a ∷ b ∷ c ∷ d ∷ rest) _ rest
 
-  magic_same : (layout : Option Layout) (bytes rest : List ℕ) → Same (layout_or_magic size bytes layout rest) (layout_or_magic longer (bytes ++ more) layout (rest ++ more))
+  magic_same : (form : Option ProgramForm) (bytes rest : List ℕ) → Same (form_or_magic size bytes form rest) (form_or_magic longer (bytes ++ more) form (rest ++ more))
   magic_same None bytes rest = inr (wrong size bytes fault.Magic, refl, ap Err (sym (same_place bytes fault.Magic)))
-  magic_same (Some layout) bytes rest = inl ((layout, rest), refl, refl)
+  magic_same (Some form) bytes rest = inl ((form, rest), refl, refl)
 
-  layout_same : (bytes : List ℕ) → 4 ≤ length bytes → Same (layout_field size bytes) (layout_field longer (bytes ++ more))
-  unfolding layout_field
-  layout_same [] long = absurd (omega arith)
-  layout_same (a ∷ []) long = absurd (omega arith)
-  layout_same (a ∷ b ∷ []) long = absurd (omega arith)
-  layout_same (a ∷ b ∷ c ∷ []) long = absurd (omega arith)
-  layout_same (a ∷ b ∷ c ∷ d ∷ rest) long = magic_same _ (a ∷ b ∷ c ∷ d ∷ rest) rest
+  form_same : (bytes : List ℕ) → 4 ≤ length bytes → Same (form_field size bytes) (form_field longer (bytes ++ more))
+  unfolding form_field
+  form_same [] long = absurd (omega arith)
+  form_same (a ∷ []) long = absurd (omega arith)
+  form_same (a ∷ b ∷ []) long = absurd (omega arith)
+  form_same (a ∷ b ∷ c ∷ []) long = absurd (omega arith)
+  form_same (a ∷ b ∷ c ∷ d ∷ rest) long = magic_same _ (a ∷ b ∷ c ∷ d ∷ rest) rest
 
   base_same : (bytes : List ℕ) → 4 ≤ length bytes → Same (base_field size bytes) (base_field longer (bytes ++ more))
   unfolding base_field
@@ -110,6 +112,72 @@ module _ (size : ℕ) (more : List ℕ) where
             ∙ ap (λ rest. Ok (words_in count bytes, rest)) (drop-append-le (4 * count) bytes more long),
       )
 
+  same_by : {A : Type 0} {x y v w : Field A} → v ≡ x → w ≡ y → Same x y → Same v w
+  same_by e d (inl (p, a, b)) = inl (p, e ∙ a, d ∙ b)
+  same_by e d (inr (f, a, b)) = inr (f, e ∙ a, d ∙ b)
+
+  -- a field, and another behind it
+  bind_same : {A B : Type 0} (x y : Field A) (f g : A × List ℕ → Field B) → Same x y → ((p : A × List ℕ) → x ≡ Ok p → Same (f p) (g (p.0, p.1 ++ more))) → Same (x >>= f) (y >>= g)
+  bind_same x y f g (inl (p, e, d)) h = same_by (ap (λ r. r >>= f) e) (ap (λ r. r >>= g) d) (h p e)
+  bind_same x y f g (inr (w, e, d)) h = inr (w, ap (λ r. r >>= f) e, ap (λ r. r >>= g) d)
+
+  -- the words where they stand
+  span_same : (from sum : ℕ) (bytes : List ℕ) → sum ≤ 1048576 → 8 + 4 * 1048576 ≤ length bytes + 4 * sum → Same (span_field size from sum bytes) (span_field longer from sum (bytes ++ more))
+  unfolding span_field span_address_field span_length_field
+  span_same from sum bytes few long =
+      bind_same (span_address_field size from bytes) (span_address_field longer from (bytes ++ more))
+      (λ at. span_length_field size at.0 sum at.1 >>= λ count. words_field size count.0 count.1 >>= λ words. Ok (span at.0 words.0, words.1))
+      (λ at. span_length_field longer at.0 sum at.1 >>= λ count. words_field longer count.0 count.1 >>= λ words. Ok (span at.0 words.0, words.1)) (judged_number_same (span_address_fault from) bytes (omega (arith, few, long)))
+      (λ at e.
+      let at_len = span_address_len size from bytes at e in
+      bind_same (span_length_field size at.0 sum at.1) (span_length_field longer at.0 sum (at.1 ++ more)) (λ count. words_field size count.0 count.1 >>= λ words. Ok (span at.0 words.0, words.1))
+      (λ count. words_field longer count.0 count.1 >>= λ words. Ok (span at.0 words.0, words.1)) (judged_number_same (span_length_fault at.0 sum) at.1 (omega (arith, few, long, at_len)))
+      (λ count d.
+      let count_len = span_length_len size at.0 sum at.1 count d in
+      bind_same (words_field size count.0 count.1) (words_field longer count.0 (count.1 ++ more)) (λ words. Ok (span at.0 words.0, words.1)) (λ words. Ok (span at.0 words.0, words.1))
+      (words_same count.0 count.1 (omega (arith, long, at_len, count_len.0, count_len.1))) (λ words w. inl ((span at.0 words.0, words.1), refl, refl))))
+
+  spans_same : (count from sum : ℕ) (bytes : List ℕ) → sum ≤ 1048576 → 8 * count + 4 * 1048576 ≤ length bytes + 4 * sum → Same (spans_field size count from sum bytes) (spans_field longer count from sum (bytes ++ more))
+  unfolding spans_field
+  spans_same zero from sum bytes few long = inl (([], bytes), refl, refl)
+  spans_same (suc count) from sum bytes few long =
+      bind_same (span_field size from sum bytes) (span_field longer from sum (bytes ++ more))
+      (λ s. spans_field size count (end_of s.0 + 1) (sum + length s.0.words) s.1 >>= λ others. Ok (s.0 ∷ others.0, others.1))
+      (λ s. spans_field longer count (end_of s.0 + 1) (sum + length s.0.words) s.1 >>= λ others. Ok (s.0 ∷ others.0, others.1)) (span_same from sum bytes few (omega (arith, long)))
+      (λ s e.
+      let len = span_len size from sum bytes s e in
+      bind_same (spans_field size count (end_of s.0 + 1) (sum + length s.0.words) s.1) (spans_field longer count (end_of s.0 + 1) (sum + length s.0.words) (s.1 ++ more))
+      (λ others. Ok (s.0 ∷ others.0, others.1)) (λ others. Ok (s.0 ∷ others.0, others.1))
+      (spans_same count (end_of s.0 + 1) (sum + length s.0.words) s.1 len.1 (omega (arith, long, len.0))) (λ others d. inl ((s.0 ∷ others.0, others.1), refl, refl)))
+
+  placed_same : (form : ProgramForm) (bytes : List ℕ) → most_placed ≤ length bytes → Same (placed_field form size bytes) (placed_field form longer (bytes ++ more))
+  unfolding based_field spanned_field span_number_field entry_field
+  placed_same (Based layout) bytes long =
+      bind_same (base_field size bytes) (base_field longer (bytes ++ more))
+      (λ base. word_count_field size base.0 base.1 >>= λ count. words_field size count.0 count.1 >>= λ words. Ok (one_span base.0 words.0 [], words.1))
+      (λ base. word_count_field longer base.0 base.1 >>= λ count. words_field longer count.0 count.1 >>= λ words. Ok (one_span base.0 words.0 [], words.1)) (base_same bytes (omega (arith, long)))
+      (λ base e.
+      let base_is = base_len size bytes base e in
+      bind_same (word_count_field size base.0 base.1) (word_count_field longer base.0 (base.1 ++ more)) (λ count. words_field size count.0 count.1 >>= λ words. Ok (one_span base.0 words.0 [], words.1))
+      (λ count. words_field longer count.0 count.1 >>= λ words. Ok (one_span base.0 words.0 [], words.1)) (word_count_same base.0 base.1 (omega (arith, long, base_is)))
+      (λ count d.
+      let count_is = word_count_len size base.0 base.1 count d in
+      bind_same (words_field size count.0 count.1) (words_field longer count.0 (count.1 ++ more)) (λ words. Ok (one_span base.0 words.0 [], words.1)) (λ words. Ok (one_span base.0 words.0 [], words.1))
+      (words_same count.0 count.1 (omega (arith, long, base_is, count_is.0, count_is.1))) (λ words w. inl ((one_span base.0 words.0 [], words.1), refl, refl))))
+  placed_same Spanned bytes long =
+      bind_same (span_number_field size bytes) (span_number_field longer (bytes ++ more))
+      (λ count. spans_field size count.0 0 0 count.1 >>= λ spans. entry_field size spans.0 spans.1 >>= λ entry. Ok (without_grants entry.0 spans.0, entry.1))
+      (λ count. spans_field longer count.0 0 0 count.1 >>= λ spans. entry_field longer spans.0 spans.1 >>= λ entry. Ok (without_grants entry.0 spans.0, entry.1))
+      (judged_number_same span_number_fault bytes (omega (arith, long)))
+      (λ count e.
+      let count_is = span_number_len size bytes count e in
+      bind_same (spans_field size count.0 0 0 count.1) (spans_field longer count.0 0 0 (count.1 ++ more)) (λ spans. entry_field size spans.0 spans.1 >>= λ entry. Ok (without_grants entry.0 spans.0, entry.1))
+      (λ spans. entry_field longer spans.0 spans.1 >>= λ entry. Ok (without_grants entry.0 spans.0, entry.1)) (spans_same count.0 0 0 count.1 (omega arith) (omega (arith, long, count_is.0, count_is.1)))
+      (λ spans d.
+      let spans_are = spans_len size count.0 0 0 count.1 spans (omega arith) d in
+      bind_same (entry_field size spans.0 spans.1) (entry_field longer spans.0 (spans.1 ++ more)) (λ entry. Ok (without_grants entry.0 spans.0, entry.1)) (λ entry. Ok (without_grants entry.0 spans.0, entry.1))
+      (judged_number_same (entry_fault spans.0) spans.1 (omega (arith, long, count_is.0, count_is.1, spans_are))) (λ entry w. inl ((without_grants entry.0 spans.0, entry.1), refl, refl))))
+
   -- the chunks
   judged_then : {A : Type 0} (kind : Option FileKind) (bytes : List ℕ) (x y : Field A) → Same x y →
       Same (judged kind size bytes >>= λ _. x) (judged kind longer (bytes ++ more) >>= λ _. y)
@@ -144,10 +212,6 @@ module _ (size : ℕ) (more : List ℕ) where
   with_first : (c : Chunk) (x y : Field (List Chunk)) → Same x y → Same (x >>= λ others. Ok (c ∷ others.0, others.1)) (y >>= λ others. Ok (c ∷ others.0, others.1))
   with_first c x y (inl (p, e, d)) = inl ((c ∷ p.0, p.1), ap (λ r. r >>= λ others. Ok (c ∷ others.0, others.1)) e, ap (λ r. r >>= λ others. Ok (c ∷ others.0, others.1)) d)
   with_first c x y (inr (w, e, d)) = inr (w, ap (λ r. r >>= λ others. Ok (c ∷ others.0, others.1)) e, ap (λ r. r >>= λ others. Ok (c ∷ others.0, others.1)) d)
-
-  same_by : {A : Type 0} {x y v w : Field A} → v ≡ x → w ≡ y → Same x y → Same v w
-  same_by e d (inl (p, a, b)) = inl (p, e ∙ a, d ∙ b)
-  same_by e d (inr (f, a, b)) = inr (f, e ∙ a, d ∙ b)
 
   chunks_step : (layout : Layout) (program : RiscProgram) (count from sum : ℕ) (bytes : List ℕ) →
       ((p : Chunk × List ℕ) → chunk_field layout size program from sum bytes ≡ Ok p →
@@ -189,56 +253,40 @@ module _ (size : ℕ) (more : List ℕ) where
   filled_same None fill byte rest = ap Err (same_place (byte ∷ rest) fault.AfterEnd)
   filled_same (Some kind) fill byte rest = ap Err (same_place (fill ∷ byte ∷ rest) kind)
 
-  fill_same : (layout : Layout) (chunks : List Chunk) (bytes : List ℕ) → 2 ≤ length bytes → fill_field layout size chunks bytes ≡ fill_field layout longer chunks (bytes ++ more)
+  fill_same : (form : ProgramForm) (chunks : List Chunk) (bytes : List ℕ) → 2 ≤ length bytes → fill_field form size chunks bytes ≡ fill_field form longer chunks (bytes ++ more)
   unfolding fill_field
-  fill_same layout chunks [] long = absurd (omega arith)
-  fill_same layout chunks (fill ∷ []) long = absurd (omega arith)
-  fill_same layout chunks (fill ∷ byte ∷ rest) long = filled_same (fill_fault layout chunks) fill byte rest
+  fill_same form chunks [] long = absurd (omega arith)
+  fill_same form chunks (fill ∷ []) long = absurd (omega arith)
+  fill_same form chunks (fill ∷ byte ∷ rest) long = filled_same (fill_fault form chunks) fill byte rest
 
   -- field by field, from the last
-  after_chunks : (layout : Layout) (base : ℕ) (words : List ℕ) (x : List Chunk × List ℕ) → 2 ≤ length x.1 →
-      with_chunks size layout base words x ≡ with_chunks longer layout base words (x.0, x.1 ++ more)
-  after_chunks layout base words x long =
-      ap (λ r. r >>= λ fill. Ok (record { program = record { base = base; words = words; grants = x.0 }; fill = fill })) (fill_same layout x.0 x.1 long)
+  after_chunks : (form : ProgramForm) (placed : RiscProgram) (x : List Chunk × List ℕ) → 2 ≤ length x.1 → with_chunks size form placed x ≡ with_chunks longer form placed (x.0, x.1 ++ more)
+  after_chunks form placed x long = ap (λ r. r >>= λ fill. Ok (record { program = with_grants placed x.0; fill = fill })) (fill_same form x.0 x.1 long)
 
-  after_chunk_count : (layout : Layout) (base : ℕ) (words : List ℕ) (x : ℕ × List ℕ) → 8 * x.0 + 2 ≤ length x.1 →
-      with_chunk_count size layout base words x ≡ with_chunk_count longer layout base words (x.0, x.1 ++ more)
-  after_chunk_count layout base words x long =
-      then_same (chunks_field layout size (without_grants base words) x.0 0 0 x.1) (chunks_field layout longer (without_grants base words) x.0 0 0 (x.1 ++ more))
-      (λ y. with_chunks size layout base words y) (λ y. with_chunks longer layout base words y)
-      (chunks_same layout (without_grants base words) x.0 0 0 x.1 (omega (arith, long)))
-      (λ y e. let len = chunks_len layout size (without_grants base words) x.0 0 0 x.1 y e in after_chunks layout base words y (omega (arith, len, long)))
+  after_chunk_count : (form : ProgramForm) (placed : RiscProgram) (x : ℕ × List ℕ) → 8 * x.0 + 2 ≤ length x.1 → with_chunk_count size form placed x ≡ with_chunk_count longer form placed (x.0, x.1 ++ more)
+  after_chunk_count form placed x long =
+      then_same (chunks_field (layout_of form) size placed x.0 0 0 x.1) (chunks_field (layout_of form) longer placed x.0 0 0 (x.1 ++ more)) (λ y. with_chunks size form placed y) (λ y. with_chunks longer form placed y)
+      (chunks_same (layout_of form) placed x.0 0 0 x.1 (omega (arith, long)))
+      (λ y e. let len = chunks_len (layout_of form) size placed x.0 0 0 x.1 y e in after_chunks form placed y (omega (arith, len, long)))
 
-  after_words : (layout : Layout) (base : ℕ) (x : List ℕ × List ℕ) → 4 + 8 * 4096 + 2 ≤ length x.1 → with_words size layout base x ≡ with_words longer layout base (x.0, x.1 ++ more)
-  after_words layout base x long =
-      then_same (chunk_count_field size x.1) (chunk_count_field longer (x.1 ++ more)) (λ y. with_chunk_count size layout base x.0 y) (λ y. with_chunk_count longer layout base x.0 y)
+  after_placed : (form : ProgramForm) (x : RiscProgram × List ℕ) → 4 + 8 * 4096 + 2 ≤ length x.1 → with_placed size form x ≡ with_placed longer form (x.0, x.1 ++ more)
+  after_placed form x long =
+      then_same (chunk_count_field size x.1) (chunk_count_field longer (x.1 ++ more)) (λ y. with_chunk_count size form x.0 y) (λ y. with_chunk_count longer form x.0 y)
       (chunk_count_same x.1 (omega (arith, long)))
-      (λ y e. let len = chunk_count_len size x.1 y e in after_chunk_count layout base x.0 y (omega (arith, len.0, len.1, long)))
+      (λ y e. let len = chunk_count_len size x.1 y e in after_chunk_count form x.0 y (omega (arith, len.0, len.1, long)))
 
-  after_count : (layout : Layout) (base : ℕ) (x : ℕ × List ℕ) → 4 * x.0 + 4 + 8 * 4096 + 2 ≤ length x.1 → with_count size layout base x ≡ with_count longer layout base (x.0, x.1 ++ more)
-  after_count layout base x long =
-      then_same (words_field size x.0 x.1) (words_field longer x.0 (x.1 ++ more)) (λ y. with_words size layout base y) (λ y. with_words longer layout base y)
-      (words_same x.0 x.1 (omega (arith, long)))
-      (λ y e. let len = words_len size x.0 x.1 y e in after_words layout base y (omega (arith, len, long)))
-
-  after_base : (layout : Layout) (x : ℕ × List ℕ) → 4 + 4 * 1048576 + 4 + 8 * 4096 + 2 ≤ length x.1 → with_base size layout x ≡ with_base longer layout (x.0, x.1 ++ more)
-  after_base layout x long =
-      then_same (word_count_field size x.0 x.1) (word_count_field longer x.0 (x.1 ++ more)) (λ y. with_count size layout x.0 y) (λ y. with_count longer layout x.0 y)
-      (word_count_same x.0 x.1 (omega (arith, long)))
-      (λ y e. let len = word_count_len size x.0 x.1 y e in after_count layout x.0 y (omega (arith, len.0, len.1, long)))
-
-  after_layout : (x : Layout × List ℕ) → 4 + 4 + 4 * 1048576 + 4 + 8 * 4096 + 2 ≤ length x.1 → with_layout size x ≡ with_layout longer (x.0, x.1 ++ more)
-  after_layout x long =
-      then_same (base_field size x.1) (base_field longer (x.1 ++ more)) (λ y. with_base size x.0 y) (λ y. with_base longer x.0 y)
-      (base_same x.1 (omega (arith, long)))
-      (λ y e. let len = base_len size x.1 y e in after_base x.0 y (omega (arith, len, long)))
+  after_form : (x : ProgramForm × List ℕ) → most_placed + 4 + 8 * 4096 + 2 ≤ length x.1 → with_form size x ≡ with_form longer (x.0, x.1 ++ more)
+  after_form x long =
+      then_same (placed_field x.0 size x.1) (placed_field x.0 longer (x.1 ++ more)) (λ y. with_placed size x.0 y) (λ y. with_placed longer x.0 y)
+      (placed_same x.0 x.1 (omega (arith, long)))
+      (λ y e. let len = placed_len x.0 size x.1 y e in after_placed x.0 y (omega (arith, len, long)))
 
   whole_same : (bytes : List ℕ) → longest_program < length bytes → file.program_in size bytes ≡ file.program_in longer (bytes ++ more)
   whole_same bytes long =
       field_by_field size bytes
-      ∙ then_same (layout_field size bytes) (layout_field longer (bytes ++ more)) (λ x. with_layout size x) (λ x. with_layout longer x)
-      (layout_same bytes (omega (arith, long)))
-      (λ x e. let len = layout_len size bytes x e in after_layout x (omega (arith, len, long)))
+      ∙ then_same (form_field size bytes) (form_field longer (bytes ++ more)) (λ x. with_form size x) (λ x. with_form longer x)
+      (form_same bytes (omega (arith, long)))
+      (λ x e. let len = form_len size bytes x e in after_form x (omega (arith, len, long)))
       ∙ sym (field_by_field longer (bytes ++ more))
 
 -- what is read of a program file tells what the whole file is

@@ -13,7 +13,7 @@ use Rattle.command_steps.specs.Inputs.{Always, ByBytes, Input, Judge, OfInput}
 
 -- the most bytes of a program file, which is read to one byte beyond them at most
 abbrev pub longest_program : ℕ
-longest_program = 4227089
+longest_program = 4259857
 
 -- ---- program files
 

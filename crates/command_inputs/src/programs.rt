@@ -19,7 +19,7 @@ use std::marker::Brand;
 use std::sync::ledger::{Blank, Ledger};
 
 /// The most bytes of a program file.
-const LONGEST_PROGRAM: usize = 4_227_089;
+const LONGEST_PROGRAM: usize = 4_259_857;
 
 /// The sound program and the fill that a program file holds.
 #[derive(Drop)]

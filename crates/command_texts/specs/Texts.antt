@@ -68,6 +68,7 @@ kind_words kind.Length = codes "length"
 kind_words kind.Pages = codes "pages"
 kind_words (kind.Slot byte) = codes "slot " ++ byte_text byte
 kind_words (kind.Buffer byte) = codes "buffer " ++ byte_text byte
+kind_words kind.Entry = codes "entry"
 
 abbrev pub cause_words : Cause → List ℕ
 cause_words Cut = codes "cut"

@@ -74,6 +74,7 @@ impl fmt::Display for KindWords {
             FileKind::Pages => write!(f, "pages"),
             FileKind::Slot(byte) => write!(f, "slot {byte:02x}"),
             FileKind::Buffer(byte) => write!(f, "buffer {byte:02x}"),
+            FileKind::Entry => write!(f, "entry"),
         }
     }
 }

@@ -6,7 +6,6 @@ use Rattle.risc_word.specs.Words.{encoded}
 use Rattle.fifo_model.specs.declared.Queue.{Queue}
 use Rattle.fifo_model.specs.declared.Queue.TheVariants.{One, Two, Three}
 use Rattle.page_table.specs.Grants.{Chunk, granted}
-use Rattle.pixel_layout.specs.Layouts.{chroma_row}
 use Rattle.pixel_layout.specs.declared.Parity.{Parity}
 use Rattle.machine_model.specs.Paths.{demands_of, fetch}
 use Rattle.machine_model.specs.Turns.{demand_on}
@@ -14,22 +13,22 @@ use Rattle.capture_desc.specs.declared.desc.Desc.{Desc}
 use Rattle.picture_model.specs.declared.Piece.{Piece}
 use Rattle.picture_model.specs.declared.PieceKind.{PieceKind}
 use Rattle.picture_model.specs.declared.PieceKind.TheVariants.{Write, WriteLuma, Skip}
-use Rattle.picture_model.specs.Described.{both, describes, field_height, layout_of, memory_of, offset, picture_row, plane_row_bytes, stride}
+use Rattle.picture_model.specs.Described.{both, chroma_row_of, describes, field_height, layout_of, memory_of, offset, picture_row, plane_row_bytes, stride}
 use Rattle.picture_model.specs.Places.{byte_clipped, place}
-use Rattle.picture_model.specs.Plans.{Cut, Follow, Strip, Track, cuts_of, ends_of, grain_bytes, grains_of, kind_of, piece_of, skipped_strip, vbi_strip}
+use Rattle.picture_model.specs.Plans.{Cut, Follow, Strip, Track, cuts_of, ends_of, grain_bytes, grains_of, kind_of, piece_of, skipped_strip, skipped_vbi_strip, vbi_strip}
 use Rattle.picture_model.specs.Programs.{compiled, instr_by, instr_of}
 use Rattle.picture_model.proofs.Grains.{row_grains}
 use Rattle.picture_model.proofs.FaultlessGeometry.{IsRight}
 use Rattle.picture_model.proofs.Safe.{cuts_follow}
 use Rattle.picture_model.proofs.Sections.{row_below}
-use Rattle.picture_model.proofs.Strips.{IsStrip, row-IsStrip, skipped-IsStrip, vbi-IsStrip}
+use Rattle.picture_model.proofs.Strips.{IsStrip, row-IsStrip, skipped-IsStrip, skipped_vbi-IsStrip, vbi-IsStrip}
 use Rattle.field_law.specs.CutLines.{address_in}
 use Rattle.field_law.specs.Sections.{Ask, Await, Begin, GoOn, ask, ask_of, asked}
 use Rattle.field_law.proofs.CutLines.{address_behind, address_here}
 use Rattle.picture_law.specs.Pictures.{FieldByte, of_row, of_vbi, IsKeptAt, has_plane, plane_of}
 use Rattle.picture_law.proofs.Body.{field_row_strip, row_starts, skipped_starts}
 use Rattle.picture_law.proofs.Cuts.{Starts, cut_address, cut_asks, line_part_of, line_parts_of, moves, piece_asks, track_on}
-use Rattle.picture_law.proofs.BytePlaces.{queue_plane, queue_row_goes, row_track_on, skipped_goes, vbi_goes}
+use Rattle.picture_law.proofs.BytePlaces.{queue_plane, queue_row_goes, row_track_on, skipped_goes, skipped_vbi_goes, vbi_goes}
 use Rattle.picture_law.proofs.KeptBytes.{kept_granted, kept_once, unless_clipped}
 use Rattle.damage_law.proofs.PlacedTakes.{address_on, count_on}
 
@@ -126,8 +125,16 @@ both_cuts size end at (c ∷ before) (c' ∷ before') k k' after after' y y' fol
 
 pub data Kind : Type 0 where
   OfVbi : ℕ → Kind
+  OfSkippedVbi : Kind
   OfSkipped : Kind
   OfRow : ℕ → Kind
+
+-- of skipped lines nothing is kept
+abbrev pub IsKept : Kind → Type 0
+IsKept (OfVbi line) = Unit {0}
+IsKept OfSkippedVbi = ⊥
+IsKept OfSkipped = ⊥
+IsKept (OfRow row) = Unit {0}
 
 pub plane_moves : (planar : Bool) (q : Queue) → moves planar q ≡ true → nat_le (plane_of q) (if planar then 3 else 1) ≡ true
 plane_moves true One does = refl
@@ -144,16 +151,19 @@ moved_from (Some a) s y is = let same : a ≡ s = cc in ap (λ (b : ℕ). Some (
 module _ (d : Desc) (right : IsRight d) (field : Parity) (described : describes d.fields field ≡ true) where
   abbrev pub strip_of : Kind → Strip
   strip_of (OfVbi line) = vbi_strip d field line
+  strip_of OfSkippedVbi = skipped_vbi_strip d
   strip_of OfSkipped = skipped_strip d
   strip_of (OfRow row) = field_row_strip d field row
 
   abbrev pub IsLineOf : Kind → Type 0
   IsLineOf (OfVbi line) = line < d.vbi_lines
+  IsLineOf OfSkippedVbi = Unit {0}
   IsLineOf OfSkipped = Unit {0}
   IsLineOf (OfRow row) = row < field_height d field
 
   abbrev pub byte_of : Kind → Queue → ℕ → FieldByte
   byte_of (OfVbi line) q x = of_vbi line x
+  byte_of OfSkippedVbi q x = of_vbi 0 x
   byte_of OfSkipped q x = of_vbi 0 x
   byte_of (OfRow row) q x = of_row q row x
 
@@ -165,14 +175,16 @@ module _ (d : Desc) (right : IsRight d) (field : Parity) (described : describes 
 
   pub fit_of : (kind : Kind) → IsLineOf kind → IsStrip (memory_of d) (strip_of kind)
   fit_of (OfVbi line) below = vbi-IsStrip d field line right described below
+  fit_of OfSkippedVbi below = skipped_vbi-IsStrip d
   fit_of OfSkipped below = skipped-IsStrip d
   fit_of (OfRow row) below = row-IsStrip d (picture_row (both d) field row) right (row_below d field row below)
 
   starts_of : (kind : Kind) → Starts (strip_of kind).planar (strip_of kind).kind (strip_of kind).one.start (strip_of kind).two.start (strip_of kind).three.start
   starts_of (OfVbi line) = tt
+  starts_of OfSkippedVbi = tt
   starts_of OfSkipped = skipped_starts (layout_of d).planar
   starts_of (OfRow row) =
-      row_starts (layout_of d).planar (chroma_row (layout_of d) (both d) (picture_row (both d) field row)) (offset d 1 + picture_row (both d) field row * stride d 1)
+      row_starts (layout_of d).planar (chroma_row_of d (picture_row (both d) field row)) (offset d 1 + picture_row (both d) field row * stride d 1)
       (λ kept. offset d 2 + kept * stride d 2) (λ kept. offset d 3 + kept * stride d 3)
 
   module _ (kind : Kind) (k : Cut) (q : Queue) where
@@ -221,6 +233,10 @@ module _ (d : Desc) (right : IsRight d) (field : Parity) (described : describes 
       let all : x < d.vbi_bytes = omega arith in ((below, all), sym (vbi_goes d right field line described below x all) ∙ goes)
   kept_on (OfVbi line) Two x address below moved inside goes = cc
   kept_on (OfVbi line) Three x address below moved inside goes = cc
+  kept_on OfSkippedVbi One x address below moved inside goes =
+      let nowhere = skipped_vbi_goes d x (cuts_on OfSkippedVbi) in let none : None ≡ Some address = sym nowhere ∙ goes in cc
+  kept_on OfSkippedVbi Two x address below moved inside goes = cc
+  kept_on OfSkippedVbi Three x address below moved inside goes = cc
   kept_on OfSkipped q x address below moved inside goes = let nowhere = skipped_goes d q x (cuts_on OfSkipped) in let none : None ≡ Some address = sym nowhere ∙ goes in cc
   kept_on (OfRow row) q x address below moved inside goes =
       let has : has_plane d q ≡ true = plane_moves (layout_of d).planar q moved in
@@ -235,6 +251,7 @@ module _ (d : Desc) (right : IsRight d) (field : Parity) (described : describes 
 
   module _ (begin_of : Kind → ℕ) (words_before : Kind → List Cut → ℕ) where
     abbrev pub IsPlace : Kind → ℕ → List Cut → Type 0
+    IsPlace OfSkippedVbi a before = Unit {0}
     IsPlace OfSkipped a before = Unit {0}
     IsPlace (OfVbi line) a before = a ≡ begin_of (OfVbi line) + words_before (OfVbi line) before
     IsPlace (OfRow row) a before = a ≡ begin_of (OfRow row) + words_before (OfRow row) before
@@ -278,11 +295,14 @@ module _ (d : Desc) (right : IsRight d) (field : Parity) (described : describes 
 
     -- ---- no two write to one address
 
-    same_line : (one two : Kind) (p q : Queue) (x y : ℕ) → (one ≡ OfSkipped → ⊥) → (two ≡ OfSkipped → ⊥) → moves (strip_of one).planar p ≡ true → moves (strip_of two).planar q ≡ true →
+    same_line : (one two : Kind) (p q : Queue) (x y : ℕ) → IsKept one → IsKept two → moves (strip_of one).planar p ≡ true → moves (strip_of two).planar q ≡ true →
         byte_of one p x ≡ byte_of two q y → (one ≡ two) × (p ≡ q) × (x ≡ y)
-    same_line OfSkipped two p q x y some other moved moved' same = absurd (some refl)
-    same_line (OfVbi line) OfSkipped p q x y some other moved moved' same = absurd (other refl)
-    same_line (OfRow row) OfSkipped p q x y some other moved moved' same = absurd (other refl)
+    same_line OfSkipped two p q x y some other moved moved' same = absurd some
+    same_line OfSkippedVbi two p q x y some other moved moved' same = absurd some
+    same_line (OfVbi line) OfSkipped p q x y some other moved moved' same = absurd other
+    same_line (OfVbi line) OfSkippedVbi p q x y some other moved moved' same = absurd other
+    same_line (OfRow row) OfSkipped p q x y some other moved moved' same = absurd other
+    same_line (OfRow row) OfSkippedVbi p q x y some other moved moved' same = absurd other
     same_line (OfVbi line) (OfRow row) p q x y some other moved moved' same = cc
     same_line (OfRow row) (OfVbi line) p q x y some other moved moved' same = cc
     same_line (OfRow row) (OfRow row') p q x y some other moved moved' same = let number : row ≡ row' = cc in (ap OfRow number, cc, cc)
@@ -296,17 +316,23 @@ module _ (d : Desc) (right : IsRight d) (field : Parity) (described : describes 
         packed Two q moved moved' = cc
         packed Three q moved moved' = cc
 
-    never_skipped : (kind : Kind) (q : Queue) (x address : ℕ) → address_in (line_parts_of (memory_of d) (track_on q (strip_of kind)) (cuts_on kind)) x ≡ Some address → kind ≡ OfSkipped → ⊥
-    never_skipped (OfVbi line) q x address goes is = cc
-    never_skipped (OfRow row) q x address goes is = cc
-    never_skipped OfSkipped q x address goes is = let nowhere = skipped_goes d q x (cuts_on OfSkipped) in let none : None ≡ Some address = sym nowhere ∙ goes in cc
+    never_skipped : (kind : Kind) (q : Queue) (x address : ℕ) → moves (strip_of kind).planar q ≡ true →
+        address_in (line_parts_of (memory_of d) (track_on q (strip_of kind)) (cuts_on kind)) x ≡ Some address → IsKept kind
+    never_skipped (OfVbi line) q x address moved goes = tt
+    never_skipped (OfRow row) q x address moved goes = tt
+    never_skipped OfSkipped q x address moved goes = let nowhere = skipped_goes d q x (cuts_on OfSkipped) in let none : None ≡ Some address = sym nowhere ∙ goes in cc
+    never_skipped OfSkippedVbi One x address moved goes =
+        let nowhere = skipped_vbi_goes d x (cuts_on OfSkippedVbi) in let none : None ≡ Some address = sym nowhere ∙ goes in cc
+    never_skipped OfSkippedVbi Two x address moved goes = cc
+    never_skipped OfSkippedVbi Three x address moved goes = cc
 
-    same_place : (kind : Kind) (a b : ℕ) (before before' : List Cut) → (kind ≡ OfSkipped → ⊥) → before ≡ before' → IsPlace kind a before → IsPlace kind b before' → a ≡ b
-    same_place OfSkipped a b before before' some same one two = absurd (some refl)
+    same_place : (kind : Kind) (a b : ℕ) (before before' : List Cut) → IsKept kind → before ≡ before' → IsPlace kind a before → IsPlace kind b before' → a ≡ b
+    same_place OfSkipped a b before before' some same one two = absurd some
+    same_place OfSkippedVbi a b before before' some same one two = absurd some
     same_place (OfVbi line) a b before before' some same one two = one ∙ ap (λ (cuts : List Cut). begin_of (OfVbi line) + words_before (OfVbi line) cuts) same ∙ sym two
     same_place (OfRow row) a b before before' some same one two = one ∙ ap (λ (cuts : List Cut). begin_of (OfRow row) + words_before (OfRow row) cuts) same ∙ sym two
 
-    same_piece : (kind : Kind) (a b : ℕ) (p q : Queue) (before before' after after' : List Cut) (k k' : Cut) (x y : ℕ) → IsLineOf kind → (kind ≡ OfSkipped → ⊥) → p ≡ q →
+    same_piece : (kind : Kind) (a b : ℕ) (p q : Queue) (before before' after after' : List Cut) (k k' : Cut) (x y : ℕ) → IsLineOf kind → IsKept kind → p ≡ q →
         cuts_on kind ≡ before ++ k ∷ after → cuts_on kind ≡ before' ++ k' ∷ after' → IsPlace kind a before → IsPlace kind b before' →
         x < k.n * (track_on p (strip_of kind)).size → y < k'.n * (track_on q (strip_of kind)).size →
         k.at * (track_on p (strip_of kind)).size + x ≡ k'.at * (track_on q (strip_of kind)).size + y → (a ≡ b) × (p ≡ q) × (x ≡ y)
@@ -327,8 +353,8 @@ module _ (d : Desc) (right : IsRight d) (field : Parity) (described : describes 
         let v = written b j q t y two goes' inside' in
         let size = (track_on p (strip_of one.kind)).size in
         let size' = (track_on q (strip_of two.kind)).size in
-        let some = never_skipped one.kind p (one.k.at * size + x) (s + x) w.goes in
-        let other = never_skipped two.kind q (two.k.at * size' + y) (t + y) v.goes in
+        let some = never_skipped one.kind p (one.k.at * size + x) (s + x) w.moved w.goes in
+        let other = never_skipped two.kind q (two.k.at * size' + y) (t + y) v.moved v.goes in
         let once =
         kept_once d right field described (byte_of one.kind p (one.k.at * size + x)) (byte_of two.kind q (two.k.at * size' + y)) (s + x) w.kept
         (subst (λ (n : ℕ). IsKeptAt d field (byte_of two.kind q (two.k.at * size' + y)) n) (sym same) v.kept) in

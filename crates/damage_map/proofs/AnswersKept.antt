@@ -29,7 +29,7 @@ use Rattle.machine_model.specs.declared.Job.TheVariants.{Idle, Waiting, Running}
 use Rattle.machine_model.specs.declared.Seen.{Seen}
 use Rattle.machine_model.specs.declared.Skipping.{Skipping}
 use Rattle.machine_model.specs.declared.Skipping.TheVariants.{Nothing, ToEol, ToSync}
-use Rattle.machine_model.specs.Paths.{RiscProgram, fetch, is_data}
+use Rattle.machine_model.specs.Paths.{RiscProgram, fetch, is_data, spans_of}
 use Rattle.machine_model.specs.Safety.{IsOrderly, IsStep}
 use Rattle.machine_model.specs.States.{State, first_state}
 use Rattle.machine_model.specs.Steps.{Step, Push, Control, Turn, Host, host, run, step, with_fifo, with_risc}
@@ -51,10 +51,12 @@ use Rattle.picture_law.specs.Sections.{section_of}
 use Rattle.picture_law.proofs.Program.{fetched_at, next_field, section_holds}
 use Rattle.damage_law.specs.Takings.{Taking, left, retired_at, retires, step_retires, step_takings, takings, takings_if, worked_takings}
 use Rattle.damage_law.specs.Marks.{is_opening, is_synced, last_step, later_or, marks_to}
+use Rattle.machine_watch.specs.Watches.{written}
+use Rattle.damage_map.specs.Before.{before_of, before_rows, lines_before}
 use Rattle.damage_map.specs.Laws.{KeepsAnswers, TellsSignals, map_after}
 use Rattle.damage_map.specs.Maps.{rows_of}
-use Rattle.damage_map.specs.Tracks.{FieldTrack, field_of, fresh, lines_at_signal, max_lines, met, opened, opens, signalled, through, track_next, tracked, turned, untold, with_loss, written}
-use Rattle.damage_map.proofs.Compiled.{body_parts, few_lines, parts_cut, rows_dropped, section_lines, section_parts}
+use Rattle.damage_map.specs.Tracks.{FieldTrack, field_of, fresh, lines_at_signal, max_lines, met, opened, opens, signalled, through, track_next, track_notes, tracked, turned, untold, with_loss}
+use Rattle.damage_map.proofs.Compiled.{SkipsFew, body_parts, few_lines, parts_cut, rows_dropped, section_lines, section_parts, skips_few}
 use Rattle.damage_map.proofs.Histories.{Opened, marks_over, next_opened, next_told, opened_if, told_after, told_after-answer, told_if}
 use Rattle.damage_map.proofs.PlacedSteps.{fresh_bytes, turn_bytes}
 use Rattle.damage_map.proofs.PlacedTurns.{JobHas, KeepsBytes, bytes_with}
@@ -148,12 +150,53 @@ calm Retired program s t g is = through_calm _ t g
 calm (Moved q) program s t g is = met_calm q s t g
 calm (GivenUp q) program s t g is = through_calm _ (with_loss (met q s t)) g ∙ loss_calm (met q s t) g ∙ met_calm q s t g
 
-written_calm : (write : HostWrite) (m : State) (t : FieldTrack) (g : Parity) → lines_at_signal g (written write m t) ≡ lines_at_signal g t
+written_calm : (write : HostWrite) (m : State) (t : FieldTrack) (g : Parity) → lines_at_signal g (written track_notes write m t) ≡ lines_at_signal g t
 written_calm (Ack mask) m t g = refl
 written_calm (Trigger number) m t g = refl
 written_calm (Enable true risc) m t g = refl
 written_calm (Enable false risc) m t Top = refl
 written_calm (Enable false risc) m t Bottom = refl
+
+-- ---- how many lines stand before the rows
+
+through_before : (ends : Bool) (t : FieldTrack) → (through ends t).before ≡ t.before
+through_before true t = refl
+through_before false t = refl
+
+opened_before : (begins : Bool) (t : FieldTrack) → (opened begins t).before ≡ t.before
+opened_before true t = refl
+opened_before false t = refl
+
+signalled_before : (field : Option Parity) (t : FieldTrack) → (signalled field t).before ≡ t.before
+signalled_before (Some Top) t = refl
+signalled_before (Some Bottom) t = refl
+signalled_before None t = refl
+
+turned_before : (did : Did) (program : RiscProgram) (s : Seen) (t : FieldTrack) → (turned program did s t).before ≡ t.before
+turned_before Still program s t = refl
+turned_before Jumped program s t = signalled_before _ t
+turned_before Synced program s t = opened_before _ t
+turned_before Passed program s t = through_before _ (with_loss t)
+turned_before Begun program s t = refl
+turned_before Dropped program s t = refl
+turned_before Matched program s t = refl
+turned_before Missed program s t = refl
+turned_before Retired program s t = through_before _ t
+turned_before (Moved q) program s t = refl
+turned_before (GivenUp q) program s t = through_before _ (with_loss (met q s t))
+
+next_before : (s : Step) (m : State) (t : FieldTrack) → (track_next m s t).before ≡ t.before
+next_before Turn m t = turned_before (seen m).did m.program (seen m) t
+next_before (Push q entry) m t = refl
+next_before (Control code) m t = refl
+next_before (Host (Ack mask)) m t = refl
+next_before (Host (Trigger number)) m t = refl
+next_before (Host (Enable true risc)) m t = refl
+next_before (Host (Enable false risc)) m t = refl
+
+pub tracked_before : (steps : List Step) (m : State) (t : FieldTrack) → (tracked m steps t).before ≡ t.before
+tracked_before [] m t = refl
+tracked_before (s ∷ steps) m t = tracked_before steps (step s m) (track_next m s t) ∙ next_before s m t
 
 -- ---- what is fetched
 
@@ -306,7 +349,7 @@ module _ (d : Desc) (right : IsRight d) where
       let rest = words_of (body d f ++ closing f (next_of f) ∷ []) in
       let good = good_body d right (compiled d) refl f is in
       fetched_at (compiled d) stands.before (rest ++ stands.after) (opening f) (begin_of f)
-      (stands.split ∙ ap (λ (ws : List ℕ). stands.before ++ ws) (append_assoc (encoded (opening f)) rest stands.after)) stands.at good.0.fine.spelled good.0.fine.some
+      (ap (spans_of d.base) (stands.split ∙ ap (λ (ws : List ℕ). stands.before ++ ws) (append_assoc (encoded (opening f)) rest stands.after))) stands.at good.0.fine.spelled
 
   holds_parts : (f : Parity) → describes d.fields f ≡ true → HoldsFrom (compiled d) (begin_of f + 8) (instrs_of (section_parts d f)) (signal f) (next_of f)
   holds_parts f is =
@@ -346,14 +389,11 @@ signals_apart Top Bottom to other same = let set : true ≡ false = ap (λ (i : 
 signals_apart Bottom Top to other same = let set : false ≡ true = ap (λ (i : Instr). set_of i == 1) same in cc
 signals_apart Bottom Bottom to other same = refl
 
-untold_none : (g : Parity) (n : ℕ) → option_map (drop n) (lines_at_signal g untold) ≡ None
-untold_none Top n = refl
-untold_none Bottom n = refl
+untold_none : (d : Desc) (g : Parity) (n : ℕ) → option_map (drop n) (lines_at_signal g (untold d)) ≡ None
+untold_none d Top n = refl
+untold_none d Bottom n = refl
 
-module _ (d : Desc) (right : IsRight d) (skips : d.skip_lines ≤ 255) where
-  abbrev pub before_rows_count : ℕ
-  before_rows_count = d.vbi_lines + d.skip_lines
-
+module _ (d : Desc) (right : IsRight d) (skips : SkipsFew d) where
   pub few : (f : Parity) → length (section_lines d f) ≤ max_lines
   few f = few_lines d f right skips
 
@@ -382,7 +422,7 @@ module _ (d : Desc) (right : IsRight d) (skips : d.skip_lines ≤ 255) where
     pub program : m.program ≡ compiled d
     pub orderly : IsOrderly m
     pub chunks : chunks_of m.memory ≡ (compiled d).grants
-    pub told : (g : Parity) → describes d.fields g ≡ true → option_map (drop before_rows_count) (lines_at_signal g t) ≡ tolds g
+    pub told : (g : Parity) → describes d.fields g ≡ true → option_map (drop (lines_before d g)) (lines_at_signal g t) ≡ tolds g
     pub place : Place m t opens_since
 
   module _ (m : State) (t : FieldTrack) (opens_since : Parity → Opened) (tolds : Parity → Option (List Bool)) (h : Keeps m t opens_since tolds) (s : Step) where
@@ -393,11 +433,11 @@ module _ (d : Desc) (right : IsRight d) (skips : d.skip_lines ≤ 255) where
     tolds_next g = next_told d g m s (opens_since g) (tolds g)
 
     abbrev IsTolds : FieldTrack → Type 0
-    IsTolds next = (g : Parity) → describes d.fields g ≡ true → option_map (drop before_rows_count) (lines_at_signal g next) ≡ tolds_next g
+    IsTolds next = (g : Parity) → describes d.fields g ≡ true → option_map (drop (lines_before d g)) (lines_at_signal g next) ≡ tolds_next g
 
     tolds_stay : (next : FieldTrack) → ((g : Parity) → lines_at_signal g next ≡ lines_at_signal g t) → ((g : Parity) → describes d.fields g ≡ true → is_signal (section_of d g) m s ≡ false) → IsTolds next
     tolds_stay next same silent g is =
-        ap (option_map (drop before_rows_count)) (same g) ∙ h.told g is ∙ sym (ap (λ (b : Bool). told_if d g b (opens_since g) (tolds g)) (silent g is))
+        ap (option_map (drop (lines_before d g))) (same g) ∙ h.told g is ∙ sym (ap (λ (b : Bool). told_if d g b (opens_since g) (tolds g)) (silent g is))
 
     goes_inside : (i : Inside m t opens_since) (after : State) (next : FieldTrack) → step s m ≡ after → is_opening d i.field m s ≡ false →
         Visit (compiled d) (signal i.field) (next_of d right i.field) (end_of d right i.field) (section_lines d i.field) after next
@@ -478,7 +518,7 @@ module _ (d : Desc) (right : IsRight d) (skips : d.skip_lines ≤ 255) where
 
     -- host writes
     abbrev PlaceBy : Bool → Bool → Bool → Type 0
-    PlaceBy fifo risc on = Place (with_risc risc on (with_fifo fifo m)) (written (Enable fifo risc) m t) (λ g. next_opened d g m (Host (Enable fifo risc)) (opens_since g))
+    PlaceBy fifo risc on = Place (with_risc risc on (with_fifo fifo m)) (written track_notes (Enable fifo risc) m t) (λ g. next_opened d g m (Host (Enable fifo risc)) (opens_since g))
 
     same_queues : (after : State) → after.queues ≡ m.queues → (q : Queue) → QueueKept (queue_state q m.queues) (queue_state q after.queues)
     same_queues after same q = subst (λ (qs : Queues). QueueKept (queue_state q m.queues) (queue_state q qs)) (sym same) (queue_same (queue_state q m.queues))
@@ -489,14 +529,14 @@ module _ (d : Desc) (right : IsRight d) (skips : d.skip_lines ≤ 255) where
         unmoved_place m t opens_since tolds h (Host (Enable true risc)) after t steps refl (record { job = j; pc = p; skipping = k; memory = mem; queues = same_queues after qs }) (λ g. refl) (λ past gone. nothing_past past) h.place
 
     emptied_place : (risc : Bool) (after : State) → step (Host (Enable false risc)) m ≡ after → after.job ≡ m.job → after.pc ≡ m.pc → after.skipping ≡ m.skipping → after.memory ≡ m.memory → after.queues ≡ cleared m.queues →
-        Place m t opens_since → Place after (written (Enable false risc) m t) (λ g. next_opened d g m (Host (Enable false risc)) (opens_since g))
+        Place m t opens_since → Place after (written track_notes (Enable false risc) m t) (λ g. next_opened d g m (Host (Enable false risc)) (opens_since g))
     emptied_place risc after steps j p k mem qs (inl o) = inl (outside_still m t opens_since tolds h (Host (Enable false risc)) o after j p)
     emptied_place risc after steps j p k mem qs (inr i) =
         let past = past_of i.first i.done in
         let gone = gone_of i.first i.done in
         let visit = emptied_visit (compiled d) (signal i.field) (next_of d right i.field) (end_of d right i.field) (section_lines d i.field) (few i.field) m t past gone h.orderly.queues after qs j p k i.visit in
-        inr (goes_inside m t opens_since tolds h (Host (Enable false risc)) i after (written (Enable false risc) m t) steps refl
-        (subst (λ (x : Past). Visit (compiled d) (signal i.field) (next_of d right i.field) (end_of d right i.field) (section_lines d i.field) after (written (Enable false risc) m t) x
+        inr (goes_inside m t opens_since tolds h (Host (Enable false risc)) i after (written track_notes (Enable false risc) m t) steps refl
+        (subst (λ (x : Past). Visit (compiled d) (signal i.field) (next_of d right i.field) (end_of d right i.field) (section_lines d i.field) after (written track_notes (Enable false risc) m t) x
         (λ q. gone q + left q m after)) (sym (nothing_past past)) visit)
         (bytes_still m t opens_since tolds h (Host (Enable false risc)) i after mem j p (nothing_past past)))
 
@@ -513,7 +553,7 @@ module _ (d : Desc) (right : IsRight d) (skips : d.skip_lines ≤ 255) where
     enabled true true false is = inl (restarts (with_risc true false (with_fifo true m)) refl refl)
     enabled false true false is = inl (restarts (with_risc true false (with_fifo false m)) refl refl)
 
-    host_place : (write : HostWrite) → Place (host write m) (written write m t) (λ g. next_opened d g m (Host write) (opens_since g))
+    host_place : (write : HostWrite) → Place (host write m) (written track_notes write m t) (λ g. next_opened d g m (Host write) (opens_since g))
     host_place (Ack mask) =
         unmoved_place m t opens_since tolds h (Host (Ack mask)) (host (Ack mask) m) t refl refl
         (record { job = refl; pc = refl; skipping = refl; memory = refl; queues = λ q. queue_same (queue_state q m.queues) }) (λ g. refl) (λ past gone. nothing_past past) h.place
@@ -528,7 +568,7 @@ module _ (d : Desc) (right : IsRight d) (skips : d.skip_lines ≤ 255) where
           program = program-step (Host write) m ∙ h.program;
           orderly = IsOrderly-step (Host write) m tt h.orderly;
           chunks = chunks-step (Host write) m ∙ h.chunks;
-          told = tolds_stay m t opens_since tolds h (Host write) (written write m t) (λ g. written_calm write m t g) (λ g is. refl);
+          told = tolds_stay m t opens_since tolds h (Host write) (written track_notes write m t) (λ g. written_calm write m t g) (λ g is. refl);
           place = host_place write;
         }
 
@@ -571,29 +611,29 @@ module _ (d : Desc) (right : IsRight d) (skips : d.skip_lines ≤ 255) where
         signals_here : is_signal (section_of d f) m Turn ≡ true
         signals_here = and_from (m.risc_on && is_idle m.job) (m.pc == end_of d right f) (and_from m.risc_on (is_idle m.job) on (ap is_idle idle)) (eq-eqb m.pc (end_of d right f) at_end)
 
-        told_now : option_map (drop before_rows_count) (lines_at_signal f (track_next m Turn t)) ≡ next_told d f m Turn (opens_since f) (tolds f)
+        told_now : option_map (drop (lines_before d f)) (lines_at_signal f (track_next m Turn t)) ≡ next_told d f m Turn (opens_since f) (tolds f)
         told_now =
-            ap (λ (x : FieldTrack). option_map (drop before_rows_count) (lines_at_signal f x)) signals_there
-            ∙ ap (option_map (drop before_rows_count)) (told_here f t)
-            ∙ ap (λ (ls : List Bool). Some (drop before_rows_count ls)) lines
-            ∙ ap Some (drop-map (whole_over (past_of i.first i.done)) before_rows_count (section_lines d f)
+            ap (λ (x : FieldTrack). option_map (drop (lines_before d f)) (lines_at_signal f x)) signals_there
+            ∙ ap (option_map (drop (lines_before d f))) (told_here f t)
+            ∙ ap (λ (ls : List Bool). Some (drop (lines_before d f) ls)) lines
+            ∙ ap Some (drop-map (whole_over (past_of i.first i.done)) (lines_before d f) (section_lines d f)
             ∙ ap (map (whole_over (past_of i.first i.done))) (rows_dropped d f))
             ∙ sym (ap₂ (λ (b : Bool) (o : Opened). told_if d f b o (tolds f)) signals_here i.opened_at)
 
-        told_other : (g : Parity) → describes d.fields g ≡ true → (f ≡ g → ⊥) → option_map (drop before_rows_count) (lines_at_signal g (track_next m Turn t)) ≡ next_told d g m Turn (opens_since g) (tolds g)
+        told_other : (g : Parity) → describes d.fields g ≡ true → (f ≡ g → ⊥) → option_map (drop (lines_before d g)) (lines_at_signal g (track_next m Turn t)) ≡ next_told d g m Turn (opens_since g) (tolds g)
         told_other g is apart =
             let silent : is_signal (section_of d g) m Turn ≡ false =
             signal_by m.risc_on m.job m.pc (end_of d right g)
             (λ on_is idle_is same.
             apart (signals_apart f g (next_of d right f) (next_of d right g)
             (same_read (Jump (signal f) (next_of d right f)) (Jump (signal g) (next_of d right g)) 2 2 (fetch (compiled d) m.pc) read (ap (fetch (compiled d)) same ∙ closes_there d right g is)))) in
-            ap (λ (x : FieldTrack). option_map (drop before_rows_count) (lines_at_signal g x)) signals_there
-            ∙ ap (option_map (drop before_rows_count)) (told_elsewhere f g t apart) ∙ h.told g is
+            ap (λ (x : FieldTrack). option_map (drop (lines_before d g)) (lines_at_signal g x)) signals_there
+            ∙ ap (option_map (drop (lines_before d g))) (told_elsewhere f g t apart) ∙ h.told g is
             ∙ sym (ap (λ (b : Bool). told_if d g b (opens_since g) (tolds g)) silent)
 
-        told_by : (g : Parity) → describes d.fields g ≡ true → (f ≡ g) ⊎ (f ≡ g → ⊥) → option_map (drop before_rows_count) (lines_at_signal g (track_next m Turn t)) ≡ next_told d g m Turn (opens_since g) (tolds g)
+        told_by : (g : Parity) → describes d.fields g ≡ true → (f ≡ g) ⊎ (f ≡ g → ⊥) → option_map (drop (lines_before d g)) (lines_at_signal g (track_next m Turn t)) ≡ next_told d g m Turn (opens_since g) (tolds g)
         told_by g is (inl same) =
-            subst (λ (x : Parity). option_map (drop before_rows_count) (lines_at_signal x (track_next m Turn t)) ≡ next_told d x m Turn (opens_since x) (tolds x)) same told_now
+            subst (λ (x : Parity). option_map (drop (lines_before d x)) (lines_at_signal x (track_next m Turn t)) ≡ next_told d x m Turn (opens_since x) (tolds x)) same told_now
         told_by g is (inr apart) = told_other g is apart
 
         closes_on : (turn m).job ≡ Idle → (turn m).pc ≡ next_of d right f → After m t opens_since tolds Turn
@@ -743,20 +783,20 @@ module _ (d : Desc) (right : IsRight d) (skips : d.skip_lines ≤ 255) where
     after_step (Host write) is = writes_on write
 
   keeps_told : (steps : List Step) (m : State) (t : FieldTrack) (opens_since : Parity → Opened) (tolds : Parity → Option (List Bool)) → All IsStep steps → Keeps m t opens_since tolds →
-      (g : Parity) → describes d.fields g ≡ true → option_map (drop before_rows_count) (lines_at_signal g (tracked m steps t)) ≡ told_after d g (opens_since g) (tolds g) m steps
+      (g : Parity) → describes d.fields g ≡ true → option_map (drop (lines_before d g)) (lines_at_signal g (tracked m steps t)) ≡ told_after d g (opens_since g) (tolds g) m steps
   keeps_told [] m t opens_since tolds made h g is = h.told g is
   keeps_told (s ∷ steps) m t opens_since tolds made h g is =
       keeps_told steps (step s m) (track_next m s t) (λ x. next_opened d x m s (opens_since x)) (λ x. next_told d x m s (opens_since x) (tolds x)) (All-tail IsStep s steps made)
       (after_step m t opens_since tolds h s (All-head IsStep s steps made)) g is
 
-  pub at_first : (fill : ℕ) → Keeps (first_state (compiled d) fill) untold (λ g. None) (λ g. None)
+  pub at_first : (fill : ℕ) → Keeps (first_state (compiled d) fill) (untold d) (λ g. None) (λ g. None)
   at_first fill =
       let first = first_field d.fields d d.base in
       record {
         program = refl;
         orderly = IsOrderly-first_state (compiled d) fill;
         chunks = chunks_of-filled fill (compiled d).grants;
-        told = λ g is. untold_none g before_rows_count;
+        told = λ g is. untold_none d g (lines_before d g);
         place = inl (record { field = first.0; described = first.1; idle = refl; there = sym first.2 });
       }
 
@@ -768,7 +808,7 @@ pc_at true (Waiting ctl resync code) pc c is = cc
 pc_at true (Running instr ds) pc c is = cc
 pc_at false job pc c is = cc
 
-module _ (d : Desc) (right : IsRight d) (skips : d.skip_lines ≤ 255) where
+module _ (d : Desc) (right : IsRight d) (skips : SkipsFew d) where
   module _ (m : State) (t : FieldTrack) (opens_since : Parity → Opened) (tolds : Parity → Option (List Bool)) (h : Keeps d right skips m t opens_since tolds) (g : Parity)
       (is : describes d.fields g ≡ true) where
     closing_read : (m.risc_on && is_idle m.job && m.pc == end_of d right g) ≡ true → fetch (compiled d) m.pc ≡ Ok (Jump (signal g) (next_of d right g), 2)
@@ -838,10 +878,22 @@ none_or_some : {A : Type 0} (x : Option A) → (x ≡ None) ⊎ (is_some x ≡ t
 none_or_some None = inl refl
 none_or_some (Some x) = inr refl
 
+before_is : (d : Desc) (field : Parity) → before_of field (before_rows d) ≡ lines_before d field
+before_is d Top = refl
+before_is d Bottom = refl
+
+-- so many lines as stand before its rows are dropped of a field's
+pub rows_behind : (d : Desc) (field : Parity) (fill : ℕ) (steps : List Step) →
+    rows_of field (map_after d fill steps) ≡ option_map (drop (lines_before d field)) (lines_at_signal field (tracked (first_state (compiled d) fill) steps (untold d)))
+rows_behind d field fill steps =
+    let t = tracked (first_state (compiled d) fill) steps (untold d) in
+    ap (λ (n : ℕ). option_map (drop n) (lines_at_signal field t)) (ap (before_of field) (tracked_before steps (first_state (compiled d) fill) (untold d)) ∙ before_is d field)
+
 pub keeps_answers : KeepsAnswers
 keeps_answers d field fill steps is valid described made =
     let right = IsFrame-IsRight d is (IsValid-IsFrame d valid) in
-    keeps_told d right is.skipped steps (first_state (compiled d) fill) untold (λ g. None) (λ g. None) made (at_first d right is.skipped fill) field described
+    rows_behind d field fill steps
+    ∙ keeps_told d right (skips_few d is) steps (first_state (compiled d) fill) (untold d) (λ g. None) (λ g. None) made (at_first d right (skips_few d is) fill) field described
     ∙ told_after-answer d field (first_state (compiled d) fill) steps
 
 pub tells_signals : TellsSignals
@@ -854,8 +906,8 @@ tells_signals d field fill steps is valid described made = (forth, back)
             last_step (is_signal (section_of d field)) (first_state (compiled d) fill) steps ≡ None
         by_last (inl is_none_there) = is_none_there
         by_last (inr some) =
-            let told = keeps_some d (IsFrame-IsRight d is (IsValid-IsFrame d valid)) is.skipped steps (first_state (compiled d) fill) untold (λ g. None) (λ g. None) made
-            (at_first d (IsFrame-IsRight d is (IsValid-IsFrame d valid)) is.skipped fill) field described (inl some) in
+            let told = keeps_some d (IsFrame-IsRight d is (IsValid-IsFrame d valid)) (skips_few d is) steps (first_state (compiled d) fill) (untold d) (λ g. None) (λ g. None) made
+            (at_first d (IsFrame-IsRight d is (IsValid-IsFrame d valid)) (skips_few d is) fill) field described (inl some) in
             let never : false ≡ true =
             ap is_some (sym none ∙ keeps_answers d field fill steps is valid described made ∙ sym (told_after-answer d field (first_state (compiled d) fill) steps)) ∙ told in
             cc

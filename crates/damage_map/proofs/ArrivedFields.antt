@@ -37,18 +37,19 @@ use Rattle.picture_law.specs.Sections.{section_of}
 use Rattle.picture_law.proofs.Between.{between_last, no_signal, state_between}
 use Rattle.picture_law.proofs.Body.{section_uses}
 use Rattle.picture_law.proofs.Program.{section_holds}
+use Rattle.machine_watch.proofs.Keeping.{kept-append}
 use Rattle.damage_law.specs.Arrived.{ArrivedRowsAreWhole}
 use Rattle.damage_law.specs.Marks.{addresses_from, answer, last_step, marks, marks_to, row_addresses}
+use Rattle.damage_map.specs.Before.{lines_before}
 use Rattle.damage_map.specs.Laws.{map_after}
 use Rattle.damage_map.specs.Maps.{rows_of}
-use Rattle.damage_map.specs.Tracks.{FieldTrack, field_of, lines_at_signal, signalled, signals, track_next, tracked, turned, untold}
-use Rattle.damage_map.proofs.AnswersKept.{Keeps, Place, after_step, at_first, closes_there, keeps_answers, pc_at, signals_apart, told_here}
+use Rattle.damage_map.specs.Tracks.{FieldTrack, field_of, lines_at_signal, signalled, signals, track_next, track_notes, tracked, turned, untold}
+use Rattle.damage_map.proofs.AnswersKept.{rows_behind, Keeps, Place, after_step, at_first, closes_there, keeps_answers, pc_at, signals_apart, told_here}
 use Rattle.damage_map.proofs.ArrivedSteps.{step_well}
 use Rattle.damage_map.proofs.ArrivedTurns.{GoesWell, same_body, well_fresh}
-use Rattle.damage_map.proofs.Compiled.{lines_many, parts_cut, section_lines, section_parts}
+use Rattle.damage_map.proofs.Compiled.{SkipsFew, skips_few, lines_many, parts_cut, section_lines, section_parts}
 use Rattle.damage_map.proofs.Histories.{Opened}
 use Rattle.damage_map.proofs.Sections.{AreBelow, AreParts, Part, Past, Await, Cut, instrs_of, lines_at, whole_over}
-use Rattle.damage_map.proofs.StillTurns.{tracked-append}
 use Rattle.damage_map.proofs.Visits.{GapJob, InGap, LineJob}
 
 -- ---- no line is through where none was begun
@@ -70,7 +71,7 @@ none_through here begin parts (line ∷ lines) rest are at is below =
     let above = found.3 in
     absurd (omega arith)
 
-module _ (d : Desc) (right : IsRight d) (skips : d.skip_lines ≤ 255) where
+module _ (d : Desc) (right : IsRight d) (skips : SkipsFew d) where
   keeps_after : (steps : List Step) (m : State) (t : FieldTrack) (opens_since : Parity → Opened) (tolds : Parity → Option (List Bool)) → All IsStep steps → Keeps d right skips m t opens_since tolds →
       (opens_then : Parity → Opened) × (tolds_then : Parity → Option (List Bool)) × Keeps d right skips (run m steps) (tracked m steps t) opens_then tolds_then
   keeps_after [] m t opens_since tolds made h = (opens_since, tolds, h)
@@ -190,8 +191,8 @@ module _ (d : Desc) (field : Parity) (picture : Picture) (fill : ℕ) (steps : L
   abbrev right : IsRight d
   right = IsFrame-IsRight d is.capture.description (IsValid-IsFrame d is.capture.valid)
 
-  abbrev skips : d.skip_lines ≤ 255
-  skips = is.capture.description.skipped
+  abbrev skips : SkipsFew d
+  skips = skips_few d is.capture.description
 
   abbrev first : State
   first = first_state (compiled d) fill
@@ -200,7 +201,7 @@ module _ (d : Desc) (field : Parity) (picture : Picture) (fill : ℕ) (steps : L
   m = state_of d fill steps j
 
   abbrev t : FieldTrack
-  t = tracked first (take j steps) untold
+  t = tracked first (take j steps) (untold d)
 
   abbrev early : List Step
   early = between j k steps
@@ -209,7 +210,7 @@ module _ (d : Desc) (field : Parity) (picture : Picture) (fill : ℕ) (steps : L
   late = (compiled d, step_at steps k) ∷ []
 
   kept_there : (opens_then : Parity → Opened) × (tolds_then : Parity → Option (List Bool)) × Keeps d right skips m t opens_then tolds_then
-  kept_there = keeps_after d right skips (take j steps) first untold (λ g. None) (λ g. None) (All-take IsStep j steps is.capture.made) (at_first d right skips fill)
+  kept_there = keeps_after d right skips (take j steps) first (untold d) (λ g. None) (λ g. None) (All-take IsStep j steps is.capture.made) (at_first d right skips fill)
 
   last : between j (k + 1) steps ≡ early ++ step_at steps k ∷ []
   last = between_last j k steps is.signal.later is.signal.there
@@ -269,26 +270,24 @@ module _ (d : Desc) (field : Parity) (picture : Picture) (fill : ℕ) (steps : L
       (kept_first m (meeting (compiled d) early) late arrives.kept) silent reached
 
   -- after it
-  abbrev lines_before : ℕ
-  lines_before = d.vbi_lines + d.skip_lines
-
-  tracked_is : tracked first (take (k + 1) steps) untold ≡ track_next last_state (step_at steps k) last_track
+  tracked_is : tracked first (take (k + 1) steps) (untold d) ≡ track_next last_state (step_at steps k) last_track
   tracked_is =
       let later = is.signal.later in
       let there : j + (k + 1 - j) ≡ k + 1 = omega arith in
       let split : take (k + 1) steps ≡ take j steps ++ (early ++ step_at steps k ∷ []) =
       ap (λ (n : ℕ). take n steps) (sym there) ∙ take-add j (k + 1 - j) steps ∙ ap (λ (list : List Step). take j steps ++ list) last in
-      ap (λ (list : List Step). tracked first list untold) split ∙ tracked-append first (take j steps) (early ++ step_at steps k ∷ []) untold ∙ tracked-append m early (step_at steps k ∷ []) t
+      ap (λ (list : List Step). tracked first list (untold d)) split ∙ kept-append track_notes first (take j steps) (early ++ step_at steps k ∷ []) (untold d) ∙ kept-append track_notes m early (step_at steps k ∷ []) t
 
-  rows_told : rows_of field (map_after d fill (take (k + 1) steps)) ≡ Some (drop lines_before last_track.lines)
+  rows_told : rows_of field (map_after d fill (take (k + 1) steps)) ≡ Some (drop (lines_before d field) last_track.lines)
   rows_told =
       let signals_there : is_signal (section_of d field) last_state (step_at steps k) ≡ true =
       ap (λ (x : State). is_signal (section_of d field) x (step_at steps k)) (state_between first steps j k is.signal.later) ∙ is.signal.signal in
-      ap (λ (x : FieldTrack). option_map (drop lines_before) (lines_at_signal field x)) tracked_is
-      ∙ ap (option_map (drop lines_before))
+      rows_behind d field fill (take (k + 1) steps)
+      ∙ ap (λ (x : FieldTrack). option_map (drop (lines_before d field)) (lines_at_signal field x)) tracked_is
+      ∙ ap (option_map (drop (lines_before d field)))
       (signal_told d right skips field is.capture.described last_state last_track (step_at steps k) (program-run m early ∙ kept_there.2.program) signals_there)
 
-  answer_told : answer d field first (take (k + 1) steps) ≡ Some (drop lines_before last_track.lines)
+  answer_told : answer d field first (take (k + 1) steps) ≡ Some (drop (lines_before d field) last_track.lines)
   answer_told =
       sym (keeps_answers d field fill (take (k + 1) steps) is.capture.description is.capture.valid is.capture.described (All-take IsStep (k + 1) steps is.capture.made)) ∙ rows_told
 
@@ -296,8 +295,8 @@ module _ (d : Desc) (field : Parity) (picture : Picture) (fill : ℕ) (steps : L
   rows_whole =
       answer_told
       ∙ ap Some
-      (all_true (drop lines_before last_track.lines) (each_drop lines_before last_track.lines all_well.lines)
-      ∙ ap (λ (n : ℕ). replicate n true) (answer_long d field first (take (k + 1) steps) (drop lines_before last_track.lines) answer_told))
+      (all_true (drop (lines_before d field) last_track.lines) (each_drop (lines_before d field) last_track.lines all_well.lines)
+      ∙ ap (λ (n : ℕ). replicate n true) (answer_long d field first (take (k + 1) steps) (drop (lines_before d field) last_track.lines) answer_told))
 
 pub arrived_rows_are_whole : ArrivedRowsAreWhole
 arrived_rows_are_whole d field picture fill steps j k is = rows_whole d field picture fill steps j k is

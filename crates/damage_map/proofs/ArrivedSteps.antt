@@ -1,5 +1,5 @@
 -- While a field arrives, each step keeps every line whole, as the track has it.
-use Rattle.std.proofs.Common.{◌≡◌, ℕ, ◌+◌, ◌-◌, ◌*◌, ◌<◌, ◌≤◌, inl, inr, Bool, true, false, ◌&&◌, ◌==◌, List, [], ◌∷◌, ◌++◌, length, Option, Some, None, Ok, if◌then◌else◌, refl, sym, ap, ap₂, ◌∙◌, subst, arith, eq-eqb}
+use Rattle.std.proofs.Common.{◌≡◌, ℕ, ◌+◌, ◌-◌, ◌*◌, ◌<◌, inl, inr, Bool, true, false, ◌&&◌, ◌==◌, List, [], ◌∷◌, ◌++◌, length, Option, Some, None, Ok, if◌then◌else◌, refl, sym, ap, ap₂, ◌∙◌, subst, arith, eq-eqb}
 use Rattle.std.specs.List.{list_any}
 use Rattle.std.proofs.lemmas.Bool.{and_from, both_ways}
 use Rattle.risc_word.specs.declared.Code.{Code}
@@ -42,6 +42,7 @@ use Rattle.damage_law.proofs.Orders.{queue_is}
 use Rattle.damage_map.specs.declared.mark.LineMark.{LineMark}
 use Rattle.damage_map.specs.declared.mark.LineMark.TheVariants.{Fresh, Done}
 use Rattle.damage_map.specs.Tracks.{FieldTrack, ends_line, fresh, is_good, mark_on, met, met_mark, opened, opens, through, track_next, turned, with_mark}
+use Rattle.damage_map.proofs.Compiled.{SkipsFew}
 use Rattle.damage_map.proofs.AnswersKept.{Keeps, Place}
 use Rattle.damage_map.proofs.ArrivedTurns.{GoesWell, IsMarked, left_later, marked_good, marked_taken, parts_left, same_body, well_fetched, well_fresh, well_still, well_through}
 use Rattle.damage_map.proofs.Bursts.{Needs}
@@ -58,7 +59,7 @@ Unknown = Settling ⊥ [] (λ address. 0)
 unknown_made : IsMade Unknown
 unknown_made memory stores q made rest split comes = λ known. absurd known
 
-module _ (d : Desc) (right : IsRight d) (skips : d.skip_lines ≤ 255) (m : State) (t : FieldTrack) (opens_since : Parity → Opened) (tolds : Parity → Option (List Bool))
+module _ (d : Desc) (right : IsRight d) (skips : SkipsFew d) (m : State) (t : FieldTrack) (opens_since : Parity → Opened) (tolds : Parity → Option (List Bool))
     (h : Keeps d right skips m t opens_since tolds) (g : GoesWell (compiled d) m t) where
   abbrev Well : State → FieldTrack → Type 0
   Well after next = GoesWell (compiled d) after next

@@ -22,21 +22,23 @@ use Rattle.capture_desc.specs.declared.desc.Desc.{Desc}
 use Rattle.picture_model.specs.declared.PieceKind.{PieceKind}
 use Rattle.picture_model.specs.declared.PieceKind.TheVariants.{Write, WriteLuma, Skip}
 use Rattle.picture_model.specs.declared.Piece.{Piece}
-use Rattle.picture_model.specs.Described.{both, describes, field_height, layout_of, memory_of, picture_row, rows_of}
-use Rattle.picture_model.specs.Plans.{Cut, Follow, Strip, cuts_of, grain_bytes, grains_of, kind_of, piece_of, row_strip, skipped_strip, vbi_strip}
+use Rattle.picture_model.specs.Described.{IsDescription, both, describes, field_height, layout_of, memory_of, picture_row, rows_of, vbi_skip}
+use Rattle.picture_model.specs.Plans.{Cut, Follow, Strip, cuts_of, grain_bytes, grains_of, kind_of, piece_of, row_strip, skipped_strip, skipped_vbi_strip, vbi_strip}
 use Rattle.picture_model.specs.Programs.{body, data_code, instr_by, instr_of, line_instrs, lines_instrs, section_begin, sync, vbi_from, vbi_instrs, vbi_strips}
-use Rattle.picture_model.proofs.Each.{Each, each_map, each_range, each_replicate}
+use Rattle.picture_model.proofs.Each.{Each, each_append, each_map, each_range, each_replicate}
 use Rattle.picture_model.proofs.Grains.{row_grains}
 use Rattle.picture_model.proofs.FaultlessGeometry.{IsRight}
+use Rattle.picture_model.proofs.Limit.{vbi_skip_few}
 use Rattle.picture_model.proofs.Safe.{cuts_follow}
 use Rattle.picture_model.proofs.Sections.{rows_below}
-use Rattle.picture_model.proofs.Strips.{IsStrip, row-IsStrip, skipped-IsStrip, vbi-IsStrip}
+use Rattle.picture_model.proofs.Strips.{IsStrip, row-IsStrip, skipped-IsStrip, skipped_vbi-IsStrip, vbi-IsStrip}
 use Rattle.field_law.specs.Sections.{words_in}
 use Rattle.picture_law.specs.Pictures.{has_plane, plane_of}
 use Rattle.picture_law.proofs.Cuts.{moves, on_queue, track_on}
 use Rattle.picture_law.proofs.BytePlaces.{grain_some, queue_plane, row_track_on}
 use Rattle.damage_law.specs.Marks.{addresses_from, before_rows, lines_from, row_addresses}
 use Rattle.damage_law.proofs.Pieces.{cuts_further, plane_moves}
+use Rattle.damage_map.specs.Before.{lines_before, vbi_count}
 use Rattle.damage_map.specs.Tracks.{max_lines}
 use Rattle.damage_map.proofs.Sections as parts
 use Rattle.damage_map.proofs.Sections.{AreParts, GoesIn, IsCut, LineGoes, Part, Await, instrs_of, is_none, lines_at}
@@ -235,12 +237,29 @@ module _ (d : Desc) (right : IsRight d) where
   vbi_size Two field line does = cc
   vbi_size Three field line does = cc
 
+  skipped_vbi_size : (q : Queue) → moves false q ≡ true → 0 < (track_on q (skipped_vbi_strip d)).size
+  skipped_vbi_size One does = omega arith
+  skipped_vbi_size Two does = cc
+  skipped_vbi_size Three does = cc
+
+  skipped_vbi_laid : 0 < d.vbi_lines → IsLaid (memory_of d) (skipped_vbi_strip d)
+  skipped_vbi_laid lines =
+      let some = (right.vbi_bytes lines).0 in
+      record { fit = skipped_vbi-IsStrip d; some = omega arith; sizes = skipped_vbi_size }
+
   vbi_laid : (field : Parity) (line : ℕ) → describes d.fields field ≡ true → line < d.vbi_lines → IsLaid (memory_of d) (vbi_strip d field line)
   vbi_laid field line described below =
       let some = (right.vbi_bytes (omega arith)).0 in
       record { fit = vbi-IsStrip d field line right described below; some = omega arith; sizes = λ q does. vbi_size q field line does }
 
 -- ---- the parts of a section
+
+-- few lines are skipped
+abbrev pub SkipsFew : Desc → Type 0
+SkipsFew d = (d.skip_lines ≤ 255) × ((field : Parity) → vbi_skip d field ≤ 255)
+
+pub skips_few : (d : Desc) → IsDescription d → SkipsFew d
+skips_few d is = (is.skipped, λ field. vbi_skip_few d field is.formed)
 
 module _ (d : Desc) where
   abbrev pub line_part : Strip → Part
@@ -294,7 +313,7 @@ module _ (d : Desc) where
       ∙ ap (λ (is : List Instr). vbi_instrs d field ++ sync false code ∷ is) (sym (flat_map-append (line_instrs d) skipped rows))
 
   -- their lines
-  words_append : (xs ys : List Instr) → words_in (xs ++ ys) ≡ words_in xs + words_in ys
+  pub words_append : (xs ys : List Instr) → words_in (xs ++ ys) ≡ words_in xs + words_in ys
   words_append [] ys = omega arith
   words_append (i ∷ xs) ys = let rest = words_append xs ys in omega arith
 
@@ -317,11 +336,16 @@ module _ (d : Desc) where
   many_lines [] here = refl
   many_lines (strip ∷ strips) here = let rest = many_lines strips (here + 4 * words_in (line_instrs d strip)) in omega arith
 
-  many_vbi : (field : Parity) (n here : ℕ) → n ≡ d.vbi_lines → length (lines_at here (vbi_parts_from n field)) ≡ n
+  many_vbi : (field : Parity) (n here : ℕ) → n ≡ d.vbi_lines → length (lines_at here (vbi_parts_from n field)) ≡ vbi_count n (vbi_skip d field)
   many_vbi field zero here is = refl
-  many_vbi field (suc more) here is = many_lines (vbi_strips d field) (here + 8) ∙ length-map-range_with_len (vbi_strip d field) 0 d.vbi_lines ∙ sym is
+  many_vbi field (suc more) here is =
+      let skipped = length-replicate (vbi_skip d field) (skipped_vbi_strip d) in
+      let lines = length-map-range_with_len (vbi_strip d field) 0 d.vbi_lines in
+      let both = length-append (replicate (vbi_skip d field) (skipped_vbi_strip d)) (map (vbi_strip d field) (range_with_len 0 d.vbi_lines)) in
+      let all = many_lines (vbi_strips d field) (here + 8) in
+      omega arith
 
-  many_before : (field : Parity) (here : ℕ) → length (lines_at here (parts_before field)) ≡ d.vbi_lines + d.skip_lines
+  many_before : (field : Parity) (here : ℕ) → length (lines_at here (parts_before field)) ≡ lines_before d field
   many_before field here =
       let vbi = vbi_parts_from d.vbi_lines field in
       let skipped = replicate d.skip_lines (skipped_strip d) in
@@ -344,10 +368,10 @@ module _ (d : Desc) where
       ∙ ap (λ (ls : List (List ℕ)). lines_at begin (parts_before field) ++ ls)
       (row_lines (rows_of d field) (begin + 4 * words_in (instrs_of (parts_before field))) ∙ ap (λ (n : ℕ). lines_from n (map (λ row. line_instrs d (row_strip d row)) (rows_of d field))) there)
 
-  pub rows_dropped : (field : Parity) → drop (d.vbi_lines + d.skip_lines) (section_lines field) ≡ row_addresses d field
+  pub rows_dropped : (field : Parity) → drop (lines_before d field) (section_lines field) ≡ row_addresses d field
   rows_dropped field =
       let before = lines_at (section_begin d d.base field + 8) (parts_before field) in
-      ap (drop (d.vbi_lines + d.skip_lines)) (lines_split field)
+      ap (drop (lines_before d field)) (lines_split field)
       ∙ ap (λ (n : ℕ). drop n (before ++ row_addresses d field)) (sym (many_before field (section_begin d d.base field + 8)))
       ∙ drop-append_seam before (row_addresses d field)
 
@@ -360,9 +384,14 @@ module _ (d : Desc) where
   lines_many [] here = refl
   lines_many (row ∷ rows) here = let rest = lines_many rows (here + 4 * words_in (line_instrs d (row_strip d row))) in omega arith
 
-  pub few_lines : (field : Parity) → IsRight d → d.skip_lines ≤ 255 → length (section_lines field) ≤ max_lines
+  vbi_count_few : (n skipped : ℕ) → n ≤ 32 → skipped ≤ 255 → vbi_count n skipped ≤ 287
+  vbi_count_few zero skipped few less = omega arith
+  vbi_count_few (suc more) skipped few less = omega arith
+
+  pub few_lines : (field : Parity) → IsRight d → SkipsFew d → length (section_lines field) ≤ max_lines
   few_lines field right skips =
-      let vbi = right.vbi_lines in
+      let vbi = vbi_count_few d.vbi_lines (vbi_skip d field) right.vbi_lines (skips.1 field) in
+      let skipped = skips.0 in
       let high = right.height.1 in
       let height = height_by (describes d.fields field) (both d) d.height in
       let before = many_before field (section_begin d d.base field + 8) in
@@ -381,17 +410,19 @@ module _ (d : Desc) where
   lines_cut [] each = tt
   lines_cut (strip ∷ strips) each = (laid_cut (memory_of d) strip each.0, lines_cut strips each.1)
 
-  vbi_cut : (field : Parity) → IsRight d → describes d.fields field ≡ true → (n : ℕ) → AreParts (vbi_parts_from n field)
-  vbi_cut field right described zero = tt
-  vbi_cut field right described (suc more) =
+  vbi_cut : (field : Parity) → IsRight d → describes d.fields field ≡ true → (n : ℕ) → n ≡ d.vbi_lines → AreParts (vbi_parts_from n field)
+  vbi_cut field right described zero is = tt
+  vbi_cut field right described (suc more) is =
       lines_cut (vbi_strips d field)
+      (each_append (IsLaid (memory_of d)) (replicate (vbi_skip d field) (skipped_vbi_strip d)) (map (vbi_strip d field) (range_with_len 0 d.vbi_lines))
+      (each_replicate (IsLaid (memory_of d)) (vbi_skip d field) (skipped_vbi_strip d) (skipped_vbi_laid d right (omega arith)))
       (each_map (λ line. line < d.vbi_lines) (IsLaid (memory_of d)) (vbi_strip d field) (range_with_len 0 d.vbi_lines) (λ line below. vbi_laid d right field line described below)
-      (each_range 0 d.vbi_lines d.vbi_lines (omega arith)))
+      (each_range 0 d.vbi_lines d.vbi_lines (omega arith))))
 
   pub parts_cut : (field : Parity) → IsRight d → describes d.fields field ≡ true → AreParts (section_parts field)
   parts_cut field right described =
       parts_append (parts_before field) (row_parts field)
-      (parts_append (vbi_parts_from d.vbi_lines field) (Await (data_code (layout_of d).planar) ∷ line_parts (replicate d.skip_lines (skipped_strip d))) (vbi_cut field right described d.vbi_lines)
+      (parts_append (vbi_parts_from d.vbi_lines field) (Await (data_code (layout_of d).planar) ∷ line_parts (replicate d.skip_lines (skipped_strip d))) (vbi_cut field right described d.vbi_lines refl)
       (lines_cut (replicate d.skip_lines (skipped_strip d)) (each_replicate (IsLaid (memory_of d)) d.skip_lines (skipped_strip d) (skipped_laid d right))))
       (lines_cut (map (row_strip d) (rows_of d field))
       (each_map (λ row. row < d.height) (IsLaid (memory_of d)) (row_strip d) (rows_of d field) (λ row below. row_laid d right row below) (rows_below d field)))

@@ -1,4 +1,3 @@
-mod Turned
 mod Histories
 mod LineTold
 mod Bursts
@@ -8,7 +7,6 @@ mod SectionTurns
 mod SectionSteps
 mod Compiled
 pub mod AnswersKept
-mod StillTurns
 pub mod ArrivedTurns
 pub mod ArrivedSteps
 pub mod ArrivedFields
@@ -17,4 +15,3 @@ pub mod PlacedTurns
 pub mod PlacedSteps
 pub mod PlacedRows
 pub mod StandingRows
-mod TakenEntries

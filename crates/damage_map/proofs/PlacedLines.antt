@@ -2,7 +2,7 @@
 use Rattle.std.proofs.Common.{◌≡◌, ℕ, zero, suc, ◌+◌, ◌*◌, ◌<◌, ◌⊎◌, inl, inr, List, [], ◌∷◌, ◌++◌, append_assoc, length, map, replicate, true, false, Ok, Err, refl, sym, ap, ap₂, ◌∙◌, subst, arith}
 use Rattle.std.specs.List.{flat_map, range_with_len}
 use Rattle.std.proofs.lemmas.Grind.{flat_map-append}
-use Rattle.std.proofs.lemmas.List.{append-nil}
+use Rattle.std.proofs.lemmas.List.{append-nil, map-append}
 use Rattle.std.proofs.lemmas.Simd.{map-map}
 use Rattle.risc_word.specs.declared.Ctl.{Ctl}
 use Rattle.risc_word.specs.declared.Instr.{Instr}
@@ -10,16 +10,16 @@ use Rattle.risc_word.specs.Words.{Reading, encoded}
 use Rattle.pixel_layout.specs.declared.Parity.{Parity}
 use Rattle.machine_model.specs.Paths.{RiscProgram, fetch}
 use Rattle.capture_desc.specs.declared.desc.Desc.{Desc}
-use Rattle.picture_model.specs.Described.{both, describes, field_height, layout_of, memory_of, picture_row, rows_of}
-use Rattle.picture_model.specs.Plans.{Cut, Strip, piece_of, row_strip, skipped_strip, vbi_strip}
+use Rattle.picture_model.specs.Described.{both, describes, field_height, layout_of, memory_of, picture_row, rows_of, vbi_skip}
+use Rattle.picture_model.specs.Plans.{Cut, Strip, piece_of, row_strip, skipped_strip, skipped_vbi_strip, vbi_strip}
 use Rattle.picture_model.specs.Programs.{body, compiled, data_code, instr_of, line_instrs, lines_instrs, section_begin, section_next, signal, sync, vbi_from, vbi_instrs, vbi_strips}
-use Rattle.picture_model.proofs.Each.{Each, each_map, each_range, each_replicate}
+use Rattle.picture_model.proofs.Each.{Each, each_append, each_map, each_range, each_replicate}
 use Rattle.picture_model.proofs.FaultlessGeometry.{IsRight}
 use Rattle.field_law.specs.Sections.{HoldsFrom, words_in}
 use Rattle.picture_law.proofs.Program.{section_holds}
 use Rattle.damage_law.specs.Marks.{addresses_from, before_rows, lines_from, row_addresses}
-use Rattle.damage_law.proofs.Pieces.{IsLineOf, IsPlace, Kind, OfVbi, OfSkipped, OfRow, PieceAt, cuts_on, strip_of}
-use Rattle.damage_map.proofs.Compiled.{line_parts, lines_append, lines_instrs_of, lines_split, parts_before, section_lines, vbi_parts_from}
+use Rattle.damage_law.proofs.Pieces.{IsLineOf, IsPlace, Kind, OfVbi, OfSkippedVbi, OfSkipped, OfRow, PieceAt, cuts_on, strip_of}
+use Rattle.damage_map.proofs.Compiled.{line_parts, lines_append, lines_instrs_of, lines_split, parts_before, section_lines, vbi_parts_from, words_append}
 use Rattle.damage_map.proofs.Sections.{Part, Await, instrs_of, lines_at}
 
 -- ---- lists
@@ -74,8 +74,16 @@ module _ (d : Desc) (right : IsRight d) (field : Parity) (described : describes 
   abbrev pub rows_begin : ℕ
   rows_begin = section_begin d d.base field + 4 * words_in (before_rows d field)
 
+  -- the VBI lines stand behind those that are skipped
+  abbrev pub skipped_vbi_instrs : List Instr
+  skipped_vbi_instrs = lines_instrs d (replicate (vbi_skip d field) (skipped_vbi_strip d))
+
+  abbrev pub vbi_begin : ℕ
+  vbi_begin = section_begin d d.base field + 16 + 4 * words_in skipped_vbi_instrs
+
   abbrev pub begin_of : Kind → ℕ
-  begin_of (OfVbi line) = section_begin d d.base field + 16 + 4 * words_to (λ n. line_of (OfVbi n)) line
+  begin_of (OfVbi line) = vbi_begin + 4 * words_to (λ n. line_of (OfVbi n)) line
+  begin_of OfSkippedVbi = 0
   begin_of OfSkipped = 0
   begin_of (OfRow row) = rows_begin + 4 * words_to (λ n. line_of (OfRow n)) row
 
@@ -86,11 +94,13 @@ module _ (d : Desc) (right : IsRight d) (field : Parity) (described : describes 
   PieceThere a i = PieceAt d right field described begin_of words_before a i
 
   abbrev pub IsBegin : Kind → ℕ → Type 0
+  IsBegin OfSkippedVbi x = Unit {0}
   IsBegin OfSkipped x = Unit {0}
   IsBegin (OfVbi line) x = x ≡ begin_of (OfVbi line)
   IsBegin (OfRow row) x = x ≡ begin_of (OfRow row)
 
   place_by : (kind : Kind) (x here : ℕ) (before : List Cut) → IsBegin kind x → here ≡ x + words_before kind before → IsPlace d right field described begin_of words_before kind here before
+  place_by OfSkippedVbi x here before begins is = tt
   place_by OfSkipped x here before begins is = tt
   place_by (OfVbi line) x here before begins is = is ∙ ap (λ (n : ℕ). n + words_before (OfVbi line) before) begins
   place_by (OfRow row) x here before begins is = is ∙ ap (λ (n : ℕ). n + words_before (OfRow row) before) begins
@@ -153,9 +163,6 @@ module _ (d : Desc) (right : IsRight d) (field : Parity) (described : describes 
       let there : rows_begin + 4 * words_to (λ k. line_of (OfRow k)) (suc n) ≡ rows_begin + 4 * words_to (λ k. line_of (OfRow k)) n + 4 * words_in (line_of (OfRow n)) = omega arith in
       (refl, subst (λ (x : ℕ). BeginAt x (rows_from (n + 1) count)) there (subst (λ (k : ℕ). BeginAt (rows_begin + 4 * words_to (λ k. line_of (OfRow k)) k) (rows_from (n + 1) count)) (sym next) (rows_begin_at (n + 1) count)))
 
-  abbrev vbi_begin : ℕ
-  vbi_begin = section_begin d d.base field + 16
-
   abbrev vbi_from_line : ℕ → ℕ → List Kind
   vbi_from_line n count = map OfVbi (range_with_len n count)
 
@@ -169,6 +176,14 @@ module _ (d : Desc) (right : IsRight d) (field : Parity) (described : describes 
   skipped_begin_at : (x count : ℕ) → BeginAt x (replicate count OfSkipped)
   skipped_begin_at x zero = tt
   skipped_begin_at x (suc count) = (tt, skipped_begin_at (x + 4 * words_in (line_of OfSkipped)) count)
+
+  skipped_vbi_begin_at : (x count : ℕ) (rest : List Kind) → BeginAt (x + 4 * words_in (lines_instrs d (replicate count (skipped_vbi_strip d)))) rest → BeginAt x (replicate count OfSkippedVbi ++ rest)
+  skipped_vbi_begin_at x zero rest begins = let same : x + 4 * 0 ≡ x = omega arith in subst (λ (n : ℕ). BeginAt n rest) same begins
+  skipped_vbi_begin_at x (suc count) rest begins =
+      let more = lines_instrs d (replicate count (skipped_vbi_strip d)) in
+      let words = words_append d (line_of OfSkippedVbi) more in
+      let there : x + 4 * words_in (line_of OfSkippedVbi ++ more) ≡ x + 4 * words_in (line_of OfSkippedVbi) + 4 * words_in more = omega arith in
+      (tt, skipped_vbi_begin_at (x + 4 * words_in (line_of OfSkippedVbi)) count rest (subst (λ (n : ℕ). BeginAt n rest) there begins))
 
 -- ---- lists of lines
 
@@ -192,15 +207,14 @@ parts_lines : (d : Desc) (strips : List Strip) (x : ℕ) → lines_at x (line_pa
 parts_lines d [] x = refl
 parts_lines d (strip ∷ strips) x = ap (λ (ls : List (List ℕ)). addresses_from x (line_instrs d strip) ∷ ls) (parts_lines d strips (x + 4 * words_in (line_instrs d strip)))
 
-map_replicate : (d : Desc) (right : IsRight d) (field : Parity) (described : describes d.fields field ≡ true) (count : ℕ) →
-    map (line_of d right field described) (replicate count OfSkipped) ≡ map (line_instrs d) (replicate count (skipped_strip d))
-map_replicate d right field described zero = refl
-map_replicate d right field described (suc count) = ap (λ (ls : List (List Instr)). line_instrs d (skipped_strip d) ∷ ls) (map_replicate d right field described count)
+module _ (d : Desc) (right : IsRight d) (field : Parity) (described : describes d.fields field ≡ true) (kind : Kind) where
+  map_replicate : (count : ℕ) → map (line_of d right field described) (replicate count kind) ≡ map (line_instrs d) (replicate count (strip_of d right field described kind))
+  map_replicate zero = refl
+  map_replicate (suc count) = ap (λ (ls : List (List Instr)). line_of d right field described kind ∷ ls) (map_replicate count)
 
-flat_replicate : (d : Desc) (right : IsRight d) (field : Parity) (described : describes d.fields field ≡ true) (count : ℕ) →
-    lines_instrs d (replicate count (skipped_strip d)) ≡ lines_of d right field described (replicate count OfSkipped)
-flat_replicate d right field described zero = refl
-flat_replicate d right field described (suc count) = ap (λ (is : List Instr). line_instrs d (skipped_strip d) ++ is) (flat_replicate d right field described count)
+  flat_replicate : (count : ℕ) → lines_instrs d (replicate count (strip_of d right field described kind)) ≡ lines_of d right field described (replicate count kind)
+  flat_replicate zero = refl
+  flat_replicate (suc count) = ap (λ (is : List Instr). line_of d right field described kind ++ is) (flat_replicate count)
 
 -- ---- a field's section
 
@@ -273,17 +287,48 @@ module _ (d : Desc) (right : IsRight d) (field : Parity) (described : describes 
   in_skipped x lines later done more here instr holds is read =
       on_lines d right field described skipped_kinds (x + 8) (lines_instrs d (map (row_strip d) (rows_of d field))) (signal field) to lines later done more here instr
       (each_replicate (IsLineOf d right field described) d.skip_lines OfSkipped tt) (skipped_begin_at d right field described (x + 8) d.skip_lines)
-      (subst (λ (is : List Instr). HoldsFrom (compiled d) (x + 8) (is ++ lines_instrs d (map (row_strip d) (rows_of d field))) (signal field) to) (flat_replicate d right field described d.skip_lines) holds.3)
-      (ap (lines_from (x + 8)) (map_replicate d right field described d.skip_lines) ∙ sym (parts_lines d (replicate d.skip_lines (skipped_strip d)) (x + 8)) ∙ is) read
+      (subst (λ (is : List Instr). HoldsFrom (compiled d) (x + 8) (is ++ lines_instrs d (map (row_strip d) (rows_of d field))) (signal field) to) (flat_replicate d right field described OfSkipped d.skip_lines) holds.3)
+      (ap (lines_from (x + 8)) (map_replicate d right field described OfSkipped d.skip_lines) ∙ sym (parts_lines d (replicate d.skip_lines (skipped_strip d)) (x + 8)) ∙ is) read
+
+  abbrev skipped_vbi_kinds : List Kind
+  skipped_vbi_kinds = replicate (vbi_skip d field) OfSkippedVbi
+
+  abbrev kept_vbi_kinds : List Kind
+  kept_vbi_kinds = vbi_from_line d right field described 0 d.vbi_lines
 
   abbrev vbi_kinds : List Kind
-  vbi_kinds = vbi_from_line d right field described 0 d.vbi_lines
+  vbi_kinds = skipped_vbi_kinds ++ kept_vbi_kinds
+
+  abbrev skipped_vbi_strips : List Strip
+  skipped_vbi_strips = replicate (vbi_skip d field) (skipped_vbi_strip d)
+
+  abbrev kept_vbi_strips : List Strip
+  kept_vbi_strips = map (vbi_strip d field) (range_with_len 0 d.vbi_lines)
 
   vbi_flat : lines_instrs d (vbi_strips d field) ≡ lines_of d right field described vbi_kinds
-  vbi_flat = lines_by (line_instrs d) (vbi_strip d field) (range_with_len 0 d.vbi_lines) ∙ sym (lines_by (line_of d right field described) OfVbi (range_with_len 0 d.vbi_lines))
+  vbi_flat =
+      flat_map-append (line_instrs d) skipped_vbi_strips kept_vbi_strips
+      ∙ ap₂ (λ (xs ys : List Instr). xs ++ ys) (flat_replicate d right field described OfSkippedVbi (vbi_skip d field))
+      (lines_by (line_instrs d) (vbi_strip d field) (range_with_len 0 d.vbi_lines) ∙ sym (lines_by (line_of d right field described) OfVbi (range_with_len 0 d.vbi_lines)))
+      ∙ sym (flat_map-append (line_of d right field described) skipped_vbi_kinds kept_vbi_kinds)
 
   vbi_map : map (line_instrs d) (vbi_strips d field) ≡ map (line_of d right field described) vbi_kinds
-  vbi_map = map-map (line_instrs d) (vbi_strip d field) (range_with_len 0 d.vbi_lines) ∙ sym (map-map (line_of d right field described) OfVbi (range_with_len 0 d.vbi_lines))
+  vbi_map =
+      map-append (line_instrs d) skipped_vbi_strips kept_vbi_strips
+      ∙ ap₂ (λ (xs ys : List (List Instr)). xs ++ ys) (sym (map_replicate d right field described OfSkippedVbi (vbi_skip d field)))
+      (map-map (line_instrs d) (vbi_strip d field) (range_with_len 0 d.vbi_lines) ∙ sym (map-map (line_of d right field described) OfVbi (range_with_len 0 d.vbi_lines)))
+      ∙ sym (map-append (line_of d right field described) skipped_vbi_kinds kept_vbi_kinds)
+
+  vbi_are_lines : Each (IsLineOf d right field described) vbi_kinds
+  vbi_are_lines =
+      each_append (IsLineOf d right field described) skipped_vbi_kinds kept_vbi_kinds (each_replicate (IsLineOf d right field described) (vbi_skip d field) OfSkippedVbi tt)
+      (each_map (λ k. k < d.vbi_lines) (IsLineOf d right field described) OfVbi (range_with_len 0 d.vbi_lines) (λ k less. less) (each_range 0 d.vbi_lines d.vbi_lines (omega arith)))
+
+  vbi_begin_there : BeginAt d right field described (begin + 16) vbi_kinds
+  vbi_begin_there =
+      let start : vbi_begin d right field described + 4 * 0 ≡ begin + 16 + 4 * words_in (skipped_vbi_instrs d right field described) = omega arith in
+      skipped_vbi_begin_at d right field described (begin + 16) (vbi_skip d field) kept_vbi_kinds
+      (subst (λ (at : ℕ). BeginAt d right field described at kept_vbi_kinds) start (vbi_begin_at d right field described 0 d.vbi_lines))
 
   in_before : (n : ℕ) (lines later : List (List ℕ)) (done more : List ℕ) (here : ℕ) (instr : Instr) → HoldsFrom (compiled d) (begin + 8) (vbi_from n d field ++ behind_vbi) (signal field) to →
       lines_at (begin + 8) (vbi_parts_from d n field ++ Await (data_code (layout_of d).planar) ∷ skipped_parts) ≡ lines ++ (done ++ here ∷ more) ∷ later → fetch (compiled d) here ≡ Ok (instr, length (encoded instr)) →
@@ -300,8 +345,7 @@ module _ (d : Desc) (right : IsRight d) (field : Parity) (described : describes 
       sym (lines_append d first (code ∷ skipped_parts) x) ∙ ap (λ (at : ℕ). lines_at at (first ++ code ∷ skipped_parts)) (sym there) ∙ is in
       elim (append_member (lines_at x first) (lines_at (x + 4 * words_in (instrs_of first)) (code ∷ skipped_parts)) lines (done ++ here ∷ more) later both) [
         | inl found ↦ on_lines d right field described vbi_kinds x behind_vbi (signal field) to lines found.0 done more here instr
-            (each_map (λ k. k < d.vbi_lines) (IsLineOf d right field described) OfVbi (range_with_len 0 d.vbi_lines) (λ k less. less) (each_range 0 d.vbi_lines d.vbi_lines (omega arith)))
-            (let start : x + 4 * 0 ≡ x = omega arith in subst (λ (at : ℕ). BeginAt d right field described at vbi_kinds) start (vbi_begin_at d right field described 0 d.vbi_lines))
+            vbi_are_lines vbi_begin_there
             (subst (λ (is : List Instr). HoldsFrom (compiled d) x (is ++ behind_vbi) (signal field) to) vbi_flat behind)
             (ap (lines_from x) (sym vbi_map) ∙ sym (parts_lines d (vbi_strips d field) x) ∙ found.1) read
         | inr found ↦ in_skipped (x + 4 * words_in (instrs_of first)) found.0 later done more here instr

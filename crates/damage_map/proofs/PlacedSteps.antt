@@ -165,7 +165,7 @@ module _ (d : Desc) (right : IsRight d) (field : Parity) (described : describes 
         quiet_bytes (turn m) (λ q. step_takings q (gone q) m Turn) (step_retires m Turn) (memory_is on (Waiting ctl resync code) j)
         (subst Has (sym (turn_is on (Waiting ctl resync code) j)) (waits_has (lowest_stray m.queues) ctl resync code (counted m) (waiting_has ctl resync code j) k.job))
         (λ q. takes_is on (Waiting ctl resync code) j q (gone q))
-        (retires_is on (Waiting ctl resync code) j ∙ (waited-quiet (lowest_stray m.queues) (common_code m.queues) code m.program (seen_in (Waiting ctl resync code) m) untold at).1)
+        (retires_is on (Waiting ctl resync code) j ∙ (waited-quiet (lowest_stray m.queues) (common_code m.queues) code m.program (seen_in (Waiting ctl resync code) m) (untold d) at).1)
 
     idle_bytes : (i : Instr) → m.risc_on ≡ true → m.job ≡ Idle → fetch m.program m.pc ≡ Ok (i, length (encoded i)) → IsPlain i → TurnBytes
     idle_bytes i on j read plain =

@@ -1,5 +1,5 @@
 -- The bytes of whole rows stand in memory right after a signal of their field.
-use Rattle.std.proofs.Common.{◌≡◌, ℕ, zero, suc, ◌+◌, ◌-◌, ◌*◌, ◌<◌, ◌≤◌, inl, inr, Bool, true, false, ◌&&◌, if◌then◌else◌, nat_le, All, List, [], ◌∷◌, ◌++◌, append_assoc, drop, length, length-take}
+use Rattle.std.proofs.Common.{◌≡◌, ℕ, zero, suc, ◌+◌, ◌-◌, ◌*◌, ◌<◌, inl, inr, Bool, true, false, ◌&&◌, if◌then◌else◌, nat_le, All, List, [], ◌∷◌, ◌++◌, append_assoc, drop, length, length-take}
 use Rattle.std.proofs.Common.{map, take, take-take, Option, Some, None, Ok, option_map, refl, sym, ap, ap₂, ◌∙◌, subst, arith, slice_index_or}
 use Rattle.std.specs.Prelude.{slice_index}
 use Rattle.std.specs.List.{list_all, range_with_len}
@@ -53,7 +53,7 @@ use Rattle.damage_law.proofs.Pieces.{Kind, OfSkipped, OfRow, cuts_on, strip_of}
 use Rattle.damage_law.proofs.StoredTakes.{taken_bytes}
 use Rattle.damage_map.specs.Tracks.{FieldTrack, track_next, tracked, untold}
 use Rattle.damage_map.proofs.AnswersKept.{Inside, Keeps, Place, after_step, at_first, closes_there, end_of, few, gone_of, next_of, opens_there, past_of, pc_at, plain_jump, signals_apart}
-use Rattle.damage_map.proofs.Compiled.{section_lines}
+use Rattle.damage_map.proofs.Compiled.{SkipsFew, skips_few, section_lines}
 use Rattle.damage_map.proofs.Histories.{Opened, next_opened, opened_if}
 use Rattle.damage_map.proofs.PlacedLines.{BeginAt, IsBegin, IsOne, holds_behind, instr_of_read, line_of, lines_of, row_kinds, rows_begin, rows_begin_at, rows_hold, rows_map, to}
 use Rattle.damage_map.proofs.PlacedRows.{all_in, cuts_stand}
@@ -108,7 +108,7 @@ module _ (d : Desc) (field : Parity) where
   opened_last [] m o = opened_none o
   opened_last (s ∷ steps) m o = opened_last steps (step s m) (next_opened d field m s o) ∙ opened_behind (last_step (is_opening d field) (step s m) steps) (is_opening d field m s) m s steps o
 
-keeps_opened : (d : Desc) (right : IsRight d) (skips : d.skip_lines ≤ 255) (steps : List Step) (m : State) (t : FieldTrack) (opens_since : Parity → Opened) (tolds : Parity → Option (List Bool)) → All IsStep steps →
+keeps_opened : (d : Desc) (right : IsRight d) (skips : SkipsFew d) (steps : List Step) (m : State) (t : FieldTrack) (opens_since : Parity → Opened) (tolds : Parity → Option (List Bool)) → All IsStep steps →
     Keeps d right skips m t opens_since tolds → (tolds_then : Parity → Option (List Bool)) × Keeps d right skips (run m steps) (tracked m steps t) (λ g. opened_after d g (opens_since g) m steps) tolds_then
 keeps_opened d right skips [] m t opens_since tolds made h = (tolds, h)
 keeps_opened d right skips (s ∷ steps) m t opens_since tolds made h =
@@ -236,7 +236,7 @@ module _ (d : Desc) (right : IsRight d) (field : Parity) (described : describes 
 
 -- ---- right before the signal
 
-module _ (d : Desc) (right : IsRight d) (skips : d.skip_lines ≤ 255) (field : Parity) (described : describes d.fields field ≡ true) (m : State) (t : FieldTrack) (opens_since : Parity → Opened) (tolds : Parity → Option (List Bool))
+module _ (d : Desc) (right : IsRight d) (skips : SkipsFew d) (field : Parity) (described : describes d.fields field ≡ true) (m : State) (t : FieldTrack) (opens_since : Parity → Opened) (tolds : Parity → Option (List Bool))
     (h : Keeps d right skips m t opens_since tolds) (signals : is_signal (section_of d field) m Turn ≡ true) where
   at_closing : (m.risc_on ≡ true) × (m.job ≡ Idle) × (m.pc ≡ closing_at (section_of d field))
   at_closing = pc_at m.risc_on m.job m.pc (closing_at (section_of d field)) signals
@@ -289,8 +289,8 @@ module _ (d : Desc) (field : Parity) (fill : ℕ) (steps : List Step) (j k : ℕ
   made_to : All IsStep (take k steps)
   made_to = All-take IsStep k steps is.made
 
-  kept_there : (tolds_then : Parity → Option (List Bool)) × Keeps d right_there is.description.skipped before (tracked start (take k steps) untold) (λ g. opened_after d g None start (take k steps)) tolds_then
-  kept_there = keeps_opened d right_there is.description.skipped (take k steps) start untold (λ g. None) (λ g. None) made_to (at_first d right_there is.description.skipped fill)
+  kept_there : (tolds_then : Parity → Option (List Bool)) × Keeps d right_there (skips_few d is.description) before (tracked start (take k steps) (untold d)) (λ g. opened_after d g None start (take k steps)) tolds_then
+  kept_there = keeps_opened d right_there (skips_few d is.description) (take k steps) start (untold d) (λ g. None) (λ g. None) made_to (at_first d right_there (skips_few d is.description) fill)
 
   last_turn : step_at steps k ≡ Turn
   last_turn = signal_turn (section_of d field) before (step_at steps k) is.signal
@@ -298,9 +298,9 @@ module _ (d : Desc) (field : Parity) (fill : ℕ) (steps : List Step) (j k : ℕ
   signals_there : is_signal (section_of d field) before Turn ≡ true
   signals_there = ap (is_signal (section_of d field) before) (sym last_turn) ∙ is.signal
 
-  there : (first : State) × (since : List Step) × Found d right_there is.description.skipped field is.described before (tracked start (take k steps) untold)
+  there : (first : State) × (since : List Step) × Found d right_there (skips_few d is.description) field is.described before (tracked start (take k steps) (untold d))
       (λ g. opened_after d g None start (take k steps)) kept_there.0 kept_there.1 signals_there field first since
-  there = found d right_there is.description.skipped field is.described before (tracked start (take k steps) untold) (λ g. opened_after d g None start (take k steps)) kept_there.0 kept_there.1 signals_there kept_there.1.place
+  there = found d right_there (skips_few d is.description) field is.described before (tracked start (take k steps) (untold d)) (λ g. opened_after d g None start (take k steps)) kept_there.0 kept_there.1 signals_there kept_there.1.place
 
   earlier : j < k
   earlier = let below = last_below (is_opening d field) start (take k steps) j is.opened in omega (arith, length-take k steps)
@@ -334,7 +334,7 @@ module _ (d : Desc) (field : Parity) (fill : ℕ) (steps : List Step) (j k : ℕ
       (All-take IsStep (k - j) (drop j steps) (All-drop IsStep j steps is.made)) bytes_there q number x address kept whole in
       let after : state_of d fill steps (k + 1) ≡ turn before = state_next start steps k is.there ∙ ap (λ (s : Step). step s before) last_turn in
       let memory = ap (λ (m : State). m.memory) after
-      ∙ memory_stays d right_there is.description.skipped field is.described before (tracked start (take k steps) untold) (λ g. opened_after d g None start (take k steps)) kept_there.0 kept_there.1 signals_there in
+      ∙ memory_stays d right_there (skips_few d is.description) field is.described before (tracked start (take k steps) (untold d)) (λ g. opened_after d g None start (take k steps)) kept_there.0 kept_there.1 signals_there in
       record { line = stands.line; inside = stands.inside; byte = ap (λ blocks. byte_at blocks address) memory ∙ stands.byte }
 
 pub whole_rows_stand : WholeRowsStand

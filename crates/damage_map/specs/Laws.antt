@@ -1,9 +1,9 @@
 -- What is kept of a run from the first state of a description's program.
-use Rattle.std.specs.Prelude.{◌≡◌, ◌↔◌, ℕ, ◌+◌, true, All, List, None}
+use Rattle.std.specs.Prelude.{◌≡◌, ◌↔◌, ℕ, true, All, List, None}
 use Rattle.pixel_layout.specs.declared.Parity.{Parity}
 use Rattle.machine_model.specs.Safety.{IsStep}
 use Rattle.machine_model.specs.States.{first_state}
-use Rattle.machine_model.specs.Steps.{Step, run}
+use Rattle.machine_model.specs.Steps.{Step}
 use Rattle.capture_desc.specs.declared.desc.Desc.{Desc}
 use Rattle.picture_model.specs.Described.{IsDescription, describes}
 use Rattle.picture_model.specs.Geometry.{IsValid}
@@ -11,16 +11,12 @@ use Rattle.picture_model.specs.Programs.{compiled}
 use Rattle.field_law.specs.Arrivals.{is_signal}
 use Rattle.picture_law.specs.Sections.{section_of}
 use Rattle.damage_law.specs.Marks.{answer, last_step}
+use Rattle.machine_watch.specs.Watches.{watched, watching}
 use Rattle.damage_map.specs.Maps.{Map, rows_of}
-use Rattle.damage_map.specs.Tracks.{tracked, untold}
+use Rattle.damage_map.specs.Tracks.{track_notes, untold}
 
 abbrev pub map_after : Desc → ℕ → List Step → Map
-map_after d fill steps =
-    record {
-      machine = run (first_state (compiled d) fill) steps;
-      track = tracked (first_state (compiled d) fill) steps untold;
-      lines_before = d.vbi_lines + d.skip_lines;
-    }
+map_after d fill steps = watched track_notes steps (watching (first_state (compiled d) fill) (untold d))
 
 -- it tells of the rows of a field what the definition says at the field's last signal
 abbrev pub KeepsAnswers : Type 0

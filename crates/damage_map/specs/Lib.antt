@@ -1,4 +1,5 @@
+pub mod Before
 pub mod Tracks
 pub mod Maps
-pub mod Worked
 pub mod Laws
+pub mod Worked

@@ -1,34 +1,36 @@
 -- What is kept of a field under way, and how each step changes it.
-use Rattle.std.specs.Prelude.{ℕ, Bool, true, false, not, ◌&&◌, ◌==◌, List, [], ◌∷◌, ◌++◌, length, Option, Some, None, Ok, Err, if◌then◌else◌, nat_lt}
+use Rattle.std.specs.Prelude.{◌≡◌, ℕ, Bool, true, false, not, ◌&&◌, ◌==◌, List, [], ◌∷◌, ◌++◌, drop, length, Option, Some, None, option_map, Ok, Err, if◌then◌else◌, nat_lt}
+use Rattle.std.proofs.Common.{ap}
 use Rattle.risc_word.specs.declared.Instr.TheVariants.{Jump, Sync}
 use Rattle.risc_word.specs.Words.{Reading}
 use Rattle.fifo_model.specs.declared.Queue.{Queue}
 use Rattle.fifo_model.specs.declared.Queue.TheVariants.{One, Two, Three}
-use Rattle.irq_status.specs.declared.HostWrite.{HostWrite}
-use Rattle.irq_status.specs.declared.HostWrite.TheVariants.{Enable}
 use Rattle.pixel_layout.specs.declared.Parity.{Parity}
 use Rattle.pixel_layout.specs.declared.Parity.TheVariants.{Top, Bottom}
 use Rattle.machine_model.specs.declared.Did.{Did}
-use Rattle.machine_model.specs.declared.Did.TheVariants.{Synced, Jumped, Passed, Retired, Moved, GivenUp}
+use Rattle.machine_model.specs.declared.Did.TheVariants.{Still, Synced, Jumped, Passed, Retired, Moved, GivenUp}
 use Rattle.machine_model.specs.declared.Seen.{Seen}
 use Rattle.machine_model.specs.Paths.{RiscProgram, fetch}
 use Rattle.risc_word.specs.Parts.{instr_ends}
-use Rattle.machine_model.specs.Seen.{seen}
 use Rattle.machine_model.specs.States.{State}
-use Rattle.machine_model.specs.Steps.{Step, Turn, Host, step}
-use Rattle.dma_machine.specs.Looks.{holds}
+use Rattle.machine_model.specs.Steps.{Step}
+use Rattle.machine_watch.specs.Watches.{Notes, kept_after, next}
+use Rattle.capture_desc.specs.declared.desc.Desc.{Desc}
+use Rattle.damage_map.specs.Before.{before_of, before_rows}
+use Rattle.damage_map.specs.declared.before.LinesBefore.{LinesBefore}
 use Rattle.damage_map.specs.declared.mark.LineMark.{LineMark}
 use Rattle.damage_map.specs.declared.mark.LineMark.TheVariants.{Fresh, Within, Done, Spoilt}
 use Rattle.damage_map.specs.declared.mark.LineMarks.{LineMarks}
 
 -- the line under way on each queue, whether an instruction of it was passed over or given up, the lines of the field
--- before it, each whole or not, and the lines of each field at its last signal
+-- before it, each whole or not, the lines of each field at its last signal, and how many of them stand before the rows
 pub record FieldTrack : Type 0 where
   pub marks : LineMarks
   pub lost : Bool
   pub lines : List Bool
   pub top : Option (List Bool)
   pub bottom : Option (List Bool)
+  pub before : LinesBefore
 
 -- the lines of a field at its last signal, if it had one
 abbrev pub told : Bool → List Bool → Option (List Bool)
@@ -38,9 +40,9 @@ told false lines = None
 abbrev pub fresh : LineMarks
 fresh = record { one = Fresh; two = Fresh; three = Fresh }
 
--- as a machine is made
-abbrev pub untold : FieldTrack
-untold = record { marks = fresh; lost = false; lines = []; top = None; bottom = None }
+-- as a machine of a description is made
+abbrev pub untold : Desc → FieldTrack
+untold d = record { marks = fresh; lost = false; lines = []; top = None; bottom = None; before = before_rows d }
 
 -- a queue's mark, where bytes are taken: up to the last byte of a line, or not
 abbrev pub taken_mark : Bool → LineMark → LineMark
@@ -85,9 +87,9 @@ is_good Spoilt = false
 abbrev pub is_whole : FieldTrack → Bool
 is_whole t = not t.lost && is_good t.marks.one && is_good t.marks.two && is_good t.marks.three
 
--- how many lines are kept: a field has at most 32 VBI lines, 255 skipped lines and 1,024 rows
+-- how many lines are kept: a field has at most 32 VBI lines and 1,024 rows, and 255 lines that are skipped before each
 abbrev pub max_lines : ℕ
-max_lines = 1311
+max_lines = 1566
 
 abbrev pub noted : Bool → List Bool → List Bool
 noted whole lines = if nat_lt (length lines) max_lines then lines ++ whole ∷ [] else lines
@@ -137,7 +139,7 @@ turned program (Moved q) s t = met q s t
 turned program (GivenUp q) s t = through (ends_line (fetch program s.at)) (with_loss (met q s t))
 turned program _ s t = t
 
--- a host write that disables the FIFO empties the queues
+-- where the queues are emptied
 abbrev pub emptied_mark : Bool → LineMark → LineMark
 emptied_mark true mark = left_mark mark
 emptied_mark false mark = mark
@@ -150,20 +152,29 @@ emptied_marks one two three marks =
       three = emptied_mark three marks.three;
     }
 
-abbrev pub written : HostWrite → State → FieldTrack → FieldTrack
-written (Enable false risc) m t = record t { marks = emptied_marks (holds One m) (holds Two m) (holds Three m) t.marks }
-written write m t = t
+-- what is made of what is kept
+abbrev pub track_notes : Notes FieldTrack
+track_notes =
+    record {
+      saw = λ program seen t. turned program seen.did seen t;
+      emptied = λ one two three t. record t { marks = emptied_marks one two three t.marks };
+    }
+
+-- of a turn that does nothing there is nothing to note
+pub still_tells_nothing : (program : RiscProgram) (s : Seen) (t : FieldTrack) → s.did ≡ Still → track_notes.saw program s t ≡ t
+still_tells_nothing program s t still = ap (λ (did : Did). turned program did s t) still
 
 -- what each step makes of it, from the state that the step meets
 abbrev pub track_next : State → Step → FieldTrack → FieldTrack
-track_next m Turn t = turned m.program (seen m).did (seen m) t
-track_next m (Host write) t = written write m t
-track_next m push t = t
+track_next m s t = next track_notes m s t
 
 abbrev pub tracked : State → List Step → FieldTrack → FieldTrack
-tracked m [] t = t
-tracked m (s ∷ steps) t = tracked (step s m) steps (track_next m s t)
+tracked m steps t = kept_after track_notes m steps t
 
 abbrev pub lines_at_signal : Parity → FieldTrack → Option (List Bool)
 lines_at_signal Top t = t.top
 lines_at_signal Bottom t = t.bottom
+
+-- which rows of a field are whole at its last signal, if it had one
+abbrev pub rows_kept : Parity → FieldTrack → Option (List Bool)
+rows_kept field t = option_map (drop (before_of field t.before)) (lines_at_signal field t)

@@ -1,6 +1,7 @@
 //! Damage maps: which rows of a captured field are whole lines (this project's own rules).
 #![tactic(auto)]
 
+mod before;
 pub mod laws;
 mod lines;
 mod mapped;
@@ -8,6 +9,7 @@ mod mark;
 mod reading;
 mod track;
 
+pub use before::LinesBefore;
 pub use mapped::Mapped;
 pub use mark::{LineMark, LineMarks};
 pub use track::Track;

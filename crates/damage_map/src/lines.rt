@@ -6,8 +6,8 @@ use std::alloc::{AllocError, Global};
 use std::marker::Model;
 use std::mem::swap;
 
-/// A field has at most 32 VBI lines, 255 skipped lines and 1,024 rows.
-const MAX_LINES: usize = 1311;
+/// A field has at most 32 VBI lines and 1,024 rows, and 255 lines that are skipped before each.
+const MAX_LINES: usize = 1566;
 
 /// For each line whether it is whole. All memory is taken at once.
 #[derive(Drop)]

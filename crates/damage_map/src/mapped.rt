@@ -1,18 +1,19 @@
 //! A machine that tells which rows of its fields are whole lines.
-ghost use Rattle.std.specs.Prelude.{◌≡◌, ◌+◌, false, true, IfOk, option_map};
+
+ghost use Rattle.std.specs.Prelude.{◌≡◌, ◌∷◌, [], IfOk, false, option_map, replicate};
+ghost use Rattle.damage_map.specs.Maps.{rows_of};
+ghost use Rattle.damage_map.specs.Tracks.{track_notes, untold};
 ghost use Rattle.dma_machine.specs.Facts.{report_of};
-ghost use Rattle.dma_machine.specs.FallThrough.{falls_through};
 ghost use Rattle.irq_status.specs.Writes.{IsWrite};
-ghost use Rattle.machine_model.specs.Steps.{Control, Host, Push, Turn, control_pushed_as, host, push, push_control, pushed_as};
-ghost use Rattle.machine_model.specs.Turns.{turn};
+ghost use Rattle.machine_model.specs.Steps.{Control, Host, Push, Turn, control_pushed_as, pushed_as};
+ghost use Rattle.machine_watch.specs.Watches.{watched, watching};
 ghost use Rattle.sync_status.specs.Statuses.{is_control, kind_of};
-ghost use Rattle.damage_map.specs.Maps.{mapped, rows_of, turns};
-ghost use Rattle.damage_map.specs.Tracks.{track_next, untold};
 
 use crate::track::Track;
 use dma_machine::{Machine, Report};
 use fifo_model::{Entry, Pushed, Queue};
 use irq_status::HostWrite;
+use machine_watch::Watched;
 use page_ram::Ram;
 use pixel_layout::Parity;
 use program_build::Checked;
@@ -20,13 +21,11 @@ use risc_word::Code;
 use std::alloc::{AllocError, Global};
 use std::marker::Model;
 
-/// A machine that runs the program of a description, and what is kept of its fields. Contracts see the machine's state,
-/// the record of a `Track`, and how many lines stand before the rows of a field.
+/// A machine that runs the program of a description, watched by a `Track` of its fields. Contracts see both. It has the
+/// calls of a machine and its rows; what plays whole streams takes a `Watched` with the `Track` itself.
 #[derive(Drop)]
 pub struct Mapped<R: Ram> {
-    machine: Machine<R>,
-    track: Track,
-    lines_before: usize,
+    watched: Watched<R, Track>,
 }
 
 impl<R: Ram> Model for Mapped<R> {
@@ -34,7 +33,7 @@ impl<R: Ram> Model for Mapped<R> {
 
     ghost Value = { Map };
 
-    ghost view = { λ m. record { machine = m.machine; track = m.track; lines_before = m.lines_before } };
+    ghost view = { λ m. m.watched };
 }
 
 impl<R: Ram> Mapped<R> {
@@ -46,103 +45,71 @@ impl<R: Ram> Mapped<R> {
     ) -> Result<Mapped<R>, AllocError>
     where
         R: Drop,
-        ensures { IfOk result (λ mapped. mapped ≡ record { machine = machine; track = untold; lines_before = checked.now.vbi_lines + checked.now.skip_lines }) }
+        ensures { IfOk result (λ mapped. mapped ≡ watching machine (untold checked.now)) }
     {
-        let desc = checked.frame().desc();
         Ok(Mapped {
-            machine,
-            track: Track::new(alloc)?,
-            lines_before: desc.vbi_lines as usize + usize::from(desc.skip_lines),
+            watched: Watched::new(machine, Track::new(alloc, checked)?),
         })
     }
 
     /// A push of a data entry, as `Machine::push`.
-    pub fn push(&mut self, q: Queue, e: Entry) -> Pushed
-        requires { is_control (kind_of e.status) ≡ false }
-        ensures state { self.new ≡ record self.old { machine = push q e self.old.machine } }
-        ensures answer { result ≡ pushed_as q self.old.machine }
+    pub fn push(&mut self, queue: Queue, entry: Entry) -> Pushed
+        requires { is_control (kind_of entry.status) ≡ false }
+        ensures state { self.new ≡ watched track_notes (Push queue entry ∷ []) self.old }
+        ensures answer { result ≡ pushed_as queue self.old.machine }
     {
-        self.machine.push(q, e)
-    }
-
-    /// A push of a data entry, and the turn behind it where this turn takes the entry whole; whether it was taken.
-    #[inline(always)]
-    pub fn push_and_take(&mut self, q: Queue, e: Entry) -> bool
-        requires { is_control (kind_of e.status) ≡ false }
-        ensures falls { result ≡ falls_through q e.status self.old.machine }
-        ensures pushed { result ≡ false → self.new ≡ record self.old { machine = push q e self.old.machine } }
-        ensures taken { result ≡ true → self.new ≡ mapped (turns 1) (record self.old { machine = push q e self.old.machine }) }
-    {
-        let taken = self.machine.push_and_take(q, e);
-        if taken {
-            self.track.take_whole(q);
-        }
-        taken
+        self.watched.push(queue, entry)
     }
 
     /// A push of a control code, as `Machine::push_control`.
-    pub fn push_control(&mut self, c: Code) -> Pushed
-        ensures state { self.new ≡ record self.old { machine = push_control c self.old.machine } }
+    pub fn push_control(&mut self, code: Code) -> Pushed
+        ensures state { self.new ≡ watched track_notes (Control code ∷ []) self.old }
         ensures answer { result ≡ control_pushed_as self.old.machine }
     {
-        self.machine.push_control(c)
+        self.watched.push_control(code)
     }
 
     /// One turn, as `Machine::turn`.
     pub fn turn(&mut self)
-        ensures { self.new ≡ record self.old { machine = turn self.old.machine; track = track_next self.old.machine Turn self.old.track } }
+        ensures { self.new ≡ watched track_notes (Turn ∷ []) self.old }
     {
-        let seen = self.machine.turn_seen();
-        self.track.turn(self.machine.program(), &seen);
+        self.watched.turn();
     }
 
-    /// So many turns, as `Machine::turns`. Where the machine stands still the others only count, and nothing is to be noted
-    /// of them.
+    /// So many turns, one after the other.
     pub fn turns(&mut self, count: u32)
-        ensures { self.new ≡ mapped (turns count) self.old }
+        ensures { self.new ≡ watched track_notes (replicate count Turn) self.old }
     {
-        for turn in 0..count {
-            if self.machine.stands_still() {
-                self.machine.stand(count - turn);
-                return;
-            }
-            self.turn();
-        }
+        self.watched.turns(count);
     }
 
     /// A register write of the host, as `Machine::host`.
-    pub fn host(&mut self, w: HostWrite)
-        requires { IsWrite w }
-        ensures { self.new ≡ record self.old { machine = host w self.old.machine; track = track_next self.old.machine (Host w) self.old.track } }
+    pub fn host(&mut self, write: HostWrite)
+        requires { IsWrite write }
+        ensures { self.new ≡ watched track_notes (Host write ∷ []) self.old }
     {
-        if let HostWrite::Enable { fifo: false, .. } = w {
-            let one = self.machine.holds(Queue::One);
-            let two = self.machine.holds(Queue::Two);
-            let three = self.machine.holds(Queue::Three);
-            self.track.empty(one, two, three);
-        }
-        self.machine.host(w);
+        self.watched.host(write);
     }
 
     /// The counts and INT_STAT of the machine.
     pub fn report(&self) -> Report
         ensures { result ≡ report_of self.now.machine }
     {
-        self.machine.report()
+        self.watched.report()
     }
 
     /// The memory of the machine.
     pub fn ram(&self) -> &R
         ensures { R.memory result.now ≡ self.now.machine.memory }
     {
-        self.machine.ram()
+        self.watched.ram()
     }
 
     /// For each row of a described field whether it is a whole line, at the field's last signal. None exactly where it
     /// had no signal so far.
-    pub fn rows(&self, p: Parity) -> Option<&[bool]>
-        ensures { option_map (λ rows. rows.now) result ≡ rows_of p self.now }
+    pub fn rows(&self, field: Parity) -> Option<&[bool]>
+        ensures { option_map (λ rows. rows.now) result ≡ rows_of field self.now }
     {
-        self.track.lines(p, self.lines_before)
+        self.watched.watch().rows(field)
     }
 }

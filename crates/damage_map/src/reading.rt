@@ -1,5 +1,5 @@
 //! What the instruction at an address tells.
-ghost use Rattle.std.specs.Prelude.{◌≡◌};
+ghost use Rattle.std.specs.Prelude.{◌≡◌, ℕ, Ok};
 ghost use Rattle.machine_model.specs.Paths.{fetch};
 ghost use Rattle.damage_map.specs.Tracks.{ends_line, field_of, opens, signals};
 
@@ -7,13 +7,23 @@ use pixel_layout::Parity;
 use risc_verify::Program;
 use risc_word::Instr;
 
+// Whether an instruction is a SYNC with RESYNC.
+fn resyncs(instr: &Instr) -> bool
+    ensures { (count : ℕ) → result ≡ opens (Ok (instr.now, count)) }
+{
+    match instr {
+        Instr::Sync { resync, .. } => *resync,
+        _ => false,
+    }
+}
+
 /// Whether a SYNC with RESYNC stands there, which opens a field.
 pub(crate) fn opens(program: &Program, at: u32) -> bool
     ensures { result ≡ opens (fetch program.now at) }
 {
     match program.instr_at(u64::from(at)) {
-        Ok((Instr::Sync { resync, .. }, _)) => resync,
-        _ => false,
+        Ok((instr, _)) => resyncs(&instr),
+        Err(_) => false,
     }
 }
 

@@ -1,13 +1,16 @@
 //! What is kept of a field under way.
-ghost use Rattle.std.specs.Prelude.{◌≡◌, ◌∷◌, ℕ, Bool, List, Option, drop, false, option_map, IfOk};
-ghost use Rattle.damage_map.specs.Tracks.{emptied_marks, fresh, is_good, is_whole, left_mark, lines_at_signal, mark_on, met, met_mark, opened, signalled, taken_mark, through, turned, untold, with_loss, with_mark};
+ghost use Rattle.std.specs.Prelude.{◌≡◌, ◌∷◌, ℕ, Bool, List, Option, false, true, option_map, IfOk};
+ghost use Rattle.damage_map.specs.Tracks.{fresh, is_good, is_whole, left_mark, mark_on, met, met_mark, opened, rows_kept, signalled, still_tells_nothing, taken_mark, through, track_notes, untold, with_mark};
 
+use crate::before::{LinesBefore, before_rows};
 use crate::lines::{Lines, Told};
 use crate::mark::{LineMark, LineMarks};
 use crate::reading::{ends_line, opens, signals};
 use dma_machine::{Did, Seen};
 use fifo_model::Queue;
+use machine_watch::Watch;
 use pixel_layout::Parity;
+use program_build::Checked;
 use risc_verify::Program;
 use std::alloc::{AllocError, Global};
 use std::marker::Model;
@@ -85,7 +88,7 @@ impl LineMarks {
 
 /// What is kept of a field under way, and of both fields at their last signals (this project's own rules). Contracts see
 /// a record of the line under way on each queue, whether an instruction of that line was lost, which lines of the field
-/// before it are whole, and which lines of each field were so at its last signal.
+/// before it are whole, which lines of each field were so at its last signal, and how many of them stand before the rows.
 #[derive(Drop)]
 pub struct Track {
     marks: LineMarks,
@@ -93,6 +96,7 @@ pub struct Track {
     lines: Lines,
     top: Told,
     bottom: Told,
+    before: LinesBefore,
 }
 
 impl Model for Track {
@@ -100,13 +104,13 @@ impl Model for Track {
 
     ghost Value = { FieldTrack };
 
-    ghost view = { λ t. record { marks = t.marks; lost = t.lost; lines = t.lines; top = t.top; bottom = t.bottom } };
+    ghost view = { λ t. record { marks = t.marks; lost = t.lost; lines = t.lines; top = t.top; bottom = t.bottom; before = t.before } };
 }
 
 impl Track {
-    /// That of a machine as it is made: no field was opened or signalled.
-    pub fn new(alloc: Global) -> Result<Track, AllocError>
-        ensures { IfOk result (λ track. track ≡ untold) }
+    /// That of a machine as it is made, with the program of this description: no field was opened or signalled.
+    pub fn new(alloc: Global, checked: &Checked) -> Result<Track, AllocError>
+        ensures { IfOk result (λ track. track ≡ untold checked.now) }
     {
         Ok(Track {
             marks: LineMarks::FRESH,
@@ -114,6 +118,7 @@ impl Track {
             lines: Lines::new(alloc)?,
             top: Told::new(alloc)?,
             bottom: Told::new(alloc)?,
+            before: before_rows(checked.frame().desc()),
         })
     }
 
@@ -164,10 +169,26 @@ impl Track {
         }
     }
 
-    /// A turn of a machine that runs this program, by what it did.
-    pub fn turn(&mut self, program: &Program, seen: &Seen)
-        ensures { self.new ≡ turned program.now seen.now.did seen.now self.old }
+    /// For each row of a described field whether it is a whole line, at the field's last signal. None exactly where it
+    /// had no signal so far.
+    pub fn rows(&self, field: Parity) -> Option<&[bool]>
+        ensures { option_map (λ rows. rows.now) result ≡ rows_kept field self.now }
     {
+        match field {
+            Parity::Top => self.top.after(self.before.top),
+            Parity::Bottom => self.bottom.after(self.before.bottom),
+        }
+    }
+}
+
+impl Watch for Track {
+    ghost notes = { track_notes };
+
+    ghost LETS_FALL = { true };
+
+    const LETS_FALL: bool = true;
+
+    fn saw(&mut self, program: &Program, seen: &Seen) {
         match seen.did {
             Did::Synced => self.open(opens(program, seen.at)),
             Did::Jumped => self.signal(signals(program, seen.at)),
@@ -186,18 +207,12 @@ impl Track {
         }
     }
 
-    /// A turn that takes an entry of a queue whole, within its line.
-    pub fn take_whole(&mut self, q: Queue)
-        ensures { self.new ≡ record self.old { marks = with_mark q (taken_mark false (mark_on q self.old.marks)) self.old.marks } }
-    {
-        let mark = self.marks.on(q).taken(false);
-        self.marks.put(q, mark);
+    fn took_whole(&mut self, queue: Queue) {
+        let mark = self.marks.on(queue).taken(false);
+        self.marks.put(queue, mark);
     }
 
-    /// The queues are emptied, of which these hold an entry.
-    pub fn empty(&mut self, one: bool, two: bool, three: bool)
-        ensures { self.new ≡ record self.old { marks = emptied_marks one two three self.old.marks } }
-    {
+    fn emptied(&mut self, one: bool, two: bool, three: bool) {
         if one {
             self.marks.one = self.marks.one.left();
         }
@@ -209,13 +224,5 @@ impl Track {
         }
     }
 
-    /// Which lines of a field, from a number on, were whole at its last signal. None where it had none.
-    pub fn lines(&self, field: Parity, first: usize) -> Option<&[bool]>
-        ensures { option_map (λ lines. lines.now) result ≡ option_map (drop first) (lines_at_signal field self.now) }
-    {
-        match field {
-            Parity::Top => self.top.after(first),
-            Parity::Bottom => self.bottom.after(first),
-        }
-    }
+    ghost still = { still_tells_nothing };
 }

@@ -7,16 +7,19 @@ use std::test::Fail;
 const PLAIN: &str = "format = \"y8\"\nwidth = 8\nheight = 1\nfields = \"top\"\npages = [0x20000]\n";
 
 const FULL: &str =
-    "fill = -0\nbase = 0x1_0000\nchunks = [[131072, 8], [196_608, 0x10,],]\nformat = \"yuv422p\"\nwidth = +12\nheight = 4\nstride = [12, 6, 7]\noffset = [0, 48, 4294967295]\nskip_lines = 255\nvbi_lines = 2\nvbi_bytes = 0b101\nvbi_offset = 0o17\nclip = [[0, 1, 4, 4294967295], [20, 0, 0, 1]]\n";
+    "fill = -0\nbase = 0x1_0000\nchunks = [[131072, 8], [196_608, 0x10,],]\nformat = \"yuv422p\"\nwidth = +12\nheight = 4\nstride = [12, 6, 7]\noffset = [0, 48, 4294967295]\nskip_lines = 255\nvbi_lines = 2\nvbi_bytes = 0b101\nvbi_stride = 0x10\nvbi_offset = 0o17\nvbi_skip = [0, 255]\nchroma_first = [0, 0,]\nclip = [[0, 1, 4, 4294967295], [20, 0, 0, 1]]\n";
 
 // Whether the keys that PLAIN leaves out have their defaults.
 fn has_defaults(desc: &Desc) -> bool {
     desc.stride.is_none()
         && desc.offset.is_none()
+        && desc.chroma_first.is_none()
         && desc.skip_lines == 0
         && desc.vbi_lines == 0
         && desc.vbi_bytes == 2044
         && desc.vbi_offset.is_none()
+        && desc.vbi_skip.is_none()
+        && desc.vbi_stride.is_none()
         && desc.base == 0x1000
         && desc.chunks.is_none()
         && desc.fill == 0
@@ -42,6 +45,7 @@ fn has_full_numbers(desc: &Desc) -> bool {
         && desc.vbi_lines == 2
         && desc.vbi_bytes == 5
         && desc.vbi_offset == Some(15)
+        && desc.vbi_stride == Some(16)
         && desc.base == 0x10000
         && desc.fill == 0
 }
@@ -56,6 +60,14 @@ fn has_full_lists(desc: &Desc) -> bool {
         && offset.as_slice() == [0, 48, 4294967295].as_slice()
         && chunks.as_slice() == [(131072, 8), (196608, 16)].as_slice()
         && desc.pages.as_slice().is_empty()
+}
+
+// Whether the numbers of each field are those of FULL.
+fn has_full_fields(desc: &Desc) -> bool {
+    let (Some(chroma_first), Some(vbi_skip)) = (&desc.chroma_first, &desc.vbi_skip) else {
+        return false;
+    };
+    chroma_first.as_slice() == [0, 0].as_slice() && vbi_skip.as_slice() == [0, 255].as_slice()
 }
 
 // Whether row 1 begins with the span that FULL clips.
@@ -75,6 +87,7 @@ fn all_forms_of_numbers_are_read(rt: HostRuntime) -> Result<(), Fail> {
     assert!(rt; has_shape(&desc, Format::Yuv422p, Fields::Both, (12, 4)));
     assert!(rt; has_full_numbers(&desc));
     assert!(rt; has_full_lists(&desc));
+    assert!(rt; has_full_fields(&desc));
     assert!(rt; is_clipped(rt.alloc(), &desc.clip)?);
     Ok(())
 }
@@ -227,7 +240,7 @@ fn required_keys_are_judged_in_order(rt: HostRuntime) -> Result<(), Fail> {
 }
 
 // Lines behind those of PLAIN, how they are refused, and for which key.
-static OTHER_KEYS: [(&str, &str, &str); 37] = [
+static OTHER_KEYS: [(&str, &str, &str); 53] = [
     ("stride = 8\noffset = 1", "wrong kind", "stride"),
     ("stride = [8, \"8\"]", "wrong kind", "stride"),
     ("stride = [8, 8]\noffset = 1", "out of range", "stride"),
@@ -241,7 +254,27 @@ static OTHER_KEYS: [(&str, &str, &str); 37] = [
         "out of range",
         "offset",
     ),
-    ("offset = [-1]", "out of range", "offset"),
+    (
+        "offset = [-1]\nchroma_first = true",
+        "out of range",
+        "offset",
+    ),
+    (
+        "chroma_first = 0\nskip_lines = true",
+        "wrong kind",
+        "chroma_first",
+    ),
+    ("chroma_first = [[0]]", "wrong kind", "chroma_first"),
+    ("chroma_first = [0.5]", "wrong kind", "chroma_first"),
+    ("chroma_first = [true]", "wrong kind", "chroma_first"),
+    (
+        "chroma_first = []\nskip_lines = true",
+        "out of range",
+        "chroma_first",
+    ),
+    ("chroma_first = [1]", "out of range", "chroma_first"),
+    ("chroma_first = [0, 0]", "out of range", "chroma_first"),
+    ("chroma_first = [-1]", "out of range", "chroma_first"),
     (
         "skip_lines = true\nvbi_lines = true",
         "wrong kind",
@@ -278,6 +311,22 @@ static OTHER_KEYS: [(&str, &str, &str); 37] = [
     ("vbi_offset = true\nclip = true", "wrong kind", "vbi_offset"),
     ("vbi_offset = -1\nclip = true", "out of range", "vbi_offset"),
     ("vbi_offset = 4294967296", "out of range", "vbi_offset"),
+    (
+        "vbi_offset = -1\nvbi_skip = true",
+        "out of range",
+        "vbi_offset",
+    ),
+    ("vbi_skip = 0\nvbi_stride = true", "wrong kind", "vbi_skip"),
+    (
+        "vbi_skip = [256]\nvbi_stride = true",
+        "out of range",
+        "vbi_skip",
+    ),
+    ("vbi_skip = []", "out of range", "vbi_skip"),
+    ("vbi_skip = [0, 0]", "out of range", "vbi_skip"),
+    ("vbi_stride = true\nclip = true", "wrong kind", "vbi_stride"),
+    ("vbi_stride = -1\nclip = true", "out of range", "vbi_stride"),
+    ("vbi_stride = 4294967296", "out of range", "vbi_stride"),
     ("clip = 1\nbase = true", "wrong kind", "clip"),
     ("clip = [1]", "wrong kind", "clip"),
     ("clip = [[0, 0, 8, \"1\"]]", "wrong kind", "clip"),
@@ -312,7 +361,7 @@ fn other_keys_are_judged_in_order(rt: HostRuntime) -> Result<(), Fail> {
 const PLANAR: &str = "format = \"yuv422p\"\nwidth = 8\nheight = 1\n";
 
 // Lines behind those of PLANAR, how they are refused, and for which key.
-static CHUNKS_AND_PLANES: [(&str, &str, &str); 14] = [
+static CHUNKS_AND_PLANES: [(&str, &str, &str); 15] = [
     ("chunks = 8\nfill = true", "wrong kind", "chunks"),
     ("chunks = [0x20000, 8]", "wrong kind", "chunks"),
     ("chunks = [[\"0x20000\", 8]]", "wrong kind", "chunks"),
@@ -334,6 +383,11 @@ static CHUNKS_AND_PLANES: [(&str, &str, &str); 14] = [
     ("chunks = []\npages = []", "out of range", "chunks"),
     ("chunks = [true]\npages = []", "wrong kind", "chunks"),
     ("chunks = []\nstride = [8]", "out of range", "stride"),
+    (
+        "chunks = []\nchroma_first = [0]",
+        "out of range",
+        "chroma_first",
+    ),
     (
         "chunks = []\noffset = [0, 8, 12, 16]",
         "out of range",

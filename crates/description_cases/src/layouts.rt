@@ -27,6 +27,10 @@ fn a_planar_format(rt: HostRuntime) {
     assert_eq!(rt; format.chroma_row(false, 9), None);
     assert_eq!(rt; format.chroma_row(true, 9), Some(3));
     assert_eq!(rt; format.chroma_row(true, 11), None);
+    assert_eq!(rt; format.rows_of_chroma(), 4);
+    assert_eq!(rt; format.chroma_row_from(true, 2, 9), None);
+    assert_eq!(rt; format.chroma_row_from(true, 2, 13), Some(3));
+    assert_eq!(rt; format.chroma_row_from(false, 3, 7), Some(1));
 }
 
 #[test]

@@ -274,6 +274,57 @@ fn chroma_of_both_fields_alternates(rt: HostRuntime) -> Result<(), Fail> {
     Ok(())
 }
 
+// Each field has two rows. The top field's chroma is kept of its row 0, the bottom field's of its row 1.
+#[test]
+fn chroma_of_another_row_in_the_bottom_field(rt: HostRuntime) -> Result<(), Fail> {
+    let text = "format = \"yuv420p\"\n\
+            width = 16\n\
+            height = 4\n\
+            chroma_first = [0, 1]\n\
+            pages = [0x20000]\n";
+    let ends = Ends {
+        sol: true,
+        eol: true,
+    };
+    let top = Piece {
+        kind: PieceKind::Write,
+        ends,
+        counts: [16, 8, 8],
+        addrs: [0x20000, 0x20040, 0x20050],
+    };
+    assert!(rt; plans_row(rt.alloc(), text, 0, &[top])?);
+    let dropped = Piece {
+        kind: PieceKind::WriteLuma,
+        ends,
+        counts: [16, 8, 8],
+        addrs: [0x20010, 0, 0],
+    };
+    assert!(rt; plans_row(rt.alloc(), text, 1, &[dropped])?);
+    let bottom = Piece {
+        kind: PieceKind::Write,
+        ends,
+        counts: [16, 8, 8],
+        addrs: [0x20030, 0x20048, 0x20058],
+    };
+    assert!(rt; plans_row(rt.alloc(), text, 3, &[bottom])?);
+    Ok(())
+}
+
+#[test]
+fn vbi_lines_stand_a_stride_apart(rt: HostRuntime) -> Result<(), Fail> {
+    let text = "format = \"y8\"\n\
+            width = 8\n\
+            height = 1\n\
+            fields = \"top\"\n\
+            vbi_lines = 2\n\
+            vbi_bytes = 5\n\
+            vbi_stride = 16\n\
+            pages = [0x20000]\n";
+    let vbi = [packed(PieceKind::Write, true, true, 5, 0x20018)];
+    assert!(rt; plans_vbi_line(rt.alloc(), text, &vbi)?);
+    Ok(())
+}
+
 #[test]
 fn skipped_lines_and_vbi_lines(rt: HostRuntime) -> Result<(), Fail> {
     let text = "format = \"y8\"\n\
@@ -316,6 +367,14 @@ fn the_first_fault_is_told(rt: HostRuntime) -> Result<(), Fail> {
         (
             "chunks = [[0x20000, 8], [0x20004, 8]]",
             BuildFault::PageTwice(1),
+        ),
+        (
+            "vbi_lines = 1\nvbi_bytes = 8\nvbi_stride = 7\npages = [0x20000]",
+            BuildFault::VbiRange,
+        ),
+        (
+            "vbi_lines = 2\nvbi_bytes = 5\nvbi_stride = 20\nchunks = [[0x20000, 8]]",
+            BuildFault::TooFewBytes { need: 33, have: 8 },
         ),
     ];
     for (lines, fault) in rows {

@@ -47,3 +47,30 @@ fn vbi_lines_stand_close_after_the_picture(rt: HostRuntime) -> Result<(), Fail> 
     assert!(rt; compiles_text(rt.alloc(), text, &WORDS)?);
     Ok(())
 }
+
+// The same behind two lines that are skipped.
+const SKIPPED: [u32; 9] = [
+    7,
+    0x8000_0006,
+    0,
+    0x2c00_0010,
+    0x2c00_0010,
+    0x1c00_0010,
+    0x20008,
+    0x1c00_0010,
+    0x20018,
+];
+
+#[test]
+fn skipped_vbi_lines_stand_before_the_others(rt: HostRuntime) -> Result<(), Fail> {
+    let text = "format = \"y8\"\n\
+            width = 8\n\
+            height = 1\n\
+            fields = \"top\"\n\
+            vbi_lines = 2\n\
+            vbi_bytes = 16\n\
+            vbi_skip = [2]\n\
+            pages = [0x20000]\n";
+    assert!(rt; compiles_text(rt.alloc(), text, &SKIPPED)?);
+    Ok(())
+}

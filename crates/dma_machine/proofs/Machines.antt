@@ -14,7 +14,7 @@ use Rattle.machine_model.specs.Turns.{turn}
 use Rattle.machine_model.specs.Safety.{IsStep}
 use Rattle.machine_model.proofs.ProgramStays.{program-step}
 use Rattle.machine_model.proofs.Safe.{IsSafe-step}
-use Rattle.machine_model.proofs.BeforeTurns.{IsWord-ends, pc-IsWord, idle-data, running-RunsAt, target-Reaches}
+use Rattle.machine_model.proofs.BeforeTurns.{word-ends, pc-is_word, idle-data, running-RunsAt, target-Reaches}
 use Rattle.dma_machine.specs.Counts.{acted, with_turns}
 use Rattle.dma_machine.specs.Facts.{IsMachine}
 use Rattle.dma_machine.specs.Looks.{CanGoOn}
@@ -53,7 +53,7 @@ IsMachine-acted m after made h =
 -- pc is the address of a word
 pub IsMachine-pc : (m : State) → IsMachine m → m.pc < 2 ^ 32
 IsMachine-pc m h =
-    let ends = IsWord-ends m.program m.pc h.made (pc-IsWord m h.sound h.safe) in
+    let ends = word-ends m.program m.pc h.made (pc-is_word m h.sound h.safe) in
     omega arith
 
 -- with another program that can be made and is sound

@@ -1,5 +1,5 @@
 -- What is asked of a machine without a turn, and what a turn leaves to say of an instruction.
-use Rattle.std.specs.Prelude.{◌≡◌, ℕ, Bool, true, Option, Some, None, is_some, length}
+use Rattle.std.specs.Prelude.{◌≡◌, ℕ, Bool, true, Option, Some, None, is_some}
 use Rattle.fifo_model.specs.declared.Queue.{Queue}
 use Rattle.fifo_model.specs.Queues.{front, queue_state}
 use Rattle.risc_word.specs.declared.Instr.{Instr}
@@ -8,7 +8,7 @@ use Rattle.machine_model.specs.declared.Did.{Did}
 use Rattle.machine_model.specs.declared.Did.TheVariants.{Retired}
 use Rattle.machine_model.specs.declared.Job.{Job}
 use Rattle.machine_model.specs.declared.Job.TheVariants.{Idle, Running}
-use Rattle.machine_model.specs.Paths.{RiscProgram}
+use Rattle.machine_model.specs.Paths.{RiscProgram, is_word}
 use Rattle.machine_model.specs.Safety.{IsSafe}
 use Rattle.machine_model.specs.Seen.{StandsAt, seen}
 use Rattle.machine_model.specs.States.{State}
@@ -38,7 +38,7 @@ holds q m = is_some (front (queue_state q m.queues))
 -- a program with which the machine can go on from this state in place of its own
 pub record CanGoOn (program : RiscProgram) (m : State) : Type 0 where
   pub base : program.base ≡ m.program.base
-  pub words : length program.words ≡ length m.program.words
+  pub there : (address : ℕ) → is_word program address ≡ is_word m.program address
   pub grants : program.grants ≡ m.program.grants
   pub safe : IsSafe (with_program program m)
 

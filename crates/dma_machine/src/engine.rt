@@ -1,6 +1,7 @@
 //! The machine's parts, and what each row of a turn does to them.
 
 ghost use Rattle.dma_machine.specs.Needs.{AreParts};
+ghost use Rattle.risc_verify.specs.Places.{IsNear};
 ghost use Rattle.risc_word.specs.Parts.{instr_ctl, instr_off};
 ghost use Rattle.std.specs.Prelude.{◌≡◌};
 
@@ -9,7 +10,7 @@ use fifo_model::{Fifo, Queue};
 use irq_status::{FDSR, IntStat, OCERR};
 use machine_model::{Demands, Skipping};
 use page_ram::Ram;
-use risc_verify::Accepted;
+use risc_verify::{Accepted, SpanPlace};
 use risc_word::{Code, Ctl, Instr};
 
 /// What the machine is at.
@@ -50,10 +51,13 @@ pub struct Engine<R> {
     pub skipping: Skipping,
     pub target: Option<u64>,
     pub pc: u64,
+    /// Where the span stands in which a word was found last, or none.
+    pub near: SpanPlace,
     pub ram: R,
     pub accepted: Accepted,
     ghost fit: { AreParts trigger wait.ctl (instr_ctl instr) },
     ghost lanes: { off ≡ instr_off instr },
+    ghost found: { IsNear accepted near },
 }
 
 /// Rows of a turn, each on its own. What happens once an instruction or less is cold, so that the compiler lays out the
@@ -112,7 +116,12 @@ impl<R: Ram> Engine<R> {
         ensures { state_of R.memory self.new ≡ jumped (is_word self.old.accepted addr) ctl addr (state_of R.memory self.old) }
     {
         let addr = u64::from(addr);
-        if self.accepted.program().word_at(addr).is_some() {
+        if self
+            .accepted
+            .program()
+            .word_near(&mut self.near, addr)
+            .is_some()
+        {
             self.interrupts.apply(ctl);
             self.pc = addr;
             self.target = None;

@@ -56,7 +56,7 @@ impl<R: Ram> Engine<R> {
         requires { CanFetch (fetch self.old.accepted self.old.pc) (state_of R.memory self.old) }
         ensures { state_of R.memory self.new ≡ fetched (fetch self.old.accepted self.old.pc) (state_of R.memory self.old) }
     {
-        match self.accepted.program().instr_at(self.pc) {
+        match self.accepted.program().instr_near(&mut self.near, self.pc) {
             Ok((instr, count)) => self.execute(instr, count),
             Err(_) => self.halt(),
         }

@@ -7,7 +7,7 @@ use fifo_model::{Entry, Fifo, Pushed, Queue};
 use irq_status::{FBUS, HostWrite, IntStat};
 use machine_model::Skipping;
 use page_ram::Ram;
-use risc_verify::Accepted;
+use risc_verify::{Accepted, SpanPlace};
 use risc_word::{Code, Instr, NO_CONTROL};
 
 impl<R: Ram> Engine<R> {
@@ -171,6 +171,7 @@ impl<R: Ram> Engine<R> {
             risc_on: true,
             trigger: 1,
             pc,
+            near: SpanPlace::none(),
             skipping: Skipping::Nothing,
             target: None,
             phase: Phase::Idle,

@@ -34,7 +34,7 @@ use fifo_model::{Entry, Fifo, Pushed, Queue};
 use irq_status::HostWrite;
 pub use machine_model::{Did, Seen};
 use page_ram::Ram;
-use risc_verify::{Accepted, Program};
+use risc_verify::{Accepted, Program, SpanPlace};
 use risc_word::Code;
 use std::marker::Model;
 use std::mem::swap;
@@ -326,7 +326,7 @@ impl<R: Ram> Machine<R> {
     }
 
     /// Exchanges the machine's program for another one with which it can go on: one that begins at the same address, has
-    /// as many words and the same grants, and on whose path the machine stands (this project's own rule). Nothing else
+    /// words at the same addresses and the same grants, and on whose path the machine stands (this project's own rule). Nothing else
     /// changes.
     pub fn swap(&mut self, other: &mut Accepted)
         requires { CanGoOn other.old self.old }
@@ -336,6 +336,7 @@ impl<R: Ram> Machine<R> {
     {
         // the call tells what each program keeps
         let _base = other.program().base();
+        self.engine.near = SpanPlace::none();
         swap(&mut self.engine.accepted, other);
     }
 

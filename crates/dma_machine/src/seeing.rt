@@ -125,7 +125,8 @@ impl<R: Ram> Engine<R> {
     fn fetched_did(&self) -> Did
         ensures { result ≡ fetched_did (fetch self.now.accepted self.now.pc) self.now.skipping }
     {
-        match self.accepted.program().instr_at(self.pc) {
+        let mut near = self.near;
+        match self.accepted.program().instr_near(&mut near, self.pc) {
             Ok((instr, _)) => instr_did(&instr, self.skipping),
             Err(_) => Did::Still,
         }

@@ -36,3 +36,8 @@ fewer_left old out new next rest all left kept added =
           ∙ ap (λ (w : List ℕ). out ++ w) (sym (flat_map-append encoded next rest))
           ∙ left.whole;
     }
+
+-- none is left
+pub none_left : (old out : List ℕ) (rest all : List Instr) → IsLeft old out rest all → rest ≡ [] → out ≡ old ++ words_of all
+none_left old out rest all left none =
+    sym (append-nil out) ∙ ap (λ (instrs : List Instr). out ++ words_of instrs) (sym none) ∙ left.whole

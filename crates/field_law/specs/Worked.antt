@@ -8,7 +8,7 @@ use Rattle.fifo_model.specs.declared.Queue.{Queue}
 use Rattle.fifo_model.specs.declared.Queue.TheVariants.{One, Two, Three}
 use Rattle.page_table.specs.Grants.{chunk}
 use Rattle.page_table.specs.Blocks.{byte_at}
-use Rattle.machine_model.specs.Paths.{RiscProgram}
+use Rattle.machine_model.specs.Paths.{RiscProgram, one_span}
 use Rattle.machine_model.specs.States.{State, first_state}
 use Rattle.machine_model.specs.Turns.{stored_all}
 use Rattle.machine_model.specs.Steps.{Step, Push, Control, Turn, run}
@@ -19,11 +19,9 @@ use Rattle.field_law.specs.Arrivals.{Met, meeting}
 -- SYNC VRE with RESYNC, SYNC FM1, a WRITE of 8 bytes and a JUMP to the base
 abbrev pub program : RiscProgram
 program =
-    record {
-      base = 0x1000;
-      words = 0x80008004 ∷ 0 ∷ 0x80000006 ∷ 0 ∷ 0x1c000008 ∷ 0x20000 ∷ 0x71e10000 ∷ 0x1000 ∷ [];
-      grants = chunk 0x20000 16 ∷ [];
-    }
+    one_span 0x1000
+    (0x80008004 ∷ 0 ∷ 0x80000006 ∷ 0 ∷ 0x1c000008 ∷ 0x20000 ∷ 0x71e10000 ∷ 0x1000 ∷ [])
+    (chunk 0x20000 16 ∷ [])
 
 abbrev pub no_bits : Ctl
 no_bits = record { irq = false; set = 0; reset = 0 }

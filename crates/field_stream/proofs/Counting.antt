@@ -4,7 +4,7 @@ use Rattle.std.specs.List.{flat_map, range_with_len}
 use Rattle.fifo_model.specs.declared.Queue.TheVariants.{One}
 use Rattle.pixel_layout.specs.declared.Parity.{Parity}
 use Rattle.capture_desc.specs.declared.desc.Desc.{Desc}
-use Rattle.picture_model.specs.Described.{field_height}
+use Rattle.picture_model.specs.Described.{field_height, vbi_skip}
 use Rattle.field_stream.proofs.Chroma.{chroma_at, line_chroma}
 use Rattle.field_stream.specs.Pushes.{Push, Fill, chroma_after, entries_in, field_pushes, line_entries, packed_line, picture_line, picture_pushes, planar_at, planar_line, repeated, vbi_pushes}
 
@@ -49,10 +49,10 @@ count_line luma chroma across some even =
 -- fields
 
 -- what a field has in all
-pub count_vbi : (lines bytes : ℕ) → 0 < lines → entries_in (vbi_pushes lines bytes) ≡ lines * entries_in (packed_line bytes)
-count_vbi zero bytes some = absurd (omega (arith, some))
-count_vbi (suc more) bytes some = omega (arith, count_repeated (suc more) (packed_line bytes))
+pub count_vbi : (lines skipped bytes : ℕ) → 0 < lines → entries_in (vbi_pushes lines skipped bytes) ≡ (skipped + lines) * entries_in (packed_line bytes)
+count_vbi zero skipped bytes some = absurd (omega (arith, some))
+count_vbi (suc more) skipped bytes some = omega (arith, count_repeated (skipped + suc more) (packed_line bytes))
 
-pub count_field : (d : Desc) (field : Parity) → entries_in (field_pushes d field) ≡ entries_in (vbi_pushes d.vbi_lines d.vbi_bytes) + (d.skip_lines + field_height d field) * entries_in (picture_line d)
+pub count_field : (d : Desc) (field : Parity) → entries_in (field_pushes d field) ≡ entries_in (vbi_pushes d.vbi_lines (vbi_skip d field) d.vbi_bytes) + (d.skip_lines + field_height d field) * entries_in (picture_line d)
 count_field d field =
-    omega (arith, count_both (vbi_pushes d.vbi_lines d.vbi_bytes) (picture_pushes d field), count_repeated (d.skip_lines + field_height d field) (picture_line d))
+    omega (arith, count_both (vbi_pushes d.vbi_lines (vbi_skip d field) d.vbi_bytes) (picture_pushes d field), count_repeated (d.skip_lines + field_height d field) (picture_line d))

@@ -3,7 +3,7 @@ use Rattle.std.proofs.Common.{◌≡◌, ℕ, zero, suc, ◌/◌, ◌≤◌, ◌
 use Rattle.pixel_layout.specs.declared.Parity.{Parity}
 use Rattle.capture_desc.specs.declared.desc.Desc.{Desc}
 use Rattle.picture_model.specs.declared.BuildFault.{BuildFault}
-use Rattle.picture_model.specs.Described.{both, describes, field_height}
+use Rattle.picture_model.specs.Described.{both, describes, field_height, vbi_stride}
 use Rattle.picture_model.specs.Geometry.{Check, first_after, frame_faults}
 use Rattle.picture_model.proofs.FaultlessGeometry.{between_parts, vbi_range, when_not}
 use Rattle.planar_plan.specs.Frames.{IsFramed}
@@ -25,7 +25,9 @@ clear_at zero None (check ∷ rest) d e = none_found (check d) rest d e
 clear_at (suc k) None (check ∷ rest) d e = clear_at k (check d) rest d e
 
 pub vbi_lines_range : (d : Desc) → IsFramed d → (d.vbi_lines ≤ 32) × (0 < d.vbi_lines → (5 ≤ d.vbi_bytes) × (d.vbi_bytes ≤ 4092))
-vbi_lines_range d is = vbi_range d.vbi_lines d.vbi_bytes (when_not _ _ (clear_at 8 None frame_faults d is.geometry))
+vbi_lines_range d is =
+    let range = vbi_range d.vbi_lines d.vbi_bytes (vbi_stride d) (when_not _ _ (clear_at 8 None frame_faults d is.geometry)) in
+    (range.few, range.long)
 
 pub picture_range : (d : Desc) → IsFramed d → (d.width ≤ 1024) × (d.height ≤ 1024)
 picture_range d is =

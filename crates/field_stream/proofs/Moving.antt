@@ -150,17 +150,17 @@ pub broken_first : (a b : List Push) (d : Drafted) (old told : Told) → IsBroke
 broken_first a b d old told m =
     subst (λ (whole : Drafted). IsBroken whole old told) (sym (pushed_all-append a b d)) (broken_within b (pushed_all a d) old told m)
 
-pub vbi_some : (lines bytes : ℕ) → 0 < lines → vbi_pushes lines bytes ≡ Mark Fm1 ∷ repeated lines (packed_line bytes)
-vbi_some zero bytes some = absurd (omega arith)
-vbi_some (suc more) bytes some = refl
+pub vbi_some : (lines skipped bytes : ℕ) → 0 < lines → vbi_pushes lines skipped bytes ≡ Mark Fm1 ∷ repeated (skipped + lines) (packed_line bytes)
+vbi_some zero skipped bytes some = absurd (omega arith)
+vbi_some (suc more) skipped bytes some = refl
 
-pub vbi_none : (lines bytes : ℕ) (d : Drafted) (old : Told) → lines ≡ 0 → IsMoved (pushed_all (vbi_pushes lines bytes) d) d old old
-vbi_none lines bytes d old none =
-    subst (λ (n : ℕ). IsMoved (pushed_all (vbi_pushes n bytes) d) d old old) (sym none) (moved_none d old)
+pub vbi_none : (lines skipped bytes : ℕ) (d : Drafted) (old : Told) → lines ≡ 0 → IsMoved (pushed_all (vbi_pushes lines skipped bytes) d) d old old
+vbi_none lines skipped bytes d old none =
+    subst (λ (n : ℕ). IsMoved (pushed_all (vbi_pushes n skipped bytes) d) d old old) (sym none) (moved_none d old)
 
-pub vbi_broken : (lines bytes : ℕ) (d : Drafted) (old told : Told) → 0 < lines → IsBroken (pushed (Mark Fm1) d) old told → IsBroken (pushed_all (vbi_pushes lines bytes) d) old told
-vbi_broken lines bytes d old told some b =
-    subst (λ (ps : List Push). IsBroken (pushed_all ps d) old told) (sym (vbi_some lines bytes some)) (broken_within (repeated lines (packed_line bytes)) (pushed (Mark Fm1) d) old told b)
+pub vbi_broken : (lines skipped bytes : ℕ) (d : Drafted) (old told : Told) → 0 < lines → IsBroken (pushed (Mark Fm1) d) old told → IsBroken (pushed_all (vbi_pushes lines skipped bytes) d) old told
+vbi_broken lines skipped bytes d old told some b =
+    subst (λ (ps : List Push). IsBroken (pushed_all ps d) old told) (sym (vbi_some lines skipped bytes some)) (broken_within (repeated (skipped + lines) (packed_line bytes)) (pushed (Mark Fm1) d) old told b)
 
 -- a fault in the second of three parts
 pub broken_second : (a b e : List Push) (d mid : Drafted) (old t told : Told) → IsMoved (pushed_all a d) mid old t → IsBroken (pushed_all b mid) t told →

@@ -8,7 +8,7 @@ use Rattle.fifo_model.specs.declared.Queue.{Queue}
 use Rattle.fifo_model.specs.declared.Queue.TheVariants.{One, Two, Three}
 use Rattle.pixel_layout.specs.declared.Parity.{Parity}
 use Rattle.capture_desc.specs.declared.desc.Desc.{Desc}
-use Rattle.picture_model.specs.Described.{field_height, fields_of, layout_of, plane_row_bytes}
+use Rattle.picture_model.specs.Described.{field_height, fields_of, layout_of, plane_row_bytes, vbi_skip}
 use Rattle.picture_model.specs.Programs.{data_code, vertical}
 
 -- a control code to all queues, or an entry with this status to one of them
@@ -65,10 +65,10 @@ picture_line d =
     then planar_line (plane_row_bytes d 1) (plane_row_bytes d 2) l.across
     else packed_line (plane_row_bytes d 1)
 
--- the VBI part of a field: nothing where there are no VBI lines
-abbrev pub vbi_pushes : ℕ → ℕ → List Push
-vbi_pushes zero bytes = []
-vbi_pushes (suc more) bytes = Mark Fm1 ∷ repeated (suc more) (packed_line bytes)
+-- the VBI part of a field: the lines that are skipped and the VBI lines; nothing where there are no VBI lines
+abbrev pub vbi_pushes : ℕ → ℕ → ℕ → List Push
+vbi_pushes zero skipped bytes = []
+vbi_pushes (suc more) skipped bytes = Mark Fm1 ∷ repeated (skipped + suc more) (packed_line bytes)
 
 -- a field's lines: those that are skipped, and its rows
 abbrev pub picture_pushes : Desc → Parity → List Push
@@ -77,7 +77,7 @@ picture_pushes d field =
 
 abbrev pub field_pushes : Desc → Parity → List Push
 field_pushes d field =
-    Mark (vertical field) ∷ (vbi_pushes d.vbi_lines d.vbi_bytes ++ picture_pushes d field)
+    Mark (vertical field) ∷ (vbi_pushes d.vbi_lines (vbi_skip d field) d.vbi_bytes ++ picture_pushes d field)
 
 abbrev pub frame_pushes : Desc → List Push
 frame_pushes d = flat_map (field_pushes d) (fields_of d.fields)

@@ -1,13 +1,14 @@
 //! The counts of a stream.
 
 ghost use Rattle.std.specs.Prelude.{◌≡◌, ◌+◌, ◌≤◌, length};
-ghost use Rattle.picture_model.specs.Described.{fields_of};
+ghost use Rattle.picture_model.specs.Described.{fields_of, vbi_skip};
 ghost use Rattle.planar_plan.specs.Frames.{IsFramed};
 ghost use Rattle.field_stream.specs.Pushes.{entries_in, field_pushes, frame_pushes, vbi_pushes};
 ghost use Rattle.field_stream.specs.Made.{made_entries, made_fields};
 
 use crate::lines::{picture_line, vbi_line};
 use capture_desc::Fields;
+use picture_model::vbi_skip;
 use pixel_layout::Parity;
 use planar_plan::Frame;
 
@@ -32,26 +33,27 @@ fn fields(frame: &Frame) -> u32
     }
 }
 
-// How many data entries the VBI lines of a field have.
-fn vbi_entries(frame: &Frame) -> u32
-    ensures value { result ≡ entries_in (vbi_pushes frame.now.vbi_lines frame.now.vbi_bytes) }
-    ensures few { result ≤ 98304 }
+// How many data entries the VBI lines of a field have, and those that are skipped before them.
+fn vbi_entries(frame: &Frame, field: Parity) -> u32
+    ensures value { result ≡ entries_in (vbi_pushes frame.now.vbi_lines (vbi_skip frame.now field) frame.now.vbi_bytes) }
+    ensures few { result ≤ 881664 }
 {
     let lines = frame.desc().vbi_lines;
     if lines == 0 {
         0
     } else {
-        lines * vbi_line(frame).entries()
+        let skipped = vbi_skip(frame.desc(), field);
+        (skipped + lines) * vbi_line(frame).entries()
     }
 }
 
 // How many data entries a field has.
 fn field_entries(frame: &Frame, field: Parity) -> u32
     ensures value { result ≡ entries_in (field_pushes frame.now field) }
-    ensures few { result ≤ 4027392 }
+    ensures few { result ≤ 4810752 }
 {
     let lines = u32::from(frame.desc().skip_lines) + frame.rows_of(field);
-    vbi_entries(frame) + lines * picture_line(frame).entries()
+    vbi_entries(frame, field) + lines * picture_line(frame).entries()
 }
 
 // How many data entries a frame has.

@@ -2,7 +2,7 @@
 
 ghost use Rattle.std.specs.Prelude.{◌≡◌, ◌+◌, ◌<◌, ◌≤◌, [], ◌∷◌, ◌++◌, length, IsTrue, IfOk};
 ghost use Rattle.capture_desk.specs.Desks.{Puts, WriteCounts, after_write};
-ghost use Rattle.picture_model.specs.Described.{describes, fields_of};
+ghost use Rattle.picture_model.specs.Described.{describes, fields_of, vbi_skip};
 ghost use Rattle.planar_plan.specs.Frames.{IsFramed};
 ghost use Rattle.field_stream.specs.Pushes.{Mark, field_pushes, frame_pushes, picture_pushes, repeated, stream_pushes, vbi_pushes};
 ghost use Rattle.field_stream.specs.Lines.{IsShort, line_pushes};
@@ -15,7 +15,7 @@ use crate::lines::{Line, picture_line, vbi_line};
 use capture_desc::Fields;
 use capture_desk::{Desk, Failed, put};
 use capture_file::tags;
-use picture_model::{data_code, vertical};
+use picture_model::{data_code, vbi_skip, vertical};
 use pixel_layout::Parity;
 use planar_plan::Frame;
 use risc_word::Code;
@@ -67,10 +67,15 @@ fn put_lines<D: Desk>(draft: &mut Draft, desk: &mut D, count: u32, line: Line) -
     Ok(())
 }
 
-// The VBI lines of a field, if there are any.
-fn put_vbi<D: Desk>(draft: &mut Draft, desk: &mut D, frame: &Frame) -> Result<(), Failed>
+// The VBI lines of a field, if there are any, and those that are skipped before them.
+fn put_vbi<D: Desk>(
+    draft: &mut Draft,
+    desk: &mut D,
+    frame: &Frame,
+    field: Parity,
+) -> Result<(), Failed>
     requires open { IsTrue (D.seen desk.old).told.output_open }
-    ensures moves { Moves (pushed_all (vbi_pushes frame.now.vbi_lines frame.now.vbi_bytes) draft.old) result draft.new
+    ensures moves { Moves (pushed_all (vbi_pushes frame.now.vbi_lines (vbi_skip frame.now field) frame.now.vbi_bytes) draft.old) result draft.new
         (D.seen desk.old).told (D.seen desk.new).told }
     ensures counts { WriteCounts result (D.seen desk.old) (D.seen desk.new) }
 {
@@ -79,7 +84,8 @@ fn put_vbi<D: Desk>(draft: &mut Draft, desk: &mut D, frame: &Frame) -> Result<()
         return Ok(());
     }
     put_mark(draft, desk, Code::Fm1)?;
-    put_lines(draft, desk, count, vbi_line(frame))
+    let skipped = vbi_skip(frame.desc(), field);
+    put_lines(draft, desk, skipped + count, vbi_line(frame))
 }
 
 // The skipped lines and the rows of a field.
@@ -109,7 +115,7 @@ fn put_field<D: Desk>(
     ensures counts { WriteCounts result (D.seen desk.old) (D.seen desk.new) }
 {
     put_mark(draft, desk, vertical(field))?;
-    put_vbi(draft, desk, frame)?;
+    put_vbi(draft, desk, frame, field)?;
     put_picture(draft, desk, frame, field)
 }
 

@@ -12,7 +12,7 @@ use Rattle.fifo_model.specs.declared.Entry.{Entry}
 use Rattle.fifo_model.specs.Queues.{code_of_kind, lane_bytes}
 use Rattle.field_law.specs.Fields.{Token, Mark, Row, Brings, carried, valid_part}
 use Rattle.picture_law.specs.Pictures.{AreLines, lines_of, vbi_tokens}
-use Rattle.generated_law.specs.Drawn.{cut}
+use Rattle.generated_law.specs.Drawn.{cut, vbi_bytes_by}
 
 -- ---- what entries carry
 
@@ -54,10 +54,6 @@ pub bytes_in-lines : (lines : List (List ℕ)) → bytes_in (lines_of lines) ≡
 bytes_in-lines [] = refl
 bytes_in-lines (line ∷ lines) = ap (λ (rest : List ℕ). line ++ rest) (bytes_in-lines lines)
 
-pub bytes_in-vbi : (count : ℕ) (lines : List (List ℕ)) → (count ≡ 0 → lines ≡ []) → bytes_in (vbi_tokens count lines) ≡ concat lines
-bytes_in-vbi zero lines none = sym (ap concat (none refl))
-bytes_in-vbi (suc more) lines none = bytes_in-lines lines
-
 -- ---- cutting
 
 lines_head : (count long : ℕ) (line : List ℕ) (lines : List (List ℕ)) → AreLines (suc count) long (line ∷ lines) → (length line ≡ long) × AreLines count long lines
@@ -98,3 +94,34 @@ pub drop_both : (a b : ℕ) (first second rest : List ℕ) → length first ≡ 
 drop_both a b first second rest one two =
     ap (drop (a + b)) (sym (append_assoc first second rest))
     ∙ drop_first (a + b) (first ++ second) rest (length-append first second ∙ omega arith)
+
+-- ---- the VBI part
+
+pub bytes_in-vbi : (more : ℕ) (skipped rows : List (List ℕ)) → bytes_in (vbi_tokens (suc more) skipped rows) ≡ concat skipped ++ concat rows
+bytes_in-vbi more skipped rows =
+    bytes_in-append (lines_of skipped) (lines_of rows)
+    ∙ ap (λ (first : List ℕ). first ++ bytes_in (lines_of rows)) (bytes_in-lines skipped)
+    ∙ ap (λ (rest : List ℕ). concat skipped ++ rest) (bytes_in-lines rows)
+
+pub length-vbi : (count skip long : ℕ) (skipped rows : List (List ℕ)) → AreLines skip long skipped → AreLines count long rows →
+    length (bytes_in (vbi_tokens count skipped rows)) ≡ vbi_bytes_by count skip long
+length-vbi zero skip long skipped rows passed are = refl
+length-vbi (suc more) skip long skipped rows passed are =
+    let first = length-concat skip long skipped passed in
+    let second = length-concat (suc more) long rows are in
+    let parts : (skip + suc more) * long ≡ skip * long + suc more * long = omega arith in
+    ap length (bytes_in-vbi more skipped rows) ∙ length-append (concat skipped) (concat rows) ∙ omega arith
+
+pub length-no_vbi : (count : ℕ) → length (bytes_in (vbi_tokens count [] [])) ≡ 0
+length-no_vbi zero = refl
+length-no_vbi (suc more) = refl
+
+-- behind the skipped lines stand the VBI lines
+pub cut-vbi : (count skip long : ℕ) (skipped rows : List (List ℕ)) (more : List ℕ) → AreLines skip long skipped → AreLines count long rows →
+    cut count long (drop (skip * long) (bytes_in (vbi_tokens count skipped rows) ++ more)) ≡ rows
+cut-vbi zero skip long skipped rows more passed are = sym (nil_from_length rows are.many)
+cut-vbi (suc others) skip long skipped rows more passed are =
+    ap (λ (bytes : List ℕ). cut (suc others) long (drop (skip * long) (bytes ++ more))) (bytes_in-vbi others skipped rows)
+    ∙ ap (λ (bytes : List ℕ). cut (suc others) long (drop (skip * long) bytes)) (append_assoc (concat skipped) (concat rows) more)
+    ∙ ap (cut (suc others) long) (drop_first (skip * long) (concat skipped) (concat rows ++ more) (length-concat skip long skipped passed))
+    ∙ cut-concat (suc others) long rows more are

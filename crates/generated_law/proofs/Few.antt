@@ -14,8 +14,9 @@ use Rattle.capture_desc.specs.declared.desc.Desc.{Desc}
 use Rattle.capture_desc.specs.declared.desc.Fields.{Fields}
 use Rattle.capture_desc.specs.declared.desc.Fields.TheVariants as fields
 use Rattle.pixel_layout.specs.declared.Parity.TheVariants.{Top, Bottom}
-use Rattle.picture_model.specs.Described.{IsDescription, both, describes, field_height, fields_of, layout_of, plane_row_bytes}
+use Rattle.picture_model.specs.Described.{IsDescription, both, describes, field_height, fields_of, layout_of, plane_row_bytes, vbi_skip}
 use Rattle.picture_model.proofs.FaultlessGeometry.{IsRight}
+use Rattle.picture_model.proofs.Limit.{vbi_skip_few}
 use Rattle.field_stream.specs.Pushes.{Push, Fill, chroma_after, field_pushes, frame_pushes, line_entries, packed_line, picture_line, picture_pushes, planar_at, planar_line, repeated, status_at, stream_pushes, vbi_pushes}
 
 -- ---- lines
@@ -85,22 +86,22 @@ few_picture d field is right =
     let few = few_repeated (d.skip_lines + field_height d field) 1279 (picture_line d) 1024 (omega (arith, rows, height, skipped)) (few_line d right) in
     omega (arith, few)
 
-few_vbi : (lines bytes : ℕ) → lines ≤ 32 → (0 < lines → (5 ≤ bytes) × (bytes ≤ 4092)) → length (vbi_pushes lines bytes) ≤ 32737
-few_vbi zero bytes few long = omega arith
-few_vbi (suc more) bytes few long =
+few_vbi : (lines skip bytes : ℕ) → lines ≤ 32 → skip ≤ 255 → (0 < lines → (5 ≤ bytes) × (bytes ≤ 4092)) → length (vbi_pushes lines skip bytes) ≤ 293602
+few_vbi zero skip bytes few passed long = omega arith
+few_vbi (suc more) skip bytes few passed long =
     let end = (long (omega arith)).1 in
-    let lines = few_repeated (suc more) 32 (packed_line bytes) 1023 few (omega (arith, packed_length bytes, end)) in
+    let lines = few_repeated (skip + suc more) 287 (packed_line bytes) 1023 (omega arith) (omega (arith, packed_length bytes, end)) in
     omega (arith, lines)
 
-few_field : (d : Desc) (field : Parity) → IsDescription d → IsRight d → length (field_pushes d field) ≤ 1342435
+few_field : (d : Desc) (field : Parity) → IsDescription d → IsRight d → length (field_pushes d field) ≤ 1603300
 few_field d field is right =
-    omega (arith, length-append (vbi_pushes d.vbi_lines d.vbi_bytes) (picture_pushes d field), few_vbi d.vbi_lines d.vbi_bytes right.vbi_lines right.vbi_bytes, few_picture d field is right)
+    omega (arith, length-append (vbi_pushes d.vbi_lines (vbi_skip d field) d.vbi_bytes) (picture_pushes d field), few_vbi d.vbi_lines (vbi_skip d field) d.vbi_bytes right.vbi_lines (vbi_skip_few d field is.formed) right.vbi_bytes, few_picture d field is right)
 
-few_fields : (f : Parity → List Push) (which : Fields) → ((field : Parity) → length (f field) ≤ 1342435) → length (flat_map f (fields_of which)) ≤ 2684870
+few_fields : (f : Parity → List Push) (which : Fields) → ((field : Parity) → length (f field) ≤ 1603300) → length (flat_map f (fields_of which)) ≤ 3206600
 few_fields f fields.Top each = omega (arith, each Top, length-append (f Top) [])
 few_fields f fields.Bottom each = omega (arith, each Bottom, length-append (f Bottom) [])
 few_fields f fields.Both each = omega (arith, each Top, each Bottom, length-append (f Top) (f Bottom ++ []), length-append (f Bottom) [])
 
-pub few_pushes : (d : Desc) (frames : ℕ) → IsDescription d → IsRight d → frames ≤ 16 → length (stream_pushes d frames) ≤ 42957920
+pub few_pushes : (d : Desc) (frames : ℕ) → IsDescription d → IsRight d → frames ≤ 16 → length (stream_pushes d frames) ≤ 51305600
 few_pushes d frames is right few =
-    few_repeated frames 16 (frame_pushes d) 2684870 few (few_fields (field_pushes d) d.fields (λ field. few_field d field is right))
+    few_repeated frames 16 (frame_pushes d) 3206600 few (few_fields (field_pushes d) d.fields (λ field. few_field d field is right))

@@ -10,7 +10,7 @@ use Rattle.pixel_layout.specs.declared.Parity.{Parity}
 use Rattle.machine_model.specs.Steps.{Step, Turn}
 use Rattle.machine_model.specs.Safety.{IsStep}
 use Rattle.capture_desc.specs.declared.desc.Desc.{Desc}
-use Rattle.picture_model.specs.Described.{field_height, fields_of, layout_of, plane_row_bytes}
+use Rattle.picture_model.specs.Described.{field_height, fields_of, layout_of, plane_row_bytes, vbi_skip}
 use Rattle.field_stream.specs.Made.{after}
 use Rattle.field_stream.specs.Pushes.{Push, Mark, Fill, chroma_after, end_status, end_statuses, field_pushes, frame_pushes, line_entries, packed_line, picture_line, picture_pushes, planar_at}
 use Rattle.field_stream.specs.Pushes.{planar_line, repeated, status_at, stream_pushes, vbi_pushes}
@@ -79,13 +79,13 @@ line_data d =
 
 -- ---- fields
 
-vbi_data : (lines bytes : ℕ) → AreData (vbi_pushes lines bytes)
-vbi_data zero bytes = tt
-vbi_data (suc more) bytes = data_repeated (suc more) (packed_line bytes) (packed_data bytes)
+vbi_data : (lines skip bytes : ℕ) → AreData (vbi_pushes lines skip bytes)
+vbi_data zero skip bytes = tt
+vbi_data (suc more) skip bytes = data_repeated (skip + suc more) (packed_line bytes) (packed_data bytes)
 
 field_data : (d : Desc) (field : Parity) → AreData (field_pushes d field)
 field_data d field =
-    data-append (vbi_pushes d.vbi_lines d.vbi_bytes) (picture_pushes d field) (vbi_data d.vbi_lines d.vbi_bytes)
+    data-append (vbi_pushes d.vbi_lines (vbi_skip d field) d.vbi_bytes) (picture_pushes d field) (vbi_data d.vbi_lines (vbi_skip d field) d.vbi_bytes)
     (data_repeated (d.skip_lines + field_height d field) (picture_line d) (line_data d))
 
 fields_data : (d : Desc) (fields : List Parity) → AreData (flat_map (field_pushes d) fields)

@@ -14,7 +14,7 @@ use Rattle.machine_model.specs.Steps.{Step, Turn}
 use Rattle.capture_desc.specs.declared.desc.Desc.{Desc}
 use Rattle.capture_desc.specs.declared.desc.Fields.{Fields}
 use Rattle.capture_desc.specs.declared.desc.Fields.TheVariants as fields
-use Rattle.picture_model.specs.Described.{describes, fields_of}
+use Rattle.picture_model.specs.Described.{describes, fields_of, vbi_skip}
 use Rattle.picture_model.specs.Programs.{compiled, vertical}
 use Rattle.picture_model.proofs.FaultlessGeometry.{IsValid-IsFrame}
 use Rattle.field_stream.specs.Generator.{first_number}
@@ -166,7 +166,7 @@ module _ (d : Desc) (seed frames frame : ℕ) (field : Parity) (has : HasField d
   comes_to q l enough =
       let place = place_of d frame field in
       let long = steps_long number (field_pushes d field) in
-      let ends = ends_in_turns number (Mark (vertical field)) (vbi_pushes d.vbi_lines d.vbi_bytes ++ picture_pushes d field) in
+      let ends = ends_in_turns number (Mark (vertical field)) (vbi_pushes d.vbi_lines (vbi_skip d field) d.vbi_bytes ++ picture_pushes d field) in
       let found = comes q steps_of (l - place) steps_behind ends (omega arith) in
       record { rest = found.rest; same = whole found.rest found.same }
     where

@@ -9,7 +9,7 @@ use Rattle.pixel_layout.specs.declared.Parity.{Parity}
 use Rattle.machine_model.specs.Steps as machine
 use Rattle.machine_model.specs.Steps.{Step, Control, Turn}
 use Rattle.capture_desc.specs.declared.desc.Desc.{Desc}
-use Rattle.picture_model.specs.Described.{IsDescription, field_height, plane_row_bytes, vbi_size}
+use Rattle.picture_model.specs.Described.{IsDescription, field_height, plane_row_bytes, vbi_skip}
 use Rattle.picture_model.specs.Geometry.{IsFrame}
 use Rattle.field_stream.specs.Generator.{drawn, lanes}
 use Rattle.field_stream.specs.Pushes.{Push, Mark, Fill, field_pushes}
@@ -45,24 +45,29 @@ abbrev pub cut : ℕ → ℕ → List ℕ → List (List ℕ)
 cut zero long bytes = []
 cut (suc count) long bytes = take long bytes ∷ cut count long (drop long bytes)
 
--- how many bytes a queue brings before the rows of a field: those of VBI lines, over queue 1, and of skipped lines
-abbrev pub vbi_bytes_on : Desc → Queue → ℕ
-vbi_bytes_on d One = vbi_size d
-vbi_bytes_on d Two = 0
-vbi_bytes_on d Three = 0
+-- how many bytes a queue brings before the rows of a field: those of VBI lines, over queue 1, where there are any, with the
+-- lines that are skipped before them, and those of skipped lines
+abbrev pub vbi_bytes_by : ℕ → ℕ → ℕ → ℕ
+vbi_bytes_by zero skipped bytes = 0
+vbi_bytes_by (suc more) skipped bytes = (skipped + suc more) * bytes
 
-abbrev pub bytes_before : Desc → Queue → ℕ
-bytes_before d q = vbi_bytes_on d q + lines_on d q d.skip_lines * plane_row_bytes d (plane_of q)
+abbrev pub vbi_bytes_on : Desc → Parity → Queue → ℕ
+vbi_bytes_on d field One = vbi_bytes_by d.vbi_lines (vbi_skip d field) d.vbi_bytes
+vbi_bytes_on d field Two = 0
+vbi_bytes_on d field Three = 0
+
+abbrev pub bytes_before : Desc → Parity → Queue → ℕ
+bytes_before d field q = vbi_bytes_on d field q + lines_on d q d.skip_lines * plane_row_bytes d (plane_of q)
 
 -- the picture of a field that is drawn from a number on: what each queue brings, cut into its lines
 abbrev pub rows_drawn : Desc → Parity → ℕ → Queue → List (List ℕ)
 rows_drawn d field number q =
-    cut (lines_on d q (field_height d field)) (plane_row_bytes d (plane_of q)) (drop (bytes_before d q) (drawn_bytes d field number q))
+    cut (lines_on d q (field_height d field)) (plane_row_bytes d (plane_of q)) (drop (bytes_before d field q) (drawn_bytes d field number q))
 
 abbrev pub drawn_picture : Desc → Parity → ℕ → Picture
 drawn_picture d field number =
     record {
-      vbi = cut d.vbi_lines d.vbi_bytes (drawn_bytes d field number One);
+      vbi = cut d.vbi_lines d.vbi_bytes (drop (vbi_skip d field * d.vbi_bytes) (drawn_bytes d field number One));
       one = rows_drawn d field number One;
       two = rows_drawn d field number Two;
       three = rows_drawn d field number Three;

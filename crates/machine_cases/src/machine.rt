@@ -69,7 +69,8 @@ fn machine(alloc: Global, accepted: Accepted, fill: u8) -> Result<Machine<MapRam
     Ok(Machine::new(accepted, ram, fifo))
 }
 
-fn made(alloc: Global, words: &[u32], fill: u8) -> Result<Machine<MapRam>, Fail> {
+/// A machine of a program of at most 16 words that may write one page.
+pub(crate) fn made(alloc: Global, words: &[u32], fill: u8) -> Result<Machine<MapRam>, Fail> {
     let accepted = accepted::<Brand>(alloc, words, Blank::new(1))?;
     machine(alloc, accepted, fill)
 }

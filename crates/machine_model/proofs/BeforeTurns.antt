@@ -1,11 +1,11 @@
 -- What a safe machine with a sound program knows before a turn.
-use Rattle.std.proofs.Common.{◌≡◌, ℕ, zero, suc, ◌+◌, ◌-◌, ◌*◌, ◌%◌, ◌^◌, ◌<◌, ◌≤◌, Bool, true, false, ◌&&◌, List, length, Option, Some, None, Ok, Err, IsTrue, refl, sym, ap, subst, ◌∙◌, arith}
-use Rattle.std.proofs.Common.{option_map, if◌then◌else◌, ◌==◌, eqb-true, ltb-true, leb-true, eq-eqb, lt-ltb, le-leb, nat_lt, nat_le}
+use Rattle.std.proofs.Common.{◌≡◌, ℕ, zero, suc, ◌+◌, ◌-◌, ◌*◌, ◌%◌, ◌^◌, ◌<◌, ◌≤◌, Bool, true, false, ◌&&◌, List, length, Option, Some, None, Ok, IsTrue, refl, sym, ap, subst, ◌∙◌, arith}
+use Rattle.std.proofs.Common.{option_map, if◌then◌else◌, ◌==◌, eqb-true, ltb-true, leb-true, nat_lt, nat_le}
+use Rattle.std.proofs.Common.{⊎_elim, slice_index, ◌∷◌, [], ◌/◌}
+use Rattle.std.proofs.lemmas.Bool.{cases_Bool, cond-false}
 use Rattle.risc_word.specs.declared.Ctl.{Ctl}
 use Rattle.risc_word.specs.declared.Instr.{Instr}
 use Rattle.risc_word.specs.declared.Instr.TheVariants.{Write, Skip, WriteC, Jump, Sync}
-use Rattle.risc_word.specs.declared.WordFault.TheVariants.{Cut}
-use Rattle.risc_word.specs.Words.{instr_at}
 use Rattle.risc_word.proofs.ReadInstructions.{KnownAt, known_at}
 use Rattle.fifo_model.specs.declared.Queue.{Queue}
 use Rattle.page_table.specs.Grants.{Chunk, granted}
@@ -15,8 +15,12 @@ use Rattle.machine_model.specs.declared.Job.{Job}
 use Rattle.machine_model.specs.declared.Job.TheVariants.{Idle, Waiting, Running}
 use Rattle.machine_model.specs.declared.Skipping.{Skipping}
 use Rattle.machine_model.specs.declared.Skipping.TheVariants.{Nothing, ToEol, ToSync}
-use Rattle.machine_model.specs.Paths.{RiscProgram, IsProgram, Place, word_number, is_word, fetch, is_data, instr_cause, data_cause, first_cause, range_cause, target_before, target_moved, place_after, path, IsSound}
+use Rattle.machine_model.specs.Paths.{RiscProgram, Span, IsProgram, Place, AreApart, end_of, is_there, stands_in, word_among, word_at, words_from, is_word, fetch, is_data, instr_cause, data_cause, first_cause, range_cause, target_before, target_moved, place_after, path, IsSound}
 use Rattle.risc_word.specs.Parts.{instr_ends}
+use Rattle.bit_field.specs.Bits.{bits}
+use Rattle.risc_word.specs.Words.{opcode_length}
+use Rattle.std.proofs.Common.{max}
+use Rattle.machine_model.specs.Accesses.{words_read}
 use Rattle.machine_model.specs.States.{State}
 use Rattle.machine_model.specs.Turns.{demand_on}
 use Rattle.machine_model.specs.Safety.{TargetAt, RunsAt, IsSafe}
@@ -27,71 +31,82 @@ use Rattle.machine_model.proofs.Following.{idle_there, waits_there, runs_there, 
 
 -- ---- addresses of words
 
--- the address of a word of the program
-pub record IsWord (program : RiscProgram) (address : ℕ) : Type 0 where
-  pub begins : program.base ≤ address
-  pub aligned : (address - program.base) % 4 ≡ 0
-  pub inside : word_number program address < length program.words
-
 pub three_parts : (a b c : Bool) → (a && b && c) ≡ true → (a ≡ true) × (b ≡ true) × (c ≡ true)
 three_parts true true true h = (refl, refl, refl)
 three_parts true true false h = cc
 three_parts true false c h = cc
 three_parts false b c h = cc
 
-three_from : (a b c : Bool) → a ≡ true → b ≡ true → c ≡ true → (a && b && c) ≡ true
+pub three_from : (a b c : Bool) → a ≡ true → b ≡ true → c ≡ true → (a && b && c) ≡ true
 three_from true true true x y z = refl
 three_from true true false x y z = cc
 three_from true false c x y z = cc
 three_from false b c x y z = cc
 
-pub is_word-IsWord : (program : RiscProgram) (address : ℕ) → is_word program address ≡ true → IsWord program address
-is_word-IsWord program address h =
-    let parts = three_parts (nat_le program.base address) ((address - program.base) % 4 == 0) (nat_lt (word_number program address) (length program.words)) h in
-    record { begins = leb-true _ _ parts.0; aligned = eqb-true _ _ parts.1; inside = ltb-true _ _ parts.2 }
+-- the words of spans lie wholly below 2^32
+among_ends : (spans : List Span) (from address : ℕ) → AreApart from spans → is_there (word_among spans address) ≡ true → address + 4 ≤ 2 ^ 32
+among_ends [] from address apart h = cc
+among_ends (s ∷ rest) from address apart h =
+    ⊎_elim
+    (λ here.
+    let parts = three_parts (nat_le s.at address) ((address - s.at) % 4 == 0) (nat_lt ((address - s.at) / 4) (length s.words)) here in
+    let begins = leb-true _ _ parts.0 in
+    let aligned = eqb-true _ _ parts.1 in
+    let inside = ltb-true _ _ parts.2 in
+    let end = apart.1.ends in
+    omega arith)
+    (λ later.
+    among_ends rest (end_of s + 1) address apart.2
+    (sym (ap is_there (cond-false (stands_in s address) (Some (slice_index s.words ((address - s.at) / 4))) (word_among rest address) later)) ∙ h))
+    (cases_Bool (stands_in s address))
 
-pub IsWord-is_word : (program : RiscProgram) (address : ℕ) → IsWord program address → is_word program address ≡ true
-IsWord-is_word program address h =
-    three_from (nat_le program.base address) ((address - program.base) % 4 == 0) (nat_lt (word_number program address) (length program.words))
-    (le-leb _ _ h.begins) (eq-eqb _ _ h.aligned) (lt-ltb _ _ h.inside)
+pub word-ends : (program : RiscProgram) (address : ℕ) → IsProgram program → is_word program address ≡ true → address + 4 ≤ 2 ^ 32
+word-ends program address made h = among_ends program.spans 0 address made.spans h
 
--- the words of a program are among them
-pub word_there : (program : RiscProgram) (n : ℕ) → n < length program.words → is_word program (program.base + 4 * n) ≡ true
-word_there program n inside =
-    IsWord-is_word program (program.base + 4 * n) (record { begins = omega arith; aligned = omega arith; inside = omega arith })
+-- where so many words are read, each of them is there
+abbrev list_of : Option ℕ → List ℕ → List ℕ
+list_of word rest = elim word as (λ _. List ℕ) [ None ↦ [] | Some word ↦ word ∷ rest ]
 
--- the address of a word that stands some words later
-pub IsWord-later : (program : RiscProgram) (address words : ℕ) → IsWord program address → word_number program address + words < length program.words →
-    IsWord program (address + 4 * words)
-IsWord-later program address words h inside =
-    let begins = h.begins in
-    let aligned = h.aligned in
-    let number : word_number program (address + 4 * words) ≡ word_number program address + words = omega arith in
-    record { begins = omega arith; aligned = omega arith; inside = omega arith }
+there_by : (program : RiscProgram) (address : ℕ) (rest : List ℕ) (word : Option ℕ) → word_at program address ≡ word →
+    ((k : ℕ) → k < length rest → word_at program (address + 4 + 4 * k) ≡ Some (slice_index rest k)) →
+    (k : ℕ) → k < length (list_of word rest) → word_at program (address + 4 * k) ≡ Some (slice_index (list_of word rest) k)
+there_by program address rest None e later k h = absurd (omega arith)
+there_by program address rest (Some word) e later zero h = let here : address + 4 * 0 ≡ address = omega arith in ap (word_at program) here ∙ e
+there_by program address rest (Some word) e later (suc k) h =
+    let next : address + 4 * suc k ≡ address + 4 + 4 * k = omega arith in ap (word_at program) next ∙ later k (omega arith)
 
--- a word lies wholly below 2^32
-pub IsWord-ends : (program : RiscProgram) (address : ℕ) → IsProgram program → IsWord program address → address + 4 ≤ 2 ^ 32
-IsWord-ends program address made h =
-    let begins = h.begins in
-    let aligned = h.aligned in
-    let inside = h.inside in
-    let ends = made.ends in
-    omega arith
+pub word_read : (count k : ℕ) (program : RiscProgram) (address : ℕ) → k < length (words_from count program address) →
+    word_at program (address + 4 * k) ≡ Some (slice_index (words_from count program address) k)
+word_read zero k program address h = absurd (omega arith)
+word_read (suc count) k program address h =
+    there_by program address (words_from count program (address + 4)) (word_at program address) refl (λ k lt. word_read count k program (address + 4) lt) k h
 
-read_if : (inside : Bool) (program : RiscProgram) (pc : ℕ) (instr : Instr) (count : ℕ) → is_word program pc ≡ inside →
-    (if inside then instr_at program.words (word_number program pc) else Err Cut) ≡ Ok (instr, count) →
-    (is_word program pc ≡ true) × (instr_at program.words (word_number program pc) ≡ Ok (instr, count))
-read_if true program pc instr count i h = (i, h)
-read_if false program pc instr count i h = cc
+pub words_there : (count k : ℕ) (program : RiscProgram) (address : ℕ) → k < length (words_from count program address) → is_word program (address + 4 * k) ≡ true
+words_there count k program address h = ap is_there (word_read count k program address h)
+
+-- how many are read
+count_by : (word : Option ℕ) (rest : List ℕ) →
+    elim word as (λ _. ℕ) [ None ↦ 1 | Some word ↦ max 1 (opcode_length (bits 28 4 word)) ]
+    ≡ max 1 (opcode_length (bits 28 4 (slice_index (elim word as (λ _. List ℕ) [ None ↦ [] | Some word ↦ word ∷ rest ]) 0)))
+count_by None rest = refl
+count_by (Some word) rest = refl
+
+pub words_read-is : (program : RiscProgram) (pc : ℕ) → words_read program pc ≡ max 1 (opcode_length (bits 28 4 (slice_index (words_from 5 program pc) 0)))
+words_read-is program pc = count_by (word_at program pc) (words_from 4 program (pc + 4))
+
+-- all the words of an instruction are words of the program, as many as its opcode says
+pub fetch-KnownAt : (program : RiscProgram) (pc : ℕ) (instr : Instr) (count : ℕ) → fetch program pc ≡ Ok (instr, count) →
+    KnownAt (words_from 5 program pc) 0 instr count
+fetch-KnownAt program pc instr count h = known_at (words_from 5 program pc) 0 instr count h
 
 -- a fetch reads at a word of the program
 pub fetch-is_word : (program : RiscProgram) (pc : ℕ) (instr : Instr) (count : ℕ) → fetch program pc ≡ Ok (instr, count) → is_word program pc ≡ true
-fetch-is_word program pc instr count h = (read_if _ program pc instr count refl h).0
-
--- all its words are words of the program, as many as its opcode says
-pub fetch-KnownAt : (program : RiscProgram) (pc : ℕ) (instr : Instr) (count : ℕ) → fetch program pc ≡ Ok (instr, count) →
-    KnownAt program.words (word_number program pc) instr count
-fetch-KnownAt program pc instr count h = known_at program.words (word_number program pc) instr count (read_if _ program pc instr count refl h).1
+fetch-is_word program pc instr count h =
+    let known = fetch-KnownAt program pc instr count h in
+    let some = known.positive in
+    let within = known.within in
+    let here : pc + 4 * 0 ≡ pc = omega arith in
+    sym (ap (is_word program) here) ∙ words_there 5 0 program pc (omega arith)
 
 -- the place of a sound program's path is the address of a word
 pub path-is_word : (program : RiscProgram) (number : ℕ) → IsSound program → is_word program (path program number).pc ≡ true
@@ -159,9 +174,6 @@ module _ (m : State) (sound : IsSound m.program) (safe : IsSafe m) where
   pub pc-is_word : is_word m.program m.pc ≡ true
   pc-is_word = pc_at m.job refl
 
-  pub pc-IsWord : IsWord m.program m.pc
-  pc-IsWord = is_word-IsWord m.program m.pc pc-is_word
-
   -- idle, an instruction stands at pc
   abbrev pub place : Place
   place = path m.program number
@@ -205,7 +217,7 @@ module _ (m : State) (sound : IsSound m.program) (safe : IsSafe m) where
 
   -- a running instruction is one of the program
   pub running-KnownAt : (instr : Instr) (ds : Demands) (e : m.job ≡ Running instr ds) →
-      KnownAt m.program.words (word_number m.program place.pc) instr (running-RunsAt instr ds e).length_in_words
+      KnownAt (words_from 5 m.program place.pc) 0 instr (running-RunsAt instr ds e).length_in_words
   running-KnownAt instr ds e = fetch-KnownAt m.program place.pc instr _ (running-RunsAt instr ds e).stands
 
   idle_target : (skipping : Skipping) → TargetAt skipping m.target place.target → Reaches m.target

@@ -10,6 +10,8 @@ pub mod Demanded
 pub mod Following
 pub mod Safe
 pub mod BeforeTurns
+pub mod OneSpan
+pub mod Spans
 pub mod WritesAndFetches
 pub mod Runs
 pub mod InstrSeen

@@ -15,7 +15,7 @@ use Rattle.machine_model.specs.Steps.{Step, Push, Control, Turn, run}
 use Rattle.machine_model.specs.Turns.{turn}
 
 abbrev program : List ℕ → RiscProgram
-program words = record { base = 0x1000; words = words; grants = chunk 0x20000 16 ∷ [] }
+program words = record { base = 0x1000; spans = record { at = 0x1000; words = words } ∷ []; grants = chunk 0x20000 16 ∷ [] }
 
 abbrev one_line : RiscProgram
 one_line = program (0x80008004 ∷ 0 ∷ 0x80000006 ∷ 0 ∷ 0x1c000008 ∷ 0x20000 ∷ 0x71e10000 ∷ 0x1000 ∷ [])
@@ -63,11 +63,14 @@ abbrev two_lines : RiscProgram
 two_lines =
     record {
       base = 0x1000;
-      words =
-          0x80008004 ∷ 0 ∷ 0x80000006 ∷ 0
-          ∷ 0x18000004 ∷ 0x20000 ∷ 0x20000004 ∷ 0x14000008 ∷ 0x20008
-          ∷ 0x18000004 ∷ 0x20010 ∷ 0x20000004 ∷ 0x14000008 ∷ 0x20018
-          ∷ 0x71e10000 ∷ 0x1000 ∷ [];
+      spans = record {
+        at = 0x1000;
+        words =
+            0x80008004 ∷ 0 ∷ 0x80000006 ∷ 0
+            ∷ 0x18000004 ∷ 0x20000 ∷ 0x20000004 ∷ 0x14000008 ∷ 0x20008
+            ∷ 0x18000004 ∷ 0x20010 ∷ 0x20000004 ∷ 0x14000008 ∷ 0x20018
+            ∷ 0x71e10000 ∷ 0x1000 ∷ [];
+      } ∷ [];
       grants = chunk 0x20000 32 ∷ [];
     }
 

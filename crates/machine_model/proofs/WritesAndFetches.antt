@@ -1,5 +1,5 @@
 -- A safe machine with a sound program writes granted bytes alone, and fetches words of the program alone.
-use Rattle.std.proofs.Common.{◌≡◌, ℕ, zero, suc, ◌+◌, ◌*◌, ◌<◌, ◌≤◌, max, Bool, true, false, List, [], ◌∷◌, length, drop, All, Option, Some, None, Ok, IsTrue, refl, sym, ap, subst, ◌∙◌, arith, if◌then◌else◌, ◌==◌, slice_index, length-take}
+use Rattle.std.proofs.Common.{◌≡◌, ℕ, zero, suc, ◌+◌, ◌*◌, ◌<◌, ◌≤◌, max, Bool, true, false, List, [], ◌∷◌, length, drop, All, Option, Some, None, Ok, IsTrue, refl, sym, subst, ◌∙◌, arith, if◌then◌else◌, ◌==◌, slice_index, length-take}
 use Rattle.std.proofs.lemmas.List.Elements.{All-nil, All-cons, All-append, All-map}
 use Rattle.bit_field.specs.Bits.{bits}
 use Rattle.risc_word.specs.declared.Instr.{Instr}
@@ -14,7 +14,7 @@ use Rattle.page_table.specs.Grants.{Chunk, granted}
 use Rattle.machine_model.specs.declared.Demands.{Demands}
 use Rattle.machine_model.specs.declared.Job.{Job}
 use Rattle.machine_model.specs.declared.Job.TheVariants.{Idle, Waiting, Running}
-use Rattle.machine_model.specs.Paths.{RiscProgram, word_number, is_word, fetch, range_cause, demand_cause, path, IsSound}
+use Rattle.machine_model.specs.Paths.{RiscProgram, words_from, is_word, fetch, range_cause, demand_cause, path, IsSound}
 use Rattle.risc_word.specs.Parts.{instr_off}
 use Rattle.machine_model.specs.States.{State}
 use Rattle.machine_model.specs.Turns.{Store, is_off, stores_from, stores_at, demand_on, verdict_at, counted, apply, lowest_served, is_done}
@@ -26,7 +26,7 @@ use Rattle.machine_model.proofs.Demanded.{demand-granted, written-IsRange}
 use Rattle.machine_model.proofs.Turning.{apply-kept}
 use Rattle.machine_model.proofs.Following.{Follows, runs_there, follows}
 use Rattle.machine_model.proofs.Safe.{IsSafe-Follows}
-use Rattle.machine_model.proofs.BeforeTurns.{IsWord, IsWord-is_word, IsWord-later, is_word-IsWord, fetch-is_word, fetch-KnownAt, idle-IsFine}
+use Rattle.machine_model.proofs.BeforeTurns.{words_read-is, words_there, fetch-KnownAt, idle-IsFine}
 
 -- ---- writes
 
@@ -123,26 +123,26 @@ writes-granted m sound safe =
 
 -- ---- fetches
 
-words-inside : (program : RiscProgram) (address from count : ℕ) → IsWord program address → word_number program address + (from + count) ≤ length program.words →
+words-inside : (program : RiscProgram) (address from count : ℕ) → from + count ≤ length (words_from 5 program address) →
     All (λ at. IsTrue (is_word program at)) (word_addresses (address + 4 * from) count)
-words-inside program address from zero h le = All-nil (λ at. IsTrue (is_word program at))
-words-inside program address from (suc count) h le =
+words-inside program address from zero le = All-nil (λ at. IsTrue (is_word program at))
+words-inside program address from (suc count) le =
     let next : address + 4 * from + 4 ≡ address + 4 * (from + 1) = omega arith in
     let rest : All (λ at. IsTrue (is_word program at)) (word_addresses (address + 4 * (from + 1)) count) =
-    words-inside program address (from + 1) count h (omega arith) in
+    words-inside program address (from + 1) count (omega arith) in
     All-cons (λ at. IsTrue (is_word program at)) (address + 4 * from) (word_addresses (address + 4 * from + 4) count)
-    (IsWord-is_word program (address + 4 * from) (IsWord-later program address from h (omega arith)))
+    (words_there 5 from program address (omega arith))
     (subst (λ at. All (λ x. IsTrue (is_word program x)) (word_addresses at count)) (sym next) rest)
 
 -- as many words are read as the instruction has
 pub words_read-known : (program : RiscProgram) (pc : ℕ) (instr : Instr) (count : ℕ) → fetch program pc ≡ Ok (instr, count) → words_read program pc ≡ count
 words_read-known program pc instr count h =
     let known = fetch-KnownAt program pc instr count h in
-    let asked : ℕ = opcode_length (bits 28 4 (slice_index program.words (word_number program pc))) in
+    let asked : ℕ = opcode_length (bits 28 4 (slice_index (words_from 5 program pc) 0)) in
     let least = known.positive in
     let number : count ≡ asked = known.by_opcode_is in
     let read : max 1 asked ≡ count = omega arith in
-    ap (λ inside. if inside then max 1 asked else 1) (fetch-is_word program pc instr count h) ∙ read
+    words_read-is program pc ∙ read
 
 pub fetch-inside : (program : RiscProgram) (pc : ℕ) (instr : Instr) (count : ℕ) → fetch program pc ≡ Ok (instr, count) →
     All (λ at. IsTrue (is_word program at)) (word_addresses pc (words_read program pc))
@@ -150,7 +150,7 @@ fetch-inside program pc instr count h =
     let known = fetch-KnownAt program pc instr count h in
     let within = known.within in
     let begin : pc + 4 * 0 ≡ pc = omega arith in
-    let all = words-inside program pc 0 count (is_word-IsWord program pc (fetch-is_word program pc instr count h)) (omega arith) in
+    let all = words-inside program pc 0 count (omega arith) in
     subst (λ n. All (λ at. IsTrue (is_word program at)) (word_addresses pc n)) (sym (words_read-known program pc instr count h))
     (subst (λ at. All (λ x. IsTrue (is_word program x)) (word_addresses at count)) begin all)
 

@@ -1,5 +1,5 @@
 -- What a turn writes and fetches, and what it reads of its program.
-use Rattle.std.specs.Prelude.{◌≡◌, ℕ, zero, suc, ◌+◌, max, Bool, true, false, All, List, [], ◌∷◌, ◌++◌, length, map, Option, Some, None, if◌then◌else◌, ◌==◌, slice_index}
+use Rattle.std.specs.Prelude.{◌≡◌, ℕ, zero, suc, ◌+◌, max, Bool, true, false, All, List, [], ◌∷◌, ◌++◌, map, Option, Some, None, if◌then◌else◌, ◌==◌}
 use Rattle.bit_field.specs.Bits.{bits}
 use Rattle.risc_word.specs.declared.Instr.{Instr}
 use Rattle.risc_word.specs.Words.{opcode_length}
@@ -11,7 +11,7 @@ use Rattle.fifo_model.specs.Queues.{queue_state, front}
 use Rattle.machine_model.specs.declared.Demands.{Demands}
 use Rattle.machine_model.specs.declared.Job.{Job}
 use Rattle.machine_model.specs.declared.Job.TheVariants.{Idle, Waiting, Running}
-use Rattle.machine_model.specs.Paths.{RiscProgram, word_number, is_word, word_at, fetch}
+use Rattle.machine_model.specs.Paths.{RiscProgram, is_word, word_at, fetch}
 use Rattle.machine_model.specs.States.{State}
 use Rattle.machine_model.specs.Turns.{Store, stores_of, demand_on, verdict_at, apply, lowest_served, is_done, counted}
 
@@ -73,9 +73,7 @@ word_addresses address (suc count) = address ∷ word_addresses (address + 4) co
 -- how many words are read at an address: one, or as many as the opcode there says
 abbrev pub words_read : RiscProgram → ℕ → ℕ
 words_read program pc =
-    if is_word program pc
-    then max 1 (opcode_length (bits 28 4 (slice_index program.words (word_number program pc))))
-    else 1
+    elim (word_at program pc) [ None ↦ 1 | Some word ↦ max 1 (opcode_length (bits 28 4 word)) ]
 
 abbrev pub fetched_by : Job → State → List ℕ
 fetched_by Idle m = word_addresses m.pc (words_read m.program m.pc)
@@ -89,10 +87,10 @@ fetches_if true m = fetched_by m.job m
 abbrev pub fetches : State → List ℕ
 fetches m = fetches_if m.risc_on m
 
--- two programs of one base, of as many words and with the same grants, that have the same words at these addresses
+-- two programs of one base, with the same grants and words at the same addresses, that have the same words at these
 pub record AgreeAt (addresses : List ℕ) (first second : RiscProgram) : Type 0 where
   pub base : first.base ≡ second.base
-  pub count : length first.words ≡ length second.words
+  pub there : (address : ℕ) → is_word first address ≡ is_word second address
   pub grants : first.grants ≡ second.grants
   pub words : All (λ address. word_at first address ≡ word_at second address) addresses
 

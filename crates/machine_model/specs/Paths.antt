@@ -1,64 +1,134 @@
 -- The path of a program, and when a program is sound.
-use Rattle.std.specs.Prelude.{◌≡◌, ℕ, zero, suc, ◌+◌, ◌-◌, ◌*◌, ◌/◌, ◌%◌, ◌^◌, ◌<◌, ◌≤◌, Bool, true, false, not, ◌&&◌, min, max, IsTrue, All, List, length, Option, Some, None, Ok, Err, option_map}
+use Rattle.std.specs.Prelude.{◌≡◌, ℕ, zero, suc, ◌+◌, ◌-◌, ◌*◌, ◌/◌, ◌%◌, ◌^◌, ◌<◌, ◌≤◌, Bool, true, false, not, ◌&&◌, IsTrue, All, List, [], ◌∷◌, ◌++◌, length, Option, Some, None, Ok, Err, option_map}
 use Rattle.std.specs.Prelude.{if◌then◌else◌, ◌==◌, nat_lt, nat_le, slice_index}
 use Rattle.risc_word.specs.declared.Instr.{Instr}
 use Rattle.risc_word.specs.declared.Instr.TheVariants.{Write, Skip, WriteC, Jump, Sync, Write123, Skip123, Write1S23}
 use Rattle.risc_word.specs.declared.WordFault.{WordFault}
 use Rattle.risc_word.specs.declared.WordFault.TheVariants as fault
 use Rattle.risc_word.specs.Parts.{instr_ends}
-use Rattle.risc_word.specs.Words.{Reading, instr_at}
-use Rattle.page_table.specs.Grants.{Chunk, AreGrants, granted, first_ungranted}
+use Rattle.std.specs.List.{list_any}
+use Rattle.risc_word.specs.Words.{Reading, first_instr}
+use Rattle.page_table.specs.Grants.{Chunk, AreGrants, granted, first_ungranted, is_met}
 use Rattle.machine_model.specs.declared.Cause.{Cause}
 use Rattle.machine_model.specs.declared.Cause.TheVariants.{Cut, Reserved, SyncCode, JumpOut, NoTarget, Wrap, Ungranted}
 use Rattle.machine_model.specs.declared.Demand.{Demand}
 use Rattle.machine_model.specs.declared.Demands.{Demands}
 
--- a program: the address of its first word, its words, and the memory that it may write
+-- words that stand one after another from an address on
+pub record Span : Type 0 where
+  pub at : ℕ
+  pub words : List ℕ
+
+abbrev pub span : ℕ → List ℕ → Span
+span at words = record { at = at; words = words }
+
+-- a program: the address at which its path begins, its words, and the memory that it may write
 pub record RiscProgram : Type 0 where
   pub base : ℕ
-  pub words : List ℕ
+  pub spans : List Span
   pub grants : List Chunk
+
+-- the address behind a span
+abbrev pub end_of : Span → ℕ
+end_of s = s.at + 4 * length s.words
 
 -- whether a chunk shares a byte with the program
 abbrev pub shares_byte : RiscProgram → Chunk → Bool
-shares_byte program c =
-    nat_lt (max program.base c.at) (min (program.base + 4 * length program.words) (c.at + c.len))
+shares_byte program c = list_any (λ s. is_met s.at (end_of s) c) program.spans
 
--- how many words a program may have
+-- all words of a program, in the order of their addresses
+abbrev pub words_of : List Span → List ℕ
+words_of [] = []
+words_of (s ∷ rest) = s.words ++ words_of rest
+
+abbrev pub all_words : RiscProgram → List ℕ
+all_words program = words_of program.spans
+
+-- the word at an address, and whether there is one
+abbrev pub stands_in : Span → ℕ → Bool
+stands_in s address = nat_le s.at address && (address - s.at) % 4 == 0 && nat_lt ((address - s.at) / 4) (length s.words)
+
+abbrev pub word_among : List Span → ℕ → Option ℕ
+word_among [] address = None
+word_among (s ∷ rest) address =
+    if stands_in s address then Some (slice_index s.words ((address - s.at) / 4)) else word_among rest address
+
+abbrev pub word_at : RiscProgram → ℕ → Option ℕ
+word_at program address = word_among program.spans address
+
+abbrev pub is_there : Option ℕ → Bool
+is_there None = false
+is_there (Some word) = true
+
+abbrev pub is_word : RiscProgram → ℕ → Bool
+is_word program address = is_there (word_at program address)
+
+-- how many words a program may have, and how many spans
 abbrev pub max_words : ℕ
 max_words = 1048576
+
+abbrev pub max_spans : ℕ
+max_spans = 4096
+
+-- a span that can stand on the bus: it has a word
+pub record IsSpan (s : Span) : Type 0 where
+  pub aligned : s.at % 4 ≡ 0
+  pub some : 0 < length s.words
+  pub ends : end_of s ≤ 2 ^ 32
+  pub fit : All (λ word. word < 2 ^ 32) s.words
+
+-- spans that stand in rising order from an address on and don't touch
+abbrev pub AreApart : ℕ → List Span → Type 0
+AreApart from [] = Unit {0}
+AreApart from (s ∷ rest) = (from ≤ s.at) × IsSpan s × AreApart (end_of s + 1) rest
+
+-- a path begins at a word, where there are words
+abbrev pub BeginsAtWord : ℕ → List Span → Type 0
+BeginsAtWord base [] = Unit {0}
+BeginsAtWord base (s ∷ rest) = IsTrue (is_there (word_among (s ∷ rest) base))
 
 -- a program as it can be made
 pub record IsProgram (program : RiscProgram) : Type 0 where
   pub aligned : program.base % 4 ≡ 0
-  pub few : length program.words ≤ max_words
-  pub ends : program.base + 4 * length program.words ≤ 2 ^ 32
-  pub fit : All (λ word. word < 2 ^ 32) program.words
+  pub low : program.base < 2 ^ 32
+  pub begins : BeginsAtWord program.base program.spans
+  pub spans : AreApart 0 program.spans
+  pub many : length program.spans ≤ max_spans
+  pub few : length (all_words program) ≤ max_words
   pub grants : AreGrants program.grants
   pub apart : All (λ c. shares_byte program c ≡ false) program.grants
+
+-- the program whose words stand one after another from its base on
+abbrev pub spans_of : ℕ → List ℕ → List Span
+spans_of base [] = []
+spans_of base (word ∷ words) = span base (word ∷ words) ∷ []
+
+abbrev pub one_span : ℕ → List ℕ → List Chunk → RiscProgram
+one_span base words grants = record { base = base; spans = spans_of base words; grants = grants }
+
+-- whether all words stand one after another from the address on at which the path begins
+abbrev pub begins_at : ℕ → List Span → Bool
+begins_at entry [] = true
+begins_at entry (s ∷ []) = s.at == entry
+begins_at entry (s ∷ other ∷ rest) = false
+
+abbrev pub begins_at_base : RiscProgram → Bool
+begins_at_base program = begins_at program.base program.spans
 
 -- a state of a path: where the next instruction stands, and where a WRITEC would go on
 pub record Place : Type 0 where
   pub pc : ℕ
   pub target : Option ℕ
 
--- the number of the word at an address, and whether there is one
-abbrev pub word_number : RiscProgram → ℕ → ℕ
-word_number program address = (address - program.base) / 4
+-- the words from an address on, as far as there are any, and at most so many
+abbrev pub words_from : ℕ → RiscProgram → ℕ → List ℕ
+words_from zero program address = []
+words_from (suc count) program address =
+    elim (word_at program address) [ None ↦ [] | Some word ↦ word ∷ words_from count program (address + 4) ]
 
-abbrev pub is_word : RiscProgram → ℕ → Bool
-is_word program address =
-    nat_le program.base address && (address - program.base) % 4 == 0
-    && nat_lt (word_number program address) (length program.words)
-
--- the word at an address
-abbrev pub word_at : RiscProgram → ℕ → Option ℕ
-word_at program address =
-    if is_word program address then Some (slice_index program.words (word_number program address)) else None
-
--- the instruction at an address
+-- the instruction at an address: no instruction has more than five words
 abbrev pub fetch : RiscProgram → ℕ → Reading
-fetch program pc = if is_word program pc then instr_at program.words (word_number program pc) else Err fault.Cut
+fetch program pc = first_instr (words_from 5 program pc)
 
 -- whether an instruction is one of data
 abbrev pub is_data : Instr → Bool

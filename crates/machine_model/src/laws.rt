@@ -1,19 +1,33 @@
 //! Laws of turns and of whole runs. The functions do nothing; their contracts are the laws.
 
-ghost use Rattle.std.specs.Prelude.{◌≡◌, ◌≢◌, ℕ, ◌||◌, true, List, All, Option, None};
+ghost use Rattle.std.specs.Prelude.{◌≡◌, ◌≢◌, ℕ, ◌+◌, ◌*◌, ◌<◌, ◌||◌, true, List, [], ◌∷◌, ◌++◌, All, Option, None, Some, length, slice_index};
 ghost use Rattle.risc_word.specs.declared.Instr.{Instr};
 ghost use Rattle.irq_status.specs.Register.{has, fdsr};
 ghost use Rattle.page_table.specs.Grants.{Chunk};
 ghost use Rattle.page_table.specs.Blocks.{byte_at, chunks_of};
 ghost use Rattle.machine_model.specs.declared.Demands.{Demands};
 ghost use Rattle.machine_model.specs.declared.Job.TheVariants.{Idle, Running};
-ghost use Rattle.machine_model.specs.Paths.{RiscProgram, AreWithin, data_cause, demands_cause, IsSound};
+ghost use Rattle.machine_model.specs.Paths.{RiscProgram, Span, AreApart, AreWithin, all_words, data_cause, demands_cause, fetch, one_span, word_among, IsSound};
+ghost use Rattle.risc_word.specs.Words.{instr_at};
 ghost use Rattle.machine_model.specs.Seen.{StandsAt, seen};
 ghost use Rattle.machine_model.specs.States.{State, first_state};
 ghost use Rattle.machine_model.specs.Turns.{stored_all, turn, with_interrupts, sets_fdsr};
 ghost use Rattle.machine_model.specs.Steps.{Step, with_program, run_in, state_at};
 ghost use Rattle.machine_model.specs.Accesses.{stores, writes, fetches, AgreeAt, AreFetchedAlike};
 ghost use Rattle.machine_model.specs.Safety.{IsInside, IsOrderly, IsSafe, IsStep};
+
+/// Spans that stand apart hide no word of each other: at the address of each word of each span that word stands.
+pub fn each_span_has_its_words()
+    ensures { (before after : List Span) (from : ℕ) (s : Span) (k : ℕ) → AreApart from (before ++ s ∷ after) → k < length s.words →
+        word_among (before ++ s ∷ after) (s.at + 4 * k) ≡ Some (slice_index s.words k) }
+{}
+
+/// A program of one span is its words: all words are these, and at the address of each of them the instruction
+/// is fetched that begins there.
+pub fn one_span_is_its_words()
+    ensures words { (base : ℕ) (words : List ℕ) (grants : List Chunk) → all_words (one_span base words grants) ≡ words }
+    ensures fetched { (base n : ℕ) (words : List ℕ) (grants : List Chunk) → fetch (one_span base words grants) (base + 4 * n) ≡ instr_at words n }
+{}
 
 /// At every place of every run of a sound program from the first state, however the steps of decoder,
 /// DMA controller and host interleave: each byte written is granted, each word fetched is one of the

@@ -14,7 +14,7 @@ use Rattle.page_table.specs.Scattered.{address_at}
 use Rattle.capture_desc.specs.declared.desc.Desc.{Desc}
 use Rattle.picture_model.specs.Described.{describes, layout_of, memory_of, plane_row_bytes}
 use Rattle.picture_model.specs.Places.{HasPlane, byte_clipped, place, row_offset, vbi_line_offset, vbi_place}
-use Rattle.picture_model.specs.Plans.{Cut, IsRowCut, IsVbiCut, Strip, Track, address_of, cuts_of, grain_bytes, grains_of, row_strip, row_track, skipped_strip, track, vbi_strip}
+use Rattle.picture_model.specs.Plans.{Cut, IsRowCut, IsVbiCut, Strip, Track, address_of, cuts_of, grain_bytes, grains_of, row_strip, row_track, skipped_strip, skipped_vbi_strip, track, vbi_strip}
 use Rattle.picture_model.proofs.Each.{Each}
 use Rattle.picture_model.proofs.Grains.{row_grains}
 use Rattle.picture_model.proofs.FaultlessGeometry.{IsRight}
@@ -117,6 +117,9 @@ pub skipped_goes : (d : Desc) (q : Queue) (x : ℕ) (cuts : List Cut) → addres
 skipped_goes d One x cuts = unwritten (memory_of d) (grain_bytes (layout_of d) 1) x cuts
 skipped_goes d Two x cuts = unwritten (memory_of d) (grain_bytes (layout_of d) 2) x cuts
 skipped_goes d Three x cuts = unwritten (memory_of d) (grain_bytes (layout_of d) 3) x cuts
+
+pub skipped_vbi_goes : (d : Desc) (x : ℕ) (cuts : List Cut) → address_in (line_parts_of (memory_of d) (track_on One (skipped_vbi_strip d)) cuts) x ≡ None
+skipped_vbi_goes d x cuts = unwritten (memory_of d) 1 x cuts
 
 module _ (d : Desc) (right : IsRight d) (field : Parity) (line : ℕ) (described : describes d.fields field ≡ true) (below : line < d.vbi_lines) where
   abbrev strip : Strip

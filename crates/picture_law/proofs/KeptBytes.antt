@@ -1,5 +1,5 @@
 -- The bytes of a field that are kept: each is stored, nothing else is, and each address has one of them at most.
-use Rattle.std.proofs.Common.{◌≡◌, ℕ, ◌<◌, Bool, true, false, List, [], ◌++◌, All, length, Option, Some, None, if◌then◌else◌, slice_index_or, refl, sym, ◌∙◌, subst, arith, ⊎_elim}
+use Rattle.std.proofs.Common.{◌≡◌, ℕ, zero, suc, ◌<◌, Bool, true, false, List, [], ◌++◌, All, length, Option, Some, None, if◌then◌else◌, slice_index_or, refl, sym, ◌∙◌, subst, arith, ⊎_elim}
 use Rattle.std.proofs.lemmas.Bool.{cases_Bool, cond-false}
 use Rattle.std.proofs.lemmas.List.{nil_from_length}
 use Rattle.std.proofs.lemmas.List.Elements.{All-nil, All-append}
@@ -20,10 +20,10 @@ use Rattle.picture_model.proofs.Sections.{row_below}
 use Rattle.field_law.specs.Sections.{is_stored}
 use Rattle.field_law.specs.CutLines.{EachByte, lines_stores}
 use Rattle.field_law.proofs.CutLines.{stored_first, stored_second}
-use Rattle.picture_law.specs.Pictures.{Picture, AreRows, FieldByte, of_row, of_vbi, IsKeptAt, IsPicture, IsUnclipped, byte_in, has_plane, plane_of, rows_on, shown_as}
-use Rattle.picture_law.proofs.BytePlaces.{queue_plane, queue_row_goes, skipped_goes, vbi_goes}
+use Rattle.picture_law.specs.Pictures.{Picture, AreRows, FieldByte, of_row, of_vbi, IsKeptAt, IsPicture, IsUnclipped, byte_in, has_plane, plane_of, rows_on, shown_as, AreSkipped, SkippedLines}
+use Rattle.picture_law.proofs.BytePlaces.{queue_plane, queue_row_goes, skipped_goes, skipped_vbi_goes, vbi_goes}
 use Rattle.picture_law.proofs.Lines.{all_stores, cut_line, cut_lines, stored_there}
-use Rattle.picture_law.proofs.Body.{field_row_strip, field_stores, row_stores, rows_all, rows_many, skipped_all, skipped_stores, skipped_strips, vbi_all, vbi_stores}
+use Rattle.picture_law.proofs.Body.{field_row_strip, field_stores, row_stores, rows_all, rows_many, skipped_all, skipped_stores, skipped_strips, skipped_vbi_all, skipped_vbi_stores, skipped_vbi_strips, vbi_all, vbi_line_stores, vbi_stores, vbi_stores_by}
 
 -- a store of a byte that is kept
 pub record IsOfPicture (d : Desc) (field : Parity) (picture : Picture) (store : Store) : Type 0 where
@@ -35,8 +35,11 @@ pub unless_clipped : (clipped : Bool) (to : Option ℕ) (address : ℕ) → (if 
 unless_clipped true to address h = cc
 unless_clipped false to address h = (refl, h)
 
+none_some : (address : ℕ) → None ≡ Some address → ⊥
+none_some address h = cc
+
 module _ (d : Desc) (right : IsRight d) (field : Parity) (described : describes d.fields field ≡ true) (picture : Picture) (is : IsPicture d field picture)
-    (skipped : Queue → List (List ℕ)) (skips : (q : Queue) → AreRows d q d.skip_lines (skipped q)) where
+    (skipped : SkippedLines) (skips : AreSkipped d field skipped) where
   abbrev IsStore : Store → Type 0
   IsStore = IsOfPicture d field picture
 
@@ -54,12 +57,14 @@ module _ (d : Desc) (right : IsRight d) (field : Parity) (described : describes 
       (sym (queue_row_goes d right q row x has (row_below d field k number) byte) ∙ goes) in
       record { byte = of_row q k x; kept = ((has, number, byte, known.0), known.1); shown = refl }
 
-  skipped_each : (q : Queue) (k : ℕ) → k < length (skipped q) → EachByte IsStore (cut_line (memory_of d) q (skipped_strips d k) (slice_index_or (skipped q) k []))
+  skipped_each : (q : Queue) (k : ℕ) → k < length (skipped.rows q) → EachByte IsStore (cut_line (memory_of d) q (skipped_strips d k) (slice_index_or (skipped.rows q) k []))
   skipped_each q k within x address inside goes =
       let nowhere = skipped_goes d q x _ in absurd (none_some address (sym nowhere ∙ goes))
-    where
-      none_some : (address : ℕ) → None ≡ Some address → ⊥
-      none_some address h = cc
+
+  skipped_vbi_each : (k : ℕ) → k < length skipped.vbi →
+      EachByte IsStore (cut_line (memory_of d) One (skipped_vbi_strips d k) (slice_index_or skipped.vbi k []))
+  skipped_vbi_each k within x address inside goes =
+      let nowhere = skipped_vbi_goes d x _ in absurd (none_some address (sym nowhere ∙ goes))
 
   vbi_each : (k : ℕ) → k < length picture.vbi → EachByte IsStore (cut_line (memory_of d) One (vbi_strip d field k) (slice_index_or picture.vbi k []))
   vbi_each k within x address inside goes =
@@ -81,25 +86,44 @@ module _ (d : Desc) (right : IsRight d) (field : Parity) (described : describes 
   all_skipped_of : (q : Queue) → All IsStore (skipped_stores d right field described picture is skipped skips q)
   all_skipped_of q =
       ⊎_elim
-      (λ has. all_stores (memory_of d) q (skipped_strips d) IsStore (skipped q) (skipped_all d right field described picture is skipped skips q has) (skipped_each q))
+      (λ has. all_stores (memory_of d) q (skipped_strips d) IsStore (skipped.rows q) (skipped_all d right field described picture is skipped skips q has) (skipped_each q))
       (λ none.
-      let empty : skipped q ≡ [] = nil_from_length (skipped q) ((skips q).many ∙ cond-false (has_plane d q) d.skip_lines 0 none) in
+      let empty : skipped.rows q ≡ [] = nil_from_length (skipped.rows q) ((skips.rows q).many ∙ cond-false (has_plane d q) d.skip_lines 0 none) in
       subst (λ (lines : List (List ℕ)). All IsStore (lines_stores (cut_lines (memory_of d) q (skipped_strips d) 0 lines))) (sym empty) (All-nil IsStore))
       (cases_Bool (has_plane d q))
 
-  all_vbi_of : (q : Queue) → All IsStore (vbi_stores d right field described picture is skipped skips q)
-  all_vbi_of One = all_stores (memory_of d) One (vbi_strip d field) IsStore picture.vbi (vbi_all d right field described picture is skipped skips) vbi_each
-  all_vbi_of Two = All-nil IsStore
-  all_vbi_of Three = All-nil IsStore
+  all_vbi_lines_of : (q : Queue) → All IsStore (vbi_line_stores d right field described picture is skipped skips q)
+  all_vbi_lines_of One = all_stores (memory_of d) One (vbi_strip d field) IsStore picture.vbi (vbi_all d right field described picture is skipped skips) vbi_each
+  all_vbi_lines_of Two = All-nil IsStore
+  all_vbi_lines_of Three = All-nil IsStore
+
+  all_skipped_vbi_of : (q : Queue) → 0 < d.vbi_lines → All IsStore (skipped_vbi_stores d right field described picture is skipped skips q)
+  all_skipped_vbi_of One there =
+      all_stores (memory_of d) One (skipped_vbi_strips d) IsStore skipped.vbi (skipped_vbi_all d right field described picture is skipped skips there) skipped_vbi_each
+  all_skipped_vbi_of Two there = All-nil IsStore
+  all_skipped_vbi_of Three there = All-nil IsStore
+
+  all_vbi_of : (q : Queue) (n : ℕ) → n ≡ d.vbi_lines → All IsStore (vbi_stores_by d right field described picture is skipped skips n q)
+  all_vbi_of q zero same = All-nil IsStore
+  all_vbi_of q (suc more) same =
+      All-append IsStore (skipped_vbi_stores d right field described picture is skipped skips q) (vbi_line_stores d right field described picture is skipped skips q)
+      (all_skipped_vbi_of q (omega arith)) (all_vbi_lines_of q)
 
   pub all_of : (q : Queue) → All IsStore (field_stores d right field described picture is skipped skips q)
   all_of q =
       let vbi = vbi_stores d right field described picture is skipped skips q in
       let skips_of = skipped_stores d right field described picture is skipped skips q in
       let rows = row_stores d right field described picture is skipped skips q in
-      All-append IsStore vbi (skips_of ++ rows) (all_vbi_of q) (All-append IsStore skips_of rows (all_skipped_of q) (all_rows_of q))
+      All-append IsStore vbi (skips_of ++ rows) (all_vbi_of q d.vbi_lines refl) (All-append IsStore skips_of rows (all_skipped_of q) (all_rows_of q))
 
   -- ---- each byte that is kept is stored
+
+  among_vbi : (address n : ℕ) → 0 < n → is_stored address (vbi_line_stores d right field described picture is skipped skips One) ≡ true →
+      is_stored address (vbi_stores_by d right field described picture is skipped skips n One) ≡ true
+  among_vbi address zero some stands = absurd (omega arith)
+  among_vbi address (suc more) some stands =
+      stored_second address (skipped_vbi_stores d right field described picture is skipped skips One)
+      (vbi_line_stores d right field described picture is skipped skips One) stands
 
   abbrev pub queue_of : FieldByte → Queue
   queue_of (of_row q number x) = q
@@ -130,8 +154,9 @@ module _ (d : Desc) (right : IsRight d) (field : Parity) (described : describes 
       let long = is.vbi.long k [] within in
       stored_first address (vbi_stores d right field described picture is skipped skips One)
       (skipped_stores d right field described picture is skipped skips One ++ row_stores d right field described picture is skipped skips One)
+      (among_vbi address d.vbi_lines (omega arith)
       (stored_there (memory_of d) One (vbi_strip d field) picture.vbi k x address (vbi_all d right field described picture is skipped skips) within (omega arith)
-      (vbi_goes d right field k described number x inside ∙ kept.1))
+      (vbi_goes d right field k described number x inside ∙ kept.1)))
 
 -- ---- each address has one byte at most
 

@@ -19,7 +19,7 @@ use Rattle.field_law.specs.Sections.{Holds, Paints, is_stored, section_stores}
 use Rattle.field_law.proofs.CutLines.{stored_first, stored_second}
 use Rattle.field_law.proofs.GrantedStores.{stores_granted}
 use Rattle.field_law.proofs.Painting.{byte_at-unstored}
-use Rattle.picture_law.specs.Pictures.{Picture, After, AreRows, FieldByte, HasPlaces, IsKeptAt, IsPicture, field_tokens, shown_as}
+use Rattle.picture_law.specs.Pictures.{Picture, After, AreRows, FieldByte, HasPlaces, IsKeptAt, IsPicture, field_tokens, shown_as, AreSkipped, SkippedLines}
 use Rattle.picture_law.specs.Sections.{section_at}
 use Rattle.picture_law.proofs.Body.{field_stores, section_makes}
 use Rattle.picture_law.proofs.KeptBytes.{IsOfPicture, all_of, kept_once, kept_stored, queue_of}
@@ -57,7 +57,7 @@ last_at P chunks memory (store ∷ stores) address same within all some =
 -- ---- the picture
 
 module _ (d : Desc) (right : IsRight d) (field : Parity) (described : describes d.fields field ≡ true) (picture : Picture) (is : IsPicture d field picture)
-    (skipped : Queue → List (List ℕ)) (skips : (q : Queue) → AreRows d q d.skip_lines (skipped q)) (memory : List Block) (places : HasPlaces d field (chunks_of memory)) where
+    (skipped : SkippedLines) (skips : AreSkipped d field skipped) (memory : List Block) (places : HasPlaces d field (chunks_of memory)) where
   abbrev stores : Queue → List Store
   stores q = field_stores d right field described picture is skipped skips q
 
@@ -145,7 +145,7 @@ stored_holds P (store ∷ stores) address all some =
     (or_cases (store.address == address) (is_stored address stores) some)
 
 pub holds_places : (d : Desc) (right : IsRight d) (field : Parity) (described : describes d.fields field ≡ true) (picture : Picture) (is : IsPicture d field picture)
-    (skipped : Queue → List (List ℕ)) (skips : (q : Queue) → AreRows d q d.skip_lines (skipped q)) (begin target : ℕ) (program : RiscProgram) →
+    (skipped : SkippedLines) (skips : AreSkipped d field skipped) (begin target : ℕ) (program : RiscProgram) →
     Holds (section_at d field begin target) program → HasPlaces d field program.grants
 holds_places d right field described picture is skipped skips begin target program held byte address kept =
     let q = queue_of d right field described picture is skipped skips byte in

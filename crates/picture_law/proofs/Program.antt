@@ -9,8 +9,8 @@ use Rattle.risc_word.specs.Words.{IsInstr, encoded, instr_at}
 use Rattle.risc_word.proofs.ReadBack.{reads_back}
 use Rattle.pixel_layout.specs.declared.Parity.{Parity}
 use Rattle.pixel_layout.specs.declared.Parity.TheVariants.{Top, Bottom}
-use Rattle.machine_model.specs.Paths.{RiscProgram, is_word, word_number, fetch}
-use Rattle.machine_model.proofs.BeforeTurns.{word_there}
+use Rattle.machine_model.specs.Paths.{RiscProgram, is_word, fetch, spans_of}
+use Rattle.machine_model.proofs.OneSpan.{fetch_there, word_there}
 use Rattle.capture_desc.specs.declared.desc.Desc.{Desc}
 use Rattle.capture_desc.specs.declared.desc.Fields.{Fields}
 use Rattle.capture_desc.specs.declared.desc.Fields.TheVariants as fields
@@ -19,7 +19,7 @@ use Rattle.picture_model.specs.declared.PieceKind.TheVariants.{Write, WriteLuma,
 use Rattle.picture_model.specs.declared.Piece.{Piece}
 use Rattle.picture_model.specs.Described.{describes, memory_of}
 use Rattle.picture_model.specs.Plans.{Strip, plan}
-use Rattle.picture_model.specs.Programs.{begin_by, body, closing, closing_begin, compiled, instr_by, instr_of, line_instrs, lines_instrs, next_by, opening, picture_strips, section, section_begin}
+use Rattle.picture_model.specs.Programs.{begin_by, body, closing, closing_begin, compiled, compiled_words, instr_by, instr_of, line_instrs, lines_instrs, next_by, opening, picture_strips, section, section_begin}
 use Rattle.picture_model.specs.Programs.{section_length, section_next, signal, vbi_from, vbi_instrs, vbi_strips, field_instrs, words_of}
 use Rattle.picture_model.proofs.Circle.{split_length, words_split}
 use Rattle.picture_model.proofs.Each.{Each, each_append}
@@ -60,29 +60,27 @@ body_plain d field =
 -- ---- where they stand
 
 -- an instruction is read where its words stand
-pub fetched_at : (program : RiscProgram) (before after : List ℕ) (i : Instr) (address : ℕ) → program.words ≡ before ++ (encoded i ++ after) →
-    address ≡ program.base + 4 * length before → IsInstr i → 0 < length (encoded i) → fetch program address ≡ Ok (i, length (encoded i))
-fetched_at program before after i address words at is some =
-    let all : length program.words ≡ length before + (length (encoded i) + length after) = ap length words ∙ split_length before (encoded i) after in
-    let word : is_word program address ≡ true = subst (λ (a : ℕ). is_word program a ≡ true) (sym at) (word_there program (length before) (omega arith)) in
-    let number : word_number program address ≡ length before = omega arith in
-    cond-true (is_word program address) _ _ word
-    ∙ ap (instr_at program.words) number
-    ∙ ap (λ (words : List ℕ). instr_at words (length before)) (words ∙ sym (append_assoc before (encoded i) after))
+pub fetched_at : (program : RiscProgram) (before after : List ℕ) (i : Instr) (address : ℕ) → program.spans ≡ spans_of program.base (before ++ (encoded i ++ after)) →
+    address ≡ program.base + 4 * length before → IsInstr i → fetch program address ≡ Ok (i, length (encoded i))
+fetched_at program before after i address words at is =
+    ap (fetch program) at
+    ∙ fetch_there program (before ++ (encoded i ++ after)) (length before) words
+    ∙ ap (λ (words : List ℕ). instr_at words (length before)) (sym (append_assoc before (encoded i) after))
     ∙ reads_back i is before after
 
 -- instructions that are good for any program stand where their words do
 module _ (program other : RiscProgram) (ctl : Ctl) (target : ℕ) (spelled : IsInstr (instr.Jump ctl target)) (after : List ℕ) where
-  pub stands_from : (instrs : List Instr) (before : List ℕ) (address : ℕ) → program.words ≡ before ++ (words_of instrs ++ (encoded (instr.Jump ctl target) ++ after)) →
+  pub stands_from : (instrs : List Instr) (before : List ℕ) (address : ℕ) →
+      program.spans ≡ spans_of program.base (before ++ (words_of instrs ++ (encoded (instr.Jump ctl target) ++ after))) →
       address ≡ program.base + 4 * length before → Each (IsGoodInstr other) instrs → Each IsPlain instrs → StandsFrom program address instrs ctl target
-  stands_from [] before address words at good plain = fetched_at program before after (instr.Jump ctl target) address words at spelled (omega arith)
+  stands_from [] before address words at good plain = fetched_at program before after (instr.Jump ctl target) address words at spelled
   stands_from (i ∷ rest) before address words at good plain =
       let later : List ℕ = words_of rest ++ (encoded (instr.Jump ctl target) ++ after) in
-      let split : program.words ≡ before ++ (encoded i ++ later) =
-      words ∙ ap (λ (ws : List ℕ). before ++ ws) (append_assoc (encoded i) (words_of rest) (encoded (instr.Jump ctl target) ++ after)) in (
-        fetched_at program before later i address split at good.0.fine.spelled good.0.fine.some,
+      let split : program.spans ≡ spans_of program.base (before ++ (encoded i ++ later)) =
+      words ∙ ap (λ (ws : List ℕ). spans_of program.base (before ++ ws)) (append_assoc (encoded i) (words_of rest) (encoded (instr.Jump ctl target) ++ after)) in (
+        fetched_at program before later i address split at good.0.fine.spelled,
         plain.0,
-        stands_from rest (before ++ encoded i) (address + 4 * length (encoded i)) (split ∙ sym (append_assoc before (encoded i) later))
+        stands_from rest (before ++ encoded i) (address + 4 * length (encoded i)) (split ∙ ap (spans_of program.base) (sym (append_assoc before (encoded i) later)))
             (omega (arith, length-append before (encoded i))) good.1 plain.1,
       )
 
@@ -117,9 +115,9 @@ pub begin_is_word : (d : Desc) (field : Parity) → describes d.fields field ≡
 begin_is_word d field is =
     let stands = section_stands d d.base d.base field is in
     let part = words_of (section d field (section_next d d.base d.base field)) in
-    let all : length (compiled d).words ≡ length stands.before + (length part + length stands.after) = ap length stands.split ∙ split_length stands.before part stands.after in
+    let all : length (compiled_words d) ≡ length stands.before + (length part + length stands.after) = ap length stands.split ∙ split_length stands.before part stands.after in
     let some = section_some d field (section_next d d.base d.base field) in
-    subst (λ (a : ℕ). is_word (compiled d) a ≡ true) (sym stands.at) (word_there (compiled d) (length stands.before) (omega arith))
+    subst (λ (a : ℕ). is_word (compiled d) a ≡ true) (sym stands.at) (word_there (compiled d) (compiled_words d) (length stands.before) refl (omega arith))
 
 pub next_is_word : (d : Desc) (field : Parity) → describes d.fields field ≡ true → is_word (compiled d) (section_next d d.base d.base field) ≡ true
 next_is_word d field is =
@@ -141,9 +139,10 @@ section_holds d field right is =
     let at = stands.at in
     holds_from (compiled d) (signal field) target (next_is_word d field is) (body d field) (section_of d field).at good.1
     (stands_from (compiled d) (compiled d) (signal field) target (signal_spelled field target) stands.after (body d field) (stands.before ++ start) (section_of d field).at
+    (ap (spans_of d.base)
     (stands.split
     ∙ ap (λ (words : List ℕ). stands.before ++ ((start ++ words) ++ stands.after)) (words_split (body d field) (closing field target) [])
-    ∙ regrouped stands.before start (words_of (body d field)) end stands.after)
+    ∙ regrouped stands.before start (words_of (body d field)) end stands.after))
     (omega (arith, length-append stands.before start)) good.1 (body_plain d field))
 
 pub words_in-words_of : (instrs : List Instr) → words_in instrs ≡ length (words_of instrs)

@@ -15,7 +15,7 @@ use Rattle.field_law.specs.Fields.{Mark, Brings}
 use Rattle.field_law.specs.Worked.{begun, line, moves}
 use Rattle.field_law.proofs.Worked as worked
 use Rattle.field_law.proofs.Worked.{before, begun_made, entries, unmarked}
-use Rattle.picture_law.specs.Pictures.{AreLines, AreRows, HoldBytes, IsPicture, field_tokens, rows_on}
+use Rattle.picture_law.specs.Pictures.{AreLines, AreRows, AreSkipped, HoldBytes, IsPicture, SkippedLines, field_tokens, rows_on}
 use Rattle.field_law.specs.Arrivals.{meeting, coming, has_signal, is_signal}
 use Rattle.picture_law.specs.Sections.{section_of}
 use Rattle.picture_model.specs.Worked.{smallest}
@@ -27,7 +27,7 @@ use Rattle.picture_law.proofs.Laws.{compiled_is_met, runs_compiled}
 pub described : IsDescription smallest
 described =
     record {
-      formed = record { stride = tt; offset = tt; pages = omega arith; no_pages = tt; chunks = tt; bytes = tt };
+      formed = record { stride = tt; offset = tt; chroma_first = tt; vbi_skip = tt; pages = omega arith; no_pages = tt; chunks = tt; bytes = tt };
       pages = All-from_recursion (λ page. page < 2 ^ 32) (0x20000 ∷ []) (omega arith, tt);
       clips = omega arith;
       skipped = omega arith;
@@ -66,12 +66,19 @@ order One = refl
 order Two = refl
 order Three = refl
 
-pub no_skips : (q : Queue) → AreRows smallest q 0 []
-no_skips One = no_lines 8
-no_skips Two = no_lines 8
-no_skips Three = no_lines 8
+-- no line is skipped
+abbrev pub none_skipped : SkippedLines
+none_skipped = record { vbi = []; rows = λ q. [] }
 
-pub brings : (q : Queue) → Brings (Mark Vre ∷ field_tokens smallest picture (λ q. []) q) (entries q)
+no_rows : (q : Queue) → AreRows smallest q 0 []
+no_rows One = no_lines 8
+no_rows Two = no_lines 8
+no_rows Three = no_lines 8
+
+pub no_skips : AreSkipped smallest Top none_skipped
+no_skips = record { vbi = no_lines 2044; rows = no_rows }
+
+pub brings : (q : Queue) → Brings (Mark Vre ∷ field_tokens smallest picture none_skipped q) (entries q)
 brings One = worked.brings One
 brings Two = worked.brings Two
 brings Three = worked.brings Three
@@ -89,7 +96,7 @@ arrives =
       rest = λ q. [];
       order = order;
       unmarked = unmarked;
-      brought = record { skipped = λ q. []; lines = no_skips; brings = brings };
+      brought = record { skipped = none_skipped; lines = no_skips; brings = brings };
     }
 
 abbrev captured_over : (steps : List Step) → All IsStep steps → IsCapture smallest Top picture steps

@@ -19,7 +19,7 @@ use Rattle.field_law.proofs.Bringing.{mark_brings, row_brings}
 use Rattle.field_law.specs.Arrivals.{AreKept, meeting, coming}
 use Rattle.field_law.specs.Worked.{begun}
 use Rattle.field_law.proofs.Worked.{before, begun_made, unmarked}
-use Rattle.picture_law.specs.Pictures.{AreLines, AreRows, HoldBytes, IsField, IsPicture, field_tokens, rows_on}
+use Rattle.picture_law.specs.Pictures.{AreLines, AreRows, AreSkipped, HoldBytes, IsField, IsPicture, SkippedLines, field_tokens, rows_on}
 use Rattle.picture_law.specs.Sections.{section_of}
 use Rattle.picture_law.specs.Runs.{ArrivesAt, IsCapture, IsSignalled, between, state_of}
 use Rattle.picture_law.specs.WorkedPlanar.{planar, ten, five, ten_entries, five_entries, planar_picture, planar_pushes, planar_moves, planar_steps, MeetsBound}
@@ -28,7 +28,16 @@ use Rattle.picture_law.proofs.Between.{silent_at}
 described : IsDescription planar
 described =
     record {
-      formed = record { stride = tt; offset = tt; pages = omega arith; no_pages = refl; chunks = omega arith; bytes = omega arith };
+      formed = record {
+        stride = tt;
+        offset = tt;
+        chroma_first = (refl, All-from_recursion (λ n. n ≤ 1) (1 ∷ 0 ∷ []) (omega arith, (omega arith, tt)));
+        vbi_skip = (refl, All-from_recursion (λ n. n ≤ 255) (1 ∷ 0 ∷ []) (omega arith, (omega arith, tt)));
+        pages = omega arith;
+        no_pages = refl;
+        chunks = omega arith;
+        bytes = omega arith;
+      };
       pages = All-nil (λ page. page < 2 ^ 32);
       clips = omega arith;
       skipped = omega arith;
@@ -83,15 +92,21 @@ pictured =
 
 -- ---- what each queue brings
 
-abbrev skipped : Queue → List (List ℕ)
-skipped One = ten 112 ∷ []
-skipped Two = five 128 ∷ []
-skipped Three = five 144 ∷ []
+abbrev skipped_rows : Queue → List (List ℕ)
+skipped_rows One = ten 112 ∷ []
+skipped_rows Two = five 128 ∷ []
+skipped_rows Three = five 144 ∷ []
 
-skips : (q : Queue) → AreRows planar q 1 (skipped q)
-skips One = one_long 10 (ten 112) refl
-skips Two = one_long 5 (five 128) refl
-skips Three = one_long 5 (five 144) refl
+abbrev skipped : SkippedLines
+skipped = record { vbi = five 160 ∷ []; rows = skipped_rows }
+
+rows_skipped : (q : Queue) → AreRows planar q 1 (skipped_rows q)
+rows_skipped One = one_long 10 (ten 112) refl
+rows_skipped Two = one_long 5 (five 128) refl
+rows_skipped Three = one_long 5 (five 144) refl
+
+skips : AreSkipped planar Top skipped
+skips = record { vbi = one_long 5 (five 160) refl; rows = rows_skipped }
 
 -- three lines, as each queue brings them
 abbrev three_rows : List ℕ → List ℕ → List ℕ → List Token
@@ -114,7 +129,7 @@ chroma_lines Two = three_lines (five_entries 128) (five_entries 48) (five_entrie
 chroma_lines Three = three_lines (five_entries 144) (five_entries 80) (five_entries 96)
 
 abbrev entries : Queue → List Entry
-entries One = control_entry Vre ∷ control_entry Fm1 ∷ (five_entries 1 ++ control_entry Fm3 ∷ luma_lines)
+entries One = control_entry Vre ∷ control_entry Fm1 ∷ (five_entries 160 ++ (five_entries 1 ++ control_entry Fm3 ∷ luma_lines))
 entries Two = control_entry Vre ∷ control_entry Fm1 ∷ control_entry Fm3 ∷ chroma_lines Two
 entries Three = control_entry Vre ∷ control_entry Fm1 ∷ control_entry Fm3 ∷ chroma_lines Three
 
@@ -132,10 +147,12 @@ chroma_brings tokens entries here =
 brings : (q : Queue) → Brings (Mark Vre ∷ field_tokens planar planar_picture skipped q) (entries q)
 brings One =
     let rows = three_rows (ten 112) (ten 16) (ten 32) in
-    mark_brings Vre (Mark Fm1 ∷ Row (five 1) ∷ Mark Fm3 ∷ rows) (control_entry Fm1 ∷ (five_entries 1 ++ control_entry Fm3 ∷ luma_lines))
-    (mark_brings Fm1 (Row (five 1) ∷ Mark Fm3 ∷ rows) (five_entries 1 ++ control_entry Fm3 ∷ luma_lines)
+    let later = five_entries 1 ++ control_entry Fm3 ∷ luma_lines in
+    mark_brings Vre (Mark Fm1 ∷ Row (five 160) ∷ Row (five 1) ∷ Mark Fm3 ∷ rows) (control_entry Fm1 ∷ (five_entries 160 ++ later))
+    (mark_brings Fm1 (Row (five 160) ∷ Row (five 1) ∷ Mark Fm3 ∷ rows) (five_entries 160 ++ later)
+    (row_brings (five 160) (five_entries 160) (Row (five 1) ∷ Mark Fm3 ∷ rows) later (record { shape = refl; valid = refl })
     (row_brings (five 1) (five_entries 1) (Mark Fm3 ∷ rows) (control_entry Fm3 ∷ luma_lines) (record { shape = refl; valid = refl })
-    (mark_brings Fm3 rows luma_lines luma_brings)))
+    (mark_brings Fm3 rows luma_lines luma_brings))))
 brings Two =
     chroma_brings (three_rows (five 128) (five 48) (five 64)) (chroma_lines Two)
     (lines_bring (five 128) (five 48) (five 64) (five_entries 128) (five_entries 48) (five_entries 64)
@@ -158,7 +175,7 @@ abbrev machine : State
 machine = state_of planar 0 planar_steps 2
 
 pushes_kept : (count : ℕ) → AreKept machine (meeting (compiled planar) (planar_pushes ++ replicate count Turn))
-pushes_kept count = (refl, (refl, (refl, (refl, (refl, (refl, (refl, (refl, (refl, (refl, (refl, (refl, (refl, (refl, (refl, (refl, (refl, (refl, (refl, (refl, (refl, (refl, (refl, (refl, (refl, (refl, turns_kept _ count))))))))))))))))))))))))))
+pushes_kept count = (refl, (refl, (refl, (refl, (refl, (refl, (refl, (refl, (refl, (refl, (refl, (refl, (refl, (refl, (refl, (refl, (refl, (refl, (refl, (refl, (refl, (refl, (refl, (refl, (refl, (refl, (refl, (refl, turns_kept _ count))))))))))))))))))))))))))))
 
 abbrev order_of : ℕ → Queue → Type 0
 order_of count q =
@@ -185,7 +202,7 @@ turns_made zero = All-nil IsStep
 turns_made (suc count) = All-cons IsStep Turn (replicate count Turn) tt (turns_made count)
 
 pushes_made : All IsStep planar_pushes
-pushes_made = All-from_recursion IsStep planar_pushes (tt, (tt, (refl, (refl, (tt, (refl, (refl, (refl, (refl, (refl, (refl, (refl, (refl, (refl, (refl, (refl, (refl, (refl, (refl, (refl, (refl, (refl, (refl, (refl, (refl, (refl, tt))))))))))))))))))))))))))
+pushes_made = All-from_recursion IsStep planar_pushes (tt, (tt, (refl, (refl, (refl, (refl, (tt, (refl, (refl, (refl, (refl, (refl, (refl, (refl, (refl, (refl, (refl, (refl, (refl, (refl, (refl, (refl, (refl, (refl, (refl, (refl, (refl, (refl, tt))))))))))))))))))))))))))))
 
 capture : IsCapture planar Top planar_picture planar_steps
 capture =
@@ -197,12 +214,12 @@ capture =
       made = All-append IsStep begun planar_moves begun_made (All-append IsStep planar_pushes (replicate 100 Turn) pushes_made (turns_made 100));
     }
 
-order_to_signal : (q : Queue) → order_of 49 q
+order_to_signal : (q : Queue) → order_of 53 q
 order_to_signal One = refl
 order_to_signal Two = refl
 order_to_signal Three = refl
 
-pub planar_signalled : IsSignalled planar Top planar_picture 0 planar_steps 2 76
+pub planar_signalled : IsSignalled planar Top planar_picture 0 planar_steps 2 82
 planar_signalled =
     record {
       capture = capture;
@@ -210,9 +227,9 @@ planar_signalled =
         later = omega arith;
         there = omega arith;
         signal = refl;
-        first = λ i from to. silent_at (section_of planar Top) (first_state (compiled planar) 0) planar_steps 74 2 76 i refl (omega arith) refl from to;
+        first = λ i from to. silent_at (section_of planar Top) (first_state (compiled planar) 0) planar_steps 80 2 82 i refl (omega arith) refl from to;
       };
-      arrives = arrives_over 49 order_to_signal;
+      arrives = arrives_over 53 order_to_signal;
     }
 
 order_to_end : (q : Queue) → order_of 100 q
@@ -220,10 +237,10 @@ order_to_end One = refl
 order_to_end Two = refl
 order_to_end Three = refl
 
-come : (q : Queue) → length (before q) + length (entries q) ≤ length (queue_state q machine.queues).entries + length (coming (meeting (compiled planar) (between 2 28 planar_steps)) q)
+come : (q : Queue) → length (before q) + length (entries q) ≤ length (queue_state q machine.queues).entries + length (coming (meeting (compiled planar) (between 2 30 planar_steps)) q)
 come One = omega arith
 come Two = omega arith
 come Three = omega arith
 
-pub planar_bounded : MeetsBound 2 28 128
+pub planar_bounded : MeetsBound 2 30 130
 planar_bounded = (arrives_over 100 order_to_end, come, omega arith)

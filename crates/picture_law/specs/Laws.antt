@@ -18,7 +18,7 @@ use Rattle.picture_model.specs.Geometry.{IsFrame}
 use Rattle.picture_model.specs.Programs.{closing_begin, compiled, size}
 use Rattle.field_law.specs.Arrivals.{Met, Arrives, coming, entries_of, over_queues, is_signal, has_signal, turns_in}
 use Rattle.field_law.specs.Sections.{Holds, Uses, Paints, closing_at}
-use Rattle.picture_law.specs.Pictures.{Picture, AreRows, HasPlaces, IsField, IsPicture, After, field_tokens}
+use Rattle.picture_law.specs.Pictures.{Picture, AreRows, HasPlaces, IsField, IsPicture, After, field_tokens, AreSkipped, SkippedLines}
 use Rattle.picture_law.specs.Sections.{section_at, section_of}
 
 -- a picture of a field that a description describes, whose frame is right
@@ -85,14 +85,14 @@ abbrev pub EndsSection : Type 0
 EndsSection = (d : Desc) (field : Parity) → closing_at (section_of d field) ≡ closing_begin d d.base field
 
 abbrev pub UsesPicture : Type 0
-UsesPicture = (d : Desc) (field : Parity) (begin target : ℕ) (picture : Picture) (skipped : Queue → List (List ℕ)) → IsPictured d field picture →
-    ((q : Queue) → AreRows d q d.skip_lines (skipped q)) → Uses (section_at d field begin target) (field_tokens d picture skipped)
+UsesPicture = (d : Desc) (field : Parity) (begin target : ℕ) (picture : Picture) (skipped : SkippedLines) → IsPictured d field picture →
+    AreSkipped d field skipped → Uses (section_at d field begin target) (field_tokens d picture skipped)
 
 abbrev pub PaintsPicture : Type 0
-PaintsPicture = (d : Desc) (field : Parity) (begin target : ℕ) (picture : Picture) (skipped : Queue → List (List ℕ)) (memory now : List Block) → IsPictured d field picture →
-    ((q : Queue) → AreRows d q d.skip_lines (skipped q)) → HasPlaces d field (chunks_of memory) → After d field picture memory now →
+PaintsPicture = (d : Desc) (field : Parity) (begin target : ℕ) (picture : Picture) (skipped : SkippedLines) (memory now : List Block) → IsPictured d field picture →
+    AreSkipped d field skipped → HasPlaces d field (chunks_of memory) → After d field picture memory now →
     Paints (section_at d field begin target) (field_tokens d picture skipped) memory (byte_at now)
 
 abbrev pub GrantsPlaces : Type 0
-GrantsPlaces = (d : Desc) (field : Parity) (begin target : ℕ) (picture : Picture) (skipped : Queue → List (List ℕ)) (program : RiscProgram) → IsPictured d field picture →
-    ((q : Queue) → AreRows d q d.skip_lines (skipped q)) → Holds (section_at d field begin target) program → HasPlaces d field program.grants
+GrantsPlaces = (d : Desc) (field : Parity) (begin target : ℕ) (picture : Picture) (skipped : SkippedLines) (program : RiscProgram) → IsPictured d field picture →
+    AreSkipped d field skipped → Holds (section_at d field begin target) program → HasPlaces d field program.grants

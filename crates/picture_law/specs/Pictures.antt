@@ -9,7 +9,7 @@ use Rattle.pixel_layout.specs.Layouts.{planes_of}
 use Rattle.page_table.specs.Grants.{Chunk, granted}
 use Rattle.page_table.specs.Blocks.{Block, chunks_of, byte_at}
 use Rattle.capture_desc.specs.declared.desc.Desc.{Desc}
-use Rattle.picture_model.specs.Described.{both, field_height, layout_of, picture_row, plane_row_bytes}
+use Rattle.picture_model.specs.Described.{both, field_height, layout_of, picture_row, plane_row_bytes, vbi_skip}
 use Rattle.picture_model.specs.Places.{Byte, row_byte, vbi_byte, byte_clipped, byte_place}
 use Rattle.picture_model.specs.Programs.{data_code, vertical}
 use Rattle.field_law.specs.Fields.{Token, Mark, Row, Brings}
@@ -67,23 +67,39 @@ vbi_on picture Three = []
 abbrev pub lines_of : List (List ℕ) → List Token
 lines_of lines = map Row lines
 
--- what a queue brings after the vertical code: where there are VBI lines, FM1 and those lines; then FM1 or FM3, the
--- skipped lines and the rows
-abbrev pub vbi_tokens : ℕ → List (List ℕ) → List Token
-vbi_tokens zero lines = []
-vbi_tokens (suc more) lines = Mark Fm1 ∷ lines_of lines
+-- the lines of a field that are passed over: those before its VBI lines, and those before its rows on each queue
+pub record SkippedLines : Type 0 where
+  pub vbi : List (List ℕ)
+  pub rows : Queue → List (List ℕ)
+
+-- they are as long as the others, with any bytes
+pub record AreSkipped (d : Desc) (field : Parity) (skipped : SkippedLines) : Type 0 where
+  pub vbi : AreLines (vbi_skip d field) d.vbi_bytes skipped.vbi
+  pub rows : (q : Queue) → AreRows d q d.skip_lines (skipped.rows q)
+
+abbrev pub skipped_vbi_on : SkippedLines → Queue → List (List ℕ)
+skipped_vbi_on skipped One = skipped.vbi
+skipped_vbi_on skipped Two = []
+skipped_vbi_on skipped Three = []
+
+-- what a queue brings after the vertical code: where there are VBI lines, FM1, the skipped ones and those lines; then FM1
+-- or FM3, the skipped lines and the rows
+abbrev pub vbi_tokens : ℕ → List (List ℕ) → List (List ℕ) → List Token
+vbi_tokens zero skipped lines = []
+vbi_tokens (suc more) skipped lines = Mark Fm1 ∷ (lines_of skipped ++ lines_of lines)
 
 abbrev pub picture_tokens : Bool → List (List ℕ) → List (List ℕ) → List Token
 picture_tokens planar skipped rows = Mark (data_code planar) ∷ (lines_of skipped ++ lines_of rows)
 
-abbrev pub field_tokens : Desc → Picture → (Queue → List (List ℕ)) → Queue → List Token
+abbrev pub field_tokens : Desc → Picture → SkippedLines → Queue → List Token
 field_tokens d picture skipped q =
-    vbi_tokens d.vbi_lines (vbi_on picture q) ++ picture_tokens (layout_of d).planar (skipped q) (rows_on picture q)
+    vbi_tokens d.vbi_lines (skipped_vbi_on skipped q) (vbi_on picture q)
+    ++ picture_tokens (layout_of d).planar (skipped.rows q) (rows_on picture q)
 
 -- entries that bring a picture of a field; the bytes of its skipped lines are any
 pub record IsField (d : Desc) (field : Parity) (picture : Picture) (entries : Queue → List Entry) : Type 0 where
-  pub skipped : Queue → List (List ℕ)
-  pub lines : (q : Queue) → AreRows d q d.skip_lines (skipped q)
+  pub skipped : SkippedLines
+  pub lines : AreSkipped d field skipped
   pub brings : (q : Queue) → Brings (Mark (vertical field) ∷ field_tokens d picture skipped q) (entries q)
 
 -- a byte of a field: byte x of a row on the plane of a queue, or byte x of a VBI line; rows are counted in the field

@@ -1,5 +1,6 @@
--- A worked description with all that a description may have: both fields, VBI lines, skipped lines, a clip, a planar format
--- of which every other row of a field keeps its chroma, and two chunks, the second of which begins within a row.
+-- A worked description with all that a description may have: both fields, VBI lines a step apart, one of which is skipped
+-- before the top field's, skipped lines, a clip, a planar format of which every other row of a field keeps its chroma (of the
+-- top field the second, of the bottom field the first), and two chunks, the second of which begins within a row.
 use Rattle.std.specs.Prelude.{ℕ, ◌+◌, ◌*◌, ◌≤◌, List, [], ◌∷◌, ◌++◌, length, map, replicate, Some, None}
 use Rattle.std.specs.List.{range_with_len}
 use Rattle.risc_word.specs.declared.Code.TheVariants.{Vre, Fm1, Fm3}
@@ -28,14 +29,17 @@ planar =
       fields = fields.Both;
       stride = None;
       offset = None;
+      chroma_first = Some (1 ∷ 0 ∷ []);
       skip_lines = 1;
       vbi_lines = 1;
       vbi_bytes = 5;
       vbi_offset = None;
+      vbi_skip = Some (1 ∷ 0 ∷ []);
+      vbi_stride = Some 8;
       clip = record { x = 2; y = 0; w = 2; h = 1 } ∷ [];
       base = 4096;
       pages = [];
-      chunks = Some ((131072, 28) ∷ (196608, 44) ∷ []);
+      chunks = Some ((131072, 28) ∷ (196608, 48) ∷ []);
       fill = 0;
     }
 
@@ -70,7 +74,7 @@ line_pushes q entries = map (Push q) entries
 
 abbrev pub planar_pushes : List Step
 planar_pushes =
-    Control Vre ∷ Control Fm1 ∷ (line_pushes One (five_entries 1)
+    Control Vre ∷ Control Fm1 ∷ (line_pushes One (five_entries 160 ++ five_entries 1)
     ++ Control Fm3 ∷ (line_pushes One (ten_entries 112 ++ (ten_entries 16 ++ ten_entries 32))
     ++ (line_pushes Two (five_entries 128 ++ (five_entries 48 ++ five_entries 64))
     ++ line_pushes Three (five_entries 144 ++ (five_entries 80 ++ five_entries 96)))))

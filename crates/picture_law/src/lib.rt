@@ -75,6 +75,6 @@ pub fn worked_picture_arrives()
 /// with chroma that is kept and chroma that is not, and two chunks. The top field of such a description arrives behind an
 /// entry of an earlier field, is signalled within the bound, and meets the premises of each law over a run.
 pub fn worked_planar_picture_arrives()
-    ensures signalled { IsSignalled planar Top planar_picture 0 planar_steps 2 76 }
-    ensures in_time { MeetsBound 2 28 128 }
+    ensures signalled { IsSignalled planar Top planar_picture 0 planar_steps 2 82 }
+    ensures in_time { MeetsBound 2 30 130 }
 {}

@@ -1,13 +1,12 @@
 -- A program of instructions without a fault, each of which leads to another, is sound.
 use Rattle.std.proofs.Common.{◌≡◌, ℕ, zero, suc, ◌+◌, ◌*◌, ◌<◌, true, List, [], ◌∷◌, ◌++◌, length, length-append, append_assoc, Option, None, Ok, sym, ap, ◌∙◌, subst, arith}
-use Rattle.std.proofs.lemmas.Bool.{cond-true}
 use Rattle.std.proofs.lemmas.Grind.{flat_map-append}
 use Rattle.risc_word.specs.declared.Instr.{Instr}
 use Rattle.risc_word.specs.declared.Instr.TheVariants.{Write, Skip, WriteC, Jump, Sync, Write123, Skip123, Write1S23}
 use Rattle.risc_word.specs.Words.{IsInstr, encoded, instr_at}
 use Rattle.risc_word.proofs.ReadBack.{reads_back}
-use Rattle.machine_model.specs.Paths.{RiscProgram, Place, cause_at, fetch, instr_cause, is_word, next_by, next_place, path, place_after, place_read, reading_cause, word_number, IsSound}
-use Rattle.machine_model.proofs.BeforeTurns.{word_there}
+use Rattle.machine_model.specs.Paths.{RiscProgram, Place, cause_at, fetch, instr_cause, is_word, next_by, next_place, path, place_after, place_read, reading_cause, spans_of, IsSound}
+use Rattle.machine_model.proofs.OneSpan.{fetch_there, word_there}
 use Rattle.picture_model.specs.Programs.{words_of}
 use Rattle.picture_model.proofs.Each.{Each, each_at}
 
@@ -95,27 +94,25 @@ words_of_more : (before : List Instr) (i : Instr) → length (words_of (before +
 words_of_more before i =
     ap length (words_split before i []) ∙ split_length (words_of before) (encoded i) [] ∙ plus_none (length (words_of before)) (length (encoded i))
 
-module _ (program : RiscProgram) (instrs : List Instr) (spelled : program.words ≡ words_of instrs) (fine : Each (IsFineInstr program) instrs) where
+module _ (program : RiscProgram) (instrs : List Instr) (spelled : program.spans ≡ spans_of program.base (words_of instrs)) (fine : Each (IsFineInstr program) instrs) where
   instr_fine : (address : ℕ) (at : IsAt program.base instrs address) → IsFineInstr program at.instr
   instr_fine address at =
       each_at (IsFineInstr program) at.before at.instr at.after (subst (Each (IsFineInstr program)) at.split fine)
 
-  words_at : (address : ℕ) (at : IsAt program.base instrs address) → program.words ≡ words_of at.before ++ (encoded at.instr ++ words_of at.after)
-  words_at address at = spelled ∙ ap words_of at.split ∙ words_split at.before at.instr at.after
+  words_at : (address : ℕ) (at : IsAt program.base instrs address) → words_of instrs ≡ words_of at.before ++ (encoded at.instr ++ words_of at.after)
+  words_at address at = ap words_of at.split ∙ words_split at.before at.instr at.after
 
   pub at_is_word : (address : ℕ) → IsAt program.base instrs address → is_word program address ≡ true
   at_is_word address at =
       let words = words_at address at in
-      let all : length program.words ≡ length (words_of at.before) + (length (encoded at.instr) + length (words_of at.after)) = ap length words ∙ split_length (words_of at.before) (encoded at.instr) (words_of at.after) in
+      let all : length (words_of instrs) ≡ length (words_of at.before) + (length (encoded at.instr) + length (words_of at.after)) = ap length words ∙ split_length (words_of at.before) (encoded at.instr) (words_of at.after) in
       let some = (instr_fine address at).some in
-      subst (λ (a : ℕ). is_word program a ≡ true) (sym at.at) (word_there program (length (words_of at.before)) (omega arith))
+      subst (λ (a : ℕ). is_word program a ≡ true) (sym at.at) (word_there program (words_of instrs) (length (words_of at.before)) spelled (omega arith))
 
   pub fetch_at : (address : ℕ) (at : IsAt program.base instrs address) → fetch program address ≡ Ok (at.instr, length (encoded at.instr))
   fetch_at address at =
-      let e = at.at in
-      let number : word_number program address ≡ length (words_of at.before) = omega arith in
-      cond-true (is_word program address) _ _ (at_is_word address at)
-      ∙ ap (instr_at program.words) number
+      ap (fetch program) at.at
+      ∙ fetch_there program (words_of instrs) (length (words_of at.before)) spelled
       ∙ ap (λ (words : List ℕ). instr_at words (length (words_of at.before))) (words_at address at)
       ∙ reads_at (words_of at.before) at.instr (words_of at.after) (instr_fine address at).spelled
 

@@ -13,12 +13,13 @@ use Rattle.page_table.proofs.Gathering.{IsGathered, chunk_from_test, none_gather
 use Rattle.page_table.proofs.Pages.{total-pages}
 use Rattle.page_table.proofs.Placing.{length-placed, total-cons, total-placed}
 use Rattle.machine_model.specs.Paths.{IsProgram, RiscProgram, shares_byte}
+use Rattle.machine_model.proofs.OneSpan.{one_span-made}
 use Rattle.capture_desc.specs.declared.desc.Desc.{Desc}
 use Rattle.capture_desc.specs.declared.desc.Fields.{Fields}
 use Rattle.capture_desc.specs.declared.desc.Fields.TheVariants as fields
 use Rattle.picture_model.specs.Described.{IsDescription, describes, memory_from, memory_of}
 use Rattle.picture_model.specs.Geometry.{IsValid}
-use Rattle.picture_model.specs.Programs.{body, closing, compiled, opening, section, section_length, sections_by, words_of}
+use Rattle.picture_model.specs.Programs.{body, closing, compiled, compiled_words, opening, section, section_length, sections_by, words_of}
 use Rattle.picture_model.proofs.Each.{Each, each_All, each_append, each_flat_map, each_only}
 use Rattle.picture_model.proofs.FaultlessLines.{AreWords, IsGoodInstr}
 use Rattle.picture_model.proofs.Limit.{memory_few, sections_few}
@@ -109,16 +110,21 @@ module _ (d : Desc) (program : RiscProgram) where
       (section_words Top mid (omega arith) (good Top refl))
       (section_words Bottom base (omega arith) (good Bottom refl)))
 
+-- there are words, whatever is described
+some_words : (which : Fields) (d : Desc) (base : ℕ) → 0 < length (words_of (sections_by which d base base))
+some_words fields.Top d base = omega arith
+some_words fields.Bottom d base = omega arith
+some_words fields.Both d base = omega arith
+
 pub compiled_program : (d : Desc) → IsDescription d → IsValid d → IsProgram (compiled d)
 compiled_program d is valid =
     let right = IsFrame-IsRight d is (IsValid-IsFrame d valid) in
     let room = IsValid-HasRoom d valid in
-    record {
-      aligned = room.base;
-      few = let few = sections_few d d.base d.base is right in omega arith;
-      ends = room.ends;
-      fit = each_All (λ word. word < 2 ^ 32) (compiled d).words (words_by d (compiled d) d.fields d.base (good_body d right (compiled d) refl) room.ends);
-      grants = memory_grants d is right;
-      apart = each_All (λ c. shares_byte (compiled d) c ≡ false) (compiled d).grants
-          (none_shares (shares_byte (compiled d)) (compiled d).grants (any-in_order (shares_byte (compiled d)) (memory_of d) ∙ room.apart));
-    }
+    let ends = room.ends in
+    let some = some_words d.fields d d.base in
+    let few = sections_few d d.base d.base is right in
+    one_span-made d.base (compiled_words d) (compiled d).grants room.base (omega arith) (omega arith) ends
+    (each_All (λ word. word < 2 ^ 32) (compiled_words d) (words_by d (compiled d) d.fields d.base (good_body d right (compiled d) refl) ends))
+    (memory_grants d is right)
+    (each_All (λ c. shares_byte (compiled d) c ≡ false) (compiled d).grants
+    (none_shares (shares_byte (compiled d)) (compiled d).grants (any-in_order (shares_byte (compiled d)) (memory_of d) ∙ room.apart)))

@@ -1,4 +1,4 @@
--- How many chunks end at an offset or before it, and what lines in order cross.
+-- How many chunks end at an offset or before it.
 use Rattle.std.proofs.Common.{◌≡◌, ℕ, zero, suc, ◌+◌, ◌-◌, ◌*◌, ◌<◌, ◌≤◌, List, [], ◌∷◌, length, map, Option, Some, None, refl, sym, ap, arith, ⊎_elim, if◌then◌else◌}
 use Rattle.std.specs.Prelude.{nat_lt}
 use Rattle.std.specs.List.{range_with_len}
@@ -51,12 +51,6 @@ ended-past (c ∷ rest) o n within past =
     omega (arith, ended-later c rest o later, ended-later c rest (o + n) (omega arith)))
     (cases_lt o c.len)
 
--- lines of so many bytes that begin at some of these offsets, in order from `low` on and up to `high`
-abbrev pub AreInOrder : ℕ → ℕ → ℕ → List (Option ℕ) → Type 0
-AreInOrder bytes low high [] = low ≤ high
-AreInOrder bytes low high (None ∷ rest) = AreInOrder bytes low high rest
-AreInOrder bytes low high (Some from ∷ rest) = (low ≤ from) × AreInOrder bytes (from + bytes) high rest
-
 -- the chunks that have ended at the offset so many bytes after a line's beginning
 abbrev pub ended_after : List Chunk → ℕ → Option ℕ → ℕ
 ended_after memory bytes None = 0
@@ -65,33 +59,6 @@ ended_after memory bytes (Some from) = ended memory (from + bytes)
 abbrev pub all_ended : List Chunk → ℕ → List (Option ℕ) → ℕ
 all_ended memory bytes [] = 0
 all_ended memory bytes (start ∷ rest) = ended_after memory bytes start + all_ended memory bytes rest
-
--- the lines cross at most the chunk ends between their bounds
-pub crossed-within : (memory : List Chunk) (bytes low high : ℕ) (starts : List (Option ℕ)) → AreInOrder bytes low high starts → all_ended memory bytes starts + ended memory low ≤ all_ended memory 0 starts + ended memory high
-crossed-within memory bytes low high [] order = let more = ended-le memory low high order in omega arith
-crossed-within memory bytes low high (None ∷ rest) order = let more = crossed-within memory bytes low high rest order in omega arith
-crossed-within memory bytes low high (Some from ∷ rest) order =
-    let more = crossed-within memory bytes (from + bytes) high rest order.1 in
-    let here = ended-le memory low (from + 0) (let first = order.0 in omega arith) in
-    omega arith
-
-in_order_by : (bytes low high : ℕ) (start : Option ℕ) (rest : List (Option ℕ)) → (start ≡ None → AreInOrder bytes low high rest) →
-    ((from : ℕ) → start ≡ Some from → (low ≤ from) × AreInOrder bytes (from + bytes) high rest) → AreInOrder bytes low high (start ∷ rest)
-in_order_by bytes low high None rest none some = none refl
-in_order_by bytes low high (Some from) rest none some = some from refl
-
-pub range_in_order : (f : ℕ → Option ℕ) (bytes low high from count : ℕ) → low ≤ high → ((k o : ℕ) → from ≤ k → k < from + count → f k ≡ Some o → (low ≤ o) × (o + bytes ≤ high)) →
-    ((k l o p : ℕ) → k < l → f k ≡ Some o → f l ≡ Some p → o + bytes ≤ p) → AreInOrder bytes low high (map f (range_with_len from count))
-range_in_order f bytes low high from zero some within apart = some
-range_in_order f bytes low high from (suc count) some within apart =
-    in_order_by bytes low high (f from) (map f (range_with_len (from + 1) count))
-    (λ none. range_in_order f bytes low high (from + 1) count some (λ k o later below is. within k o (omega arith) (omega arith) is) apart)
-    (λ o here.
-    let first = within from o (omega arith) (omega arith) here in (
-      first.0,
-      range_in_order f bytes (o + bytes) high (from + 1) count first.1
-          (λ k p later below is. (apart from k o p (omega arith) here is, (within k p (omega arith) (omega arith) is).1)) apart,
-    ))
 
 -- what the even and the odd ones of a range have passed, all of it has
 pub interleaved : (memory : List Chunk) (bytes : ℕ) (f : ℕ → Option ℕ) (from count low m : ℕ) → low ≡ 2 * from → m ≡ 2 * count →

@@ -12,10 +12,10 @@ use Rattle.machine_model.specs.Paths.{shares_byte}
 use Rattle.capture_desc.specs.declared.desc.Desc.{Desc}
 use Rattle.picture_model.specs.declared.BuildFault.{BuildFault}
 use Rattle.picture_model.specs.declared.BuildFault.TheVariants.{PageUnaligned, PageTwice}
-use Rattle.picture_model.specs.Described.{IsDescription, both, layout_of, memory_of, memory_from, planes, plane_row_bytes, stride, offset, taken, highest_end}
+use Rattle.picture_model.specs.Described.{IsDescription, both, layout_of, memory_of, memory_from, planes, plane_row_bytes, stride, offset, taken, highest_end, vbi_stride}
 use Rattle.picture_model.specs.Geometry.{Check, IsFrame, IsValid, first_after, first_missing, first_unaligned, frame_faults, max_height, max_vbi_lines, max_width, min_line_bytes, program_faults, is_between, is_multiple, some_overlap, when}
 use Rattle.picture_model.specs.Plans.{max_piece}
-use Rattle.picture_model.specs.Programs.{compiled}
+use Rattle.picture_model.specs.Programs.{compiled, compiled_words}
 use Rattle.pixel_layout.specs.Layouts.{planes_of}
 
 -- none of the faults holds, each for itself
@@ -85,6 +85,7 @@ pub record IsRight (d : Desc) : Type 0 where
   pub parts_apart : some_overlap (taken d) ≡ false
   pub vbi_lines : d.vbi_lines ≤ max_vbi_lines
   pub vbi_bytes : 0 < d.vbi_lines → (min_line_bytes ≤ d.vbi_bytes) × (d.vbi_bytes ≤ max_piece)
+  pub vbi_apart : 0 < d.vbi_lines → d.vbi_bytes ≤ vbi_stride d
   pub aligned : All (λ c. is_aligned c ≡ true) (memory_of d)
   pub chunks_apart : first_shared [] (memory_of d) ≡ None
   pub enough : highest_end (taken d) ≤ total (memory_of d)
@@ -92,15 +93,27 @@ pub record IsRight (d : Desc) : Type 0 where
 in_planes : (d : Desc) (test : ℕ → Bool) → list_any test (planes d) ≡ false → (plane : ℕ) → 1 ≤ plane → plane ≤ planes_of (layout_of d) → test plane ≡ false
 in_planes d test none plane low high = none_in_range test 1 (planes_of (layout_of d)) plane none low (omega arith)
 
-pub vbi_range : (lines bytes : ℕ) → (nat_lt max_vbi_lines lines || (nat_lt 0 lines && not (is_between min_line_bytes max_piece bytes))) ≡ false → (lines ≤ max_vbi_lines) × (0 < lines → (min_line_bytes ≤ bytes) × (bytes ≤ max_piece))
-vbi_range lines bytes none =
-    let parts = or_parts (nat_lt max_vbi_lines lines) (nat_lt 0 lines && not (is_between min_line_bytes max_piece bytes)) none in (
-      ltb-false max_vbi_lines lines parts.0,
-      λ some. ⊎_elim
-          (λ no. let zero_lines = ltb-false 0 lines no in absurd (omega arith))
-          (λ inside. between_parts min_line_bytes max_piece bytes inside)
-          (and_cases (nat_lt 0 lines) (not (is_between min_line_bytes max_piece bytes)) parts.1),
-    )
+-- what VBI lines of a right range have
+pub record AreInRange (lines bytes step : ℕ) : Type 0 where
+  pub few : lines ≤ max_vbi_lines
+  pub long : 0 < lines → (min_line_bytes ≤ bytes) × (bytes ≤ max_piece)
+  pub apart : 0 < lines → bytes ≤ step
+
+pub vbi_range : (lines bytes step : ℕ) → (nat_lt max_vbi_lines lines || (nat_lt 0 lines && (not (is_between min_line_bytes max_piece bytes) || nat_lt step bytes))) ≡ false → AreInRange lines bytes step
+vbi_range lines bytes step none =
+    let out = not (is_between min_line_bytes max_piece bytes) in
+    let parts = or_parts (nat_lt max_vbi_lines lines) (nat_lt 0 lines && (out || nat_lt step bytes)) none in
+    let lines_right : 0 < lines → (out ≡ false) × (nat_lt step bytes ≡ false) =
+    λ some. ⊎_elim
+    (λ no. let zero_lines = ltb-false 0 lines no in absurd (omega arith))
+    (λ inside. or_parts out (nat_lt step bytes) inside)
+    (and_cases (nat_lt 0 lines) (out || nat_lt step bytes) parts.1)
+    in
+    record {
+      few = ltb-false max_vbi_lines lines parts.0;
+      long = λ some. between_parts min_line_bytes max_piece bytes (lines_right some).0;
+      apart = λ some. ltb-false step bytes (lines_right some).1;
+    }
 
 units_of : (planar : Bool) (unit from by : ℕ) → (planar && not (is_multiple unit from && is_multiple unit by)) ≡ false → planar ≡ true → (from % unit ≡ 0) × (by % unit ≡ 0)
 units_of false unit from by none is = cc
@@ -125,6 +138,7 @@ IsFrame-memory d frame = clear_memory d (after_none None frame_faults d frame).1
 clear-IsRight : (d : Desc) → IsDescription d → AreClear frame_faults d → IsRight d
 clear-IsRight d is clear =
     let memory = clear_memory d clear in
+    let lines = vbi_range d.vbi_lines d.vbi_bytes (vbi_stride d) (when_not _ _ clear.1.1.1.1.1.1.1.1.0) in
     record {
       width = between_parts 1 max_width d.width (when_not _ _ clear.0);
       height = between_parts 1 max_height d.height (when_not _ _ clear.1.0);
@@ -134,8 +148,9 @@ clear-IsRight d is clear =
       rows_apart = λ plane low high. ltb-false _ _ (in_planes d (λ p. nat_lt (stride d p) (plane_row_bytes d p)) (when_not _ _ clear.1.1.1.1.1.0) plane low high);
       on_units = units_of _ _ _ _ (when_not _ _ clear.1.1.1.1.1.1.0);
       parts_apart = when_not _ _ clear.1.1.1.1.1.1.1.0;
-      vbi_lines = (vbi_range d.vbi_lines d.vbi_bytes (when_not _ _ clear.1.1.1.1.1.1.1.1.0)).0;
-      vbi_bytes = (vbi_range d.vbi_lines d.vbi_bytes (when_not _ _ clear.1.1.1.1.1.1.1.1.0)).1;
+      vbi_lines = lines.few;
+      vbi_bytes = lines.long;
+      vbi_apart = lines.apart;
       aligned = aligned_memory d.chunks d.pages is.pages memory.0 memory.1;
       chunks_apart = memory.1;
       enough = enough d.chunks d.pages (highest_end (taken d)) clear.1.1.1.1.1.1.1.1.1.1.1.0;
@@ -147,12 +162,12 @@ IsFrame-IsRight d is frame = clear-IsRight d is (after_none None frame_faults d 
 -- what the faults of the program leave
 pub record HasRoom (d : Desc) : Type 0 where
   pub base : d.base % 4 ≡ 0
-  pub ends : d.base + 4 * length (compiled d).words ≤ 2 ^ 32
+  pub ends : d.base + 4 * length (compiled_words d) ≤ 2 ^ 32
   pub apart : list_any (shares_byte (compiled d)) (memory_of d) ≡ false
 
 clear-HasRoom : (d : Desc) → AreClear program_faults d → HasRoom d
 clear-HasRoom d clear =
-    let parts = and_parts (is_multiple 4 d.base) (nat_le (d.base + 4 * length (compiled d).words) (2 ^ 32)) (not-false _ (when_not _ _ clear.0)) in
+    let parts = and_parts (is_multiple 4 d.base) (nat_le (d.base + 4 * length (compiled_words d)) (2 ^ 32)) (not-false _ (when_not _ _ clear.0)) in
     record {
       base = multiple_is 4 d.base parts.0;
       ends = leb-true _ _ parts.1;

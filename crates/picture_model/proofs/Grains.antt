@@ -7,14 +7,14 @@ use Rattle.std.proofs.lemmas.Nat.{mul-mod_second, row_fits}
 use Rattle.std.proofs.Math.Nat.{zero-mod}
 use Rattle.pixel_layout.specs.declared.Format.{Format}
 use Rattle.pixel_layout.specs.declared.Format.TheVariants.{Rgb32, Rgb24, Rgb16, Rgb15, Yuy2, Y8, Rgb8, BtYuv, Yuv422p, Yuv411p, Yuv420p, Yuv410p}
-use Rattle.pixel_layout.specs.Layouts.{layout, chroma_row, planes_of}
+use Rattle.pixel_layout.specs.Layouts.{layout, planes_of}
 use Rattle.pixel_layout.proofs.Table.{layout_sizes}
 use Rattle.page_table.specs.Grants.{Chunk, total}
 use Rattle.page_table.specs.Taken.{is_aligned}
 use Rattle.page_table.specs.Scattered.{room_at}
 use Rattle.page_table.proofs.Scattered.{lt-room_at, room_at-add, address_at-aligned}
 use Rattle.capture_desc.specs.declared.desc.Desc.{Desc}
-use Rattle.picture_model.specs.Described.{both, layout_of, memory_of, offset, plane_row_bytes, stride}
+use Rattle.picture_model.specs.Described.{both, chroma_first, chroma_row_of, field_of, layout_of, memory_of, offset, plane_row_bytes, stride}
 use Rattle.picture_model.specs.Places.{HasPlane, plane_row, row_offset}
 use Rattle.picture_model.specs.Plans.{Track, grain_bytes, grains_of, row_track, track}
 use Rattle.picture_model.proofs.FaultlessGeometry.{IsRight}
@@ -152,14 +152,14 @@ grain_small d plane =
     size_small (layout_of d).planar (plane == 1) (layout_of d).bytes (bytes_units d)
 
 -- a plane that holds a row is one of the picture's
-pub held_plane : (d : Desc) (plane row c : ℕ) → 1 ≤ plane → plane ≤ 3 → plane_row (layout_of d) (both d) plane row ≡ Some c → HasPlane d plane
+pub held_plane : (d : Desc) (plane row c : ℕ) → 1 ≤ plane → plane ≤ 3 → plane_row d plane row ≡ Some c → HasPlane d plane
 held_plane d plane row c low high held =
     record {
       low = low;
       high = ⊎_elim
           (λ first. let same = eqb-true plane 1 first in planes_least (layout_of d).planar plane same)
-          (λ other. let chroma : chroma_row (layout_of d) (both d) row ≡ Some c = sym (cond-false (plane == 1) (Some row) (chroma_row (layout_of d) (both d) row) other) ∙ held in
-          let planar = (chroma_row-IsKept (layout_of d) (both d) row c chroma).planar in
+          (λ other. let chroma : chroma_row_of d row ≡ Some c = sym (cond-false (plane == 1) (Some row) (chroma_row_of d row) other) ∙ held in
+          let planar = (chroma_row-IsKept (layout_of d) (both d) (chroma_first d (field_of d.fields row)) row c chroma).planar in
           let all : planes_of (layout_of d) ≡ 3 = cond-true (layout_of d).planar 3 1 planar in omega arith)
           (cases_Bool (plane == 1));
     }

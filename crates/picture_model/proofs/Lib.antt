@@ -1,3 +1,4 @@
+pub mod Chroma
 pub mod Cutting
 pub mod FaultlessGeometry
 pub mod Offsets

@@ -1,9 +1,9 @@
 -- A compiled program has fewer than 500,000 words.
-use Rattle.std.proofs.Common.{◌≡◌, ℕ, zero, suc, ◌+◌, ◌*◌, ◌/◌, ◌%◌, ◌<◌, ◌≤◌, Bool, true, false, List, [], ◌∷◌, ◌++◌, length, length-append, map, Option, Some, None, refl, sym, ap, ◌∙◌, subst, arith, ⊎_elim, if◌then◌else◌}
-use Rattle.std.specs.Prelude.{replicate, ◌==◌, IfSome}
-use Rattle.std.specs.List.{range_with_len}
+use Rattle.std.proofs.Common.{◌≡◌, ℕ, zero, suc, ◌+◌, ◌*◌, ◌/◌, ◌<◌, ◌≤◌, Bool, true, false, List, [], ◌∷◌, ◌++◌, length, length-append, map, Option, Some, None, refl, sym, ap, ◌∙◌, subst, arith, inl, inr, ◌⊎◌, ⊎_elim, if◌then◌else◌}
+use Rattle.std.specs.Prelude.{replicate, IfSome}
+use Rattle.std.specs.List.{All, range_with_len}
 use Rattle.std.proofs.lemmas.Grind.{flat_map-append}
-use Rattle.std.proofs.lemmas.Bool.{cases_lt}
+use Rattle.std.proofs.lemmas.Bool.{cases_order}
 use Rattle.std.proofs.lemmas.List.{length-map}
 use Rattle.std.proofs.lemmas.List.FromFn.{length-range_with_len}
 use Rattle.std.proofs.lemmas.Nat.{mul-le, row_fits}
@@ -12,7 +12,7 @@ use Rattle.risc_word.specs.declared.Ends.{Ends}
 use Rattle.risc_word.specs.Words.{encoded}
 use Rattle.pixel_layout.specs.declared.Parity.{Parity}
 use Rattle.pixel_layout.specs.declared.Parity.TheVariants.{Top, Bottom}
-use Rattle.pixel_layout.specs.Layouts.{chroma_place, field_row, planes_of}
+use Rattle.pixel_layout.specs.Layouts.{planes_of}
 use Rattle.pixel_layout.proofs.Table.{layout_sizes}
 use Rattle.clip_spans.specs.declared.Span.{Span}
 use Rattle.clip_spans.specs.Runs.{Alternate, BeginsWithout, spans_of}
@@ -20,27 +20,28 @@ use Rattle.clip_spans.proofs.Few.{spans-few}
 use Rattle.clip_spans.proofs.Runs.{runs-alternate}
 use Rattle.page_table.specs.Grants.{Chunk}
 use Rattle.page_table.specs.Taken.{page_at, pair_chunk}
+use Rattle.capture_desc.specs.WellFormed.{IsWellFormed, count}
 use Rattle.capture_desc.specs.declared.desc.Desc.{Desc}
 use Rattle.capture_desc.specs.declared.desc.Fields.{Fields}
 use Rattle.capture_desc.specs.declared.desc.Fields.TheVariants as fields
 use Rattle.picture_model.specs.declared.PieceKind.{PieceKind}
 use Rattle.picture_model.specs.declared.PieceKind.TheVariants.{Write, WriteLuma, Skip}
-use Rattle.picture_model.specs.Described.{Extent, IsDescription, both, describes, extent, fields_of, is_both, layout_of, memory_from, memory_of, picture_row, rows_of, stride, vbi_area}
+use Rattle.picture_model.specs.Described.{Extent, IsDescription, describes, extent, field_number, fields_before, fields_of, is_both, layout_of, memory_from, memory_of, picture_row, rows_of, stride, vbi_area, vbi_skip, vbi_stride}
 use Rattle.picture_model.specs.Geometry.{some_overlap}
 use Rattle.picture_model.specs.Places.{plane_row, row_offset, vbi_line_offset}
-use Rattle.picture_model.specs.Plans.{Cut, Strip, cuts_of, grain_bytes, grain_clipped, grains_of, in_grains, kind_of, piece_of, row_strip, skipped_strip, vbi_strip}
+use Rattle.picture_model.specs.Plans.{Cut, Strip, cuts_of, grain_bytes, grain_clipped, grains_of, in_grains, kind_of, piece_of, row_strip, skipped_strip, skipped_vbi_strip, vbi_strip}
 use Rattle.picture_model.specs.Programs.{body, closing, field_instrs, instr_by, instr_of, line_instrs, lines_instrs, opening, picture_strips, section, section_length, sections_by, sections_words, vbi_from, vbi_instrs, vbi_strips, words_of}
 use Rattle.picture_model.proofs.FaultlessGeometry.{IsRight}
 use Rattle.picture_model.proofs.Each.{Each, each_range}
-use Rattle.picture_model.proofs.Ends.{all_ended, crossed-within, ended, ended_after, interleaved, range_in_order}
-use Rattle.picture_model.proofs.Crossing.{at_begins, at_ends, crossed_once, forward_append, forward_map}
+use Rattle.picture_model.proofs.Ends.{all_ended, ended, ended_after, interleaved}
+use Rattle.picture_model.proofs.Crossing.{at_begins, at_ends, crossed-within, crossed_once, forward_append, forward_map, range_apart}
 use Rattle.picture_model.proofs.Counting.{cut_words, line_words-few, passed, span_weights, words_for}
 use Rattle.picture_model.proofs.Grains.{held_plane, row_grains}
-use Rattle.picture_model.proofs.Offsets.{chroma_row-IsKept, row_offset-IsRowAt, row_within, vbi_line_within}
-use Rattle.picture_model.proofs.Spans.{product_less, row_runs, whole_is}
+use Rattle.picture_model.proofs.Offsets.{line_within, plane_row-own, row_offset-IsRowAt, row_within}
+use Rattle.picture_model.proofs.Spans.{row_runs}
 use Rattle.picture_model.proofs.Sections.{rows_below}
 use Rattle.picture_model.proofs.Circle.{split_length, words_split}
-use Rattle.picture_model.proofs.Strips.{row-IsStrip, skipped-IsStrip, vbi-IsStrip}
+use Rattle.picture_model.proofs.Strips.{row-IsStrip, skipped-IsStrip, skipped_vbi-IsStrip, vbi-IsStrip}
 
 -- a piece has 2 words at most where it is clipped, and 5 where it isn't
 
@@ -204,62 +205,43 @@ rows_words d (row ∷ rows) is right below =
     let later = rows_words d rows is right below.1 in
     omega arith
 
--- the rows of a picture stand in order on each plane
+-- the rows of a picture share no byte of a plane
 
-rise_by : (first : Bool) (r s c e : ℕ) (chroma chroma' : Option ℕ) → (if first then Some r else chroma) ≡ Some c → (if first then Some s else chroma') ≡ Some e → r < s → (chroma ≡ Some c → chroma' ≡ Some e → c < e) → c < e
-rise_by true r s c e chroma chroma' is is' less more = let one : r ≡ c = cc in let two : s ≡ e = cc in omega arith
-rise_by false r s c e chroma chroma' is is' less more = more is is'
-
-parts_rise : (v k l : ℕ) → k % v ≡ 0 → l % v ≡ 0 → k < l → k / v < l / v
-parts_rise v k l whole whole' less =
-    let one = whole_is k v whole in
-    let two = whole_is l v whole' in
-    product_less (k / v) (l / v) v (omega arith)
-
-chroma_rise : (two : Bool) (v k l : ℕ) → k < l → field_row two k % v ≡ 0 → field_row two l % v ≡ 0 → chroma_place v two k < chroma_place v two l
-chroma_rise false v k l less whole whole' = parts_rise v k l whole whole' less
-chroma_rise true v k l less whole whole' =
-    ⊎_elim
-    (λ later. let rise = parts_rise v (k / 2) (l / 2) whole whole' later in omega arith)
-    (λ no. let same : k / 2 ≡ l / 2 = omega arith in let place : k / 2 / v ≡ l / 2 / v = ap (λ (n : ℕ). n / v) same in omega arith)
-    (cases_lt (k / 2) (l / 2))
-
-numbers_rise : (d : Desc) (plane k l c e : ℕ) → k < l → plane_row (layout_of d) (both d) plane k ≡ Some c → plane_row (layout_of d) (both d) plane l ≡ Some e → c < e
-numbers_rise d plane k l c e less is is' =
-    rise_by (plane == 1) k l c e _ _ is is' less
-    (λ chroma chroma'.
-    let kept = chroma_row-IsKept (layout_of d) (both d) k c chroma in
-    let kept' = chroma_row-IsKept (layout_of d) (both d) l e chroma' in
-    let rise = chroma_rise (both d) (layout_of d).down k l less kept.kept kept'.kept in
-    let at = kept.at in let at' = kept'.at in omega arith)
-
-rows_apart : (d : Desc) (plane k l o p : ℕ) → IsRight d → 1 ≤ plane → plane ≤ 3 → k < l → row_offset d plane k ≡ Some o → row_offset d plane l ≡ Some p → o + row_size d plane ≤ p
+rows_apart : (d : Desc) (plane k l o p : ℕ) → IsRight d → 1 ≤ plane → plane ≤ 3 → k < l → row_offset d plane k ≡ Some o → row_offset d plane l ≡ Some p → (o + row_size d plane ≤ p) ⊎ (p + row_size d plane ≤ o)
 rows_apart d plane k l o p right low high less is is' =
     let one = row_offset-IsRowAt d plane k o is in
     let two = row_offset-IsRowAt d plane l p is' in
     let has = held_plane d plane k one.number low high one.held in
-    let rise = numbers_rise d plane k l one.number two.number less one.held two.held in
     let wide = right.rows_apart plane has.low has.high in
     let bytes = row_grains d plane has in
-    let step : one.number * stride d plane + stride d plane ≤ two.number * stride d plane = row_fits one.number (stride d plane) two.number (stride d plane) rise (omega arith) in
-    let at = one.at in let at' = two.at in omega arith
+    let at = one.at in let at' = two.at in
+    let step : (n m : ℕ) → n < m → n * stride d plane + stride d plane ≤ m * stride d plane = λ n m below. row_fits n (stride d plane) m (stride d plane) below (omega arith) in
+    ⊎_elim
+    (λ same.
+    let held : plane_row d plane l ≡ Some one.number = two.held ∙ ap (λ (n : ℕ). Some n) (sym same) in
+    let row = plane_row-own d plane k l one.number one.held held in absurd (omega arith))
+    (λ other. ⊎_elim
+    (λ before. let more = step one.number two.number before in inl (omega arith))
+    (λ behind. let more = step two.number one.number behind in inr (omega arith))
+    other)
+    (cases_order one.number two.number)
 
 -- the rows of a picture cross at most the chunk ends in their plane
 plane_crossed : (d : Desc) (plane low high count : ℕ) → IsRight d → 1 ≤ plane → plane ≤ 3 → low ≤ high →
     (plane ≤ planes_of (layout_of d) → (low ≡ (extent d plane).from) × (high ≡ (extent d plane).to)) → count ≤ d.height →
     behind d plane (range_with_len 0 count) + ended (memory_of d) low ≤ before d plane (range_with_len 0 count) + ended (memory_of d) high
 plane_crossed d plane low high count right some few forward bounds within =
-    crossed-within (memory_of d) (row_size d plane) low high (starts d plane (range_with_len 0 count))
-    (range_in_order (row_offset d plane) (row_size d plane) low high 0 count forward
+    crossed-within (memory_of d) (row_size d plane) low high (starts d plane (range_with_len 0 count)) forward
+    (range_apart (row_offset d plane) (row_size d plane) low high 0 count
     (λ k o from below is.
     let at = row_offset-IsRowAt d plane k o is in
     let has = held_plane d plane k at.number some few at.held in
-    let inside = row_within d plane k o right (omega arith) at in
+    let inside = row_within d plane k o (omega arith) at in
     let bytes = row_grains d plane has in
     let is_low = (bounds has.high).0 in
     let is_high = (bounds has.high).1 in
     (omega arith, omega arith))
-    (λ k l o p less is is'. rows_apart d plane k l o p right some few less is is'))
+    (λ k l o p less below is is'. rows_apart d plane k l o p right some few less is is'))
 
 -- skipped lines and VBI lines
 
@@ -292,32 +274,54 @@ vbi_lines_words d field (line ∷ lines) right described below =
     let end : ended memory (start + d.vbi_bytes * 1) ≡ ended memory (start + d.vbi_bytes) = ap (ended memory) (let e : start + d.vbi_bytes * 1 ≡ start + d.vbi_bytes = omega arith in e) in
     omega arith
 
-vbi_apart : (d : Desc) (field : Parity) (k l : ℕ) → k < l → vbi_line_offset d field k + d.vbi_bytes ≤ vbi_line_offset d field l
-vbi_apart d field k l less =
-    let step = row_fits k d.vbi_bytes l d.vbi_bytes less (omega arith) in omega arith
-
-vbi_crossed : (d : Desc) (field : Parity) → vbi_behind d field + ended (memory_of d) (vbi_area d field).from ≤ vbi_before d field + ended (memory_of d) (vbi_area d field).to
-vbi_crossed d field =
-    crossed-within (memory_of d) d.vbi_bytes (vbi_area d field).from (vbi_area d field).to (vbi_starts d field d.vbi_lines)
-    (range_in_order (λ line. Some (vbi_line_offset d field line)) d.vbi_bytes (vbi_area d field).from (vbi_area d field).to 0 d.vbi_lines (omega arith)
+vbi_crossed : (d : Desc) (field : Parity) → IsRight d → vbi_behind d field + ended (memory_of d) (vbi_area d field).from ≤ vbi_before d field + ended (memory_of d) (vbi_area d field).to
+vbi_crossed d field right =
+    crossed-within (memory_of d) d.vbi_bytes (vbi_area d field).from (vbi_area d field).to (vbi_starts d field d.vbi_lines) (omega arith)
+    (range_apart (λ line. Some (vbi_line_offset d field line)) d.vbi_bytes (vbi_area d field).from (vbi_area d field).to 0 d.vbi_lines
     (λ k o from below is.
     let at : vbi_line_offset d field k ≡ o = cc in
-    let inside = vbi_line_within d.vbi_lines d.vbi_bytes k (omega arith) in
+    let inside = line_within d.vbi_lines (vbi_stride d) d.vbi_bytes k (omega arith) in
     (omega arith, omega arith))
-    (λ k l o p less is is'.
+    (λ k l o p less below is is'.
     let one : vbi_line_offset d field k ≡ o = cc in
     let two : vbi_line_offset d field l ≡ p = cc in
-    let apart = vbi_apart d field k l less in omega arith))
+    let wide = right.vbi_apart (omega arith) in
+    let step = row_fits k (vbi_stride d) l (vbi_stride d) less (omega arith) in inl (omega arith)))
+
+skipped_vbi_few : (d : Desc) (count : ℕ) → d.vbi_bytes ≤ 4096 → total_words (memory_of d) (replicate count (skipped_vbi_strip d)) ≤ 7 * count
+skipped_vbi_few d zero bytes = omega arith
+skipped_vbi_few d (suc count) bytes =
+    let one = line_words-few (memory_of d) (skipped_vbi_strip d) (skipped_vbi-IsStrip d) (omega arith) in
+    let more = skipped_vbi_few d count bytes in omega arith
+
+before_count : (which : Fields) (field : Parity) → fields_before which field < count which
+before_count fields.Top field = omega arith
+before_count fields.Bottom field = omega arith
+before_count fields.Both Top = omega arith
+before_count fields.Both Bottom = omega arith
+
+number_few : (numbers : Option (List ℕ)) (which : Fields) (field : Parity) (most : ℕ) → IfSome numbers (λ ns. (length ns ≡ count which) × All (λ n. n ≤ most) ns) → field_number numbers which field ≤ most
+number_few None which field most has = omega arith
+number_few (Some ns) which field most has =
+    let before = before_count which field in
+    let size = has.0 in has.1 (fields_before which field) 0 (omega arith)
+
+pub vbi_skip_few : (d : Desc) (field : Parity) → IsWellFormed d → vbi_skip d field ≤ 255
+vbi_skip_few d field formed = number_few d.vbi_skip d.fields field 255 formed.vbi_skip
 
 -- sections
 
-vbi_words_few : (d : Desc) (field : Parity) (lines : ℕ) → lines ≡ d.vbi_lines → IsRight d → describes d.fields field ≡ true →
-    length (words_of (vbi_from lines d field)) + 5 * vbi_before d field ≤ 2 + 5 * vbi_behind d field + 10 * d.vbi_lines
-vbi_words_few d field zero same right described =
+vbi_words_few : (d : Desc) (field : Parity) (lines : ℕ) → lines ≡ d.vbi_lines → IsDescription d → IsRight d → describes d.fields field ≡ true →
+    length (words_of (vbi_from lines d field)) + 5 * vbi_before d field ≤ 1787 + 5 * vbi_behind d field + 10 * d.vbi_lines
+vbi_words_few d field zero same is right described =
     let all = vbi_lines_words d field (range_with_len 0 d.vbi_lines) right described (each_range 0 d.vbi_lines d.vbi_lines (omega arith)) in
     let count = length-range_with_len 0 d.vbi_lines in omega arith
-vbi_words_few d field (suc more) same right described =
+vbi_words_few d field (suc more) same is right described =
     let short = lines_short d (vbi_strips d field) in
+    let parts = total_append (memory_of d) (replicate (vbi_skip d field) (skipped_vbi_strip d)) (map (vbi_strip d field) (range_with_len 0 d.vbi_lines)) in
+    let bytes = (right.vbi_bytes (omega arith)).1 in
+    let skipped = skipped_vbi_few d (vbi_skip d field) (omega arith) in
+    let few = vbi_skip_few d field is.formed in
     let all = vbi_lines_words d field (range_with_len 0 d.vbi_lines) right described (each_range 0 d.vbi_lines d.vbi_lines (omega arith)) in
     let count = length-range_with_len 0 d.vbi_lines in omega arith
 
@@ -331,9 +335,9 @@ field_words_few d field is right =
     omega arith
 
 section_few : (d : Desc) (field : Parity) (target : ℕ) → IsDescription d → IsRight d → describes d.fields field ≡ true →
-    length (words_of (section d field target)) + 5 * vbi_before d field + 5 * all_before d (rows_of d field) ≤ 2113 + 5 * vbi_behind d field + 5 * all_behind d (rows_of d field) + 458 * length (rows_of d field)
+    length (words_of (section d field target)) + 5 * vbi_before d field + 5 * all_before d (rows_of d field) ≤ 3898 + 5 * vbi_behind d field + 5 * all_behind d (rows_of d field) + 458 * length (rows_of d field)
 section_few d field target is right described =
-    let vbi = vbi_words_few d field d.vbi_lines refl right described in
+    let vbi = vbi_words_few d field d.vbi_lines refl is right described in
     let picture = field_words_few d field is right in
     let lines = right.vbi_lines in
     let skipped = is.skipped in
@@ -383,20 +387,20 @@ module _ (d : Desc) (right : IsRight d) (count : ℕ) (within : count ≤ d.heig
       let one = held_crossed 1 (omega arith) (omega arith) in
       let two = held_crossed 2 (omega arith) (omega arith) in
       let three = held_crossed 3 (omega arith) (omega arith) in
-      let top = vbi_crossed d Top in omega arith
+      let top = vbi_crossed d Top right in omega arith
   all_crossed true fields.Bottom is apart =
       let all = areas_crossed d true fields.Bottom apart in
       let one = held_crossed 1 (omega arith) (omega arith) in
       let two = held_crossed 2 (omega arith) (omega arith) in
       let three = held_crossed 3 (omega arith) (omega arith) in
-      let bottom = vbi_crossed d Bottom in omega arith
+      let bottom = vbi_crossed d Bottom right in omega arith
   all_crossed true fields.Both is apart =
       let all = areas_crossed d true fields.Both apart in
       let one = held_crossed 1 (omega arith) (omega arith) in
       let two = held_crossed 2 (omega arith) (omega arith) in
       let three = held_crossed 3 (omega arith) (omega arith) in
-      let top = vbi_crossed d Top in
-      let bottom = vbi_crossed d Bottom in omega arith
+      let top = vbi_crossed d Top right in
+      let bottom = vbi_crossed d Bottom right in omega arith
   all_crossed false which is apart =
       let one_plane : planes_of (layout_of d) ≡ 1 = ap (λ (planar : Bool). if planar then 3 else 1) is in
       let one = held_crossed 1 (omega arith) (omega arith) in
@@ -409,13 +413,13 @@ module _ (d : Desc) (right : IsRight d) (count : ℕ) (within : count ≤ d.heig
           behind d 2 (range_with_len 0 count) ≤ before d 2 (range_with_len 0 count) → behind d 3 (range_with_len 0 count) ≤ before d 3 (range_with_len 0 count) →
           all_behind d (range_with_len 0 count) + vbi_behind_all d which ≤ all_before d (range_with_len 0 count) + vbi_before_all d which + length (memory_of d)
       packed fields.Top apart one two three =
-          let all = areas_crossed d false fields.Top apart in let top = vbi_crossed d Top in omega arith
+          let all = areas_crossed d false fields.Top apart in let top = vbi_crossed d Top right in omega arith
       packed fields.Bottom apart one two three =
-          let all = areas_crossed d false fields.Bottom apart in let bottom = vbi_crossed d Bottom in omega arith
+          let all = areas_crossed d false fields.Bottom apart in let bottom = vbi_crossed d Bottom right in omega arith
       packed fields.Both apart one two three =
           let all = areas_crossed d false fields.Both apart in
-          let top = vbi_crossed d Top in
-          let bottom = vbi_crossed d Bottom in omega arith
+          let top = vbi_crossed d Top right in
+          let bottom = vbi_crossed d Bottom right in omega arith
 
 memory_short : (chunks : Option (List (ℕ × ℕ))) (pages : List ℕ) → length pages ≤ 4096 → IfSome chunks (λ cs. length cs ≤ 4096) → length (memory_from chunks pages) ≤ 4096
 memory_short None pages few many = let same = length-map pages page_at in omega arith

@@ -1,20 +1,20 @@
 -- The offsets of a picture's bytes: all are different, and lie in the memory.
-use Rattle.std.proofs.Common.{◌≡◌, ℕ, zero, suc, ◌+◌, ◌-◌, ◌*◌, ◌%◌, ◌<◌, ◌≤◌, Bool, true, false, ◌||◌, List, [], ◌∷◌, ◌++◌, map, Option, Some, None, refl, sym, ap, ◌∙◌, subst, arith, ⊎_elim, if◌then◌else◌}
+use Rattle.std.proofs.Common.{◌≡◌, ℕ, zero, suc, ◌+◌, ◌*◌, ◌%◌, ◌<◌, ◌≤◌, Bool, true, false, ◌||◌, List, [], ◌∷◌, ◌++◌, map, Option, Some, None, refl, sym, ap, ◌∙◌, subst, arith, ⊎_elim, if◌then◌else◌}
 use Rattle.std.specs.Prelude.{max, min, option_map, ◌==◌}
 use Rattle.std.specs.List.{list_any, range_with_len}
-use Rattle.std.proofs.lemmas.Bool.{ltb-false, eqb-true, or_parts, cases_lt}
+use Rattle.std.proofs.lemmas.Bool.{false≢true, ltb-false, eqb-true, or_parts, cases_lt}
 use Rattle.std.proofs.lemmas.List.Folds.{list_any-append}
-use Rattle.std.proofs.lemmas.Nat.{same_from_place, mul-le, row_fits}
+use Rattle.std.proofs.lemmas.Nat.{same_from_place, mul-le}
 use Rattle.pixel_layout.specs.declared.Parity.{Parity}
 use Rattle.pixel_layout.specs.declared.Parity.TheVariants.{Top, Bottom}
-use Rattle.pixel_layout.specs.Layouts.{Layout, chroma_row, chroma_rows, chroma_place, field_row, planes_of}
-use Rattle.pixel_layout.proofs.Chroma.{place-below, place-own}
+use Rattle.pixel_layout.specs.Layouts.{Layout, chroma_row_from, chroma_place, field_row, planes_of}
+use Rattle.pixel_layout.proofs.Chroma.{place-own}
 use Rattle.pixel_layout.proofs.Table.{layout_sizes}
 use Rattle.page_table.specs.Grants.{total}
 use Rattle.capture_desc.specs.declared.desc.Desc.{Desc}
 use Rattle.capture_desc.specs.declared.desc.Fields.{Fields}
 use Rattle.capture_desc.specs.declared.desc.Fields.TheVariants as fields
-use Rattle.picture_model.specs.Described.{Extent, both, describes, extent, extents, fields_of, highest_end, layout_of, memory_of, offset, plane_bytes, plane_row_bytes, plane_rows, stride, vbi_area, vbi_offset, vbi_size}
+use Rattle.picture_model.specs.Described.{Extent, both, chroma_first, chroma_row_of, describes, extent, extents, field_of, fields_of, highest_end, is_both, layout_of, lines_bytes, memory_of, offset, plane_bytes, plane_row_bytes, plane_rows, rows_for, stride, vbi_area, vbi_offset, vbi_size, vbi_stride}
 use Rattle.picture_model.specs.Geometry.{overlaps, some_overlap}
 use Rattle.picture_model.specs.Places.{HasPlane, plane_row, row_offset, vbi_line_offset}
 use Rattle.picture_model.proofs.FaultlessGeometry.{IsRight}
@@ -125,15 +125,39 @@ kept_parts true true at c is = (refl, refl, cc)
 kept_parts true false at c is = cc
 kept_parts false kept at c is = cc
 
-pub record IsKept (l : Layout) (two : Bool) (row c : ℕ) : Type 0 where
+pub record IsKept (l : Layout) (two : Bool) (first row c : ℕ) : Type 0 where
   pub planar : l.planar ≡ true
-  pub kept : field_row two row % l.down ≡ 0
+  pub kept : field_row two row % l.down ≡ first
   pub at : chroma_place l.down two row ≡ c
 
-pub chroma_row-IsKept : (l : Layout) (two : Bool) (row c : ℕ) → chroma_row l two row ≡ Some c → IsKept l two row c
-chroma_row-IsKept l two row c is =
-    let parts = kept_parts l.planar (field_row two row % l.down == 0) (chroma_place l.down two row) c is in
+pub chroma_row-IsKept : (l : Layout) (two : Bool) (first row c : ℕ) → chroma_row_from l two first row ≡ Some c → IsKept l two first row c
+chroma_row-IsKept l two first row c is =
+    let parts = kept_parts l.planar (field_row two row % l.down == first) (chroma_place l.down two row) c is in
     record { planar = parts.0; kept = eqb-true _ _ parts.1; at = parts.2 }
+
+first_for : (o : Option ℕ) (rest : List (Option ℕ)) (c : ℕ) → o ≡ Some c → c < rows_for (o ∷ rest)
+first_for None rest c is = cc
+first_for (Some row) rest c is = let same : row ≡ c = cc in omega arith
+
+later_for : (o : Option ℕ) (rest : List (Option ℕ)) (c : ℕ) → c < rows_for rest → c < rows_for (o ∷ rest)
+later_for None rest c below = below
+later_for (Some row) rest c below = omega arith
+
+-- there are enough rows for each
+below_rows : (f : ℕ → Option ℕ) (from count k c : ℕ) → from ≤ k → k < from + count → f k ≡ Some c → c < rows_for (map f (range_with_len from count))
+below_rows f from zero k c low high is = absurd (omega arith)
+below_rows f from (suc count) k c low high is =
+    let rest = map f (range_with_len (from + 1) count) in
+    ⊎_elim
+    (λ after. later_for (f from) rest c (below_rows f (from + 1) count k c (omega arith) (omega arith) is))
+    (λ before. let same : from ≡ k = omega arith in first_for (f from) rest c (ap f same ∙ is))
+    (cases_lt from k)
+
+-- rows of the same parity are of one field
+same_field : (which : Fields) (row other : ℕ) → (is_both which ≡ true → row % 2 ≡ other % 2) → field_of which row ≡ field_of which other
+same_field fields.Top row other same = refl
+same_field fields.Bottom row other same = refl
+same_field fields.Both row other same = ap (λ (n : ℕ). if n == 0 then Top else Bottom) (same refl)
 
 -- plane 1 holds the picture's rows themselves
 below_by : (first : Bool) (row c height rows : ℕ) (chroma : Option ℕ) → (if first then Some row else chroma) ≡ Some c → row < height → (chroma ≡ Some c → c < rows) → c < (if first then height else rows)
@@ -144,26 +168,26 @@ own_by : (first : Bool) (row other c : ℕ) (chroma chroma' : Option ℕ) → (i
 own_by true row other c chroma chroma' is is' more = cc
 own_by false row other c chroma chroma' is is' more = more is is'
 
-pub plane_row-below : (d : Desc) (plane row c : ℕ) → IsRight d → row < d.height → plane_row (layout_of d) (both d) plane row ≡ Some c → c < plane_rows d plane
-plane_row-below d plane row c right below is =
-    below_by (plane == 1) row c d.height _ (chroma_row (layout_of d) (both d) row) is below
-    (λ chroma.
-    let kept = chroma_row-IsKept (layout_of d) (both d) row c chroma in
-    let place = place-below (layout_of d) (both d) row d.height (layout_sizes d.format).some_down right.even below in
-    subst (λ (n : ℕ). n < chroma_rows (layout_of d) (both d) d.height) kept.at place)
+pub plane_row-below : (d : Desc) (plane row c : ℕ) → row < d.height → plane_row d plane row ≡ Some c → c < plane_rows d plane
+plane_row-below d plane row c below is =
+    below_by (plane == 1) row c d.height _ (chroma_row_of d row) is below
+    (λ chroma. below_rows (chroma_row_of d) 0 d.height row c (omega arith) (omega arith) chroma)
 
-pub plane_row-own : (d : Desc) (plane row other c : ℕ) → plane_row (layout_of d) (both d) plane row ≡ Some c → plane_row (layout_of d) (both d) plane other ≡ Some c → row ≡ other
+pub plane_row-own : (d : Desc) (plane row other c : ℕ) → plane_row d plane row ≡ Some c → plane_row d plane other ≡ Some c → row ≡ other
 plane_row-own d plane row other c is is' =
-    own_by (plane == 1) row other c (chroma_row (layout_of d) (both d) row) (chroma_row (layout_of d) (both d) other) is is'
+    own_by (plane == 1) row other c (chroma_row_of d row) (chroma_row_of d other) is is'
     (λ chroma chroma'.
-    let kept = chroma_row-IsKept (layout_of d) (both d) row c chroma in
-    let kept' = chroma_row-IsKept (layout_of d) (both d) other c chroma' in
-    place-own (layout_of d).down (both d) row other (layout_sizes d.format).some_down kept.kept kept'.kept (kept.at ∙ sym kept'.at))
+    let first = λ (n : ℕ). chroma_first d (field_of d.fields n) in
+    let kept = chroma_row-IsKept (layout_of d) (both d) (first row) row c chroma in
+    let kept' = chroma_row-IsKept (layout_of d) (both d) (first other) other c chroma' in
+    let same : (both d ≡ true → row % 2 ≡ other % 2) → first row ≡ first other = λ parity. ap (chroma_first d) (same_field d.fields row other parity) in
+    place-own (layout_of d).down (both d) row other (first row) (first other) (layout_sizes d.format).some_down kept.kept kept'.kept
+    (λ one. same (λ two. absurd (false≢true (sym one ∙ two)))) (λ two parity. same (λ _. parity)) (kept.at ∙ sym kept'.at))
 
 -- where a row begins
 pub record IsRowAt (d : Desc) (plane row from : ℕ) : Type 0 where
   pub number : ℕ
-  pub held : plane_row (layout_of d) (both d) plane row ≡ Some number
+  pub held : plane_row d plane row ≡ Some number
   pub at : from ≡ offset d plane + number * stride d plane
 
 pub mapped_some : (f : ℕ → ℕ) (o : Option ℕ) (y : ℕ) → option_map f o ≡ Some y → (x : ℕ) × (o ≡ Some x) × (f x ≡ y)
@@ -172,32 +196,30 @@ mapped_some f (Some x) y is = let same : f x ≡ y = cc in (x, refl, same)
 
 pub row_offset-IsRowAt : (d : Desc) (plane row from : ℕ) → row_offset d plane row ≡ Some from → IsRowAt d plane row from
 row_offset-IsRowAt d plane row from is =
-    let found = mapped_some (λ kept. offset d plane + kept * stride d plane) (plane_row (layout_of d) (both d) plane row) from is in
+    let found = mapped_some (λ kept. offset d plane + kept * stride d plane) (plane_row d plane row) from is in
     record { number = found.0; held = found.1; at = sym found.2 }
 
-last_row : (number rows by bytes : ℕ) → number < rows → number * by + bytes ≤ (rows - 1) * by + bytes
-last_row number rows by bytes below =
-    let before : number ≤ rows - 1 = omega arith in let more = mul-le number by (rows - 1) by before (omega arith) in omega arith
+pub line_within : (lines step bytes line : ℕ) → line < lines → line * step + bytes ≤ lines_bytes lines step bytes
+line_within zero step bytes line below = absurd (omega arith)
+line_within (suc more) step bytes line below =
+    let before = mul-le line step more step (omega arith) (omega arith) in omega arith
 
-pub row_within : (d : Desc) (plane row from : ℕ) → IsRight d → row < d.height → IsRowAt d plane row from → (offset d plane ≤ from) × (from + plane_row_bytes d plane ≤ offset d plane + plane_bytes d plane)
-row_within d plane row from right below is =
+pub row_within : (d : Desc) (plane row from : ℕ) → row < d.height → IsRowAt d plane row from → (offset d plane ≤ from) × (from + plane_row_bytes d plane ≤ offset d plane + plane_bytes d plane)
+row_within d plane row from below is =
     let at = is.at in
-    let last = last_row is.number (plane_rows d plane) (stride d plane) (plane_row_bytes d plane) (plane_row-below d plane row is.number right below is.held) in
+    let last = line_within (plane_rows d plane) (stride d plane) (plane_row_bytes d plane) is.number (plane_row-below d plane row is.number below is.held) in
     (omega arith, omega arith)
 
 -- the bytes of a line that lies in the memory
 pub row_end : (d : Desc) (plane row from : ℕ) → IsRight d → HasPlane d plane → row < d.height → IsRowAt d plane row from → from + plane_row_bytes d plane ≤ total (memory_of d)
 row_end d plane row from right has below is =
-    let within = row_within d plane row from right below is in
+    let within = row_within d plane row from below is in
     let all = extent_within d plane right has in omega arith
-
-pub vbi_line_within : (lines bytes line : ℕ) → line < lines → line * bytes + bytes ≤ lines * bytes
-vbi_line_within lines bytes line below = row_fits line bytes lines bytes below (omega arith)
 
 pub vbi_end : (d : Desc) (field : Parity) (line : ℕ) → IsRight d → describes d.fields field ≡ true → line < d.vbi_lines → vbi_line_offset d field line + d.vbi_bytes ≤ total (memory_of d)
 vbi_end d field line right is below =
     let all = area_within d field right is in
-    let within = vbi_line_within d.vbi_lines d.vbi_bytes line below in omega arith
+    let within = line_within d.vbi_lines (vbi_stride d) d.vbi_bytes line below in omega arith
 
 -- different bytes have different offsets
 
@@ -207,7 +229,7 @@ rows_differ d plane row other from from' x y right has is is' x_in y_in same =
     let at = is.at in let at' = is'.at in
     let wide = right.rows_apart plane has.low has.high in
     let parts = same_from_place is.number x is'.number y (stride d plane) (omega arith) (omega arith) (omega arith) in
-    let held : plane_row (layout_of d) (both d) plane other ≡ Some is.number = is'.held ∙ ap (λ (n : ℕ). Some n) (sym parts.0) in
+    let held : plane_row d plane other ≡ Some is.number = is'.held ∙ ap (λ (n : ℕ). Some n) (sym parts.0) in
     (plane_row-own d plane row other is.number is.held held, parts.1)
 
 module _ (d : Desc) (right : IsRight d) where
@@ -217,8 +239,8 @@ module _ (d : Desc) (right : IsRight d) where
   pub planes_differ : (plane other row row' from from' x y : ℕ) → HasPlane d plane → HasPlane d other → plane < other → row < d.height → row' < d.height → IsRowAt d plane row from →
       IsRowAt d other row' from' → x < plane_row_bytes d plane → y < plane_row_bytes d other → from + x ≡ from' + y → ⊥
   planes_differ plane other row row' from from' x y has has' order below below' is is' x_in y_in same =
-      let one = row_within d plane row from right below is in
-      let two = row_within d other row' from' right below' is' in
+      let one = row_within d plane row from below is in
+      let two = row_within d other row' from' below' is' in
       let high = has'.high in
       no_common (extent d plane) (extent d other) (from + x) (apart.later plane other has.low order (omega arith)) (omega arith) (omega arith) (omega arith) (omega arith)
 

@@ -11,10 +11,10 @@ use Rattle.page_table.specs.Scattered.{address_at}
 use Rattle.page_table.proofs.Placing.{list_any-placed}
 use Rattle.page_table.proofs.Scattered.{AreDisjoint-from_first_shared, address_at-injective, granted-offset}
 use Rattle.capture_desc.specs.declared.desc.Desc.{Desc}
-use Rattle.picture_model.specs.Described.{memory_of, offset, plane_bytes, plane_row_bytes, vbi_offset, vbi_size}
+use Rattle.picture_model.specs.Described.{memory_of, offset, plane_bytes, plane_row_bytes, vbi_offset, vbi_size, vbi_stride}
 use Rattle.picture_model.specs.Places.{Byte, IsByte, byte_offset, byte_place, row_byte, row_offset, vbi_byte, vbi_line_offset}
 use Rattle.picture_model.proofs.FaultlessGeometry.{IsRight}
-use Rattle.picture_model.proofs.Offsets.{IsRowAt, areas_differ, mapped_some, plane_and_area, planes_differ, row_end, row_offset-IsRowAt, row_within, rows_differ, vbi_end, vbi_line_within}
+use Rattle.picture_model.proofs.Offsets.{IsRowAt, areas_differ, mapped_some, plane_and_area, planes_differ, row_end, row_offset-IsRowAt, row_within, rows_differ, vbi_end, line_within}
 
 -- some chunk of a list passes a test exactly where one in rising order does
 
@@ -71,11 +71,11 @@ byte_within d (vbi_byte field line x) o right is at =
 -- the byte of a VBI line stands in its field's area
 in_area : (d : Desc) (field : Parity) (line x : ℕ) → line < d.vbi_lines → x < d.vbi_bytes → (vbi_offset d field ≤ vbi_line_offset d field line + x) × (vbi_line_offset d field line + x < vbi_offset d field + vbi_size d)
 in_area d field line x below inside =
-    let within = vbi_line_within d.vbi_lines d.vbi_bytes line below in (omega arith, omega arith)
+    let within = line_within d.vbi_lines (vbi_stride d) d.vbi_bytes line below in (omega arith, omega arith)
 
-in_extent : (d : Desc) (plane row x o : ℕ) → IsRight d → row < d.height → x < plane_row_bytes d plane → IsRowByteAt d plane row x o → (offset d plane ≤ o) × (o < offset d plane + plane_bytes d plane)
-in_extent d plane row x o right below inside there =
-    let within = row_within d plane row there.from right below there.row_at in
+in_extent : (d : Desc) (plane row x o : ℕ) → row < d.height → x < plane_row_bytes d plane → IsRowByteAt d plane row x o → (offset d plane ≤ o) × (o < offset d plane + plane_bytes d plane)
+in_extent d plane row x o below inside there =
+    let within = row_within d plane row there.from below there.row_at in
     let e = there.at in (omega arith, omega arith)
 
 same_row_byte : (p q r s x y : ℕ) → p ≡ q → r ≡ s → x ≡ y → row_byte p r x ≡ row_byte q s y
@@ -102,7 +102,7 @@ module _ (d : Desc) (right : IsRight d) (o : ℕ) where
 
   row_or_vbi : (plane row x line x' : ℕ) (field : Parity) → IsByte d (row_byte plane row x) → IsByte d (vbi_byte field line x') → IsRowByteAt d plane row x o → vbi_line_offset d field line + x' ≡ o → ⊥
   row_or_vbi plane row x line x' field is is' there e =
-      let extent = in_extent d plane row x o right is.1 is.2 there in
+      let extent = in_extent d plane row x o is.1 is.2 there in
       let area = in_area d field line x' is'.1 is'.2 in
       plane_and_area d right plane field o is.0 is'.0 extent.0 extent.1 (omega arith) (omega arith)
 
@@ -113,7 +113,9 @@ module _ (d : Desc) (right : IsRight d) (o : ℕ) where
       let area' = in_area d field' line' x' is'.1 is'.2 in
       let same : field ≡ field' = areas_differ d right o field field' is.0 is'.0 (omega arith) (omega arith) (omega arith) (omega arith) in
       let begin : vbi_offset d field ≡ vbi_offset d field' = ap (vbi_offset d) same in
-      let parts = same_from_place line x line' x' d.vbi_bytes is.2 is'.2 (omega arith) in
+      let step = right.vbi_apart (let first = is.1 in omega arith) in
+      let first = is.2 in let second = is'.2 in
+      let parts = same_from_place line x line' x' (vbi_stride d) (omega arith) (omega arith) (omega arith) in
       same_vbi_byte field field' line line' x x' same parts.0 parts.1
 
 pub bytes_differ : (d : Desc) (b c : Byte) (o : ℕ) → IsRight d → IsByte d b → IsByte d c → byte_offset d b ≡ Some o → byte_offset d c ≡ Some o → b ≡ c

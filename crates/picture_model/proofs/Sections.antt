@@ -10,20 +10,20 @@ use Rattle.risc_word.specs.Words.{IsInstr, encoded}
 use Rattle.pixel_layout.specs.declared.Parity.{Parity}
 use Rattle.pixel_layout.specs.declared.Parity.TheVariants.{Top, Bottom}
 use Rattle.page_table.specs.Taken.{in_order}
-use Rattle.machine_model.specs.Paths.{RiscProgram, IsSound, is_word}
-use Rattle.machine_model.proofs.BeforeTurns.{word_there}
+use Rattle.machine_model.specs.Paths.{RiscProgram, IsSound, is_word, spans_of}
+use Rattle.machine_model.proofs.OneSpan.{word_there}
 use Rattle.capture_desc.specs.declared.desc.Desc.{Desc}
 use Rattle.capture_desc.specs.declared.desc.Fields.{Fields}
 use Rattle.capture_desc.specs.declared.desc.Fields.TheVariants as fields
-use Rattle.picture_model.specs.Described.{both, describes, field_height, layout_of, memory_of, picture_row, rows_of}
-use Rattle.picture_model.specs.Plans.{Strip, row_strip, skipped_strip, vbi_strip}
+use Rattle.picture_model.specs.Described.{both, describes, field_height, layout_of, memory_of, picture_row, rows_of, vbi_skip}
+use Rattle.picture_model.specs.Plans.{Strip, row_strip, skipped_strip, skipped_vbi_strip, vbi_strip}
 use Rattle.picture_model.specs.Programs.{Stands, begin_by, body, closing, closing_begin, compiled, data_code, field_instrs, field_words, line_instrs, lines_instrs, next_by, opening, picture_strips}
 use Rattle.picture_model.specs.Programs.{section, section_begin, section_length, section_next, sections, sections_by, sections_words, vbi_from, vbi_instrs, vbi_strips, vbi_words, vertical, words_of}
 use Rattle.picture_model.proofs.Circle.{IsAt, IsFineInstr, IsPlain, Lead, circle_sound, lead_plain, split_length, words_split}
 use Rattle.picture_model.proofs.Each.{Each, each_append, each_flat_map, each_map, each_only, each_range, each_replicate}
 use Rattle.picture_model.proofs.FaultlessLines.{AreWords, IsGoodInstr, good_line, good_sync}
 use Rattle.picture_model.proofs.FaultlessGeometry.{IsRight}
-use Rattle.picture_model.proofs.Strips.{IsStrip, row-IsStrip, skipped-IsStrip, vbi-IsStrip}
+use Rattle.picture_model.proofs.Strips.{IsStrip, row-IsStrip, skipped-IsStrip, skipped_vbi-IsStrip, vbi-IsStrip}
 
 -- the rows of a field are rows of the picture
 below_height : (described two : Bool) (field : Parity) (k height : ℕ) → k < (if described then (if two then height / 2 else height) else 0) → picture_row two field k < height
@@ -44,9 +44,11 @@ rows_below d field =
 module _ (d : Desc) (right : IsRight d) where
   pub vbi_strips_fit : (field : Parity) → describes d.fields field ≡ true → Each (IsStrip (memory_of d)) (vbi_strips d field)
   vbi_strips_fit field described =
-      each_map (λ line. line < d.vbi_lines) (IsStrip (memory_of d)) (vbi_strip d field) (range_with_len 0 d.vbi_lines)
+      each_append (IsStrip (memory_of d)) (replicate (vbi_skip d field) (skipped_vbi_strip d)) (map (vbi_strip d field) (range_with_len 0 d.vbi_lines))
+      (each_replicate (IsStrip (memory_of d)) (vbi_skip d field) (skipped_vbi_strip d) (skipped_vbi-IsStrip d))
+      (each_map (λ line. line < d.vbi_lines) (IsStrip (memory_of d)) (vbi_strip d field) (range_with_len 0 d.vbi_lines)
       (λ line below. vbi-IsStrip d field line right described below)
-      (each_range 0 d.vbi_lines d.vbi_lines (omega arith))
+      (each_range 0 d.vbi_lines d.vbi_lines (omega arith)))
 
   pub picture_strips_fit : (field : Parity) → Each (IsStrip (memory_of d)) (picture_strips d field)
   picture_strips_fit field =
@@ -141,12 +143,12 @@ module _ (d : Desc) (program : RiscProgram) where
   plains : (field : Parity) → Each (IsGoodInstr program) (opening field ∷ body d field) → Each IsPlain (opening field ∷ body d field)
   plains field good = each_only (IsGoodInstr program) IsPlain (opening field ∷ body d field) (λ i g. g.plain) good
 
-  pub one_section : (field : Parity) → Each (IsGoodInstr program) (opening field ∷ body d field) → program.words ≡ words_of (section d field program.base) → IsSound program
+  pub one_section : (field : Parity) → Each (IsGoodInstr program) (opening field ∷ body d field) → program.spans ≡ spans_of program.base (words_of (section d field program.base)) → IsSound program
   one_section field good words =
       let instrs = section d field program.base in
-      let size = ap length words in
+      let long = section_long d field program.base in
       let e : program.base + 4 * 0 ≡ program.base = omega arith in
-      let word : is_word program program.base ≡ true = subst (λ (a : ℕ). is_word program a ≡ true) e (word_there program 0 (omega arith)) in
+      let word : is_word program program.base ≡ true = subst (λ (a : ℕ). is_word program a ≡ true) e (word_there program (words_of instrs) 0 words (omega arith)) in
       let first : IsAt program.base instrs program.base =
       record { before = []; instr = opening field; after = body d field ++ closing field program.base ∷ []; split = refl; at = omega arith }
       in
@@ -155,7 +157,7 @@ module _ (d : Desc) (program : RiscProgram) where
       first
 
   pub two_sections : Each (IsGoodInstr program) (opening Top ∷ body d Top) → Each (IsGoodInstr program) (opening Bottom ∷ body d Bottom) →
-      program.words ≡ words_of (section d Top (program.base + 4 * section_length d Top) ++ section d Bottom program.base) → IsSound program
+      program.spans ≡ spans_of program.base (words_of (section d Top (program.base + 4 * section_length d Top) ++ section d Bottom program.base)) → IsSound program
   two_sections top bottom words =
       let mid = program.base + 4 * section_length d Top in
       let first = section d Top mid in
@@ -164,10 +166,10 @@ module _ (d : Desc) (program : RiscProgram) where
       let There = IsAt program.base instrs in
       let long = section_long d Top mid in
       let parts : words_of instrs ≡ words_of first ++ words_of last = flat_map-append encoded first last in
-      let sizes : length program.words ≡ length (words_of first) + length (words_of last) = ap length words ∙ ap length parts ∙ length-append (words_of first) (words_of last) in
+      let sizes : length (words_of instrs) ≡ length (words_of first) + length (words_of last) = ap length parts ∙ length-append (words_of first) (words_of last) in
       let e : program.base + 4 * 0 ≡ program.base = omega arith in
-      let base_word : is_word program program.base ≡ true = subst (λ (a : ℕ). is_word program a ≡ true) e (word_there program 0 (omega arith)) in
-      let mid_word : is_word program mid ≡ true = word_there program (section_length d Top) (omega arith) in
+      let base_word : is_word program program.base ≡ true = subst (λ (a : ℕ). is_word program a ≡ true) e (word_there program (words_of instrs) 0 words (omega arith)) in
+      let mid_word : is_word program mid ≡ true = word_there program (words_of instrs) (section_length d Top) words (omega arith) in
       let at_base : There program.base =
       record { before = []; instr = opening Top; after = body d Top ++ closing Top mid ∷ [] ++ last; split = refl; at = omega arith }
       in
@@ -186,7 +188,7 @@ module _ (d : Desc) (program : RiscProgram) where
 -- the compiled program
 
 sound_by : (which : Fields) (d : Desc) (program : RiscProgram) → ((field : Parity) → describes which field ≡ true → Each (IsGoodInstr program) (opening field ∷ body d field)) →
-    program.words ≡ words_of (sections_by which d program.base program.base) → IsSound program
+    program.spans ≡ spans_of program.base (words_of (sections_by which d program.base program.base)) → IsSound program
 sound_by fields.Top d program good words = one_section d program Top (good Top refl) words
 sound_by fields.Bottom d program good words = one_section d program Bottom (good Bottom refl) words
 sound_by fields.Both d program good words = two_sections d program (good Top refl) (good Bottom refl) words

@@ -9,11 +9,10 @@ use Rattle.capture_desc.specs.declared.desc.Desc.{Desc}
 use Rattle.picture_model.specs.declared.PieceKind.{PieceKind}
 use Rattle.picture_model.specs.declared.PieceKind.TheVariants.{Write, WriteLuma, Skip}
 use Rattle.picture_model.specs.declared.Piece.{Piece}
-use Rattle.pixel_layout.specs.Layouts.{chroma_row}
 use Rattle.std.specs.Prelude.{option_map}
-use Rattle.picture_model.specs.Described.{both, describes, layout_of, memory_of, offset, stride}
+use Rattle.picture_model.specs.Described.{chroma_row_of, describes, layout_of, memory_of, offset, stride}
 use Rattle.picture_model.specs.Places.{vbi_line_offset}
-use Rattle.picture_model.specs.Plans.{Track, Strip, IsInOneChunk, FitsTrack, AreCuts, IsPlan, cuts_of, grain_bytes, grain_clipped, grains_of, kind_by, pieces_of, plan, row_strip, skipped_strip, vbi_strip, track}
+use Rattle.picture_model.specs.Plans.{Track, Strip, IsInOneChunk, FitsTrack, AreCuts, IsPlan, cuts_of, grain_bytes, grain_clipped, grains_of, kind_by, pieces_of, plan, row_strip, skipped_strip, skipped_vbi_strip, vbi_strip, track}
 use Rattle.picture_model.proofs.FaultlessGeometry.{IsRight}
 use Rattle.picture_model.proofs.Offsets.{vbi_end}
 use Rattle.picture_model.proofs.Grains.{IsTrack, GrainsFit, grain_small, row_track-IsTrack, unwritten-IsTrack}
@@ -106,7 +105,7 @@ row-IsStrip d row right below =
       one = row_track-IsTrack d right 1 row (omega arith) (omega arith) below;
       two = row_track-IsTrack d right 2 row (omega arith) (omega arith) below;
       three = row_track-IsTrack d right 3 row (omega arith) (omega arith) below;
-      placed = row_placed (layout_of d).planar (chroma_row (layout_of d) (both d) row) (offset d 1 + row * stride d 1) (λ kept. offset d 2 + kept * stride d 2) (λ kept. offset d 3 + kept * stride d 3);
+      placed = row_placed (layout_of d).planar (chroma_row_of d row) (offset d 1 + row * stride d 1) (λ kept. offset d 2 + kept * stride d 2) (λ kept. offset d 3 + kept * stride d 3);
     }
 
 pub skipped-IsStrip : (d : Desc) → IsStrip (memory_of d) (skipped_strip d)
@@ -117,6 +116,16 @@ skipped-IsStrip d =
       one = unwritten-IsTrack (memory_of d) grains (grain_bytes (layout_of d) 1) (grain_small d 1);
       two = unwritten-IsTrack (memory_of d) grains (grain_bytes (layout_of d) 2) (grain_small d 2);
       three = unwritten-IsTrack (memory_of d) grains (grain_bytes (layout_of d) 3) (grain_small d 3);
+      placed = tt;
+    }
+
+pub skipped_vbi-IsStrip : (d : Desc) → IsStrip (memory_of d) (skipped_vbi_strip d)
+skipped_vbi-IsStrip d =
+    record {
+      covers = (refl, omega arith, refl);
+      one = unwritten-IsTrack (memory_of d) d.vbi_bytes 1 (omega arith);
+      two = unwritten-IsTrack (memory_of d) d.vbi_bytes 0 (omega arith);
+      three = unwritten-IsTrack (memory_of d) d.vbi_bytes 0 (omega arith);
       placed = tt;
     }
 

@@ -1,10 +1,10 @@
 -- What a description asks for: its fields, the rows of its planes and where they lie, its VBI areas and
 -- its memory. Planes are counted from 1, offsets are bytes, counted along the pages or chunks.
-use Rattle.std.specs.Prelude.{ℕ, zero, suc, ◌+◌, ◌-◌, ◌*◌, ◌/◌, ◌^◌, ◌<◌, ◌≤◌, Bool, true, false, ◌==◌, All, length, List, [], ◌∷◌, ◌++◌, map, Option, Some, None, unwrap_or, if◌then◌else◌, max, slice_index}
+use Rattle.std.specs.Prelude.{ℕ, zero, suc, ◌+◌, ◌-◌, ◌*◌, ◌/◌, ◌^◌, ◌<◌, ◌≤◌, Bool, true, false, ◌==◌, All, length, List, [], ◌∷◌, ◌++◌, map, Option, Some, None, unwrap_or, if◌then◌else◌, max, ◌%◌, slice_index}
 use Rattle.std.specs.List.{range_with_len}
 use Rattle.pixel_layout.specs.declared.Parity.{Parity}
 use Rattle.pixel_layout.specs.declared.Parity.TheVariants.{Top, Bottom}
-use Rattle.pixel_layout.specs.Layouts.{Layout, layout, planes_of, row_bytes, chroma_rows}
+use Rattle.pixel_layout.specs.Layouts.{Layout, layout, planes_of, row_bytes, chroma_row_from}
 use Rattle.clip_spans.specs.Clipping.{max_rects}
 use Rattle.page_table.specs.Grants.{Chunk}
 use Rattle.page_table.specs.Taken.{listed, page_at}
@@ -41,6 +41,16 @@ describes fields.Top Bottom = false
 describes fields.Bottom Top = false
 describes fields.Bottom Bottom = true
 
+-- how many described fields come before one
+abbrev pub fields_before : Fields → Parity → ℕ
+fields_before fields.Both Bottom = 1
+fields_before _ field = 0
+
+-- the number given for a described field, or 0
+abbrev pub field_number : Option (List ℕ) → Fields → Parity → ℕ
+field_number (Some numbers) which field = slice_index numbers (fields_before which field)
+field_number None which field = 0
+
 abbrev pub layout_of : Desc → Layout
 layout_of d = layout d.format
 
@@ -62,6 +72,32 @@ picture_row true Bottom number = 2 * number + 1
 abbrev pub rows_of : Desc → Parity → List ℕ
 rows_of d field = map (picture_row (both d) field) (range_with_len 0 (field_height d field))
 
+-- the field of a picture row
+abbrev pub field_of : Fields → ℕ → Parity
+field_of fields.Top row = Top
+field_of fields.Bottom row = Bottom
+field_of fields.Both row = if row % 2 == 0 then Top else Bottom
+
+-- the rows of chroma
+
+-- the row of a field whose chroma is the first that is kept
+abbrev pub chroma_first : Desc → Parity → ℕ
+chroma_first d field = field_number d.chroma_first d.fields field
+
+-- the row of the planes of chroma that takes a picture row; none where its chroma isn't kept
+abbrev pub chroma_row_of : Desc → ℕ → Option ℕ
+chroma_row_of d row =
+    chroma_row_from (layout_of d) (both d) (chroma_first d (field_of d.fields row)) row
+
+-- one row more than the greatest; none where none is kept
+abbrev pub rows_for : List (Option ℕ) → ℕ
+rows_for [] = 0
+rows_for (None ∷ rest) = rows_for rest
+rows_for (Some row ∷ rest) = max (row + 1) (rows_for rest)
+
+abbrev pub chroma_height : Desc → ℕ
+chroma_height d = rows_for (map (chroma_row_of d) (range_with_len 0 d.height))
+
 -- the planes
 
 -- the planes of a picture, in order
@@ -78,15 +114,21 @@ plane_row_bytes d plane = row_bytes (layout_of d) plane d.width
 
 abbrev pub plane_rows : Desc → ℕ → ℕ
 plane_rows d plane =
-    if plane == 1 then d.height else chroma_rows (layout_of d) (both d) d.height
+    if plane == 1 then d.height else chroma_height d
 
 -- from one row of a plane to the next; by default rows stand close
 abbrev pub stride : Desc → ℕ → ℕ
 stride d plane = given_or d.stride plane (plane_row_bytes d plane)
 
+-- from the first byte of some lines to the end of the last one, by the step from a line to the next and
+-- the bytes of each
+abbrev pub lines_bytes : ℕ → ℕ → ℕ → ℕ
+lines_bytes zero step bytes = 0
+lines_bytes (suc more) step bytes = more * step + bytes
+
 -- from the first byte of a plane to the end of its last row
 abbrev pub plane_bytes : Desc → ℕ → ℕ
-plane_bytes d plane = (plane_rows d plane - 1) * stride d plane + plane_row_bytes d plane
+plane_bytes d plane = lines_bytes (plane_rows d plane) (stride d plane) (plane_row_bytes d plane)
 
 -- by default plane 1 begins at 0 and each next plane at the end of the one before it
 abbrev pub default_offset : Desc → ℕ → ℕ
@@ -117,20 +159,25 @@ highest_end (e ∷ rest) = max e.to (highest_end rest)
 abbrev pub extents : Desc → List Extent
 extents d = map (extent d) (planes d)
 
--- a field's VBI lines stand close; by default they begin at the highest end of a plane, and with both
--- fields the bottom field's follow the top field's
-abbrev pub vbi_size : Desc → ℕ
-vbi_size d = d.vbi_lines * d.vbi_bytes
+-- the VBI lines that a field passes over before its first
+abbrev pub vbi_skip : Desc → Parity → ℕ
+vbi_skip d field = field_number d.vbi_skip d.fields field
 
+-- from one VBI line to the next; by default a field's VBI lines stand close
+abbrev pub vbi_stride : Desc → ℕ
+vbi_stride d = unwrap_or d.vbi_stride d.vbi_bytes
+
+-- from the first byte of a field's VBI lines to the end of the last one
+abbrev pub vbi_size : Desc → ℕ
+vbi_size d = lines_bytes d.vbi_lines (vbi_stride d) d.vbi_bytes
+
+-- by default the VBI lines begin at the highest end of a plane, and with both fields the bottom field's
+-- begin a step behind the top field's last
 abbrev pub vbi_begin : Desc → ℕ
 vbi_begin d = unwrap_or d.vbi_offset (highest_end (extents d))
 
-abbrev pub areas_before : Fields → Parity → ℕ
-areas_before fields.Both Bottom = 1
-areas_before _ field = 0
-
 abbrev pub vbi_offset : Desc → Parity → ℕ
-vbi_offset d field = vbi_begin d + areas_before d.fields field * vbi_size d
+vbi_offset d field = vbi_begin d + fields_before d.fields field * (d.vbi_lines * vbi_stride d)
 
 abbrev pub vbi_area : Desc → Parity → Extent
 vbi_area d field = stretch (vbi_offset d field) (vbi_size d)

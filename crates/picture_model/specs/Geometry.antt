@@ -9,9 +9,9 @@ use Rattle.capture_desc.specs.declared.desc.Desc.{Desc}
 use Rattle.picture_model.specs.declared.BuildFault.{BuildFault}
 use Rattle.picture_model.specs.declared.BuildFault.TheVariants.{WidthRange, HeightRange, WidthOffUnit, OddHeight, TooNarrow, StrideShort, OffUnit, Overlap, VbiRange, PageUnaligned, PageTwice}
 use Rattle.picture_model.specs.declared.BuildFault.TheVariants.{TooFewPages, TooFewBytes, ProgramBase, ProgramOnPage}
-use Rattle.picture_model.specs.Described.{Extent, both, layout_of, memory_of, planes, plane_row_bytes, stride, offset, taken, highest_end}
+use Rattle.picture_model.specs.Described.{Extent, both, layout_of, memory_of, planes, plane_row_bytes, stride, offset, taken, highest_end, vbi_stride}
 use Rattle.picture_model.specs.Plans.{max_piece}
-use Rattle.picture_model.specs.Programs.{compiled}
+use Rattle.picture_model.specs.Programs.{compiled, compiled_words}
 
 -- the limits of a picture: pixels of a row, rows, lines of VBI data in a field; and the fewest bytes of a
 -- line on a plane
@@ -101,7 +101,8 @@ overlap d = when (some_overlap (taken d)) Overlap
 abbrev pub vbi_range : Check
 vbi_range d =
     when
-    (nat_lt max_vbi_lines d.vbi_lines || (nat_lt 0 d.vbi_lines && not (is_between min_line_bytes max_piece d.vbi_bytes)))
+    (nat_lt max_vbi_lines d.vbi_lines
+    || (nat_lt 0 d.vbi_lines && (not (is_between min_line_bytes max_piece d.vbi_bytes) || nat_lt (vbi_stride d) d.vbi_bytes)))
     VbiRange
 
 abbrev pub picture_faults : List Check
@@ -134,7 +135,7 @@ frame_faults = picture_faults ++ page_faults ++ memory_faults
 
 abbrev pub program_base : Check
 program_base d =
-    when (not (is_multiple 4 d.base && nat_le (d.base + 4 * length (compiled d).words) (2 ^ 32))) ProgramBase
+    when (not (is_multiple 4 d.base && nat_le (d.base + 4 * length (compiled_words d)) (2 ^ 32))) ProgramBase
 
 abbrev pub program_on_page : Check
 program_on_page d = when (list_any (shares_byte (compiled d)) (memory_of d)) ProgramOnPage

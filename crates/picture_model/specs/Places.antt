@@ -1,11 +1,11 @@
 -- Which bytes of a picture are clipped, and where the bytes of the picture and of its VBI lines lie.
 use Rattle.std.specs.Prelude.{◌≡◌, ℕ, ◌+◌, ◌*◌, ◌/◌, ◌<◌, ◌≤◌, Bool, true, ◌==◌, Option, Some, option_map, if◌then◌else◌}
 use Rattle.pixel_layout.specs.declared.Parity.{Parity}
-use Rattle.pixel_layout.specs.Layouts.{Layout, chroma_row, planes_of, row_bytes}
+use Rattle.pixel_layout.specs.Layouts.{planes_of, row_bytes}
 use Rattle.clip_spans.specs.Clipping.{unit_clipped}
 use Rattle.capture_desc.specs.declared.desc.Desc.{Desc}
 use Rattle.page_table.specs.Scattered.{address_at}
-use Rattle.picture_model.specs.Described.{both, describes, layout_of, memory_of, offset, plane_row_bytes, stride, vbi_offset}
+use Rattle.picture_model.specs.Described.{chroma_row_of, describes, layout_of, memory_of, offset, plane_row_bytes, stride, vbi_offset, vbi_stride}
 
 -- byte x of a picture row on a plane is clipped together with its unit
 abbrev pub byte_clipped : Desc → ℕ → ℕ → ℕ → Bool
@@ -14,17 +14,17 @@ byte_clipped d plane row x =
     unit_clipped d.clip row l.pixels (x / row_bytes l plane l.pixels)
 
 -- the row of a plane that takes a picture row; none where the chroma isn't kept or the plane isn't there
-abbrev pub plane_row : Layout → Bool → ℕ → ℕ → Option ℕ
-plane_row l both plane row = if plane == 1 then Some row else chroma_row l both row
+abbrev pub plane_row : Desc → ℕ → ℕ → Option ℕ
+plane_row d plane row = if plane == 1 then Some row else chroma_row_of d row
 
 -- the offset of the first byte of a picture row on a plane
 abbrev pub row_offset : Desc → ℕ → ℕ → Option ℕ
 row_offset d plane row =
-    option_map (λ kept. offset d plane + kept * stride d plane) (plane_row (layout_of d) (both d) plane row)
+    option_map (λ kept. offset d plane + kept * stride d plane) (plane_row d plane row)
 
 -- the offset of the first byte of a field's VBI line
 abbrev pub vbi_line_offset : Desc → Parity → ℕ → ℕ
-vbi_line_offset d field line = vbi_offset d field + line * d.vbi_bytes
+vbi_line_offset d field line = vbi_offset d field + line * vbi_stride d
 
 -- a byte that a capture brings: byte x of a picture row on a plane, or byte x of a field's VBI line
 pub data Byte : Type 0 where

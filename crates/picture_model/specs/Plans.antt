@@ -3,7 +3,7 @@ use Rattle.std.specs.Prelude.{ℕ, zero, suc, ◌+◌, ◌-◌, ◌*◌, ◌/◌
 use Rattle.std.specs.List.{All, flat_map}
 use Rattle.risc_word.specs.declared.Ends.{Ends}
 use Rattle.pixel_layout.specs.declared.Parity.{Parity}
-use Rattle.pixel_layout.specs.Layouts.{Layout, chroma_row}
+use Rattle.pixel_layout.specs.Layouts.{Layout}
 use Rattle.clip_spans.specs.declared.Span.{Span}
 use Rattle.clip_spans.specs.Clipping.{unit_clipped}
 use Rattle.clip_spans.specs.Runs.{span, spans_of}
@@ -13,7 +13,7 @@ use Rattle.picture_model.specs.declared.PieceKind.{PieceKind}
 use Rattle.picture_model.specs.declared.PieceKind.TheVariants.{Write, WriteLuma, Skip}
 use Rattle.picture_model.specs.declared.Piece.{Piece}
 use Rattle.page_table.specs.Scattered.{address_at, room_at}
-use Rattle.picture_model.specs.Described.{both, layout_of, memory_of}
+use Rattle.picture_model.specs.Described.{chroma_row_of, layout_of, memory_of}
 use Rattle.picture_model.specs.Places.{HasPlane, place, row_offset, vbi_line_offset, vbi_place}
 
 -- a line before it is cut
@@ -72,7 +72,7 @@ row_strip d row =
     record {
       grains = grains_of (layout_of d) d.width;
       spans = map (in_grains (layout_of d)) (spans_of d.clip row d.width (layout_of d).pixels);
-      kind = kind_by (layout_of d).planar (chroma_row (layout_of d) (both d) row);
+      kind = kind_by (layout_of d).planar (chroma_row_of d row);
       planar = (layout_of d).planar;
       one = row_track d 1 row;
       two = row_track d 2 row;
@@ -101,6 +101,19 @@ vbi_strip d field line =
       kind = Write;
       planar = false;
       one = track 1 (Some (vbi_line_offset d field line));
+      two = track 0 None;
+      three = track 0 None;
+    }
+
+-- a VBI line that is skipped: as long as the others, and clipped whole
+abbrev pub skipped_vbi_strip : Desc → Strip
+skipped_vbi_strip d =
+    record {
+      grains = d.vbi_bytes;
+      spans = span 0 d.vbi_bytes true ∷ [];
+      kind = Skip;
+      planar = false;
+      one = track 1 None;
       two = track 0 None;
       three = track 0 None;
     }
@@ -273,6 +286,9 @@ row_plan d row = plan (memory_of d) (row_strip d row)
 
 abbrev pub skipped_plan : Desc → List Piece
 skipped_plan d = plan (memory_of d) (skipped_strip d)
+
+abbrev pub skipped_vbi_plan : Desc → List Piece
+skipped_vbi_plan d = plan (memory_of d) (skipped_vbi_strip d)
 
 abbrev pub vbi_plan : Desc → Parity → ℕ → List Piece
 vbi_plan d field line = plan (memory_of d) (vbi_strip d field line)

@@ -10,15 +10,15 @@ use Rattle.risc_word.specs.Words.{encoded}
 use Rattle.pixel_layout.specs.declared.Parity.{Parity}
 use Rattle.pixel_layout.specs.declared.Parity.TheVariants.{Top, Bottom}
 use Rattle.page_table.specs.Taken.{in_order}
-use Rattle.machine_model.specs.Paths.{RiscProgram}
+use Rattle.machine_model.specs.Paths.{RiscProgram, one_span}
 use Rattle.capture_desc.specs.declared.desc.Desc.{Desc}
 use Rattle.capture_desc.specs.declared.desc.Fields.{Fields}
 use Rattle.capture_desc.specs.declared.desc.Fields.TheVariants as fields
 use Rattle.picture_model.specs.declared.PieceKind.{PieceKind}
 use Rattle.picture_model.specs.declared.PieceKind.TheVariants.{Write, WriteLuma, Skip}
 use Rattle.picture_model.specs.declared.Piece.{Piece}
-use Rattle.picture_model.specs.Described.{layout_of, memory_of, rows_of}
-use Rattle.picture_model.specs.Plans.{Strip, plan, row_strip, skipped_strip, vbi_strip}
+use Rattle.picture_model.specs.Described.{layout_of, memory_of, rows_of, vbi_skip}
+use Rattle.picture_model.specs.Plans.{Strip, plan, row_strip, skipped_strip, skipped_vbi_strip, vbi_strip}
 
 -- the instructions of a line
 
@@ -55,9 +55,11 @@ vertical Bottom = Vro
 abbrev pub opening : Parity → Instr
 opening field = sync true (vertical field)
 
--- a field's VBI lines, and the lines of its picture: those that are skipped, then its rows
+-- a field's lines in the vertical blanking interval, and the lines of its picture: each time those that
+-- are skipped, then those that are kept
 abbrev pub vbi_strips : Desc → Parity → List Strip
-vbi_strips d field = map (vbi_strip d field) (range_with_len 0 d.vbi_lines)
+vbi_strips d field =
+    replicate (vbi_skip d field) (skipped_vbi_strip d) ++ map (vbi_strip d field) (range_with_len 0 d.vbi_lines)
 
 abbrev pub picture_strips : Desc → Parity → List Strip
 picture_strips d field = replicate d.skip_lines (skipped_strip d) ++ map (row_strip d) (rows_of d field)
@@ -148,14 +150,13 @@ sections d from last = sections_by d.fields d from last
 abbrev pub sections_words : Desc → ℕ → ℕ → List ℕ
 sections_words d at back = words_of (sections d at back)
 
--- the program: its last section leads back to its base, and it may write the description's pages or chunks
+-- the words of the program: its last section leads back to its base
+abbrev pub compiled_words : Desc → List ℕ
+compiled_words d = sections_words d d.base d.base
+
+-- the program: its words stand one after another from its base on, and it may write the description's pages or chunks
 abbrev pub compiled : Desc → RiscProgram
-compiled d =
-    record {
-      base = d.base;
-      words = sections_words d d.base d.base;
-      grants = in_order (memory_of d);
-    }
+compiled d = one_span d.base (compiled_words d) (in_order (memory_of d))
 
 -- a part of some words stands at an address, where the words begin at another
 pub record Stands (words : List ℕ) (from : ℕ) (part : List ℕ) (address : ℕ) : Type 0 where

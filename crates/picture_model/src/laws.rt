@@ -1,7 +1,8 @@
 //! Laws of descriptions whose geometry has no fault. The functions do nothing; their contracts are the
 //! laws.
 
-ghost use Rattle.std.specs.Prelude.{◌≡◌, ◌↔◌, ℕ, ◌+◌, ◌*◌, ◌<◌, ◌++◌, true, Some, List, length};
+ghost use Rattle.std.specs.Prelude.{◌≡◌, ◌↔◌, ℕ, ◌+◌, ◌*◌, ◌/◌, ◌<◌, ◌++◌, false, true, None, Some, List, length};
+ghost use Rattle.std.specs.Int.{div_ceil};
 ghost use Rattle.std.specs.List.{All};
 ghost use Rattle.capture_desc.specs.declared.desc.Desc.{Desc};
 ghost use Rattle.clip_spans.specs.Runs.{AreRunsFrom};
@@ -10,17 +11,18 @@ ghost use Rattle.page_table.specs.Grants.{granted};
 ghost use Rattle.pixel_layout.specs.declared.Parity.{Parity};
 ghost use Rattle.risc_word.specs.Words.{encoded};
 ghost use Rattle.picture_model.specs.declared.Piece.{Piece};
-ghost use Rattle.picture_model.specs.Described.{IsDescription, describes, layout_of, memory_of, plane_row_bytes};
+ghost use Rattle.picture_model.specs.Described.{IsDescription, both, chroma_height, describes, layout_of, memory_of, plane_row_bytes};
 ghost use Rattle.picture_model.specs.Geometry.{IsFrame, IsValid};
 ghost use Rattle.picture_model.specs.Places.{Byte, HasPlane, IsByte, byte_clipped, byte_place};
-ghost use Rattle.picture_model.specs.Plans.{CoverSafely, IsPlan, IsRowCut, IsVbiCut, cuts_of, grain_bytes, grain_clipped, grains_of, row_plan, row_strip, skipped_plan, skipped_strip, vbi_plan, vbi_strip};
-ghost use Rattle.picture_model.specs.Programs.{Stands, closing, closing_begin, compiled, field_words, opening, section, section_begin, section_next, sections, sections_words, vbi_words, words_of};
+ghost use Rattle.picture_model.specs.Plans.{CoverSafely, IsPlan, IsRowCut, IsVbiCut, cuts_of, grain_bytes, grain_clipped, grains_of, row_plan, row_strip, skipped_plan, skipped_strip, skipped_vbi_plan, skipped_vbi_strip, vbi_plan, vbi_strip};
+ghost use Rattle.picture_model.specs.Programs.{Stands, closing, closing_begin, compiled, compiled_words, field_words, opening, section, section_begin, section_next, sections, sections_words, vbi_words, words_of};
 
-/// Each row, each skipped line and each VBI line has exactly one plan, the one that is computed.
+/// Each row, each VBI line and each skipped line of either kind has exactly one plan, the one that is computed.
 pub fn every_line_has_one_plan()
     ensures row { (d : Desc) (row : ℕ) (pieces : List Piece) → IsDescription d → IsFrame d → row < d.height →
         (IsPlan (memory_of d) (row_strip d row) pieces ↔ (pieces ≡ row_plan d row)) }
     ensures skipped { (d : Desc) (pieces : List Piece) → (IsPlan (memory_of d) (skipped_strip d) pieces ↔ (pieces ≡ skipped_plan d)) }
+    ensures skipped_vbi { (d : Desc) (pieces : List Piece) → (IsPlan (memory_of d) (skipped_vbi_strip d) pieces ↔ (pieces ≡ skipped_vbi_plan d)) }
     ensures vbi { (d : Desc) (field : Parity) (line : ℕ) (pieces : List Piece) → IsDescription d → IsFrame d → describes d.fields field ≡ true → line < d.vbi_lines →
         (IsPlan (memory_of d) (vbi_strip d field line) pieces ↔ (pieces ≡ vbi_plan d field line)) }
 {}
@@ -47,6 +49,8 @@ pub fn cuts_cover_their_lines()
         CoverSafely (memory_of d) (row_strip d row) (cuts_of (memory_of d) (row_strip d row) (row_strip d row).spans) }
     ensures skipped { (d : Desc) → IsDescription d → IsFrame d →
         CoverSafely (memory_of d) (skipped_strip d) (cuts_of (memory_of d) (skipped_strip d) (skipped_strip d).spans) }
+    ensures skipped_vbi { (d : Desc) → IsDescription d → IsFrame d →
+        CoverSafely (memory_of d) (skipped_vbi_strip d) (cuts_of (memory_of d) (skipped_vbi_strip d) (skipped_vbi_strip d).spans) }
     ensures vbi { (d : Desc) (field : Parity) (line : ℕ) → IsDescription d → IsFrame d → describes d.fields field ≡ true → line < d.vbi_lines →
         CoverSafely (memory_of d) (vbi_strip d field line) (cuts_of (memory_of d) (vbi_strip d field line) (vbi_strip d field line).spans) }
 {}
@@ -58,6 +62,15 @@ pub fn cuts_write_the_picture()
         All (IsRowCut d row) (cuts_of (memory_of d) (row_strip d row) (row_strip d row).spans) }
     ensures vbi { (d : Desc) (field : Parity) (line : ℕ) → IsDescription d → IsFrame d → describes d.fields field ≡ true → line < d.vbi_lines →
         All (IsVbiCut d field line) (cuts_of (memory_of d) (vbi_strip d field line) (vbi_strip d field line).spans) }
+{}
+
+/// Where a description gives no first chroma row, a plane of chroma has one row for each step down of a field's rows, rounded
+/// up, and with two fields twice as many as for one of them.
+pub fn chroma_has_a_row_for_each_step_by_default()
+    ensures one { (d : Desc) → IsDescription d → IsFrame d → d.chroma_first ≡ None → (layout_of d).planar ≡ true → both d ≡ false →
+        chroma_height d ≡ div_ceil d.height (layout_of d).down }
+    ensures two { (d : Desc) → IsDescription d → IsFrame d → d.chroma_first ≡ None → (layout_of d).planar ≡ true → both d ≡ true →
+        chroma_height d ≡ 2 * div_ceil (d.height / 2) (layout_of d).down }
 {}
 
 /// Each byte of a picture and of its VBI lines that is kept lies at an address that the program may
@@ -96,6 +109,6 @@ pub fn compiled_programs_are_sound()
 /// The program of a description whose frame is right has fewer than 500,000 words, and where the
 /// description has no fault at all, it is a program.
 pub fn compiled_programs_can_be_made()
-    ensures words { (d : Desc) → IsDescription d → IsFrame d → length (compiled d).words < 500000 }
+    ensures words { (d : Desc) → IsDescription d → IsFrame d → length (compiled_words d) < 500000 }
     ensures program { (d : Desc) → IsDescription d → IsValid d → IsProgram (compiled d) }
 {}

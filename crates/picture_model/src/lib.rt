@@ -8,7 +8,7 @@ mod fields;
 pub mod laws;
 
 pub use codes::{data_code, vertical};
-pub use fields::{describes, field_height, is_both, picture_row};
+pub use fields::{chroma_row, describes, field_height, is_both, picture_row, vbi_skip, vbi_stride};
 use risc_word::Ends;
 
 /// The most pixels of a row (this project's own limit).
@@ -48,7 +48,8 @@ pub enum BuildFault {
     OffUnit,
     /// Two planes or VBI areas share a byte.
     Overlap,
-    /// More than 32 VBI lines, or VBI lines that aren't of 5 to 4,092 bytes.
+    /// More than 32 VBI lines, or VBI lines that aren't of 5 to 4,092 bytes or that overlap: the stride is below the
+    /// bytes of one.
     VbiRange,
     /// The first page that is no multiple of 4,096, or the first chunk whose address or length is no
     /// multiple of 4, whose length is 0 or whose end passes 2^32.

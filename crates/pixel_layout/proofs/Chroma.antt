@@ -1,36 +1,23 @@
--- Rows whose chroma is kept go to rows of chroma of their own, of which there are enough.
-use Rattle.std.proofs.Common.{◌≡◌, ℕ, ◌+◌, ◌-◌, ◌*◌, ◌/◌, ◌%◌, ◌<◌, ◌≤◌, Bool, true, false, refl, ap, arith}
-use Rattle.std.proofs.Math.Nat.{le-div_iff_mul-le}
-use Rattle.pixel_layout.specs.Layouts.{Layout, chroma_place, chroma_rows, field_row}
+-- Rows whose chroma is kept go to rows of chroma of their own, none of which is higher than they are.
+use Rattle.std.proofs.Common.{◌≡◌, ℕ, ◌+◌, ◌*◌, ◌/◌, ◌%◌, ◌≤◌, Bool, true, false, refl, ap, ◌∙◌, sym, arith}
+use Rattle.std.proofs.Math.Nat.{div-le_self}
+use Rattle.pixel_layout.specs.Layouts.{chroma_place, field_row}
 
-one_more : (u v : ℕ) → (u + 1) * v ≡ u * v + v
-one_more u v = grind arith
+pub place-within : (down : ℕ) (both : Bool) (row : ℕ) → chroma_place down both row ≤ row
+place-within down true row = let part = div-le_self (row / 2) down in omega (arith, part)
+place-within down false row = div-le_self row down
 
--- the part of a row is below the number of parts, rounded up
-part_below : (v k height : ℕ) → 1 ≤ v → k < height → k / v < (height + v - 1) / v
-part_below v k height some below =
-    let fits : k / v * v ≤ k = (le-div_iff_mul-le {k = v} {x = k / v} {y = k} some).0 (omega arith) in
-    let e = one_more (k / v) v in
-    let more : k / v + 1 ≤ (height + v - 1) / v =
-    (le-div_iff_mul-le {k = v} {x = k / v + 1} {y = height + v - 1} some).1 (omega arith)
-    in
-    omega arith
-
--- a picture of two fields has an even height
-pub place-below : (l : Layout) (both : Bool) (row height : ℕ) → 1 ≤ l.down → (both ≡ true → height % 2 ≡ 0) → row < height → chroma_place l.down both row < chroma_rows l both height
-place-below l true row height some even below =
-    let halves = even refl in
-    let part = part_below l.down (row / 2) (height / 2) some (omega arith) in omega arith
-place-below l false row height some even below = part_below l.down row height some below
-
-same_multiple : (v k k' : ℕ) → 1 ≤ v → k % v ≡ 0 → k' % v ≡ 0 → k / v ≡ k' / v → k ≡ k'
-same_multiple v k k' some whole whole' same =
+same_multiple : (v k k' : ℕ) → 1 ≤ v → k % v ≡ k' % v → k / v ≡ k' / v → k ≡ k'
+same_multiple v k k' some rest same =
     let one : v * (k / v) + k % v ≡ k = omega arith in
     let two : v * (k' / v) + k' % v ≡ k' = omega arith in
     let e : v * (k / v) ≡ v * (k' / v) = ap (λ n. v * n) same in omega arith
 
-pub place-own : (down : ℕ) (both : Bool) (row other : ℕ) → 1 ≤ down → field_row both row % down ≡ 0 → field_row both other % down ≡ 0 → chroma_place down both row ≡ chroma_place down both other → row ≡ other
-place-own down true row other some kept kept' same =
+-- rows of one field keep chroma from the same first row on
+pub place-own : (down : ℕ) (both : Bool) (row other first first' : ℕ) → 1 ≤ down → field_row both row % down ≡ first → field_row both other % down ≡ first' →
+    (both ≡ false → first ≡ first') → (both ≡ true → row % 2 ≡ other % 2 → first ≡ first') → chroma_place down both row ≡ chroma_place down both other → row ≡ other
+place-own down true row other first first' some kept kept' one two same =
     let part : row / 2 / down ≡ other / 2 / down = omega arith in
-    let half : row / 2 ≡ other / 2 = same_multiple down (row / 2) (other / 2) some kept kept' part in omega arith
-place-own down false row other some kept kept' same = same_multiple down row other some kept kept' same
+    let parity : row % 2 ≡ other % 2 = omega arith in
+    let half : row / 2 ≡ other / 2 = same_multiple down (row / 2) (other / 2) some (kept ∙ two refl parity ∙ sym kept') part in omega arith
+place-own down false row other first first' some kept kept' one two same = same_multiple down row other some (kept ∙ one refl ∙ sym kept') same

@@ -1,5 +1,5 @@
 -- The table of pixel formats, and where the bytes of a picture row lie on its planes.
-use Rattle.std.specs.Prelude.{ℕ, ◌+◌, ◌-◌, ◌*◌, ◌/◌, ◌%◌, Bool, true, false, ◌==◌, ◌∷◌, List, [], Option, Some, None, if◌then◌else◌, codes, find, bytes_eq}
+use Rattle.std.specs.Prelude.{ℕ, ◌+◌, ◌*◌, ◌/◌, ◌%◌, Bool, true, false, ◌==◌, ◌∷◌, List, [], Option, Some, None, if◌then◌else◌, codes, find, bytes_eq}
 use Rattle.pixel_layout.specs.declared.Format.{Format}
 use Rattle.pixel_layout.specs.declared.Format.TheVariants.{Rgb32, Rgb24, Rgb16, Rgb15, Yuy2, Y8, Rgb8, BtYuv, Yuv422p, Yuv411p, Yuv420p, Yuv410p}
 
@@ -62,16 +62,13 @@ abbrev pub chroma_place : ℕ → Bool → ℕ → ℕ
 chroma_place down both row =
     if both then 2 * (row / 2 / down) + row % 2 else row / down
 
--- chroma is kept of one in so many rows of a field
-abbrev pub chroma_row : Layout → Bool → ℕ → Option ℕ
-chroma_row l both row =
+-- chroma is kept of one in so many rows of a field, from a first one on
+abbrev pub chroma_row_from : Layout → Bool → ℕ → ℕ → Option ℕ
+chroma_row_from l both first row =
     if l.planar
-    then (if field_row both row % l.down == 0 then Some (chroma_place l.down both row) else None)
+    then (if field_row both row % l.down == first then Some (chroma_place l.down both row) else None)
     else None
 
--- how many rows of chroma a picture of this height has
-abbrev pub chroma_rows : Layout → Bool → ℕ → ℕ
-chroma_rows l both height =
-    if both
-    then 2 * ((height / 2 + l.down - 1) / l.down)
-    else (height + l.down - 1) / l.down
+-- where the first row's is kept
+abbrev pub chroma_row : Layout → Bool → ℕ → Option ℕ
+chroma_row l both row = chroma_row_from l both 0 row

@@ -2,7 +2,7 @@
 #![tactic(auto)]
 
 ghost use Rattle.std.specs.Prelude.{◌≡◌, ◌*◌, ◌%◌, ◌≤◌, []};
-ghost use Rattle.pixel_layout.specs.Layouts.{chroma_row, format_named, layout, planes_of, row_bytes, packed, planar};
+ghost use Rattle.pixel_layout.specs.Layouts.{chroma_row, chroma_row_from, format_named, layout, planes_of, row_bytes, packed, planar};
 ghost use Rattle.pixel_layout.specs.Lines.{IsSmall, line_of};
 
 /// How the bytes of a picture lie in memory: the formats of Linux bttv (`bttv-driver.c`). In a packed
@@ -159,21 +159,37 @@ impl Format {
         }
     }
 
+    /// How many rows of a field share a row of chroma, of which one row's is kept; 1 in packed formats.
+    pub fn rows_of_chroma(self) -> u32
+        ensures value { result ≡ (layout self).down }
+        ensures some { 1 ≤ result }
+    {
+        self.line().down
+    }
+
     /// The row of planes 2 and 3 that takes the chroma of a picture row, or None where there is no
     /// chroma or that row's is dropped. `both` says that the picture has two fields, whose rows
-    /// alternate; the chroma rows of the two fields alternate too (this project's own numbering).
+    /// alternate; the chroma rows of the two fields alternate too. `first` is the row of its field
+    /// whose chroma is the first that is kept (this project's own numbering).
     #[tactic(auto, using(crate::proofs::Sizes::place_fits))]
-    pub fn chroma_row(self, both: bool, row: u32) -> Option<u32>
-        ensures { result ≡ chroma_row (layout self) both row }
+    pub fn chroma_row_from(self, both: bool, first: u32, row: u32) -> Option<u32>
+        ensures { result ≡ chroma_row_from (layout self) both first row }
     {
         let line = self.line();
         let field_row = if both { row / 2 } else { row };
-        if !line.planar || field_row % line.down != 0 {
+        if !line.planar || field_row % line.down != first {
             None
         } else if both {
             Some(2 * (field_row / line.down) + row % 2)
         } else {
             Some(field_row / line.down)
         }
+    }
+
+    /// As `chroma_row_from`, where the chroma of the first row of a field is kept.
+    pub fn chroma_row(self, both: bool, row: u32) -> Option<u32>
+        ensures { result ≡ chroma_row (layout self) both row }
+    {
+        self.chroma_row_from(both, 0, row)
     }
 }

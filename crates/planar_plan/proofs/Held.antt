@@ -9,12 +9,12 @@ use Rattle.clip_spans.specs.Runs.{AreRunsFrom}
 use Rattle.clip_spans.specs.declared.Span.{Span}
 use Rattle.capture_desc.specs.declared.desc.Desc.{Desc}
 use Rattle.picture_model.specs.declared.Piece.{Piece}
-use Rattle.picture_model.specs.Described.{IsDescription, describes, extent, extents, fields_of, highest_end, layout_of, memory_of, taken, vbi_area}
+use Rattle.picture_model.specs.Described.{IsDescription, describes, extent, extents, fields_of, highest_end, layout_of, memory_of, taken, vbi_area, vbi_stride}
 use Rattle.picture_model.specs.Places.{row_offset, vbi_line_offset}
-use Rattle.picture_model.specs.Plans.{Strip, cuts_of, grain_bytes, grain_clipped, grains_of, pieces_of, plan, row_strip, row_track, skipped_strip, vbi_strip}
+use Rattle.picture_model.specs.Plans.{Strip, cuts_of, grain_bytes, grain_clipped, grains_of, pieces_of, plan, row_strip, row_track, skipped_strip, skipped_vbi_strip, vbi_strip}
 use Rattle.picture_model.proofs.FaultlessGeometry.{IsFrame-IsRight, IsRight}
 use Rattle.picture_model.proofs.Spans.{row_runs}
-use Rattle.picture_model.proofs.Offsets.{IsRowAt, area_end, end_in_mapped, end_of_others, row_offset-IsRowAt, row_within, vbi_line_within}
+use Rattle.picture_model.proofs.Offsets.{IsRowAt, area_end, end_in_mapped, end_of_others, row_offset-IsRowAt, row_within, line_within}
 use Rattle.picture_model.proofs.Grains.{GrainsFit, grain_small, held_plane, row_grains, row_track-IsTrack}
 use Rattle.planar_plan.specs.Frames.{IsFramed}
 use Rattle.planar_plan.specs.Lines.{AreHeld, AreWithin, CanBeCut, IsHeld, bare}
@@ -25,7 +25,7 @@ pub vbi_line_ends : (d : Desc) (field : Parity) (line : ℕ) → describes d.fie
 vbi_line_ends d field line is below =
     let area = area_end (vbi_area d) d.fields field is in
     let all = end_of_others (extents d) (map (vbi_area d) (fields_of d.fields)) in
-    let within = vbi_line_within d.vbi_lines d.vbi_bytes line below in omega arith
+    let within = line_within d.vbi_lines (vbi_stride d) d.vbi_bytes line below in omega arith
 
 -- the bytes of a scatter list are few
 pub list_small : (s : ScatterList) → IsScatterList s → s.len ≤ 2 ^ 32
@@ -38,7 +38,7 @@ module _ (d : Desc) (right : IsRight d) (row : ℕ) (below : row < d.height) (pl
       let has = held_plane d plane row at.number low high at.held in
       let top = has.high in
       let bytes = row_grains d plane has in
-      let within = row_within d plane row from right below at in
+      let within = row_within d plane row from below at in
       let end = end_in_mapped (extent d) 1 (planes_of (layout_of d)) plane (map (vbi_area d) (fields_of d.fields)) low (omega arith) in
       (fit.0, omega arith, fit.2)
 
@@ -75,6 +75,15 @@ skipped-CanBeCut d s list =
       one = unwritten_held s d grains 1;
       two = unwritten_held s d grains 2;
       three = unwritten_held s d grains 3;
+    }
+
+pub skipped_vbi-CanBeCut : (d : Desc) (s : ScatterList) → IsScatterList s → CanBeCut s (bare (skipped_vbi_strip d))
+skipped_vbi-CanBeCut d s list =
+    record {
+      bytes = list_small s list;
+      one = record { small = omega arith; held = tt };
+      two = record { small = omega arith; held = tt };
+      three = record { small = omega arith; held = tt };
     }
 
 pub vbi-CanBeCut : (d : Desc) (s : ScatterList) (field : Parity) (line : ℕ) → describes d.fields field ≡ true → line < d.vbi_lines → IsScatterList s →

@@ -7,14 +7,14 @@ ghost use Rattle.clip_spans.specs.Clipping.{next_edge};
 ghost use Rattle.page_table.specs.Taken.{in_order};
 ghost use Rattle.picture_model.specs.Described.{IsDescription, describes, field_height, highest_end, memory_of, taken};
 ghost use Rattle.picture_model.specs.Geometry.{first_after, frame_fault, picture_faults};
-ghost use Rattle.picture_model.specs.Plans.{row_plan, row_strip, skipped_plan, vbi_plan};
+ghost use Rattle.picture_model.specs.Plans.{row_plan, row_strip, skipped_plan, skipped_vbi_plan, vbi_plan};
 ghost use Rattle.planar_plan.specs.Frames.{HasScatter, IsFramed, Judges};
 ghost use Rattle.planar_plan.specs.Lines.{AreSpansOf, AreWithin, CountsFit};
 ghost use Rattle.planar_plan.specs.Stretches.{FitsInOne, IsWhole, pieces_in};
 
 use crate::cut::{Pieces, RowSpans, cut_whole, spans_in_grains};
 use crate::judge::{BuildError, highest_end, overlap, size_faults, vbi_range};
-use crate::lines::{row_line, skipped_line, vbi_line};
+use crate::lines::{row_line, skipped_line, skipped_vbi_line, vbi_line};
 use crate::memory::{grants, page_faults, scatter};
 use crate::places::taken;
 use crate::stretch::WholeRow;
@@ -225,6 +225,17 @@ impl Frame {
         ensures framed { IsFramed self.now }
     {
         let line = skipped_line(&self.desc);
+        let pieces = cut_whole(alloc, &self.scatter, &line, true)?;
+        Ok(Pieces::of(pieces))
+    }
+
+    /// The pieces of a skipped VBI line, in order. They write nothing.
+    pub fn plan_skip_vbi_line(&self, alloc: Global) -> Result<Pieces, AllocError>
+        ensures plan { IfOk result (λ pieces. pieces ≡ skipped_vbi_plan self.now) }
+        ensures counts { IfOk result (All CountsFit) }
+        ensures framed { IsFramed self.now }
+    {
+        let line = skipped_vbi_line(&self.desc);
         let pieces = cut_whole(alloc, &self.scatter, &line, true)?;
         Ok(Pieces::of(pieces))
     }

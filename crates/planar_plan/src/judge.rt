@@ -3,9 +3,9 @@
 ghost use Rattle.std.specs.Prelude.{◌≡◌, ℕ, ◌+◌, ◌*◌, ◌%◌, ◌^◌, ◌<◌, ◌≤◌, ◌||◌, nat_lt, IfOk, None};
 ghost use Rattle.std.specs.List.{list_any};
 ghost use Rattle.std.specs.Result.{result_err};
-ghost use Rattle.picture_model.specs.Described.{highest_end, layout_of, offset, plane_row_bytes, planes, stride, vbi_size};
+ghost use Rattle.picture_model.specs.Described.{highest_end, layout_of, offset, plane_row_bytes, planes, stride};
 ghost use Rattle.capture_desc.specs.WellFormed.{IsWellFormed};
-ghost use Rattle.picture_model.specs.Geometry.{first_after, height_range, max_height, max_width, min_line_bytes, odd_height, off_unit, overlaps, size_faults, some_overlap, stride_short, too_narrow};
+ghost use Rattle.picture_model.specs.Geometry.{first_after, height_range, max_height, max_vbi_lines, max_width, min_line_bytes, odd_height, off_unit, overlaps, size_faults, some_overlap, stride_short, too_narrow};
 ghost use Rattle.picture_model.specs.Geometry.{vbi_range, when, width_off_unit, width_range};
 ghost use Rattle.planar_plan.specs.Sizes.{IsPlane, IsSized};
 ghost use Rattle.planar_plan.specs.declared.judge.BuildError.TheVariants.{Bad, Memory};
@@ -14,6 +14,7 @@ use crate::places::{Area, offset, plane_row_bytes, stride};
 use capture_desc::Desc;
 use picture_model::{
     BuildFault, MAX_HEIGHT, MAX_PIECE, MAX_VBI_LINES, MAX_WIDTH, MIN_LINE_BYTES, is_both,
+    vbi_stride,
 };
 use std::alloc::{AllocError, AllocFailed};
 
@@ -186,12 +187,13 @@ pub(crate) fn overlap(taken: &[Area]) -> Result<(), BuildFault>
 }
 
 pub(crate) fn vbi_range(desc: &Desc) -> Result<(), BuildFault>
-    ensures few { IfOk result (λ _. vbi_size desc.now ≤ 2 ^ 17) }
+    ensures few { IfOk result (λ _. desc.now.vbi_lines ≤ max_vbi_lines) }
     ensures fault { result_err result ≡ vbi_range desc.now }
 {
     let bytes_out = !(MIN_LINE_BYTES..=MAX_PIECE).contains(&desc.vbi_bytes);
+    let overlap = vbi_stride(desc) < desc.vbi_bytes;
     refuse(
-        desc.vbi_lines > MAX_VBI_LINES || desc.vbi_lines > 0 && bytes_out,
+        desc.vbi_lines > MAX_VBI_LINES || desc.vbi_lines > 0 && (bytes_out || overlap),
         BuildFault::VbiRange,
     )
 }

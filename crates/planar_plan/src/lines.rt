@@ -1,18 +1,19 @@
 //! The lines of a description, before they are cut.
 
 ghost use Rattle.std.specs.Prelude.{◌≡◌, ◌^◌, ◌≤◌, IfSome, None};
-ghost use Rattle.picture_model.specs.Described.{both, layout_of};
+ghost use Rattle.capture_desc.specs.WellFormed.{IsWellFormed};
+ghost use Rattle.picture_model.specs.Described.{chroma_row_of, layout_of};
 ghost use Rattle.picture_model.specs.Geometry.{max_height};
 ghost use Rattle.picture_model.specs.Places.{plane_row, row_offset, vbi_line_offset};
-ghost use Rattle.picture_model.specs.Plans.{grain_bytes, kind_by, row_strip, row_track, skipped_strip, vbi_strip};
-ghost use Rattle.pixel_layout.specs.Layouts.{chroma_row, layout};
+ghost use Rattle.picture_model.specs.Plans.{grain_bytes, kind_by, row_strip, row_track, skipped_strip, skipped_vbi_strip, vbi_strip};
+ghost use Rattle.pixel_layout.specs.Layouts.{layout};
 ghost use Rattle.planar_plan.specs.Lines.{bare, strip_of, track_of};
 ghost use Rattle.planar_plan.specs.Sizes.{IsPlane, IsSized};
 
 use crate::cut::{Line, PlaneTrack, grains_of, unit_bytes};
 use crate::places::{offset, stride, vbi_offset};
 use capture_desc::Desc;
-use picture_model::{PieceKind, is_both};
+use picture_model::{PieceKind, chroma_row, vbi_stride};
 use pixel_layout::{Format, Parity};
 
 // The bytes of a grain of a row on a plane; 0 where the format has no such plane.
@@ -26,18 +27,12 @@ fn grain_bytes(format: Format, plane: u32) -> u32
     }
 }
 
-// The row of planes 2 and 3 that takes the chroma of a row.
-fn chroma_row(desc: &Desc, row: u32) -> Option<u32>
-    ensures { result ≡ chroma_row (layout_of desc.now) (both desc.now) row }
-{
-    desc.format.chroma_row(is_both(desc.fields), row)
-}
-
 // The row of a plane that takes a picture row.
 fn plane_row(desc: &Desc, plane: u32, row: u32) -> Option<u32>
+    requires formed { IsWellFormed desc.now }
     requires row { row ≤ max_height }
     requires plane { (1 ≤ plane) × (plane ≤ 3) }
-    ensures value { result ≡ plane_row (layout_of desc.now) (both desc.now) plane row }
+    ensures value { result ≡ plane_row desc.now plane row }
     ensures few { IfSome result (λ kept. kept ≤ max_height) }
     ensures plane { IfSome result (λ _. IsPlane desc.now plane) }
 {
@@ -78,7 +73,8 @@ fn row_track(desc: &Desc, plane: u32, row: u32) -> PlaneTrack
 
 // What the unclipped pieces of a row do.
 fn row_kind(desc: &Desc, row: u32) -> PieceKind
-    ensures { result ≡ kind_by (layout_of desc.now).planar (chroma_row (layout_of desc.now) (both desc.now) row) }
+    requires { IsWellFormed desc.now }
+    ensures { result ≡ kind_by (layout_of desc.now).planar (chroma_row_of desc.now row) }
 {
     if desc.format.is_planar() && chroma_row(desc, row).is_none() {
         PieceKind::WriteLuma
@@ -123,13 +119,26 @@ pub(crate) fn skipped_line(desc: &Desc) -> Line
     }
 }
 
+// A skipped VBI line, which is as long as the others.
+pub(crate) fn skipped_vbi_line(desc: &Desc) -> Line
+    ensures { strip_of result ≡ bare (skipped_vbi_strip desc.now) }
+{
+    Line {
+        grains: desc.vbi_bytes,
+        kind: PieceKind::Skip,
+        one: unwritten_track(1),
+        two: unwritten_track(0),
+        three: unwritten_track(0),
+    }
+}
+
 // A VBI line of a field.
 pub(crate) fn vbi_line(desc: &Desc, field: Parity, line: u32) -> Line
     requires sized { IsSized desc.now }
     requires fits { vbi_line_offset desc.now field line ≤ 2 ^ 32 }
     ensures { strip_of result ≡ bare (vbi_strip desc.now field line) }
 {
-    let start = vbi_offset(desc, field) + u128::from(line) * u128::from(desc.vbi_bytes);
+    let start = vbi_offset(desc, field) + u128::from(line) * u128::from(vbi_stride(desc));
     Line {
         grains: desc.vbi_bytes,
         kind: PieceKind::Write,

@@ -2,14 +2,14 @@
 //! counted along the pages or chunks.
 
 ghost use Rattle.std.specs.Prelude.{◌≡◌, ℕ, ◌+◌, ◌^◌, ◌≤◌, length, unwrap_or, IfOk, IfSome};
-ghost use Rattle.pixel_layout.specs.Layouts.{layout};
-ghost use Rattle.picture_model.specs.Described.{default_offset, extent, extents, given_or, highest_end, offset, plane_bytes, plane_row_bytes, plane_rows, stride};
+ghost use Rattle.picture_model.specs.Described.{chroma_height, default_offset, extent, extents, given_or, highest_end, lines_bytes, offset, plane_bytes, plane_row_bytes, plane_rows, stride};
 ghost use Rattle.picture_model.specs.Described.{taken, vbi_area, vbi_begin, vbi_offset, vbi_size};
+ghost use Rattle.picture_model.specs.Geometry.{max_height, max_vbi_lines};
 ghost use Rattle.planar_plan.specs.Sizes.{IsPlane, IsSized};
 
 use capture_desc::{Desc, Fields, Numbers};
-use picture_model::is_both;
-use pixel_layout::{Format, Parity};
+use picture_model::{chroma_row, vbi_stride};
+use pixel_layout::Parity;
 use std::alloc::{AllocError, Global};
 use std::marker::Model;
 
@@ -31,33 +31,42 @@ impl Model for Area {
     ghost inverse = { λ e. record { from = e.from; to = e.to } };
 }
 
-// How many rows of a field share a row of chroma.
-fn rows_of_chroma(format: Format) -> u32
-    ensures value { result ≡ (layout format).down }
-    ensures some { (1 ≤ result) × (result ≤ 4) }
+// The rows of a plane of chroma: one more than the greatest that takes some.
+fn chroma_height(desc: &Desc) -> u32
+    requires { IsSized desc.now }
+    ensures value { result ≡ chroma_height desc.now }
+    ensures few { result ≤ max_height }
 {
-    match format {
-        Format::Yuv420p => 2,
-        Format::Yuv410p => 4,
-        _ => 1,
+    let mut rows = 0;
+    for row in 0..desc.height {
+        if let Some(kept) = chroma_row(desc, row) {
+            rows = rows.max(kept + 1);
+        }
     }
+    rows
 }
 
 // The rows of a plane.
-#[tactic(auto, using(pixel_layout::proofs::Sizes::place_fits))]
 fn plane_rows(desc: &Desc, plane: u32) -> u32
     requires { IsSized desc.now }
     ensures value { result ≡ plane_rows desc.now plane }
-    ensures few { result ≤ 2048 }
+    ensures few { result ≤ max_height }
 {
     if plane == 1 {
-        return desc.height;
-    }
-    let down = rows_of_chroma(desc.format);
-    if is_both(desc.fields) {
-        2 * ((desc.height / 2 + down - 1) / down)
+        desc.height
     } else {
-        (desc.height + down - 1) / down
+        chroma_height(desc)
+    }
+}
+
+// From the first byte of some lines to the end of the last one, by the step from a line to the next and the bytes of each.
+fn lines_bytes(lines: u32, step: u32, bytes: u32) -> u64
+    ensures { result ≡ lines_bytes lines step bytes }
+{
+    if lines == 0 {
+        0
+    } else {
+        u64::from(lines - 1) * u64::from(step) + u64::from(bytes)
     }
 }
 
@@ -96,7 +105,7 @@ pub(crate) fn stride(desc: &Desc, plane: u32) -> u32
 }
 
 // From the first byte of a plane to the end of its last row.
-#[tactic(auto, using(crate::proofs::Bounds::products))]
+#[tactic(auto, using(crate::proofs::Bounds::lines_few))]
 fn plane_bytes(desc: &Desc, plane: u32) -> u64
     requires sized { IsSized desc.now }
     requires plane { IsPlane desc.now plane }
@@ -104,8 +113,7 @@ fn plane_bytes(desc: &Desc, plane: u32) -> u64
     ensures few { result ≤ 2 ^ 44 }
 {
     let rows = plane_rows(desc, plane);
-    let stride = stride(desc, plane);
-    u64::from(rows.saturating_sub(1)) * u64::from(stride) + u64::from(plane_row_bytes(desc, plane))
+    lines_bytes(rows, stride(desc, plane), plane_row_bytes(desc, plane))
 }
 
 // Where a plane begins unless another offset is given: at the end of the one before it.
@@ -164,13 +172,13 @@ fn planes_end(desc: &Desc) -> u128
     }
 }
 
-// The bytes of a field's VBI lines.
-#[tactic(auto, using(crate::proofs::Bounds::products))]
-fn vbi_size(desc: &Desc) -> u128
+// From the first byte of a field's VBI lines to the end of the last one.
+#[tactic(auto, using(crate::proofs::Bounds::lines_few))]
+fn vbi_size(desc: &Desc) -> u64
     ensures value { result ≡ vbi_size desc.now }
-    ensures few { result ≤ 2 ^ 64 }
+    ensures few { desc.now.vbi_lines ≤ max_vbi_lines → result ≤ 2 ^ 38 }
 {
-    u128::from(desc.vbi_lines) * u128::from(desc.vbi_bytes)
+    lines_bytes(desc.vbi_lines, vbi_stride(desc), desc.vbi_bytes)
 }
 
 // Where the VBI lines of the first described field begin.
@@ -186,13 +194,17 @@ fn vbi_begin(desc: &Desc) -> u128
 }
 
 // Where the VBI lines of a field begin.
+#[tactic(auto, using(crate::proofs::Bounds::products))]
 pub(crate) fn vbi_offset(desc: &Desc, field: Parity) -> u128
     requires { IsSized desc.now }
     ensures value { result ≡ vbi_offset desc.now field }
-    ensures few { result ≤ 2 ^ 46 + vbi_size desc.now }
+    ensures few { result ≤ 2 ^ 65 }
+    ensures near { desc.now.vbi_lines ≤ max_vbi_lines → result ≤ 2 ^ 46 + 2 ^ 37 }
 {
     match (desc.fields, field) {
-        (Fields::Both, Parity::Bottom) => vbi_begin(desc) + vbi_size(desc),
+        (Fields::Both, Parity::Bottom) => {
+            vbi_begin(desc) + u128::from(desc.vbi_lines) * u128::from(vbi_stride(desc))
+        }
         _ => vbi_begin(desc),
     }
 }
@@ -201,12 +213,12 @@ pub(crate) fn vbi_offset(desc: &Desc, field: Parity) -> u128
 fn vbi_area(desc: &Desc, field: Parity) -> Area
     requires { IsSized desc.now }
     ensures value { result ≡ vbi_area desc.now field }
-    ensures few { vbi_size desc.now ≤ 2 ^ 17 → result.to ≤ 2 ^ 47 }
+    ensures few { desc.now.vbi_lines ≤ max_vbi_lines → result.to ≤ 2 ^ 47 }
 {
     let from = vbi_offset(desc, field);
     Area {
         from,
-        to: from + vbi_size(desc),
+        to: from + u128::from(vbi_size(desc)),
     }
 }
 
@@ -229,7 +241,7 @@ fn extents(alloc: Global, desc: &Desc) -> Result<Vec<Area>, AllocError>
 pub(crate) fn taken(alloc: Global, desc: &Desc) -> Result<Vec<Area>, AllocError>
     requires { IsSized desc.now }
     ensures value { IfOk result (λ stretches. stretches.items ≡ taken desc.now) }
-    ensures few { IfOk result (λ stretches. vbi_size desc.now ≤ 2 ^ 17 → highest_end stretches.items ≤ 2 ^ 47) }
+    ensures few { IfOk result (λ stretches. desc.now.vbi_lines ≤ max_vbi_lines → highest_end stretches.items ≤ 2 ^ 47) }
 {
     let mut stretches = extents(alloc, desc)?;
     if desc.fields != Fields::Bottom {

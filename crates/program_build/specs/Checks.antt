@@ -3,7 +3,7 @@ use Rattle.std.specs.Prelude.{◌≡◌, ◌+◌, ◌*◌, ◌^◌, ◌≤◌, L
 use Rattle.capture_desc.specs.declared.desc.Desc.{Desc}
 use Rattle.picture_model.specs.Described.{IsDescription}
 use Rattle.picture_model.specs.Geometry.{IsValid}
-use Rattle.picture_model.specs.Programs.{compiled, sections_words}
+use Rattle.picture_model.specs.Programs.{compiled_words, sections_words}
 
 -- a description whose geometry has no fault at all
 pub record IsChecked (d : Desc) : Type 0 where
@@ -19,4 +19,4 @@ pub record AreSections (d : Desc) (at back : ℕ) (words : List ℕ) : Type 0 wh
 -- the words that are kept of a description are those of its program
 pub record HasWords (d : Desc) (kept : List ℕ) : Type 0 where
   pub checked : IsChecked d
-  pub words : kept ≡ (compiled d).words
+  pub words : kept ≡ compiled_words d

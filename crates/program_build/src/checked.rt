@@ -4,7 +4,7 @@ ghost use Rattle.std.specs.Prelude.{◌≡◌, length, IfOk};
 ghost use Rattle.capture_desc.specs.WellFormed.{IsWellFormed};
 ghost use Rattle.machine_model.specs.Paths.{IsSound};
 ghost use Rattle.picture_model.specs.Geometry.{first_fault};
-ghost use Rattle.picture_model.specs.Programs.{compiled};
+ghost use Rattle.picture_model.specs.Programs.{compiled, compiled_words};
 ghost use Rattle.planar_plan.specs.Frames.{Judges};
 ghost use Rattle.program_build.specs.Checks.{HasWords, IsChecked};
 
@@ -45,7 +45,7 @@ impl Checked {
 
     /// The length of the program in words.
     pub fn words(&self) -> u32
-        ensures value { result ≡ length (compiled self.now).words }
+        ensures value { result ≡ length (compiled_words self.now) }
         ensures checked { IsChecked self.now }
     {
         self.words.len() as u32

@@ -6,7 +6,7 @@ ghost use Rattle.std.specs.Result.{result_err};
 ghost use Rattle.page_table.specs.Grants.{is_met};
 ghost use Rattle.picture_model.specs.Described.{IsDescription, memory_of};
 ghost use Rattle.picture_model.specs.Geometry.{first_after, is_multiple, program_faults, when};
-ghost use Rattle.picture_model.specs.Programs.{compiled};
+ghost use Rattle.picture_model.specs.Programs.{compiled_words};
 ghost use Rattle.planar_plan.specs.Frames.{Judges};
 
 use crate::sections::sections_words;
@@ -51,7 +51,7 @@ fn program_on_page(base: u32, end: u64, desc: &Desc) -> Result<(), BuildFault>
 // The words of a frame's program, unless its place has a fault.
 pub(crate) fn judged_words(alloc: Global, frame: &Frame) -> Result<Vec<u32>, BuildError>
     ensures answer { Judges (first_after None program_faults frame.now) result }
-    ensures words { IfOk result (λ words. words.items ≡ (compiled frame.now).words) }
+    ensures words { IfOk result (λ words. words.items ≡ compiled_words frame.now) }
     ensures description { OnOk result (IsDescription frame.now) }
 {
     let desc = frame.desc();

@@ -1,20 +1,22 @@
 -- Where a program file is at fault: the bytes before the field, and those up to and with it.
-use Rattle.std.proofs.Common.{◌≡◌, ℕ, zero, suc, ◌+◌, ◌-◌, ◌≤◌, inl, inr, true, false, List, [], ◌∷◌, ◌++◌, length, take, drop, Result, Ok, Err, refl, sym, ap, subst, ◌∙◌, arith, append_assoc, length-append}
+use Rattle.std.proofs.Common.{◌≡◌, ℕ, zero, suc, ◌+◌, ◌-◌, ◌≤◌, inl, inr, Bool, true, false, List, [], ◌∷◌, ◌++◌, length, take, drop, Option, Some, None, Result, Ok, Err, refl, sym, ap, subst, ◌∙◌, arith, append_assoc, length-append}
 use Rattle.std.proofs.lemmas.List.{append-nil, length-take-le, take-append-drop}
 use Rattle.std.proofs.Math.Seq.{take-append-add, take-append_seam}
 use Rattle.capture_file.specs.declared.FileKind.{FileKind}
 use Rattle.capture_file.specs.declared.FileKind.TheVariants as fault
 use Rattle.capture_file.specs.declared.FileFault.{FileFault}
 use Rattle.capture_file.specs.declared.program.ProgramFile.{ProgramFile}
-use Rattle.capture_file.specs.Streams.{fault_at}
-use Rattle.capture_file.specs.Programs.{HasProgram, program_of}
+use Rattle.capture_file.specs.declared.program.ProgramForm.{ProgramForm}
+use Rattle.capture_file.specs.declared.program.ProgramForm.TheVariants.{Based, Spanned}
+use Rattle.capture_file.specs.Streams.{fault_at, number_at}
+use Rattle.capture_file.specs.Programs.{◌>>=◌, HasProgram, form_field, form_of, form_or_magic, number_or_cut, program_of}
 use Rattle.capture_file.proofs.Chunks.{IsBytes}
 use Rattle.capture_file.proofs.Faults.{program_and_fault}
 use Rattle.capture_file.proofs.Spelled.{field_by_field}
 use Rattle.capture_file.proofs.Unspelled.{file_read}
-use Rattle.program_law.specs.Beginnings.{BeginsFile, IsWhole, before_field, field_width, has_good_beginning, with_field}
-use Rattle.program_law.proofs.Judging.{IsBytes-append, CanEnd, EndsWell, FaultAt, FileGoes, Missed}
-use Rattle.program_law.proofs.Readings.{file_goes, file_of}
+use Rattle.program_law.specs.Beginnings.{BeginsFile, IsWhole, before_field, field_width, form_named, has_good_beginning, is_based, with_field}
+use Rattle.program_law.proofs.Judging.{CanEnd, EndsWell, FaultAt, FileGoes, IsBytes-append, Missed}
+use Rattle.program_law.proofs.Readings.{based_file_goes, file_goes, file_of}
 
 -- ---- bytes of a part
 
@@ -27,11 +29,11 @@ IsBytes-take (suc n) (byte ∷ rest) fits (suc i) = IsBytes-take n rest (λ k. f
 -- ---- where a fault stands
 
 abbrev Held : List ℕ → FileFault → Type 0
-Held bytes found = FaultAt ProgramFile file_of (EndsWell ProgramFile file_of) (length bytes) bytes found
+Held bytes found = FaultAt ProgramFile file_of (EndsWell false ProgramFile file_of) (length bytes) bytes found
 
-standing : (bytes : List ℕ) (found : FileFault) → IsBytes bytes → program_of bytes ≡ Err found → Missed ProgramFile file_of (EndsWell ProgramFile file_of) (length bytes) bytes found
+standing : (bytes : List ℕ) (found : FileFault) → IsBytes bytes → program_of bytes ≡ Err found → Missed ProgramFile file_of (EndsWell false ProgramFile file_of) (length bytes) bytes found
 standing bytes found fits e =
-    subst (λ (r : Result ProgramFile FileFault). FileGoes ProgramFile file_of (length bytes) bytes r) (sym (field_by_field (length bytes) bytes) ∙ e) (file_goes (length bytes) bytes fits)
+    subst (λ (r : Result ProgramFile FileFault). FileGoes false ProgramFile file_of (length bytes) bytes r) (sym (field_by_field (length bytes) bytes) ∙ e) (file_goes (length bytes) bytes fits)
 
 abbrev kind_of : FileFault → FileKind
 kind_of found = found.kind
@@ -113,14 +115,48 @@ whole_before bytes found fits late e =
     let low : IsBytes at.before = subst IsBytes (before_is bytes found at) (IsBytes-take found.at bytes fits) in
     subst HasProgram (sym (before_is bytes found at)) (read_to_file at.before done.0 low done.1)
 
-pub begins_before : (bytes : List ℕ) (found : FileFault) → IsBytes bytes → has_good_beginning found.kind ≡ true → program_of bytes ≡ Err found → BeginsFile (before_field found bytes)
-begins_before bytes found fits sure e =
-    let at = held bytes found fits (λ short. absurd (let no : false ≡ true = sym (ap has_good_beginning short) ∙ sure in cc)) e in
-    let can : CanEnd ProgramFile file_of at.before = at.noted (sym (ap has_good_beginning (kind_is bytes found at)) ∙ sure) in
-    let low : IsBytes at.before = subst IsBytes (before_is bytes found at) (IsBytes-take found.at bytes fits) in
+-- the field at fault stands behind the beginning of a good file
+begins_at : (based : Bool) (bytes : List ℕ) (found : FileFault) (at : FaultAt ProgramFile file_of (EndsWell based ProgramFile file_of) (length bytes) bytes found) → IsBytes bytes → before_field found bytes ≡ at.before →
+    has_good_beginning based at.kind ≡ true → BeginsFile (before_field found bytes)
+begins_at based bytes found at fits same sure =
+    let can : CanEnd ProgramFile file_of at.before = at.noted sure in
+    let low : IsBytes at.before = subst IsBytes same (IsBytes-take found.at bytes fits) in
     let all : List ℕ = at.before ++ can.more in
-    subst BeginsFile (sym (before_is bytes found at))
-    (can.more, read_to_file all (can.ends (length all)).0 (IsBytes-append at.before can.more low can.fits) (can.ends (length all)).1)
+    subst BeginsFile (sym same) (can.more, read_to_file all (can.ends (length all)).0 (IsBytes-append at.before can.more low can.fits) (can.ends (length all)).1)
+
+-- where it stands
+before_at : (based : Bool) (bytes : List ℕ) (found : FileFault) (at : FaultAt ProgramFile file_of (EndsWell based ProgramFile file_of) (length bytes) bytes found) → before_field found bytes ≡ at.before
+before_at based bytes found at =
+    let parts : length bytes ≡ length at.before + length (at.field ++ at.rest) = ap length at.parts ∙ length-append at.before (at.field ++ at.rest) in
+    let place : found.at ≡ length bytes - length (at.field ++ at.rest) = ap place_of at.is in
+    let stands : found.at ≡ length at.before = omega (arith, parts, place) in
+    ap (λ (n : ℕ). take n bytes) stands ∙ ap (take (length at.before)) at.parts ∙ take-append_seam at.before (at.field ++ at.rest)
+
+begins_by : (based : Bool) (bytes : List ℕ) (found : FileFault) → IsBytes bytes → has_good_beginning based found.kind ≡ true → Missed ProgramFile file_of (EndsWell based ProgramFile file_of) (length bytes) bytes found →
+    BeginsFile (before_field found bytes)
+begins_by based bytes found fits sure (inl short) = absurd (let no : false ≡ true = sym (ap (λ (f : FileFault). has_good_beginning based f.kind) short) ∙ sure in cc)
+begins_by based bytes found fits sure (inr at) =
+    begins_at based bytes found at fits (before_at based bytes found at) (sym (ap (λ (f : FileFault). has_good_beginning based f.kind) at.is) ∙ sure)
+
+named_word : (size : ℕ) (bytes rest : List ℕ) (o : Option ℕ) (form : ProgramForm) → elim o as (λ _. Option ProgramForm) [ None ↦ None | Some word ↦ form_of word ] ≡ Some form →
+    (number_or_cut size o rest >>= λ word. form_or_magic size bytes (form_of word.0) word.1) ≡ Ok (form, rest)
+named_word size bytes rest None form e = absurd (cc)
+named_word size bytes rest (Some word) form e = ap (λ (o : Option ProgramForm). form_or_magic size bytes o rest) e
+
+named_form : (size : ℕ) (bytes : List ℕ) (form : ProgramForm) → form_named bytes ≡ Some form → form_field size bytes ≡ Ok (form, drop 4 bytes)
+unfolding form_field
+named_form size bytes form e = named_word size bytes (drop 4 bytes) (number_at bytes) form e
+
+pub begins_before : (bytes : List ℕ) (found : FileFault) → IsBytes bytes → has_good_beginning (is_based (form_named bytes)) found.kind ≡ true → program_of bytes ≡ Err found → BeginsFile (before_field found bytes)
+begins_before bytes found fits sure e = by_form (form_named bytes) refl sure
+  where
+    by_form : (o : Option ProgramForm) → form_named bytes ≡ o → has_good_beginning (is_based o) found.kind ≡ true → BeginsFile (before_field found bytes)
+    by_form None is sure = begins_by false bytes found fits sure (standing bytes found fits e)
+    by_form (Some Spanned) is sure = begins_by false bytes found fits sure (standing bytes found fits e)
+    by_form (Some (Based layout)) is sure =
+        begins_by true bytes found fits sure
+        (subst (λ (r : Result ProgramFile FileFault). FileGoes true ProgramFile file_of (length bytes) bytes r) (sym (field_by_field (length bytes) bytes) ∙ e)
+        (based_file_goes (length bytes) bytes layout (drop 4 bytes) fits (named_form (length bytes) bytes (Based layout) is)))
 
 -- ---- files that are cut
 
@@ -148,7 +184,7 @@ module _ (front rest : List ℕ) (found : FileFault) (fits : IsBytes front) (sho
   not_good file good (byte ∷ more) bad =
       let n : ℕ = length (front ++ byte ∷ more) in
       let after =
-      subst (λ (r : Result ProgramFile FileFault). FileGoes ProgramFile file_of (length front) front r) (sym (field_by_field (length front) front) ∙ good) (file_goes (length front) front fits) in
+      subst (λ (r : Result ProgramFile FileFault). FileGoes false ProgramFile file_of (length front) front r) (sym (field_by_field (length front) front) ∙ good) (file_goes (length front) front fits) in
       not_late found (n - length (byte ∷ more)) short (sym (after n byte more) ∙ sym (field_by_field n (front ++ byte ∷ more)) ∙ bad)
 
   not_wrong : (other : FileFault) → Held front other → ⊥

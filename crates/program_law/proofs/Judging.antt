@@ -1,5 +1,5 @@
 -- Fields that are read one after another: each fault is decided by the bytes up to and with its field.
-use Rattle.std.proofs.Common.{◌≡◌, ℕ, zero, suc, ◌⊎◌, inl, inr, true, List, [], ◌∷◌, ◌++◌, length, drop, Result, Ok, Err, sym, ap, subst, ◌∙◌, append_assoc}
+use Rattle.std.proofs.Common.{◌≡◌, ℕ, zero, suc, ◌⊎◌, inl, inr, Bool, true, false, List, [], ◌∷◌, ◌++◌, length, drop, Result, Ok, Err, refl, sym, ap, subst, ◌∙◌, append_assoc}
 use Rattle.std.proofs.Math.Seq.{drop-append_seam}
 use Rattle.capture_file.specs.declared.FileKind.{FileKind}
 use Rattle.capture_file.specs.declared.FileKind.TheVariants as fault
@@ -50,19 +50,93 @@ pub record CanEnd (B : Type 0) (read : Reader B) (before : List ℕ) : Type 0 wh
   pub fits : IsBytes more
   pub ends : (n : ℕ) → (y : B) × (read n (before ++ more) ≡ Ok y)
 
-abbrev pub EndsWell : (B : Type 0) → Reader B → List ℕ → FileKind → Type 0
-EndsWell B read before kind = has_good_beginning kind ≡ true → CanEnd B read before
+abbrev pub EndsWell : Bool → (B : Type 0) → Reader B → List ℕ → FileKind → Type 0
+EndsWell based B read before kind = has_good_beginning based kind ≡ true → CanEnd B read before
 
 -- the fields up to the end of the file
-abbrev pub FileGoes : (B : Type 0) → Reader B → ℕ → List ℕ → Result B FileFault → Type 0
-FileGoes B read size bytes (Ok y) = (n byte : ℕ) (more : List ℕ) → read n (bytes ++ byte ∷ more) ≡ Err (wrong n (byte ∷ more) fault.AfterEnd)
-FileGoes B read size bytes (Err found) = Missed B read (EndsWell B read) size bytes found
+abbrev pub FileGoes : Bool → (B : Type 0) → Reader B → ℕ → List ℕ → Result B FileFault → Type 0
+FileGoes based B read size bytes (Ok y) = (n byte : ℕ) (more : List ℕ) → read n (bytes ++ byte ∷ more) ≡ Err (wrong n (byte ∷ more) fault.AfterEnd)
+FileGoes based B read size bytes (Err found) = Missed B read (EndsWell based B read) size bytes found
 
-abbrev pub IsReader : (B : Type 0) → Reader B → Type 0
-IsReader B read = (size : ℕ) (bytes : List ℕ) → IsBytes bytes → FileGoes B read size bytes (read size bytes)
+abbrev pub IsReader : Bool → (B : Type 0) → Reader B → Type 0
+IsReader based B read = (size : ℕ) (bytes : List ℕ) → IsBytes bytes → FileGoes based B read size bytes (read size bytes)
+
+-- a reader that reads as another
+module _ (B : Type 0) (read other : Reader B) (same : (n : ℕ) (bytes : List ℕ) → read n bytes ≡ other n bytes) where
+  pub ends_alike : (before : List ℕ) → CanEnd B read before → CanEnd B other before
+  ends_alike before can = record { more = can.more; fits = can.fits; ends = λ n. ((can.ends n).0, sym (same n (before ++ can.more)) ∙ (can.ends n).1) }
+
+  goes_alike : (based : Bool) (size : ℕ) (bytes : List ℕ) (r : Result B FileFault) → FileGoes based B read size bytes r → FileGoes based B other size bytes r
+  goes_alike based size bytes (Ok y) ended = λ n byte more. sym (same n (bytes ++ byte ∷ more)) ∙ ended n byte more
+  goes_alike based size bytes (Err found) (inl short) = inl short
+  goes_alike based size bytes (Err found) (inr at) =
+      inr
+      (record {
+        before = at.before;
+        field = at.field;
+        rest = at.rest;
+        kind = at.kind;
+        parts = at.parts;
+        width = at.width;
+        is = at.is;
+        whole = at.whole;
+        again = λ n more. sym (same n (at.before ++ (at.field ++ more))) ∙ at.again n more;
+        cut_before = λ early n. sym (same n at.before) ∙ at.cut_before early n;
+        done_before = λ late n. ((at.done_before late n).0, sym (same n at.before) ∙ (at.done_before late n).1);
+        noted = λ sure. ends_alike at.before (at.noted sure);
+      })
+
+  pub reads_alike : (based : Bool) → IsReader based B read → IsReader based B other
+  reads_alike based is size bytes fits = subst (λ (r : Result B FileFault). FileGoes based B other size bytes r) (same size bytes) (goes_alike based size bytes (read size bytes) (is size bytes fits))
+
+-- what is sure in all files is sure in those with a base
+sure_of_all : (kind : FileKind) → has_good_beginning false kind ≡ true → has_good_beginning true kind ≡ true
+sure_of_all fault.Base sure = refl
+sure_of_all fault.Count sure = refl
+sure_of_all fault.Magic sure = refl
+sure_of_all fault.AfterEnd sure = refl
+sure_of_all fault.Short sure = sure
+sure_of_all fault.Page sure = sure
+sure_of_all fault.Order sure = sure
+sure_of_all fault.Overlap sure = sure
+sure_of_all (fault.Tag n) sure = sure
+sure_of_all (fault.Status n) sure = sure
+sure_of_all (fault.Code n) sure = sure
+sure_of_all (fault.Enable n) sure = sure
+sure_of_all fault.TooLong sure = sure
+sure_of_all fault.TooManyTurns sure = sure
+sure_of_all (fault.Trigger n) sure = sure
+sure_of_all fault.Length sure = sure
+sure_of_all fault.Pages sure = sure
+sure_of_all (fault.Slot n) sure = sure
+sure_of_all (fault.Buffer n) sure = sure
+sure_of_all fault.Entry sure = sure
+
+goes_loosely : (B : Type 0) (read : Reader B) (size : ℕ) (bytes : List ℕ) (r : Result B FileFault) → FileGoes true B read size bytes r → FileGoes false B read size bytes r
+goes_loosely B read size bytes (Ok y) ended = ended
+goes_loosely B read size bytes (Err found) (inl short) = inl short
+goes_loosely B read size bytes (Err found) (inr at) =
+    inr
+    (record {
+      before = at.before;
+      field = at.field;
+      rest = at.rest;
+      kind = at.kind;
+      parts = at.parts;
+      width = at.width;
+      is = at.is;
+      whole = at.whole;
+      again = at.again;
+      cut_before = at.cut_before;
+      done_before = at.done_before;
+      noted = λ sure. at.noted (sure_of_all at.kind sure);
+    })
+
+pub reads_loosely : (B : Type 0) (read : Reader B) → IsReader true B read → IsReader false B read
+reads_loosely B read is size bytes fits = goes_loosely B read size bytes (read size bytes) (is size bytes fits)
 
 -- the bytes behind a field
-IsBytes-behind : (front rest bytes : List ℕ) → bytes ≡ front ++ rest → IsBytes bytes → IsBytes rest
+pub IsBytes-behind : (front rest bytes : List ℕ) → bytes ≡ front ++ rest → IsBytes bytes → IsBytes rest
 IsBytes-behind front rest bytes parts fits =
     subst IsBytes (ap (drop (length front)) parts ∙ drop-append_seam front rest) (IsBytes-drop (length front) bytes fits)
 
@@ -127,8 +201,8 @@ module _ (A B : Type 0) (field : Reader (A × List ℕ)) (next : A → Reader B)
       }
 
   -- a field, and all that follows it
-  module _ (Known : A → Type 0) (Noted : List ℕ → FileKind → Type 0) where
-    ends_later : (bytes : List ℕ) (x : A × List ℕ) (read : FieldRead A field Known bytes x) (before : List ℕ) (kind : FileKind) → EndsWell B (next x.0) before kind → EndsWell B both (read.front ++ before) kind
+  module _ (based : Bool) (Known : A → Type 0) (Noted : List ℕ → FileKind → Type 0) where
+    ends_later : (bytes : List ℕ) (x : A × List ℕ) (read : FieldRead A field Known bytes x) (before : List ℕ) (kind : FileKind) → EndsWell based B (next x.0) before kind → EndsWell based B both (read.front ++ before) kind
     ends_later bytes x read before kind well sure =
         let can = well sure in
         record {
@@ -142,23 +216,23 @@ module _ (A B : Type 0) (field : Reader (A × List ℕ)) (next : A → Reader B)
               );
         }
 
-    after_field : (size : ℕ) (bytes : List ℕ) (x : A × List ℕ) (read : FieldRead A field Known bytes x) (r : Result B FileFault) → FileGoes B (next x.0) size x.1 r → FileGoes B both size bytes r
+    pub after_field : (size : ℕ) (bytes : List ℕ) (x : A × List ℕ) (read : FieldRead A field Known bytes x) (r : Result B FileFault) → FileGoes based B (next x.0) size x.1 r → FileGoes based B both size bytes r
     after_field size bytes x read (Ok y) ended =
         λ n byte more. ap (λ (zs : List ℕ). both n (zs ++ byte ∷ more)) read.parts
         ∙ ap (both n) (append_assoc read.front x.1 (byte ∷ more))
         ∙ ap (λ (r : Field A). r >>= λ y. next y.0 n y.1) (read.again n (x.1 ++ byte ∷ more)) ∙ ended n byte more
     after_field size bytes x read (Err found) (inl short) = inl short
     after_field size bytes x read (Err found) (inr at) =
-        inr (fault_later Known (EndsWell B both) (EndsWell B (next x.0)) size bytes x read found (ends_later bytes x read) at)
+        inr (fault_later Known (EndsWell based B both) (EndsWell based B (next x.0)) size bytes x read found (ends_later bytes x read) at)
 
-    pub file_then : IsField A field Known Noted → ((x : A) → Known x → IsReader B (next x)) → ((before : List ℕ) (kind : FileKind) → Noted before kind → EndsWell B both before kind) → Inside Noted → IsReader B both
+    pub file_then : IsField A field Known Noted → ((x : A) → Known x → IsReader based B (next x)) → ((before : List ℕ) (kind : FileKind) → Noted before kind → EndsWell based B both before kind) → Inside Noted → IsReader based B both
     file_then first later ends inside size bytes fits = by_field (field size bytes) (first size bytes fits)
       where
-        by_field : (r : Field A) → FieldGoes A field Known Noted size bytes r → FileGoes B both size bytes (r >>= λ x. next x.0 size x.1)
+        by_field : (r : Field A) → FieldGoes A field Known Noted size bytes r → FileGoes based B both size bytes (r >>= λ x. next x.0 size x.1)
         by_field (Ok x) read =
             after_field size bytes x read (next x.0 size x.1) (later x.0 read.known size x.1 (IsBytes-behind read.front x.1 bytes read.parts fits))
         by_field (Err found) (inl short) = inl short
-        by_field (Err found) (inr at) = inr (fault_first Noted (EndsWell B both) size bytes found ends inside at)
+        by_field (Err found) (inr at) = inr (fault_first Noted (EndsWell based B both) size bytes found ends inside at)
 
 -- two fields
 module _ (A C : Type 0) (field : Reader (A × List ℕ)) (next : A → Reader (C × List ℕ)) (Known : A → Type 0) (Later : C → Type 0) (Noted : List ℕ → FileKind → Type 0) where

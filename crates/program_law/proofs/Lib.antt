@@ -5,3 +5,5 @@ pub mod Faults
 pub mod Spellings
 pub mod LateFaults
 pub mod FreshChunks
+pub mod FreshSpans
+mod Longest

@@ -1,5 +1,5 @@
 -- Worked program files and their faults.
-use Rattle.std.specs.Prelude.{◌≡◌, ℕ, List, [], ◌∷◌, ◌++◌, Err, codes}
+use Rattle.std.specs.Prelude.{◌≡◌, ℕ, ◌+◌, ◌*◌, List, [], ◌∷◌, ◌++◌, Err, codes, drop, take}
 use Rattle.capture_file.specs.declared.FileKind.{FileKind}
 use Rattle.capture_file.specs.Programs.{numbers_spelled, program_of}
 use Rattle.capture_file.specs.Streams.{fault_at}
@@ -29,3 +29,20 @@ without_chunks = codes "BRP2" ++ numbers_spelled (0 ∷ 0 ∷ 0 ∷ [])
 
 abbrev pub highest_first : List ℕ
 highest_first = codes "BRP1" ++ numbers_spelled (0 ∷ 0 ∷ 2 ∷ 4294963200 ∷ [])
+
+-- two spans, the first at 1000 hexadecimal and the second at an address, each a JUMP to the other, with an entry: 49
+-- bytes, of which the second address stands at 24, the entry at 40 and the fill at 48
+abbrev pub two_spans : ℕ → ℕ → List ℕ
+two_spans at entry =
+    codes "BRP3" ++ (numbers_spelled (2 ∷ 4096 ∷ 2 ∷ 1879048192 ∷ 8192 ∷ at ∷ 2 ∷ 1879048192 ∷ 4096 ∷ entry ∷ 0 ∷ []) ++ 0 ∷ [])
+
+-- one span, a JUMP to itself, with an entry; and the beginning of a file with one span of a word
+abbrev pub lone_span : ℕ → List ℕ
+lone_span entry = codes "BRP3" ++ (numbers_spelled (1 ∷ 4096 ∷ 2 ∷ 1879048192 ∷ 4096 ∷ entry ∷ 0 ∷ []) ++ 0 ∷ [])
+
+abbrev pub one_word_alone : List ℕ
+one_word_alone = codes "BRP3" ++ numbers_spelled (1 ∷ 4096 ∷ 1 ∷ 0 ∷ [])
+
+-- a file with spans in which one number stands for another: by which it is counted from the first word on
+abbrev pub with_number : ℕ → ℕ → List ℕ → List ℕ
+with_number place number bytes = take (4 * place) bytes ++ (numbers_spelled (number ∷ []) ++ drop (4 * place + 4) bytes)

@@ -16,9 +16,10 @@ use Rattle.std.proofs.lemmas.List.FromFn.{length-map-range_with_len}
 use Rattle.page_table.specs.Grants.{Chunk, is_met, total}
 use Rattle.page_table.specs.Taken.{in_order, page_at}
 use Rattle.page_table.proofs.Listed.{any_map}
-use Rattle.machine_model.specs.Paths.{IsSound, RiscProgram, shares_byte}
+use Rattle.machine_model.specs.Paths.{IsSound, RiscProgram, one_span, shares_byte}
+use Rattle.machine_model.proofs.OneSpan.{any-shares_byte}
 use Rattle.page_table.specs.Scattered.{ArePages, IsScatterList, ScatterList}
-use Rattle.ring_model.specs.Rings.{IsRing, Ring, closing, last_write, memory_of, opening, ring_program, round}
+use Rattle.ring_model.specs.Rings.{IsRing, Ring, closing, last_write, memory_of, opening, ring_program, ring_words, round}
 use Rattle.ring_model.proofs.Few.{ring_few}
 use Rattle.ring_model.proofs.RingProgram.{ring_made}
 use Rattle.ring_model.proofs.Sound.{ring_length, ring_sound}
@@ -68,19 +69,16 @@ base_judged r none =
 
 -- the program that is made
 
-abbrev risc : ℕ → List ℕ → List Chunk → RiscProgram
-risc base words grants = record { base = base; words = words; grants = grants }
-
-pub program_is : (r : Ring) (base : ℕ) (words : List ℕ) (grants : List Chunk) → base ≡ r.base → words ≡ (ring_program r).words → grants ≡ in_order (memory_of r) → risc base words grants ≡ ring_program r
+pub program_is : (r : Ring) (base : ℕ) (words : List ℕ) (grants : List Chunk) → base ≡ r.base → words ≡ ring_words r → grants ≡ in_order (memory_of r) → one_span base words grants ≡ ring_program r
 program_is r base words grants one two three =
-    ap (λ (b : ℕ). risc b words grants) one
-    ∙ ap (λ (w : List ℕ). risc r.base w grants) two
-    ∙ ap (λ (g : List Chunk). risc r.base (ring_program r).words g) three
+    ap (λ (b : ℕ). one_span b words grants) one
+    ∙ ap (λ (w : List ℕ). one_span r.base w grants) two
+    ∙ ap (one_span r.base (ring_words r)) three
 
-pub made_few : (r : Ring) (words : List ℕ) → IsJudged r → words ≡ (ring_program r).words → length words ≤ 1048576
+pub made_few : (r : Ring) (words : List ℕ) → IsJudged r → words ≡ ring_words r → length words ≤ 1048576
 made_few r words judged same = subst (λ (w : List ℕ). length w ≤ 1048576) (sym same) (ring_few r judged.ring)
 
-pub made_apart : (r : Ring) (base : ℕ) (words : List ℕ) (grants : List Chunk) → IsJudged r → base ≡ r.base → words ≡ (ring_program r).words → grants ≡ in_order (memory_of r) → All (λ c. shares_byte (risc base words grants) c ≡ false) grants
+pub made_apart : (r : Ring) (base : ℕ) (words : List ℕ) (grants : List Chunk) → IsJudged r → base ≡ r.base → words ≡ ring_words r → grants ≡ in_order (memory_of r) → All (λ c. shares_byte (one_span base words grants) c ≡ false) grants
 made_apart r base words grants judged one two three =
     subst (λ (p : RiscProgram). All (λ c. shares_byte p c ≡ false) p.grants) (sym (program_is r base words grants one two three)) (ring_made r judged.ring judged.placed).apart
 
@@ -98,7 +96,8 @@ closing_fits r none = let ends = (base_judged r none).1 in let long = ring_lengt
 pub pages_met : (r : Ring) (end : ℕ) → end ≡ program_end r → list_any (λ page. is_met r.base end (page_at page)) r.pages ≡ list_any (shares_byte (ring_program r)) (memory_of r)
 pages_met r end is =
     ap (λ (e : ℕ). list_any (λ page. is_met r.base e (page_at page)) r.pages) is
-    ∙ sym (any_map (shares_byte (ring_program r)) page_at r.pages)
+    ∙ sym (any_map (is_met r.base (program_end r)) page_at r.pages)
+    ∙ sym (any-shares_byte r.base (ring_words r) (in_order (memory_of r)) (memory_of r))
 
 pub kept : (r : Ring) (front words places : List ℕ) → IsRing r → IsFront r front places → program_base r ≡ None → program_on_page r ≡ None → words ≡ front ++ encoded (closing r) → IsKept r words places
 kept r front words places is front_is base pages added =

@@ -10,7 +10,7 @@ use Rattle.toml_keys.specs.Values.{◌>>=◌, is_integer, list, number, otherwis
 use Rattle.page_table.specs.Taken.{first_shared, is_page_address}
 use Rattle.machine_model.specs.Paths.{shares_byte}
 use Rattle.picture_model.specs.Geometry.{is_multiple}
-use Rattle.ring_model.specs.Rings.{Ring, bytes_of, memory_of, ring_program}
+use Rattle.ring_model.specs.Rings.{Ring, bytes_of, memory_of, ring_program, ring_words}
 use Rattle.ring_compile.specs.declared.fault.RingKey.{RingKey}
 use Rattle.ring_compile.specs.declared.fault.RingKey.TheVariants.{Blocks, Lines, LineBytes, Base, Pages, Fill}
 use Rattle.ring_compile.specs.declared.fault.RingFault.{RingFault}
@@ -81,7 +81,7 @@ too_few_pages r =
 
 abbrev pub program_base : Ring → Option RingFault
 program_base r =
-    when (not (is_multiple 4 r.base && nat_le (r.base + 4 * length (ring_program r).words) (2 ^ 32))) ProgramBase
+    when (not (is_multiple 4 r.base && nat_le (r.base + 4 * length (ring_words r)) (2 ^ 32))) ProgramBase
 
 abbrev pub program_on_page : Ring → Option RingFault
 program_on_page r = when (list_any (shares_byte (ring_program r)) (memory_of r)) ProgramOnPage

@@ -1,7 +1,7 @@
 -- What is kept of a ring, and what its reading tells before its place is judged.
 use Rattle.std.specs.Prelude.{◌≡◌, ℕ, ◌≤◌, List, length, map, ◌∷◌}
 use Rattle.std.specs.List.{range_with_len}
-use Rattle.ring_model.specs.Rings.{IsPlaced, IsRing, Ring, last_write, opening, ring_program, round}
+use Rattle.ring_model.specs.Rings.{IsPlaced, IsRing, Ring, last_write, opening, ring_words, round}
 use Rattle.picture_model.specs.Programs.{words_of}
 
 -- the values are within their bounds
@@ -24,5 +24,5 @@ pub record IsJudged (r : Ring) : Type 0 where
 -- the words of its program, and the addresses of the last WRITEs
 pub record IsKept (r : Ring) (kept places : List ℕ) : Type 0 where
   pub judged : IsJudged r
-  pub words : kept ≡ (ring_program r).words
+  pub words : kept ≡ ring_words r
   pub last_writes : places ≡ map (last_write r) (range_with_len 0 r.blocks)

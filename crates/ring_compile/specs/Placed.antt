@@ -1,7 +1,7 @@
 -- A program's bytes among the pages.
 use Rattle.std.specs.Prelude.{ℕ, ◌+◌, ◌*◌, length}
-use Rattle.ring_model.specs.Rings.{Ring, ring_program}
+use Rattle.ring_model.specs.Rings.{Ring, ring_words}
 
 -- where the program of a ring ends
 abbrev pub program_end : Ring → ℕ
-program_end r = r.base + 4 * length (ring_program r).words
+program_end r = r.base + 4 * length (ring_words r)

@@ -3,7 +3,7 @@ ghost use Rattle.std.specs.Prelude.{◌≡◌, ◌<◌, ◌==◌, length, IfOk, 
 ghost use Rattle.std.specs.List.{position};
 ghost use Rattle.machine_model.specs.Paths.{IsSound};
 ghost use Rattle.page_table.specs.Taken.{in_order};
-ghost use Rattle.ring_model.specs.Rings.{ends, memory_of, ring_program};
+ghost use Rattle.ring_model.specs.Rings.{ends, memory_of, ring_program, ring_words};
 ghost use Rattle.ring_compile.specs.Kept.{IsJudged};
 
 use crate::fault::RingError;
@@ -99,7 +99,7 @@ fn grants(alloc: Global, values: &Values) -> Result<PageSet, AllocError>
 // The program of a ring whose words are known.
 fn program_of(alloc: Global, values: &Values, words: Vec<u32>) -> Result<Program, AllocError>
     requires judged { IsJudged values.now }
-    requires words { words.items ≡ (ring_program values.now).words }
+    requires words { words.items ≡ ring_words values.now }
     ensures program { IfOk result (λ program. program ≡ ring_program values.now) }
     ensures sound { IfOk result IsSound }
 {

@@ -1,31 +1,32 @@
--- What contracts see of a machine that runs a ring's program: the ring, the machine, and the blocks that it has ended.
-use Rattle.std.specs.Prelude.{◌≡◌, ℕ, List, None, true}
+-- What is kept of a ring's run: the ring, and the blocks that it has ended.
+use Rattle.std.specs.Prelude.{◌≡◌, ℕ, Option, Some, None}
+use Rattle.std.proofs.Common.{ap}
 use Rattle.fifo_model.specs.Queues.{more}
-use Rattle.machine_model.specs.States.{State}
-use Rattle.machine_model.specs.Steps.{Step, Turn, run}
-use Rattle.dma_machine.specs.Stills.{is_still}
-use Rattle.ring_model.specs.Rings.{IsRing, Ring, ends, ring_program}
-use Rattle.ring_model.specs.Runs.{block_end, block_ends}
+use Rattle.ring_model.specs.Rings.{Ring, ends}
+use Rattle.machine_model.specs.declared.Did.{Did}
+use Rattle.machine_model.specs.declared.Did.TheVariants.{Still}
+use Rattle.machine_model.specs.declared.Seen.{Seen}
+use Rattle.machine_model.specs.Paths.{RiscProgram}
+use Rattle.ring_model.specs.Runs.{end_by, end_seen}
+use Rattle.machine_watch.specs.Watches.{Notes, Watching}
 
-pub record RingState : Type 0 where
+pub record Counted : Type 0 where
   pub ring : Ring
-  pub machine : State
   pub blocks : ℕ
 
--- after some steps: the blocks that they end are counted, up to 2^64 - 1
-abbrev pub ran : List Step → RingState → RingState
-ran steps s =
-    record s {
-      machine = run s.machine steps;
-      blocks = more s.blocks (block_ends (ends s.ring) s.machine steps);
-    }
+-- a block that is ended is counted, up to 2^64 - 1
+abbrev pub counted : Option ℕ → Counted → Counted
+counted (Some block) k = record k { blocks = more k.blocks 1 }
+counted None k = k
 
--- the machine runs the ring's program
-pub record IsRingMachine (ring : Ring) (m : State) : Type 0 where
-  pub is_ring : IsRing ring
-  pub same : m.program ≡ ring_program ring
+-- a block ends where its last WRITE retires
+abbrev pub block_notes : Notes Counted
+block_notes = record { saw = λ program seen k. counted (end_seen (ends k.ring) seen) k; emptied = λ one two three k. k }
 
--- turns only count and end no block
-pub record StandsStill (s : RingState) : Type 0 where
-  pub still : is_still s.machine ≡ true
-  pub ends_none : block_end (ends s.ring) s.machine Turn ≡ None
+-- with the machine
+abbrev pub RingState : Type 0
+RingState = Watching Counted
+
+-- a turn that does nothing ends none
+pub still_ends_none : (program : RiscProgram) (s : Seen) (k : Counted) → s.did ≡ Still → block_notes.saw program s k ≡ k
+still_ends_none program s k still = ap (λ (did : Did). counted (end_by (ends k.ring) did s.at) k) still

@@ -7,7 +7,7 @@ use Rattle.picture_model.specs.Plans.{Cut, cuts_of, piece_of}
 use Rattle.picture_model.specs.Programs.{instr_of}
 use Rattle.picture_model.proofs.Counting.{cut_words, line_words-few, words_for}
 use Rattle.picture_model.proofs.Ends.{ended, ended-few}
-use Rattle.ring_model.specs.Rings.{IsRing, Ring, block_instrs, blocks_instrs, line_instrs, line_strip, lines_instrs, mark, memory_of, ring_program, round}
+use Rattle.ring_model.specs.Rings.{IsRing, Ring, block_instrs, blocks_instrs, line_instrs, line_strip, lines_instrs, mark, memory_of, ring_program, ring_words, round}
 use Rattle.ring_model.proofs.Lines.{block_lines, line-IsStrip, line_end}
 use Rattle.ring_model.proofs.Sound.{ring_length}
 use Rattle.ring_model.proofs.Writes.{blocks_writes, last_length, writes_words}
@@ -77,7 +77,7 @@ module _ (r : Ring) (is : IsRing r) where
       let most = is.blocks.1 in
       omega arith
 
-  pub ring_few : length (ring_program r).words ≤ max_words
+  pub ring_few : length (ring_words r) ≤ max_words
   ring_few =
       let long = ring_length r in
       let words = writes_words (round r) (blocks_writes r 0 r.blocks) in

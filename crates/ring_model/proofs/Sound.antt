@@ -6,12 +6,12 @@ use Rattle.risc_word.specs.declared.Instr.{Instr}
 use Rattle.risc_word.specs.Words.{encoded}
 use Rattle.page_table.specs.Taken.{in_order}
 use Rattle.machine_model.specs.Paths.{IsSound, RiscProgram, is_word}
-use Rattle.machine_model.proofs.BeforeTurns.{word_there}
+use Rattle.machine_model.proofs.OneSpan.{word_there}
 use Rattle.picture_model.specs.Programs.{words_of}
 use Rattle.picture_model.proofs.Circle.{IsAt, IsFineInstr, IsPlain, circle_sound, lead_plain, split_length, words_split}
 use Rattle.picture_model.proofs.Each.{Each, each_append, each_only}
 use Rattle.picture_model.proofs.FaultlessLines.{IsGoodInstr, good_sync}
-use Rattle.ring_model.specs.Rings.{IsRing, Ring, closing, memory_of, opening, ring_instrs, ring_program, round}
+use Rattle.ring_model.specs.Rings.{IsRing, Ring, closing, memory_of, opening, ring_instrs, ring_program, ring_words, round}
 use Rattle.ring_model.proofs.Blocks.{good_round}
 
 -- the instruction behind the first, whichever it is
@@ -35,7 +35,7 @@ module _ (r : Ring) (is : IsRing r) (program : RiscProgram) (grants : program.gr
 module _ (r : Ring) (is : IsRing r) where
   -- the closing leads to a word
   pub closing_word : is_word (ring_program r) (r.base + 8) ≡ true
-  closing_word = let long = ring_length r in word_there (ring_program r) 2 (omega arith)
+  closing_word = let long = ring_length r in word_there (ring_program r) (ring_words r) 2 refl (omega arith)
 
   pub ring_fine : Each (IsFineInstr (ring_program r)) (ring_instrs r)
   ring_fine =

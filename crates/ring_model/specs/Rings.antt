@@ -10,7 +10,7 @@ use Rattle.clip_spans.specs.Runs.{span}
 use Rattle.page_table.specs.Grants.{Chunk, total}
 use Rattle.page_table.specs.Scattered.{ArePages}
 use Rattle.page_table.specs.Taken.{in_order, page_at}
-use Rattle.machine_model.specs.Paths.{RiscProgram, shares_byte}
+use Rattle.machine_model.specs.Paths.{RiscProgram, one_span, shares_byte}
 use Rattle.picture_model.specs.declared.PieceKind.TheVariants as kind
 use Rattle.picture_model.specs.Plans.{Strip, plan, track}
 use Rattle.picture_model.specs.Programs.{instr_of, no_control, sync, words_of}
@@ -94,14 +94,12 @@ closing r = Jump no_control (r.base + 8)
 abbrev pub ring_instrs : Ring → List Instr
 ring_instrs r = opening ∷ round r ++ closing r ∷ []
 
+abbrev pub ring_words : Ring → List ℕ
+ring_words r = words_of (ring_instrs r)
+
 -- the program may write the pages
 abbrev pub ring_program : Ring → RiscProgram
-ring_program r =
-    record {
-      base = r.base;
-      words = words_of (ring_instrs r);
-      grants = in_order (memory_of r);
-    }
+ring_program r = one_span r.base (ring_words r) (in_order (memory_of r))
 
 -- the address of a block's last WRITE: the two words before the end of the words up to and with the block's
 abbrev pub last_write : Ring → ℕ → ℕ
@@ -126,5 +124,5 @@ pub record IsRing (r : Ring) : Type 0 where
 -- the program lies in memory, and apart from the pages
 pub record IsPlaced (r : Ring) : Type 0 where
   pub aligned : r.base % 4 ≡ 0
-  pub ends : r.base + 4 * length (ring_program r).words ≤ 2 ^ 32
+  pub ends : r.base + 4 * length (ring_words r) ≤ 2 ^ 32
   pub apart : list_any (shares_byte (ring_program r)) (memory_of r) ≡ false

@@ -2,7 +2,7 @@
 
 ghost use Rattle.std.specs.Prelude.{◌≡◌, ◌≤◌, ◌<◌, ℕ, List, [], ◌∷◌, Some, None, length, map};
 ghost use Rattle.machine_model.specs.Paths.{IsProgram, IsSound, max_words};
-ghost use Rattle.ring_model.specs.Rings.{IsPlaced, IsRing, Ring, ends, ring_program};
+ghost use Rattle.ring_model.specs.Rings.{IsPlaced, IsRing, Ring, ends, ring_program, ring_words};
 ghost use Rattle.ring_model.specs.Runs.{block_ends};
 ghost use Rattle.ring_model.specs.Worked.{after, machine, steps, two_lines};
 ghost use Rattle.page_table.specs.Blocks.{byte_at};
@@ -15,13 +15,13 @@ pub fn ring_programs_are_sound()
 /// The program of a ring has no more words than a program may have, and where the ring's place has no fault, it is a
 /// program.
 pub fn ring_programs_can_be_made()
-    ensures words { (r : Ring) → IsRing r → length (ring_program r).words ≤ max_words }
+    ensures words { (r : Ring) → IsRing r → length (ring_words r) ≤ max_words }
     ensures program { (r : Ring) → IsRing r → IsPlaced r → IsProgram (ring_program r) }
 {}
 
 /// The worked ring of two blocks: its words, where its blocks end, and its runs of 10 and of 15 turns over three lines.
 pub fn worked_ring_runs()
-    ensures words { (ring_program two_lines).words ≡ 0x80008006 ∷ 0 ∷ 0x1df00008 ∷ 0x20000 ∷ 0x1de10008 ∷ 0x20008 ∷ 0x70000000 ∷ 0x1008 ∷ [] }
+    ensures words { ring_words two_lines ≡ 0x80008006 ∷ 0 ∷ 0x1df00008 ∷ 0x20000 ∷ 0x1de10008 ∷ 0x20008 ∷ 0x70000000 ∷ 0x1008 ∷ [] }
     ensures ends { map (ends two_lines) (0x1000 ∷ 0x1008 ∷ 0x1010 ∷ 0x1018 ∷ []) ≡ None ∷ Some 0 ∷ Some 1 ∷ None ∷ [] }
     ensures two_blocks { block_ends (ends two_lines) machine (steps 10) ≡ 2 }
     ensures second_signals { (after 10).interrupts ≡ 0x10000800 }

@@ -1,189 +1,234 @@
 -- What is told of a text follows from what was read of it and listed again.
-use Rattle.std.proofs.Common.{◌≡◌, ℕ, ◌+◌, ◌<◌, ◌^◌, Bool, true, false, List, [], ◌∷◌, ◌++◌, length, length-append, take, Option, Some, None, refl, sym, ap, subst, ◌∙◌, arith, inl, inr}
-use Rattle.std.specs.Prelude.{◌==◌, ◌⊎◌, IsTrue, codes, Result, Ok, Err}
+use Rattle.std.proofs.Common.{◌≡◌, ℕ, ◌+◌, ◌^◌, ◌<◌, Bool, true, false, List, [], ◌∷◌, ◌++◌, length, take, Option, Some, None, refl, sym, ap, subst, ◌∙◌, arith, inl, inr}
+use Rattle.std.specs.Prelude.{IsTrue, nat_le, nat_lt, Result, Ok, Err}
+use Rattle.std.specs.Option.{unwrap_or}
 use Rattle.std.specs.List.{flat_map}
-use Rattle.std.specs.Cmp.Lexicographic.{pointwise, bytes_decides}
-use Rattle.std.proofs.lemmas.List.{append-nil, take_all}
-use Rattle.std.proofs.Math.Seq.{take-append_seam, take-length}
+use Rattle.std.proofs.lemmas.List.{append-nil}
+use Rattle.std.proofs.Math.Seq.{take-length}
 use Rattle.page_table.specs.Taken.{listed}
-use Rattle.machine_model.specs.Paths.{IsProgram, RiscProgram}
-use Rattle.risc_listing.specs.Listings.{base_line, chunk_line, fill_line, listing, word_lines}
-use Rattle.std.proofs.lemmas.Fmt.{hex_byte}
-use Rattle.risc_listing.specs.Lines.{line_end}
-use Rattle.risc_text.specs.Drafts.{Draft, draft_of, drafted}
-use Rattle.risc_text.specs.Assembly.{BeginsListing, IsListed, IsListing, are_lines}
-use Rattle.risc_text.proofs.Cutting.{Starts, begun_starts, listing_begins, starts_begun}
-use Rattle.risc_text.proofs.Gathering.{listed_pairs, listing_is_read, trunk_is_read}
+use Rattle.machine_model.specs.Paths.{begins_at, begins_at_base, IsProgram, RiscProgram, Span, all_words}
+use Rattle.risc_listing.specs.Listings.{fill_line, listing, span_lines}
+use Rattle.risc_text.specs.Drafts.{Draft, blank, draft_by, draft_of, drafted, gathered}
+use Rattle.risc_text.specs.Assembly.{BeginsListing, IsListed, IsListing, are_lines, completed, filled, of_one_by, with_entry}
+use Rattle.risc_text.proofs.Cutting.{Starts, begun_starts, listing_begins, starts_begun, trunk_and_last}
+use Rattle.risc_text.proofs.Gathering.{draft_fill, listed_pairs, listing_is_read, spans_are_read, trunk_is_read}
 use Rattle.risc_text.proofs.Spelling.{some_is, none_some}
-use Rattle.risc_asm.specs.Verdicts.{Agrees, EndAgrees, IsBegun, StartsAs, all_but_fill}
-use Rattle.risc_asm.proofs.Agreeing.{starts_nowhere}
-use Rattle.risc_asm.specs.declared.judge.Agreement.TheVariants as agreement
+use Rattle.risc_asm.specs.Programs.{meant}
+use Rattle.risc_asm.specs.Verdicts.{IsAlike, IsBegun, IsDraftOfBase, IsDraftOfSpans, IsToldBy}
 
-abbrev is_front : List ℕ → List ℕ → Bool
-is_front piece text = pointwise (λ one other. one == other) (take (length piece) text) piece
+-- a program that is told by spans has some
+some_spans : (entry : ℕ) (spans : List Span) → begins_at entry spans ≡ false → length spans ≡ 0 → ⊥
+some_spans entry [] is none = absurd cc
+some_spans entry (s ∷ rest) is none = absurd (omega arith)
 
-not_front : (piece rest text : List ℕ) → is_front piece text ≡ false → text ≡ piece ++ rest → ⊥
-not_front piece rest text isnt is =
-    let front : take (length piece) text ≡ piece = ap (take (length piece)) is ∙ take-append_seam piece rest in
-    let yes = (bytes_decides (take (length piece) text) piece).1 front in
-    cc
+no_text : (spans : List Span) → length spans ≡ 0 → 0 < length (flat_map span_lines spans) → ⊥
+no_text [] none some = absurd (omega arith)
+no_text (s ∷ rest) none some = absurd (omega arith)
 
--- ---- the last lines
+-- what lines tell, in parts
+abbrev told : Option ℕ → List ℕ → List Span → Option ℕ → List (ℕ × ℕ) → Option ℕ → Draft
+told base words spans entry chunks fill = record { base = base; words = words; spans = spans; entry = entry; chunks = chunks; fill = fill }
 
-pub end_none : (k : ℕ) (text lines front last : List ℕ) → is_front text lines ≡ false → StartsAs k text lines → lines ≡ front ++ last → EndAgrees text front last (agreement.No k)
-end_none k text lines front last isnt starts is = (
-  subst (StartsAs k text) is starts,
-  λ whole. not_front text [] lines isnt (is ∙ sym whole ∙ sym (append-nil text)),
-  λ same. not_front text last lines isnt (is ∙ ap (λ (list : List ℕ). list ++ last) (sym same)),
-)
+-- ---- the program that a text begins with
 
-pub end_whole : (text lines rest front last : List ℕ) → is_front text lines ≡ true → length rest + length text ≡ length lines → length rest ≡ 0 → lines ≡ front ++ last → text ≡ front ++ last
-end_whole text lines rest front last is long none lines_are =
-    sym ((bytes_decides (take (length text) lines) text).0 is) ∙ take_all (length text) lines (omega arith) ∙ lines_are
-
-pub end_but : (text lines rest front last : List ℕ) → is_front text lines ≡ true → length rest + length text ≡ length lines → length rest ≡ 8 → lines ≡ front ++ last → length last ≡ 8 → text ≡ front
-end_but text lines rest front last is long left lines_are eight =
-    let all : length lines ≡ length front + length last = ap length lines_are ∙ length-append front last in
-    let same : length text ≡ length front = omega arith in
-    sym ((bytes_decides (take (length text) lines) text).0 is) ∙ ap (take (length text)) lines_are ∙ ap (λ (n : ℕ). take n (front ++ last)) same ∙ take-append_seam front last
-
-pub end_no : (k : ℕ) (text lines rest front last : List ℕ) → StartsAs k text lines → length rest + length text ≡ length lines → (length rest ≡ 0 → ⊥) → (length rest ≡ 8 → ⊥) → lines ≡ front ++ last →
-    length last ≡ 8 → EndAgrees text front last (agreement.No k)
-end_no k text lines rest front last starts long some other lines_are eight =
-    let all : length lines ≡ length front + length last = ap length lines_are ∙ length-append front last in (
-      subst (StartsAs k text) lines_are starts,
-      λ whole. some (let same : length text ≡ length front + length last = ap length whole ∙ length-append front last in omega arith),
-      λ same. other (let same : length text ≡ length front = ap length same in omega arith),
-    )
-
--- ---- the whole listing
-
-pub no_base : (piece text : List ℕ) (program : RiscProgram) (fill : ℕ) → piece ≡ base_line program.base → is_front piece text ≡ false → Agrees text program fill (agreement.No 0)
-no_base piece text program fill piece_is isnt =
-    let rest = word_lines program.base 0 program.words ++ flat_map chunk_line program.grants in
-    let all = word_lines program.base 0 program.words ++ (flat_map chunk_line program.grants ++ fill_line fill) in (
-      starts_nowhere text (listing program fill),
-      λ whole. not_front piece all text isnt (whole ∙ ap (λ (list : List ℕ). list ++ all) (sym piece_is)),
-      λ same. not_front piece rest text isnt (same ∙ ap (λ (list : List ℕ). list ++ rest) (sym piece_is)),
-    )
-
-pub agrees_whole : (text one two : List ℕ) (program : RiscProgram) (fill : ℕ) → text ≡ base_line program.base ++ one → one ≡ word_lines program.base 0 program.words ++ two →
-    two ≡ flat_map chunk_line program.grants ++ fill_line fill → text ≡ listing program fill
-agrees_whole text one two program fill text_is one_is same =
-    text_is ∙ ap (λ (list : List ℕ). base_line program.base ++ list) (one_is ∙ ap (λ (list : List ℕ). word_lines program.base 0 program.words ++ list) same)
-
-pub agrees_but_fill : (text one two : List ℕ) (program : RiscProgram) → text ≡ base_line program.base ++ one → one ≡ word_lines program.base 0 program.words ++ two →
-    two ≡ flat_map chunk_line program.grants → text ≡ all_but_fill program
-agrees_but_fill text one two program text_is one_is same =
-    text_is ∙ ap (λ (list : List ℕ). base_line program.base ++ list) (one_is ∙ ap (λ (list : List ℕ). word_lines program.base 0 program.words ++ list) same)
-
--- ---- the verdict
-
--- the program that a text begins with
+-- a listing begins with the text, and this is what the text tells of it
 pub record StartOf (text : List ℕ) (d : Draft) : Type 0 where
   pub program : RiscProgram
-  pub fill : Option ℕ
   pub made : IsProgram program
-  pub draft_is : d ≡ draft_of program fill
-  pub text_is : ((fill ≡ None) × (text ≡ all_but_fill program)) ⊎ ((f : ℕ) × (fill ≡ Some f) × (text ≡ listing program f))
+  pub rest : List ℕ
+  pub fill : ℕ
+  pub fill_is : unwrap_or d.fill 0 ≡ fill
+  pub goes_on : listing program fill ≡ text ++ rest
+  pub by_base : (base : ℕ) → d.base ≡ Some base → (begins_at_base program ≡ true) × (program.base ≡ base) × (all_words program ≡ d.words) × (program.grants ≡ listed d.chunks)
+  pub by_spans : 0 < length d.spans → meant d.entry d.spans (listed d.chunks) ≡ program
+
+base_by : (by : Bool) (program : RiscProgram) (fill : Option ℕ) (d : Draft) (base : ℕ) → begins_at_base program ≡ by → draft_by by program fill ≡ d → d.base ≡ Some base →
+    (begins_at_base program ≡ true) × (program.base ≡ base) × (all_words program ≡ d.words) × (program.grants ≡ listed d.chunks)
+base_by true program fill d base by same is = (
+  by,
+  some_is program.base base (ap (λ (d : Draft). d.base) same ∙ is),
+  ap (λ (d : Draft). d.words) same,
+  sym (listed_pairs program.grants) ∙ ap (λ (d : Draft). listed d.chunks) same,
+)
+base_by false program fill d base by same is = absurd (none_some base (ap (λ (d : Draft). d.base) same ∙ is))
+
+spans_by : (by : Bool) (program : RiscProgram) (fill : Option ℕ) (d : Draft) → draft_by by program fill ≡ d → 0 < length d.spans → meant d.entry d.spans (listed d.chunks) ≡ program
+spans_by true program fill d same some = absurd (let none : 0 ≡ length d.spans = ap (λ (d : Draft). length d.spans) same in omega arith)
+spans_by false program fill d same some =
+    let entry : d.entry ≡ Some program.base = ap (λ (d : Draft). d.entry) (sym same) in
+    let spans : d.spans ≡ program.spans = ap (λ (d : Draft). d.spans) (sym same) in
+    let grants : listed d.chunks ≡ program.grants = ap (λ (d : Draft). listed d.chunks) (sym same) ∙ listed_pairs program.grants in
+    (λ i. meant (entry i) (spans i) (grants i))
+
+fill_by : (by : Bool) (program : RiscProgram) (fill : Option ℕ) (d : Draft) → draft_by by program fill ≡ d → d.fill ≡ fill
+fill_by true program fill d same = ap (λ (d : Draft). d.fill) (sym same)
+fill_by false program fill d same = ap (λ (d : Draft). d.fill) (sym same)
+
+start_at : (text : List ℕ) (d : Draft) (program : RiscProgram) (filled : Option ℕ) (rest : List ℕ) → IsProgram program → draft_of program filled ≡ d → listing program (unwrap_or filled 0) ≡ text ++ rest → StartOf text d
+start_at text d program filled rest made same goes_on = record {
+  program = program;
+  made = made;
+  rest = rest;
+  fill = unwrap_or filled 0;
+  fill_is = ap (λ (fill : Option ℕ). unwrap_or fill 0) (fill_by (begins_at_base program) program filled d same);
+  goes_on = goes_on;
+  by_base = λ base is. base_by (begins_at_base program) program filled d base refl same is;
+  by_spans = λ some. spans_by (begins_at_base program) program filled d same some;
+}
 
 start_by : (text : List ℕ) (d : Draft) → Starts text → drafted text ≡ Some d → 0 < length text → StartOf text d
 start_by text d (inl none) is some = absurd (let e = ap length none in omega arith)
-start_by text d (inr (inl part)) is some = record {
-  program = part.program;
-  fill = None;
-  made = part.made;
-  draft_is = some_is d (draft_of part.program None) (sym is ∙ ap drafted part.is ∙ trunk_is_read part.program part.made part.base_small);
-  text_is = inl (refl, part.is);
-}
-start_by text d (inr (inr (program, fill, (listed_is, same)))) is some = record {
-  program = program;
-  fill = Some fill;
-  made = listed_is.made;
-  draft_is = some_is d (draft_of program (Some fill)) (sym is ∙ ap drafted (sym same) ∙ listing_is_read program fill listed_is);
-  text_is = inr (fill, refl, sym same);
-}
+start_by text d (inr (inl part)) is some =
+    start_at text d part.program None (fill_line 0) part.made (some_is (draft_of part.program None) d (sym (trunk_is_read part.program part.made) ∙ ap drafted (sym part.is) ∙ is))
+    (sym (trunk_and_last part.program 0) ∙ ap (λ (list : List ℕ). list ++ fill_line 0) (sym part.is))
+start_by text d (inr (inr (inl are))) is some =
+    let same : record blank { spans = are.spans } ≡ d = some_is (record blank { spans = are.spans }) d (sym (spans_are_read are.spans are.apart) ∙ ap drafted (sym are.is) ∙ is) in
+    record {
+      program = completed are.spans;
+      made = are.made;
+      rest = are.rest;
+      fill = 0;
+      fill_is = ap (λ (d : Draft). unwrap_or d.fill 0) (sym same);
+      goes_on = are.goes_on;
+      by_base = λ base told. absurd (none_some base (ap (λ (d : Draft). d.base) same ∙ told));
+      by_spans = λ more. (λ i. meant ((sym same i).entry) ((sym same i).spans) (listed (sym same i).chunks)) ∙ no_grants are.spans;
+    }
+  where
+    no_grants : (spans : List Span) → meant None spans (listed []) ≡ completed spans
+    no_grants spans = by (filled spans)
+      where
+        one : (two room : Bool) (s : Span) → record { base = (of_one_by two room s).base; spans = (of_one_by two room s).spans; grants = [] } ≡ of_one_by two room s
+        one true room s = refl
+        one false true s = refl
+        one false false s = refl
+
+        by : (spans : List Span) → record { base = (with_entry spans).base; spans = (with_entry spans).spans; grants = [] } ≡ with_entry spans
+        by [] = refl
+        by (s ∷ []) = one (nat_lt 1 (length s.words)) (nat_le (s.at + 12) (2 ^ 32)) s
+        by (s ∷ other ∷ rest) = refl
+start_by text d (inr (inr (inr (program, fill, (listed_is, same))))) is some =
+    start_at text d program (Some fill) [] listed_is.made (some_is (draft_of program (Some fill)) d (sym (listing_is_read program fill listed_is) ∙ ap drafted same ∙ is)) (same ∙ sym (append-nil text))
 
 pub start_of : (text : List ℕ) (d : Draft) → IsTrue (are_lines text) → BeginsListing text → drafted text ≡ Some d → 0 < length text → StartOf text d
 start_of text d whole begun is some = start_by text d (begun_starts text begun whole) is some
+
+listing_start : (text : List ℕ) (d : Draft) → (found : IsListing text) → drafted text ≡ Some d → 0 < length text → (start : StartOf text d) × (listing start.program start.fill ≡ text)
+unfolding start_by start_at
+listing_start text d (program, fill, (listed_is, same)) is some = (start_by text d (inr (inr (inr (program, fill, (listed_is, same))))) is some, same)
 
 pub undrafted : (text : List ℕ) → drafted text ≡ None → 0 < length text → IsTrue (are_lines text) → BeginsListing text → ⊥
 undrafted text is some whole begun = by (begun_starts text begun whole)
   where
     by : Starts text → ⊥
     by (inl none) = absurd (let e = ap length none in omega arith)
-    by (inr (inl part)) = none_some (draft_of part.program None) (sym is ∙ ap drafted part.is ∙ trunk_is_read part.program part.made part.base_small)
-    by (inr (inr (program, fill, (listed_is, same)))) = none_some (draft_of program (Some fill)) (sym is ∙ ap drafted (sym same) ∙ listing_is_read program fill listed_is)
+    by (inr (inl part)) = none_some (draft_of part.program None) (sym is ∙ ap drafted part.is ∙ trunk_is_read part.program part.made)
+    by (inr (inr (inl are))) = none_some (record blank { spans = are.spans }) (sym is ∙ ap drafted are.is ∙ spans_are_read are.spans are.apart)
+    by (inr (inr (inr (program, fill, (listed_is, same))))) = none_some (draft_of program (Some fill)) (sym is ∙ ap drafted (sym same) ∙ listing_is_read program fill listed_is)
 
-pub no_program_base : (text : List ℕ) (d : Draft) → drafted text ≡ Some d → d.base ≡ None → 0 < length text → IsTrue (are_lines text) → BeginsListing text → ⊥
-no_program_base text d is none some whole begun =
-    let start = start_of text d whole begun is some in
-    none_some start.program.base (sym none ∙ ap (λ (d : Draft). d.base) start.draft_is)
+-- ---- the program that is made of what lines tell
 
--- a program is made of a draft wherever there is one
-abbrev pub Finds : {E : Type 0} → Result RiscProgram E → ℕ → Draft → Type 0
-Finds made base d = (program : RiscProgram) → IsProgram program → program.base ≡ base → program.words ≡ d.words → program.grants ≡ listed d.chunks → made ≡ Ok program
+pub told_by_start : (text : List ℕ) (d : Draft) (program : RiscProgram) → drafted text ≡ Some d → 0 < length text → ((start : StartOf text d) → start.program ≡ program) → IsToldBy text program (unwrap_or d.fill 0)
+told_by_start text d program is some same = record {
+  front = λ whole begun.
+      let start = start_of text d whole begun is some in
+      (start.rest, ap (λ (p : RiscProgram). listing p (unwrap_or d.fill 0)) (sym (same start)) ∙ ap (listing start.program) start.fill_is ∙ start.goes_on);
+  whole = λ found.
+      let at = listing_start text d found is some in
+      ap (λ (p : RiscProgram). listing p (unwrap_or d.fill 0)) (sym (same at.0)) ∙ ap (listing at.0.program) at.0.fill_is ∙ at.1;
+}
 
-found_program : {E : Type 0} (text : List ℕ) (d : Draft) (base : ℕ) (made : Result RiscProgram E) → Finds made base d → d.base ≡ Some base → (start : StartOf text d) → made ≡ Ok start.program
-found_program text d base made finds base_is start =
-    finds start.program start.made
-    (some_is start.program.base base (sym (ap (λ (d : Draft). d.base) start.draft_is) ∙ base_is))
-    (sym (ap (λ (d : Draft). d.words) start.draft_is))
-    (sym (ap (λ (d : Draft). listed d.chunks) start.draft_is ∙ listed_pairs start.program.grants))
-
-err_ok : {E : Type 0} (e : E) (program : RiscProgram) → Err e ≡ Ok program → ⊥
-err_ok e program is = cc
+-- by a base
+abbrev pub Finds : {E : Type 0} → Result RiscProgram E → ℕ → List ℕ → List (ℕ × ℕ) → Type 0
+Finds made base words chunks = (program : RiscProgram) → IsProgram program → begins_at_base program ≡ true → program.base ≡ base → all_words program ≡ words → program.grants ≡ listed chunks → made ≡ Ok program
 
 ok_is : {E : Type 0} (made : Result RiscProgram E) (one other : RiscProgram) → made ≡ Ok one → made ≡ Ok other → one ≡ other
 ok_is made one other first second = let same = sym first ∙ second in cc
 
-pub no_program : {E : Type 0} (text : List ℕ) (d : Draft) (base : ℕ) (e : E) → drafted text ≡ Some d → d.base ≡ Some base → Finds (Err e) base d → 0 < length text → IsTrue (are_lines text) → BeginsListing text → ⊥
-no_program text d base e is base_is finds some whole begun =
-    let start = start_of text d whole begun is some in
-    err_ok e start.program (found_program text d base (Err e) finds base_is start)
+err_ok : {E : Type 0} (e : E) (program : RiscProgram) → Err e ≡ Ok program → ⊥
+err_ok e program is = cc
 
-pub no_agreement : {E : Type 0} (text : List ℕ) (d : Draft) (base : ℕ) (program : RiscProgram) (fill : ℕ) → drafted text ≡ Some d → d.base ≡ Some base → (made : Result RiscProgram E) →
-    made ≡ Ok program → Finds made base d → ((f : ℕ) → d.fill ≡ Some f → fill ≡ f) →
-    (n : ℕ) → Agrees text program fill (agreement.No n) → 0 < length text → IsTrue (are_lines text) → BeginsListing text → ⊥
-no_agreement text d base program fill is base_is made made_is finds fill_is n differ some whole begun =
-    let start = start_of text d whole begun is some in
-    let same = ok_is made program start.program made_is (found_program text d base made finds base_is start) in
-    let filled = ap (λ (d : Draft). d.fill) start.draft_is in
-    elim start.text_is as (λ _. ⊥) [
-      | inl part ↦ differ.2 (part.1 ∙ ap all_but_fill (sym same))
-      | inr all ↦ differ.1 (all.2 ∙ ap (λ (p : RiscProgram). listing p all.0) (sym same) ∙ ap (listing program) (sym (fill_is all.0 (filled ∙ all.1))))
-    ]
+pub base_told : {E : Type 0} (text : List ℕ) (base : ℕ) (words : List ℕ) (chunks : List (ℕ × ℕ)) (fill : Option ℕ) (made : Result RiscProgram E) (program : RiscProgram) → IsDraftOfBase text base words chunks fill →
+    0 < length text → Finds made base words chunks → made ≡ Ok program → IsToldBy text program (unwrap_or fill 0)
+base_told text base words chunks fill made program drafted_is some finds is =
+    told_by_start text (told (Some base) words [] drafted_is.0 chunks fill) program drafted_is.1 some
+    (λ start. let parts = start.by_base base refl in ok_is made start.program program (finds start.program start.made parts.0 parts.1 parts.2 parts.3) is)
 
-pub but_fill_begins : (text : List ℕ) (program : RiscProgram) → IsProgram program → program.base < 2 ^ 32 → text ≡ all_but_fill program → BeginsListing text × (IsListing text → ⊥)
-but_fill_begins text program made small is = (
-  starts_begun text (inr (inl (record { program = program; made = made; base_small = small; is = is }))),
-  λ all.
-      let listed_is = all.2.0 in
-      let same : Some (draft_of program None) ≡ Some (draft_of all.0 (Some all.1)) =
-      sym (trunk_is_read program made small) ∙ ap drafted (sym is ∙ sym all.2.1) ∙ listing_is_read all.0 all.1 listed_is
-      in
-      none_some all.1 (ap (λ (d : Draft). d.fill) (some_is (draft_of program None) (draft_of all.0 (Some all.1)) same)),
-)
+pub no_base_program : {E : Type 0} (text : List ℕ) (base : ℕ) (words : List ℕ) (chunks : List (ℕ × ℕ)) (fill : Option ℕ) (e : E) → IsDraftOfBase text base words chunks fill →
+    0 < length text → Finds (Err e) base words chunks → IsTrue (are_lines text) → BeginsListing text → ⊥
+no_base_program text base words chunks fill e drafted_is some finds whole begun =
+    let start = start_of text (told (Some base) words [] drafted_is.0 chunks fill) whole begun drafted_is.1 some in
+    let parts = start.by_base base refl in
+    err_ok e start.program (finds start.program start.made parts.0 parts.1 parts.2 parts.3)
+
+-- by spans
+pub spans_told : (text : List ℕ) (entry : Option ℕ) (spans : List Span) (chunks : List (ℕ × ℕ)) (fill : Option ℕ) (found : Option RiscProgram) (program : RiscProgram) → IsDraftOfSpans text entry spans chunks fill →
+    0 < length spans → 0 < length text → (IsProgram (meant entry spans (listed chunks)) → found ≡ Some (meant entry spans (listed chunks))) → found ≡ Some program → IsToldBy text program (unwrap_or fill 0)
+spans_told text entry spans chunks fill found program drafted_is more some finds is =
+    told_by_start text (told drafted_is.0 drafted_is.1 spans entry chunks fill) program drafted_is.2 some
+    (λ start.
+    let same = start.by_spans more in
+    sym same ∙ some_is (meant entry spans (listed chunks)) program (sym (finds (subst IsProgram (sym same) start.made)) ∙ is))
+
+pub no_spans_program : (text : List ℕ) (entry : Option ℕ) (spans : List Span) (chunks : List (ℕ × ℕ)) (fill : Option ℕ) → IsDraftOfSpans text entry spans chunks fill →
+    0 < length spans → 0 < length text → (IsProgram (meant entry spans (listed chunks)) → None ≡ Some (meant entry spans (listed chunks))) → IsTrue (are_lines text) → BeginsListing text → ⊥
+no_spans_program text entry spans chunks fill drafted_is more some finds whole begun =
+    let start = start_of text (told drafted_is.0 drafted_is.1 spans entry chunks fill) whole begun drafted_is.2 some in
+    none_some (meant entry spans (listed chunks)) (finds (subst IsProgram (sym (start.by_spans more)) start.made))
+
+-- by neither
+pub no_program_told : (text : List ℕ) (d : Draft) → drafted text ≡ Some d → d.base ≡ None → length d.spans ≡ 0 → 0 < length text → IsTrue (are_lines text) → BeginsListing text → ⊥
+no_program_told text d is none no_spans some whole begun = by (begun_starts text begun whole)
+  where
+    neither : (by : Bool) (program : RiscProgram) (fill : Option ℕ) → IsProgram program → begins_at_base program ≡ by → draft_by by program fill ≡ d → ⊥
+    neither true program fill made by same = none_some program.base (sym none ∙ ap (λ (d : Draft). d.base) (sym same))
+    neither false program fill made by same = some_spans program.base program.spans by (sym (ap (λ (d : Draft). length d.spans) (sym same)) ∙ no_spans)
+
+    by : Starts text → ⊥
+    by (inl nothing) = absurd (let e = ap length nothing in omega arith)
+    by (inr (inl part)) = neither (begins_at_base part.program) part.program None part.made refl (some_is (draft_of part.program None) d (sym (trunk_is_read part.program part.made) ∙ ap drafted (sym part.is) ∙ is))
+    by (inr (inr (inl are))) =
+        let same : record blank { spans = are.spans } ≡ d = some_is (record blank { spans = are.spans }) d (sym (spans_are_read are.spans are.apart) ∙ ap drafted (sym are.is) ∙ is) in
+        no_text are.spans (ap (λ (d : Draft). length d.spans) same ∙ no_spans) (let e = ap length are.is in omega arith)
+    by (inr (inr (inr (program, fill, (listed_is, same))))) =
+        neither (begins_at_base program) program (Some fill) listed_is.made refl (some_is (draft_of program (Some fill)) d (sym (listing_is_read program fill listed_is) ∙ ap drafted same ∙ is))
+
+-- ---- verdicts
 
 -- so many bytes begin a listing
 pub begun_nowhere : (text : List ℕ) → IsBegun text 0
 begun_nowhere text = (omega arith, starts_begun [] (inl refl))
 
-pub begun_at : (text : List ℕ) (program : RiscProgram) (fill n : ℕ) → IsListed program fill → Agrees text program fill (agreement.No n) → IsBegun text n
-begun_at text program fill n listed_is differ = let starts = differ.0 in (starts.within, (starts.more, (program, fill, (listed_is, starts.is))))
+pub begun_alike : (text : List ℕ) (program : RiscProgram) (fill n : ℕ) → IsListed program fill → IsAlike n text (listing program fill) → IsBegun text n
+begun_alike text program fill n listed_is alike = let starts = alike.starts in (starts.within, (starts.more, (program, fill, (listed_is, starts.is))))
 
-begun_all : (text : List ℕ) → BeginsListing text → IsBegun text (length text)
-begun_all text begun = (omega arith, subst BeginsListing (sym (take-length text)) begun)
+pub begins_all : (text : List ℕ) (program : RiscProgram) (fill n : ℕ) → IsListed program fill → IsToldBy text program fill → IsAlike n text (listing program fill) → n ≡ length text →
+    BeginsListing text × (IsListing text → ⊥)
+begins_all text program fill n listed_is told_is alike all =
+    let starts = alike.starts in (
+      (starts.more, (program, fill, (listed_is, starts.is ∙ ap (λ (list : List ℕ). list ++ starts.more) (ap (λ (n : ℕ). take n text) all ∙ take-length text)))),
+      λ found. alike.other (sym (told_is.whole found)),
+    )
 
-pub begun_whole : (text : List ℕ) (program : RiscProgram) (fill : ℕ) → IsListed program fill → text ≡ listing program fill → IsBegun text (length text)
-begun_whole text program fill listed_is is = begun_all text (listing_begins text (program, fill, (listed_is, sym is)))
+pub begins_none : (text : List ℕ) (program : RiscProgram) (fill n : ℕ) → IsListed program fill → IsToldBy text program fill → IsAlike n text (listing program fill) → (n ≡ length text → ⊥) →
+    IsBegun text n × (IsTrue (are_lines text) → BeginsListing text → ⊥)
+begins_none text program fill n listed_is told_is alike short = (
+  begun_alike text program fill n listed_is alike,
+  λ whole begun. (let front = told_is.front whole begun in let within = alike.starts.within in alike.apart (omega arith) front.0 front.1),
+)
 
-pub begun_but_fill : (text : List ℕ) (program : RiscProgram) → IsProgram program → program.base < 2 ^ 32 → text ≡ all_but_fill program → IsBegun text (length text)
-begun_but_fill text program made small is = begun_all text (but_fill_begins text program made small is).0
+nothing_drafted : drafted [] ≡ Some blank
+unfolding gathered
+nothing_drafted = refl
 
 pub none_begins_none_is : (text : List ℕ) → length text ≡ 0 → BeginsListing text × (IsListing text → ⊥)
-none_begins_none_is [] none = (starts_begun [] (inl refl), λ all. (let e = ap length all.2.1 in absurd (omega arith)))
+none_begins_none_is [] none = (
+  starts_begun [] (inl refl),
+  λ all.
+      let same : Some blank ≡ Some (draft_of all.0 (Some all.1)) = sym nothing_drafted ∙ ap drafted (sym all.2.1) ∙ listing_is_read all.0 all.1 all.2.0 in
+      none_some all.1 (ap (λ (d : Draft). d.fill) (some_is blank (draft_of all.0 (Some all.1)) same) ∙ draft_fill all.0 (Some all.1)),
+)
 none_begins_none_is (byte ∷ rest) none = absurd (omega arith)
 
-pub fill_line-length : (fill : ℕ) → fill < 256 → length (fill_line fill) ≡ 8
-fill_line-length fill small = ap (λ (digits : List ℕ). length (codes "fill " ++ (digits ++ line_end))) (hex_byte false fill small)
+pub no_spans_left : (spans : List Span) → length spans ≡ 0 → spans ≡ []
+no_spans_left [] none = refl
+no_spans_left (s ∷ rest) none = absurd (omega arith)

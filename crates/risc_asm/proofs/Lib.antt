@@ -1,6 +1,9 @@
 pub mod Continuing
 pub mod Matching
 pub mod Making
+pub mod Words
+pub mod Apart
+pub mod Filling
 pub mod Judging
 pub mod Searching
 pub mod OneAnswer

@@ -4,15 +4,14 @@ use Rattle.std.specs.Prelude.{◌==◌, if◌then◌else◌}
 use Rattle.std.proofs.lemmas.Bool.{and_parts, eqb-true}
 use Rattle.std.proofs.lemmas.List.{append_assoc, append-nil}
 use Rattle.std.proofs.lemmas.List.Sums.{sum_by-cons}
-use Rattle.machine_model.specs.Paths.{RiscProgram}
-use Rattle.risc_listing.specs.Listings.{fill_line, listing}
+use Rattle.risc_listing.specs.Listings.{fill_line}
 use Rattle.risc_text.specs.Assembly.{Assembles, BeginsListing, EndsShort, IsListing, IsRestAtFault, IsWrongLine, LineAtFault, are_lines, has_no_newline, line_count}
-use Rattle.risc_text.proofs.Cutting.{Past, cut_line, listing_begins, later_lines, not_newline}
-use Rattle.risc_text.proofs.Gathering.{one_program}
+use Rattle.risc_text.proofs.Cutting.{Past, cut_line, listing_begins, later_lines, not_newline, trunk_and_last}
+use Rattle.risc_text.proofs.Gathering.{one_program, trunk}
 use Rattle.risc_text.proofs.Plain.{IsLine, fill_line-is}
+use Rattle.risc_text.proofs.TwoWords.{first_is}
 use Rattle.capture_file.specs.declared.program.ProgramFile.{ProgramFile}
 use Rattle.risc_asm.specs.Answers.{Answers, IsFault, IsTold, most_bytes}
-use Rattle.risc_asm.specs.Verdicts.{all_but_fill}
 use Rattle.risc_asm.specs.declared.AsmError.{AsmError}
 use Rattle.risc_asm.specs.declared.AsmError.TheVariants.{Bad, Memory}
 use Rattle.risc_asm.specs.declared.AsmFault.{AsmFault}
@@ -26,9 +25,6 @@ record Goes (front rest other left : List ℕ) : Type 0 where
   other_is : other ≡ front ++ more
   rest_is : rest ≡ more ++ left
 
-cons_first : (a b : ℕ) (x y : List ℕ) → a ∷ x ≡ b ∷ y → a ≡ b
-cons_first a b x y e = cc
-
 cons_rest : (a b : ℕ) (x y : List ℕ) → a ∷ x ≡ b ∷ y → x ≡ y
 cons_rest a b x y e = cc
 
@@ -41,7 +37,7 @@ two_fronts : (front rest other left : List ℕ) → front ++ rest ≡ other ++ l
 two_fronts [] rest other left e = inl (record { more = other; other_is = refl; rest_is = e })
 two_fronts (a ∷ front) rest [] left e = inr (record { more = a ∷ front; other_is = refl; rest_is = sym e })
 two_fronts (a ∷ front) rest (b ∷ other) left e =
-    let first = cons_first a b (front ++ rest) (other ++ left) e in
+    let first = first_is a b (front ++ rest) (other ++ left) e in
     elim (two_fronts front rest other left (cons_rest a b (front ++ rest) (other ++ left) e)) as
     (λ _. Goes (a ∷ front) rest (b ∷ other) left ⊎ Goes (b ∷ other) left (a ∷ front) rest) [
       | inl goes ↦ inl (goes_on a b front rest other left first goes)
@@ -195,12 +191,9 @@ line_ends : (front line : List ℕ) → IsLine line → are_lines (front ++ line
 line_ends front line is =
     ap (λ (list : List ℕ). are_lines (front ++ list)) is.is ∙ ap are_lines (sym (append_assoc front is.front (10 ∷ []))) ∙ newline_last (front ++ is.front)
 
-front_and_last : (program : RiscProgram) (fill : ℕ) → all_but_fill program ++ fill_line fill ≡ listing program fill
-front_and_last program fill = simp append_assoc
-
 listing_whole : (text : List ℕ) → IsListing text → are_lines text ≡ true
 listing_whole text is =
-    ap are_lines (sym (front_and_last is.0 is.1 ∙ is.2.1)) ∙ line_ends (all_but_fill is.0) (fill_line is.1) (fill_line-is is.1 is.2.0.fill_small)
+    ap are_lines (sym (trunk_and_last is.0 is.1 ∙ is.2.1)) ∙ line_ends (trunk is.0) (fill_line is.1) (fill_line-is is.1 is.2.0.fill_small)
 
 -- ---- two answers
 

@@ -1,16 +1,16 @@
 -- A text is kept as the words of its lines: what is read and told again stands for the same bytes.
-use Rattle.std.proofs.Common.{◌≡◌, ℕ, ◌+◌, ◌-◌, ◌*◌, ◌^◌, ◌<◌, ◌≤◌, true, List, [], ◌∷◌, ◌++◌, length, length-append, take, drop, Some, None, refl, sym, ap, subst, ◌∙◌, arith, append_assoc}
+use Rattle.std.proofs.Common.{◌≡◌, ℕ, ◌+◌, ◌-◌, ◌*◌, ◌^◌, ◌<◌, ◌≤◌, Bool, true, List, [], ◌∷◌, ◌++◌, length, length-append, take, drop, Some, None, refl, sym, ap, subst, ◌∙◌, arith, append_assoc}
 use Rattle.std.specs.Prelude.{◌==◌}
 use Rattle.std.specs.Cmp.Lexicographic.{pointwise}
 use Rattle.std.proofs.lemmas.List.{append-nil, length-take-le, take-append-drop}
 use Rattle.std.proofs.Math.Seq.{take-append_seam}
 use Rattle.std.specs.List.{flat_map}
-use Rattle.machine_model.specs.Paths.{RiscProgram}
-use Rattle.risc_listing.specs.Listings.{base_line, chunk_line, fill_line, listing, word_lines}
+use Rattle.machine_model.specs.Paths.{begins_at_base, RiscProgram, Span, all_words}
+use Rattle.risc_listing.specs.Listings.{base_line, chunk_line, fill_line, lines_by, listing, word_lines}
 use Rattle.risc_text.specs.declared.Line.{Line}
 use Rattle.risc_text.specs.declared.Line.TheVariants as lines
 use Rattle.risc_word.specs.Words.{encoded}
-use Rattle.risc_text.specs.Drafts.{Draft, taken}
+use Rattle.risc_text.specs.Drafts.{Draft, more_words, taken}
 use Rattle.risc_text.specs.Readers.{Read}
 use Rattle.risc_text.proofs.Spelling.{some_is}
 use Rattle.risc_asm.specs.Drafts.{carried}
@@ -106,10 +106,16 @@ stays base words new number front is grown ends =
 
 -- ---- lines add words
 
+grows_by : (spans : List Span) (words more : List ℕ) → IsGrown words (more_words spans words more)
+grows_by [] words more = (more, refl)
+grows_by (s ∷ rest) words more = ([], sym (append-nil words))
+
 grows : (d : Draft) (l : Line) → IsGrown d.words (taken d l).words
 grows d (lines.Base base) = ([], sym (append-nil d.words))
-grows d (lines.Instr instr) = (encoded instr, refl)
-grows d (lines.Word word) = (word ∷ [], refl)
+grows d (lines.Span at) = ([], sym (append-nil d.words))
+grows d (lines.Entry entry) = ([], sym (append-nil d.words))
+grows d (lines.Instr instr) = grows_by d.spans d.words (encoded instr)
+grows d (lines.Word word) = grows_by d.spans d.words (word ∷ [])
 grows d (lines.Chunk at len) = ([], sym (append-nil d.words))
 grows d (lines.Fill fill) = ([], sym (append-nil d.words))
 
@@ -165,19 +171,19 @@ moved first one two tail rest at two_is one_is rest_is =
 
 -- ---- the whole listing
 
-pub whole : (base number front fill : ℕ) (words tail : List ℕ) (program : RiscProgram) → IsSettled base words number front → program.base ≡ base → program.words ≡ words →
-    tail ≡ word_lines (program.base + 4 * number) 0 (drop number program.words) ++ (flat_map chunk_line program.grants ++ fill_line fill) →
+pub whole : (base number front fill : ℕ) (words tail : List ℕ) (program : RiscProgram) → IsSettled base words number front → program.base ≡ base → all_words program ≡ words → begins_at_base program ≡ true →
+    tail ≡ word_lines (program.base + 4 * number) 0 (drop number (all_words program)) ++ (flat_map chunk_line program.grants ++ fill_line fill) →
     listing program fill ≡ take front (told base words) ++ tail
-whole base number front fill words tail program is base_is words_is tail_is =
+whole base number front fill words tail program is base_is words_is by_base tail_is =
     let first = take front (told base words) in
     let last = flat_map chunk_line program.grants ++ fill_line fill in
     let left = word_lines (base + 4 * number) 0 (drop number words) in
     let split : told base words ≡ first ++ left =
     sym (told_all base words) ∙ sym (is.lines []) ∙ ap (λ (list : List ℕ). first ++ word_lines (base + 4 * number) 0 (drop number list)) (append-nil words)
     in
-    let same : told program.base program.words ≡ told base words = (λ i. told (base_is i) (words_is i)) in
+    let same : told program.base (all_words program) ≡ told base words = (λ i. told (base_is i) (words_is i)) in
     let end : tail ≡ left ++ last = tail_is ∙ (λ i. word_lines (base_is i + 4 * number) 0 (drop number (words_is i)) ++ last) in
-    sym (append_assoc (base_line program.base) (word_lines program.base 0 program.words) last)
+    ap (λ (by_base : Bool). lines_by by_base program ++ last) by_base
     ∙ ap (λ (list : List ℕ). list ++ last) (same ∙ split)
     ∙ append_assoc first left last
     ∙ ap (λ (list : List ℕ). first ++ list) (sym end)

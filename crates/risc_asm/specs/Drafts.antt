@@ -16,7 +16,8 @@ LineFits (Instr instr) = IsTrue (fits instr)
 LineFits _ = Unit {0}
 
 abbrev pub seen : Draft → text.Draft
-seen d = record { base = d.base; words = d.words.items; chunks = d.chunks.items; fill = d.fill }
+seen d =
+    record { base = d.base; words = d.words.items; spans = d.spans; entry = d.entry; chunks = d.chunks.items; fill = d.fill }
 
 -- a line, and an instruction, where its line ends after it
 abbrev pub to_end : Read Line → Read Line

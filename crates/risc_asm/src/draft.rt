@@ -1,7 +1,7 @@
 //! What the lines of a text tell together.
 
 ghost use Rattle.risc_asm.specs.Drafts.{IsReadUpTo, Leaves, LineFits, ReadsInstr, Takes, instr_to_end, seen, to_end};
-ghost use Rattle.risc_text.specs.Drafts.{blank, taken};
+ghost use Rattle.risc_text.specs.Drafts.{blank, longer, taken, with_words};
 ghost use Rattle.risc_text.specs.Readers.{Read, fields_of, line_at, named_line, word_field, words_line};
 ghost use Rattle.risc_word.specs.declared.Instr.{Instr};
 ghost use Rattle.risc_word.specs.Words.{fits};
@@ -13,6 +13,7 @@ use super::readers::{
     read_write_1_s_23, read_write_123, read_write_c,
 };
 use risc_text::{Line, Name};
+use risc_verify::Spans;
 use risc_word::{Instr, encode};
 use std::alloc::{AllocError, AllocFailed, Global};
 
@@ -20,10 +21,24 @@ use std::alloc::{AllocError, AllocFailed, Global};
 #[derive(Drop)]
 pub struct Draft {
     pub base: Option<u32>,
+    /// The words before all spans.
     pub words: Vec<u32>,
+    pub spans: Spans,
+    pub entry: Option<u32>,
     /// Addresses and lengths in bytes.
     pub chunks: Vec<(u32, u32)>,
     pub fill: Option<u8>,
+}
+
+// Appends words to the last span.
+fn push_all(spans: &mut Spans, words: &[u32]) -> Result<(), AllocError>
+    requires { 0 < length spans.old }
+    ensures { IfOk result (λ _. spans.new ≡ longer spans.old words.now) }
+{
+    for word in words {
+        spans.push(*word)?;
+    }
+    Ok(())
 }
 
 impl Draft {
@@ -33,9 +48,22 @@ impl Draft {
         Draft {
             base: None,
             words: Vec::new(alloc),
+            spans: Spans::new(alloc),
+            entry: None,
             chunks: Vec::new(alloc),
             fill: None,
         }
+    }
+
+    // Takes words.
+    #[inline(always)]
+    fn take_words(&mut self, words: &[u32]) -> Result<(), AllocError>
+        ensures { IfOk result (λ _. seen self.new ≡ with_words (seen self.old) words.now) }
+    {
+        if self.spans.len() == 0 {
+            return self.words.extend_from_slice(words);
+        }
+        push_all(&mut self.spans, words)
     }
 
     // Takes a line.
@@ -48,9 +76,11 @@ impl Draft {
             Line::Instr(instr) => {
                 let mut words = [0; 5];
                 let number = encode(instr, &mut words);
-                self.words.extend_from_slice(&words[..usize::from(number)])?;
+                self.take_words(&words[..usize::from(number)])?;
             }
-            Line::Word(word) => self.words.push(*word)?,
+            Line::Word(word) => self.take_words(&[*word])?,
+            Line::Span(at) => self.spans.begin(*at)?,
+            Line::Entry(entry) => self.entry = Some(*entry),
             Line::Chunk(at, len) => self.chunks.push((*at, *len))?,
             Line::Fill(fill) => self.fill = Some(*fill),
         }
@@ -75,7 +105,7 @@ impl Draft {
         };
         let mut words = [0; 5];
         let number = encode(&instr, &mut words);
-        self.words.extend_from_slice(&words[..usize::from(number)])?;
+        self.take_words(&words[..usize::from(number)])?;
         Ok(Some(rest))
     }
 
@@ -92,7 +122,7 @@ impl Draft {
         let Some(rest) = next_line(text) else {
             return Ok(None);
         };
-        self.words.push(word)?;
+        self.take_words(&[word])?;
         Ok(Some(rest))
     }
 

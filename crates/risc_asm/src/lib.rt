@@ -5,9 +5,11 @@ ghost use Rattle.risc_asm.specs.Answers.{Answers, OneAnswerFits};
 ghost use Rattle.risc_asm.specs.declared.AsmError.TheVariants.{Memory};
 ghost use Rattle.std.specs.Prelude.{◌≡◌};
 
+mod compare;
 mod draft;
 mod judge;
 mod lines;
+mod programs;
 mod readers;
 mod search;
 mod text;

@@ -1,16 +1,17 @@
 //! A text that is given piece by piece and then assembled.
 
-ghost use Rattle.machine_model.specs.Paths.{IsProgram};
+ghost use Rattle.machine_model.specs.Paths.{begins_at_base, IsProgram, all_words};
 ghost use Rattle.risc_asm.specs.Answers.{Answers, most_bytes};
 ghost use Rattle.risc_asm.specs.Texts.{Holds, IsGrown, TellsMore, front_of, kept, told};
 ghost use Rattle.risc_listing.specs.Listings.{chunk_line, fill_line, word_lines};
 ghost use Rattle.risc_text.specs.Assembly.{Assembles};
 ghost use Rattle.std.specs.List.{flat_map};
-ghost use Rattle.std.specs.Prelude.{[], ◌≡◌, ◌+◌, ◌*◌, ◌^◌, ◌≤◌, ◌<◌, ◌++◌, IfOk, IfSome, IsTrue, MatchResult, drop, length, take};
+ghost use Rattle.std.specs.Prelude.{[], ◌≡◌, ◌+◌, ◌*◌, ◌^◌, ◌≤◌, ◌<◌, ◌++◌, IfOk, IfSome, IsTrue, MatchResult, true, drop, length, take};
 
+use super::compare::after_words;
 use super::draft::{Draft, read_draft};
-use super::judge::{after_words, program_of};
 use super::lines::read_named_line;
+use super::programs::program_of;
 use super::{AsmError, MOST_BYTES, assemble};
 use capture_file::ProgramFile;
 use machine_model::MAX_WORDS;
@@ -265,11 +266,12 @@ fn is_end(
     from: usize,
     fill: u8,
 ) -> Result<bool, AllocError>
-    requires { from ≤ length program.now.words }
-    ensures end { IfOk result (λ yes. IsTrue yes → text.now ≡ word_lines (program.now.base + 4 * from) 0 (drop from program.now.words) ++ (flat_map chunk_line program.now.grants ++ fill_line fill)) }
+    requires within { from ≤ length (all_words program.now) }
+    requires one { begins_at_base program.now ≡ true }
+    ensures end { IfOk result (λ yes. IsTrue yes → text.now ≡ word_lines (program.now.base + 4 * from) 0 (drop from (all_words program.now)) ++ (flat_map chunk_line program.now.grants ++ fill_line fill)) }
     ensures made { IfOk result (λ yes. IsTrue yes → IsProgram program.now × (fill < 256)) }
 {
-    let Ok(rest) = after_words(text, program, from) else {
+    let Ok(rest) = after_words(text, program.base(), program.words(), from) else {
         return Ok(false);
     };
     let last = memory_lines(alloc, program.grants(), fill)?;

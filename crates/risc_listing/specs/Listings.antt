@@ -1,11 +1,11 @@
 -- The listing of a program.
-use Rattle.std.specs.Prelude.{ℕ, zero, suc, ◌+◌, ◌-◌, List, [], ◌∷◌, ◌++◌, codes, Option, Some, None, Ok, Err, if◌then◌else◌, ◌==◌}
+use Rattle.std.specs.Prelude.{ℕ, Bool, true, false, zero, suc, ◌+◌, ◌-◌, List, [], ◌∷◌, ◌++◌, codes, Option, Some, None, Ok, Err, if◌then◌else◌, ◌==◌}
 use Rattle.std.specs.List.{flat_map, starts_with}
 use Rattle.std.specs.Fmt.{decimal}
 use Rattle.risc_word.specs.declared.Instr.{Instr}
 use Rattle.risc_word.specs.Words.{Reading, encoded, instr_at}
 use Rattle.page_table.specs.Grants.{Chunk, is_page}
-use Rattle.machine_model.specs.Paths.{RiscProgram}
+use Rattle.machine_model.specs.Paths.{RiscProgram, Span, all_words, begins_at_base}
 use Rattle.risc_listing.specs.Lines.{hex, address_text, instr_line, line_end}
 
 -- the instruction that words begin with and its length, where they are exactly its one spelling
@@ -47,8 +47,24 @@ base_line base = codes "base " ++ (address_text base ++ line_end)
 abbrev pub fill_line : ℕ → List ℕ
 fill_line fill = codes "fill " ++ (hex 2 fill ++ line_end)
 
+abbrev pub span_line : ℕ → List ℕ
+span_line at = codes "span " ++ (address_text at ++ line_end)
+
+abbrev pub entry_line : ℕ → List ℕ
+entry_line entry = codes "entry " ++ (address_text entry ++ line_end)
+
+-- a span: its address, and the lines of its words, which are read by themselves
+abbrev pub span_lines : Span → List ℕ
+span_lines s = span_line s.at ++ word_lines s.at 0 s.words
+
+-- the words of a program, by their base or span by span
+abbrev pub lines_by : Bool → RiscProgram → List ℕ
+lines_by true program = base_line program.base ++ word_lines program.base 0 (all_words program)
+lines_by false program = flat_map span_lines program.spans ++ entry_line program.base
+
+abbrev pub all_word_lines : RiscProgram → List ℕ
+all_word_lines program = lines_by (begins_at_base program) program
+
 -- the listing of a program, whose memory is filled with a byte at first
 abbrev pub listing : RiscProgram → ℕ → List ℕ
-listing program fill =
-    base_line program.base ++ (word_lines program.base 0 program.words
-    ++ (flat_map chunk_line program.grants ++ fill_line fill))
+listing program fill = all_word_lines program ++ (flat_map chunk_line program.grants ++ fill_line fill)

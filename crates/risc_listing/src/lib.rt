@@ -3,10 +3,11 @@
 #![tactic(auto)]
 
 ghost use Rattle.arrayvec.specs.ArrayString.{array_string_len};
-ghost use Rattle.risc_listing.specs.Listings.{base_line, chunk_line, fill_line, line_of, listing, spelled, word_lines, words_of};
+ghost use Rattle.machine_model.specs.Paths.{end_of, span};
+ghost use Rattle.risc_listing.specs.Listings.{all_word_lines, base_line, chunk_line, entry_line, fill_line, line_of, listing, span_line, span_lines, spelled, word_lines, words_of};
 ghost use Rattle.risc_listing.specs.Unnamed.{TellsPlain};
 ghost use Rattle.std.specs.List.{flat_map};
-ghost use Rattle.std.specs.Prelude.{◌≡◌, ◌+◌, ◌*◌, ◌<◌, ◌^◌, ◌≤◌, ◌++◌, List, drop, length, slice_index, string_bytes, ℕ, IfOk, IfSome};
+ghost use Rattle.std.specs.Prelude.{All, ◌≡◌, ◌+◌, ◌*◌, ◌<◌, ◌^◌, ◌≤◌, ◌++◌, List, drop, length, slice_index, string_bytes, ℕ, IfOk, IfSome};
 
 mod digits;
 mod lines;
@@ -16,7 +17,7 @@ use arrayvec::ArrayString;
 pub use lines::InstrLine;
 use lines::{LONGEST_LINE, push_at, push_instr_line, push_word_line};
 use page_table::{PageSet, is_page};
-use risc_verify::Program;
+use risc_verify::{Program, Spans};
 use risc_word::{Instr, decode};
 use std::alloc::{AllocError, Global};
 use std::fmt::Write;
@@ -108,9 +109,10 @@ fn push_line<const CAP: usize>(text: &mut ArrayString<CAP>, at: u32, words: &[u3
     }
 }
 
-// Appends the lines of words from one on, counted from 0, as many as surely have room, and answers the number
-// of the first word that has no line yet.
-fn push_lines(text: &mut Lines, base: u32, words: &[u32], from: usize) -> usize
+/// Appends the lines of words that stand from `base` on, from the word numbered `from` on, counted from 0, as many
+/// as surely have room, and answers the number of the first word that has no line yet. Where another line has room
+/// and there is another word, it appends a line at least. It takes no memory.
+pub fn push_words(text: &mut Lines, base: u32, words: &[u32], from: usize) -> usize
     requires from { from ≤ length words.now }
     requires ends { base + 4 * length words.now ≤ 2 ^ 32 }
     ensures lines { text.new.bytes ++ word_lines (base + 4 * result) 0 (drop result words.now) ≡ text.old.bytes ++ word_lines (base + 4 * from) 0 (drop from words.now) }
@@ -122,18 +124,6 @@ fn push_lines(text: &mut Lines, base: u32, words: &[u32], from: usize) -> usize
         next += push_line(text, base + 4 * next as u32, &words[next..]);
     }
     next
-}
-
-/// Appends the lines of a program's words from one on, counted from 0, as many as surely have room, and
-/// answers the number of the first word that has no line yet. Where another line has room and there is
-/// another word, it appends a line at least. It takes no memory.
-pub fn push_words(text: &mut Lines, program: &Program, from: usize) -> usize
-    requires { from ≤ length program.now.words }
-    ensures lines { text.new.bytes ++ word_lines (program.now.base + 4 * result) 0 (drop result program.now.words) ≡ text.old.bytes ++ word_lines (program.now.base + 4 * from) 0 (drop from program.now.words) }
-    ensures within { (from ≤ result) × (result ≤ length program.now.words) }
-    ensures more { array_string_len text.old + 98 ≤ 65536 → from < length program.now.words → from < result }
-{
-    push_lines(text, program.base(), program.words(), from)
 }
 
 /// Appends the lines of words from one on, counted from 0, that stay what they are whatever words follow, as
@@ -151,13 +141,33 @@ pub fn push_settled(text: &mut Lines, base: u32, words: &[u32], from: usize) -> 
     told
 }
 
-/// Appends the first line of a listing, which tells the base.
+/// Appends the first line of a listing by the base.
 pub fn push_base(text: &mut Lines, base: u32)
     requires { array_string_len text.old + 98 ≤ 65536 }
     ensures { text.new.bytes ≡ text.old.bytes ++ base_line base }
 {
     text.push_str("base");
     push_at(text, base);
+    text.push_str("\n");
+}
+
+/// Appends the first line of a span, which tells its address.
+pub fn push_span(text: &mut Lines, at: u32)
+    requires { array_string_len text.old + 98 ≤ 65536 }
+    ensures { text.new.bytes ≡ text.old.bytes ++ span_line at }
+{
+    text.push_str("span");
+    push_at(text, at);
+    text.push_str("\n");
+}
+
+/// Appends the line behind the last span, which tells the entry.
+pub fn push_entry(text: &mut Lines, entry: u32)
+    requires { array_string_len text.old + 98 ≤ 65536 }
+    ensures { text.new.bytes ≡ text.old.bytes ++ entry_line entry }
+{
+    text.push_str("entry");
+    push_at(text, entry);
     text.push_str("\n");
 }
 
@@ -200,23 +210,59 @@ pub fn put_words(text: &mut Vec<u8>, base: u32, words: &[u32]) -> Result<(), All
     let mut next = 0;
     while next < words.len() {
         lines.clear();
-        next = push_lines(&mut lines, base, words, next);
+        next = push_words(&mut lines, base, words, next);
         text.extend_from_slice(lines.as_str().as_bytes())?;
     }
     Ok(())
 }
 
+// Appends the lines of a span.
+fn put_span(text: &mut Vec<u8>, at: u32, words: &[u32]) -> Result<(), AllocError>
+    requires { at + 4 * length words.now ≤ 2 ^ 32 }
+    ensures { IfOk result (λ _. text.new.items ≡ text.old.items ++ span_lines (span at words.now)) }
+{
+    let mut line = Lines::new();
+    push_span(&mut line, at);
+    text.extend_from_slice(line.as_str().as_bytes())?;
+    put_words(text, at, words)
+}
+
+// Appends the lines of spans.
+fn put_spans(text: &mut Vec<u8>, spans: &Spans) -> Result<(), AllocError>
+    requires { All (λ s. end_of s ≤ 2 ^ 32) spans.now }
+    ensures { IfOk result (λ _. text.new.items ≡ text.old.items ++ flat_map span_lines spans.now) }
+{
+    for number in 0..spans.len() {
+        put_span(text, spans.at(number), spans.words_of(number))?;
+    }
+    Ok(())
+}
+
+// Appends the lines of all words, by the base or span by span.
+fn put_all_words(text: &mut Vec<u8>, program: &Program) -> Result<(), AllocError>
+    ensures { IfOk result (λ _. text.new.items ≡ text.old.items ++ all_word_lines program.now) }
+{
+    let mut line = Lines::new();
+    if program.begins_at_base() {
+        push_base(&mut line, program.base());
+        text.extend_from_slice(line.as_str().as_bytes())?;
+        return put_words(text, program.base(), program.words());
+    }
+    put_spans(text, program.spans())?;
+    push_entry(&mut line, program.base());
+    text.extend_from_slice(line.as_str().as_bytes())
+}
+
 /// The listing of a program whose memory is filled with `fill` at first, as the bytes of its lines: the
-/// base, the instructions, the granted chunks in rising order, the fill. A word with a bit that no field
-/// of its instruction names has a line `word`, and so has a word where no instruction stands. The error
-/// is want of memory. It is for callers of the library: the program says a listing piece by piece.
+/// instructions behind the base, or span by span with the entry behind them; the granted chunks in rising order; the
+/// fill. A word with a bit that no field of its instruction names has a line `word`, and so has a word where no
+/// instruction stands. The error is want of memory. It is for callers of the library: the program says a listing
+/// piece by piece.
 pub fn list(alloc: Global, program: &Program, fill: u8) -> Result<Vec<u8>, AllocError>
     ensures { IfOk result (λ text. text.items ≡ listing program.now fill) }
 {
-    let mut lines = Lines::new();
-    push_base(&mut lines, program.base());
-    let mut text = Vec::from_slice(alloc, lines.as_str().as_bytes())?;
-    put_words(&mut text, program.base(), program.words())?;
+    let mut text = Vec::new(alloc);
+    put_all_words(&mut text, program)?;
     text.extend_from_slice(&memory_lines(alloc, program.grants(), fill)?)?;
     Ok(text)
 }

@@ -2,6 +2,9 @@ pub mod Digits
 pub mod Fields
 pub mod Lines
 pub mod Spelling
+pub mod OneSpan
 pub mod Gathering
 pub mod Plain
+pub mod TwoWords
+pub mod Completed
 pub mod Cutting

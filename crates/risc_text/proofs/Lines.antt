@@ -18,7 +18,7 @@ use Rattle.risc_text.specs.declared.Line.{Line}
 use Rattle.risc_text.specs.declared.Line.TheVariants as lines
 use Rattle.risc_text.specs.declared.Name.{Name}
 use Rattle.risc_text.specs.declared.Name.TheVariants as names
-use Rattle.risc_text.specs.Readers.{Read, after, address, any_line, named_line, base_line, chunk_line, fill_line, decimal_digits, page_line, code, control, count, data_fields, fields_of, flag}
+use Rattle.risc_text.specs.Readers.{Read, after, address, any_line, named_line, base_line, span_line, entry_line, chunk_line, fill_line, decimal_digits, page_line, code, control, count, data_fields, fields_of, flag}
 use Rattle.risc_text.specs.Readers.{as_line, jump_fields, line_at, name_at, skip_name, write_name, skip_123_fields, skip_fields, sync_fields, three_addresses, three_counts, word_field, words_line}
 use Rattle.risc_text.specs.Readers.{write_123_fields, write_1_s_23_fields, write_c_fields, write_fields, ◌>>=◌}
 use Rattle.page_table.specs.Grants.{Chunk, is_page}
@@ -355,6 +355,20 @@ base_line_back base rest small =
     ap line_at (ap (λ (text : List ℕ). codes "base " ++ text) (append_assoc (address_text base) line_end rest))
     ∙ ending (codes "base" ++ (at_text base ++ 10 ∷ rest)) (lines.Base base) rest (named _ (fourth_is_no_space 98 97 115 101 32 base (10 ∷ rest) small)
     ∙ ap (λ found. found >>= (λ (at : ℕ × List ℕ). Some (lines.Base at.0, at.1))) (at_back base (10 ∷ rest) small))
+
+pub span_line_back : (at : ℕ) (rest : List ℕ) → at < 2 ^ 32 → line_at (listings.span_line at ++ rest) ≡ Some (lines.Span at, rest)
+unfolding named_line span_line
+span_line_back at rest small =
+    ap line_at (ap (λ (text : List ℕ). codes "span " ++ text) (append_assoc (address_text at) line_end rest))
+    ∙ ending (codes "span" ++ (at_text at ++ 10 ∷ rest)) (lines.Span at) rest (named _ (fourth_is_no_space 115 112 97 110 32 at (10 ∷ rest) small)
+    ∙ ap (λ found. found >>= (λ (at : ℕ × List ℕ). Some (lines.Span at.0, at.1))) (at_back at (10 ∷ rest) small))
+
+pub entry_line_back : (entry : ℕ) (rest : List ℕ) → entry < 2 ^ 32 → line_at (listings.entry_line entry ++ rest) ≡ Some (lines.Entry entry, rest)
+unfolding named_line entry_line
+entry_line_back entry rest small =
+    ap line_at (ap (λ (text : List ℕ). codes "entry " ++ text) (append_assoc (address_text entry) line_end rest))
+    ∙ ending (codes "entry" ++ (at_text entry ++ 10 ∷ rest)) (lines.Entry entry) rest (named _ (third_is_no_space 101 110 116 114 121 32 entry (10 ∷ rest) small)
+    ∙ ap (λ found. found >>= (λ (at : ℕ × List ℕ). Some (lines.Entry at.0, at.1))) (at_back entry (10 ∷ rest) small))
 
 page_line_back : (at : ℕ) (rest : List ℕ) → at < 2 ^ 32 → line_at (codes "page" ++ (at_text at ++ 10 ∷ rest)) ≡ Some (lines.Chunk at 4096, rest)
 unfolding named_line page_line

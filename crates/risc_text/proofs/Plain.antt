@@ -15,7 +15,7 @@ use Rattle.risc_word.proofs.FirstWord.{control_parts}
 use Rattle.risc_word.proofs.ReadBack.{counts_parts, line_parts, three_of}
 use Rattle.page_table.specs.Grants.{Chunk, is_page}
 use Rattle.risc_listing.specs.Lines.{address_text, addresses_text, at_text, code_name, control_text, count_text, counts_text, data_text, flag_text, hex, instr_line, instr_text, line_end, nibble_text, word_line}
-use Rattle.risc_listing.specs.Listings.{base_line, chunk_line, fill_line}
+use Rattle.risc_listing.specs.Listings.{base_line, chunk_line, entry_line, fill_line, span_line}
 use Rattle.risc_listing.proofs.Hexadecimal.{address_digits}
 use Rattle.risc_text.specs.Assembly.{has_no_newline}
 use Rattle.risc_text.proofs.Digits.{glyph-large}
@@ -161,6 +161,12 @@ word_line-is at word at_small small = record {
   is = sym (append_assoc (address_text at) (codes " word " ++ address_text word) (10 ∷ []));
   plain = both (address_text at) (codes " word " ++ address_text word) (address_plain at at_small) (address_plain word small);
 }
+
+pub span_line-is : (at : ℕ) → at < 2 ^ 32 → IsLine (span_line at)
+span_line-is at small = record { front = codes "span " ++ address_text at; is = refl; plain = address_plain at small }
+
+pub entry_line-is : (entry : ℕ) → entry < 2 ^ 32 → IsLine (entry_line entry)
+entry_line-is entry small = record { front = codes "entry " ++ address_text entry; is = refl; plain = address_plain entry small }
 
 pub base_line-is : (base : ℕ) → base < 2 ^ 32 → IsLine (base_line base)
 base_line-is base small = record { front = codes "base " ++ address_text base; is = refl; plain = address_plain base small }

@@ -1,13 +1,12 @@
 -- Which text is a listing, which lines begin one, and which line of a text is at fault.
-use Rattle.std.specs.Prelude.{◌≡◌, ℕ, ◌+◌, ◌^◌, ◌<◌, ◌≤◌, ◌⊎◌, Bool, true, not, List, [], ◌∷◌, ◌++◌, length, ◌==◌}
-use Rattle.std.specs.List.{list_all, count_by}
-use Rattle.machine_model.specs.Paths.{RiscProgram, IsProgram}
-use Rattle.risc_listing.specs.Listings.{fill_line, listing}
+use Rattle.std.specs.Prelude.{◌≡◌, ℕ, ◌+◌, ◌^◌, ◌<◌, ◌≤◌, ◌⊎◌, Bool, true, false, not, List, [], ◌∷◌, ◌++◌, length, ◌==◌, nat_lt, nat_le}
+use Rattle.std.specs.List.{list_all, count_by, flat_map}
+use Rattle.machine_model.specs.Paths.{RiscProgram, Span, AreApart, IsProgram, span}
+use Rattle.risc_listing.specs.Listings.{fill_line, listing, span_lines}
 
--- a program that a file can hold, and a byte
+-- a program and a byte
 pub record IsListed (program : RiscProgram) (fill : ℕ) : Type 0 where
   pub made : IsProgram program
-  pub base_small : program.base < 2 ^ 32
   pub fill_small : fill < 256
 
 -- the text is the listing of the program and its fill
@@ -21,9 +20,54 @@ IsListing text = (program : RiscProgram) × (fill : ℕ) × Assembles text progr
 abbrev pub BeginsListing : List ℕ → Type 0
 BeginsListing lines = (rest : List ℕ) × IsListing (lines ++ rest)
 
--- nothing, or a listing, or all of one but its last line
-abbrev pub OneLineMissing : List ℕ → Type 0
-OneLineMissing lines = (lines ≡ []) ⊎ (IsListing lines ⊎ IsListing (lines ++ fill_line 0))
+-- A word that is no instruction. No instruction that has it as its second word has bits for it there but as an address.
+abbrev pub other_word : ℕ
+other_word = 4096
+
+-- the last span has a word at least
+abbrev pub some_words : List ℕ → List ℕ
+some_words [] = other_word ∷ []
+some_words (word ∷ words) = word ∷ words
+
+abbrev pub filled : List Span → List Span
+filled [] = []
+filled (s ∷ []) = span s.at (some_words s.words) ∷ []
+filled (s ∷ other ∷ rest) = s ∷ filled (other ∷ rest)
+
+-- the program of spans from an entry on
+abbrev pub of_spans : ℕ → List Span → RiscProgram
+of_spans entry spans = record { base = entry; spans = spans; grants = [] }
+
+-- The program of one span whose entry isn't its first word: it has another word, or has room for a span or a word behind it.
+abbrev pub of_one_by : Bool → Bool → Span → RiscProgram
+of_one_by true room s = of_spans (s.at + 4) (s ∷ [])
+of_one_by false true s = of_spans s.at (s ∷ span (s.at + 8) (other_word ∷ []) ∷ [])
+of_one_by false false s = of_spans (s.at + 4) (span s.at (s.words ++ other_word ∷ []) ∷ [])
+
+abbrev pub of_one : Span → RiscProgram
+of_one s = of_one_by (nat_lt 1 (length s.words)) (nat_le (s.at + 12) (2 ^ 32)) s
+
+-- the program that goes on from spans with as few words and spans as can be
+abbrev pub with_entry : List Span → RiscProgram
+with_entry [] = of_spans 0 []
+with_entry (s ∷ []) = of_one s
+with_entry (s ∷ other ∷ rest) = of_spans s.at (s ∷ other ∷ rest)
+
+abbrev pub completed : List Span → RiscProgram
+completed spans = with_entry (filled spans)
+
+-- the lines of spans, of which the last may have no word yet, with which a program can go on
+pub record AreOfSpans (lines : List ℕ) : Type 0 where
+  pub spans : List Span
+  pub is : lines ≡ flat_map span_lines spans
+  pub apart : AreApart 0 (filled spans)
+  pub made : IsProgram (completed spans)
+  pub rest : List ℕ
+  pub goes_on : listing (completed spans) 0 ≡ lines ++ rest
+
+-- nothing, or a listing, or all of one but its last line, or the lines of spans
+abbrev pub FewLinesMissing : List ℕ → Type 0
+FewLinesMissing lines = (lines ≡ []) ⊎ (IsListing lines ⊎ (IsListing (lines ++ fill_line 0) ⊎ AreOfSpans lines))
 
 -- whole lines: the last byte, if there is one, is a newline
 abbrev pub are_lines : List ℕ → Bool

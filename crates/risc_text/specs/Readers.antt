@@ -11,7 +11,7 @@ use Rattle.risc_word.specs.declared.Instr.TheVariants as instr
 use Rattle.risc_text.specs.declared.Name.{Name}
 use Rattle.risc_text.specs.declared.Name.TheVariants as names
 use Rattle.risc_text.specs.declared.Line.{Line}
-use Rattle.risc_text.specs.declared.Line.TheVariants.{Base, Word, Chunk, Fill}
+use Rattle.risc_text.specs.declared.Line.TheVariants.{Base, Span, Entry, Word, Chunk, Fill}
 use Rattle.risc_text.specs.declared.Line.TheVariants as lines
 
 -- what was read, and the text after it
@@ -231,6 +231,16 @@ base_line text = do
   at ← address text
   Some (Base at.0, at.1)
 
+unfoldable pub span_line : List ℕ → Read Line
+span_line text = do
+  at ← address text
+  Some (Span at.0, at.1)
+
+unfoldable pub entry_line : List ℕ → Read Line
+entry_line text = do
+  at ← address text
+  Some (Entry at.0, at.1)
+
 unfoldable pub page_line : List ℕ → Read Line
 page_line text = do
   at ← address text
@@ -255,7 +265,9 @@ named_line text =
     else (if begins (codes "page") text then page_line (drop 4 text)
     else (if begins (codes "chunk") text then chunk_line (drop 5 text)
     else (if begins (codes "fill") text then fill_line (drop 4 text)
-    else None)))
+    else (if begins (codes "span") text then span_line (drop 4 text)
+    else (if begins (codes "entry") text then entry_line (drop 5 text)
+    else None)))))
 
 -- a line without its end. A space after eight bytes tells an address, which is passed over
 unfoldable pub any_line : List ℕ → Read Line

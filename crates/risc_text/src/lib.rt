@@ -3,7 +3,7 @@
 
 ghost use Rattle.machine_model.specs.Paths.{RiscProgram};
 ghost use Rattle.risc_listing.specs.Listings.{listing};
-ghost use Rattle.risc_text.specs.Assembly.{BeginsListing, IsListed, OneLineMissing, are_lines};
+ghost use Rattle.risc_text.specs.Assembly.{BeginsListing, FewLinesMissing, IsListed, are_lines};
 ghost use Rattle.risc_text.specs.Drafts.{draft_of, drafted};
 ghost use Rattle.std.specs.Prelude.{◌≡◌, ◌↔◌, IsTrue, List, Some, ℕ};
 
@@ -29,6 +29,10 @@ pub enum Name {
 pub enum Line {
     /// The address of the first word.
     Base(u32),
+    /// The address of a span, whose words follow.
+    Span(u32),
+    /// The address at which the path begins, where there are spans.
+    Entry(u32),
     /// An instruction. Its address is that of the next word.
     Instr(Instr),
     /// A word that begins no instruction.
@@ -52,8 +56,9 @@ pub fn listings_are_read_back()
         → drafted (listing program fill) ≡ Some (draft_of program (Some fill)) }
 {}
 
-/// Whole lines begin some listing exactly where there are none, or they are a listing, or they become one
-/// with a last line `fill 00`. The function does nothing; its contract is the law.
-pub fn one_line_is_missing()
-    ensures { (lines : List ℕ) → IsTrue (are_lines lines) → BeginsListing lines ↔ OneLineMissing lines }
+/// Whole lines begin some listing exactly where there are none, or they are a listing, or become one with a last
+/// line `fill 00`, or are the lines of spans with which a program can go on. The function does nothing; its contract
+/// is the law.
+pub fn few_lines_are_missing()
+    ensures { (lines : List ℕ) → IsTrue (are_lines lines) → BeginsListing lines ↔ FewLinesMissing lines }
 {}

@@ -1,16 +1,17 @@
 -- The path of a program comes to a place again.
-use Rattle.std.proofs.Common.{◌≡◌, ℕ, zero, suc, ◌+◌, ◌-◌, ◌*◌, ◌/◌, ◌%◌, ◌^◌, ◌<◌, ◌≤◌, ◌⊎◌, inl, inr, Bool, true, false, ◌==◌, List, [], ◌∷◌, drop, length, if◌then◌else◌, nat_lt, Option, Some, None}
-use Rattle.std.proofs.Common.{Ok, Err, refl, ap, sym, subst, ◌∙◌, arith, add-zero, add-suc, eqb-true, ltb-true, ltb-false, leb-true}
-use Rattle.std.proofs.lemmas.Bool.{cases_Bool, and_parts}
+use Rattle.std.proofs.Common.{◌≡◌, ℕ, zero, suc, ◌+◌, ◌-◌, ◌*◌, ◌/◌, ◌%◌, ◌^◌, ◌<◌, ◌≤◌, ◌⊎◌, inl, inr, Bool, true, false, ◌==◌, List, [], ◌∷◌, length, if◌then◌else◌, nat_lt, Option, Some, None, unwrap_or}
+use Rattle.std.proofs.Common.{Ok, Err, refl, ap, sym, subst, ◌∙◌, arith, add-zero, add-suc, ltb-true, ltb-false}
+use Rattle.std.proofs.lemmas.Bool.{cases_Bool}
 use Rattle.risc_word.specs.declared.Instr.{Instr}
 use Rattle.risc_word.specs.declared.Instr.TheVariants.{Write, Skip, WriteC, Jump, Sync, Write123, Skip123, Write1S23}
 use Rattle.risc_word.specs.Words.{Reading, write_at, jump_at, sync_for, sync_at, write_123_at, skip_123_at, write_1_s_23_at, by_opcode, first_instr}
 use Rattle.risc_word.specs.declared.Code.{Code}
-use Rattle.risc_word.specs.declared.WordFault.{WordFault}
-use Rattle.risc_word.specs.declared.WordFault.TheVariants.{Cut}
 use Rattle.machine_model.specs.declared.Cause.{Cause}
-use Rattle.machine_model.specs.Paths.{RiscProgram, Place, word_number, is_word, fetch, cause_at, reading_cause, place_after, place_read, next_by, next_place, path, IsSound}
+use Rattle.machine_model.specs.Paths.{RiscProgram, Place, all_words, words_from, fetch, cause_at, reading_cause, place_after, place_read, next_by, next_place, path, IsSound}
+use Rattle.risc_verify.specs.Programs.{word_of}
 use Rattle.risc_verify.specs.Rounds.{AreFine, PathsComeRound}
+use Rattle.risc_verify.proofs.Near.{none-fetched}
+use Rattle.risc_verify.proofs.Numbers.{word_of-below, word_of-same}
 use Rattle.risc_verify.proofs.Pigeonhole.{values-repeat}
 
 -- An instruction has at least one word.
@@ -71,8 +72,7 @@ first-takes [] = tt
 first-takes (w ∷ rest) = opcode-takes (w / 2 ^ 28 % 2 ^ 4) w rest
 
 fetch-takes : (program : RiscProgram) (pc : ℕ) → TakesWords (fetch program pc)
-fetch-takes program pc =
-    either (is_word program pc) _ _ (first-takes (drop (word_number program pc) program.words)) tt
+fetch-takes program pc = first-takes (words_from 5 program pc)
 
 -- A fine place: an instruction stands there.
 
@@ -208,45 +208,37 @@ jumps_or_grows program first (suc count) fine =
           ]
     ]
 
--- The words of a program have as many addresses as there are words.
+-- The words of a program have as many numbers as there are words.
 
-word-there : (test : Bool) (r s : Reading) (x : Instr) (count : ℕ) → (fault : WordFault) → s ≡ Err fault → (if test then r else s) ≡ Ok (x, count) → test ≡ true
-word-there true r s x count fault wrong is = refl
-word-there false r s x count fault wrong is = absurd (cc)
+record Counted (program : RiscProgram) (address : ℕ) : Type 0 where
+  number : ℕ
+  is : word_of program address ≡ Some number
 
-record Word (program : RiscProgram) (address : ℕ) : Type 0 where
-  from : program.base ≤ address
-  whole : (address - program.base) % 4 ≡ 0
-  inside : word_number program address < length program.words
+counted : (program : RiscProgram) (address : ℕ) → Reads program address → (word : Option ℕ) → word_of program address ≡ word → Counted program address
+counted program address r None is = let none = none-fetched program address is in let read = r.is in absurd (cc)
+counted program address r (Some word) is = record { number = word; is = is }
 
-word-from_fine : (program : RiscProgram) (place : Place) → cause_at program place ≡ None → Word program place.pc
-word-from_fine program place fine =
-    let r = reads program place fine in
-    let there : is_word program place.pc ≡ true =
-    word-there (is_word program place.pc) _ _ r.instr r.count Cut refl r.is in
-    let outer = and_parts _ _ there in
-    let inner = and_parts _ _ outer.0 in
-    record {
-      from = leb-true program.base place.pc inner.0;
-      whole = eqb-true ((place.pc - program.base) % 4) 0 inner.1;
-      inside = ltb-true (word_number program place.pc) (length program.words) outer.1;
-    }
+word-from_fine : (program : RiscProgram) (place : Place) → cause_at program place ≡ None → Counted program place.pc
+word-from_fine program place fine = counted program place.pc (reads program place fine) (word_of program place.pc) refl
 
-same_address : (program : RiscProgram) (a b : ℕ) → Word program a → Word program b → word_number program a ≡ word_number program b → a ≡ b
-same_address program a b in_a in_b same = omega arith
+-- two addresses whose words have one number are the same
+same-word : (program : RiscProgram) (a b : ℕ) (at_a : Counted program a) (at_b : Counted program b) → unwrap_or (word_of program a) 0 ≡ unwrap_or (word_of program b) 0 → a ≡ b
+same-word program a b at_a at_b same =
+    let number : at_a.number ≡ at_b.number = sym (ap (λ word. unwrap_or word 0) at_a.is) ∙ same ∙ ap (λ word. unwrap_or word 0) at_b.is in
+    word_of-same program a b at_b.number (at_a.is ∙ ap Some number) at_b.is
 
 -- so many fine places are enough
 pub sound-from_places : PathsComeRound
 sound-from_places program fine =
-    let n = length program.words in
-    let number : ℕ → ℕ = λ k. word_number program (path program k).pc in
+    let n = length (all_words program) in
+    let number : ℕ → ℕ = λ k. unwrap_or (word_of program (path program k).pc) 0 in
     let word = λ (k : ℕ) (below : k < n + 1). word-from_fine program (path program k) (fine k (omega arith)) in
-    let r = values-repeat number (n + 1) n (λ k below. (word k below).inside) (omega arith) in
+    let is = λ (k : ℕ) (below : k < n + 1). ap (λ word. unwrap_or word 0) (word k below).is in
+    let r = values-repeat number (n + 1) n (λ k below. subst (λ m. m < n) (sym (is k below)) (word_of-below program (path program k).pc (word k below).number (word k below).is)) (omega arith) in
     let more = r.second - r.first in
     let second_is : r.first + more ≡ r.second = omega arith in
     let same_pc : (path program r.first).pc ≡ (path program r.second).pc =
-    same_address program (path program r.first).pc (path program r.second).pc (word r.first (omega arith))
-    (word r.second r.within) r.same in
+    same-word program (path program r.first).pc (path program r.second).pc (word r.first (omega arith)) (word r.second r.within) r.same in
     elim (jumps_or_grows program r.first more (λ k below. fine k (omega arith))) [
       | inl j ↦
           sound-from_repeat program (suc (r.first + j.after)) (suc (r.second + j.after)) (omega arith)

@@ -1,14 +1,16 @@
 //! Places of a path: why one isn't fine, and the one after it.
 
-ghost use Rattle.machine_model.specs.Paths.{cause_at, fault_cause, first_cause, instr_cause, next_place, place_after, target_after, target_before, written_cause};
+ghost use Rattle.machine_model.specs.Paths.{cause_at, fault_cause, first_cause, instr_cause, is_word, next_place, place_after, written_cause};
+ghost use Rattle.machine_model.specs.declared.Cause.TheVariants.{JumpOut};
+ghost use Rattle.risc_verify.specs.Places.{IsNear, number_in};
 ghost use Rattle.risc_verify.specs.Programs.{first_place, word_of};
-ghost use Rattle.std.specs.Prelude.{◌≡◌, ◌+◌, ◌*◌, ◌^◌, ◌<◌, ◌≤◌, MatchResult, None, Some, slice_index, unwrap_or, if◌then◌else◌};
+ghost use Rattle.std.specs.Prelude.{◌≡◌, ◌+◌, ◌*◌, ◌^◌, ◌<◌, ◌≤◌, IfSome, MatchResult, None, Some, false, slice_index, true, unwrap_or, if◌then◌else◌};
 
-use super::Program;
 use super::memo::ChunkMemo;
+use super::{Program, SpanPlace};
 use machine_model::Cause;
 use page_table::{ADDRESSES, PageSet};
-use risc_word::{Instr, WordFault};
+use risc_word::{Instr, WordFault, decode};
 use std::marker::Model;
 
 /// A place of a path: where the next instruction stands, and where a WRITEC would go on.
@@ -104,32 +106,56 @@ fn three_cause(
     written_cause(grants, memo, u64::from(addrs[2]), counts[2])
 }
 
-// A target, unless there is a cause.
+// A place, unless there is a cause.
 #[inline]
-fn unless_cause(cause: Option<Cause>, target: Option<u64>) -> Result<Option<u64>, Cause>
-    ensures { MatchResult result (λ after. (cause ≡ None) × (target ≡ after)) (λ first. cause ≡ Some first) }
+fn unless_cause(cause: Option<Cause>, pc: u64, target: Option<u64>) -> Result<PathPlace, Cause>
+    requires { (pc < 2 ^ 33) × (cause ≡ None → unwrap_or target 0 ≤ 2 ^ 32) }
+    ensures { MatchResult result (λ place. (cause ≡ None) × (record { pc = pc; target = target } ≡ place)) (λ first. cause ≡ Some first) }
 {
     match cause {
         Some(cause) => Err(cause),
-        None => Ok(target),
+        None => Ok(PathPlace { pc, target }),
     }
 }
 
-// The target after an instruction, or why it isn't fine.
+// The place after a JUMP, or why it isn't fine.
 #[inline]
-fn target_after(
+fn jump(program: &Program, near: &mut SpanPlace, target: u32) -> Result<PathPlace, Cause>
+    requires near { IsNear program.now near.old }
+    ensures near { IsNear program.now near.new }
+    ensures answer { MatchResult result
+        (λ after. (is_word program.now target ≡ true) × (record { pc = target; target = None } ≡ after))
+        (λ cause. (is_word program.now target ≡ false) × (cause ≡ JumpOut target)) }
+{
+    match program.word_near(near, u64::from(target)) {
+        Some(_) => Ok(PathPlace {
+            pc: u64::from(target),
+            target: None,
+        }),
+        None => Err(Cause::JumpOut(target)),
+    }
+}
+
+// The place after an instruction of so many words, or why it isn't fine.
+#[inline]
+fn place_after(
     program: &Program,
+    near: &mut SpanPlace,
     memo: &mut ChunkMemo,
     instr: &Instr,
-    target: Option<u64>,
-) -> Result<Option<u64>, Cause>
-    requires { unwrap_or target 0 ≤ 2 ^ 32 }
-    ensures { MatchResult result
-        (λ after. (instr_cause program.now instr.now target ≡ None) × (target_after instr.now (target_before instr.now target) ≡ after))
-        (λ cause. instr_cause program.now instr.now target ≡ Some cause) }
+    words: u8,
+    place: &PathPlace,
+) -> Result<PathPlace, Cause>
+    requires near { IsNear program.now near.old }
+    requires low { place.now.pc < 2 ^ 32 }
+    ensures near { IsNear program.now near.new }
+    ensures answer { MatchResult result
+        (λ after. (instr_cause program.now instr.now place.now.target ≡ None) × (place_after instr.now words place.now ≡ after))
+        (λ cause. instr_cause program.now instr.now place.now.target ≡ Some cause) }
 {
     let grants = program.grants();
-    match instr {
+    let pc = place.pc + 4 * u64::from(words);
+    let (cause, target) = match instr {
         Instr::Write {
             ends,
             count,
@@ -138,41 +164,25 @@ fn target_after(
         } => {
             let end = u64::from(*addr) + u64::from(*count);
             let cause = written_cause(grants, memo, u64::from(*addr), *count);
-            unless_cause(cause, unless(ends.eol, Some(end)))
+            (cause, unless(ends.eol, Some(end)))
         }
-        Instr::Skip { ends, .. } => Ok(unless(ends.eol, unless(ends.sol, target))),
+        Instr::Skip { ends, .. } => (None, unless(ends.eol, unless(ends.sol, place.target))),
         Instr::WriteC { ends, count, .. } => {
-            let Some(at) = unless(ends.sol, target) else {
+            let Some(at) = unless(ends.sol, place.target) else {
                 return Err(Cause::NoTarget);
             };
             let cause = written_cause(grants, memo, at, *count);
-            unless_cause(cause, unless(ends.eol, Some(at + u64::from(*count))))
+            (cause, unless(ends.eol, Some(at + u64::from(*count))))
         }
-        Instr::Jump { target: to, .. } => match program.word_at(u64::from(*to)) {
-            Some(_) => Ok(None),
-            None => Err(Cause::JumpOut(*to)),
-        },
-        Instr::Write123 { counts, addrs, .. } => {
-            unless_cause(three_cause(grants, memo, addrs, counts), None)
-        }
+        Instr::Jump { target, .. } => return jump(program, near, *target),
+        Instr::Write123 { counts, addrs, .. } => (three_cause(grants, memo, addrs, counts), None),
         Instr::Write1S23 { counts, addr, .. } => {
             let cause = written_cause(grants, memo, u64::from(*addr), counts[0]);
-            unless_cause(cause, None)
+            (cause, None)
         }
-        Instr::Sync { .. } | Instr::Skip123 { .. } => Ok(None),
-    }
-}
-
-// Where the next instruction stands after one of so many words.
-#[inline]
-fn pc_after(instr: &Instr, count: u8, pc: u64) -> u64
-    requires { pc < 2 ^ 32 }
-    ensures { result ≡ (place_after instr.now count (record { pc = pc; target = None })).pc }
-{
-    match instr {
-        Instr::Jump { target, .. } => u64::from(*target),
-        _ => pc + 4 * u64::from(count),
-    }
+        Instr::Sync { .. } | Instr::Skip123 { .. } => (None, None),
+    };
+    unless_cause(cause, pc, target)
 }
 
 fn fault_cause(fault: WordFault) -> Cause
@@ -185,26 +195,27 @@ fn fault_cause(fault: WordFault) -> Cause
     }
 }
 
-// The place after this one, whose word is known, or why this one isn't fine.
+// The place after this one, whose word is known and stands in the span at the place `near`, or why this one isn't fine.
 #[inline]
 pub(crate) fn step(
     program: &Program,
+    near: &mut SpanPlace,
     memo: &mut ChunkMemo,
     place: &PathPlace,
     word: Option<usize>,
 ) -> Result<PathPlace, Cause>
-    requires { word ≡ word_of program.now place.now.pc }
-    ensures { MatchResult result (λ next. (cause_at program.now place.now ≡ None) × (next_place program.now place.now ≡ next)) (λ cause. cause_at program.now place.now ≡ Some cause) }
+    requires word { word ≡ word_of program.now place.now.pc }
+    requires near { IsNear program.now near.old }
+    requires there { IfSome word (λ number. number_in near.old place.now.pc ≡ Some number) }
+    ensures near { IsNear program.now near.new }
+    ensures answer { MatchResult result (λ next. (cause_at program.now place.now ≡ None) × (next_place program.now place.now ≡ next)) (λ cause. cause_at program.now place.now ≡ Some cause) }
 {
-    let (instr, count) = match program.instr_of(place.pc, word) {
+    let Some(number) = word else {
+        return Err(Cause::Cut);
+    };
+    let (instr, count) = match decode(program.words_near(*near, place.pc, number), number) {
         Ok(read) => read,
         Err(fault) => return Err(fault_cause(fault)),
     };
-    match target_after(program, memo, &instr, place.target) {
-        Err(cause) => Err(cause),
-        Ok(target) => Ok(PathPlace {
-            pc: pc_after(&instr, count, place.pc),
-            target,
-        }),
-    }
+    place_after(program, near, memo, &instr, count, place)
 }

@@ -5,6 +5,7 @@
 mod judge;
 mod memo;
 mod program;
+mod spans;
 mod steps;
 mod walk;
 
@@ -12,6 +13,7 @@ ghost use Rattle.risc_verify.specs.Rounds.{PathsComeRound};
 
 pub use machine_model::Cause;
 pub use program::{Accepted, Program};
+pub use spans::{SpanPlace, Spans};
 pub use steps::Steps;
 pub use walk::{Rejected, Why, verify};
 

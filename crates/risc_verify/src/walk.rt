@@ -2,7 +2,7 @@
 
 ghost use Rattle.machine_model.specs.Paths.{IsSound, RiscProgram};
 ghost use Rattle.risc_verify.specs.Programs.{word_of};
-ghost use Rattle.risc_verify.specs.Marks.{IsKnown, is_marked, plain_place};
+ghost use Rattle.risc_verify.specs.Marks.{IsKnown, IsPlain, is_marked};
 ghost use Rattle.risc_verify.specs.Rounds.{enough_places};
 ghost use Rattle.risc_verify.specs.Verdicts.{HasCounted, Refuses};
 ghost use Rattle.risc_verify.specs.declared.walk.Why.TheVariants.{Memory};
@@ -10,7 +10,7 @@ ghost use Rattle.std.specs.Prelude.{◌≡◌, ℕ, ◌+◌, ◌<◌, ◌≤◌,
 
 use super::judge::{PathPlace, step};
 use super::memo::ChunkMemo;
-use super::{Accepted, Program, Steps};
+use super::{Accepted, Program, SpanPlace, Steps};
 use machine_model::Cause;
 use std::alloc::{AllocError, Global};
 use std::marker::Model;
@@ -72,7 +72,7 @@ impl Marks {
         requires { IfSome word (λ number. number < length self.old) }
         ensures known { (program : RiscProgram) → word ≡ word_of program place.now.pc → IsTrue result → IsKnown program self.old place.now }
         ensures marked { (program : RiscProgram) → word ≡ word_of program place.now.pc → (number : ℕ) → IsTrue (is_marked self.new number)
-            → IsTrue (is_marked self.old number) ⊎ (place.now ≡ plain_place program number) }
+            → IsTrue (is_marked self.old number) ⊎ IsPlain program number place.now }
         ensures len { length self.new ≡ length self.old }
     {
         if place.target().is_some() {
@@ -99,14 +99,15 @@ fn walk<L: Ledger>(alloc: Global, program: &Program, steps: &mut Steps<L>) -> Re
     let words = program.words().len();
     let mut marks = Marks::new(alloc, words)?;
     let mut memo = ChunkMemo::new(alloc)?;
+    let mut near = SpanPlace::none();
     let mut place = PathPlace::first(program);
     for nth in 0..2 * words as u64 + 1 {
-        let word = program.word_at(place.pc());
+        let word = program.word_near(&mut near, place.pc());
         if marks.meet(&place, word) {
             return Ok(());
         }
         steps.tick();
-        match step(program, &mut memo, &place, word) {
+        match step(program, &mut near, &mut memo, &place, word) {
             Ok(next) => place = next,
             Err(cause) => {
                 return Err(Why::Bad {

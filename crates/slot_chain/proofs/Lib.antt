@@ -7,3 +7,4 @@ pub mod Loops
 pub mod Placing
 pub mod Parts
 pub mod MadeChain
+pub mod Stepping

@@ -10,7 +10,7 @@ use Rattle.chain_model.proofs.Live.{IsPatching-unpatched}
 use Rattle.slot_chain.specs.Making.{AreAlone, place_fault}
 use Rattle.slot_chain.specs.States.{chain_of}
 use Rattle.slot_chain.specs.Wheels.{IsWheel}
-use Rattle.slot_chain.proofs.Placing.{placed}
+use Rattle.slot_chain.proofs.Placing.{met_chain, placed}
 
 module _ (chain : Chain) (slots : (1 ≤ chain.slots) × (chain.slots ≤ max_slots)) (parts : length chain.parts ≤ max_parts) (belong : All (λ part. part.slot < chain.slots) chain.parts)
     (none : place_fault chain ≡ None) where
@@ -24,7 +24,7 @@ module _ (chain : Chain) (slots : (1 ≤ chain.slots) × (chain.slots ≤ max_sl
         aligned = place.aligned;
         few = place.few;
         ends = place.ends;
-        apart = none_passes (shares_byte (alone chain None)) chain.grants place.apart;
+        apart = none_passes (shares_byte (alone chain None)) chain.grants (met_chain chain ∙ place.apart);
       }
 
   pub first_wheel : (running : RiscProgram) (programs : List RiscProgram) → AreAlone chain programs → running ≡ alone chain None → IsWheel chain running programs None

@@ -5,9 +5,9 @@ use Rattle.std.specs.List.{All}
 use Rattle.std.proofs.Math.Nat.{mul-le-mul_right}
 use Rattle.std.proofs.lemmas.Bool.{cases_eq, cases_lt}
 use Rattle.std.proofs.lemmas.List.{get_or_append_left, get_or_default, get_or_push}
-use Rattle.machine_model.specs.Paths.{IsFirstBad, IsSound, RiscProgram}
+use Rattle.machine_model.specs.Paths.{IsFirstBad, IsSound, RiscProgram, one_span}
 use Rattle.chain_model.specs.declared.PartWords.{PartWords}
-use Rattle.chain_model.specs.Chains.{Chain, Patching, alone, chain_limit, head, loop_words, part_of, target, unpatched, words_of_parts}
+use Rattle.chain_model.specs.Chains.{Chain, Patching, alone, chain_limit, head, loop_words, part_of, patched_words, target, unpatched, words_of_parts}
 use Rattle.chain_model.proofs.Slots.{length-alone}
 use Rattle.risc_verify.specs.Verdicts.{Refuses}
 use Rattle.risc_verify.specs.declared.walk.Why.{Why}
@@ -30,10 +30,10 @@ retarget_from chain first (p ∷ rest) others (suc slot) n number part lt e at =
     ∙ ap (λ (k : ℕ). slice_set (loop_words chain first (p ∷ rest) ++ others) k (head chain part)) (sym two)
 
 pub retarget : (chain : Chain) (part : ℕ) → (part_of chain part).slot < chain.slots →
-    alone chain (Some part) ≡ record { base = chain.base; words = slice_set (alone chain None).words (2 * (part_of chain part).slot + 1) (head chain part); grants = chain.grants }
+    alone chain (Some part) ≡ one_span chain.base (slice_set (patched_words chain (unpatched chain)) (2 * (part_of chain part).slot + 1) (head chain part)) chain.grants
 retarget chain part below =
     let long = length-alone chain None in
-    ap (λ (words : List ℕ). record { base = chain.base; words = words; grants = chain.grants })
+    ap (λ (words : List ℕ). one_span chain.base words chain.grants)
     (retarget_from chain 0 (unpatched chain) (words_of_parts chain.parts) (part_of chain part).slot (2 * (part_of chain part).slot + 1) (part_of chain part).slot part (omega arith) refl (omega arith))
 
 -- ---- part by part
@@ -78,18 +78,18 @@ part_is chain index part lt is = get_or_default chain.parts index (record { slot
 
 module _ (chain : Chain) (count index : ℕ) (programs : List RiscProgram) (at before after : ℕ) (first : AreFirst chain count index programs at before after) (part : PartWords)
     (lt : index < length chain.parts) (is : slice_index_or chain.parts index part ≡ part) (below : part.slot < chain.slots) (words : List ℕ)
-    (words_are : words ≡ (alone chain None).words) where
+    (words_are : words ≡ patched_words chain (unpatched chain)) where
   -- its program is that of the words with its slot led to it
-  pub its_program : (record { base = chain.base; words = slice_set words (2 * part.slot + 1) at; grants = chain.grants }) ≡ alone chain (Some index)
+  pub its_program : (one_span chain.base (slice_set words (2 * part.slot + 1) at) chain.grants) ≡ alone chain (Some index)
   its_program =
       let mine = part_is chain index part lt is in
-      ap (λ (ws : List ℕ). record { base = chain.base; words = slice_set ws (2 * part.slot + 1) at; grants = chain.grants }) words_are
-      ∙ ap (λ (h : ℕ). record { base = chain.base; words = slice_set (alone chain None).words (2 * part.slot + 1) h; grants = chain.grants }) first.here
-      ∙ ap (λ (p : PartWords). record { base = chain.base; words = slice_set (alone chain None).words (2 * p.slot + 1) (head chain index); grants = chain.grants }) (sym mine)
+      ap (λ (ws : List ℕ). one_span chain.base (slice_set ws (2 * part.slot + 1) at) chain.grants) words_are
+      ∙ ap (λ (h : ℕ). one_span chain.base (slice_set (patched_words chain (unpatched chain)) (2 * part.slot + 1) h) chain.grants) first.here
+      ∙ ap (λ (p : PartWords). one_span chain.base (slice_set (patched_words chain (unpatched chain)) (2 * p.slot + 1) (head chain index)) chain.grants) (sym mine)
       ∙ sym (retarget chain index (subst (λ (p : PartWords). p.slot < chain.slots) (sym mine) below))
 
   pub one_more : (found : RiscProgram) (kept : List RiscProgram) (later now : ℕ) →
-      found ≡ record { base = chain.base; words = slice_set words (2 * part.slot + 1) at; grants = chain.grants } → IsSound found → kept ≡ programs ++ found ∷ [] →
+      found ≡ one_span chain.base (slice_set words (2 * part.slot + 1) at) chain.grants → IsSound found → kept ≡ programs ++ found ∷ [] →
       later ≡ at + 4 * length part.words → (after ≤ now) × (now ≤ after + (2 * count + 1)) → AreFirst chain count (index + 1) kept later before now
   one_more found kept later now made sound put on cost =
       let mine = made ∙ its_program in
@@ -122,13 +122,13 @@ pub slot_below : (chain : Chain) (index : ℕ) (part : PartWords) → All (λ p.
 slot_below chain index part belong lt is = subst (λ (p : PartWords). p.slot < chain.slots) is (belong index part lt)
 
 -- a slot has its word
-pub slot_within : (chain : Chain) (words : List ℕ) (slot : ℕ) → words ≡ (alone chain None).words → slot < chain.slots → 2 * slot + 1 < length words
+pub slot_within : (chain : Chain) (words : List ℕ) (slot : ℕ) → words ≡ patched_words chain (unpatched chain) → slot < chain.slots → 2 * slot + 1 < length words
 slot_within chain words slot are lt =
     let size = ap length are in
     let count = word_count_is chain in omega arith
 
 -- the address after a part is below the limit
-pub head_room : (chain : Chain) (words : List ℕ) (index : ℕ) (part : PartWords) → words ≡ (alone chain None).words → chain.base + 4 * length words ≤ chain_limit →
+pub head_room : (chain : Chain) (words : List ℕ) (index : ℕ) (part : PartWords) → words ≡ patched_words chain (unpatched chain) → chain.base + 4 * length words ≤ chain_limit →
     index < length chain.parts → slice_index_or chain.parts index part ≡ part → head chain index + 4 * length part.words ≤ chain_limit
 head_room chain words index part are low lt is =
     let size = ap length are in

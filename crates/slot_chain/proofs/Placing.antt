@@ -1,5 +1,5 @@
 -- The place of a chain, judged.
-use Rattle.std.proofs.Common.{◌≡◌, ℕ, ◌+◌, ◌*◌, ◌%◌, ◌<◌, ◌≤◌, Bool, true, false, List, length, Option, Some, None, Ok, Err, refl, sym, ap, ◌∙◌, subst, arith, if◌then◌else◌, ◌==◌, nat_lt, nat_le}
+use Rattle.std.proofs.Common.{◌≡◌, ◌||◌, [], ◌∷◌, ℕ, ◌+◌, ◌*◌, ◌%◌, ◌<◌, ◌≤◌, Bool, true, false, List, length, Option, Some, None, Ok, Err, refl, sym, ap, ◌∙◌, subst, arith, if◌then◌else◌, ◌==◌, nat_lt, nat_le}
 use Rattle.std.specs.List.{list_any}
 use Rattle.std.proofs.lemmas.Bool.{eq-eqb, eqb-true, leb-false, leb-true, le-ltb, lt-ltb, ltb-false, or_from, or_parts, or_right, or_left}
 use Rattle.page_table.specs.Grants.{AreGrants, Chunk, is_met}
@@ -7,8 +7,9 @@ use Rattle.page_table.specs.Taken.{Answers, listed, taken_chunks}
 use Rattle.page_table.specs.declared.PageFault.{PageFault}
 use Rattle.page_table.specs.declared.PageFault.TheVariants.{Memory}
 use Rattle.capture_file.proofs.Chunks.{listed_length, not_taken, taken_is}
-use Rattle.machine_model.specs.Paths.{max_words}
-use Rattle.chain_model.specs.Chains.{Chain, chain_limit, unpatched, words_of_parts}
+use Rattle.machine_model.specs.Paths.{max_words, one_span, shares_byte}
+use Rattle.machine_model.proofs.OneSpan.{shares_byte-one_span}
+use Rattle.chain_model.specs.Chains.{Chain, chain_limit, patched_words, unpatched, words_of_parts}
 use Rattle.chain_model.proofs.Slots.{length-alone}
 use Rattle.chain_model.proofs.Words.{length-patched}
 use Rattle.slot_chain.specs.declared.making.ChainError.{ChainError}
@@ -17,6 +18,18 @@ use Rattle.slot_chain.specs.Making.{IsPlaced, is_on_page, is_too_long, place_fau
 
 pub word_count_is : (chain : Chain) → word_count chain ≡ 2 * chain.slots + 2 + length (words_of_parts chain.parts)
 word_count_is chain = length-patched chain (unpatched chain) (length-alone chain None)
+
+any_same : (p q : Chunk → Bool) (cs : List Chunk) → ((c : Chunk) → p c ≡ q c) → list_any p cs ≡ list_any q cs
+any_same p q [] same = refl
+any_same p q (c ∷ cs) same = ap (λ (b : Bool). b || list_any p cs) (same c) ∙ ap (λ (b : Bool). q c || b) (any_same p q cs same)
+
+-- a program of one span shares a byte with a chunk where its bytes do
+pub met_words : (base : ℕ) (words : List ℕ) (grants : List Chunk) → list_any (shares_byte (one_span base words grants)) grants ≡ list_any (is_met base (base + 4 * length words)) grants
+met_words base words grants =
+    any_same (shares_byte (one_span base words grants)) (is_met base (base + 4 * length words)) grants (shares_byte-one_span base words grants)
+
+pub met_chain : (chain : Chain) → is_on_page chain ≡ list_any (is_met chain.base (chain.base + 4 * word_count chain)) chain.grants
+met_chain chain = met_words chain.base (patched_words chain (unpatched chain)) chain.grants
 
 abbrev fault_by : Bool → Bool → Bool → Option ChainError
 fault_by aligned long page = if aligned then (if long then Some TooLong else (if page then Some OnPage else None)) else Some Base
@@ -78,7 +91,7 @@ module _ (chain : Chain) (aligned : chain.base % 4 ≡ 0) where
         (le-ltb chain_limit (chain.base + 4 * word_count chain) (omega arith))
 
     on_page_is : is_on_page chain ≡ list_any (is_met chain.base (chain.base + 4 * count)) chain.grants
-    on_page_is = ap (λ (n : ℕ). list_any (is_met chain.base (chain.base + 4 * n)) chain.grants) (sym count_is)
+    on_page_is = met_chain chain ∙ ap (λ (n : ℕ). list_any (is_met chain.base (chain.base + 4 * n)) chain.grants) (sym count_is)
 
     pub on_page : chain.base + 4 * count ≤ chain_limit → list_any (is_met chain.base (chain.base + 4 * count)) chain.grants ≡ true → Some OnPage ≡ place_fault chain
     on_page low met = sym (fault_is chain true false true no_rest (not_long low) (on_page_is ∙ met))
@@ -103,7 +116,7 @@ module _ (chain : Chain) (none : place_fault chain ≡ None) where
         aligned = eqb-true (chain.base % 4) 0 parts.0;
         few = ltb-false max_words (word_count chain) both.0;
         ends = ltb-false chain_limit (chain.base + 4 * word_count chain) both.1;
-        apart = parts.2;
+        apart = sym (met_chain chain) ∙ parts.2;
       }
 
 -- ---- a copy of grants

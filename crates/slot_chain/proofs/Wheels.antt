@@ -1,14 +1,15 @@
 -- The programs of a chain when two of them are exchanged.
-use Rattle.std.proofs.Common.{◌≡◌, ℕ, ◌<◌, ◌⊎◌, inl, inr, Bool, true, false, List, length, Option, Some, None, refl, sym, ap, subst, ◌∙◌, arith, if◌then◌else◌, ◌==◌}
+use Rattle.std.proofs.Common.{◌≡◌, ℕ, ◌-◌, ◌/◌, ◌%◌, ◌&&◌, nat_le, nat_lt, ◌<◌, ◌⊎◌, inl, inr, Bool, true, false, List, length, Option, Some, None, refl, sym, ap, subst, ◌∙◌, arith, if◌then◌else◌, ◌==◌}
 use Rattle.std.specs.Prelude.{slice_index_or, slice_set}
 use Rattle.std.proofs.lemmas.Bool.{cases_eq, cond-true, eq-eqb, eqb-true}
 use Rattle.std.proofs.lemmas.List.{get_or_default, get_or-set_same, get_or-set_other, length-set}
-use Rattle.machine_model.specs.Paths.{RiscProgram}
+use Rattle.machine_model.specs.Paths.{RiscProgram, is_word}
+use Rattle.machine_model.proofs.OneSpan.{is_word-one_span}
 use Rattle.machine_model.specs.Safety.{IsSafe}
 use Rattle.machine_model.specs.States.{State}
 use Rattle.machine_model.specs.Steps.{with_program}
 use Rattle.dma_machine.specs.Looks.{CanGoOn}
-use Rattle.chain_model.specs.Chains.{Chain, IsPart, alone, alone_in}
+use Rattle.chain_model.specs.Chains.{Chain, IsPart, alone, alone_in, patched_words}
 use Rattle.chain_model.proofs.Slots.{length-alone}
 use Rattle.chain_model.proofs.Words.{length-patched}
 use Rattle.slot_chain.specs.Wheels.{CanEnter, Entered, IsWheel, kept_part}
@@ -23,17 +24,21 @@ kept_by false current part e ne = refl
 kept_other : (current part : ℕ) → (part ≡ current → ⊥) → kept_part (Some current) part ≡ Some part
 kept_other current part ne = kept_by (current == part) current part refl ne
 
--- two programs of the family have one base, as many words and the same grants
-same_long : (chain : Chain) (one other : Option ℕ) → length (alone chain one).words ≡ length (alone chain other).words
-same_long chain one other =
-    length-patched chain (alone_in chain one) (length-alone chain one) ∙ sym (length-patched chain (alone_in chain other) (length-alone chain other))
+-- two programs of the family have words at the same addresses
+same_there : (chain : Chain) (one other : Option ℕ) (address : ℕ) → is_word (alone chain one) address ≡ is_word (alone chain other) address
+same_there chain one other address =
+    let long =
+    length-patched chain (alone_in chain one) (length-alone chain one) ∙ sym (length-patched chain (alone_in chain other) (length-alone chain other)) in
+    is_word-one_span chain.base (patched_words chain (alone_in chain one)) chain.grants address
+    ∙ ap (λ n. nat_le chain.base address && (address - chain.base) % 4 == 0 && nat_lt ((address - chain.base) / 4) n) long
+    ∙ sym (is_word-one_span chain.base (patched_words chain (alone_in chain other)) chain.grants address)
 
 can_go_on : (chain : Chain) (from to : Option ℕ) (m : State) (program : RiscProgram) → m.program ≡ alone chain from → program ≡ alone chain to →
     IsSafe (with_program (alone chain to) m) → CanGoOn program m
 can_go_on chain from to m program runs is safe =
     record {
       base = ap (λ (p : RiscProgram). p.base) is ∙ ap (λ (p : RiscProgram). p.base) (sym runs);
-      words = ap (λ (p : RiscProgram). length p.words) is ∙ same_long chain to from ∙ ap (λ (p : RiscProgram). length p.words) (sym runs);
+      there = λ address. ap (λ (p : RiscProgram). is_word p address) is ∙ same_there chain to from address ∙ ap (λ (p : RiscProgram). is_word p address) (sym runs);
       grants = ap (λ (p : RiscProgram). p.grants) is ∙ ap (λ (p : RiscProgram). p.grants) (sym runs);
       safe = subst (λ (p : RiscProgram). IsSafe (with_program p m)) (sym is) safe;
     }

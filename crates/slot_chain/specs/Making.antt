@@ -4,7 +4,7 @@ use Rattle.std.specs.List.{list_any}
 use Rattle.machine_model.specs.Paths.{IsFirstBad, IsSound, RiscProgram, max_words, shares_byte}
 use Rattle.page_table.specs.Grants.{Chunk, is_met}
 use Rattle.machine_model.specs.declared.Cause.{Cause}
-use Rattle.chain_model.specs.Chains.{Chain, alone, chain_limit}
+use Rattle.chain_model.specs.Chains.{Chain, alone, chain_limit, patched_words, unpatched}
 use Rattle.risc_verify.specs.declared.walk.Why.{Why}
 use Rattle.risc_verify.specs.declared.walk.Why.TheVariants as why
 use Rattle.slot_chain.specs.declared.making.ChainError.{ChainError}
@@ -12,7 +12,7 @@ use Rattle.slot_chain.specs.declared.making.ChainError.TheVariants.{Base, TooLon
 
 -- how many words a chain has; all its programs have as many
 abbrev pub word_count : Chain → ℕ
-word_count chain = length (alone chain None).words
+word_count chain = length (patched_words chain (unpatched chain))
 
 abbrev pub is_too_long : Chain → Bool
 is_too_long chain =

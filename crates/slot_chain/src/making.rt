@@ -4,8 +4,8 @@ ghost use Rattle.std.specs.Prelude.{◌≡◌, ◌+◌, ◌*◌, ◌<◌, ◌≤
 ghost use Rattle.std.specs.List.{All, list_any};
 ghost use Rattle.std.specs.Result.{result_err};
 ghost use Rattle.page_table.specs.Grants.{Chunk, is_met};
-ghost use Rattle.machine_model.specs.Paths.{IsSound, max_words};
-ghost use Rattle.chain_model.specs.Chains.{Chain as ChainOf, alone, loop_words, max_parts, max_slots, unpatched, words_of_parts};
+ghost use Rattle.machine_model.specs.Paths.{IsSound, max_words, one_span};
+ghost use Rattle.chain_model.specs.Chains.{Chain as ChainOf, alone, loop_words, max_parts, max_slots, patched_words, unpatched, words_of_parts};
 ghost use Rattle.risc_verify.specs.Verdicts.{Refuses as RefusesProgram};
 ghost use Rattle.slot_chain.specs.Making.{AreAlone, IsPlaced, Refuses, RefusesPart, place_fault, refusal, word_count};
 ghost use Rattle.slot_chain.specs.States.{chain_of};
@@ -142,7 +142,7 @@ fn empty_words(
     parts: &[PartWords],
 ) -> Result<Vec<u32>, AllocError>
     requires { base + 8 * (slots + 1) < 2 ^ 32 }
-    ensures { IfOk result (λ words. (grants : List Chunk) → words.items ≡ (alone (chain_of base slots parts.now grants) None).words) }
+    ensures { IfOk result (λ words. (grants : List Chunk) → let chain = chain_of base slots parts.now grants in words.items ≡ patched_words chain (unpatched chain)) }
 {
     let mut words = Vec::new(alloc);
     push_loop(base, slots, &mut words)?;
@@ -172,9 +172,9 @@ fn accept<L: Ledger>(
     steps: &mut Steps<L>,
 ) -> Result<Accepted, Why>
     requires { IsPlaced base (length words.items) grants.now }
-    ensures accepted { IfOk result (λ accepted. accepted ≡ record { base = base; words = words.items; grants = grants.now }) }
+    ensures accepted { IfOk result (λ accepted. accepted ≡ one_span base words.items grants.now) }
     ensures sound { IfOk result IsSound }
-    ensures refused { IfErr result (λ why. RefusesProgram (record { base = base; words = words.items; grants = grants.now }) why) }
+    ensures refused { IfErr result (λ why. RefusesProgram (one_span base words.items grants.now) why) }
     ensures cost { (steps.old ≤ steps.new) × (steps.new ≤ steps.old + (2 * length words.items + 1)) }
 {
     let copy = copy_of(alloc, grants)?;
@@ -198,9 +198,9 @@ fn accept_part<L: Ledger>(
     requires within { 2 * slot + 1 < length words.now }
     requires small { slot ≤ max_slots }
     requires placed { IsPlaced base (length words.now) grants.now }
-    ensures accepted { IfOk result (λ accepted. accepted ≡ record { base = base; words = slice_set words.now (2 * slot + 1) target; grants = grants.now }) }
+    ensures accepted { IfOk result (λ accepted. accepted ≡ one_span base (slice_set words.now (2 * slot + 1) target) grants.now) }
     ensures sound { IfOk result IsSound }
-    ensures refused { IfErr result (λ why. RefusesProgram (record { base = base; words = slice_set words.now (2 * slot + 1) target; grants = grants.now }) why) }
+    ensures refused { IfErr result (λ why. RefusesProgram (one_span base (slice_set words.now (2 * slot + 1) target) grants.now) why) }
     ensures cost { (steps.old ≤ steps.new) × (steps.new ≤ steps.old + (2 * length words.now + 1)) }
 {
     let own = retargeted(alloc, words, slot, target)?;
@@ -235,7 +235,7 @@ fn accept_parts<L: Ledger>(
     requires slots { slots ≤ max_slots }
     requires parts { length parts.now ≤ max_parts }
     requires belong { All (λ part. part.slot < slots) parts.now }
-    requires words { words.now ≡ (alone (chain_of base slots parts.now grants.now) None).words }
+    requires words { let chain = chain_of base slots parts.now grants.now in words.now ≡ patched_words chain (unpatched chain) }
     requires placed { IsPlaced base (length words.now) grants.now }
     ensures programs { IfOk result (λ programs. AreAlone (chain_of base slots parts.now grants.now) programs.items) }
     ensures refused { IfErr result (RefusesPart (chain_of base slots parts.now grants.now)) }

@@ -6,4 +6,4 @@ pub mod Fitting
 pub mod FewTurns
 pub mod Rings
 pub mod Chains
-pub mod Maps
+pub mod Watches

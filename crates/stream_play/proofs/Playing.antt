@@ -14,7 +14,7 @@ use Rattle.machine_model.specs.Steps.{run}
 use Rattle.machine_model.proofs.Runs.{run-append}
 use Rattle.capture_file.specs.declared.Step.{Step}
 use Rattle.capture_file.specs.Readers.{Reader, fresh, resumed, closed_by}
-use Rattle.stream_play.specs.Plays.{GoesOn, Handed, HandedAll, HandedFront, HandedPart, HasPlayed, IsAtFault, PlaysAll, acted, longest_stream, machine_act}
+use Rattle.stream_play.specs.Plays.{GoesOn, Handed, HandedAll, HandedFront, HandedPart, IsAtFault, PlaysAll, acted, longest_stream}
 
 module _ {S : Type 0} (act : Step → S → S) where
   pub GoesOn-itself : (p : S) (whole : Reading) → GoesOn act p whole p whole
@@ -245,11 +245,3 @@ module _ {S : Type 0} (act : Step → S → S) (chained : Bool) (o : Option (Lis
           let whole = stream_of longest_stream chained bytes in
           wrong_file after.place (length bytes) whole.steps whole.ending fault (enough chained after.place bytes h.all).sure
           (ap (closed_by after.place) (sym on.ending) ∙ sym is)
-
--- a machine that took all steps one after the other ran over them
-acted_run : (steps : List Step) (m : State) → acted machine_act steps m ≡ run m (steps_run steps)
-acted_run [] m = refl
-acted_run (step ∷ steps) m = acted_run steps (run m (atomic step)) ∙ sym (run-append m (atomic step) (steps_run steps))
-
-pub machine_played : (bytes : List ℕ) (m now : State) → PlaysAll machine_act false bytes m now → HasPlayed bytes m now
-machine_played bytes m now (steps, reads, is) = (steps, reads, is ∙ acted_run steps m)

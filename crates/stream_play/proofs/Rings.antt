@@ -1,20 +1,24 @@
 -- The blocks that are counted while a stream is played are all its block ends.
-use Rattle.std.proofs.Common.{◌≡◌, ℕ, zero, suc, ◌-◌, ◌^◌, ◌≤◌, false, List, [], ◌∷◌, replicate, Option, Some, None, sym, ap, ◌∙◌, arith}
-use Rattle.fifo_model.specs.Queues.{more}
-use Rattle.machine_model.specs.States.{State}
+use Rattle.std.proofs.Common.{◌≡◌, ℕ, zero, suc, ◌+◌, ◌-◌, ◌^◌, ◌≤◌, false, All, List, [], ◌∷◌, replicate, Option, Some, None, refl, ap, ◌∙◌, arith}
+use Rattle.machine_model.specs.Safety.{IsStep}
+use Rattle.machine_model.specs.States.{State, first_state}
 use Rattle.machine_model.specs.Steps as machine
 use Rattle.machine_model.specs.Steps.{run, step}
-use Rattle.ring_model.specs.Rings.{Ring, ends}
-use Rattle.ring_model.specs.Runs.{BlockAt, block_end, block_ends, one_if}
+use Rattle.machine_model.proofs.Safe.{IsSafe-first_state}
+use Rattle.ring_model.specs.Rings.{IsRing, Ring, ends, ring_program}
+use Rattle.ring_model.specs.Runs.{BlockAt, block_end, block_ends, block_ends_seen, one_if}
 use Rattle.ring_model.proofs.Counting.{block_ends-append}
-use Rattle.ring_machine.specs.States.{RingState, ran}
-use Rattle.ring_machine.proofs.Counting.{ran-append, ran-none}
+use Rattle.ring_law.proofs.Seeing.{blocks_seen_are_ended}
+use Rattle.machine_watch.specs.Watches.{kept_after, watching}
+use Rattle.ring_machine.specs.States.{Counted, RingState, block_notes}
+use Rattle.ring_machine.proofs.Counting.{blocks_counted}
 use Rattle.capture_file.specs.declared.Step.{Step}
 use Rattle.capture_file.specs.declared.Step.TheVariants.{Push, Control, Turns, Host, Patch}
 use Rattle.capture_file.specs.Streams.{atomic, steps_run, turns_of}
-use Rattle.stream_play.specs.Plays.{PlaysAll, acted, longest_stream, ring_act}
+use Rattle.stream_play.specs.Plays.{HasPlayedWatched, longest_stream}
 use Rattle.stream_play.specs.Runs.{HasPlayedRing, turns_in}
 use Rattle.stream_play.proofs.FewTurns.{turns_few}
+use Rattle.stream_play.proofs.Fitting.{steps_fit}
 
 -- no more blocks are ended than there are turns
 one_at_most : (block : Option ℕ) → one_if block ≤ 1
@@ -43,22 +47,19 @@ ends_few at (one ∷ steps) m =
     let later = ends_few at steps (run m (atomic one)) in
     omega (arith, both, here, later)
 
--- steps that are played one after the other are played all together
-acted_ran : (steps : List Step) (s : RingState) → s.blocks ≤ 2 ^ 64 - 1 → acted ring_act steps s ≡ ran (steps_run steps) s
-acted_ran [] s few =
-    sym (ran-none s few)
-acted_ran (one ∷ steps) s few =
-    let below : more s.blocks (block_ends (ends s.ring) s.machine (atomic one)) ≤ 2 ^ 64 - 1 = omega arith in
-    acted_ran steps (ran (atomic one) s) below ∙ ran-append (atomic one) (steps_run steps) s
-
-pub ring_played : (bytes : List ℕ) (ring : Ring) (m : State) (now : RingState) → PlaysAll ring_act false bytes (record { ring = ring; machine = m; blocks = 0 }) now →
-    HasPlayedRing bytes ring m now
-ring_played bytes ring m now (steps, reads, is) =
-    let first : RingState = record { ring = ring; machine = m; blocks = 0 } in
+pub ring_played : (bytes : List ℕ) (ring : Ring) (now : RingState) → IsRing ring →
+    HasPlayedWatched block_notes bytes (watching (first_state (ring_program ring) ring.fill) (record { ring = ring; blocks = 0 })) now →
+    HasPlayedRing bytes ring (first_state (ring_program ring) ring.fill) now
+ring_played bytes ring now is (steps, reads, ran) =
+    let m : State = first_state (ring_program ring) ring.fill in
     let few = turns_few longest_stream false bytes steps reads in
     let fewer = ends_few (ends ring) steps m in
-    let exact : more 0 (block_ends (ends ring) m (steps_run steps)) ≡ block_ends (ends ring) m (steps_run steps) = omega (arith, few, fewer) in (
+    let seen : block_ends_seen (ends ring) m (steps_run steps) ≡ block_ends (ends ring) m (steps_run steps) =
+    blocks_seen_are_ended ring m (steps_run steps) is refl (IsSafe-first_state (ring_program ring) ring.fill) (steps_fit bytes steps reads) in
+    let all : 0 + block_ends_seen (ends ring) m (steps_run steps) ≡ block_ends (ends ring) m (steps_run steps) = omega (arith, seen) in (
       steps,
       reads,
-      is ∙ acted_ran steps first (omega arith) ∙ ap (λ (n : ℕ). record { ring = ring; machine = run m (steps_run steps); blocks = n }) exact,
+      ran
+          ∙ ap (watching (run m (steps_run steps)))
+          (blocks_counted (steps_run steps) m (record { ring = ring; blocks = 0 }) (omega (arith, few, fewer, seen)) ∙ ap (λ (n : ℕ). record { ring = ring; blocks = n }) all),
     )

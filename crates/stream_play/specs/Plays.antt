@@ -19,8 +19,7 @@ use Rattle.capture_file.specs.Readers.{Phase, Reader, Records, fresh, resumed}
 use Rattle.command_texts.specs.declared.refusal.Refusal.{Refusal}
 use Rattle.command_texts.specs.declared.refusal.Refusal.TheVariants.{ReadFault, Malformed}
 use Rattle.command_steps.specs.Inputs.{OfRest, ReadsRose}
-use Rattle.ring_machine.specs.States.{RingState, ran}
-use Rattle.damage_map.specs.Maps.{Map, mapped}
+use Rattle.machine_watch.specs.Watches.{Notes, Watching, watched}
 
 -- the most bytes of a stream
 abbrev pub longest_stream : ℕ
@@ -31,17 +30,9 @@ abbrev pub acted : {S : Type 0} → (Step → S → S) → List Step → S → S
 acted act [] p = p
 acted act (step ∷ steps) p = acted act steps (act step p)
 
--- what a step of a stream makes of a machine
-abbrev pub machine_act : Step → State → State
-machine_act step m = run m (atomic step)
-
--- and of a machine that counts the blocks of its ring
-abbrev pub ring_act : Step → RingState → RingState
-ring_act step s = ran (atomic step) s
-
--- and of a machine whose rows are told
-abbrev pub map_act : Step → Map → Map
-map_act step map = mapped (atomic step) map
+-- what a step of a stream makes of a machine that is watched
+abbrev pub watch_act : {K : Type 0} → Notes K → Step → Watching K → Watching K
+watch_act notes step w = watched notes (atomic step) w
 
 -- a player with what is left of a stream goes on to where it came from: to the same state, and the same end
 pub record GoesOn {S : Type 0} (act : Step → S → S) (p : S) (whole : Reading) (now : S) (left : Reading) : Type 0 where
@@ -92,6 +83,11 @@ PlaysAll act chained bytes p now =
 abbrev pub HasPlayed : List ℕ → State → State → Type 0
 HasPlayed bytes m now =
     (steps : List Step) × (steps_of longest_stream false bytes ≡ Ok steps) × (now ≡ run m (steps_run steps))
+
+-- and so did a machine that is watched
+abbrev pub HasPlayedWatched : {K : Type 0} → Notes K → List ℕ → Watching K → Watching K → Type 0
+HasPlayedWatched notes bytes w now =
+    (steps : List Step) × (steps_of longest_stream false bytes ≡ Ok steps) × (now ≡ watched notes (steps_run steps) w)
 
 -- why a stream was not played
 abbrev pub StopsPlaying : Bool → Option (List ℕ) → Refusal → Seen → Seen → Type 0

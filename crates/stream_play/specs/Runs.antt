@@ -19,7 +19,7 @@ use Rattle.double_buffer.specs.Plays.{all_live_steps}
 use Rattle.ring_model.specs.Rings.{Ring, ends}
 use Rattle.ring_model.specs.Runs.{block_ends}
 use Rattle.ring_machine.specs.States.{RingState}
-use Rattle.damage_map.specs.Maps.{Map, mapped}
+use Rattle.machine_watch.specs.Watches.{watching}
 use Rattle.stream_play.specs.Plays.{EndsWell, longest_stream}
 
 -- ---- stream files
@@ -88,7 +88,7 @@ OfRun Gives file stream inputs P =
 abbrev pub HasPlayedRing : List ℕ → Ring → State → RingState → Type 0
 HasPlayedRing bytes ring m now =
     (steps : List Step) × (steps_of longest_stream false bytes ≡ Ok steps)
-    × (now ≡ record { ring = ring; machine = run m (steps_run steps); blocks = block_ends (ends ring) m (steps_run steps) })
+    × (now ≡ watching (run m (steps_run steps)) (record { ring = ring; blocks = block_ends (ends ring) m (steps_run steps) }))
 
 -- ---- runs of the chain of two descriptions
 
@@ -113,10 +113,3 @@ abbrev pub HasPlayedChain : List ℕ → Desc → Desc → ChainState → Type 0
 HasPlayedChain bytes first second now =
     (steps : List Step) × (steps_of longest_stream true bytes ≡ Ok steps)
     × (now.live ≡ last_live_of (record { first = first; second = second; steps = steps }))
-
--- ---- runs of a machine whose rows are told
-
--- it took the steps of a whole stream
-abbrev pub HasPlayedMap : List ℕ → Map → Map → Type 0
-HasPlayedMap bytes map now =
-    (steps : List Step) × (steps_of longest_stream false bytes ≡ Ok steps) × (now ≡ mapped (steps_run steps) map)

@@ -17,6 +17,7 @@ use command_steps::{PIECE, open};
 use command_texts::{Refusal, report_text};
 use dma_machine::Machine;
 use fifo_model::{CAPACITIES, Fifo};
+use machine_watch::Watched;
 use page_ram::{PageRam, Ram};
 use risc_verify::Accepted;
 use std::alloc::{AllocError, Global};
@@ -111,8 +112,8 @@ fn play_on<D: Desk>(
         Ok(machine) => machine,
         Err(_) => return Err(Refusal::NoMemory),
     };
-    match play_file(alloc, machine, stream, desk) {
-        Ok(machine) => Ok(machine),
+    match play_file(alloc, Watched::new(machine, ()), stream, desk) {
+        Ok(watched) => Ok(watched.into_machine()),
         Err(refusal) => Err(refusal),
     }
 }

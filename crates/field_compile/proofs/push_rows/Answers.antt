@@ -1,11 +1,11 @@
-use Rattle.std.proofs.Common.{◌≡◌, ◌++◌, ◌∙◌, ◌+◌, ◌-◌, ◌<◌, ℕ, List, sym, ap, subst}
+use Rattle.std.proofs.Common.{◌≡◌, ◌++◌, ◌∙◌, ◌+◌, ◌-◌, ◌<◌, ℕ, List, sym, ap, subst, arith}
 use Rattle.capture_desc.specs.declared.desc.Desc.{Desc}
 use Rattle.picture_model.specs.Described.{is_both, picture_row, rows_of}
 use Rattle.picture_model.specs.Plans.{row_strip}
 use Rattle.picture_model.specs.Programs.{line_instrs, words_of}
 use Rattle.picture_model.proofs.Each.{Each}
 use Rattle.picture_model.proofs.Sections.{rows_below}
-use Rattle.field_compile.proofs.Appending.{IsLeft, all_left, begins_then, fewer_left}
+use Rattle.field_compile.proofs.Appending.{IsLeft, all_left, begins_then, fewer_left, none_left}
 use Rattle.field_compile.proofs.Lines.{all_rows, rows_from, rows_instrs, some_left}
 use Rattle.field_compile.proofs.push_rows.Goals as goal
 
@@ -48,3 +48,14 @@ loop-number-preserved c =
       spans = c.push_row.ensures.spans;
       description = c.loop-number.invariant.description;
     }
+
+pub returns-clause-words : goal.returns-clause-words
+returns-clause-words c =
+    let d = c.args.frame.now in
+    let field = c.args.field in
+    let at = c.loop-number.number in
+    let end = c.rows_of-number-end.result in
+    let behind = c.loop-number-test.false in
+    let none : end - at ≡ 0 = omega arith in
+    none_left c.args.out.now.items c.loop-number.out.items (rows_instrs d (rows_from d field at (end - at))) (rows_instrs d (rows_of d field)) c.loop-number.invariant.left
+    (ap (λ (n : ℕ). rows_instrs d (rows_from d field at n)) none)

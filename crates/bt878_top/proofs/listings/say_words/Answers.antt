@@ -18,13 +18,12 @@ split base next result words shown text pushed cleared is held none lines =
 pub loop-next-preserved : goal.loop-next-preserved
 loop-next-preserved g c =
     let see = g.D.Desk.seen in
-    let program = c.args.program.now in
     let before = c.loop-next.invariant.said in
     record {
       within = c.push_words-next.ensures.within.1;
       said =
           let said = piece_said before.0 c.as_bytes.result.now _ _ _ _ _ _
-          (split program.base c.loop-next.next c.push_words-next.result program.words _ _ _ _ c.as_bytes.ensures.value c.as_str.ensures.value c.clear.ensures c.push_words-next.ensures.lines)
+          (split c.args.base c.loop-next.next c.push_words-next.result c.args.words.now _ _ _ _ c.as_bytes.ensures.value c.as_str.ensures.value c.clear.ensures c.push_words-next.ensures.lines)
           before.1 before.2 c.in_ok-say_all.ensures.says in (
             before.0 ++ c.as_bytes.result.now,
             said.0,
@@ -43,10 +42,9 @@ returns-in_err-say_all-clause-counts g c =
 pub returns-in_err-say_all-clause-says : goal.returns-in_err-say_all-clause-says
 returns-in_err-say_all-clause-says g c =
     let p = err_from_is_err_and c.from_residual.result c.from_residual.ensures.1 in
-    let program = c.args.program.now in
     let before = c.loop-next.invariant.said in
     rw p.1 (piece_breaks_off before.0 c.as_bytes.result.now _ _ _ _ _ _
-    (split program.base c.loop-next.next c.push_words-next.result program.words _ _ _ _ c.as_bytes.ensures.value c.as_str.ensures.value c.clear.ensures c.push_words-next.ensures.lines)
+    (split c.args.base c.loop-next.next c.push_words-next.result c.args.words.now _ _ _ _ c.as_bytes.ensures.value c.as_str.ensures.value c.clear.ensures c.push_words-next.ensures.lines)
     before.1 before.2 c.in_err-say_all.ensures.says)
 
 pub returns-clause-says : goal.returns-clause-says
@@ -54,11 +52,11 @@ returns-clause-says g c =
     let before = c.loop-next.invariant.said in
     before.2
     ∙ ap (λ (text : List ℕ). after_say text (g.D.Desk.seen c.args.desk.now).told)
-    (lines_end _ c.loop-next.next c.args.program.now.words _ _ (let same : length c.words.result.now ≡ length c.args.program.now.words = ap length c.words.ensures.value in omega (arith, same)) before.1)
+    (lines_end _ c.loop-next.next c.args.words.now _ _ (omega arith) before.1)
 
 pub returns-clause-counts : goal.returns-clause-counts
 returns-clause-counts g c =
     let see = g.D.Desk.seen in
     let before = c.loop-next.invariant.said in
     subst (λ (text : List ℕ). OnlySaid text (see c.args.desk.now) (see c.loop-next.desk))
-    (lines_end _ c.loop-next.next c.args.program.now.words _ _ (let same : length c.words.result.now ≡ length c.args.program.now.words = ap length c.words.ensures.value in omega (arith, same)) before.1) before.3
+    (lines_end _ c.loop-next.next c.args.words.now _ _ (omega arith) before.1) before.3

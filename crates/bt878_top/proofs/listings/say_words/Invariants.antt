@@ -6,11 +6,11 @@ use Rattle.bt878_top.proofs.listings.say_words.Given as goal
 abbrev pub invariant-loop-next : goal.invariant-loop-next
 invariant-loop-next g l =
     record {
-      within : l.next ≤ length l.program.words;
+      within : l.next ≤ length l.words;
       said : (said : List ℕ)
-          × (said ++ word_lines (l.program.base + 4 * l.next) 0 (drop l.next l.program.words) ≡ word_lines l.program.base 0 l.program.words)
+          × (said ++ word_lines (l.base + 4 * l.next) 0 (drop l.next l.words) ≡ word_lines l.base 0 l.words)
           × ((g.D.Desk.seen l.desk).told ≡ after_say said (g.D.Desk.seen l.fn.desk).told) × OnlySaid said (g.D.Desk.seen l.fn.desk) (g.D.Desk.seen l.desk);
     }
 
 abbrev pub decreases-loop-next : goal.decreases-loop-next
-decreases-loop-next g l = length l.program.words - l.next
+decreases-loop-next g l = length l.words - l.next

@@ -3,7 +3,7 @@ use Rattle.capture_file.proofs.Unspelled.{file_read}
 use Rattle.capture_file.proofs.laws.one_spelling.Goals as goal
 
 pub returns-clause-read : goal.returns-clause-read
-returns-clause-read c program fill made low = spelled_again program fill made low
+returns-clause-read c program fill made = spelled_again program fill made
 
 pub returns-clause-only : goal.returns-clause-only
 returns-clause-only c bytes file fits e = (file_read bytes file fits e).parts

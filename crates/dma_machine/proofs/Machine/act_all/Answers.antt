@@ -1,4 +1,4 @@
-use Rattle.std.proofs.Common.{◌≡◌, ◌+◌, ◌-◌, ap, subst, arith}
+use Rattle.std.proofs.Common.{◌≡◌, ◌+◌, ◌-◌, ◌∙◌, ap, sym, subst, arith}
 use Rattle.dma_machine.proofs.Turns.{AreLeft, one_fewer, standing_left}
 use Rattle.dma_machine.specs.Counts.{acted_times}
 use Rattle.dma_machine.proofs.Machine.act_all.Goals as goal
@@ -16,3 +16,8 @@ loop-turn-preserved g c =
 pub returns-then-is_known_still-clause-state : goal.returns-then-is_known_still-clause-state
 returns-then-is_known_still-clause-state g c =
     standing_left _ _ _ _ _ (c.is_known_still.ensures c.if-is_known_still.true) c.stay.ensures c.loop-turn.invariant
+
+pub returns-clause-state : goal.returns-clause-state
+returns-clause-state g c =
+    let none : c.args.count - c.loop-turn.turn ≡ 0 = omega arith in
+    sym (ap (λ left. acted_times left c.loop-turn.self) none) ∙ c.loop-turn.invariant.lead

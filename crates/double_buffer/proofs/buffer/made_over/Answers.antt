@@ -3,8 +3,10 @@ use Rattle.page_table.specs.Blocks.{chunks_of}
 use Rattle.page_table.proofs.Memory.{chunks_of-filled}
 use Rattle.capture_desc.specs.declared.desc.Desc.{Desc}
 use Rattle.slot_chain.specs.States.{ChainState}
+use Rattle.double_buffer.specs.declared.faults.DoubleBufferError.{DoubleBufferError}
+use Rattle.double_buffer.specs.Faults.{Refuses, chain_fault}
 use Rattle.double_buffer.specs.Pairs.{HasBuffers}
-use Rattle.double_buffer.proofs.Pairs.{chain_same, of_fragments, pair_of}
+use Rattle.double_buffer.proofs.Pairs.{chain_same, of_fragments, pair_of, refuses_with}
 use Rattle.double_buffer.proofs.Standing.{has_buffers}
 use Rattle.double_buffer.proofs.buffer.made_over.Goals as goal
 
@@ -34,3 +36,12 @@ told-requires g c =
     let aligned = subst (λ (d : Desc). d.base % 4 ≡ 0) c.desc.ensures.value c.if-base-ne0.false in
     of_fragments c.args.first.now c.args.second.now c.in_ok-grants.ensures.framed.0 c.in_ok-grants.ensures.framed.1 c.in_ok-parts.ensures.first c.in_ok-parts.ensures.second aligned
     c.in_ok-grants.ensures.apart c.in_ok-grants.ensures.few _ c.in-Err.error same c.in-Err.ensures.refused
+
+pub returns-clause-refused : goal.returns-clause-refused
+returns-clause-refused g c =
+    let base = ap (λ (d : Desc). d.base) c.desc.ensures.value in
+    let same = chain_same c.args.first.now c.args.second.now c.desc.result.now.base c.in_ok-parts.parts.items c.in_ok-grants.grants base c.in_ok-parts.ensures.parts c.in_ok-grants.ensures.granted in
+    let aligned = subst (λ (d : Desc). d.base % 4 ≡ 0) c.desc.ensures.value c.if-base-ne0.false in
+    subst (λ (e : DoubleBufferError). Refuses (chain_fault c.args.first.now c.args.second.now) e) (sym c.told.ensures)
+    (refuses_with c.args.first.now c.args.second.now c.in_ok-grants.ensures.framed.0 c.in_ok-grants.ensures.framed.1 c.in_ok-parts.ensures.first c.in_ok-parts.ensures.second aligned
+    c.in_ok-grants.ensures.apart c.in_ok-grants.ensures.few _ c.in-Err.error same c.in-Err.ensures.refused)

@@ -1,8 +1,17 @@
 use Rattle.std.proofs.Common.{ap, arith}
 use Rattle.std.proofs.lemmas.Result.{err_from_is_err_and}
 use Rattle.capture_desc.specs.declared.desc.Desc.{Desc}
-use Rattle.double_buffer.proofs.Behind.{long_2, long_3}
+use Rattle.double_buffer.proofs.Behind.{long_1, long_2, long_3}
 use Rattle.double_buffer.proofs.fragments.fragments_of_two.Goals as goal
+
+pub returns-in_err-two-clause-long : goal.returns-in_err-two-clause-long
+returns-in_err-two-clause-long c =
+    let p = err_from_is_err_and c.from_residual-in_err-two.result c.from_residual-in_err-two.ensures.1 in
+    let low = c.from.ensures in
+    let slots = c.from-2.ensures in
+    rw (p.1, p.2)
+    (long_1 c.args.first.now c.args.second.now c.desc.result.now.base _ (ap (λ (d : Desc). d.base) c.desc.ensures.value) (omega arith) c.in_ok-one.one c.in_ok-one.ensures.part
+    c.behind-at.result c.behind-at.ensures c.in_err-two.field-0.0 c.in_err-two.ensures.beyond)
 
 pub returns-in_err-three-clause-long : goal.returns-in_err-three-clause-long
 returns-in_err-three-clause-long c =

@@ -6,8 +6,7 @@ returns-then-branch-clause-listing c =
     let s = c.args.settled in
     let parts = rw c.in-Ok.is at c.in_ok-program.ensures.parts in
     let made = c.in_ok-is_end.ensures.made c.if-branch.true in
-    let small = c.in_ok-program.ensures.base in
     let end = c.in_ok-is_end.ensures.end c.if-branch.true in (
-      record { made = made.0; base_small = rw parts.0 small; fill_small = made.1 },
-      whole s.base s.number s.front c.unwrap_or-fill.result s.draft.words.items c.args.tail.now c.in-Ok.program c.requires parts.0 parts.1 end,
+      record { made = made.0; fill_small = made.1 },
+      whole s.base s.number s.front c.unwrap_or-fill.result s.draft.words.items c.args.tail.now c.in-Ok.program c.requires parts.0 parts.1 parts.2 end,
     )

@@ -1,0 +1,22 @@
+use Rattle.std.proofs.Common.{◌∙◌, ◌+◌, ◌-◌, ℕ, false, replicate, refl, subst}
+use Rattle.picture_model.specs.Described.{vbi_skip}
+use Rattle.picture_model.specs.Plans.{skipped_vbi_strip}
+use Rattle.picture_model.specs.Programs.{lines_instrs}
+use Rattle.field_compile.proofs.Appending.{IsLeft}
+use Rattle.field_compile.proofs.Lines.{fewer_lines, some_left}
+use Rattle.vbi_compile.proofs.push_skipped_lines.Goals as goal
+
+pub loop-preserved : goal.loop-preserved
+loop-preserved c =
+    let d = c.args.frame.now in
+    let strip = skipped_vbi_strip d in
+    let old = c.args.out.now.items in
+    let out = c.loop.out.items in
+    let end = c.vbi_skip-count.result in
+    let at = c.loop.counter in
+    let all = lines_instrs d (replicate (vbi_skip d c.args.field) strip) in
+    fewer_lines d old out c.push_pieces.new.out.items strip (replicate (end - (at + 1)) strip) all false c.as_slice.result.now
+    (subst (λ (n : ℕ). IsLeft old out (lines_instrs d (replicate n strip)) all) (some_left end at c.loop-test.true) c.loop.invariant)
+    refl
+    (c.as_slice.ensures ∙ c.in_ok-skipped.ensures.plan)
+    c.push_pieces.ensures.kept c.in_ok-push_pieces.ensures.words
