@@ -4,6 +4,7 @@
 #![tactic(auto)]
 
 pub mod laws;
+mod words;
 
 use capture_desc::Numbers;
 

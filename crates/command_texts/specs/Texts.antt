@@ -16,16 +16,15 @@ use Rattle.capture_desc.specs.declared.fault.Key.{Key}
 use Rattle.capture_desc.specs.declared.fault.DescFault.{DescFault}
 use Rattle.capture_desc.specs.declared.fault.DescFault.TheVariants.{NotToml, Unknown, Missing, WrongKind, OutOfRange}
 use Rattle.capture_desc.specs.Keys.{name_of}
+use Rattle.picture_model.specs.Words.{geometry_words}
 use Rattle.picture_model.specs.declared.BuildFault.{BuildFault}
 use Rattle.picture_model.specs.declared.BuildFault.TheVariants as geometry
-use Rattle.chain_model.specs.declared.ChainFault.{ChainFault}
-use Rattle.chain_model.specs.declared.ChainFault.TheVariants as chain
+use Rattle.chain_model.specs.Words.{chain_words}
 use Rattle.ring_compile.specs.declared.fault.RingKey.{RingKey}
 use Rattle.ring_compile.specs.declared.fault.RingFault.{RingFault}
 use Rattle.ring_compile.specs.declared.fault.RingFault.TheVariants as ring
 use Rattle.ring_compile.specs.Files as ring_keys
-use Rattle.risc_asm.specs.declared.AsmFault.{AsmFault}
-use Rattle.risc_asm.specs.declared.AsmFault.TheVariants as listing
+use Rattle.risc_asm.specs.Words.{listing_words}
 use Rattle.command_texts.specs.declared.answer.Answer.{Answer}
 use Rattle.command_texts.specs.declared.answer.Answer.TheVariants.{Done, Usage, ReadFault, WriteFault, Malformed, BadDesc, BadGeometry, BadChain, BadRing, BadText, Rejected, NoMemory}
 
@@ -97,35 +96,6 @@ desc_text (Missing key) = description_key_text (codes "missing") key
 desc_text (WrongKind key) = description_key_text (codes "wrong kind of") key
 desc_text (OutOfRange key) = description_key_text (codes "out of range") key
 
--- what is needed, and what is there
-abbrev pub need_words : ℕ → ℕ → List ℕ
-need_words need have = codes ", need " ++ (decimal need ++ (codes ", have " ++ decimal have))
-
-abbrev pub geometry_words : BuildFault → List ℕ
-geometry_words geometry.WidthRange = codes "width range"
-geometry_words geometry.HeightRange = codes "height range"
-geometry_words geometry.WidthOffUnit = codes "width off unit"
-geometry_words geometry.OddHeight = codes "odd height"
-geometry_words geometry.TooNarrow = codes "too narrow"
-geometry_words geometry.StrideShort = codes "stride short"
-geometry_words geometry.OffUnit = codes "off unit"
-geometry_words geometry.Overlap = codes "overlap"
-geometry_words geometry.VbiRange = codes "vbi range"
-geometry_words (geometry.PageUnaligned number) = codes "page unaligned " ++ decimal number
-geometry_words (geometry.PageTwice number) = codes "page twice " ++ decimal number
-geometry_words (geometry.TooFewPages need have) = codes "too few pages" ++ need_words need have
-geometry_words (geometry.TooFewBytes need have) = codes "too few bytes" ++ need_words need have
-geometry_words geometry.ProgramBase = codes "program base"
-geometry_words geometry.ProgramOnPage = codes "program on page"
-
--- a fault of two descriptions that make no chain
-abbrev pub chain_words : ChainFault → List ℕ
-chain_words chain.Base = codes "base"
-chain_words (chain.Shared number) = codes "shared " ++ decimal number
-chain_words chain.TooMany = codes "too many"
-chain_words chain.TooLong = codes "too long"
-chain_words chain.OnPage = codes "on page"
-
 -- a fault of a ring file: of the text and its keys as that of a description, of the ring's place as that of a geometry
 abbrev pub ring_key_text : List ℕ → RingKey → List ℕ
 ring_key_text fault key = key_text (codes "ring") fault (ring_keys.name_of key)
@@ -144,12 +114,6 @@ ring_text (ring.PageTwice number) = ring_place_text (geometry.PageTwice number)
 ring_text (ring.TooFewPages need have) = ring_place_text (geometry.TooFewPages need have)
 ring_text ring.ProgramBase = ring_place_text geometry.ProgramBase
 ring_text ring.ProgramOnPage = ring_place_text geometry.ProgramOnPage
-
--- a fault of a text that is assembled
-abbrev pub listing_words : AsmFault → List ℕ
-listing_words (listing.Line k) = codes "line " ++ decimal k
-listing_words (listing.Short k) = codes "short at " ++ decimal k
-listing_words listing.TooLong = codes "too long"
 
 -- what an answer says; Done has its command's text, and at WriteFault nothing more is said
 abbrev pub answer_text : Answer → List ℕ

@@ -1,8 +1,7 @@
 //! The texts that are said.
 
 ghost use Rattle.std.specs.Prelude.{◌≡◌, IfOk, Some, codes, string_bytes};
-ghost use Rattle.command_texts.specs.Texts.{answer_text, blocks_text, built_text, cause_words, chain_words, geometry_words, input_words, key_text, kind_words, listing_words, lost_words, made_text};
-ghost use Rattle.command_texts.specs.Texts.{need_words, not_toml_text, report_text, ring_place_text, usage_words};
+ghost use Rattle.command_texts.specs.Texts.{answer_text, blocks_text, built_text, cause_words, input_words, key_text, kind_words, lost_words, made_text, not_toml_text, report_text, ring_place_text};
 
 use crate::answer::Answer;
 use bt878_words::UsageFault;
@@ -75,91 +74,6 @@ impl fmt::Display for KindWords {
             FileKind::Slot(byte) => write!(f, "slot {byte:02x}"),
             FileKind::Buffer(byte) => write!(f, "buffer {byte:02x}"),
             FileKind::Entry => write!(f, "entry"),
-        }
-    }
-}
-
-/// What a picture needs and what is there, in words.
-#[derive(Drop)]
-struct NeedWords {
-    need: u64,
-    have: u64,
-}
-
-impl fmt::Display for NeedWords {
-    ghost output = { λ words. Some (need_words words.need words.have) };
-
-    fn fmt<W: fmt::Write>(&self, f: &mut fmt::Formatter<W>) -> fmt::Result {
-        let need = self.need;
-        let have = self.have;
-        write!(f, ", need {need}, have {have}")
-    }
-}
-
-/// A fault of a geometry in words.
-#[derive(Drop)]
-struct GeometryWords(BuildFault);
-
-impl fmt::Display for GeometryWords {
-    ghost output = { λ words. Some (geometry_words words.0) };
-
-    fn fmt<W: fmt::Write>(&self, f: &mut fmt::Formatter<W>) -> fmt::Result {
-        match self.0 {
-            BuildFault::WidthRange => write!(f, "width range"),
-            BuildFault::HeightRange => write!(f, "height range"),
-            BuildFault::WidthOffUnit => write!(f, "width off unit"),
-            BuildFault::OddHeight => write!(f, "odd height"),
-            BuildFault::TooNarrow => write!(f, "too narrow"),
-            BuildFault::StrideShort => write!(f, "stride short"),
-            BuildFault::OffUnit => write!(f, "off unit"),
-            BuildFault::Overlap => write!(f, "overlap"),
-            BuildFault::VbiRange => write!(f, "vbi range"),
-            BuildFault::PageUnaligned(number) => write!(f, "page unaligned {number}"),
-            BuildFault::PageTwice(number) => write!(f, "page twice {number}"),
-            BuildFault::TooFewPages { need, have } => {
-                let missing = NeedWords { need, have };
-                write!(f, "too few pages{missing}")
-            }
-            BuildFault::TooFewBytes { need, have } => {
-                let missing = NeedWords { need, have };
-                write!(f, "too few bytes{missing}")
-            }
-            BuildFault::ProgramBase => write!(f, "program base"),
-            BuildFault::ProgramOnPage => write!(f, "program on page"),
-        }
-    }
-}
-
-/// A fault of two descriptions that make no chain, in words.
-#[derive(Drop)]
-struct ChainWords(ChainFault);
-
-impl fmt::Display for ChainWords {
-    ghost output = { λ words. Some (chain_words words.0) };
-
-    fn fmt<W: fmt::Write>(&self, f: &mut fmt::Formatter<W>) -> fmt::Result {
-        match self.0 {
-            ChainFault::Base => write!(f, "base"),
-            ChainFault::Shared(number) => write!(f, "shared {number}"),
-            ChainFault::TooMany => write!(f, "too many"),
-            ChainFault::TooLong => write!(f, "too long"),
-            ChainFault::OnPage => write!(f, "on page"),
-        }
-    }
-}
-
-/// A fault of a text that is assembled, in words.
-#[derive(Drop)]
-struct ListingWords(AsmFault);
-
-impl fmt::Display for ListingWords {
-    ghost output = { λ words. Some (listing_words words.0) };
-
-    fn fmt<W: fmt::Write>(&self, f: &mut fmt::Formatter<W>) -> fmt::Result {
-        match self.0 {
-            AsmFault::Line(number) => write!(f, "line {number}"),
-            AsmFault::Short(lines) => write!(f, "short at {lines}"),
-            AsmFault::TooLong => write!(f, "too long"),
         }
     }
 }
@@ -243,7 +157,6 @@ pub fn desc_text(alloc: Global, fault: &DescFault) -> Result<Vec<u8>, AllocError
 fn ring_place_text(alloc: Global, fault: BuildFault) -> Result<Vec<u8>, AllocError>
     ensures { IfOk result (λ text. text.items ≡ ring_place_text fault) }
 {
-    let fault = GeometryWords(fault);
     let text = format!(in alloc; "ring: {fault}\n")?;
     Ok(text.into_bytes())
 }
@@ -275,7 +188,6 @@ pub fn ring_text(alloc: Global, fault: &RingFault) -> Result<Vec<u8>, AllocError
 pub fn geometry_text(alloc: Global, fault: BuildFault) -> Result<Vec<u8>, AllocError>
     ensures { IfOk result (λ text. text.items ≡ answer_text (Answer.BadGeometry fault)) }
 {
-    let fault = GeometryWords(fault);
     let text = format!(in alloc; "geometry: {fault}\n")?;
     Ok(text.into_bytes())
 }
@@ -284,7 +196,6 @@ pub fn geometry_text(alloc: Global, fault: BuildFault) -> Result<Vec<u8>, AllocE
 pub fn chain_text(alloc: Global, fault: ChainFault) -> Result<Vec<u8>, AllocError>
     ensures { IfOk result (λ text. text.items ≡ answer_text (Answer.BadChain fault)) }
 {
-    let fault = ChainWords(fault);
     let text = format!(in alloc; "chain: {fault}\n")?;
     Ok(text.into_bytes())
 }
@@ -293,7 +204,6 @@ pub fn chain_text(alloc: Global, fault: ChainFault) -> Result<Vec<u8>, AllocErro
 pub fn listing_text(alloc: Global, fault: AsmFault) -> Result<Vec<u8>, AllocError>
     ensures { IfOk result (λ text. text.items ≡ answer_text (Answer.BadText fault)) }
 {
-    let fault = ListingWords(fault);
     let text = format!(in alloc; "listing: {fault}\n")?;
     Ok(text.into_bytes())
 }

@@ -4,3 +4,4 @@ pub mod Plans
 pub mod Programs
 pub mod Geometry
 pub mod Worked
+pub mod Words

@@ -6,6 +6,7 @@
 mod codes;
 mod fields;
 pub mod laws;
+mod words;
 
 pub use codes::{data_code, vertical};
 pub use fields::{chroma_row, describes, field_height, is_both, picture_row, vbi_skip, vbi_stride};

@@ -5,3 +5,4 @@ pub mod Programs
 pub mod Verdicts
 pub mod Answers
 pub mod Texts
+pub mod Words

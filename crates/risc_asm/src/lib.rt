@@ -13,6 +13,7 @@ mod programs;
 mod readers;
 mod search;
 mod text;
+mod words;
 
 use capture_file::ProgramFile;
 use judge::{Verdict, judge};
