@@ -3,8 +3,8 @@
 //! chain stand here; the definitions stand in `specs/`.
 #![tactic(auto)]
 
+mod fault_words;
 pub mod laws;
-mod words;
 
 use capture_desc::Numbers;
 

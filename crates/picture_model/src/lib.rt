@@ -4,9 +4,9 @@
 #![tactic(auto)]
 
 mod codes;
+mod fault_words;
 mod fields;
 pub mod laws;
-mod words;
 
 pub use codes::{data_code, vertical};
 pub use fields::{chroma_row, describes, field_height, is_both, picture_row, vbi_skip, vbi_stride};

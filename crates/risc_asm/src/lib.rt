@@ -7,13 +7,13 @@ ghost use Rattle.std.specs.Prelude.{◌≡◌};
 
 mod compare;
 mod draft;
+mod fault_words;
 mod judge;
 mod lines;
 mod programs;
 mod readers;
 mod search;
 mod text;
-mod words;
 
 use capture_file::ProgramFile;
 use judge::{Verdict, judge};
