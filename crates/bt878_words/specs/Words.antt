@@ -1,13 +1,20 @@
--- What the words of the command line ask for, or their first fault. A word is the list of its bytes.
-use Rattle.std.specs.Prelude.{ℕ, ◌+◌, ◌-◌, ◌*◌, ◌^◌, Bool, true, false, ◌&&◌, ◌||◌, List, [], ◌∷◌, length, take, drop, Option, Some, None, Result, Ok, Err, if◌then◌else◌, ◌==◌, nat_lt, nat_le, codes}
+-- What the words of the command line ask for, or their first fault. A word is the list of its bytes, as it is passed.
+use Rattle.std.specs.Prelude.{ℕ, ◌+◌, ◌-◌, ◌*◌, ◌^◌, Bool, false, ◌&&◌, ◌||◌, List, [], ◌∷◌, Option, Some, None, Result, Ok, Err, if◌then◌else◌, ◌==◌, nat_lt, nat_le, codes}
+use Rattle.std.specs.Borrow.{Bor}
 use Rattle.std.specs.List.{list_any}
 use Rattle.std.specs.Str.{bytes_eq}
 use Rattle.bt878_words.specs.declared.Command.{Command}
 use Rattle.bt878_words.specs.declared.Command.TheVariants as command
+use Rattle.bt878_words.specs.declared.Task.{Task}
+use Rattle.bt878_words.specs.declared.Task.TheVariants as task
 use Rattle.bt878_words.specs.declared.UsageFault.{UsageFault}
 use Rattle.bt878_words.specs.declared.UsageFault.TheVariants.{NoCommand, UnknownCommand, WordCount, Number, SameName}
 use Rattle.bt878_words.specs.declared.Verb.{Verb}
 use Rattle.bt878_words.specs.declared.Verb.TheVariants as verb
+
+-- a word as it is passed
+abbrev pub Word : Type 0
+Word = Bor (List ℕ)
 
 -- the command of a first word
 abbrev pub verb_named : List ℕ → Option Verb
@@ -23,50 +30,6 @@ verb_named word =
     else (if bytes_eq word (codes "ring") then Some verb.Ring
     else (if bytes_eq word (codes "assemble") then Some verb.Assemble
     else None)))))))))
-
--- how many words follow the first, how many of these, from the front, are inputs, and how many, at the end, are
--- outputs
-abbrev pub operands : Verb → ℕ
-operands verb.List = 1
-operands verb.Verify = 1
-operands verb.Run = 3
-operands verb.Compile = 2
-operands verb.Capture = 4
-operands verb.Make = 4
-operands verb.Chain = 4
-operands verb.Damage = 2
-operands verb.Ring = 4
-operands verb.Assemble = 2
-
-abbrev pub inputs : Verb → ℕ
-inputs verb.List = 1
-inputs verb.Verify = 1
-inputs verb.Run = 2
-inputs verb.Compile = 1
-inputs verb.Capture = 2
-inputs verb.Make = 1
-inputs verb.Chain = 3
-inputs verb.Damage = 2
-inputs verb.Ring = 2
-inputs verb.Assemble = 1
-
-abbrev pub outputs : Verb → ℕ
-outputs verb.List = 0
-outputs verb.Verify = 0
-outputs verb.Run = 1
-outputs verb.Compile = 1
-outputs verb.Capture = 2
-outputs verb.Make = 1
-outputs verb.Chain = 1
-outputs verb.Damage = 0
-outputs verb.Ring = 2
-outputs verb.Assemble = 1
-
-abbrev pub input_names : Verb → List (List ℕ) → List (List ℕ)
-input_names v others = take (inputs v) others
-
-abbrev pub output_names : Verb → List (List ℕ) → List (List ℕ)
-output_names v others = drop (operands v - outputs v) others
 
 -- a decimal number of 64 bits, in digits without a sign and without a leading zero
 abbrev pub is_digit : ℕ → Bool
@@ -88,26 +51,49 @@ number_of (byte ∷ []) = number_from 0 (byte ∷ [])
 number_of (byte ∷ bytes) = if byte == 48 then None else number_from 0 (byte ∷ bytes)
 
 -- the words SEED and FRAMES of `make`
-abbrev pub made_with : Option ℕ → Option ℕ → Result Command UsageFault
-made_with (Some seed) (Some frames) =
-    if nat_le 1 frames && nat_le frames 16 then Ok (command.Make seed frames) else Err Number
-made_with _ _ = Err Number
+abbrev pub made_with : Word → Option ℕ → Option ℕ → Word → Result Task UsageFault
+made_with desc (Some seed) (Some frames) stream =
+    if nat_le 1 frames && nat_le frames 16 then Ok (task.Make desc seed frames stream) else Err Number
+made_with desc _ _ stream = Err Number
 
-abbrev pub make_of : List (List ℕ) → Result Command UsageFault
-make_of (_ ∷ seed ∷ frames ∷ _) = made_with (number_of seed) (number_of frames)
-make_of _ = Err WordCount
+-- a command with the words that follow the first
+abbrev pub named : Verb → List Word → Result Task UsageFault
+named verb.List (program ∷ []) = Ok (task.List program)
+named verb.Verify (program ∷ []) = Ok (task.Verify program)
+named verb.Run (program ∷ stream ∷ image ∷ []) = Ok (task.Run program stream image)
+named verb.Compile (desc ∷ program ∷ []) = Ok (task.Compile desc program)
+named verb.Capture (desc ∷ stream ∷ program ∷ image ∷ []) = Ok (task.Capture desc stream program image)
+named verb.Make (desc ∷ seed ∷ frames ∷ stream ∷ []) = made_with desc (number_of seed.now) (number_of frames.now) stream
+named verb.Chain (one ∷ two ∷ stream ∷ image ∷ []) = Ok (task.Chain one two stream image)
+named verb.Damage (desc ∷ stream ∷ []) = Ok (task.Damage desc stream)
+named verb.Ring (ring ∷ stream ∷ program ∷ image ∷ []) = Ok (task.Ring ring stream program image)
+named verb.Assemble (text ∷ program ∷ []) = Ok (task.Assemble text program)
+named _ _ = Err WordCount
 
-abbrev pub command_with : Verb → List (List ℕ) → Result Command UsageFault
-command_with verb.List others = Ok command.List
-command_with verb.Verify others = Ok command.Verify
-command_with verb.Run others = Ok command.Run
-command_with verb.Compile others = Ok command.Compile
-command_with verb.Capture others = Ok command.Capture
-command_with verb.Make others = make_of others
-command_with verb.Chain others = Ok command.Chain
-command_with verb.Damage others = Ok command.Damage
-command_with verb.Ring others = Ok command.Ring
-command_with verb.Assemble others = Ok command.Assemble
+-- the names of the inputs and of the outputs, in the order in which they are read and written
+abbrev pub reads : Task → List (List ℕ)
+reads (task.List program) = program.now ∷ []
+reads (task.Verify program) = program.now ∷ []
+reads (task.Run program stream image) = program.now ∷ stream.now ∷ []
+reads (task.Compile desc program) = desc.now ∷ []
+reads (task.Capture desc stream program image) = desc.now ∷ stream.now ∷ []
+reads (task.Make desc seed frames stream) = desc.now ∷ []
+reads (task.Chain one two stream image) = one.now ∷ two.now ∷ stream.now ∷ []
+reads (task.Damage desc stream) = desc.now ∷ stream.now ∷ []
+reads (task.Ring ring stream program image) = ring.now ∷ stream.now ∷ []
+reads (task.Assemble text program) = text.now ∷ []
+
+abbrev pub writes : Task → List (List ℕ)
+writes (task.List program) = []
+writes (task.Verify program) = []
+writes (task.Run program stream image) = image.now ∷ []
+writes (task.Compile desc program) = program.now ∷ []
+writes (task.Capture desc stream program image) = program.now ∷ image.now ∷ []
+writes (task.Make desc seed frames stream) = stream.now ∷ []
+writes (task.Chain one two stream image) = image.now ∷ []
+writes (task.Damage desc stream) = []
+writes (task.Ring ring stream program image) = program.now ∷ image.now ∷ []
+writes (task.Assemble text program) = program.now ∷ []
 
 -- an output has the name of an input or of another output
 abbrev pub is_among : List ℕ → List (List ℕ) → Bool
@@ -117,42 +103,49 @@ abbrev pub has_clash : List (List ℕ) → List (List ℕ) → Bool
 has_clash taken [] = false
 has_clash taken (name ∷ names) = is_among name taken || is_among name names || has_clash taken names
 
-abbrev pub unless_clash : Bool → Result Command UsageFault → Result Command UsageFault
-unless_clash true found = Err SameName
-unless_clash false found = found
+abbrev pub apart : Task → Result Task UsageFault
+apart t = if has_clash (reads t) (writes t) then Err SameName else Ok t
 
-abbrev pub clash_after : Verb → List (List ℕ) → Result Command UsageFault → Result Command UsageFault
-clash_after v others (Err fault) = Err fault
-clash_after v others (Ok found) = unless_clash (has_clash (input_names v others) (output_names v others)) (Ok found)
+abbrev pub apart_if : Result Task UsageFault → Result Task UsageFault
+apart_if (Err fault) = Err fault
+apart_if (Ok t) = apart t
 
-abbrev pub of_length : Bool → Verb → List (List ℕ) → Result Command UsageFault
-of_length true v others = clash_after v others (command_with v others)
-of_length false v others = Err WordCount
-
-abbrev pub with_verb : Option Verb → List (List ℕ) → Result Command UsageFault
+abbrev pub with_verb : Option Verb → List Word → Result Task UsageFault
 with_verb None others = Err UnknownCommand
-with_verb (Some v) others = of_length (length others == operands v) v others
+with_verb (Some v) others = apart_if (named v others)
 
 -- what the words ask for, or their first fault
-abbrev pub command_of : List (List ℕ) → Result Command UsageFault
-command_of [] = Err NoCommand
-command_of (word ∷ others) = with_verb (verb_named word) others
+abbrev pub task_of : List Word → Result Task UsageFault
+task_of [] = Err NoCommand
+task_of (word ∷ others) = with_verb (verb_named word.now) others
+
+-- the command, without the names
+abbrev pub command_in : Task → Command
+command_in (task.List program) = command.List
+command_in (task.Verify program) = command.Verify
+command_in (task.Run program stream image) = command.Run
+command_in (task.Compile desc program) = command.Compile
+command_in (task.Capture desc stream program image) = command.Capture
+command_in (task.Make desc seed frames stream) = command.Make seed frames
+command_in (task.Chain one two stream image) = command.Chain
+command_in (task.Damage desc stream) = command.Damage
+command_in (task.Ring ring stream program image) = command.Ring
+command_in (task.Assemble text program) = command.Assemble
+
+abbrev pub command_if : Result Task UsageFault → Result Command UsageFault
+command_if (Err fault) = Err fault
+command_if (Ok t) = Ok (command_in t)
+
+abbrev pub command_of : List Word → Result Command UsageFault
+command_of words = command_if (task_of words)
 
 -- the names that the words give: none where they have a fault
-abbrev pub names_if : {F : Type 0} → Result F UsageFault → List (List ℕ) → List (List ℕ)
-names_if (Err _) names = []
-names_if (Ok _) names = names
+abbrev pub names_if : (Task → List (List ℕ)) → Result Task UsageFault → List (List ℕ)
+names_if names (Err fault) = []
+names_if names (Ok t) = names t
 
-abbrev pub names_with : (Verb → List (List ℕ) → List (List ℕ)) → Option Verb → List (List ℕ) → List (List ℕ)
-names_with names None others = []
-names_with names (Some v) others = names v others
+abbrev pub inputs_of : List Word → List (List ℕ)
+inputs_of words = names_if reads (task_of words)
 
-abbrev pub names_of : (Verb → List (List ℕ) → List (List ℕ)) → List (List ℕ) → List (List ℕ)
-names_of names [] = []
-names_of names (word ∷ others) = names_with names (verb_named word) others
-
-abbrev pub inputs_of : List (List ℕ) → List (List ℕ)
-inputs_of words = names_if (command_of words) (names_of input_names words)
-
-abbrev pub outputs_of : List (List ℕ) → List (List ℕ)
-outputs_of words = names_if (command_of words) (names_of output_names words)
+abbrev pub outputs_of : List Word → List (List ℕ)
+outputs_of words = names_if writes (task_of words)

@@ -1,8 +1,8 @@
 //! The words of the command line.
 #![tactic(auto)]
 
-ghost use Rattle.std.specs.Prelude.{◌≡◌, ◌≤◌, map, length, IsTrue};
-ghost use Rattle.bt878_words.specs.Words.{clash_after, command_of, command_with, has_clash, input_names, inputs, is_among, made_with, make_of, number_from, number_of, operands, output_names, outputs, verb_named};
+ghost use Rattle.std.specs.Prelude.{◌≡◌, map};
+ghost use Rattle.bt878_words.specs.Words.{apart, command_in, command_of, has_clash, is_among, made_with, named, number_from, number_of, reads, task_of, verb_named, writes};
 
 /// What is wrong with the words, in the order in which it is looked for (this project's own rule).
 #[derive(Clone, Copy, Debug, PartialEq, Eq)]
@@ -19,7 +19,7 @@ pub enum UsageFault {
     SameName,
 }
 
-/// What the program is asked to do. The names of files are the words after the first.
+/// What the program is asked to do, without the names of files.
 #[derive(Clone, Copy, Debug, PartialEq, Eq)]
 pub enum Command {
     /// `list PROG`
@@ -42,6 +42,68 @@ pub enum Command {
     Ring,
     /// `assemble TEXT PROG`
     Assemble,
+}
+
+/// What the program is asked to do, with the names of files and the numbers.
+#[derive(Clone, Copy, Debug)]
+pub enum Task<'a> {
+    /// Says the listing of a program.
+    List {
+        program: &'a str,
+    },
+    /// Verifies a program.
+    Verify {
+        program: &'a str,
+    },
+    /// Runs a program on a stream, and writes the image of its memory.
+    Run {
+        program: &'a str,
+        stream: &'a str,
+        image: &'a str,
+    },
+    /// Compiles a description.
+    Compile {
+        desc: &'a str,
+        program: &'a str,
+    },
+    /// Compiles a description and runs its program on a stream.
+    Capture {
+        desc: &'a str,
+        stream: &'a str,
+        program: &'a str,
+        image: &'a str,
+    },
+    /// Generates the stream of so many frames of a description, from a seed.
+    Make {
+        desc: &'a str,
+        seed: u64,
+        frames: u8,
+        stream: &'a str,
+    },
+    /// Runs the chain of two descriptions on a stream with patches.
+    Chain {
+        first: &'a str,
+        second: &'a str,
+        stream: &'a str,
+        image: &'a str,
+    },
+    /// Tells which rows of a description came whole in a stream.
+    Damage {
+        desc: &'a str,
+        stream: &'a str,
+    },
+    /// Compiles a ring and runs its program on a stream.
+    Ring {
+        ring: &'a str,
+        stream: &'a str,
+        program: &'a str,
+        image: &'a str,
+    },
+    /// Makes the program of a listing.
+    Assemble {
+        text: &'a str,
+        program: &'a str,
+    },
 }
 
 /// The first word.
@@ -77,39 +139,6 @@ fn verb_of(word: &str) -> Option<Verb>
     }
 }
 
-impl Verb {
-    fn operand_count(self) -> usize
-        ensures { result ≡ operands self }
-    {
-        match self {
-            Verb::List | Verb::Verify => 1,
-            Verb::Compile | Verb::Damage | Verb::Assemble => 2,
-            Verb::Run => 3,
-            Verb::Capture | Verb::Make | Verb::Chain | Verb::Ring => 4,
-        }
-    }
-
-    fn input_count(self) -> usize
-        ensures { result ≡ inputs self }
-    {
-        match self {
-            Verb::List | Verb::Verify | Verb::Compile | Verb::Make | Verb::Assemble => 1,
-            Verb::Run | Verb::Capture | Verb::Damage | Verb::Ring => 2,
-            Verb::Chain => 3,
-        }
-    }
-
-    fn output_count(self) -> usize
-        ensures { result ≡ outputs self }
-    {
-        match self {
-            Verb::List | Verb::Verify | Verb::Damage => 0,
-            Verb::Run | Verb::Compile | Verb::Make | Verb::Chain | Verb::Assemble => 1,
-            Verb::Capture | Verb::Ring => 2,
-        }
-    }
-}
-
 fn digits_value(word: &[u8]) -> Option<u64>
     ensures { result ≡ number_from 0 word.now }
 {
@@ -133,41 +162,64 @@ fn number(word: &str) -> Option<u64>
     }
 }
 
-fn make_with(seed: Option<u64>, frames: Option<u64>) -> Result<Command, UsageFault>
-    ensures { result ≡ made_with seed frames }
+fn make<'a>(
+    desc: &'a str,
+    seed: Option<u64>,
+    frames: Option<u64>,
+    stream: &'a str,
+) -> Result<Task<'a>, UsageFault>
+    ensures { result ≡ made_with desc.entry seed frames stream.entry }
 {
     match (seed, frames) {
-        (Some(seed), Some(frames)) if (1..=16).contains(&frames) => Ok(Command::Make {
+        (Some(seed), Some(frames)) if (1..=16).contains(&frames) => Ok(Task::Make {
+            desc,
             seed,
             frames: frames as u8,
+            stream,
         }),
         _ => Err(UsageFault::Number),
     }
 }
 
-fn make(others: &[&str]) -> Result<Command, UsageFault>
-    ensures { result ≡ make_of (map (λ w. w.now) others.now) }
+fn task_for<'a>(verb: Verb, others: &[&'a str]) -> Result<Task<'a>, UsageFault>
+    ensures { result ≡ named verb others.now }
 {
-    match others {
-        [_, seed, frames, ..] => make_with(number(seed), number(frames)),
+    match (verb, others) {
+        (Verb::List, &[program]) => Ok(Task::List { program }),
+        (Verb::Verify, &[program]) => Ok(Task::Verify { program }),
+        (Verb::Run, &[program, stream, image]) => Ok(Task::Run {
+            program,
+            stream,
+            image,
+        }),
+        (Verb::Compile, &[desc, program]) => Ok(Task::Compile { desc, program }),
+        (Verb::Capture, &[desc, stream, program, image]) => Ok(Task::Capture {
+            desc,
+            stream,
+            program,
+            image,
+        }),
+        (Verb::Make, &[desc, seed, frames, stream]) => make(
+            desc,
+            number(seed),
+            number(frames),
+            stream,
+        ),
+        (Verb::Chain, &[first, second, stream, image]) => Ok(Task::Chain {
+            first,
+            second,
+            stream,
+            image,
+        }),
+        (Verb::Damage, &[desc, stream]) => Ok(Task::Damage { desc, stream }),
+        (Verb::Ring, &[ring, stream, program, image]) => Ok(Task::Ring {
+            ring,
+            stream,
+            program,
+            image,
+        }),
+        (Verb::Assemble, &[text, program]) => Ok(Task::Assemble { text, program }),
         _ => Err(UsageFault::WordCount),
-    }
-}
-
-fn command_for(verb: Verb, others: &[&str]) -> Result<Command, UsageFault>
-    ensures { result ≡ command_with verb (map (λ w. w.now) others.now) }
-{
-    match verb {
-        Verb::List => Ok(Command::List),
-        Verb::Verify => Ok(Command::Verify),
-        Verb::Run => Ok(Command::Run),
-        Verb::Compile => Ok(Command::Compile),
-        Verb::Capture => Ok(Command::Capture),
-        Verb::Make => make(others),
-        Verb::Chain => Ok(Command::Chain),
-        Verb::Damage => Ok(Command::Damage),
-        Verb::Ring => Ok(Command::Ring),
-        Verb::Assemble => Ok(Command::Assemble),
     }
 }
 
@@ -191,36 +243,92 @@ fn clashes(taken: &[&str], names: &[&str]) -> bool
     }
 }
 
-fn judge(verb: Verb, others: &[&str]) -> Result<Command, UsageFault>
-    requires { length others.now ≡ operands verb }
-    ensures { result ≡ clash_after verb (map (λ w. w.now) others.now) (command_with verb (map (λ w. w.now) others.now)) }
-{
-    let command = command_for(verb, others)?;
-    let outputs = &others[verb.operand_count() - verb.output_count()..];
-    if clashes(&others[..verb.input_count()], outputs) {
-        return Err(UsageFault::SameName);
+impl Task<'_> {
+    /// Whether an output has the name of an input or of another output.
+    fn has_clash(&self) -> bool
+        ensures { result ≡ has_clash (reads self.now) (writes self.now) }
+    {
+        match *self {
+            Task::List { .. } | Task::Verify { .. } | Task::Damage { .. } => false,
+            Task::Run {
+                program,
+                stream,
+                image,
+            } => clashes(&[program, stream], &[image]),
+            Task::Compile { desc, program } => clashes(&[desc], &[program]),
+            Task::Capture {
+                desc,
+                stream,
+                program,
+                image,
+            } => clashes(&[desc, stream], &[program, image]),
+            Task::Make { desc, stream, .. } => clashes(&[desc], &[stream]),
+            Task::Chain {
+                first,
+                second,
+                stream,
+                image,
+            } => clashes(&[first, second, stream], &[image]),
+            Task::Ring {
+                ring,
+                stream,
+                program,
+                image,
+            } => clashes(&[ring, stream], &[program, image]),
+            Task::Assemble { text, program } => clashes(&[text], &[program]),
+        }
     }
-    Ok(command)
+
+    /// The command, without the names.
+    fn command(&self) -> Command
+        ensures { result ≡ command_in self.now }
+    {
+        match *self {
+            Task::List { .. } => Command::List,
+            Task::Verify { .. } => Command::Verify,
+            Task::Run { .. } => Command::Run,
+            Task::Compile { .. } => Command::Compile,
+            Task::Capture { .. } => Command::Capture,
+            Task::Make { seed, frames, .. } => Command::Make { seed, frames },
+            Task::Chain { .. } => Command::Chain,
+            Task::Damage { .. } => Command::Damage,
+            Task::Ring { .. } => Command::Ring,
+            Task::Assemble { .. } => Command::Assemble,
+        }
+    }
 }
 
-/// What the words after the program's name ask for.
+fn judge(task: Task<'_>) -> Result<Task<'_>, UsageFault>
+    ensures { result ≡ apart task.entry }
+{
+    if task.has_clash() {
+        return Err(UsageFault::SameName);
+    }
+    Ok(task)
+}
+
+/// What the words after the program's name ask for, with their names and numbers.
 ///
 /// The faults are looked for in the order of `UsageFault`. A number is decimal digits without a sign
 /// and without a leading zero; SEED is below 2^64 and FRAMES is 1 to 16. Takes no memory.
-pub fn read_words(words: &[&str]) -> Result<Command, UsageFault>
-    ensures { result ≡ command_of (map (λ w. w.now) words.now) }
+pub fn read_task<'a>(words: &[&'a str]) -> Result<Task<'a>, UsageFault>
+    ensures { result ≡ task_of words.now }
 {
     match words {
         [] => Err(UsageFault::NoCommand),
         [first, others @ ..] => match verb_of(first) {
-            Some(verb) => {
-                if others.len() == verb.operand_count() {
-                    judge(verb, others)
-                } else {
-                    Err(UsageFault::WordCount)
-                }
-            }
+            Some(verb) => judge(task_for(verb, others)?),
             None => Err(UsageFault::UnknownCommand),
         },
+    }
+}
+
+/// What the words after the program's name ask for, without the names of files, as `read_task` finds it.
+pub fn read_words(words: &[&str]) -> Result<Command, UsageFault>
+    ensures { result ≡ command_of words.now }
+{
+    match read_task(words) {
+        Ok(task) => Ok(task.command()),
+        Err(fault) => Err(fault),
     }
 }
