@@ -1,9 +1,10 @@
 -- What the top call promises, said one by one, follows from its one exact clause.
 use Rattle.std.specs.Prelude.{⊤}
 use Rattle.std.proofs.Common.{◌≡◌, ℕ, ◌⊎◌, inl, inr, false, List, [], ◌∷◌, Option, Result, Ok, Err, All, refl, sym, ap, subst, ◌∙◌}
-use Rattle.bt878_words.specs.declared.Command.{Command}
+use Rattle.bt878_words.specs.declared.Task.{Task}
+use Rattle.bt878_words.specs.declared.Task.TheVariants as command
 use Rattle.bt878_words.specs.declared.UsageFault.{UsageFault}
-use Rattle.bt878_words.specs.Words.{command_of, inputs_of, outputs_of}
+use Rattle.bt878_words.specs.Words.{Word, task_of, writes}
 use Rattle.capture_desk.specs.Desks.{Inputs, Seen, Tells, is_among, said_by}
 use Rattle.capture_desc.specs.declared.desc.Desc.{Desc}
 use Rattle.machine_model.specs.Paths.{RiscProgram, IsSound}
@@ -22,7 +23,7 @@ use Rattle.command_texts.specs.declared.refusal.Refusal.{Refusal}
 use Rattle.command_texts.specs.declared.refusal.Refusal.TheVariants as refusal
 use Rattle.command_texts.specs.Answers.{answer_of}
 use Rattle.command_steps.specs.Outputs.{EndsAtFault, Product, Says, delivered}
-use Rattle.command_steps.specs.Inputs.{OfInput, SameCounts, ReadsRose, WritesRose, apart}
+use Rattle.command_steps.specs.Inputs.{AreGood, OfInput, SameCounts, ReadsRose, WritesRose, apart}
 use Rattle.command_texts.specs.Texts.{answer_text, made_text}
 use Rattle.stream_play.specs.Plays.{longest_stream}
 use Rattle.command_inputs.specs.Programs.{GivesSound, HoldsProgram, HoldsSound}
@@ -37,45 +38,21 @@ use Rattle.command_inputs.specs.Descriptions.{GivesCompiled, GivesDescribed, Hol
 use Rattle.command_inputs.specs.Listings.{GivesAssembled, HoldsListing}
 use Rattle.command_inputs.specs.Rings.{GivesRing, GivesRingProgram, HoldsRing}
 use Rattle.ring_model.specs.Rings.{Ring}
-use Rattle.bt878_contract.specs.Tasks.{Task, Lists, Verifies, Runs, Compiles, Captures, Generates, Chains, Damages, Rings, Assembles, Answers, ChainOf, DescMakes, Ends, IsDone, IsLiveRun, IsPartDone}
-use Rattle.bt878_contract.specs.Tasks.{IsRefused, ListingMakes, Makes, Reports, ReportsBlocks, TellsRows, RunMakes, RunOf, compiled_text, creates, image_of_run, meaning, no_file, program_and_image}
-use Rattle.bt878_contract.specs.Tasks.{program_file, program_text, task_of, task_with}
+use Rattle.bt878_contract.specs.Tasks.{Answers, ChainOf, DescMakes, Ends, IsDone, IsLiveRun, IsPartDone, IsRefused, ListingMakes, Makes, MakesBy, Meaning, MakesOther, Reports, ReportsBlocks, RunsChain, RunsProgram}
+use Rattle.bt878_contract.specs.Tasks.{IsWholeWork, RunMakes, RunOf, TellsRows, compiled_text, image_of_run, input_of, inputs_of, meaning, names_read, names_written, no_file, program_and_image, program_file, program_text}
 use Rattle.bt878_contract.specs.Clauses.{AreTold, CreatesNone, IsAssembled, IsBadInput, IsCompiled, IsCut, IsInOrder, IsGenerated, IsGood, IsOutput, IsRefusal, IsUnreadOf, IsUsage, OfDesc, OfDescRun}
-use Rattle.bt878_contract.specs.Clauses.{OfLive, OfLiveRun, OfLiveSteps, OfRan, OfRingRun, OfSteps, OnlyOutputs, OnlySays, SameNames, SameOutput, SaysAccepted, SaysAll, SaysBlocks, SaysDamage}
+use Rattle.bt878_contract.specs.Clauses.{OfLive, OfLiveBy, OfLiveRun, OfLiveSteps, OfRan, OfRanBy, OfRingRun, OfSteps, OnlyOutputs, OnlySays, SameNames, SameOutput, SaysAccepted, SaysAll, SaysBlocks, SaysDamage}
 use Rattle.bt878_contract.specs.Clauses.{SaysListing, ShowsImage, ShowsLast, ShowsLastLive, ShowsProgram, StandsAt, StaysInside, TellsInput, UnlessCut}
-use Rattle.bt878_contract.proofs.Asked.{IsAsked, is_asked}
-use Rattle.bt878_contract.proofs.Inputs.{both-map, first_good, run_file, run_stream, second_good, third_good, three-map}
+use Rattle.bt878_contract.proofs.Words.{outputs_apart}
+use Rattle.bt878_contract.proofs.Inputs.{both-map, taken_are_good, three-map}
 use Rattle.bt878_contract.proofs.Judges.{bad_in, bad_leads, good_leads, good_not_bad, judged, unread_in}
 use Rattle.bt878_contract.proofs.Outputs.{AreApart, AreOutputs, all_said, all_written, cut_off, done_names, done_other, no_files, only_says, part_done_other, part_names, rises, said_names, same_outputs, says_only}
 
 -- ---- the words
 
-module _ (words : List (List ℕ)) (answer : Answer) (old new : Seen) (h : Answers (task_of words) answer old new) where
-  -- what the words are, and what came of it
-  by_words : (P : Type 0) → ((fault : UsageFault) → answer ≡ Usage fault → P) → ((a : IsAsked words) → Ends a.task answer old new → P) → P
-  by_words P faulty fine = by_command (command_of words) refl
-    where
-      by_command : (c : Result Command UsageFault) → command_of words ≡ c → P
-      by_command (Err fault) e = faulty fault (subst (λ r. Answers r answer old new) (ap (λ c. task_with c words) e) h).0
-      by_command (Ok c) e = let a = is_asked words c e in fine a (subst (λ r. Answers r answer old new) a.is h)
-
-  pub usage_comes : IsUsage (command_of words) answer
-  usage_comes = by_command (command_of words) refl
-    where
-      by_command : (c : Result Command UsageFault) → command_of words ≡ c → IsUsage c answer
-      by_command (Err fault) e = (subst (λ r. Answers r answer old new) (ap (λ c. task_with c words) e) h).0
-      by_command (Ok c) e = λ fault is. let a = is_asked words c e in subst (λ x. Ends a.task x old new) is (subst (λ r. Answers r answer old new) a.is h)
-
-is_task : Task → Result Task UsageFault → Task
-is_task task (Ok found) = found
-is_task task (Err fault) = task
-
-abbrev task_ok : Task → Result Task UsageFault
-task_ok task = Ok task
-
-one_task : (a b : Task) → task_ok a ≡ task_ok b → a ≡ b
-unfolding is_task
-one_task a b e = ap (is_task a) e
+pub usage_comes : (r : Result Task UsageFault) (answer : Answer) (old new : Seen) → Answers r answer old new → IsUsage r answer
+usage_comes (Err fault) answer old new h = h.0
+usage_comes (Ok task) answer old new h = λ fault is. subst (λ a. Ends task a old new) is h
 
 -- ---- at Done
 
@@ -97,25 +74,13 @@ module _ (Q : Ran → Type 0) (f : (files : List (List ℕ × List ℕ)) (Says :
       both-map file stream inputs (λ a b. RunOf Gives files Says (a ∷ b ∷ []) product) (λ a b. (r : Ran) × IsRun Gives a b r × Q r)
       (λ a b m. (m.0, m.1, f (files m.0) (Says a m.0) product b m.0 m.1.reads m.2)) h
 
+  ran_of : (m : Meaning) (inputs : Option Inputs) (product : Product) → MakesBy m inputs product → OfRanBy m inputs Q
+  ran_of (RunsProgram r) inputs product h = of_run r.Gives r.files r.Says product (input_of r.source).name r.stream inputs h.0
+  ran_of (RunsChain c) inputs product h = tt
+  ran_of (MakesOther o) inputs product h = tt
+
   ran_by : (r : Result Task UsageFault) (answer : Answer) (old new : Seen) → Answers r answer old new → answer ≡ Done → OfRan r old.told.inputs Q
-  ran_by (Ok (Runs program stream image)) answer old new h e =
-      let d = done_by (Runs program stream image) answer old new h e in
-      of_run GivesSound (image_of_run image) Reports d.product program stream old.told.inputs d.made.0
-  ran_by (Ok (Captures desc stream program image)) answer old new h e =
-      let d = done_by (Captures desc stream program image) answer old new h e in
-      of_run GivesCompiled (program_and_image program image) Reports d.product desc stream old.told.inputs d.made.0
-  ran_by (Ok (Rings ring stream program image)) answer old new h e =
-      let d = done_by (Rings ring stream program image) answer old new h e in
-      of_run GivesRingProgram (program_and_image program image) ReportsBlocks d.product ring stream old.told.inputs d.made.0
-  ran_by (Ok (Damages desc stream)) answer old new h e =
-      let d = done_by (Damages desc stream) answer old new h e in
-      of_run GivesCompiled no_file TellsRows d.product desc stream old.told.inputs d.made.0
-  ran_by (Ok (Chains first second stream image)) answer old new h e = tt
-  ran_by (Ok (Lists program)) answer old new h e = tt
-  ran_by (Ok (Verifies program)) answer old new h e = tt
-  ran_by (Ok (Compiles desc program)) answer old new h e = tt
-  ran_by (Ok (Generates desc seed frames stream)) answer old new h e = tt
-  ran_by (Ok (Assembles text program)) answer old new h e = tt
+  ran_by (Ok task) answer old new h e = let d = done_by task answer old new h e in ran_of (meaning task) old.told.inputs d.product d.made
   ran_by (Err fault) answer old new h e = let usage = h.0 in absurd (cc)
 
 module _ (P : Ran → Type 0) (always : (files : List (List ℕ × List ℕ)) (Says : List ℕ → Type 0) (product : Product) (r : Ran) → RunMakes files Says product r → P r) where
@@ -135,20 +100,15 @@ done_sound = done_ran (λ ran. IsSound ran.program) (λ files Says product ran m
 
 -- what is so of every live run of a chain that `chain` ran
 module _ (P : Chain → ℕ → List LiveStep → Type 0) (promised : (chain : Chain) (fill : ℕ) (steps : List LiveStep) → KeepsLivePromises chain fill steps → P chain fill steps) where
+  live_of : (m : Meaning) (inputs : Option Inputs) (product : Product) → MakesBy m inputs product → OfLiveBy m inputs (OfLiveSteps P)
+  live_of (RunsProgram r) inputs product h = tt
+  live_of (RunsChain chain) inputs product h =
+      three-map chain.one chain.two chain.stream inputs (λ a b c. ChainOf chain.image (a ∷ b ∷ c ∷ []) product) (λ a b c. (r : LiveRan) × IsLiveRun a b c r × OfLiveSteps P r)
+      (λ a b c m. (m.0, m.1, promised _ _ _ m.2.promises)) h.0
+  live_of (MakesOther o) inputs product h = tt
+
   pub done_live : (r : Result Task UsageFault) (answer : Answer) (old new : Seen) → Answers r answer old new → answer ≡ Done → OfLive r old.told.inputs (OfLiveSteps P)
-  done_live (Ok (Chains first second stream image)) answer old new h e =
-      let d = done_by (Chains first second stream image) answer old new h e in
-      three-map first second stream old.told.inputs (λ a b c. ChainOf image (a ∷ b ∷ c ∷ []) d.product) (λ a b c. (r : LiveRan) × IsLiveRun a b c r × OfLiveSteps P r)
-      (λ a b c m. (m.0, m.1, promised _ _ _ m.2.promises)) d.made.0
-  done_live (Ok (Runs program stream image)) answer old new h e = tt
-  done_live (Ok (Captures desc stream program image)) answer old new h e = tt
-  done_live (Ok (Damages desc stream)) answer old new h e = tt
-  done_live (Ok (Rings ring stream program image)) answer old new h e = tt
-  done_live (Ok (Lists program)) answer old new h e = tt
-  done_live (Ok (Verifies program)) answer old new h e = tt
-  done_live (Ok (Compiles desc program)) answer old new h e = tt
-  done_live (Ok (Generates desc seed frames stream)) answer old new h e = tt
-  done_live (Ok (Assembles text program)) answer old new h e = tt
+  done_live (Ok task) answer old new h e = let d = done_by task answer old new h e in live_of (meaning task) old.told.inputs d.product d.made
   done_live (Err fault) answer old new h e = tt
 
 -- its files and its text are there, and nothing else is created
@@ -156,21 +116,21 @@ module _ (task : Task) (old new : Seen) (d : IsDone task old new) where
   its_text : SaysAll d.product.text old.told new.told
   its_text = all_said d.product.files d.product.text old.told new.told d.left
 
-  its_files : AreApart (creates task) → AreOutputs d.product.files new.told.outputs
+  its_files : AreApart (writes task) → AreOutputs d.product.files new.told.outputs
   its_files h = all_written d.product.files d.product.text old.told new.told d.left (subst AreApart (sym d.names) h)
 
-  its_text_alone : creates task ≡ [] → CreatesNone old.told new.told
+  its_text_alone : writes task ≡ [] → CreatesNone old.told new.told
   its_text_alone none =
       (says_only d.product.text old.told new.told (d.left ∙ ap (λ files. delivered files d.product.text (apart old.told)) (no_files d.product.files (d.names ∙ none)))).0
 
   -- the files of a run, and a text that is said of it
-  its_run : (files : List (List ℕ × List ℕ)) (Says : List ℕ → Type 0) (r : Ran) → AreApart (creates task) → RunMakes files Says d.product r → AreOutputs files new.told.outputs
+  its_run : (files : List (List ℕ × List ℕ)) (Says : List ℕ → Type 0) (r : Ran) → AreApart (writes task) → RunMakes files Says d.product r → AreOutputs files new.told.outputs
   its_run files Says r h m = subst (λ fs. AreOutputs fs new.told.outputs) m.writes (its_files h)
 
   its_words : (text : List ℕ) → d.product.text ≡ text → SaysAll text old.told new.told
   its_words text e = subst (λ t. SaysAll t old.told new.told) e its_text
 
-  its_desc : (file : Desc → List ℕ × List ℕ) (text : Desc → List ℕ) (desc : List ℕ) → AreApart (creates task) → OfInput desc old.told.inputs (DescMakes file text d.product) →
+  its_desc : (file : Desc → List ℕ × List ℕ) (text : Desc → List ℕ) (desc : List ℕ) → AreApart (writes task) → OfInput desc old.told.inputs (DescMakes file text d.product) →
       OfDesc desc old.told.inputs (λ c. IsOutput (file c).0 (file c).1 new.told.outputs × SaysAll (text c) old.told new.told)
   its_desc file text desc h made =
       OfInput-map desc old.told.inputs (DescMakes file text d.product) _
@@ -183,35 +143,33 @@ module _ (task : Task) (old new : Seen) (d : IsDone task old new) where
 
 -- ---- each command, at Done
 
-module _ (words : List (List ℕ)) (answer : Answer) (old new : Seen) (h : Answers (task_of words) answer old new) (e : answer ≡ Done) where
+module _ (words : List Word) (answer : Answer) (old new : Seen) (h : Answers (task_of words) answer old new) (e : answer ≡ Done) where
   -- what words for a task come to
   task_done : (task : Task) → task_of words ≡ Ok task → IsDone task old new
   task_done task is = done_by task answer old new (subst (λ r. Answers r answer old new) is h) e
 
   -- their outputs have different names
-  distinct : (task : Task) → task_of words ≡ Ok task → AreApart (creates task)
-  distinct task is =
-      by_words words answer old new h (AreApart (creates task)) (λ fault usage. absurd (cc))
-      (λ a ends. subst (λ t. AreApart (creates t)) (one_task a.task task (sym a.is ∙ is)) a.distinct)
+  distinct : (task : Task) → task_of words ≡ Ok task → AreApart (writes task)
+  distinct task is = outputs_apart words task is
 
-  pub done_run : (program stream image : List ℕ) → task_of words ≡ Ok (Runs program stream image) → OfRun GivesSound program stream old.told.inputs (ShowsLast image old.told new.told)
+  pub done_run : (program stream image : Word) → task_of words ≡ Ok (command.Run program stream image) → OfRun GivesSound program stream old.told.inputs (ShowsLast image old.told new.told)
   done_run program stream image is =
-      let task = Runs program stream image in
+      let task = command.Run program stream image in
       let d = task_done task is in
       both-map program stream old.told.inputs (λ a b. RunOf GivesSound (image_of_run image) Reports (a ∷ b ∷ []) d.product)
       (λ a b. (r : Ran) × IsRun GivesSound a b r × ShowsLast image old.told new.told r)
       (λ a b m. (m.0, m.1, ((its_run task old new d (image_of_run image m.0) (Reports a m.0) m.0 (distinct task is) m.2).0, its_words task old new d _ m.2.says))) d.made.0
 
   -- the program file and the image of a run
-  its_program_and_image : (task : Task) (d : IsDone task old new) (program image : List ℕ) (Says : List ℕ → Type 0) (r : Ran) → AreApart (creates task) → RunMakes (program_and_image program image r) Says d.product r →
+  its_program_and_image : (task : Task) (d : IsDone task old new) (program image : List ℕ) (Says : List ℕ → Type 0) (r : Ran) → AreApart (writes task) → RunMakes (program_and_image program image r) Says d.product r →
       ShowsProgram program new.told r × ShowsImage image new.told r
   its_program_and_image task d program image Says r h m =
       let written = its_run task old new d (program_and_image program image r) Says r h m in (written.0, written.1.0)
 
-  pub done_capture : (desc stream program image : List ℕ) → task_of words ≡ Ok (Captures desc stream program image) →
+  pub done_capture : (desc stream program image : Word) → task_of words ≡ Ok (command.Capture desc stream program image) →
       OfRun GivesCompiled desc stream old.told.inputs (λ r. ShowsProgram program new.told r × ShowsLast image old.told new.told r)
   done_capture desc stream program image is =
-      let task = Captures desc stream program image in
+      let task = command.Capture desc stream program image in
       let d = task_done task is in
       both-map desc stream old.told.inputs (λ a b. RunOf GivesCompiled (program_and_image program image) Reports (a ∷ b ∷ []) d.product)
       (λ a b. (r : Ran) × IsRun GivesCompiled a b r × (ShowsProgram program new.told r × ShowsLast image old.told new.told r))
@@ -220,19 +178,19 @@ module _ (words : List (List ℕ)) (answer : Answer) (old new : Seen) (h : Answe
       (m.0, m.1, (written.0, (written.1, its_words task old new d _ m.2.says))))
       d.made.0
 
-  pub done_chain : (first second stream image : List ℕ) → task_of words ≡ Ok (Chains first second stream image) →
+  pub done_chain : (first second stream image : Word) → task_of words ≡ Ok (command.Chain first second stream image) →
       OfLiveRun first second stream old.told.inputs (ShowsLastLive image old.told new.told)
   done_chain first second stream image is =
-      let task = Chains first second stream image in
+      let task = command.Chain first second stream image in
       let d = task_done task is in
       three-map first second stream old.told.inputs (λ a b c. ChainOf image (a ∷ b ∷ c ∷ []) d.product) (λ a b c. (r : LiveRan) × IsLiveRun a b c r × ShowsLastLive image old.told new.told r)
       (λ a b c m.
       let written = subst (λ fs. AreOutputs fs new.told.outputs) m.2.writes (its_files task old new d (distinct task is)) in
       (m.0, m.1, (written.0, its_words task old new d _ m.2.says))) d.made.0
 
-  pub done_damage : (desc stream : List ℕ) → task_of words ≡ Ok (Damages desc stream) → OfDescRun desc stream old.told.inputs (SaysDamage old.told new.told)
+  pub done_damage : (desc stream : Word) → task_of words ≡ Ok (command.Damage desc stream) → OfDescRun desc stream old.told.inputs (SaysDamage old.told new.told)
   done_damage desc stream is =
-      let task = Damages desc stream in
+      let task = command.Damage desc stream in
       let d = task_done task is in
       both-map desc stream old.told.inputs (λ a b. RunOf GivesCompiled no_file TellsRows (a ∷ b ∷ []) d.product)
       (λ a b. (x : Desc) × (r : Ran) × IsRun (GivesDescribed x) a b r × SaysDamage old.told new.told x r)
@@ -241,10 +199,10 @@ module _ (words : List (List ℕ)) (answer : Answer) (old new : Seen) (h : Answe
       (says.description, m.0, record { gives = says.gives; reads = m.1.reads }, (its_words task old new d _ says.says, its_text_alone task old new d refl)))
       d.made.0
 
-  pub done_ring : (ring stream program image : List ℕ) → task_of words ≡ Ok (Rings ring stream program image) →
+  pub done_ring : (ring stream program image : Word) → task_of words ≡ Ok (command.Ring ring stream program image) →
       OfRingRun ring stream old.told.inputs (λ x r. ShowsProgram program new.told r × ShowsImage image new.told r × SaysBlocks old.told new.told x r)
   done_ring ring stream program image is =
-      let task = Rings ring stream program image in
+      let task = command.Ring ring stream program image in
       let d = task_done task is in
       both-map ring stream old.told.inputs (λ a b. RunOf GivesRingProgram (program_and_image program image) ReportsBlocks (a ∷ b ∷ []) d.product)
       (λ a b. (x : Ring) × (r : Ran) × IsRun (GivesRing x) a b r × (ShowsProgram program new.told r × ShowsImage image new.told r × SaysBlocks old.told new.told x r))
@@ -254,46 +212,46 @@ module _ (words : List (List ℕ)) (answer : Answer) (old new : Seen) (h : Answe
       (says.ring, m.0, record { gives = says.gives; reads = m.1.reads }, (written.0, written.1, its_words task old new d _ says.says)))
       d.made.0
 
-  pub done_compile : (desc program : List ℕ) → task_of words ≡ Ok (Compiles desc program) → IsCompiled desc program old.told new.told
+  pub done_compile : (desc program : Word) → task_of words ≡ Ok (command.Compile desc program) → IsCompiled desc program old.told new.told
   done_compile desc program is =
-      let d = task_done (Compiles desc program) is in
-      its_desc (Compiles desc program) old new d (λ c. program_file program (compiled c) c.fill) compiled_text desc (distinct (Compiles desc program) is) d.made.0
+      let d = task_done (command.Compile desc program) is in
+      its_desc (command.Compile desc program) old new d (λ c. program_file program (compiled c) c.fill) compiled_text desc (distinct (command.Compile desc program) is) d.made.0
 
-  pub done_make : (desc : List ℕ) (seed frames : ℕ) (stream : List ℕ) → task_of words ≡ Ok (Generates desc seed frames stream) → IsGenerated desc seed frames stream old.told new.told
+  pub done_make : (desc : Word) (seed frames : ℕ) (stream : Word) → task_of words ≡ Ok (command.Make desc seed frames stream) → IsGenerated desc seed frames stream old.told new.told
   done_make desc seed frames stream is =
-      let d = task_done (Generates desc seed frames stream) is in
-      its_desc (Generates desc seed frames stream) old new d (λ c. (stream, made c seed frames)) (λ c. made_text (made_fields c frames) (made_entries c frames)) desc
-      (distinct (Generates desc seed frames stream) is) d.made.0
+      let d = task_done (command.Make desc seed frames stream) is in
+      its_desc (command.Make desc seed frames stream) old new d (λ c. (stream, made c seed frames)) (λ c. made_text (made_fields c frames) (made_entries c frames)) desc
+      (distinct (command.Make desc seed frames stream) is) d.made.0
 
-  pub done_assemble : (text program : List ℕ) → task_of words ≡ Ok (Assembles text program) → IsAssembled text program old.told new.told
+  pub done_assemble : (text program : Word) → task_of words ≡ Ok (command.Assemble text program) → IsAssembled text program old.told new.told
   done_assemble text program is =
-      let d = task_done (Assembles text program) is in
+      let d = task_done (command.Assemble text program) is in
       OfInput-map text old.told.inputs (ListingMakes program d.product)
       (λ bytes. (file : ProgramFile) × GivesAssembled bytes file
       × IsOutput program (spelled file.program file.fill) new.told.outputs × SaysAll (program_text file.program) old.told new.told)
       (λ bytes m. (
         m.file,
         m.assembles,
-        (subst (λ fs. AreOutputs fs new.told.outputs) m.writes (its_files (Assembles text program) old new d (distinct (Assembles text program) is))).0,
-        subst (λ t. SaysAll t old.told new.told) m.says (its_text (Assembles text program) old new d),
+        (subst (λ fs. AreOutputs fs new.told.outputs) m.writes (its_files (command.Assemble text program) old new d (distinct (command.Assemble text program) is))).0,
+        subst (λ t. SaysAll t old.told new.told) m.says (its_text (command.Assemble text program) old new d),
       ))
       d.made.0
 
-  pub done_verify : (program : List ℕ) → task_of words ≡ Ok (Verifies program) → SaysAccepted program old.told new.told
+  pub done_verify : (program : Word) → task_of words ≡ Ok (command.Verify program) → SaysAccepted program old.told new.told
   done_verify program is =
-      let d = task_done (Verifies program) is in (
+      let d = task_done (command.Verify program) is in (
         d.made.0,
-        subst (λ text. SaysAll text old.told new.told) d.made.1 (its_text (Verifies program) old new d),
-        its_text_alone (Verifies program) old new d refl,
+        subst (λ text. SaysAll text old.told new.told) d.made.1 (its_text (command.Verify program) old new d),
+        its_text_alone (command.Verify program) old new d refl,
       )
 
-  pub done_list : (program : List ℕ) → task_of words ≡ Ok (Lists program) → SaysListing program old.told new.told
+  pub done_list : (program : Word) → task_of words ≡ Ok (command.List program) → SaysListing program old.told new.told
   done_list program is =
-      let d = task_done (Lists program) is in (
+      let d = task_done (command.List program) is in (
         OfInput-map program old.told.inputs (λ bytes. IsListed bytes d.product.text)
             (λ bytes. (file : ProgramFile) × (program_of bytes ≡ Ok file) × SaysAll (listing file.program file.fill) old.told new.told)
-            (λ bytes lists. (lists.0, lists.1, subst (λ text. SaysAll text old.told new.told) lists.2 (its_text (Lists program) old new d))) d.made.0,
-        its_text_alone (Lists program) old new d refl,
+            (λ bytes lists. (lists.0, lists.1, subst (λ text. SaysAll text old.told new.told) lists.2 (its_text (command.List program) old new d))) d.made.0,
+        its_text_alone (command.List program) old new d refl,
       )
 
 -- ---- why it is refused
@@ -359,10 +317,9 @@ refused_by task answer old new h r =
     (λ p e. absurd (subst IsOther (sym e) (is_other r)))
     (λ other refused e. subst (λ x. IsRefused task x old new) (one_refusal other r e) refused) h
 
-pub read_fault_comes : (words : List (List ℕ)) (answer : Answer) (old new : Seen) → Answers (task_of words) answer old new → answer ≡ ReadFault → IsUnreadOf (inputs_of words) old new
-read_fault_comes words answer old new h e =
-    by_words words answer old new h (IsUnreadOf (inputs_of words) old new) (λ fault usage. absurd (cc))
-    (λ a ends. subst (λ names. IsUnreadOf names old new) (sym a.inputs) (unread_in (meaning a.task).inputs old new (refused_by a.task answer old new ends refusal.ReadFault e).why))
+pub read_fault_comes : (r : Result Task UsageFault) (answer : Answer) (old new : Seen) → Answers r answer old new → answer ≡ ReadFault → IsUnreadOf (names_read r) old new
+read_fault_comes (Err fault) answer old new h e = let usage = h.0 in absurd (cc)
+read_fault_comes (Ok task) answer old new h e = unread_in (sources (meaning task)) old new (refused_by task answer old new h refusal.ReadFault e).why
 
 pub write_fault_comes : (r : Result Task UsageFault) (answer : Answer) (old new : Seen) → Answers r answer old new → answer ≡ WriteFault → WritesRose old new
 write_fault_comes (Err fault) answer old new h e = let usage = h.0 in absurd (cc)
@@ -371,51 +328,25 @@ write_fault_comes (Ok task) answer old new h e = rises old.writes new.writes (at
 pub bad_input_comes : (r : Result Task UsageFault) (answer : Answer) (old new : Seen) → Answers r answer old new → (why : Refusal) → answer ≡ answer_of why → TellsInput why →
     IsBadInput r why old.told.inputs
 bad_input_comes (Err fault) answer old new h why e tells = absurd (subst IsOther (sym (sym h.0 ∙ e)) (is_other why))
-bad_input_comes (Ok task) answer old new h why e tells = bad_in (meaning task).inputs why old new tells (refused_by task answer old new h why e).why
+bad_input_comes (Ok task) answer old new h why e tells = bad_in (inputs_of task) why old new tells (refused_by task answer old new h why e).why
 
 -- ---- what an input leads to, where it is told
 
-valid_of : (file : Desc → List ℕ × List ℕ) (text : Desc → List ℕ) (product : Product) (desc : List ℕ) (inputs : Option Inputs) → OfInput desc inputs (DescMakes file text product) →
-    OfInput desc inputs HoldsValid
-valid_of file text product desc inputs h = OfInput-map desc inputs (DescMakes file text product) HoldsValid (λ bytes m. (m.description, m.describes)) h
+-- what was made, whole or in part, was made of good inputs
+good_at_done : (task : Task) (old new : Seen) → IsDone task old new → AreGood (inputs_of task) old.told.inputs
+good_at_done task old new d = taken_are_good (inputs_of task) old.told.inputs d.calls.1.0 d.calls.1.1
 
--- what is made is made of good inputs
-makes_good : (task : Task) (inputs : Option Inputs) (product : Product) → AreTold inputs → Makes task inputs product → IsGood (Ok task) inputs
-makes_good (Lists program) inputs product told h = (OfInput-map program inputs (λ bytes. IsListed bytes product.text) HoldsProgram (λ bytes is. (is.0, is.1)) h.0, tt)
-makes_good (Verifies program) inputs product told h = (h.0, tt)
-makes_good (Runs program stream image) inputs product told h = (
-  run_file GivesSound program stream inputs (image_of_run image) Reports product HoldsSound (λ bytes p fill is. (p, fill, is)) told h.0,
-  (run_stream GivesSound program stream inputs (image_of_run image) Reports product told h.0, tt),
-)
-makes_good (Compiles desc program) inputs product told h = (valid_of (λ d. program_file program (compiled d) d.fill) compiled_text product desc inputs h.0, tt)
-makes_good (Captures desc stream program image) inputs product told h = (
-  run_file GivesCompiled desc stream inputs (program_and_image program image) Reports product HoldsValid (λ bytes p fill is. (is.description, is.describes)) told h.0,
-  (run_stream GivesCompiled desc stream inputs (program_and_image program image) Reports product told h.0, tt),
-)
-makes_good (Damages desc stream) inputs product told h = (
-  run_file GivesCompiled desc stream inputs no_file TellsRows product HoldsValid (λ bytes p fill is. (is.description, is.describes)) told h.0,
-  (run_stream GivesCompiled desc stream inputs no_file TellsRows product told h.0, tt),
-)
-makes_good (Chains first second stream image) inputs product told h = (
-  first_good first second stream image inputs product told h.0,
-  (second_good first second stream image inputs product told h.0, (third_good first second stream image inputs product told h.0, tt)),
-)
-makes_good (Rings ring stream program image) inputs product told h = (
-  run_file GivesRingProgram ring stream inputs (program_and_image program image) ReportsBlocks product HoldsRing (λ bytes p fill is. (is.0, is.1.holds)) told h.0,
-  (run_stream GivesRingProgram ring stream inputs (program_and_image program image) ReportsBlocks product told h.0, tt),
-)
-makes_good (Generates desc seed frames stream) inputs product told h =
-    (valid_of (λ d. (stream, made d seed frames)) (λ d. made_text (made_fields d frames) (made_entries d frames)) product desc inputs h.0, tt)
-makes_good (Assembles text program) inputs product told h = (OfInput-map text inputs (ListingMakes program product) HoldsListing (λ bytes m. (m.file, m.assembles)) h.0, tt)
+good_in_part : (task : Task) (old new : Seen) → IsPartDone task old new → AreGood (inputs_of task) old.told.inputs
+good_in_part task old new p = taken_are_good (inputs_of task) old.told.inputs p.calls.1.0 p.calls.1.2
 
 pub bad_input_must : (r : Result Task UsageFault) (answer : Answer) (old new : Seen) → Answers r answer old new → AreTold old.told.inputs → (wanted : Refusal) →
     IsBadInput r wanted old.told.inputs → UnlessCut wanted answer old new
 bad_input_must (Err fault) answer old new h told wanted bad = absurd bad
 bad_input_must (Ok task) answer old new h told wanted bad =
     by_end task answer old new (λ a. UnlessCut wanted a old new)
-    (λ d. absurd (good_not_bad (meaning task).inputs (judged task) wanted old.told.inputs told (makes_good task old.told.inputs d.product told d.made) bad))
-    (λ p. absurd (good_not_bad (meaning task).inputs (judged task) wanted old.told.inputs told (makes_good task old.told.inputs p.product told p.made) bad))
-    (λ r refused. bad_leads (meaning task).inputs (judged task) wanted r old new told bad refused.why) h
+    (λ d. absurd (good_not_bad (inputs_of task) (judged (sources (meaning task))) wanted old.told.inputs told (good_at_done task old new d) bad))
+    (λ p. absurd (good_not_bad (inputs_of task) (judged (sources (meaning task))) wanted old.told.inputs told (good_in_part task old new p) bad))
+    (λ r refused. bad_leads (inputs_of task) (judged (sources (meaning task))) wanted r old new told bad refused.why) h
 
 uncut : (answer : Answer) (old new : Seen) → (ReadsRose old new → ⊥) → IsCut answer old new → (answer ≡ Done) ⊎ (answer ≡ NoMemory)
 uncut answer old new quiet (inl e) = inr e
@@ -428,7 +359,7 @@ completes (Ok task) answer old new h told good reads writes =
     by_end task answer old new (λ a. (a ≡ Done) ⊎ (a ≡ NoMemory))
     (λ d. inl refl)
     (λ p. absurd (writes (rises old.writes new.writes p.fault.1)))
-    (λ r refused. uncut (answer_of r) old new reads (good_leads (meaning task).inputs (judged task) r old new told good refused.why)) h
+    (λ r refused. uncut (answer_of r) old new reads (good_leads (inputs_of task) (judged (sources (meaning task))) r old new told good refused.why)) h
 
 -- ---- the order of work
 
@@ -457,7 +388,7 @@ refused_only_says (Ok task) answer old new h is =
     by_end task answer old new (λ a. IsRefusal a → OnlySays (answer_text a) old new) (λ d none. absurd none) (λ p none. absurd none)
     (λ r refused some. only_says (answer_text (answer_of r)) old new refused.said) h is
 
-stands_at : (task : Task) (old new : Seen) → AreApart (creates task) → IsPartDone task old new → StandsAt (Ok task) old.told new.told
+stands_at : (task : Task) (old new : Seen) → AreApart (writes task) → IsPartDone task old new → StandsAt (Ok task) old.told new.told
 stands_at task old new h p = (
   p.product,
   p.made,
@@ -465,10 +396,12 @@ stands_at task old new h p = (
   cut_off p.product.files p.product.text old.told new.told p.left (subst AreApart (sym p.names) h),
 )
 
-pub write_fault_stands : (words : List (List ℕ)) (answer : Answer) (old new : Seen) → Answers (task_of words) answer old new → answer ≡ WriteFault → StandsAt (task_of words) old.told new.told
-write_fault_stands words answer old new h e =
-    by_words words answer old new h (StandsAt (task_of words) old.told new.told) (λ fault usage. absurd (cc))
-    (λ a ends. subst (λ r. StandsAt r old.told new.told) (sym a.is) (stands_at a.task old new a.distinct (at_answer a.task answer WriteFault old new ends e)))
+pub write_fault_stands : (words : List Word) (answer : Answer) (old new : Seen) → Answers (task_of words) answer old new → answer ≡ WriteFault → StandsAt (task_of words) old.told new.told
+write_fault_stands words answer old new h e = by_words (task_of words) refl h
+  where
+    by_words : (r : Result Task UsageFault) → task_of words ≡ r → Answers r answer old new → StandsAt r old.told new.told
+    by_words (Err fault) is usage = absurd (cc (usage.0))
+    by_words (Ok task) is ends = stands_at task old new (outputs_apart words task is) (at_answer task answer WriteFault old new ends e)
 
 -- no call follows one that fails at writing
 says_last : (text : List ℕ) (old new : Seen) → Says text old new → EndsAtFault old new
@@ -481,18 +414,17 @@ ends_at_fault (Ok task) answer old new h =
     by_end task answer old new (λ a. EndsAtFault old new) (λ d. inl d.counts.1) (λ p. inr (p.fault.1, p.fault.2)) (λ r refused. says_last (answer_text (answer_of r)) old new refused.said) h
 
 -- the other outputs
-other_by : (task : Task) (answer : Answer) (name : List ℕ) (old new : Seen) → is_among name (creates task) ≡ false → Ends task answer old new → SameOutput name old.told.outputs new.told.outputs
+other_by : (task : Task) (answer : Answer) (name : List ℕ) (old new : Seen) → is_among name (writes task) ≡ false → Ends task answer old new → SameOutput name old.told.outputs new.told.outputs
 other_by task answer name old new absent h =
     by_end task answer old new (λ a. SameOutput name old.told.outputs new.told.outputs)
     (λ d. done_other d.product.files d.product.text old.told new.told d.left name (subst (λ names. is_among name names ≡ false) (sym d.names) absent))
     (λ p. part_done_other p.product.files p.product.text old.told new.told p.left name (subst (λ names. is_among name names ≡ false) (sym p.names) absent))
     (λ r refused. same_outputs name old.told new.told (only_says (answer_text (answer_of r)) old new refused.said).0) h
 
-pub others_untouched : (words : List (List ℕ)) (answer : Answer) (old new : Seen) → Answers (task_of words) answer old new → OnlyOutputs (outputs_of words) old.told new.told
-others_untouched words answer old new h = λ name absent.
-    by_words words answer old new h (SameOutput name old.told.outputs new.told.outputs)
-    (λ fault usage. same_outputs name old.told new.told (refused_only_says (task_of words) answer old new h (subst IsRefusal (sym usage) tt)).0)
-    (λ a ends. other_by a.task answer name old new (subst (λ names. is_among name names ≡ false) a.outputs absent) ends)
+pub others_untouched : (r : Result Task UsageFault) (answer : Answer) (old new : Seen) → Answers r answer old new → OnlyOutputs (names_written r) old.told new.told
+others_untouched (Err fault) answer old new h = λ name absent.
+    same_outputs name old.told new.told (refused_only_says (Err fault) answer old new h (subst IsRefusal (sym h.0) tt)).0
+others_untouched (Ok task) answer old new h = λ name absent. other_by task answer name old new absent h
 
 -- the names
 pub names_kept : (r : Result Task UsageFault) (answer : Answer) (old new : Seen) → Answers r answer old new → SameNames old.told new.told

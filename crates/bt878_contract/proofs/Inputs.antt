@@ -70,56 +70,9 @@ pub three-map : (first second third : List ℕ) (inputs : Option Inputs) (P Q : 
 three-map first second third inputs P Q f h =
     both-map first second inputs (λ a b. OfInput third inputs (P a b)) (λ a b. OfInput third inputs (Q a b)) (λ a b. OfInput-map third inputs (P a b) (Q a b) (f a b)) h
 
-module _ (Gives : List ℕ → RiscProgram → ℕ → Type 0) (file stream : List ℕ) (inputs : Option Inputs) where
-  abbrev Ran-of : (Ran → Type 0) → List ℕ → List ℕ → Type 0
-  Ran-of P a b = (r : Ran) × IsRun Gives a b r × P r
+-- ---- inputs that were taken
 
-  pub OfRun-map : (P Q : Ran → Type 0) → ((a b : List ℕ) (r : Ran) → IsRun Gives a b r → P r → Q r) → OfRun Gives file stream inputs P → OfRun Gives file stream inputs Q
-  OfRun-map P Q f h = both-map file stream inputs (Ran-of P) (Ran-of Q) (λ a b m. (m.0, m.1, f a b m.0 m.1 m.2)) h
-
-  module _ (files : Ran → List (List ℕ × List ℕ)) (Says : List ℕ → Ran → List ℕ → Type 0) (product : Product) where
-    -- what a run makes
-    abbrev pub Made : List ℕ → List ℕ → Type 0
-    Made a b = RunOf Gives files Says (a ∷ b ∷ []) product
-
-    -- both inputs of a run are good
-    pub run_file : (IsGood : List ℕ → Type 0) → ((bytes : List ℕ) (program : RiscProgram) (fill : ℕ) → Gives bytes program fill → IsGood bytes) → AreTold inputs →
-        OfInput file inputs (λ a. OfInput stream inputs (Made a)) → OfInput file inputs IsGood
-    run_file IsGood f told h =
-        OfInput-map file inputs (λ a. OfInput stream inputs (Made a)) IsGood
-        (λ a k. let some = told_some stream inputs (Made a) told k in f a some.1.0.program some.1.0.fill some.1.1.gives) h
-
-    pub run_stream : AreTold inputs → OfInput file inputs (λ a. OfInput stream inputs (Made a)) → OfInput stream inputs (HoldsSteps false)
-    run_stream told h =
-        let some = told_some file inputs (λ a. OfInput stream inputs (Made a)) told h in
-        OfInput-map stream inputs (Made some.0) (HoldsSteps false) (λ b m. (m.0.steps, m.1.reads)) some.1
-
--- ---- a chain
-
--- both descriptions of a chain and its stream are good
-module _ (first second stream image : List ℕ) (inputs : Option Inputs) (product : Product) (told : AreTold inputs)
-    (h : OfInput first inputs (λ a. OfInput second inputs (λ b. OfInput stream inputs (λ c. ChainOf image (a ∷ b ∷ c ∷ []) product)))) where
-  abbrev Made-of-chain : List ℕ → List ℕ → List ℕ → Type 0
-  Made-of-chain a b c = ChainOf image (a ∷ b ∷ c ∷ []) product
-
-  pub first_good : OfInput first inputs HoldsFrame
-  first_good =
-      OfInput-map first inputs (λ a. OfInput second inputs (λ b. OfInput stream inputs (Made-of-chain a b))) HoldsFrame
-      (λ a k.
-      let b = told_some second inputs (λ b. OfInput stream inputs (Made-of-chain a b)) told k in
-      let c = told_some stream inputs (Made-of-chain a b.0) told b.1 in
-      (c.1.0.first, c.1.1.gives.are.reads_first)) h
-
-  pub second_good : OfInput second inputs (HoldsSecond first inputs)
-  second_good =
-      OfInput-map second inputs (λ b. OfInput first inputs (λ a. OfInput stream inputs (Made-of-chain a b))) (HoldsSecond first inputs)
-      (λ b k.
-      OfInput-map first inputs (λ a. OfInput stream inputs (Made-of-chain a b)) (λ a. (d e : Desc) × GivesChain a b d e)
-      (λ a m. let c = told_some stream inputs (Made-of-chain a b) told m in (c.1.0.first, c.1.0.second, c.1.1.gives)) k)
-      (exchanged first second inputs (λ a b. OfInput stream inputs (Made-of-chain a b)) h)
-
-  pub third_good : OfInput stream inputs (HoldsSteps true)
-  third_good =
-      let a = told_some first inputs (λ a. OfInput second inputs (λ b. OfInput stream inputs (Made-of-chain a b))) told h in
-      let b = told_some second inputs (λ b. OfInput stream inputs (Made-of-chain a.0 b)) told a.1 in
-      OfInput-map stream inputs (Made-of-chain a.0 b.0) (HoldsSteps true) (λ c m. (m.0.steps, m.1.reads)) b.1
+-- those that were taken are good
+pub taken_are_good : (inputs : List Input) (told : Option Inputs) (calls : List Call) → AreTaken inputs told calls → AreGood inputs told
+taken_are_good [] told calls h = tt
+taken_are_good (input ∷ inputs) told calls h = (h.4, taken_are_good inputs told h.1 h.5)

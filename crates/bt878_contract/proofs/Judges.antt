@@ -30,7 +30,8 @@ use Rattle.picture_model.specs.Geometry.{first_fault, frame_fault}
 use Rattle.chain_model.specs.declared.ChainFault.{ChainFault}
 use Rattle.command_inputs.specs.Chains.{GivesChain, HasFault, HoldsFrame, HoldsSecond, IsBadSecond, a_first_description, a_second_description, frame_of}
 use Rattle.command_inputs.specs.Rings.{HoldsRing, IsBadRing, a_ring, ring_of}
-use Rattle.bt878_contract.specs.Tasks.{Task, Lists, Verifies, Runs, Compiles, Captures, Generates, Chains, Damages, Rings, Assembles, meaning}
+use Rattle.bt878_contract.specs.Tasks.{Source, input_of}
+use Rattle.bt878_contract.specs.Tasks as tasks
 use Rattle.bt878_contract.specs.Clauses.{AreTold, IsCut, IsUnreadOf, TellsInput, UnlessCut}
 use Rattle.bt878_contract.proofs.Inputs.{both_of, cut_unread, told_some}
 use Rattle.bt878_contract.proofs.Outputs.{first_among, later_among}
@@ -365,17 +366,19 @@ ring_judged name = record { Why = λ refusal inputs. IsRefusedBy ring_of refusal
 pub listing_judged : (name : List ℕ) → IsJudged (a_listing name)
 listing_judged name = record { Why = λ refusal inputs. IsAtFault refusal; judges = by_bytes text_judge }
 
-pub judged : (task : Task) → AreJudged (meaning task).inputs
-judged (Lists program) = (program_judged program, tt)
-judged (Verifies program) = (sound_program_judged program, tt)
-judged (Runs program stream image) = (sound_program_judged program, (stream_judged false stream, tt))
-judged (Compiles desc program) = (description_judged desc, tt)
-judged (Captures desc stream program image) = (description_judged desc, (stream_judged false stream, tt))
-judged (Generates desc seed frames stream) = (description_judged desc, tt)
-judged (Damages desc stream) = (description_judged desc, (stream_judged false stream, tt))
-judged (Chains first second stream image) = (first_judged first, (second_judged first second, (stream_judged true stream, tt)))
-judged (Rings ring stream program image) = (ring_judged ring, (stream_judged false stream, tt))
-judged (Assembles text program) = (listing_judged text, tt)
+pub judged_source : (source : Source) → IsJudged (input_of source)
+judged_source (tasks.Program name) = program_judged name
+judged_source (tasks.SoundProgram name) = sound_program_judged name
+judged_source (tasks.Description name) = description_judged name
+judged_source (tasks.FirstDescription name) = first_judged name
+judged_source (tasks.SecondDescription first name) = second_judged first name
+judged_source (tasks.Stream chained name) = stream_judged chained name
+judged_source (tasks.RingFile name) = ring_judged name
+judged_source (tasks.Listing name) = listing_judged name
+
+pub judged : (sources : List Source) → AreJudged (map input_of sources)
+judged [] = tt
+judged (source ∷ sources) = (judged_source source, judged sources)
 
 -- ---- a list of inputs
 
@@ -420,9 +423,6 @@ good_leads (input ∷ inputs) are refusal old new told good (inl h) = good_cuts 
 good_leads (input ∷ inputs) are refusal old new told good (inr h) = good_leads inputs are.1 refusal old new told good.1 h.1
 
 -- an input could not be read
-abbrev pub input_names : List Input → List (List ℕ)
-input_names inputs = map (λ (input : Input). input.name) inputs
-
 unread_at : (IsBad : List ℕ → Refusal → Option Inputs → Type 0) (name : List ℕ) (names : List (List ℕ)) (old new : Seen) → StopsAt IsBad name ReadFault old new → IsUnreadOf (name ∷ names) old new
 unread_at IsBad name names old new (inl rose) = inl rose
 unread_at IsBad name names old new (inr missing) = inr (name, first_among name names, missing)
@@ -431,7 +431,9 @@ unread_later : (name : List ℕ) (names : List (List ℕ)) (old new : Seen) → 
 unread_later name names old new (inl rose) = inl rose
 unread_later name names old new (inr (other, among, missing)) = inr (other, later_among other name names among, missing)
 
-pub unread_in : (inputs : List Input) (old new : Seen) → StopsIn inputs ReadFault old new → IsUnreadOf (input_names inputs) old new
+pub unread_in : (sources : List Source) (old new : Seen) → StopsIn (map input_of sources) ReadFault old new → IsUnreadOf (map (λ source. (input_of source).name) sources) old new
 unread_in [] old new h = absurd (cc)
-unread_in (input ∷ inputs) old new (inl h) = unread_at input.judge.IsBad input.name (input_names inputs) old new h
-unread_in (input ∷ inputs) old new (inr h) = unread_later input.name (input_names inputs) old new (unread_in inputs old new h.1)
+unread_in (source ∷ sources) old new (inl h) =
+    unread_at (input_of source).judge.IsBad (input_of source).name (map (λ s. (input_of s).name) sources) old new h
+unread_in (source ∷ sources) old new (inr h) =
+    unread_later (input_of source).name (map (λ s. (input_of s).name) sources) old new (unread_in sources old new h.1)

@@ -1,7 +1,7 @@
 pub mod Inputs
 pub mod Judges
 pub mod Outputs
-pub mod Asked
+pub mod Words
 pub mod Consequences
 pub mod Pictures
 pub mod Rings

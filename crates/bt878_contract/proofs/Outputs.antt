@@ -6,12 +6,14 @@ use Rattle.std.proofs.lemmas.Slice.Eq.{bytes_eq-Decides}
 use Rattle.std.proofs.lemmas.Bool.{or_right, or_parts}
 use Rattle.capture_desk.specs.Desks.{HasRisen, Seen, Outputs, Told, counted, is_among, output_named, created, written, after_say}
 use Rattle.capture_desk.proofs.Outputs.{output_created, output_created_other, output_appended, output_appended_other}
-use Rattle.bt878_words.proofs.Asked.{same_name}
 use Rattle.command_steps.specs.Outputs.{LastWriteFailed, Says, IsPart, after_file, delivered, names_of}
 use Rattle.command_steps.specs.Inputs.{WritesRose, apart}
 use Rattle.bt878_contract.specs.Clauses.{CreatesNone, IsCutOff, IsOutput, OnlySays, SameNames, SameOutput, SameOutputs, SaysAll}
 
 -- ---- names
+
+pub same_name : (name : List ℕ) → bytes_eq name name ≡ true
+same_name name = (bytes_eq-Decides name name).1 refl
 
 pub first_among : (name : List ℕ) (names : List (List ℕ)) → is_among name (name ∷ names) ≡ true
 first_among name names = ap (λ t. t || is_among name names) (same_name name)

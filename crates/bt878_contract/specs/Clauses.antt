@@ -1,7 +1,8 @@
 -- What the top call promises, said one by one. What is said of a content holds where the desk tells it.
 use Rattle.std.specs.Prelude.{◌≡◌, ℕ, ◌≤◌, ◌⊎◌, ⊤, false, true, List, [], ◌∷◌, ◌++◌, length, take, Option, Some, None, option_map, Result, Ok, Err}
-use Rattle.bt878_words.specs.declared.Command.{Command}
+use Rattle.bt878_words.specs.declared.Task.{Task}
 use Rattle.bt878_words.specs.declared.UsageFault.{UsageFault}
+use Rattle.bt878_words.specs.Words.{writes}
 use Rattle.capture_desk.specs.Desks.{Seen, Inputs, Outputs, Tells, Told, said_by, is_among, is_missing, output_named}
 use Rattle.capture_desc.specs.declared.desc.Desc.{Desc}
 use Rattle.machine_model.specs.States.{State}
@@ -34,15 +35,15 @@ use Rattle.command_inputs.specs.Rings.{GivesRing, GivesRingProgram}
 use Rattle.chain_model.specs.Chains.{Chain}
 use Rattle.chain_model.specs.Live.{LiveStep}
 use Rattle.ring_model.specs.Rings.{Ring}
-use Rattle.bt878_contract.specs.Tasks.{Task, Lists, Verifies, Runs, Compiles, Captures, Generates, Chains, Damages, Rings, Assembles, IsLiveRun, IsPartOfWork, IsRefusedWork, IsWholeWork, Makes}
-use Rattle.bt878_contract.specs.Tasks.{blocks_of, rows_told, compiled_text, creates, meaning, program_text}
+use Rattle.bt878_contract.specs.Tasks.{ChainMeaning, IsLiveRun, IsPartOfWork, IsRefusedWork, IsWholeWork, Makes, Meaning, MakesOther, RunsChain, RunsProgram}
+use Rattle.bt878_contract.specs.Tasks.{blocks_of, rows_told, compiled_text, input_of, inputs_of, meaning, program_text}
 
 -- ---- the words
 
 -- `Usage` is the first fault of the words, and comes only where they have one
-abbrev pub IsUsage : Result Command UsageFault → Answer → Type 0
+abbrev pub IsUsage : Result Task UsageFault → Answer → Type 0
 IsUsage (Err fault) answer = answer ≡ Usage fault
-IsUsage (Ok command) answer = (fault : UsageFault) → answer ≡ Usage fault → ⊥
+IsUsage (Ok task) answer = (fault : UsageFault) → answer ≡ Usage fault → ⊥
 
 -- ---- what is read
 
@@ -51,19 +52,14 @@ abbrev pub AreTold : Option Inputs → Type 0
 AreTold None = ⊥
 AreTold (Some inputs) = ⊤
 
--- P of what `run`, `capture`, `damage` or `ring` ran: the program of the program file, of the description or of the ring,
--- with its fill, over the steps of the whole stream; the others run no program that stays the same
+-- P of what a command ran: the program that its first input gives, with its fill, over the steps of the whole stream; the
+-- commands that run no program that stays the same promise nothing of one
+abbrev pub OfRanBy : Meaning → Option Inputs → (Ran → Type 0) → Type 0
+OfRanBy (RunsProgram r) inputs P = OfRun r.Gives (input_of r.source).name r.stream inputs P
+OfRanBy m inputs P = ⊤
+
 abbrev pub OfRan : Result Task UsageFault → Option Inputs → (Ran → Type 0) → Type 0
-OfRan (Ok (Runs program stream image)) inputs P = OfRun GivesSound program stream inputs P
-OfRan (Ok (Captures desc stream program image)) inputs P = OfRun GivesCompiled desc stream inputs P
-OfRan (Ok (Rings ring stream program image)) inputs P = OfRun GivesRingProgram ring stream inputs P
-OfRan (Ok (Damages desc stream)) inputs P = OfRun GivesCompiled desc stream inputs P
-OfRan (Ok (Chains first second stream image)) inputs P = ⊤
-OfRan (Ok (Lists program)) inputs P = ⊤
-OfRan (Ok (Verifies program)) inputs P = ⊤
-OfRan (Ok (Compiles desc program)) inputs P = ⊤
-OfRan (Ok (Generates desc seed frames stream)) inputs P = ⊤
-OfRan (Ok (Assembles text program)) inputs P = ⊤
+OfRan (Ok task) inputs P = OfRanBy (meaning task) inputs P
 OfRan (Err fault) inputs P = ⊥
 
 -- P of the ring that `ring` read, and of what it ran
@@ -77,9 +73,13 @@ OfLiveRun first second stream inputs P =
     OfInput first inputs (λ a. OfInput second inputs (λ b. OfInput stream inputs (λ c.
     (r : LiveRan) × IsLiveRun a b c r × P r)))
 
+abbrev pub OfLiveBy : Meaning → Option Inputs → (LiveRan → Type 0) → Type 0
+OfLiveBy (RunsChain c) inputs P = OfLiveRun c.one c.two c.stream inputs P
+OfLiveBy m inputs P = ⊤
+
 abbrev pub OfLive : Result Task UsageFault → Option Inputs → (LiveRan → Type 0) → Type 0
-OfLive (Ok (Chains first second stream image)) inputs P = OfLiveRun first second stream inputs P
-OfLive _ inputs P = ⊤
+OfLive (Ok task) inputs P = OfLiveBy (meaning task) inputs P
+OfLive (Err fault) inputs P = ⊤
 
 -- P of the description that `damage` read, and of what it ran
 abbrev pub OfDescRun : List ℕ → List ℕ → Option Inputs → (Desc → Ran → Type 0) → Type 0
@@ -194,7 +194,7 @@ IsUnreadOf names old new =
 -- the cause of a refusal that tells what is bad about an input: `Malformed`, `Rejected`, `BadDesc`, `BadGeometry`,
 -- `BadChain`, `BadRing` or `BadText`
 abbrev pub IsBadInput : Result Task UsageFault → Refusal → Option Inputs → Type 0
-IsBadInput (Ok task) refusal inputs = IsFirstBadOf (meaning task).inputs refusal inputs
+IsBadInput (Ok task) refusal inputs = IsFirstBadOf (inputs_of task) refusal inputs
 IsBadInput (Err fault) refusal inputs = ⊥
 
 -- the refusals that have such a cause
@@ -205,7 +205,7 @@ TellsInput _ = ⊤
 
 -- every input is there and good
 abbrev pub IsGood : Result Task UsageFault → Option Inputs → Type 0
-IsGood (Ok task) inputs = AreGood (meaning task).inputs inputs
+IsGood (Ok task) inputs = AreGood (inputs_of task) inputs
 IsGood (Err fault) inputs = ⊥
 
 -- want of memory, or a fault of reading
@@ -257,7 +257,7 @@ IsCutOff (file ∷ files) text old new =
 -- what stands after a fault of writing: what the command makes of its inputs, cut off
 abbrev pub StandsAt : Result Task UsageFault → Told → Told → Type 0
 StandsAt (Ok task) old new =
-    (product : Product) × Makes task old.inputs product × (names_of product.files ≡ creates task)
+    (product : Product) × Makes task old.inputs product × (names_of product.files ≡ writes task)
     × IsCutOff product.files product.text old new
 StandsAt (Err fault) old new = ⊥
 

@@ -1,11 +1,9 @@
 -- What the words ask for, what each command means, what comes of it, and why it is refused.
 use Rattle.std.specs.Prelude.{◌≡◌, ℕ, ⊤, Bool, List, [], ◌∷◌, ◌++◌, map, length, Option, Some, None, MatchOption, Result, Ok, Err, true}
-use Rattle.std.specs.Borrow.{Bor}
-use Rattle.bt878_words.specs.declared.Command.{Command}
-use Rattle.bt878_words.specs.declared.Command.TheVariants as command
+use Rattle.bt878_words.specs.declared.Task.{Task}
+use Rattle.bt878_words.specs.declared.Task.TheVariants as command
 use Rattle.bt878_words.specs.declared.UsageFault.{UsageFault}
-use Rattle.bt878_words.specs.declared.UsageFault.TheVariants.{UnknownCommand}
-use Rattle.bt878_words.specs.Words.{command_of}
+use Rattle.bt878_words.specs.Words.{Word, task_of, writes}
 use Rattle.capture_desk.specs.declared.calls.Call.{Call}
 use Rattle.capture_desk.specs.Desks.{Inputs, IsWriteFault, Seen, is_among, said_by}
 use Rattle.capture_desc.specs.declared.desc.Desc.{Desc}
@@ -41,47 +39,6 @@ use Rattle.ring_model.specs.Rings.{Ring, ends}
 use Rattle.ring_model.specs.Runs.{block_ends}
 use Rattle.stream_play.specs.Plays.{longest_stream}
 use Rattle.stream_play.specs.Runs.{IsRun, LiveRan, Ran, a_stream, a_stream_file, chain_ran, first_of, last_live_of, last_of, live_steps_of}
-
--- ---- the words
-
--- what is asked for, with the names of the files
-pub data Task : Type 0 where
-  Lists : List ℕ → Task
-  Verifies : List ℕ → Task
-  Runs : List ℕ → List ℕ → List ℕ → Task
-  Compiles : List ℕ → List ℕ → Task
-  Captures : List ℕ → List ℕ → List ℕ → List ℕ → Task
-  Generates : List ℕ → ℕ → ℕ → List ℕ → Task
-  Chains : List ℕ → List ℕ → List ℕ → List ℕ → Task
-  Damages : List ℕ → List ℕ → Task
-  Rings : List ℕ → List ℕ → List ℕ → List ℕ → Task
-  Assembles : List ℕ → List ℕ → Task
-
--- words without a fault are those of one of these commands
-abbrev pub task_with : Result Command UsageFault → List (List ℕ) → Result Task UsageFault
-task_with (Err fault) words = Err fault
-task_with (Ok command.List) (_ ∷ program ∷ _) = Ok (Lists program)
-task_with (Ok command.Verify) (_ ∷ program ∷ _) = Ok (Verifies program)
-task_with (Ok command.Run) (_ ∷ program ∷ stream ∷ image ∷ _) = Ok (Runs program stream image)
-task_with (Ok command.Compile) (_ ∷ desc ∷ program ∷ _) = Ok (Compiles desc program)
-task_with (Ok command.Capture) (_ ∷ desc ∷ stream ∷ program ∷ image ∷ _) = Ok (Captures desc stream program image)
-task_with (Ok (command.Make seed frames)) (_ ∷ desc ∷ _ ∷ _ ∷ stream ∷ _) = Ok (Generates desc seed frames stream)
-task_with (Ok command.Chain) (_ ∷ first ∷ second ∷ stream ∷ image ∷ _) = Ok (Chains first second stream image)
-task_with (Ok command.Damage) (_ ∷ desc ∷ stream ∷ _) = Ok (Damages desc stream)
-task_with (Ok command.Ring) (_ ∷ ring ∷ stream ∷ program ∷ image ∷ _) = Ok (Rings ring stream program image)
-task_with (Ok command.Assemble) (_ ∷ text ∷ program ∷ _) = Ok (Assembles text program)
-task_with (Ok _) words = Err UnknownCommand
-
-abbrev pub task_of : List (List ℕ) → Result Task UsageFault
-task_of words = task_with (command_of words) words
-
--- the words, as they are passed
-abbrev pub texts : List (Bor (List ℕ)) → List (List ℕ)
-texts words = map (λ (word : Bor (List ℕ)). word.now) words
-
--- the names that are told are these
-abbrev pub AreNames : List (List ℕ) → Option (List (List ℕ)) → Type 0
-AreNames names told = MatchOption told ⊤ (λ known. (name : List ℕ) → is_among name known ≡ is_among name names)
 
 -- ---- what a task makes of its inputs
 
@@ -167,15 +124,66 @@ abbrev pub OfInputs : List Input → Option Inputs → (List (List ℕ) → Type
 OfInputs [] told P = P []
 OfInputs (input ∷ inputs) told P = OfInput input.name told (λ bytes. OfInputs inputs told (λ later. P (bytes ∷ later)))
 
+-- ---- the inputs
+
+-- what an input is, with its name
+pub data Source : Type 0 where
+  Program : List ℕ → Source
+  SoundProgram : List ℕ → Source
+  Description : List ℕ → Source
+  -- the first of the two of a chain, and the second, which is judged with the first
+  FirstDescription : List ℕ → Source
+  SecondDescription : List ℕ → List ℕ → Source
+  -- of the form for chains, or of the other
+  Stream : Bool → List ℕ → Source
+  RingFile : List ℕ → Source
+  Listing : List ℕ → Source
+
+-- how it is judged
+abbrev pub input_of : Source → Input
+input_of (Program name) = a_program name
+input_of (SoundProgram name) = a_sound_program name
+input_of (Description name) = a_description name
+input_of (FirstDescription name) = a_first_description name
+input_of (SecondDescription first name) = a_second_description first name
+input_of (Stream chained name) = a_stream_file chained name
+input_of (RingFile name) = a_ring name
+input_of (Listing name) = a_listing name
+
 -- ---- the meaning of each command
 
--- its inputs and its outputs, in the order in which they are read and written, what it makes of the contents of its
--- inputs, and its text, where that is the same whatever the contents
-pub record Meaning : Type 1 where
-  pub inputs : List Input
-  pub outputs : List (List ℕ)
+-- a program that an input gives runs over a stream: what it gives, the files of the run, and what is said of it and of the
+-- file that it came from
+pub record RunMeaning : Type 1 where
+  pub source : Source
+  pub stream : List ℕ
+  pub Gives : List ℕ → RiscProgram → ℕ → Type 0
+  pub files : Ran → List (List ℕ × List ℕ)
+  pub Says : List ℕ → Ran → List ℕ → Type 0
+
+-- two descriptions make a chain, which runs over a stream, and the image of its memory is written
+pub record ChainMeaning : Type 0 where
+  pub one : List ℕ
+  pub two : List ℕ
+  pub stream : List ℕ
+  pub image : List ℕ
+
+-- something else is made of the contents of the inputs; its text, where that is the same whatever the contents
+pub record OtherMeaning : Type 1 where
+  pub sources : List Source
   pub makes : List (List ℕ) → Product → Type 0
   pub text : Option (List ℕ)
+
+pub data Meaning : Type 1 where
+  RunsProgram : RunMeaning → Meaning
+  RunsChain : ChainMeaning → Meaning
+  MakesOther : OtherMeaning → Meaning
+
+-- the inputs, in the order in which they are read
+abbrev pub sources : Meaning → List Source
+sources (RunsProgram r) = r.source ∷ Stream false r.stream ∷ []
+sources (RunsChain c) = FirstDescription c.one ∷ SecondDescription c.one c.two ∷ Stream true c.stream ∷ []
+sources (MakesOther o) = o.sources
 
 abbrev pub ListingOf : List (List ℕ) → Product → Type 0
 ListingOf (program ∷ []) product = IsListed program product.text
@@ -214,90 +222,90 @@ abbrev pub AssembledOf : List ℕ → List (List ℕ) → Product → Type 0
 AssembledOf program (text ∷ []) product = ListingMakes program product text
 AssembledOf program _ product = ⊥
 
-abbrev pub meaning : Task → Meaning
-meaning (Lists program) =
-    record {
-      inputs = a_program program ∷ [];
-      outputs = [];
-      makes = ListingOf;
-      text = None;
-    }
-meaning (Verifies program) =
-    record {
-      inputs = a_sound_program program ∷ [];
-      outputs = [];
-      makes = VerdictOf;
-      text = Some accepted_text;
-    }
-meaning (Runs program stream image) =
-    record {
-      inputs = a_sound_program program ∷ a_stream stream ∷ [];
-      outputs = image ∷ [];
-      makes = RunOf GivesSound (image_of_run image) Reports;
-      text = None;
-    }
-meaning (Compiles desc program) =
-    record {
-      inputs = a_description desc ∷ [];
-      outputs = program ∷ [];
-      makes = MadeOf (λ d. program_file program (compiled d) d.fill) compiled_text;
-      text = None;
-    }
-meaning (Captures desc stream program image) =
-    record {
-      inputs = a_description desc ∷ a_stream stream ∷ [];
-      outputs = program ∷ image ∷ [];
-      makes = RunOf GivesCompiled (program_and_image program image) Reports;
-      text = None;
-    }
-meaning (Generates desc seed frames stream) =
-    record {
-      inputs = a_description desc ∷ [];
-      outputs = stream ∷ [];
-      makes = MadeOf (λ d. (stream, made d seed frames)) (λ d. made_text (made_fields d frames) (made_entries d frames));
-      text = None;
-    }
-meaning (Chains first second stream image) =
-    record {
-      inputs = a_first_description first ∷ a_second_description first second ∷ a_stream_file true stream ∷ [];
-      outputs = image ∷ [];
-      makes = ChainOf image;
-      text = None;
-    }
-meaning (Damages desc stream) =
-    record {
-      inputs = a_description desc ∷ a_stream stream ∷ [];
-      outputs = [];
-      makes = RunOf GivesCompiled no_file TellsRows;
-      text = None;
-    }
-meaning (Rings ring stream program image) =
-    record {
-      inputs = a_ring ring ∷ a_stream stream ∷ [];
-      outputs = program ∷ image ∷ [];
-      makes = RunOf GivesRingProgram (program_and_image program image) ReportsBlocks;
-      text = None;
-    }
-meaning (Assembles text program) =
-    record {
-      inputs = a_listing text ∷ [];
-      outputs = program ∷ [];
-      makes = AssembledOf program;
-      text = None;
-    }
+-- what is made of the contents of the inputs
+abbrev pub makes : Meaning → List (List ℕ) → Product → Type 0
+makes (RunsProgram r) contents product = RunOf r.Gives r.files r.Says contents product
+makes (RunsChain c) contents product = ChainOf c.image contents product
+makes (MakesOther o) contents product = o.makes contents product
 
--- the outputs, in the order in which they are written
-abbrev pub creates : Task → List (List ℕ)
-creates task = (meaning task).outputs
+abbrev pub its_text : Meaning → Option (List ℕ)
+its_text (RunsProgram r) = None
+its_text (RunsChain c) = None
+its_text (MakesOther o) = o.text
+
+-- what is made of one input, without a text that is always the same
+abbrev pub made_of : Source → (List (List ℕ) → Product → Type 0) → Meaning
+made_of source Makes = MakesOther (record { sources = source ∷ []; makes = Makes; text = None })
+
+abbrev pub meaning : Task → Meaning
+meaning (command.List program) = made_of (Program program.now) ListingOf
+meaning (command.Verify program) =
+    MakesOther (record { sources = SoundProgram program.now ∷ []; makes = VerdictOf; text = Some accepted_text })
+meaning (command.Run program stream image) =
+    RunsProgram (record {
+      source = SoundProgram program.now;
+      stream = stream.now;
+      Gives = GivesSound;
+      files = image_of_run image.now;
+      Says = Reports;
+    })
+meaning (command.Compile desc program) =
+    made_of (Description desc.now) (MadeOf (λ d. program_file program.now (compiled d) d.fill) compiled_text)
+meaning (command.Capture desc stream program image) =
+    RunsProgram (record {
+      source = Description desc.now;
+      stream = stream.now;
+      Gives = GivesCompiled;
+      files = program_and_image program.now image.now;
+      Says = Reports;
+    })
+meaning (command.Make desc seed frames stream) =
+    made_of (Description desc.now)
+    (MadeOf (λ d. (stream.now, made d seed frames)) (λ d. made_text (made_fields d frames) (made_entries d frames)))
+meaning (command.Chain one two stream image) =
+    RunsChain (record { one = one.now; two = two.now; stream = stream.now; image = image.now })
+meaning (command.Damage desc stream) =
+    RunsProgram (record { source = Description desc.now; stream = stream.now; Gives = GivesCompiled; files = no_file; Says = TellsRows })
+meaning (command.Ring ring stream program image) =
+    RunsProgram (record {
+      source = RingFile ring.now;
+      stream = stream.now;
+      Gives = GivesRingProgram;
+      files = program_and_image program.now image.now;
+      Says = ReportsBlocks;
+    })
+meaning (command.Assemble text program) = made_of (Listing text.now) (AssembledOf program.now)
+
+-- the inputs of a task, with their judges
+abbrev pub inputs_of : Task → List Input
+inputs_of task = map input_of (sources (meaning task))
+
+abbrev pub MakesBy : Meaning → Option Inputs → Product → Type 0
+MakesBy m inputs product =
+    OfInputs (map input_of (sources m)) inputs (λ contents. makes m contents product)
+    × MatchOption (its_text m) ⊤ (λ text. product.text ≡ text)
 
 abbrev pub Makes : Task → Option Inputs → Product → Type 0
-Makes task inputs product =
-    OfInputs (meaning task).inputs inputs (λ contents. (meaning task).makes contents product)
-    × MatchOption (meaning task).text ⊤ (λ text. product.text ≡ text)
+Makes task inputs product = MakesBy (meaning task) inputs product
+
+-- ---- the words
+
+-- the names of the inputs that words without a fault give, and of the outputs; none where they have one
+abbrev pub names_read : Result Task UsageFault → List (List ℕ)
+names_read (Err fault) = []
+names_read (Ok task) = map (λ source. (input_of source).name) (sources (meaning task))
+
+abbrev pub names_written : Result Task UsageFault → List (List ℕ)
+names_written (Err fault) = []
+names_written (Ok task) = writes task
+
+-- the names that are told are these
+abbrev pub AreNames : List (List ℕ) → Option (List (List ℕ)) → Type 0
+AreNames names told = MatchOption told ⊤ (λ known. (name : List ℕ) → is_among name known ≡ is_among name names)
 
 -- why it is refused
 abbrev pub Stops : Task → Refusal → Seen → Seen → Type 0
-Stops task refusal old new = StopsIn (meaning task).inputs refusal old new
+Stops task refusal old new = StopsIn (inputs_of task) refusal old new
 
 -- ---- the order of work
 
@@ -305,18 +313,18 @@ Stops task refusal old new = StopsIn (meaning task).inputs refusal old new
 -- the outputs were written, one after the other, and a text was said
 abbrev pub IsWholeWork : Task → Option Inputs → List ℕ → List Call → Type 0
 IsWholeWork task told text calls =
-    (taking : List Call) × AreTaken (meaning task).inputs told taking × (calls ≡ taking ++ delivery (creates task) text)
+    (taking : List Call) × AreTaken (inputs_of task) told taking × (calls ≡ taking ++ delivery (writes task) text)
 
 -- the same, but that a write, a call that says, or the creation or finish of an output failed; no call follows
 abbrev pub IsPartOfWork : Task → Option Inputs → List Call → Type 0
 IsPartOfWork task told calls =
-    (taking writing : List Call) × AreTaken (meaning task).inputs told taking × IsDeliveryPart (creates task) writing
+    (taking writing : List Call) × AreTaken (inputs_of task) told taking × IsDeliveryPart (writes task) writing
     × (calls ≡ taking ++ writing)
 
 -- some inputs were opened and read through, up to the one that stopped; then a text was said, by one run of calls
 abbrev pub IsRefusedWork : Task → Option Inputs → List ℕ → List Call → Type 0
 IsRefusedWork task told text calls =
-    (taking : List Call) × AreTakenUpTo (meaning task).inputs told taking × (calls ≡ taking ++ said_by text)
+    (taking : List Call) × AreTakenUpTo (inputs_of task) told taking × (calls ≡ taking ++ said_by text)
 
 -- ---- what comes of it
 
@@ -324,7 +332,7 @@ IsRefusedWork task told text calls =
 pub record IsDone (task : Task) (old new : Seen) : Type 0 where
   pub product : Product
   pub made : Makes task old.told.inputs product
-  pub names : names_of product.files ≡ creates task
+  pub names : names_of product.files ≡ writes task
   pub left : apart new.told ≡ delivered product.files product.text (apart old.told)
   pub counts : SameCounts old new
   pub calls : Calls (IsWholeWork task old.told.inputs product.text) old new
@@ -333,7 +341,7 @@ pub record IsDone (task : Task) (old new : Seen) : Type 0 where
 pub record IsPartDone (task : Task) (old new : Seen) : Type 0 where
   pub product : Product
   pub made : Makes task old.told.inputs product
-  pub names : names_of product.files ≡ creates task
+  pub names : names_of product.files ≡ writes task
   pub left : IsPart product.files product.text (apart old.told) (apart new.told)
   pub fault : IsWriteFault old new
   pub calls : Calls (IsPartOfWork task old.told.inputs) old new
