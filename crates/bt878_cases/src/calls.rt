@@ -1,9 +1,9 @@
 // Each command, called on a desk with its files. A call of the desk whose number is in `failing` fails, and a call
 // moves at most `longest` bytes.
 ghost use Rattle.std.specs.Prelude.{◌≡◌, [], Some};
-ghost use Rattle.bt878_words.specs.Words.{inputs_of, outputs_of};
+ghost use Rattle.bt878_words.specs.Words.{task_of, texts};
 ghost use Rattle.bt878_contract.specs.Clauses.{SameNames};
-ghost use Rattle.bt878_contract.specs.Tasks.{AreNames, texts};
+ghost use Rattle.bt878_contract.specs.Tasks.{AreNames, names_read, names_written};
 ghost use Rattle.capture_desk.specs.Memory.{all_told};
 
 use crate::desks::{Limits, desk_of};
@@ -17,8 +17,8 @@ pub const LONG: usize = 65536;
 
 /// The status with which the program ends.
 pub fn status_of<D: Desk>(alloc: Global, words: &[&str], desk: &mut D) -> u8
-    requires opens { AreNames (inputs_of (texts words.now)) (D.seen desk.old).told.may_open }
-    requires creates { AreNames (outputs_of (texts words.now)) (D.seen desk.old).told.may_create }
+    requires opens { AreNames (names_read (task_of words.now)) (D.seen desk.old).told.may_open }
+    requires creates { AreNames (names_written (task_of words.now)) (D.seen desk.old).told.may_create }
     ensures names { SameNames (D.seen desk.old).told (D.seen desk.new).told }
 {
     bt878(alloc, words, desk).status()
@@ -33,8 +33,8 @@ pub fn left_by(
     outputs: &[&str],
     limits: Limits,
 ) -> Result<Left, AllocError>
-    requires opens { AreNames (inputs_of (texts words.now)) (Some (texts inputs.now)) }
-    requires creates { AreNames (outputs_of (texts words.now)) (Some (texts outputs.now)) }
+    requires opens { AreNames (names_read (task_of words.now)) (Some (texts inputs.now)) }
+    requires creates { AreNames (names_written (task_of words.now)) (Some (texts outputs.now)) }
 {
     let mut desk = desk_of(alloc, inputs, contents, outputs, limits)?;
     let status = status_of(alloc, words, &mut desk);
@@ -173,8 +173,8 @@ pub fn damaged(
 
 /// Whether the words are at fault, on a desk that has no files.
 pub fn is_at_fault(alloc: Global, words: &[&str], desk: &mut MemDesk) -> bool
-    requires no_inputs { inputs_of (texts words.now) ≡ [] }
-    requires no_outputs { outputs_of (texts words.now) ≡ [] }
+    requires no_inputs { names_read (task_of words.now) ≡ [] }
+    requires no_outputs { names_written (task_of words.now) ≡ [] }
     requires opens { (all_told desk.old).may_open ≡ Some [] }
     requires creates { (all_told desk.old).may_create ≡ Some [] }
     ensures opens { (all_told desk.new).may_open ≡ Some [] }

@@ -1,6 +1,6 @@
 // Desks in memory with the files of a command.
 ghost use Rattle.std.specs.Prelude.{◌≡◌, [], ◌∷◌, ◌++◌, IfOk, Some};
-ghost use Rattle.bt878_contract.specs.Tasks.{texts};
+ghost use Rattle.bt878_words.specs.Words.{texts};
 ghost use Rattle.capture_desk.specs.Memory.{all_told};
 
 use crate::cases::Parts;

@@ -80,7 +80,7 @@ module _ (Q : Ran → Type 0) (f : (files : List (List ℕ × List ℕ)) (Says :
   ran_of (MakesOther o) inputs product h = tt
 
   ran_by : (r : Result Task UsageFault) (answer : Answer) (old new : Seen) → Answers r answer old new → answer ≡ Done → OfRan r old.told.inputs Q
-  ran_by (Ok task) answer old new h e = let d = done_by task answer old new h e in ran_of (meaning task) old.told.inputs d.product d.made
+  ran_by (Ok task) answer old new h e = let d = done_by task answer old new h e in ran_of (meaning task) old.told.inputs d.product d.made.made
   ran_by (Err fault) answer old new h e = let usage = h.0 in absurd (cc)
 
 module _ (P : Ran → Type 0) (always : (files : List (List ℕ × List ℕ)) (Says : List ℕ → Type 0) (product : Product) (r : Ran) → RunMakes files Says product r → P r) where
@@ -108,7 +108,7 @@ module _ (P : Chain → ℕ → List LiveStep → Type 0) (promised : (chain : C
   live_of (MakesOther o) inputs product h = tt
 
   pub done_live : (r : Result Task UsageFault) (answer : Answer) (old new : Seen) → Answers r answer old new → answer ≡ Done → OfLive r old.told.inputs (OfLiveSteps P)
-  done_live (Ok task) answer old new h e = let d = done_by task answer old new h e in live_of (meaning task) old.told.inputs d.product d.made
+  done_live (Ok task) answer old new h e = let d = done_by task answer old new h e in live_of (meaning task) old.told.inputs d.product d.made.made
   done_live (Err fault) answer old new h e = tt
 
 -- its files and its text are there, and nothing else is created
@@ -117,11 +117,11 @@ module _ (task : Task) (old new : Seen) (d : IsDone task old new) where
   its_text = all_said d.product.files d.product.text old.told new.told d.left
 
   its_files : AreApart (writes task) → AreOutputs d.product.files new.told.outputs
-  its_files h = all_written d.product.files d.product.text old.told new.told d.left (subst AreApart (sym d.names) h)
+  its_files h = all_written d.product.files d.product.text old.told new.told d.left (subst AreApart (sym d.made.names) h)
 
   its_text_alone : writes task ≡ [] → CreatesNone old.told new.told
   its_text_alone none =
-      (says_only d.product.text old.told new.told (d.left ∙ ap (λ files. delivered files d.product.text (apart old.told)) (no_files d.product.files (d.names ∙ none)))).0
+      (says_only d.product.text old.told new.told (d.left ∙ ap (λ files. delivered files d.product.text (apart old.told)) (no_files d.product.files (d.made.names ∙ none)))).0
 
   -- the files of a run, and a text that is said of it
   its_run : (files : List (List ℕ × List ℕ)) (Says : List ℕ → Type 0) (r : Ran) → AreApart (writes task) → RunMakes files Says d.product r → AreOutputs files new.told.outputs
@@ -152,13 +152,13 @@ module _ (words : List Word) (answer : Answer) (old new : Seen) (h : Answers (ta
   distinct : (task : Task) → task_of words ≡ Ok task → AreApart (writes task)
   distinct task is = outputs_apart words task is
 
-  pub done_run : (program stream image : Word) → task_of words ≡ Ok (command.Run program stream image) → OfRun GivesSound program stream old.told.inputs (ShowsLast image old.told new.told)
+  pub done_run : (program stream image : Word) → task_of words ≡ Ok (command.Run program stream image) → OfRun GivesSound program.now stream.now old.told.inputs (ShowsLast image.now old.told new.told)
   done_run program stream image is =
       let task = command.Run program stream image in
       let d = task_done task is in
-      both-map program stream old.told.inputs (λ a b. RunOf GivesSound (image_of_run image) Reports (a ∷ b ∷ []) d.product)
-      (λ a b. (r : Ran) × IsRun GivesSound a b r × ShowsLast image old.told new.told r)
-      (λ a b m. (m.0, m.1, ((its_run task old new d (image_of_run image m.0) (Reports a m.0) m.0 (distinct task is) m.2).0, its_words task old new d _ m.2.says))) d.made.0
+      both-map program.now stream.now old.told.inputs (λ a b. RunOf GivesSound (image_of_run image.now) Reports (a ∷ b ∷ []) d.product)
+      (λ a b. (r : Ran) × IsRun GivesSound a b r × ShowsLast image.now old.told new.told r)
+      (λ a b m. (m.0, m.1, ((its_run task old new d (image_of_run image.now m.0) (Reports a m.0) m.0 (distinct task is) m.2).0, its_words task old new d _ m.2.says))) d.made.made.0
 
   -- the program file and the image of a run
   its_program_and_image : (task : Task) (d : IsDone task old new) (program image : List ℕ) (Says : List ℕ → Type 0) (r : Ran) → AreApart (writes task) → RunMakes (program_and_image program image r) Says d.product r →
@@ -167,91 +167,92 @@ module _ (words : List Word) (answer : Answer) (old new : Seen) (h : Answers (ta
       let written = its_run task old new d (program_and_image program image r) Says r h m in (written.0, written.1.0)
 
   pub done_capture : (desc stream program image : Word) → task_of words ≡ Ok (command.Capture desc stream program image) →
-      OfRun GivesCompiled desc stream old.told.inputs (λ r. ShowsProgram program new.told r × ShowsLast image old.told new.told r)
+      OfRun GivesCompiled desc.now stream.now old.told.inputs (λ r. ShowsProgram program.now new.told r × ShowsLast image.now old.told new.told r)
   done_capture desc stream program image is =
       let task = command.Capture desc stream program image in
       let d = task_done task is in
-      both-map desc stream old.told.inputs (λ a b. RunOf GivesCompiled (program_and_image program image) Reports (a ∷ b ∷ []) d.product)
-      (λ a b. (r : Ran) × IsRun GivesCompiled a b r × (ShowsProgram program new.told r × ShowsLast image old.told new.told r))
+      both-map desc.now stream.now old.told.inputs (λ a b. RunOf GivesCompiled (program_and_image program.now image.now) Reports (a ∷ b ∷ []) d.product)
+      (λ a b. (r : Ran) × IsRun GivesCompiled a b r × (ShowsProgram program.now new.told r × ShowsLast image.now old.told new.told r))
       (λ a b m.
-      let written = its_program_and_image task d program image (Reports a m.0) m.0 (distinct task is) m.2 in
+      let written = its_program_and_image task d program.now image.now (Reports a m.0) m.0 (distinct task is) m.2 in
       (m.0, m.1, (written.0, (written.1, its_words task old new d _ m.2.says))))
-      d.made.0
+      d.made.made.0
 
-  pub done_chain : (first second stream image : Word) → task_of words ≡ Ok (command.Chain first second stream image) →
-      OfLiveRun first second stream old.told.inputs (ShowsLastLive image old.told new.told)
-  done_chain first second stream image is =
-      let task = command.Chain first second stream image in
+  pub done_chain : (one two stream image : Word) → task_of words ≡ Ok (command.Chain one two stream image) →
+      OfLiveRun one.now two.now stream.now old.told.inputs (ShowsLastLive image.now old.told new.told)
+  done_chain one two stream image is =
+      let task = command.Chain one two stream image in
       let d = task_done task is in
-      three-map first second stream old.told.inputs (λ a b c. ChainOf image (a ∷ b ∷ c ∷ []) d.product) (λ a b c. (r : LiveRan) × IsLiveRun a b c r × ShowsLastLive image old.told new.told r)
+      three-map one.now two.now stream.now old.told.inputs (λ a b c. ChainOf image.now (a ∷ b ∷ c ∷ []) d.product) (λ a b c. (r : LiveRan) × IsLiveRun a b c r × ShowsLastLive image.now old.told new.told r)
       (λ a b c m.
       let written = subst (λ fs. AreOutputs fs new.told.outputs) m.2.writes (its_files task old new d (distinct task is)) in
-      (m.0, m.1, (written.0, its_words task old new d _ m.2.says))) d.made.0
+      (m.0, m.1, (written.0, its_words task old new d _ m.2.says))) d.made.made.0
 
-  pub done_damage : (desc stream : Word) → task_of words ≡ Ok (command.Damage desc stream) → OfDescRun desc stream old.told.inputs (SaysDamage old.told new.told)
+  pub done_damage : (desc stream : Word) → task_of words ≡ Ok (command.Damage desc stream) → OfDescRun desc.now stream.now old.told.inputs (SaysDamage old.told new.told)
   done_damage desc stream is =
       let task = command.Damage desc stream in
       let d = task_done task is in
-      both-map desc stream old.told.inputs (λ a b. RunOf GivesCompiled no_file TellsRows (a ∷ b ∷ []) d.product)
+      both-map desc.now stream.now old.told.inputs (λ a b. RunOf GivesCompiled no_file TellsRows (a ∷ b ∷ []) d.product)
       (λ a b. (x : Desc) × (r : Ran) × IsRun (GivesDescribed x) a b r × SaysDamage old.told new.told x r)
       (λ a b m.
       let says = m.2.says in
       (says.description, m.0, record { gives = says.gives; reads = m.1.reads }, (its_words task old new d _ says.says, its_text_alone task old new d refl)))
-      d.made.0
+      d.made.made.0
 
   pub done_ring : (ring stream program image : Word) → task_of words ≡ Ok (command.Ring ring stream program image) →
-      OfRingRun ring stream old.told.inputs (λ x r. ShowsProgram program new.told r × ShowsImage image new.told r × SaysBlocks old.told new.told x r)
+      OfRingRun ring.now stream.now old.told.inputs (λ x r. ShowsProgram program.now new.told r × ShowsImage image.now new.told r × SaysBlocks old.told new.told x r)
   done_ring ring stream program image is =
       let task = command.Ring ring stream program image in
       let d = task_done task is in
-      both-map ring stream old.told.inputs (λ a b. RunOf GivesRingProgram (program_and_image program image) ReportsBlocks (a ∷ b ∷ []) d.product)
-      (λ a b. (x : Ring) × (r : Ran) × IsRun (GivesRing x) a b r × (ShowsProgram program new.told r × ShowsImage image new.told r × SaysBlocks old.told new.told x r))
+      both-map ring.now stream.now old.told.inputs (λ a b. RunOf GivesRingProgram (program_and_image program.now image.now) ReportsBlocks (a ∷ b ∷ []) d.product)
+      (λ a b. (x : Ring) × (r : Ran) × IsRun (GivesRing x) a b r × (ShowsProgram program.now new.told r × ShowsImage image.now new.told r × SaysBlocks old.told new.told x r))
       (λ a b m.
-      let written = its_program_and_image task d program image (ReportsBlocks a m.0) m.0 (distinct task is) m.2 in
+      let written = its_program_and_image task d program.now image.now (ReportsBlocks a m.0) m.0 (distinct task is) m.2 in
       let says = m.2.says in
       (says.ring, m.0, record { gives = says.gives; reads = m.1.reads }, (written.0, written.1, its_words task old new d _ says.says)))
-      d.made.0
+      d.made.made.0
 
-  pub done_compile : (desc program : Word) → task_of words ≡ Ok (command.Compile desc program) → IsCompiled desc program old.told new.told
+  pub done_compile : (desc program : Word) → task_of words ≡ Ok (command.Compile desc program) → IsCompiled desc.now program.now old.told new.told
   done_compile desc program is =
-      let d = task_done (command.Compile desc program) is in
-      its_desc (command.Compile desc program) old new d (λ c. program_file program (compiled c) c.fill) compiled_text desc (distinct (command.Compile desc program) is) d.made.0
+      let task = command.Compile desc program in
+      let d = task_done task is in
+      its_desc task old new d (λ c. program_file program.now (compiled c) c.fill) compiled_text desc.now (distinct task is) d.made.made.0
 
-  pub done_make : (desc : Word) (seed frames : ℕ) (stream : Word) → task_of words ≡ Ok (command.Make desc seed frames stream) → IsGenerated desc seed frames stream old.told new.told
+  pub done_make : (desc : Word) (seed frames : ℕ) (stream : Word) → task_of words ≡ Ok (command.Make desc seed frames stream) → IsGenerated desc.now seed frames stream.now old.told new.told
   done_make desc seed frames stream is =
-      let d = task_done (command.Make desc seed frames stream) is in
-      its_desc (command.Make desc seed frames stream) old new d (λ c. (stream, made c seed frames)) (λ c. made_text (made_fields c frames) (made_entries c frames)) desc
-      (distinct (command.Make desc seed frames stream) is) d.made.0
+      let task = command.Make desc seed frames stream in
+      let d = task_done task is in
+      its_desc task old new d (λ c. (stream.now, made c seed frames)) (λ c. made_text (made_fields c frames) (made_entries c frames)) desc.now (distinct task is) d.made.made.0
 
-  pub done_assemble : (text program : Word) → task_of words ≡ Ok (command.Assemble text program) → IsAssembled text program old.told new.told
+  pub done_assemble : (text program : Word) → task_of words ≡ Ok (command.Assemble text program) → IsAssembled text.now program.now old.told new.told
   done_assemble text program is =
-      let d = task_done (command.Assemble text program) is in
-      OfInput-map text old.told.inputs (ListingMakes program d.product)
+      let task = command.Assemble text program in
+      let d = task_done task is in
+      OfInput-map text.now old.told.inputs (ListingMakes program.now d.product)
       (λ bytes. (file : ProgramFile) × GivesAssembled bytes file
-      × IsOutput program (spelled file.program file.fill) new.told.outputs × SaysAll (program_text file.program) old.told new.told)
+      × IsOutput program.now (spelled file.program file.fill) new.told.outputs × SaysAll (program_text file.program) old.told new.told)
       (λ bytes m. (
         m.file,
         m.assembles,
-        (subst (λ fs. AreOutputs fs new.told.outputs) m.writes (its_files (command.Assemble text program) old new d (distinct (command.Assemble text program) is))).0,
-        subst (λ t. SaysAll t old.told new.told) m.says (its_text (command.Assemble text program) old new d),
+        (subst (λ fs. AreOutputs fs new.told.outputs) m.writes (its_files task old new d (distinct task is))).0,
+        subst (λ t. SaysAll t old.told new.told) m.says (its_text task old new d),
       ))
-      d.made.0
+      d.made.made.0
 
-  pub done_verify : (program : Word) → task_of words ≡ Ok (command.Verify program) → SaysAccepted program old.told new.told
+  pub done_verify : (program : Word) → task_of words ≡ Ok (command.Verify program) → SaysAccepted program.now old.told new.told
   done_verify program is =
-      let d = task_done (command.Verify program) is in (
-        d.made.0,
-        subst (λ text. SaysAll text old.told new.told) d.made.1 (its_text (command.Verify program) old new d),
-        its_text_alone (command.Verify program) old new d refl,
-      )
+      let task = command.Verify program in
+      let d = task_done task is in
+      (d.made.made.0, subst (λ text. SaysAll text old.told new.told) d.made.made.1 (its_text task old new d), its_text_alone task old new d refl)
 
-  pub done_list : (program : Word) → task_of words ≡ Ok (command.List program) → SaysListing program old.told new.told
+  pub done_list : (program : Word) → task_of words ≡ Ok (command.List program) → SaysListing program.now old.told new.told
   done_list program is =
-      let d = task_done (command.List program) is in (
-        OfInput-map program old.told.inputs (λ bytes. IsListed bytes d.product.text)
+      let task = command.List program in
+      let d = task_done task is in (
+        OfInput-map program.now old.told.inputs (λ bytes. IsListed bytes d.product.text)
             (λ bytes. (file : ProgramFile) × (program_of bytes ≡ Ok file) × SaysAll (listing file.program file.fill) old.told new.told)
-            (λ bytes lists. (lists.0, lists.1, subst (λ text. SaysAll text old.told new.told) lists.2 (its_text (command.List program) old new d))) d.made.0,
-        its_text_alone (command.List program) old new d refl,
+            (λ bytes lists. (lists.0, lists.1, subst (λ text. SaysAll text old.told new.told) lists.2 (its_text task old new d))) d.made.made.0,
+        its_text_alone task old new d refl,
       )
 
 -- ---- why it is refused
@@ -392,8 +393,7 @@ stands_at : (task : Task) (old new : Seen) → AreApart (writes task) → IsPart
 stands_at task old new h p = (
   p.product,
   p.made,
-  p.names,
-  cut_off p.product.files p.product.text old.told new.told p.left (subst AreApart (sym p.names) h),
+  cut_off p.product.files p.product.text old.told new.told p.left (subst AreApart (sym p.made.names) h),
 )
 
 pub write_fault_stands : (words : List Word) (answer : Answer) (old new : Seen) → Answers (task_of words) answer old new → answer ≡ WriteFault → StandsAt (task_of words) old.told new.told
@@ -417,8 +417,8 @@ ends_at_fault (Ok task) answer old new h =
 other_by : (task : Task) (answer : Answer) (name : List ℕ) (old new : Seen) → is_among name (writes task) ≡ false → Ends task answer old new → SameOutput name old.told.outputs new.told.outputs
 other_by task answer name old new absent h =
     by_end task answer old new (λ a. SameOutput name old.told.outputs new.told.outputs)
-    (λ d. done_other d.product.files d.product.text old.told new.told d.left name (subst (λ names. is_among name names ≡ false) (sym d.names) absent))
-    (λ p. part_done_other p.product.files p.product.text old.told new.told p.left name (subst (λ names. is_among name names ≡ false) (sym p.names) absent))
+    (λ d. done_other d.product.files d.product.text old.told new.told d.left name (subst (λ names. is_among name names ≡ false) (sym d.made.names) absent))
+    (λ p. part_done_other p.product.files p.product.text old.told new.told p.left name (subst (λ names. is_among name names ≡ false) (sym p.made.names) absent))
     (λ r refused. same_outputs name old.told new.told (only_says (answer_text (answer_of r)) old new refused.said).0) h
 
 pub others_untouched : (r : Result Task UsageFault) (answer : Answer) (old new : Seen) → Answers r answer old new → OnlyOutputs (names_written r) old.told new.told

@@ -1,5 +1,5 @@
 -- The outputs of words without a fault have different names, and their names may be used.
-use Rattle.std.proofs.Common.{◌≡◌, ℕ, Bool, true, false, ◌||◌, IsTrue, List, [], ◌∷◌, Option, Some, None, Result, Ok, Err, All, refl, subst, ◌∙◌}
+use Rattle.std.proofs.Common.{◌≡◌, ℕ, Bool, true, false, ◌||◌, List, [], ◌∷◌, Option, Some, None, Result, Ok, Err, refl, subst, ◌∙◌}
 use Rattle.std.specs.Prelude.{if◌then◌else◌}
 use Rattle.std.proofs.lemmas.Bool.{or_parts}
 use Rattle.bt878_words.specs.declared.Task.{Task}
@@ -8,7 +8,7 @@ use Rattle.bt878_words.specs.declared.UsageFault.TheVariants.{SameName}
 use Rattle.bt878_words.specs.declared.Verb.{Verb}
 use Rattle.bt878_words.specs.Words.{Word, apart, apart_if, has_clash, named, reads, task_of, verb_named, with_verb, writes}
 use Rattle.capture_desk.specs.Desks.{IsAllowed, is_among}
-use Rattle.bt878_contract.specs.Tasks.{AreNames}
+use Rattle.bt878_contract.specs.Tasks.{AreAllowed, AreNames}
 use Rattle.bt878_contract.proofs.Outputs.{AreApart, first_among, later_among}
 
 -- ---- different names
@@ -42,18 +42,18 @@ outputs_apart words task e = apart_from (reads task) (writes task) (no_clash wor
 
 -- ---- names that may be used
 
-module _ (names : List (List ℕ)) (told : Option (List (List ℕ))) (are : AreNames names told) where
+module _ (names : List (List ℕ)) where
   allowed : (told : Option (List (List ℕ))) → AreNames names told → (name : List ℕ) → is_among name names ≡ true → IsAllowed name told
   allowed None are name among = tt
   allowed (Some known) are name among = are name ∙ among
 
-  each_of : (some : List (List ℕ)) → ((name : List ℕ) → is_among name some ≡ true → is_among name names ≡ true) → All (λ name. IsAllowed name told) some
-  each_of [] within = tt
-  each_of (name ∷ some) within = (
+  each_of : (some : List (List ℕ)) (told : Option (List (List ℕ))) → AreNames names told → ((name : List ℕ) → is_among name some ≡ true → is_among name names ≡ true) → AreAllowed some told
+  each_of [] told are within = tt
+  each_of (name ∷ some) told are within = (
     allowed told are name (within name (first_among name some)),
-    each_of some (λ other among. within other (later_among other name some among)),
+    each_of some told are (λ other among. within other (later_among other name some among)),
   )
 
   -- each of the names that are told may be used
-  pub all_allowed : All (λ name. IsAllowed name told) names
-  all_allowed = each_of names (λ name among. among)
+  pub all_allowed : (told : Option (List (List ℕ))) → AreNames names told → AreAllowed names told
+  all_allowed told are = each_of names told are (λ name among. among)

@@ -35,7 +35,7 @@ use Rattle.command_inputs.specs.Rings.{GivesRing, GivesRingProgram}
 use Rattle.chain_model.specs.Chains.{Chain}
 use Rattle.chain_model.specs.Live.{LiveStep}
 use Rattle.ring_model.specs.Rings.{Ring}
-use Rattle.bt878_contract.specs.Tasks.{ChainMeaning, IsLiveRun, IsPartOfWork, IsRefusedWork, IsWholeWork, Makes, Meaning, MakesOther, RunsChain, RunsProgram}
+use Rattle.bt878_contract.specs.Tasks.{ChainMeaning, IsLiveRun, IsPartOfWork, IsProduct, IsRefusedWork, IsWholeWork, Meaning, MakesOther, RunsChain, RunsProgram}
 use Rattle.bt878_contract.specs.Tasks.{blocks_of, rows_told, compiled_text, input_of, inputs_of, meaning, program_text}
 
 -- ---- the words
@@ -257,8 +257,7 @@ IsCutOff (file ∷ files) text old new =
 -- what stands after a fault of writing: what the command makes of its inputs, cut off
 abbrev pub StandsAt : Result Task UsageFault → Told → Told → Type 0
 StandsAt (Ok task) old new =
-    (product : Product) × Makes task old.inputs product × (names_of product.files ≡ writes task)
-    × IsCutOff product.files product.text old new
+    (product : Product) × IsProduct task old.inputs product × IsCutOff product.files product.text old new
 StandsAt (Err fault) old new = ⊥
 
 -- an output whose name isn't one of these is as it was

@@ -5,7 +5,7 @@ use Rattle.bt878_words.specs.declared.Task.TheVariants as command
 use Rattle.bt878_words.specs.declared.UsageFault.{UsageFault}
 use Rattle.bt878_words.specs.Words.{Word, task_of, writes}
 use Rattle.capture_desk.specs.declared.calls.Call.{Call}
-use Rattle.capture_desk.specs.Desks.{Inputs, IsWriteFault, Seen, is_among, said_by}
+use Rattle.capture_desk.specs.Desks.{Inputs, IsAllowed, IsWriteFault, Seen, is_among, said_by}
 use Rattle.capture_desc.specs.declared.desc.Desc.{Desc}
 use Rattle.machine_model.specs.Paths.{RiscProgram, IsSound, all_words}
 use Rattle.machine_model.specs.Safety.{IsInside}
@@ -291,9 +291,12 @@ Makes task inputs product = MakesBy (meaning task) inputs product
 -- ---- the words
 
 -- the names of the inputs that words without a fault give, and of the outputs; none where they have one
+abbrev pub reads : Task → List (List ℕ)
+reads task = map (λ source. (input_of source).name) (sources (meaning task))
+
 abbrev pub names_read : Result Task UsageFault → List (List ℕ)
 names_read (Err fault) = []
-names_read (Ok task) = map (λ source. (input_of source).name) (sources (meaning task))
+names_read (Ok task) = reads task
 
 abbrev pub names_written : Result Task UsageFault → List (List ℕ)
 names_written (Err fault) = []
@@ -302,6 +305,11 @@ names_written (Ok task) = writes task
 -- the names that are told are these
 abbrev pub AreNames : List (List ℕ) → Option (List (List ℕ)) → Type 0
 AreNames names told = MatchOption told ⊤ (λ known. (name : List ℕ) → is_among name known ≡ is_among name names)
+
+-- each of these names may be used, where the names that may be are told
+abbrev pub AreAllowed : List (List ℕ) → Option (List (List ℕ)) → Type 0
+AreAllowed [] told = ⊤
+AreAllowed (name ∷ names) told = IsAllowed name told × AreAllowed names told
 
 -- why it is refused
 abbrev pub Stops : Task → Refusal → Seen → Seen → Type 0
@@ -328,11 +336,15 @@ IsRefusedWork task told text calls =
 
 -- ---- what comes of it
 
+-- a product that a task makes of its inputs, with the names of its outputs
+pub record IsProduct (task : Task) (inputs : Option Inputs) (product : Product) : Type 0 where
+  pub made : Makes task inputs product
+  pub names : names_of product.files ≡ writes task
+
 -- it was done: its outputs were written and its text was said, and nothing else changed
 pub record IsDone (task : Task) (old new : Seen) : Type 0 where
   pub product : Product
-  pub made : Makes task old.told.inputs product
-  pub names : names_of product.files ≡ writes task
+  pub made : IsProduct task old.told.inputs product
   pub left : apart new.told ≡ delivered product.files product.text (apart old.told)
   pub counts : SameCounts old new
   pub calls : Calls (IsWholeWork task old.told.inputs product.text) old new
@@ -340,8 +352,7 @@ pub record IsDone (task : Task) (old new : Seen) : Type 0 where
 -- it was done in part, up to a fault of the desk at a write, which was the last call
 pub record IsPartDone (task : Task) (old new : Seen) : Type 0 where
   pub product : Product
-  pub made : Makes task old.told.inputs product
-  pub names : names_of product.files ≡ writes task
+  pub made : IsProduct task old.told.inputs product
   pub left : IsPart product.files product.text (apart old.told) (apart new.told)
   pub fault : IsWriteFault old new
   pub calls : Calls (IsPartOfWork task old.told.inputs) old new

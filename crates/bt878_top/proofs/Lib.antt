@@ -1,4 +1,3 @@
-pub mod Asking
-pub mod Composing
-pub mod Running
+pub mod Ending
+pub mod Products
 mod Saying

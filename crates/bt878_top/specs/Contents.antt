@@ -11,7 +11,7 @@ use Rattle.bt878_top.specs.declared.contents.Contents.TheVariants.{Program, Imag
 abbrev pub bytes_of : Contents → List ℕ
 bytes_of (Program program fill) = spelled program.now fill
 bytes_of (Image ram) = image_of ram.now
-bytes_of (Stream frame seed frames) = made frame.now seed frames
+bytes_of (Stream frame seed frames) = made frame.now seed frames.now
 
 -- the listing of a program, by its last lines
 abbrev pub listing_with : RiscProgram → List ℕ → List ℕ

@@ -1,3 +1,4 @@
 pub mod Contents
 pub mod Rings
+pub mod Products
 pub mod Damage

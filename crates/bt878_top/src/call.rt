@@ -1,58 +1,109 @@
 //! The one call.
 
-ghost use Rattle.std.specs.Prelude.{◌≡◌, ℕ, ◌⊎◌, List, Ok};
-ghost use Rattle.bt878_words.specs.Words.{command_of, inputs_of, outputs_of};
+ghost use Rattle.std.specs.Prelude.{◌≡◌, ℕ, ◌⊎◌, IfOk, List, Ok};
+ghost use Rattle.bt878_words.specs.Words.{HasFrames, Word, task_of, writes};
 ghost use Rattle.bt878_contract.specs.Clauses.{AreTold, IsAssembled, IsBadInput, IsCompiled, IsGenerated, IsGood, IsInOrder, IsRefusal, IsUnreadOf, IsUsage, OfDescRun, OfLive, OfLiveRun, OfLiveSteps};
 ghost use Rattle.bt878_contract.specs.Clauses.{OfRan, OfRingRun, OfSteps, OnlyOutputs, OnlySays, SameNames, SaysAccepted, SaysBlocks, SaysDamage, SaysListing, ShowsImage, ShowsLast, ShowsLastLive};
 ghost use Rattle.bt878_contract.specs.Clauses.{ShowsProgram, StandsAt, StaysInside, TellsInput, UnlessCut};
 ghost use Rattle.bt878_contract.specs.Pictures.{ShowsNoFault, ShowsPictures, SignalsInTime};
 ghost use Rattle.bt878_contract.specs.Rows.{HasArrivedRows, HoldsWholeRows};
 ghost use Rattle.bt878_contract.specs.Rings.{RingsShowNoFault, ShowsRings};
-ghost use Rattle.bt878_contract.specs.Tasks.{Answers, AreNames, Assembles, Captures, Chains, Compiles, Damages, Generates, Lists, Rings, Runs, Verifies, task_of, texts};
+ghost use Rattle.bt878_contract.specs.Tasks.{Answers, AreAllowed, AreNames, Ends, IsProduct, inputs_of, names_read, names_written, reads};
+ghost use Rattle.bt878_top.specs.Products.{product_of};
 ghost use Rattle.chain_law.specs.Runs.{LiveRunShowsNoFault, LiveRunShowsPictures, LiveRunStaysInside};
 ghost use Rattle.command_texts.specs.declared.refusal.Refusal.{Refusal};
 ghost use Rattle.command_texts.specs.Answers.{answer_of};
 ghost use Rattle.command_steps.specs.Outputs.{EndsAtFault};
 ghost use Rattle.command_steps.specs.Inputs.{ReadsRose, SameCounts, WritesRose};
+ghost use Rattle.command_steps.specs.Reading.{Takes};
 ghost use Rattle.command_texts.specs.Texts.{answer_text};
 ghost use Rattle.command_inputs.specs.Descriptions.{GivesCompiled};
 ghost use Rattle.machine_model.specs.Paths.{IsSound};
 ghost use Rattle.command_inputs.specs.Programs.{GivesSound};
 ghost use Rattle.stream_play.specs.Runs.{OfRun};
 
-use crate::chains::chain;
-use crate::commands::{list, run, verify};
-use crate::damage::damage;
-use crate::descriptions::{capture, make};
-use crate::programs::{assemble, compile};
-use crate::rings::ring;
-use bt878_words::{Command, read_words};
+use crate::descriptions::make;
+use crate::listings::list;
+use crate::produced::Produced;
+use crate::programs::{assemble, compile, verify};
+use crate::runs::{capture, chain, damage, ring, run};
+use bt878_words::{Task, read_task};
 use capture_desk::Desk;
-use command_steps::refuse_words;
-use command_texts::Answer;
+use command_steps::{refuse, refuse_words};
+use command_texts::{Answer, Refusal};
 use std::alloc::Global;
+
+/// Reads the inputs of a task, and makes what it makes of them.
+fn produce<'a, D: Desk>(
+    alloc: Global,
+    task: Task<'a>,
+    desk: &mut D,
+) -> Result<Produced<'a>, Refusal>
+    requires opens { AreAllowed (reads task.entry) (D.seen desk.old).told.may_open }
+    requires frames { HasFrames task.entry }
+    ensures takes { Takes (inputs_of task.entry) result (D.seen desk.old) (D.seen desk.new) }
+    ensures makes { IfOk result (λ produced. IsProduct task.entry (D.seen desk.old).told.inputs (product_of produced)) }
+{
+    match task {
+        Task::List { program } => list(alloc, program, desk),
+        Task::Verify { program } => verify(alloc, program, desk),
+        Task::Run {
+            program,
+            stream,
+            image,
+        } => run(alloc, program, stream, image, desk),
+        Task::Compile { desc, program } => compile(alloc, desc, program, desk),
+        Task::Capture {
+            desc,
+            stream,
+            program,
+            image,
+        } => capture(alloc, desc, stream, program, image, desk),
+        Task::Make {
+            desc,
+            seed,
+            frames,
+            stream,
+        } => make(alloc, desc, seed, frames, stream, desk),
+        Task::Chain {
+            first,
+            second,
+            stream,
+            image,
+        } => chain(alloc, first, second, stream, image, desk),
+        Task::Damage { desc, stream } => damage(alloc, desc, stream, desk),
+        Task::Ring {
+            ring: file,
+            stream,
+            program,
+            image,
+        } => ring(alloc, file, stream, program, image, desk),
+        Task::Assemble { text, program } => assemble(alloc, text, program, desk),
+    }
+}
+
+/// Does a task: what it makes of its inputs is delivered, or its refusal is said.
+fn answer_task<D: Desk>(alloc: Global, task: Task<'_>, desk: &mut D) -> Answer
+    requires opens { AreAllowed (reads task.entry) (D.seen desk.old).told.may_open }
+    requires creates { AreAllowed (writes task.entry) (D.seen desk.old).told.may_create }
+    requires frames { HasFrames task.entry }
+    ensures { Ends task.entry result (D.seen desk.old) (D.seen desk.new) }
+{
+    match produce(alloc, task, desk) {
+        Ok(produced) => produced.deliver(desk),
+        Err(refusal) => refuse(alloc, refusal, desk),
+    }
+}
 
 /// Does what the words ask for.
 fn answer_words<D: Desk>(alloc: Global, words: &[&str], desk: &mut D) -> Answer
-    requires opens { AreNames (inputs_of (texts words.now)) (D.seen desk.old).told.may_open }
-    requires creates { AreNames (outputs_of (texts words.now)) (D.seen desk.old).told.may_create }
-    ensures { Answers (task_of (texts words.now)) result (D.seen desk.old) (D.seen desk.new) }
+    requires opens { AreNames (names_read (task_of words.now)) (D.seen desk.old).told.may_open }
+    requires creates { AreNames (names_written (task_of words.now)) (D.seen desk.old).told.may_create }
+    ensures { Answers (task_of words.now) result (D.seen desk.old) (D.seen desk.new) }
 {
-    let command = match read_words(words) {
-        Ok(command) => command,
-        Err(fault) => return refuse_words(fault, desk),
-    };
-    match command {
-        Command::List => list(alloc, words[1], desk),
-        Command::Verify => verify(alloc, words[1], desk),
-        Command::Run => run(alloc, words[1], words[2], words[3], desk),
-        Command::Compile => compile(alloc, words[1], words[2], desk),
-        Command::Capture => capture(alloc, words[1], words[2], words[3], words[4], desk),
-        Command::Make { seed, frames } => make(alloc, words[1], seed, frames, words[4], desk),
-        Command::Chain => chain(alloc, words[1], words[2], words[3], words[4], desk),
-        Command::Damage => damage(alloc, words[1], words[2], desk),
-        Command::Ring => ring(alloc, words[1], words[2], words[3], words[4], desk),
-        Command::Assemble => assemble(alloc, words[1], words[2], desk),
+    match read_task(words) {
+        Ok(task) => answer_task(alloc, task, desk),
+        Err(fault) => refuse_words(fault, desk),
     }
 }
 
@@ -62,52 +113,52 @@ fn answer_words<D: Desk>(alloc: Global, words: &[&str], desk: &mut D) -> Answer
 /// a content holds where the desk tells it. (The commands, their texts and their order of work are this
 /// project's own rules.)
 pub fn bt878<D: Desk>(alloc: Global, words: &[&str], desk: &mut D) -> Answer
-    requires opens { AreNames (inputs_of (texts words.now)) (D.seen desk.old).told.may_open }
-    requires creates { AreNames (outputs_of (texts words.now)) (D.seen desk.old).told.may_create }
+    requires opens { AreNames (names_read (task_of words.now)) (D.seen desk.old).told.may_open }
+    requires creates { AreNames (names_written (task_of words.now)) (D.seen desk.old).told.may_create }
 
     // All that is promised, by cases on the words and the answer. What follows says its parts.
-    ensures answers { Answers (task_of (texts words.now)) result
+    ensures answers { Answers (task_of words.now) result
         (D.seen desk.old)
         (D.seen desk.new) }
 
     // The words: Usage comes exactly where they have a fault, and is the first; so NoMemory never
     // comes there.
-    ensures usage { IsUsage (command_of (texts words.now)) result }
+    ensures usage { IsUsage (task_of words.now) result }
 
     // At Done of `run`, `capture`, `damage` and `ring` the program that ran is sound.
     ensures sound { (result ≡ Answer.Done) →
-        OfRan (task_of (texts words.now)) (D.seen desk.old).told.inputs (λ r. IsSound r.program) }
+        OfRan (task_of words.now) (D.seen desk.old).told.inputs (λ r. IsSound r.program) }
 
     // At Done of `run` the image is that of the memory after exactly the steps of the whole stream, from
     // the first state, in which every granted byte is the fill, and the text is the report of that same
     // state. Program and fill are those of the whole program file.
-    ensures image_and_report { (result ≡ Answer.Done) → (program stream image : List ℕ) →
-        task_of (texts words.now) ≡ Ok (Runs program stream image) →
-        OfRun GivesSound program stream (D.seen desk.old).told.inputs
-        (ShowsLast image (D.seen desk.old).told (D.seen desk.new).told) }
+    ensures image_and_report { (result ≡ Answer.Done) → (program stream image : Word) →
+        task_of words.now ≡ Ok (Task.Run program stream image) →
+        OfRun GivesSound program.now stream.now (D.seen desk.old).told.inputs
+        (ShowsLast image.now (D.seen desk.old).told (D.seen desk.new).told) }
 
     // The same at Done of `capture`, with the program and the fill of the description; and the program
     // file is the one spelling of the program that ran and of its fill.
-    ensures captured { (result ≡ Answer.Done) → (desc stream program image : List ℕ) →
-        task_of (texts words.now) ≡ Ok (Captures desc stream program image) →
-        OfRun GivesCompiled desc stream (D.seen desk.old).told.inputs
-        (λ r. ShowsProgram program (D.seen desk.new).told r
-        × ShowsLast image (D.seen desk.old).told (D.seen desk.new).told r) }
+    ensures captured { (result ≡ Answer.Done) → (desc stream program image : Word) →
+        task_of words.now ≡ Ok (Task.Capture desc stream program image) →
+        OfRun GivesCompiled desc.now stream.now (D.seen desk.old).told.inputs
+        (λ r. ShowsProgram program.now (D.seen desk.new).told r
+        × ShowsLast image.now (D.seen desk.old).told (D.seen desk.new).told r) }
 
     // At Done of `ring` the program and the fill that ran are those of the ring file, and both files are as at
     // Done of `capture`; the text tells how many blocks the steps of the whole stream end, and then the report.
-    ensures ringed { (result ≡ Answer.Done) → (ring stream program image : List ℕ) →
-        task_of (texts words.now) ≡ Ok (Rings ring stream program image) →
-        OfRingRun ring stream (D.seen desk.old).told.inputs
-        (λ x r. ShowsProgram program (D.seen desk.new).told r
-        × ShowsImage image (D.seen desk.new).told r
+    ensures ringed { (result ≡ Answer.Done) → (ring stream program image : Word) →
+        task_of words.now ≡ Ok (Task.Ring ring stream program image) →
+        OfRingRun ring.now stream.now (D.seen desk.old).told.inputs
+        (λ x r. ShowsProgram program.now (D.seen desk.new).told r
+        × ShowsImage image.now (D.seen desk.new).told r
         × SaysBlocks (D.seen desk.old).told (D.seen desk.new).told x r) }
 
     // At Done of `run`, `capture`, `damage` and `ring`: at every place of those steps, what the turn there writes is granted,
     // what it fetches is a word of the program, and OCERR is 0. That a turn stores nowhere else and reads no
     // other word are the laws `turns_store_what_is_listed` and `turns_read_what_is_listed` of machine_model.
     ensures inside { (result ≡ Answer.Done) →
-        OfRan (task_of (texts words.now)) (D.seen desk.old).told.inputs StaysInside }
+        OfRan (task_of words.now) (D.seen desk.old).told.inputs StaysInside }
 
     // At Done of these, for every valid description whose program is the one that ran (for
     // `capture` the description that was read), every field of it, every picture and all places of those
@@ -116,11 +167,11 @@ pub fn bt878<D: Desk>(alloc: Global, words: &[&str], desk: &mut D) -> Answer
     // the signal sets FDSR, and the RISC status tells the field; and once all entries were pushed the
     // signal comes within a bound of turns.
     ensures pictures { (result ≡ Answer.Done) →
-        OfRan (task_of (texts words.now)) (D.seen desk.old).told.inputs (OfSteps ShowsPictures) }
+        OfRan (task_of words.now) (D.seen desk.old).told.inputs (OfSteps ShowsPictures) }
     ensures no_fault_shown { (result ≡ Answer.Done) →
-        OfRan (task_of (texts words.now)) (D.seen desk.old).told.inputs (OfSteps ShowsNoFault) }
+        OfRan (task_of words.now) (D.seen desk.old).told.inputs (OfSteps ShowsNoFault) }
     ensures in_time { (result ≡ Answer.Done) →
-        OfRan (task_of (texts words.now)) (D.seen desk.old).told.inputs (OfSteps SignalsInTime) }
+        OfRan (task_of words.now) (D.seen desk.old).told.inputs (OfSteps SignalsInTime) }
 
     // At Done of these, for every ring whose program and fill are those that ran (for `ring` the ring that was
     // read), all lines and all places of those steps: where a ring run goes from place j up to and with step k,
@@ -128,35 +179,35 @@ pub fn bt878<D: Desk>(alloc: Global, words: &[&str], desk: &mut D) -> Answer
     // the block's number, each block holds the lines of its last block end since j or what it held at j, and
     // every other byte is as it was at j. No turn from j up to k sets FDSR.
     ensures blocks { (result ≡ Answer.Done) →
-        OfRan (task_of (texts words.now)) (D.seen desk.old).told.inputs (OfSteps ShowsRings) }
+        OfRan (task_of words.now) (D.seen desk.old).told.inputs (OfSteps ShowsRings) }
     ensures no_fault_in_rings { (result ≡ Answer.Done) →
-        OfRan (task_of (texts words.now)) (D.seen desk.old).told.inputs (OfSteps RingsShowNoFault) }
+        OfRan (task_of words.now) (D.seen desk.old).told.inputs (OfSteps RingsShowNoFault) }
 
     // At Done of `damage` the text tells, for each described field, which of its rows are whole lines at the
     // field's last signal over the steps of the whole stream, or that there was none; nothing is created.
-    ensures damaged { (result ≡ Answer.Done) → (desc stream : List ℕ) →
-        task_of (texts words.now) ≡ Ok (Damages desc stream) →
-        OfDescRun desc stream (D.seen desk.old).told.inputs
+    ensures damaged { (result ≡ Answer.Done) → (desc stream : Word) →
+        task_of words.now ≡ Ok (Task.Damage desc stream) →
+        OfDescRun desc.now stream.now (D.seen desk.old).told.inputs
         (SaysDamage (D.seen desk.old).told (D.seen desk.new).told) }
 
     // At Done of `run`, `capture`, `damage` and `ring`, for every description and picture as above: where the
     // field that arrived is the last one that is signalled, every row of it is whole (so `damage` says it).
     ensures arrived_rows { (result ≡ Answer.Done) →
-        OfRan (task_of (texts words.now)) (D.seen desk.old).told.inputs (OfSteps HasArrivedRows) }
+        OfRan (task_of words.now) (D.seen desk.old).told.inputs (OfSteps HasArrivedRows) }
 
     // At Done of these four, for every valid description whose program is the one that ran, every field of it and
     // every signal of the field, whatever came before: right after the signal each byte of a row that is whole and
     // isn't clipped stands at its place, where it has one, and is that byte of the line that the row's instructions took.
     ensures whole_rows { (result ≡ Answer.Done) →
-        OfRan (task_of (texts words.now)) (D.seen desk.old).told.inputs (OfSteps HoldsWholeRows) }
+        OfRan (task_of words.now) (D.seen desk.old).told.inputs (OfSteps HoldsWholeRows) }
 
     // At Done of `chain` the image and the report are those of the live run of the chain of both descriptions
     // over exactly the steps of the whole stream, patches among them, from a memory in which every granted byte
     // is the fill of the first description.
-    ensures chained { (result ≡ Answer.Done) → (first second stream image : List ℕ) →
-        task_of (texts words.now) ≡ Ok (Chains first second stream image) →
-        OfLiveRun first second stream (D.seen desk.old).told.inputs
-        (ShowsLastLive image (D.seen desk.old).told (D.seen desk.new).told) }
+    ensures chained { (result ≡ Answer.Done) → (first second stream image : Word) →
+        task_of words.now ≡ Ok (Task.Chain first second stream image) →
+        OfLiveRun first.now second.now stream.now (D.seen desk.old).told.inputs
+        (ShowsLastLive image.now (D.seen desk.old).told (D.seen desk.new).told) }
 
     // At every place of that live run, what the turn there writes is granted, what it fetches is a word of the
     // chain, and OCERR is 0. For every part that is the fragment of a description, every field of it, every
@@ -165,28 +216,28 @@ pub fn bt878<D: Desk>(alloc: Global, words: &[&str], desk: &mut D) -> Answer
     // no turn up to the signal sets FDSR. (Which part is whose fragment is the law `pairs_make_sound_chains` of
     // double_buffer.)
     ensures live_inside { (result ≡ Answer.Done) →
-        OfLive (task_of (texts words.now)) (D.seen desk.old).told.inputs (OfLiveSteps LiveRunStaysInside) }
+        OfLive (task_of words.now) (D.seen desk.old).told.inputs (OfLiveSteps LiveRunStaysInside) }
     ensures live_pictures { (result ≡ Answer.Done) →
-        OfLive (task_of (texts words.now)) (D.seen desk.old).told.inputs (OfLiveSteps LiveRunShowsPictures) }
+        OfLive (task_of words.now) (D.seen desk.old).told.inputs (OfLiveSteps LiveRunShowsPictures) }
     ensures live_no_fault { (result ≡ Answer.Done) →
-        OfLive (task_of (texts words.now)) (D.seen desk.old).told.inputs (OfLiveSteps LiveRunShowsNoFault) }
+        OfLive (task_of words.now) (D.seen desk.old).told.inputs (OfLiveSteps LiveRunShowsNoFault) }
 
     // At Done of the other commands: what was written and said.
-    ensures accepted { (result ≡ Answer.Done) → (program : List ℕ) →
-        task_of (texts words.now) ≡ Ok (Verifies program) →
-        SaysAccepted program (D.seen desk.old).told (D.seen desk.new).told }
-    ensures listed { (result ≡ Answer.Done) → (program : List ℕ) →
-        task_of (texts words.now) ≡ Ok (Lists program) →
-        SaysListing program (D.seen desk.old).told (D.seen desk.new).told }
-    ensures compiled { (result ≡ Answer.Done) → (desc program : List ℕ) →
-        task_of (texts words.now) ≡ Ok (Compiles desc program) →
-        IsCompiled desc program (D.seen desk.old).told (D.seen desk.new).told }
-    ensures generated { (result ≡ Answer.Done) → (desc : List ℕ) → (seed frames : ℕ) → (stream : List ℕ) →
-        task_of (texts words.now) ≡ Ok (Generates desc seed frames stream) →
-        IsGenerated desc seed frames stream (D.seen desk.old).told (D.seen desk.new).told }
-    ensures assembled { (result ≡ Answer.Done) → (text program : List ℕ) →
-        task_of (texts words.now) ≡ Ok (Assembles text program) →
-        IsAssembled text program (D.seen desk.old).told (D.seen desk.new).told }
+    ensures accepted { (result ≡ Answer.Done) → (program : Word) →
+        task_of words.now ≡ Ok (Task.Verify program) →
+        SaysAccepted program.now (D.seen desk.old).told (D.seen desk.new).told }
+    ensures listed { (result ≡ Answer.Done) → (program : Word) →
+        task_of words.now ≡ Ok (Task.List program) →
+        SaysListing program.now (D.seen desk.old).told (D.seen desk.new).told }
+    ensures compiled { (result ≡ Answer.Done) → (desc program : Word) →
+        task_of words.now ≡ Ok (Task.Compile desc program) →
+        IsCompiled desc.now program.now (D.seen desk.old).told (D.seen desk.new).told }
+    ensures generated { (result ≡ Answer.Done) → (desc : Word) → (seed frames : ℕ) → (stream : Word) →
+        task_of words.now ≡ Ok (Task.Make desc seed frames stream) →
+        IsGenerated desc.now seed frames stream.now (D.seen desk.old).told (D.seen desk.new).told }
+    ensures assembled { (result ≡ Answer.Done) → (text program : Word) →
+        task_of words.now ≡ Ok (Task.Assemble text program) →
+        IsAssembled text.now program.now (D.seen desk.old).told (D.seen desk.new).told }
 
     // At Done both counts of faults are as they were.
     ensures done { (result ≡ Answer.Done) → SameCounts (D.seen desk.old) (D.seen desk.new) }
@@ -195,20 +246,20 @@ pub fn bt878<D: Desk>(alloc: Global, words: &[&str], desk: &mut D) -> Answer
     // `Malformed`, `Rejected`, `BadDesc`, `BadGeometry`, `BadChain`, `BadRing` and `BadText` exactly where the
     // first bad input is so.
     ensures read_fault { (result ≡ Answer.ReadFault) →
-        IsUnreadOf (inputs_of (texts words.now))
+        IsUnreadOf (names_read (task_of words.now))
         (D.seen desk.old)
         (D.seen desk.new) }
     ensures bad_input { (refusal : Refusal) → result ≡ answer_of refusal → TellsInput refusal →
-        IsBadInput (task_of (texts words.now)) refusal (D.seen desk.old).told.inputs }
+        IsBadInput (task_of words.now) refusal (D.seen desk.old).told.inputs }
     ensures bad_input_must { AreTold (D.seen desk.old).told.inputs → (wanted : Refusal) →
-        IsBadInput (task_of (texts words.now)) wanted (D.seen desk.old).told.inputs →
+        IsBadInput (task_of words.now) wanted (D.seen desk.old).told.inputs →
         UnlessCut wanted result
         (D.seen desk.old)
         (D.seen desk.new) }
 
     // Good inputs and no fault of the desk give Done, or want of memory.
     ensures complete { AreTold (D.seen desk.old).told.inputs →
-        IsGood (task_of (texts words.now)) (D.seen desk.old).told.inputs →
+        IsGood (task_of words.now) (D.seen desk.old).told.inputs →
         ¬ (ReadsRose
         (D.seen desk.old)
         (D.seen desk.new)) →
@@ -230,7 +281,7 @@ pub fn bt878<D: Desk>(alloc: Global, words: &[&str], desk: &mut D) -> Answer
         (D.seen desk.old)
         (D.seen desk.new) }
     ensures stands { (result ≡ Answer.WriteFault) →
-        StandsAt (task_of (texts words.now)) (D.seen desk.old).told (D.seen desk.new).told }
+        StandsAt (task_of words.now) (D.seen desk.old).told (D.seen desk.new).told }
 
     // The order of work, where the desk tells its calls. Each input is opened at most once, in the order of the
     // words, after the one before it was read through and found good; where all are taken, exactly once, and read
@@ -238,7 +289,7 @@ pub fn bt878<D: Desk>(alloc: Global, words: &[&str], desk: &mut D) -> Answer
     // up to that byte; each piece of a stream is read only where those before it hold no fault. The outputs
     // are created in their order, each once and each finished before the next, after all inputs were found
     // good. The text is said last, that of a refusal by one run of calls.
-    ensures order { IsInOrder (task_of (texts words.now)) result (D.seen desk.old) (D.seen desk.new) }
+    ensures order { IsInOrder (task_of words.now) result (D.seen desk.old) (D.seen desk.new) }
 
     // Whatever the answer, no call of the desk follows one that fails at writing: at most one does, and it
     // is the last of all.
@@ -246,7 +297,7 @@ pub fn bt878<D: Desk>(alloc: Global, words: &[&str], desk: &mut D) -> Answer
 
     // Whatever the answer: an output whose name isn't the command's is as it was, and so are the
     // inputs and the names that may be opened and created.
-    ensures untouched { OnlyOutputs (outputs_of (texts words.now)) (D.seen desk.old).told (D.seen desk.new).told }
+    ensures untouched { OnlyOutputs (names_written (task_of words.now)) (D.seen desk.old).told (D.seen desk.new).told }
     ensures names { SameNames (D.seen desk.old).told (D.seen desk.new).told }
 {
     answer_words(alloc, words, desk)

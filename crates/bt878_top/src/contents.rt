@@ -54,7 +54,7 @@ pub enum Contents<'a> {
     /// The image of a memory.
     Image(&'a PageRam),
     /// The stream that a seed generates for a description, with so many frames.
-    Stream(&'a Frame, u64, Frames),
+    Stream(&'a Frame, u64, &'a Frames),
 }
 
 impl Content for Contents<'_> {

@@ -2,14 +2,12 @@
 #![tactic(auto)]
 
 mod call;
-mod chains;
-mod commands;
 mod contents;
-mod damage;
 mod descriptions;
 mod listings;
+mod machines;
+mod produced;
 mod programs;
-mod rings;
 mod runs;
 
 pub use call::bt878;

@@ -28,20 +28,16 @@ pub struct Listed {
     pub memory: Vec<u8>,
 }
 
-/// Reads a program file, whose program need not be sound, and makes ready what its listing takes: saying it
+/// `list PROG`: reads a program file, whose program need not be sound, and makes ready what its listing takes: saying it
 /// takes no more memory.
-pub fn list_file<D: Desk>(alloc: Global, name: &str, desk: &mut D) -> Result<Listed, Refusal>
-    requires { IsAllowed name.now (D.seen desk.old).told.may_open }
-    ensures lists { IfOk result (λ listed. OfInput name.now (D.seen desk.old).told.inputs (λ bytes. IsListed bytes (listing_with listed.program listed.memory.items))) }
-    ensures stops { IfErr result (λ refusal. StopsAt IsBadFile name.now refusal (D.seen desk.old) (D.seen desk.new)) }
-    ensures reads { OnlyReads name.now longest_program Always (D.seen desk.old) (D.seen desk.new) }
-    ensures through { IfOk result (λ _. ReadsThrough name.now longest_program Always (D.seen desk.old) (D.seen desk.new)) }
+pub fn list<'a, D: Desk>(alloc: Global, program: &'a str, desk: &mut D) -> Result<Produced<'a>, Refusal>
+    requires { IsAllowed program.now (D.seen desk.old).told.may_open }
+    ensures takes { Takes (inputs_of (Task.List program.entry)) result (D.seen desk.old) (D.seen desk.new) }
+    ensures makes { IfOk result (λ produced. IsProduct (Task.List program.entry) (D.seen desk.old).told.inputs (product_of produced)) }
 {
-    let ProgramFile { program, fill } = read_file(alloc, name, desk)?;
-    match memory_lines(alloc, program.grants(), fill) {
-        Ok(memory) => Ok(Listed { program, memory }),
-        Err(_) => Err(Refusal::NoMemory),
-    }
+    let ProgramFile { program, fill } = read_file(alloc, program, desk)?;
+    let memory = memory_lines(alloc, program.grants(), fill)?;
+    Ok(Produced::Listing(Listed { program, memory }))
 }
 
 /// Says the lines of words that stand from an address on, piece by piece. Its piece of text stands on the stack, so it is never

@@ -1,85 +1,178 @@
-//! The runs of a program file's program and of a description's program over a stream file.
+//! The commands that run a program over a stream: each reads what gives the program, plays the stream on its machine, and
+//! makes the report. All memory is taken before the stream is opened, but for the text.
 
-ghost use Rattle.std.specs.Prelude.{◌≡◌, [], ◌∷◌, string_bytes, IfOk};
+ghost use Rattle.std.specs.Prelude.{◌≡◌, string_bytes, IfOk};
+ghost use Rattle.bt878_contract.specs.Tasks.{IsProduct, inputs_of};
+ghost use Rattle.bt878_top.specs.Products.{product_of};
 ghost use Rattle.capture_desk.specs.Desks.{IsAllowed};
-ghost use Rattle.command_inputs.specs.Descriptions.{GivesCompiled, a_description};
-ghost use Rattle.command_inputs.specs.Programs.{GivesSound, a_sound_program};
 ghost use Rattle.command_steps.specs.Reading.{Takes};
-ghost use Rattle.command_texts.specs.Texts.{report_text};
-ghost use Rattle.dma_machine.specs.Facts.{report_of};
-ghost use Rattle.machine_model.specs.Paths.{IsSound};
-ghost use Rattle.picture_model.specs.Programs.{compiled};
-ghost use Rattle.program_build.specs.Checks.{IsChecked};
-ghost use Rattle.stream_play.specs.Runs.{OfRun, a_stream, last_of};
+ghost use Rattle.damage_map.specs.Maps.{rows_of};
+ghost use Rattle.damage_text.specs.Texts.{damage_text};
 
+use crate::machines::{machine_of_description, machine_of_ring, map_of};
+use crate::produced::{Outputs, Produced};
+use bt878_words::Task;
 use capture_desk::Desk;
-use command_inputs::{Loaded, accept, check_file, verify_program};
-use command_texts::Refusal;
+use command_inputs::{Loaded, Paired, accept, buffer_file, check_file, frame_file, ring_file};
+use command_texts::{Refusal, blocks_text, report_text};
+use damage_map::Track;
+use damage_text::damage_text;
+use machine_watch::Watched;
+use page_ram::PageRam;
+use pixel_layout::Parity;
 use program_build::Checked;
-use risc_verify::{Accepted, Program, Why};
 use std::alloc::{AllocError, Global};
-use stream_play::{Played, play_program};
+use stream_play::{machine_of, play_file};
 
-/// Runs the program of a program file over a stream file.
-pub fn run_program<D: Desk>(
+/// `run PROG STREAM IMAGE`: runs the program over the stream, writes the image of its memory and says its report.
+pub fn run<'a, D: Desk>(
     alloc: Global,
-    program: &str,
-    stream: &str,
+    program: &'a str,
+    stream: &'a str,
+    image: &'a str,
     desk: &mut D,
-) -> Result<Played, Refusal>
+) -> Result<Produced<'a>, Refusal>
     requires program { IsAllowed program.now (D.seen desk.old).told.may_open }
     requires stream { IsAllowed stream.now (D.seen desk.old).told.may_open }
-    ensures ran { IfOk result (λ played. OfRun GivesSound program.now stream.now (D.seen desk.old).told.inputs (λ r. (played.machine ≡ last_of r) × (played.fill ≡ r.fill))) }
-    ensures report { IfOk result (λ played. string_bytes played.report ≡ report_text (report_of played.machine)) }
-    ensures takes { Takes (a_sound_program program.now ∷ a_stream stream.now ∷ []) result (D.seen desk.old) (D.seen desk.new) }
+    ensures takes { Takes (inputs_of (Task.Run program.entry stream.entry image.entry)) result (D.seen desk.old) (D.seen desk.new) }
+    ensures makes { IfOk result (λ produced. IsProduct (Task.Run program.entry stream.entry image.entry) (D.seen desk.old).told.inputs (product_of produced)) }
 {
     let Loaded { accepted, fill } = accept(alloc, program, desk)?;
-    match play_program(alloc, accepted, fill, stream, desk) {
-        Ok(played) => Ok(played),
-        Err(refusal) => Err(refusal),
-    }
+    let machine = Watched::new(machine_of(alloc, accepted, fill)?, ());
+    let machine = play_file(alloc, machine, stream, desk)?.into_machine();
+    let text = report_text(alloc, &machine.report())?;
+    Ok(Produced::Files {
+        outputs: Outputs::Image {
+            name: image,
+            machine,
+        },
+        text,
+    })
 }
 
-/// A program that is surely sound, as the machine takes it: verified as any other is.
-pub fn accept_sound(alloc: Global, program: Program) -> Result<Accepted, AllocError>
-    requires { IsSound program }
-    ensures { IfOk result (λ accepted. accepted ≡ program) }
-{
-    match verify_program(alloc, program) {
-        Ok(accepted) => Ok(accepted),
-        Err(Why::Bad { .. }) => unreachable!(),
-        Err(Why::Memory) => Err(AllocError),
-    }
-}
-
-/// The program that a checked description asks for, as the machine takes it.
-fn accepted_program(alloc: Global, checked: Checked) -> Result<Accepted, AllocError>
-    ensures { IfOk result (λ accepted. accepted ≡ compiled checked) }
-{
-    accept_sound(alloc, checked.into_program(alloc)?)
-}
-
-/// Runs the program of a description file over a stream file.
-pub fn run_description<D: Desk>(
+/// `capture DESC STREAM PROG IMAGE`: runs the program of the description over the stream, writes the program
+/// and the image of its memory, and says its report.
+pub fn capture<'a, D: Desk>(
     alloc: Global,
-    desc: &str,
-    stream: &str,
+    desc: &'a str,
+    stream: &'a str,
+    program: &'a str,
+    image: &'a str,
     desk: &mut D,
-) -> Result<Played, Refusal>
+) -> Result<Produced<'a>, Refusal>
     requires desc { IsAllowed desc.now (D.seen desk.old).told.may_open }
     requires stream { IsAllowed stream.now (D.seen desk.old).told.may_open }
-    ensures ran { IfOk result (λ played. OfRun GivesCompiled desc.now stream.now (D.seen desk.old).told.inputs (λ r. (played.machine ≡ last_of r) × (played.fill ≡ r.fill))) }
-    ensures report { IfOk result (λ played. string_bytes played.report ≡ report_text (report_of played.machine)) }
-    ensures takes { Takes (a_description desc.now ∷ a_stream stream.now ∷ []) result (D.seen desk.old) (D.seen desk.new) }
+    ensures takes { Takes (inputs_of (Task.Capture desc.entry stream.entry program.entry image.entry)) result (D.seen desk.old) (D.seen desk.new) }
+    ensures makes { IfOk result (λ produced. IsProduct (Task.Capture desc.entry stream.entry program.entry image.entry) (D.seen desk.old).told.inputs (product_of produced)) }
 {
     let checked = check_file(alloc, desc, desk)?;
-    let fill = checked.fill();
-    let accepted = match accepted_program(alloc, checked) {
-        Ok(accepted) => accepted,
-        Err(_) => return Err(Refusal::NoMemory),
-    };
-    match play_program(alloc, accepted, fill, stream, desk) {
-        Ok(played) => Ok(played),
-        Err(refusal) => Err(refusal),
-    }
+    let machine = Watched::new(machine_of_description(alloc, &checked)?, ());
+    let machine = play_file(alloc, machine, stream, desk)?.into_machine();
+    let text = report_text(alloc, &machine.report())?;
+    Ok(Produced::Files {
+        outputs: Outputs::ProgramAndImage {
+            program,
+            fill: checked.fill(),
+            image,
+            machine,
+        },
+        text,
+    })
+}
+
+/// `ring RING STREAM PROG IMAGE`: runs the program of the ring over the stream, writes the program and the
+/// image of its memory, and says how many blocks were ended and the report.
+pub fn ring<'a, D: Desk>(
+    alloc: Global,
+    ring: &'a str,
+    stream: &'a str,
+    program: &'a str,
+    image: &'a str,
+    desk: &mut D,
+) -> Result<Produced<'a>, Refusal>
+    requires ring { IsAllowed ring.now (D.seen desk.old).told.may_open }
+    requires stream { IsAllowed stream.now (D.seen desk.old).told.may_open }
+    ensures takes { Takes (inputs_of (Task.Ring ring.entry stream.entry program.entry image.entry)) result (D.seen desk.old) (D.seen desk.new) }
+    ensures makes { IfOk result (λ produced. IsProduct (Task.Ring ring.entry stream.entry program.entry image.entry) (D.seen desk.old).told.inputs (product_of produced)) }
+{
+    let ring = ring_file(alloc, ring, desk)?;
+    let machine = play_file(alloc, machine_of_ring(alloc, ring)?, stream, desk)?;
+    let text = blocks_text(alloc, machine.watch().blocks(), &machine.machine().report())?;
+    let fill = machine.watch().ring().fill();
+    Ok(Produced::Files {
+        outputs: Outputs::ProgramAndImage {
+            program,
+            fill,
+            image,
+            machine: machine.into_machine(),
+        },
+        text,
+    })
+}
+
+/// What is said of the rows of a description.
+fn rows_text(
+    alloc: Global,
+    checked: &Checked,
+    map: &Watched<PageRam, Track>,
+) -> Result<String, AllocError>
+    ensures { IfOk result (λ text. string_bytes text ≡ damage_text checked.now (λ field. rows_of field map.now)) }
+{
+    damage_text(
+        alloc,
+        checked.frame().desc(),
+        map.watch().rows(Parity::Top),
+        map.watch().rows(Parity::Bottom),
+    )
+}
+
+/// `damage DESC STREAM`: runs the program of the description over the stream, and says of each described field
+/// which of its rows are whole lines at its last signal.
+pub fn damage<'a, D: Desk>(
+    alloc: Global,
+    desc: &'a str,
+    stream: &'a str,
+    desk: &mut D,
+) -> Result<Produced<'a>, Refusal>
+    requires desc { IsAllowed desc.now (D.seen desk.old).told.may_open }
+    requires stream { IsAllowed stream.now (D.seen desk.old).told.may_open }
+    ensures takes { Takes (inputs_of (Task.Damage desc.entry stream.entry)) result (D.seen desk.old) (D.seen desk.new) }
+    ensures makes { IfOk result (λ produced. IsProduct (Task.Damage desc.entry stream.entry) (D.seen desk.old).told.inputs (product_of produced)) }
+{
+    let checked = check_file(alloc, desc, desk)?;
+    let map = play_file(alloc, map_of(alloc, &checked)?, stream, desk)?;
+    let text = rows_text(alloc, &checked, &map)?;
+    Ok(Produced::Files {
+        outputs: Outputs::Nothing,
+        text,
+    })
+}
+
+/// `chain DESC1 DESC2 STREAM IMAGE`: runs the chain of both descriptions over the stream, whose patches tell
+/// which of the two each slot shows, writes the image of its memory and says its report.
+pub fn chain<'a, D: Desk>(
+    alloc: Global,
+    first: &'a str,
+    second: &'a str,
+    stream: &'a str,
+    image: &'a str,
+    desk: &mut D,
+) -> Result<Produced<'a>, Refusal>
+    requires first { IsAllowed first.now (D.seen desk.old).told.may_open }
+    requires second { IsAllowed second.now (D.seen desk.old).told.may_open }
+    requires stream { IsAllowed stream.now (D.seen desk.old).told.may_open }
+    ensures takes { Takes (inputs_of (Task.Chain first.entry second.entry stream.entry image.entry)) result (D.seen desk.old) (D.seen desk.new) }
+    ensures makes { IfOk result (λ produced. IsProduct (Task.Chain first.entry second.entry stream.entry image.entry) (D.seen desk.old).told.inputs (product_of produced)) }
+{
+    let frame = frame_file(alloc, first, desk)?;
+    let Paired { buffer, .. } = buffer_file(alloc, &frame, second, desk)?;
+    let buffer = play_file(alloc, buffer, stream, desk)?;
+    let text = report_text(alloc, &buffer.report())?;
+    Ok(Produced::Files {
+        outputs: Outputs::ChainImage {
+            name: image,
+            buffer,
+        },
+        text,
+    })
 }

@@ -1,5 +1,5 @@
 -- What the words of the command line ask for, or their first fault. A word is the list of its bytes, as it is passed.
-use Rattle.std.specs.Prelude.{ℕ, ◌+◌, ◌-◌, ◌*◌, ◌^◌, Bool, false, ◌&&◌, ◌||◌, List, [], ◌∷◌, Option, Some, None, Result, Ok, Err, if◌then◌else◌, ◌==◌, nat_lt, nat_le, codes}
+use Rattle.std.specs.Prelude.{ℕ, ◌+◌, ◌-◌, ◌*◌, ◌^◌, ◌≤◌, ⊤, Bool, false, ◌&&◌, ◌||◌, List, [], ◌∷◌, map, Option, Some, None, Result, Ok, Err, if◌then◌else◌, ◌==◌, nat_lt, nat_le, codes}
 use Rattle.std.specs.Borrow.{Bor}
 use Rattle.std.specs.List.{list_any}
 use Rattle.std.specs.Str.{bytes_eq}
@@ -15,6 +15,10 @@ use Rattle.bt878_words.specs.declared.Verb.TheVariants as verb
 -- a word as it is passed
 abbrev pub Word : Type 0
 Word = Bor (List ℕ)
+
+-- the bytes of words
+abbrev pub texts : List Word → List (List ℕ)
+texts words = map (λ (word : Word). word.now) words
 
 -- the command of a first word
 abbrev pub verb_named : List ℕ → Option Verb
@@ -49,6 +53,11 @@ abbrev pub number_of : List ℕ → Option ℕ
 number_of [] = None
 number_of (byte ∷ []) = number_from 0 (byte ∷ [])
 number_of (byte ∷ bytes) = if byte == 48 then None else number_from 0 (byte ∷ bytes)
+
+-- a stream that is made has 1 to 16 frames
+abbrev pub HasFrames : Task → Type 0
+HasFrames (task.Make desc seed frames stream) = (1 ≤ frames) × (frames ≤ 16)
+HasFrames _ = ⊤
 
 -- the words SEED and FRAMES of `make`
 abbrev pub made_with : Word → Option ℕ → Option ℕ → Word → Result Task UsageFault
@@ -138,14 +147,3 @@ command_if (Ok t) = Ok (command_in t)
 
 abbrev pub command_of : List Word → Result Command UsageFault
 command_of words = command_if (task_of words)
-
--- the names that the words give: none where they have a fault
-abbrev pub names_if : (Task → List (List ℕ)) → Result Task UsageFault → List (List ℕ)
-names_if names (Err fault) = []
-names_if names (Ok t) = names t
-
-abbrev pub inputs_of : List Word → List (List ℕ)
-inputs_of words = names_if reads (task_of words)
-
-abbrev pub outputs_of : List Word → List (List ℕ)
-outputs_of words = names_if writes (task_of words)

@@ -1,8 +1,8 @@
 //! The words of the command line.
 #![tactic(auto)]
 
-ghost use Rattle.std.specs.Prelude.{◌≡◌, map};
-ghost use Rattle.bt878_words.specs.Words.{apart, command_in, command_of, has_clash, is_among, made_with, named, number_from, number_of, reads, task_of, verb_named, writes};
+ghost use Rattle.std.specs.Prelude.{◌≡◌, map, IfOk};
+ghost use Rattle.bt878_words.specs.Words.{HasFrames, apart, command_in, command_of, has_clash, is_among, made_with, named, number_from, number_of, reads, task_of, verb_named, writes};
 
 /// What is wrong with the words, in the order in which it is looked for (this project's own rule).
 #[derive(Clone, Copy, Debug, PartialEq, Eq)]
@@ -168,7 +168,8 @@ fn make<'a>(
     frames: Option<u64>,
     stream: &'a str,
 ) -> Result<Task<'a>, UsageFault>
-    ensures { result ≡ made_with desc.entry seed frames stream.entry }
+    ensures made { result ≡ made_with desc.entry seed frames stream.entry }
+    ensures frames { IfOk result HasFrames }
 {
     match (seed, frames) {
         (Some(seed), Some(frames)) if (1..=16).contains(&frames) => Ok(Task::Make {
@@ -182,7 +183,8 @@ fn make<'a>(
 }
 
 fn task_for<'a>(verb: Verb, others: &[&'a str]) -> Result<Task<'a>, UsageFault>
-    ensures { result ≡ named verb others.now }
+    ensures named { result ≡ named verb others.now }
+    ensures frames { IfOk result HasFrames }
 {
     match (verb, others) {
         (Verb::List, &[program]) => Ok(Task::List { program }),
@@ -299,7 +301,8 @@ impl Task<'_> {
 }
 
 fn judge(task: Task<'_>) -> Result<Task<'_>, UsageFault>
-    ensures { result ≡ apart task.entry }
+    ensures apart { result ≡ apart task.entry }
+    ensures same { IfOk result (λ judged. judged ≡ task.entry) }
 {
     if task.has_clash() {
         return Err(UsageFault::SameName);
@@ -312,7 +315,8 @@ fn judge(task: Task<'_>) -> Result<Task<'_>, UsageFault>
 /// The faults are looked for in the order of `UsageFault`. A number is decimal digits without a sign
 /// and without a leading zero; SEED is below 2^64 and FRAMES is 1 to 16. Takes no memory.
 pub fn read_task<'a>(words: &[&'a str]) -> Result<Task<'a>, UsageFault>
-    ensures { result ≡ task_of words.now }
+    ensures task { result ≡ task_of words.now }
+    ensures frames { IfOk result HasFrames }
 {
     match words {
         [] => Err(UsageFault::NoCommand),

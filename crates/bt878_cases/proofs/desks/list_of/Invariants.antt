@@ -1,5 +1,5 @@
 use Rattle.std.proofs.Common.{◌≡◌, ◌++◌, drop}
-use Rattle.bt878_contract.specs.Tasks.{texts}
+use Rattle.bt878_words.specs.Words.{texts}
 use Rattle.bt878_cases.proofs.desks.list_of.Given as goal
 
 abbrev pub invariant-loop-name : goal.invariant-loop-name

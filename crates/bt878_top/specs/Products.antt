@@ -1,0 +1,27 @@
+-- The files that outputs are, and what a command produced.
+use Rattle.std.specs.Prelude.{ℕ, List, [], ◌∷◌, string_bytes}
+use Rattle.capture_file.specs.Images.{image_of}
+use Rattle.capture_file.specs.Programs.{spelled}
+use Rattle.field_stream.specs.Made.{made}
+use Rattle.command_steps.specs.Outputs.{Product}
+use Rattle.bt878_top.specs.Contents.{listing_with}
+use Rattle.bt878_top.specs.declared.produced.Outputs.{Outputs}
+use Rattle.bt878_top.specs.declared.produced.Outputs.TheVariants as outputs
+use Rattle.bt878_top.specs.declared.produced.Produced.{Produced}
+use Rattle.bt878_top.specs.declared.produced.Produced.TheVariants.{Ready, Listing, Files}
+
+-- the files in their order, each a name with bytes
+abbrev pub files_of : Outputs → List (List ℕ × List ℕ)
+files_of outputs.Nothing = []
+files_of (outputs.Program name program fill) = (name.now, spelled program fill) ∷ []
+files_of (outputs.Stream name checked seed frames) = (name.now, made checked seed frames) ∷ []
+files_of (outputs.Image name machine) = (name.now, image_of machine.memory) ∷ []
+files_of (outputs.ProgramAndImage program fill image machine) =
+    (program.now, spelled machine.program fill) ∷ (image.now, image_of machine.memory) ∷ []
+files_of (outputs.ChainImage name buffer) = (name.now, image_of buffer.live.machine.memory) ∷ []
+
+-- the files and the text
+abbrev pub product_of : Produced → Product
+product_of (Ready text) = record { files = []; text = text.now }
+product_of (Listing listed) = record { files = []; text = listing_with listed.program listed.memory.items }
+product_of (Files outputs text) = record { files = files_of outputs; text = string_bytes text }
