@@ -32,7 +32,9 @@ use Rattle.picture_model.proofs.FaultlessGeometry.{IsRight}
 use Rattle.field_law.specs.Arrivals.{IsKept, is_idle, is_queue, is_signal}
 use Rattle.field_law.specs.Fields.{Token}
 use Rattle.field_law.specs.Sections.{Ask, Holds, HoldsFrom, IsPlain, Section, Uses, IsUsedUp, ask_of, asked, asks, closing_at, words_in}
-use Rattle.field_law.proofs.InSection.{Settling, StandsIn, begins_in}
+use Rattle.field_law.specs.Trails.{trail_of}
+use Rattle.field_law.proofs.InSection.{StandsIn, begins_in}
+use Rattle.field_law.proofs.Painting.{Settling}
 use Rattle.field_law.proofs.Opening.{IsReached}
 use Rattle.field_law.proofs.Running.{done_rest}
 use Rattle.field_law.proofs.AskedAndToCome.{AnyRest}
@@ -322,7 +324,7 @@ module _ (d : Desc) (right : IsRight d) (skips : SkipsFew d) (m : State) (t : Fi
 
   module _ (s : Section) (holds : Holds s (compiled d)) (tokens : Queue → List Token) (uses : Uses s tokens) (later : Queue → List Entry) (bound : ℕ) where
     abbrev Reached : Type 0
-    Reached = IsReached s tokens uses AnyRest (StandsIn s) Unknown (begins_in s) later bound m
+    Reached = IsReached (trail_of s) tokens uses AnyRest (StandsIn s) Unknown (begins_in s) later bound m
 
     within_turn : (job : Job) → m.job ≡ job → IsWithin IsUsedUp AnyRest (StandsIn s) Unknown later bound m → is_signal s m Turn ≡ false → Well (turn m) (track_next m Turn t)
     within_turn Idle j w silent = fetches_first w.body s (w.stands.holds (compiled d) holds) w.stands.there j w.on w.unskipped silent

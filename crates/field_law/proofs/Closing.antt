@@ -1,83 +1,94 @@
--- The turn that executes the closing.
-use Rattle.std.proofs.Common.{◌≡◌, ℕ, ◌+◌, ◌*◌, Bool, true, ◌&&◌, ◌==◌, List, [], ◌∷◌, ◌++◌, length, Ok, refl, sym, ap, subst, ◌∙◌, arith, eqb-true}
+-- The turn that fetches the closing of a trail.
+use Rattle.std.proofs.Common.{◌≡◌, ℕ, Bool, true, ◌&&◌, ◌==◌, List, [], ◌∷◌, ◌++◌, length, refl, ap, ◌∙◌, eqb-true}
 use Rattle.std.proofs.lemmas.Bool.{and_parts}
-use Rattle.risc_word.specs.declared.Ctl.{Ctl}
 use Rattle.risc_word.specs.declared.Instr.{Instr}
-use Rattle.risc_word.specs.declared.Instr.TheVariants.{Jump}
+use Rattle.risc_word.specs.declared.Instr.TheVariants.{Write, Skip, WriteC, Jump, Sync, Write123, Skip123, Write1S23}
 use Rattle.risc_word.specs.Words.{Reading, encoded}
 use Rattle.fifo_model.specs.declared.Entry.{Entry}
 use Rattle.fifo_model.specs.declared.Queue.{Queue}
 use Rattle.fifo_model.specs.Queues.{queue_state}
-use Rattle.irq_status.specs.Register.{applied}
+use Rattle.irq_status.specs.Register.{fdsr, has}
+use Rattle.irq_status.proofs.Laws.{fdsr-applied}
 use Rattle.page_table.specs.Grants.{Chunk}
 use Rattle.page_table.specs.Blocks.{byte_at}
 use Rattle.machine_model.specs.declared.Job.{Job}
 use Rattle.machine_model.specs.declared.Job.TheVariants.{Idle, Waiting, Running}
-use Rattle.machine_model.specs.Paths.{RiscProgram, fetch}
 use Rattle.machine_model.specs.States.{State}
-use Rattle.machine_model.specs.Turns.{counted, jumped, fetched, worked, turn_if, turn}
+use Rattle.machine_model.specs.Turns.{counted, jumped, instr_fetched, fetched, worked, turn_if, turn}
 use Rattle.machine_model.specs.Steps.{Turn}
-use Rattle.field_law.specs.Sections.{Section, IsUsedUp, IsPlain, Holds, HoldsFrom, words_in, closing_at, is_stored}
-use Rattle.field_law.specs.Arrivals.{is_idle, is_signal}
+use Rattle.field_law.specs.Sections.{IsUsedUp, is_stored}
+use Rattle.field_law.specs.Trails.{Trail, IsClosing, Leads, after_closing}
+use Rattle.field_law.specs.Arrivals.{is_end, is_idle}
 use Rattle.field_law.proofs.AskedAndToCome.{AnyRest}
 use Rattle.field_law.proofs.Asked.{outlook_at_end}
 use Rattle.field_law.proofs.Fetching.{idle-Fetches}
-use Rattle.field_law.proofs.InSection.{StandsIn, Settling, IsInSection, FetchesIn}
-
--- the closing stands behind the body
-holds_closing : (program : RiscProgram) (at : ℕ) (body : List Instr) (closing : Ctl) (target : ℕ) → HoldsFrom program at body closing target →
-    fetch program (at + 4 * words_in body) ≡ Ok (Jump closing target, 2)
-holds_closing program at [] closing target h = let same : at + 4 * 0 ≡ at = omega arith in ap (fetch program) same ∙ h.0
-holds_closing program at (instr ∷ rest) closing target h =
-    let same : at + 4 * (length (encoded instr) + words_in rest) ≡ at + 4 * length (encoded instr) + 4 * words_in rest = omega arith in
-    ap (fetch program) same ∙ holds_closing program (at + 4 * length (encoded instr)) rest closing target h.3
-
--- and no instruction of the body does
-no_jump : (instr : Instr) (count : ℕ) (closing : Ctl) (target : ℕ) (reading : Reading) → reading ≡ Ok (instr, count) → reading ≡ Ok (Jump closing target, 2) → IsPlain instr → ⊥
-no_jump instr count closing target reading a b plain =
-    let both : Ok (instr, count) ≡ Ok (Jump closing target, 2) = sym a ∙ b in
-    let pair : (instr, count) ≡ (Jump closing target, 2) = cc in
-    let same : instr ≡ Jump closing target = ap (λ (pair : Instr × ℕ). pair.0) pair in
-    subst IsPlain same plain
+use Rattle.field_law.proofs.Painting.{Settling}
+use Rattle.field_law.proofs.OnTrail.{StandsOn, along_on, IsOnTrailAt, FetchesOn}
 
 idle_job : (job : Job) → is_idle job ≡ true → job ≡ Idle
 idle_job Idle h = refl
 idle_job (Waiting ctl resync code) h = cc
 idle_job (Running instr ds) h = cc
 
-pub record Signals (s : Section) (m : State) : Type 0 where
+pub record AtEnd (address : ℕ) (m : State) : Type 0 where
   pub on : m.risc_on ≡ true
   pub idle : m.job ≡ Idle
-  pub there : m.pc ≡ closing_at s
+  pub there : m.pc ≡ address
 
-pub signal-Signals : (s : Section) (m : State) → is_signal s m Turn ≡ true → Signals s m
-signal-Signals s m h =
-    let outer = and_parts (m.risc_on && is_idle m.job) (m.pc == closing_at s) h in
+pub end-AtEnd : (address : ℕ) (m : State) → is_end address m Turn ≡ true → AtEnd address m
+end-AtEnd address m h =
+    let outer = and_parts (m.risc_on && is_idle m.job) (m.pc == address) h in
     let inner = and_parts m.risc_on (is_idle m.job) outer.0 in
     record { on = inner.0; idle = idle_job m.job inner.1; there = eqb-true _ _ outer.1 }
 
-module _ (s : Section) (given : Type 0) (chunks : List Chunk) (final : ℕ → ℕ) (later : Queue → List Entry) where
+-- the closing stores nothing and applies its control bits
+closing_memory : (closing : Instr) (count : ℕ) (m : State) → IsClosing m.program closing → (instr_fetched closing count m).memory ≡ m.memory
+closing_memory (Jump ctl target) count m is = ap (λ (inside : Bool). (jumped inside ctl target m).memory) is
+closing_memory (Sync ctl resync code) count m is = refl
+closing_memory (Write ctl ends off count' addr) count m is = absurd is
+closing_memory (Skip ctl ends count') count m is = absurd is
+closing_memory (WriteC ctl ends off count') count m is = absurd is
+closing_memory (Write123 ctl ends off counts addrs) count m is = absurd is
+closing_memory (Skip123 ctl ends counts) count m is = absurd is
+closing_memory (Write1S23 ctl ends off counts addr) count m is = absurd is
+
+closing_interrupts : (closing : Instr) (count : ℕ) (m : State) → IsClosing m.program closing → (instr_fetched closing count m).interrupts ≡ after_closing closing m.interrupts
+closing_interrupts (Jump ctl target) count m is = ap (λ (inside : Bool). (jumped inside ctl target m).interrupts) is
+closing_interrupts (Sync ctl resync code) count m is = refl
+closing_interrupts (Write ctl ends off count' addr) count m is = absurd is
+closing_interrupts (Skip ctl ends count') count m is = absurd is
+closing_interrupts (WriteC ctl ends off count') count m is = absurd is
+closing_interrupts (Write123 ctl ends off counts addrs) count m is = absurd is
+closing_interrupts (Skip123 ctl ends counts) count m is = absurd is
+closing_interrupts (Write1S23 ctl ends off counts addr) count m is = absurd is
+
+-- FDSR stays
+pub closing_quiet : (closing : Instr) (register : ℕ) → has fdsr (after_closing closing register) ≡ has fdsr register
+closing_quiet (Jump ctl target) register = fdsr-applied ctl register
+closing_quiet (Sync ctl resync code) register = refl
+closing_quiet (Write ctl ends off count' addr) register = refl
+closing_quiet (Skip ctl ends count') register = refl
+closing_quiet (WriteC ctl ends off count') register = refl
+closing_quiet (Write123 ctl ends off counts addrs) register = refl
+closing_quiet (Skip123 ctl ends counts) register = refl
+closing_quiet (Write1S23 ctl ends off counts addr) register = refl
+
+module _ (t : Trail) (given : Type 0) (chunks : List Chunk) (final : ℕ → ℕ) (later : Queue → List Entry) where
   pub record Closes (m : State) : Type 0 where
     pub memory : (turn m).memory ≡ m.memory
-    pub interrupts : (turn m).interrupts ≡ applied s.closing m.interrupts
+    pub interrupts : (turn m).interrupts ≡ after_closing t.closing m.interrupts
     pub settled : given → (address : ℕ) → byte_at m.memory address ≡ final address
 
-  closes : (bound : ℕ) (body : List Instr) (m : State) → FetchesIn s given chunks final later bound body m → Holds s m.program → Signals s m → Closes m
-  closes bound (instr ∷ rest) m h held signal =
-      let there = h.stands.there in
-      let here = signal.there in
-      let stands = h.stands.holds m.program held in
-      let same : m.pc ≡ m.pc + 4 * words_in (instr ∷ rest) = omega arith in
-      absurd (no_jump instr (length (encoded instr)) s.closing s.target (fetch m.program m.pc) stands.0
-      (ap (fetch m.program) same ∙ holds_closing m.program m.pc (instr ∷ rest) s.closing s.target stands) stands.1)
-  closes bound [] m h held signal =
-      let stands = h.stands.holds m.program held in
-      let turns : turn m ≡ jumped true s.closing s.target (counted m) =
-      ap (λ (on : Bool). turn_if on (counted m)) signal.on ∙ ap (λ (job : Job). worked job (counted m)) signal.idle
-      ∙ ap (λ (reading : Reading). fetched reading (counted m)) stands.0 ∙ ap (λ (inside : Bool). jumped inside s.closing s.target (counted m)) stands.1 in
+  closes : (bound : ℕ) (body : List Instr) (m : State) → FetchesOn t (Leads t) (StandsOn t) (along_on t) given chunks final later bound body m → Leads t m.program → AtEnd t.end m → Closes m
+  closes bound (instr ∷ rest) m h held ends = absurd ((h.stands.leads m.program held).0 ends.there)
+  closes bound [] m h held ends =
+      let leads = h.stands.leads m.program held in
+      let turns : turn m ≡ instr_fetched t.closing (length (encoded t.closing)) (counted m) =
+      ap (λ (on : Bool). turn_if on (counted m)) ends.on ∙ ap (λ (job : Job). worked job (counted m)) ends.idle
+      ∙ ap (λ (reading : Reading). fetched reading (counted m)) leads.1 in
       record {
-        memory = ap (λ (m' : State). m'.memory) turns;
-        interrupts = ap (λ (m' : State). m'.interrupts) turns;
+        memory = ap (λ (m' : State). m'.memory) turns ∙ closing_memory t.closing (length (encoded t.closing)) (counted m) leads.2;
+        interrupts = ap (λ (m' : State). m'.interrupts) turns ∙ closing_interrupts t.closing (length (encoded t.closing)) (counted m) leads.2;
         settled =
             λ known address.
             (h.comes known).settled address
@@ -85,8 +96,8 @@ module _ (s : Section) (given : Type 0) (chunks : List Chunk) (final : ℕ → �
             ap (is_stored address) (outlook_at_end IsUsedUp AnyRest (h.stores q) (h.left q) (queue_state q m.queues).taken ((queue_state q m.queues).entries ++ later q) (h.outlook q)));
       }
 
-  pub signal-Closes : (bound : ℕ) (m : State) → IsInSection s given chunks final later bound m → Holds s m.program → is_signal s m Turn ≡ true → Closes m
-  signal-Closes bound m h held signals =
-      let signal = signal-Signals s m signals in
-      let f = idle-Fetches IsUsedUp AnyRest (StandsIn s) (Settling given chunks final) later bound m signal.idle h in
-      closes bound f.0 m f.1 held signal
+  pub end-Closes : (bound : ℕ) (m : State) → IsOnTrailAt t (Leads t) (StandsOn t) (along_on t) given chunks final later bound m → Leads t m.program → is_end t.end m Turn ≡ true → Closes m
+  end-Closes bound m h held ended =
+      let ends = end-AtEnd t.end m ended in
+      let f = idle-Fetches IsUsedUp AnyRest (StandsOn t) (Settling given chunks final) later bound m ends.idle h in
+      closes bound f.0 m f.1 held ends

@@ -1,11 +1,10 @@
--- A program that holds a section grants its stores, whatever the field.
-use Rattle.std.proofs.Common.{◌≡◌, ℕ, ◌+◌, ◌*◌, Bool, true, false, List, [], ◌∷◌, All, length, take, drop, Option, Some, None, length-take, arith}
+-- A program that leads along a trail grants its stores, whatever the field.
+use Rattle.std.proofs.Common.{◌≡◌, ℕ, Bool, true, false, List, [], ◌∷◌, All, take, drop, Option, Some, None, length-take, refl, arith}
 use Rattle.std.proofs.lemmas.List.Elements.{All-nil, All-append}
-use Rattle.risc_word.specs.declared.Ctl.{Ctl}
 use Rattle.risc_word.specs.declared.Instr.{Instr}
 use Rattle.risc_word.specs.declared.Instr.TheVariants.{Write, Skip, WriteC, Jump, Sync, Write123, Skip123, Write1S23}
-use Rattle.risc_word.specs.Words.{encoded}
 use Rattle.fifo_model.specs.declared.Queue.{Queue}
+use Rattle.fifo_model.specs.declared.Queue.TheVariants.{One, Two, Three}
 use Rattle.page_table.specs.Grants.{Chunk, granted}
 use Rattle.machine_model.specs.declared.Demand.{Demand}
 use Rattle.machine_model.specs.Paths.{RiscProgram, range_cause, demand_cause, demands_of, demands_cause}
@@ -13,8 +12,10 @@ use Rattle.machine_model.specs.Turns.{Store}
 use Rattle.machine_model.proofs.Demanded.{written-IsRange, demand-granted}
 use Rattle.machine_model.proofs.Ranges.{granted_at}
 use Rattle.field_law.specs.Fields.{Token, Mark, Row}
-use Rattle.field_law.specs.Sections.{Section, Holds, HoldsFrom, Ask, Await, Begin, GoOn, ask, ask_of, asked, asks, laid, planned, section_stores}
+use Rattle.field_law.specs.Sections.{Section, Holds, Ask, Await, Begin, GoOn, ask, ask_of, asked, asks, laid, planned, field_stores, section_stores}
+use Rattle.field_law.specs.Trails.{Trail, IsOnTrail, Leads, LeadsFrom, next_at, trail_of}
 use Rattle.field_law.proofs.CutLines.{laid_each}
+use Rattle.field_law.proofs.InSection.{section_leads}
 
 module _ (grants : List Chunk) where
   abbrev pub IsGranted : Store → Type 0
@@ -66,12 +67,28 @@ module _ (grants : List Chunk) where
   asked_fine q (Skip123 ctl ends counts) fine = fine_of _ (demand-granted grants q (demands_of (Skip123 ctl ends counts) None) fine)
   asked_fine q (Write1S23 ctl ends off counts addr) fine = fine_of _ (demand-granted grants q (demands_of (Write1S23 ctl ends off counts addr) None) fine)
 
-asks_fine : (program : RiscProgram) (q : Queue) (at : ℕ) (body : List Instr) (closing : Ctl) (target : ℕ) → HoldsFrom program at body closing target → AreFine program.grants (asks q body)
-asks_fine program q at [] closing target h = tt
-asks_fine program q at (instr ∷ rest) closing target h =
-    (asked_fine program.grants q instr h.2, asks_fine program q (at + 4 * length (encoded instr)) rest closing target h.3)
+on_trail_fine : (program : RiscProgram) (q : Queue) (instr : Instr) → IsOnTrail program instr → IsFine program.grants (asked q instr)
+on_trail_fine program One (Jump ctl target) on = refl
+on_trail_fine program Two (Jump ctl target) on = refl
+on_trail_fine program Three (Jump ctl target) on = refl
+on_trail_fine program q (Sync ctl resync code) on = tt
+on_trail_fine program q (Write ctl ends off count addr) on = asked_fine program.grants q (Write ctl ends off count addr) on.1
+on_trail_fine program q (Skip ctl ends count) on = asked_fine program.grants q (Skip ctl ends count) on.1
+on_trail_fine program q (WriteC ctl ends off count) on = asked_fine program.grants q (WriteC ctl ends off count) on.1
+on_trail_fine program q (Write123 ctl ends off counts addrs) on = asked_fine program.grants q (Write123 ctl ends off counts addrs) on.1
+on_trail_fine program q (Skip123 ctl ends counts) on = asked_fine program.grants q (Skip123 ctl ends counts) on.1
+on_trail_fine program q (Write1S23 ctl ends off counts addr) on = asked_fine program.grants q (Write1S23 ctl ends off counts addr) on.1
+
+asks_fine : (program : RiscProgram) (q : Queue) (end at : ℕ) (body : List Instr) (closing : Instr) → LeadsFrom program end at body closing → AreFine program.grants (asks q body)
+asks_fine program q end at [] closing h = tt
+asks_fine program q end at (instr ∷ rest) closing h =
+    (on_trail_fine program q instr h.2, asks_fine program q end (next_at instr at) rest closing h.3)
+
+pub trail_stores_granted : (t : Trail) (field : Queue → List Token) (program : RiscProgram) → Leads t program → (q : Queue) →
+    All (λ store. granted program.grants store.address ≡ true) (field_stores t.body field q)
+trail_stores_granted t field program held q =
+    planned_granted program.grants (asks q t.body) [] (field q) (asks_fine program q t.end t.at t.body t.closing held)
 
 pub stores_granted : (s : Section) (field : Queue → List Token) (program : RiscProgram) → Holds s program → (q : Queue) →
     All (λ store. granted program.grants store.address ≡ true) (section_stores s field q)
-stores_granted s field program held q =
-    planned_granted program.grants (asks q s.body) [] (field q) (asks_fine program q s.at s.body s.closing s.target held)
+stores_granted s field program held q = trail_stores_granted (trail_of s) field program (section_leads s program held) q

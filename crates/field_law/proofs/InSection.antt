@@ -1,25 +1,13 @@
--- Sections as one use of the relation: the machine stands within a section, and its stores paint a picture.
-use Rattle.std.proofs.Common.{◌≡◌, ℕ, ◌+◌, ◌*◌, ◌<◌, Bool, true, false, ◌&&◌, ◌==◌, List, [], ◌∷◌, refl, sym, ap, subst, arith, eq-eqb}
-use Rattle.std.proofs.lemmas.Bool.{both_ways, and_from}
+-- Sections as one use of trails: each instruction stands behind the one before it.
+use Rattle.std.proofs.Common.{◌≡◌, ℕ, ◌+◌, ◌*◌, List, [], ◌∷◌, length, None, Ok, refl, sym, ap, subst, ◌∙◌, arith}
+use Rattle.risc_word.specs.declared.Ctl.{Ctl}
 use Rattle.risc_word.specs.declared.Instr.{Instr}
-use Rattle.risc_word.specs.Words.{Reading}
-use Rattle.fifo_model.specs.declared.Entry.{Entry}
-use Rattle.fifo_model.specs.declared.Queue.{Queue}
-use Rattle.page_table.specs.Grants.{Chunk}
-use Rattle.page_table.specs.Blocks.{Block}
-use Rattle.machine_model.specs.declared.Demands.{Demands}
-use Rattle.machine_model.specs.declared.Job.TheVariants.{Idle, Running}
-use Rattle.machine_model.specs.Paths.{RiscProgram, fetch}
-use Rattle.machine_model.specs.States.{State}
-use Rattle.machine_model.specs.Turns.{Store, fetched, is_done, lowest_served, ran}
-use Rattle.machine_model.specs.Steps.{Turn}
-use Rattle.field_law.specs.Sections.{Section, IsUsedUp, Holds, HoldsFrom, words_in, closing_at}
-use Rattle.field_law.specs.Arrivals.{is_idle, is_signal}
-use Rattle.field_law.proofs.AskedAndToCome.{AnyRest}
-use Rattle.field_law.proofs.Painting.{Settles, settles_made}
-use Rattle.field_law.proofs.Within.{IsWithin, IsMade}
-use Rattle.field_law.proofs.Running.{Turned, serves-Turned, retires-Turned}
-use Rattle.field_law.proofs.Fetching.{Fetches, executes-Turned, idle-Fetches}
+use Rattle.risc_word.specs.declared.Instr.TheVariants.{Write, Skip, WriteC, Jump, Sync, Write123, Skip123, Write1S23}
+use Rattle.risc_word.specs.Words.{Reading, encoded}
+use Rattle.machine_model.specs.Paths.{RiscProgram, fetch, demands_of, demands_cause}
+use Rattle.field_law.specs.Sections.{Section, IsPlain, Holds, HoldsFrom, words_in, closing_at}
+use Rattle.field_law.specs.Trails.{IsOnTrail, Leads, LeadsFrom, next_at, trail_of}
+use Rattle.field_law.proofs.OnTrail.{IsAlong}
 
 -- these instructions of a section are left from an address on, up to the closing, in each program that holds the section
 pub record StandsIn (s : Section) (pc : ℕ) (body : List Instr) : Type 0 where
@@ -30,50 +18,67 @@ pub record StandsIn (s : Section) (pc : ℕ) (body : List Instr) : Type 0 where
 pub begins_in : (s : Section) → StandsIn s s.at s.body
 begins_in s = record { holds = λ program held. held; there = refl }
 
--- `given` is what is known of the stores, if anything is
-abbrev pub Settling : Type 0 → List Chunk → (ℕ → ℕ) → List Block → (Queue → List Store) → Type 0
-Settling given chunks final memory stores = given → Settles chunks final memory stores
+-- ---- a program that holds a section leads along it
 
-settling_made : (given : Type 0) (chunks : List Chunk) (final : ℕ → ℕ) → IsMade (Settling given chunks final)
-settling_made given chunks final memory stores q made rest split settling = λ known. settles_made chunks final memory stores q made rest split (settling known)
+plain_next : (instr : Instr) (at : ℕ) → IsPlain instr → next_at instr at ≡ at + 4 * length (encoded instr)
+plain_next (Write ctl ends off count addr) at plain = refl
+plain_next (Skip ctl ends count) at plain = refl
+plain_next (WriteC ctl ends off count) at plain = absurd plain
+plain_next (Jump ctl addr) at plain = absurd plain
+plain_next (Sync ctl resync code) at plain = refl
+plain_next (Write123 ctl ends off counts addrs) at plain = refl
+plain_next (Skip123 ctl ends counts) at plain = refl
+plain_next (Write1S23 ctl ends off counts addr) at plain = refl
 
-module _ (s : Section) (given : Type 0) (chunks : List Chunk) (final : ℕ → ℕ) (later : Queue → List Entry) where
-  abbrev pub IsInSection : ℕ → State → Type 0
-  IsInSection bound m = IsWithin IsUsedUp AnyRest (StandsIn s) (Settling given chunks final) later bound m
+plain_on_trail : (program : RiscProgram) (instr : Instr) → IsPlain instr → demands_cause program.grants (demands_of instr None) ≡ None → IsOnTrail program instr
+plain_on_trail program (Write ctl ends off count addr) plain fine = (plain, fine)
+plain_on_trail program (Skip ctl ends count) plain fine = (plain, fine)
+plain_on_trail program (WriteC ctl ends off count) plain fine = absurd plain
+plain_on_trail program (Jump ctl addr) plain fine = absurd plain
+plain_on_trail program (Sync ctl resync code) plain fine = (plain, fine)
+plain_on_trail program (Write123 ctl ends off counts addrs) plain fine = (plain, fine)
+plain_on_trail program (Skip123 ctl ends counts) plain fine = (plain, fine)
+plain_on_trail program (Write1S23 ctl ends off counts addr) plain fine = (plain, fine)
 
-  abbrev pub TurnedIn : ℕ → ℕ → State → Type 0
-  TurnedIn bound interrupts m = Turned IsUsedUp AnyRest (StandsIn s) (Settling given chunks final) later bound interrupts m
+-- the closing stands behind the body, and no instruction of the body does
+holds_closing : (program : RiscProgram) (at : ℕ) (body : List Instr) (closing : Ctl) (target : ℕ) → HoldsFrom program at body closing target →
+    fetch program (at + 4 * words_in body) ≡ Ok (Jump closing target, 2)
+holds_closing program at [] closing target h = let same : at + 4 * 0 ≡ at = omega arith in ap (fetch program) same ∙ h.0
+holds_closing program at (instr ∷ rest) closing target h =
+    let same : at + 4 * (length (encoded instr) + words_in rest) ≡ at + 4 * length (encoded instr) + 4 * words_in rest = omega arith in
+    ap (fetch program) same ∙ holds_closing program (at + 4 * length (encoded instr)) rest closing target h.3
 
-  abbrev pub FetchesIn : ℕ → List Instr → State → Type 0
-  FetchesIn bound body m = Fetches IsUsedUp AnyRest (StandsIn s) (Settling given chunks final) later bound body m
+no_jump : (instr : Instr) (count : ℕ) (closing : Ctl) (target : ℕ) (reading : Reading) → reading ≡ Ok (instr, count) → reading ≡ Ok (Jump closing target, 2) → IsPlain instr → ⊥
+no_jump instr count closing target reading a b plain =
+    let both : Ok (instr, count) ≡ Ok (Jump closing target, 2) = sym a ∙ b in
+    let pair : (instr, count) ≡ (Jump closing target, 2) = cc in
+    let same : instr ≡ Jump closing target = ap (λ (pair : Instr × ℕ). pair.0) pair in
+    subst IsPlain same plain
 
-  -- ---- a data instruction runs
+holds_leads : (program : RiscProgram) (end at : ℕ) (body : List Instr) (closing : Ctl) (target : ℕ) → at + 4 * words_in body ≡ end → HoldsFrom program at body closing target →
+    LeadsFrom program end at body (Jump closing target)
+holds_leads program end at [] closing target there h = (omega arith, h.0, h.1)
+holds_leads program end at (instr ∷ rest) closing target there h = (
+  λ same.
+      let here : at ≡ at + 4 * words_in (instr ∷ rest) = omega arith in
+      no_jump instr (length (encoded instr)) closing target (fetch program at) h.0
+      (ap (fetch program) here ∙ holds_closing program at (instr ∷ rest) closing target h) h.1,
+  h.0,
+  plain_on_trail program instr h.1 h.2,
+  subst (λ (next : ℕ). LeadsFrom program end next rest (Jump closing target)) (sym (plain_next instr at h.1))
+      (holds_leads program end (at + 4 * length (encoded instr)) rest closing target (omega arith) h.3),
+)
 
-  pub ran-TurnedIn : (bound : ℕ) (instr : Instr) (ds : Demands) (m : State) (done : Bool) → 0 < m.trigger → m.job ≡ Running instr ds → IsInSection bound m → is_done ds ≡ done →
-      TurnedIn bound m.interrupts (ran done instr ds m)
-  ran-TurnedIn bound instr ds m true triggered j h done =
-      retires-Turned IsUsedUp AnyRest (StandsIn s) (StandsIn s) (Settling given chunks final) later bound instr ds m j h (λ body stands. stands) done
-  ran-TurnedIn bound instr ds m false triggered j h undone =
-      serves-Turned IsUsedUp AnyRest (StandsIn s) (Settling given chunks final) later (settling_made given chunks final) bound instr ds m triggered j h (lowest_served ds m) refl undone
+pub section_leads : (s : Section) (program : RiscProgram) → Holds s program → Leads (trail_of s) program
+section_leads s program held = holds_leads program (closing_at s) s.at s.body s.closing s.target refl held
 
-  -- ---- an instruction is fetched
-
-  fetches : (bound : ℕ) (body : List Instr) (m : State) → FetchesIn bound body m → Holds s m.program → is_signal s m Turn ≡ false →
-      TurnedIn bound m.interrupts (fetched (fetch m.program m.pc) m)
-  fetches bound [] m h held silent =
-      let there = h.stands.there in
-      let here : m.pc ≡ closing_at s = omega arith in
-      let signal : is_signal s m Turn ≡ true =
-      and_from (m.risc_on && is_idle m.job) (m.pc == closing_at s) (and_from m.risc_on (is_idle m.job) h.on (ap is_idle h.idle)) (eq-eqb m.pc (closing_at s) here) in
-      absurd (both_ways (is_signal s m Turn) silent signal)
-  fetches bound (instr ∷ rest) m h held silent =
-      let stands = h.stands.holds m.program held in
-      let there = h.stands.there in
-      subst (λ (reading : Reading). TurnedIn bound m.interrupts (fetched reading m)) (sym stands.0)
-      (executes-Turned IsUsedUp AnyRest (StandsIn s) (Settling given chunks final) later (StandsIn s) bound instr rest m h
-      (record { holds = λ program held. (h.stands.holds program held).3; there = omega arith }) stands.1 stands.2)
-
-  pub fetched-TurnedIn : (bound : ℕ) (m : State) → m.job ≡ Idle → IsInSection bound m → Holds s m.program → is_signal s m Turn ≡ false →
-      TurnedIn bound m.interrupts (fetched (fetch m.program m.pc) m)
-  fetched-TurnedIn bound m j h held silent =
-      let f = idle-Fetches IsUsedUp AnyRest (StandsIn s) (Settling given chunks final) later bound m j h in fetches bound f.0 m f.1 held silent
+pub along_in : (s : Section) → IsAlong (trail_of s) (Holds s) (StandsIn s)
+along_in s =
+    record {
+      begins = begins_in s;
+      leads = λ program held at body stands. holds_leads program (closing_at s) at body s.closing s.target stands.there (stands.holds program held);
+      goes = λ program held at instr rest stands.
+          let there = stands.there in
+          subst (λ (next : ℕ). StandsIn s next rest) (sym (plain_next instr at (stands.holds program held).1))
+          (record { holds = λ other held. (stands.holds other held).3; there = omega arith });
+    }

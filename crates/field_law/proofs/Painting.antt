@@ -11,6 +11,7 @@ use Rattle.machine_model.specs.Turns.{Store, stored_all}
 use Rattle.machine_model.proofs.Memory.{chunks-stored_all}
 use Rattle.field_law.specs.Sections.{is_stored}
 use Rattle.field_law.proofs.Changed.{changed, changed_here, each_changed, each_unchanged}
+use Rattle.field_law.proofs.Within.{IsMade}
 
 -- ---- stores one after another
 
@@ -96,3 +97,10 @@ module _ (chunks : List Chunk) (final : ℕ → ℕ) (memory : List Block) (stor
         agree = each_changed (λ _ stores. All (IsAgreed final) stores) q rest stores h.agree (all_right (IsAgreed final) made rest both_agree);
         settled = settled;
       }
+
+-- `given` is what is known of the stores, if anything is
+abbrev pub Settling : Type 0 → List Chunk → (ℕ → ℕ) → List Block → (Queue → List Store) → Type 0
+Settling given chunks final memory stores = given → Settles chunks final memory stores
+
+pub settling_made : (given : Type 0) (chunks : List Chunk) (final : ℕ → ℕ) → IsMade (Settling given chunks final)
+settling_made given chunks final memory stores q made rest split settling = λ known. settles_made chunks final memory stores q made rest split (settling known)

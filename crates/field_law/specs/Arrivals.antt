@@ -1,6 +1,7 @@
--- When a field arrives at a machine that waits for it, and when its section signals.
+-- When a field arrives at a machine that waits for it, and when it ends.
 use Rattle.std.specs.Prelude.{◌≡◌, ℕ, ◌+◌, Bool, true, false, ◌&&◌, ◌||◌, All, List, [], ◌∷◌, ◌++◌, length, map, Some, if◌then◌else◌, ◌==◌}
 use Rattle.risc_word.specs.declared.Code.{Code}
+use Rattle.risc_word.specs.declared.Ctl.{Ctl}
 use Rattle.sync_status.specs.Statuses.{kind_of}
 use Rattle.fifo_model.specs.declared.Entry.{Entry}
 use Rattle.fifo_model.specs.declared.Queue.{Queue}
@@ -64,24 +65,31 @@ AreKept m (met ∷ steps) = IsKept (with_program met.0 m) met.1 × AreKept (afte
 abbrev pub HasCode : Code → Entry → Type 0
 HasCode code entry = code_of_kind (kind_of entry.status) ≡ Some code
 
--- entries of each queue that bring a section's code and then a field
-abbrev pub BringsField : Section → (Queue → List Token) → (Queue → List Entry) → Type 0
-BringsField s field entries = (q : Queue) → Brings (Mark s.code ∷ field q) (entries q)
+-- entries of each queue that bring a code and then a field
+abbrev pub BringsAfter : Code → (Queue → List Token) → (Queue → List Entry) → Type 0
+BringsAfter code field entries = (q : Queue) → Brings (Mark code ∷ field q) (entries q)
 
--- the machine waits in a section's opening; each queue holds and is brought some entries without the code awaited, then
--- those of a field, then any others; `IsField` says which entries are those of the field
-pub record Arrives (s : Section) (IsField : (Queue → List Entry) → Type 0) (m : State) (steps : List Met) : Type 0 where
+-- the machine waits for a code in an opening of which `at` is the address behind it; each queue holds and is brought some
+-- entries without that code, then those of a field, then any others; `IsField` says which entries are those of the field
+pub record ArrivesAtOpening (opening : Ctl) (code : Code) (at : ℕ) (IsField : (Queue → List Entry) → Type 0) (m : State) (steps : List Met) : Type 0 where
   pub fifo_on : m.fifo_on ≡ true
   pub risc_on : m.risc_on ≡ true
-  pub waits : m.job ≡ Waiting s.opening true s.code
-  pub there : m.pc ≡ s.at
+  pub waits : m.job ≡ Waiting opening true code
+  pub there : m.pc ≡ at
   pub kept : AreKept m steps
   pub before : Queue → List Entry
   pub entries : Queue → List Entry
   pub rest : Queue → List Entry
   pub order : (q : Queue) → (queue_state q m.queues).entries ++ coming steps q ≡ before q ++ (entries q ++ rest q)
-  pub unmarked : (q : Queue) → All (λ entry. HasCode s.code entry → ⊥) (before q)
+  pub unmarked : (q : Queue) → All (λ entry. HasCode code entry → ⊥) (before q)
   pub brought : IsField entries
+
+-- the same of a section
+abbrev pub BringsField : Section → (Queue → List Token) → (Queue → List Entry) → Type 0
+BringsField s field entries = BringsAfter s.code field entries
+
+abbrev pub Arrives : Section → ((Queue → List Entry) → Type 0) → State → List Met → Type 0
+Arrives s IsField m steps = ArrivesAtOpening s.opening s.code s.at IsField m steps
 
 -- how many entries that is, over the three queues
 abbrev pub over_queues : (Queue → ℕ) → ℕ
@@ -90,18 +98,25 @@ over_queues count = count One + count Two + count Three
 abbrev pub entries_of : (Queue → List Entry) → (Queue → List Entry) → Queue → ℕ
 entries_of before entries q = length (before q) + length (entries q)
 
--- a signal: a turn that executes the closing
+-- the end of a field: a turn that fetches the instruction at an address
 abbrev pub is_idle : Job → Bool
 is_idle Idle = true
 is_idle _ = false
 
+abbrev pub is_end : ℕ → State → Step → Bool
+is_end address m Turn = m.risc_on && is_idle m.job && m.pc == address
+is_end address m _ = false
+
+abbrev pub has_end : ℕ → State → List Met → Bool
+has_end address m [] = false
+has_end address m (met ∷ steps) = is_end address m met.1 || has_end address (after m met) steps
+
+-- a signal: a turn that executes the closing of a section
 abbrev pub is_signal : Section → State → Step → Bool
-is_signal s m Turn = m.risc_on && is_idle m.job && m.pc == closing_at s
-is_signal s m _ = false
+is_signal s m step = is_end (closing_at s) m step
 
 abbrev pub has_signal : Section → State → List Met → Bool
-has_signal s m [] = false
-has_signal s m (met ∷ steps) = is_signal s m met.1 || has_signal s (after m met) steps
+has_signal s m steps = has_end (closing_at s) m steps
 
 -- how many turns there are among steps
 abbrev pub turn_count : Step → ℕ

@@ -1,7 +1,8 @@
-//! The law of the picture: what a section of a RISC program, from its opening SYNC to its closing JUMP, does with a
-//! field that arrives at it. The functions do nothing; their contracts are the laws, over the machine's definitions
-//! alone: a section at any word, another program at every step as long as each holds this section, and pushes, turns
-//! and register writes in any order.
+//! The law of the picture: what a trail of a RISC program, from its opening SYNC along a path to what ends the field,
+//! does with a field that arrives at it, and so a section, whose instructions stand one behind the other up to its
+//! closing JUMP. The functions do nothing; their contracts are the laws, over the machine's definitions alone: a trail
+//! from any word on, another program at every step as long as each leads along this trail, and pushes, turns and
+//! register writes in any order.
 #![tactic(auto)]
 
 ghost use Rattle.std.specs.Prelude.{◌≡◌, ◌<◌, ℕ, Bool, Some, All, List, [], ◌∷◌, ◌++◌, true, false, length, slice_index_or};
@@ -12,11 +13,34 @@ ghost use Rattle.machine_model.specs.States.{State};
 ghost use Rattle.machine_model.specs.Steps.{Step, Turn, run, run_in};
 ghost use Rattle.machine_model.specs.Turns.{Store};
 ghost use Rattle.field_law.specs.Fields.{Token};
-ghost use Rattle.field_law.specs.Sections.{Section, Holds, Stands, Ask, UsesUp, planned, is_stored, section_stores, Paints};
+ghost use Rattle.field_law.specs.Sections.{Section, Holds, Stands, Ask, UsesUp, planned, is_stored, field_stores, section_stores, Paints};
+ghost use Rattle.field_law.specs.Trails.{Trail, Leads, trail_of};
 ghost use Rattle.field_law.specs.CutLines.{CutLine, IsCovered, lines_asks, lines_rows, lines_stores, address_in, EachByte};
 ghost use Rattle.field_law.specs.Arrivals.{meeting, is_signal, has_signal};
 ghost use Rattle.field_law.specs.Laws.{Receives, ShowsPicture, ShowsNoFault, SignalsClosing, IsBounded};
+ghost use Rattle.field_law.specs.TrailLaws.{TrailShowsPicture, TrailShowsNoFault, TrailEndsWithClosing, TrailIsBounded};
 ghost use Rattle.field_law.specs.Worked.{program, section, field, machine, early, final};
+
+/// A field that arrives at its trail, up to the turn that fetches what ends it: each stored byte is at its place then and
+/// every other byte is as it was, no turn sets FDSR, and the closing applies its control bits; and that turn comes within
+/// five turns for each instruction, the opening and the closing among them, and one for each entry.
+pub fn trail_shows_its_field()
+    ensures shown { TrailShowsPicture }
+    ensures quiet { TrailShowsNoFault }
+    ensures ended { TrailEndsWithClosing }
+    ensures bounded { TrailIsBounded }
+{}
+
+/// A program that leads along a trail grants what it stores, whatever field it uses up.
+pub fn trail_grants_its_stores()
+    ensures { (t : Trail) (field : Queue → List Token) (program : RiscProgram) → Leads t program → (q : Queue) →
+        All (λ store. granted program.grants store.address ≡ true) (field_stores t.body field q) }
+{}
+
+/// A section is a trail: a program that holds the one leads along the other.
+pub fn section_is_a_trail()
+    ensures { (s : Section) (program : RiscProgram) → Holds s program → Leads (trail_of s) program }
+{}
 
 /// After the first signal each stored byte of the field is at its place, and every other byte is as it was when the
 /// machine waited in the opening.

@@ -12,6 +12,7 @@ use Rattle.fifo_model.specs.Queues.{IsFifo, Queues, queue_state}
 use Rattle.machine_model.specs.Safety.{IsOrderly, IsStep}
 use Rattle.machine_model.proofs.Orderly.{IsOrderly-step}
 use Rattle.field_law.specs.Sections.{IsUsedUp, Section, Uses, asks}
+use Rattle.field_law.specs.Trails.{trail_of}
 use Rattle.field_law.proofs.Within.{IsWithin, Within, job_asks}
 use Rattle.machine_model.specs.declared.Job.{Job}
 use Rattle.ring_law.proofs.Making.{Makes}
@@ -49,7 +50,7 @@ module _ (program : RiscProgram) (block_at : BlockAt) (s : Section) (field : Que
   -- the machine waits in the SYNC, or goes through the ring with these blocks still to end
   abbrev Reached : List ℕ → (Queue → List Entry) → ℕ → Bool → ℕ → Skipping → Job → Queues → List Block → Type 0
   Reached left later bound risc_on pc skipping job queues memory =
-      (Opening s field Rests (Makes final) later bound risc_on pc skipping job queues memory × (left ≡ all_left))
+      (Opening (trail_of s) field Rests (Makes final) later bound risc_on pc skipping job queues memory × (left ≡ all_left))
       ⊎ Within IsUsedUp Rests (StandsFor program block_at job left) (Makes final) later bound risc_on pc skipping job queues memory
 
   abbrev pub IsReachedRing : List ℕ → (Queue → List Entry) → ℕ → State → Type 0
@@ -71,16 +72,16 @@ module _ (program : RiscProgram) (block_at : BlockAt) (s : Section) (field : Que
 
   -- the machine that waits in the SYNC doesn't run an instruction after it
   opened : (later : Queue → List Entry) (bound : ℕ) (m : State) → IsAtRest m.job →
-      Opening s field Rests (Makes final) later bound m.risc_on m.pc m.skipping m.job m.queues m.memory ⊎ IsWithin IsUsedUp Rests (StandsFor program block_at Idle all_left) (Makes final) later bound m →
+      Opening (trail_of s) field Rests (Makes final) later bound m.risc_on m.pc m.skipping m.job m.queues m.memory ⊎ IsWithin IsUsedUp Rests (StandsFor program block_at Idle all_left) (Makes final) later bound m →
       IsReachedRing all_left later bound m
   opened later bound m rests (inl opening) = inl (opening, refl)
   opened later bound m rests (inr h) = inr (resting program block_at Rests final later all_left bound m rests h)
 
   waits_on : (left : List ℕ) (later : Queue → List Entry) (bound : ℕ) (m : State) → IsFifo m.queues → m.job ≡ Waiting s.opening true s.code → left ≡ all_left →
-      Opening s field Rests (Makes final) later bound m.risc_on m.pc m.skipping m.job m.queues m.memory →
+      Opening (trail_of s) field Rests (Makes final) later bound m.risc_on m.pc m.skipping m.job m.queues m.memory →
       TurnSteps left None later m.interrupts (waited s.opening true s.code m)
   waits_on left later bound m fifo j same h =
-      let r = opening-Reaches s field uses Rests (StandsFor program block_at Idle all_left) (Makes final) begins later bound m h fifo in
+      let r = opening-Reaches (trail_of s) field uses Rests (StandsFor program block_at Idle all_left) (Makes final) begins later bound m h fifo in
       let rests = waited-IsAtRest s.opening true s.code m (subst IsAtRest (sym j) tt) in
       record {
         steps = record { left_after = all_left; split = same; next = r.next; reached = opened later r.next (waited s.opening true s.code m) rests r.reached };
@@ -88,7 +89,7 @@ module _ (program : RiscProgram) (block_at : BlockAt) (s : Section) (field : Que
       }
 
   opening_turn : (left : List ℕ) (later : Queue → List Entry) (bound : ℕ) (m : State) → IsOrderly m → left ≡ all_left →
-      Opening s field Rests (Makes final) later bound m.risc_on m.pc m.skipping m.job m.queues m.memory → TurnSteps left (block_end block_at m Turn) later m.interrupts (turn m)
+      Opening (trail_of s) field Rests (Makes final) later bound m.risc_on m.pc m.skipping m.job m.queues m.memory → TurnSteps left (block_end block_at m Turn) later m.interrupts (turn m)
   opening_turn left later bound m orderly same h =
       subst (λ (on : Bool). TurnSteps left (if on then ended_by block_at m.job m.pc else None) later m.interrupts (turn_if on (counted m))) (sym h.on)
       (subst (λ (job : Job). TurnSteps left (ended_by block_at job m.pc) later m.interrupts (worked job (counted m))) (sym h.waits)
@@ -112,7 +113,7 @@ module _ (program : RiscProgram) (block_at : BlockAt) (s : Section) (field : Que
       step-IsSaid (Reached left later bound) st m kept no_turn
       (λ after adds.
       inl (
-        opening_moved s field uses Rests (StandsFor program block_at Idle all_left) (Makes final) begins (λ q. pushed_by st q ++ later q) later (λ q. []) m.queues after adds.taken (λ q rest. grows rest)
+        opening_moved (trail_of s) field uses Rests (StandsFor program block_at Idle all_left) (Makes final) begins (λ q. pushed_by st q ++ later q) later (λ q. []) m.queues after adds.taken (λ q rest. grows rest)
             (ahead_there m.queues after (pushed_by st) later adds) bound m.risc_on m.pc m.skipping m.job m.memory h.0,
         h.1,
       ))
