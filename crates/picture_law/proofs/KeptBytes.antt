@@ -20,7 +20,7 @@ use Rattle.picture_model.proofs.Sections.{row_below}
 use Rattle.field_law.specs.Sections.{is_stored}
 use Rattle.field_law.specs.CutLines.{EachByte, lines_stores}
 use Rattle.field_law.proofs.CutLines.{stored_first, stored_second}
-use Rattle.picture_law.specs.Pictures.{Picture, AreRows, FieldByte, of_row, of_vbi, IsKeptAt, IsPicture, IsUnclipped, byte_in, has_plane, plane_of, rows_on, shown_as, AreSkipped, SkippedLines}
+use Rattle.picture_law.specs.Pictures.{Picture, FieldByte, of_row, of_vbi, IsKeptAt, IsPicture, IsUnclipped, byte_in, has_plane, plane_of, rows_on, shown_as, AreSkipped, SkippedLines}
 use Rattle.picture_law.proofs.BytePlaces.{queue_plane, queue_row_goes, skipped_goes, skipped_vbi_goes, vbi_goes}
 use Rattle.picture_law.proofs.Lines.{all_stores, cut_line, cut_lines, stored_there}
 use Rattle.picture_law.proofs.Body.{field_row_strip, field_stores, row_stores, rows_all, rows_many, skipped_all, skipped_stores, skipped_strips, skipped_vbi_all, skipped_vbi_stores, skipped_vbi_strips, vbi_all, vbi_line_stores, vbi_stores, vbi_stores_by}

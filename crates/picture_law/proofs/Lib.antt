@@ -10,4 +10,5 @@ pub mod Laws
 pub mod Worked
 pub mod WorkedPlanar
 pub mod Between
+pub mod Ends
 pub mod Places

@@ -19,7 +19,7 @@ use Rattle.field_law.specs.Sections.{Holds, Paints, is_stored, section_stores}
 use Rattle.field_law.proofs.CutLines.{stored_first, stored_second}
 use Rattle.field_law.proofs.GrantedStores.{stores_granted}
 use Rattle.field_law.proofs.Painting.{byte_at-unstored}
-use Rattle.picture_law.specs.Pictures.{Picture, After, AreRows, FieldByte, HasPlaces, IsKeptAt, IsPicture, field_tokens, shown_as, AreSkipped, SkippedLines}
+use Rattle.picture_law.specs.Pictures.{Picture, After, FieldByte, HasPlaces, IsKeptAt, IsPicture, field_tokens, shown_as, AreSkipped, SkippedLines}
 use Rattle.picture_law.specs.Sections.{section_at}
 use Rattle.picture_law.proofs.Body.{field_stores, section_makes}
 use Rattle.picture_law.proofs.KeptBytes.{IsOfPicture, all_of, kept_once, kept_stored, queue_of}

@@ -18,7 +18,7 @@ use Rattle.picture_model.specs.Geometry.{IsFrame}
 use Rattle.picture_model.specs.Programs.{closing_begin, compiled, size}
 use Rattle.field_law.specs.Arrivals.{Met, Arrives, coming, entries_of, over_queues, is_signal, has_signal, turns_in}
 use Rattle.field_law.specs.Sections.{Holds, Uses, Paints, closing_at}
-use Rattle.picture_law.specs.Pictures.{Picture, AreRows, HasPlaces, IsField, IsPicture, After, field_tokens, AreSkipped, SkippedLines}
+use Rattle.picture_law.specs.Pictures.{Picture, HasPlaces, IsField, IsPicture, After, field_tokens, AreSkipped, SkippedLines}
 use Rattle.picture_law.specs.Sections.{section_at, section_of}
 
 -- a picture of a field that a description describes, whose frame is right

@@ -12,8 +12,8 @@ use Rattle.capture_desc.specs.declared.desc.Desc.{Desc}
 use Rattle.picture_model.specs.Described.{IsDescription, describes}
 use Rattle.picture_model.specs.Geometry.{IsValid}
 use Rattle.picture_model.specs.Programs.{compiled, section_begin, section_next, size}
-use Rattle.field_law.specs.Sections.{Section}
-use Rattle.field_law.specs.Arrivals.{Arrives, meeting, coming, entries_of, over_queues, is_signal, turns_in}
+use Rattle.field_law.specs.Sections.{Section, closing_at}
+use Rattle.field_law.specs.Arrivals.{Arrives, meeting, coming, entries_of, over_queues, is_end, turns_in}
 use Rattle.picture_law.specs.Pictures.{Picture, After, IsField, IsPicture}
 use Rattle.picture_law.specs.Sections.{section_of}
 use Rattle.picture_law.specs.Laws.{Captures, TellsField}
@@ -55,16 +55,23 @@ between from to steps = take (to - from) (drop from steps)
 abbrev pub step_at : List Step → ℕ → Step
 step_at steps k = slice_index_or steps k Turn
 
--- whether step k of a run is a signal of a section
-abbrev pub signals_at : Section → State → List Step → ℕ → Bool
-signals_at s m steps k = is_signal s (state_at m steps k) (step_at steps k)
+-- whether step k of a run ends a field: a turn that fetches the instruction at an address
+abbrev pub ends_at : ℕ → State → List Step → ℕ → Bool
+ends_at address m steps k = is_end address (state_at m steps k) (step_at steps k)
 
--- the first signal of a section after place j is step k
-pub record IsFirstSignal (s : Section) (m : State) (steps : List Step) (j k : ℕ) : Type 0 where
+-- the first such step from place j on is step k
+pub record IsFirstEnd (address : ℕ) (m : State) (steps : List Step) (j k : ℕ) : Type 0 where
   pub later : j ≤ k
   pub there : k < length steps
-  pub signal : signals_at s m steps k ≡ true
-  pub first : (i : ℕ) → j ≤ i → i < k → signals_at s m steps i ≡ false
+  pub signal : ends_at address m steps k ≡ true
+  pub first : (i : ℕ) → j ≤ i → i < k → ends_at address m steps i ≡ false
+
+-- a section's is its signal
+abbrev pub signals_at : Section → State → List Step → ℕ → Bool
+signals_at s m steps k = ends_at (closing_at s) m steps k
+
+abbrev pub IsFirstSignal : Section → State → List Step → ℕ → ℕ → Type 0
+IsFirstSignal s m steps j k = IsFirstEnd (closing_at s) m steps j k
 
 -- the state at a place of a run of the description's program from the first state
 abbrev pub state_of : Desc → ℕ → List Step → ℕ → State
