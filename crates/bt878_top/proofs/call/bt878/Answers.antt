@@ -1,6 +1,5 @@
 -- Each clause follows from the one exact clause.
-use Rattle.std.proofs.Common.{Bor, List, ℕ, map}
-use Rattle.bt878_contract.specs.Tasks.{task_of}
+use Rattle.bt878_words.specs.Words.{task_of}
 use Rattle.bt878_contract.specs.Pictures.{ShowsPictures, ShowsNoFault, SignalsInTime}
 use Rattle.bt878_contract.specs.Rows.{HasArrivedRows, HoldsWholeRows}
 use Rattle.bt878_contract.proofs.Pictures.{pictures_shown, no_fault_shown, rows_arrived, signals_come, whole_rows_held}
@@ -13,185 +12,182 @@ use Rattle.bt878_contract.proofs.Consequences.{done_list, done_live, done_make, 
 use Rattle.bt878_contract.proofs.Consequences.{refused_only_says, usage_comes, write_fault_comes, write_fault_stands}
 use Rattle.bt878_top.proofs.call.bt878.Goals as goal
 
-abbrev text : Bor (List ℕ) → List ℕ
-text word = word.now
-
 pub returns-clause-sound : goal.returns-clause-sound
 returns-clause-sound g c =
     let see = g.D.Desk.seen in
-    done_sound (task_of (map text c.args.words.now)) c.answer_words.result (see c.args.desk.now) (see c.answer_words.new.desk) c.answer_words.ensures
+    done_sound (task_of c.args.words.now) c.answer_words.result (see c.args.desk.now) (see c.answer_words.new.desk) c.answer_words.ensures
 
 pub returns-clause-inside : goal.returns-clause-inside
 returns-clause-inside g c =
     let see = g.D.Desk.seen in
-    done_inside (task_of (map text c.args.words.now)) c.answer_words.result (see c.args.desk.now) (see c.answer_words.new.desk) c.answer_words.ensures
+    done_inside (task_of c.args.words.now) c.answer_words.result (see c.args.desk.now) (see c.answer_words.new.desk) c.answer_words.ensures
 
 pub returns-clause-pictures : goal.returns-clause-pictures
 returns-clause-pictures g c =
     let see = g.D.Desk.seen in
-    done_captured ShowsPictures pictures_shown (task_of (map text c.args.words.now)) c.answer_words.result (see c.args.desk.now) (see c.answer_words.new.desk) c.answer_words.ensures
+    done_captured ShowsPictures pictures_shown (task_of c.args.words.now) c.answer_words.result (see c.args.desk.now) (see c.answer_words.new.desk) c.answer_words.ensures
 
 pub returns-clause-no_fault_shown : goal.returns-clause-no_fault_shown
 returns-clause-no_fault_shown g c =
     let see = g.D.Desk.seen in
-    done_captured ShowsNoFault no_fault_shown (task_of (map text c.args.words.now)) c.answer_words.result (see c.args.desk.now) (see c.answer_words.new.desk) c.answer_words.ensures
+    done_captured ShowsNoFault no_fault_shown (task_of c.args.words.now) c.answer_words.result (see c.args.desk.now) (see c.answer_words.new.desk) c.answer_words.ensures
 
 pub returns-clause-in_time : goal.returns-clause-in_time
 returns-clause-in_time g c =
     let see = g.D.Desk.seen in
-    done_captured SignalsInTime signals_come (task_of (map text c.args.words.now)) c.answer_words.result (see c.args.desk.now) (see c.answer_words.new.desk) c.answer_words.ensures
+    done_captured SignalsInTime signals_come (task_of c.args.words.now) c.answer_words.result (see c.args.desk.now) (see c.answer_words.new.desk) c.answer_words.ensures
 
 pub returns-clause-arrived_rows : goal.returns-clause-arrived_rows
 returns-clause-arrived_rows g c =
     let see = g.D.Desk.seen in
-    done_captured HasArrivedRows rows_arrived (task_of (map text c.args.words.now)) c.answer_words.result (see c.args.desk.now) (see c.answer_words.new.desk) c.answer_words.ensures
+    done_captured HasArrivedRows rows_arrived (task_of c.args.words.now) c.answer_words.result (see c.args.desk.now) (see c.answer_words.new.desk) c.answer_words.ensures
 
 pub returns-clause-whole_rows : goal.returns-clause-whole_rows
 returns-clause-whole_rows g c =
     let see = g.D.Desk.seen in
-    done_captured HoldsWholeRows whole_rows_held (task_of (map text c.args.words.now)) c.answer_words.result (see c.args.desk.now) (see c.answer_words.new.desk) c.answer_words.ensures
+    done_captured HoldsWholeRows whole_rows_held (task_of c.args.words.now) c.answer_words.result (see c.args.desk.now) (see c.answer_words.new.desk) c.answer_words.ensures
 
 pub returns-clause-blocks : goal.returns-clause-blocks
 returns-clause-blocks g c =
     let see = g.D.Desk.seen in
-    done_captured ShowsRings (λ program fill steps made. rings_shown (first_state program fill) steps) (task_of (map text c.args.words.now)) c.answer_words.result (see c.args.desk.now)
+    done_captured ShowsRings (λ program fill steps made. rings_shown (first_state program fill) steps) (task_of c.args.words.now) c.answer_words.result (see c.args.desk.now)
     (see c.answer_words.new.desk) c.answer_words.ensures
 
 pub returns-clause-no_fault_in_rings : goal.returns-clause-no_fault_in_rings
 returns-clause-no_fault_in_rings g c =
     let see = g.D.Desk.seen in
-    done_captured RingsShowNoFault (λ program fill steps made. no_fault_in_rings (first_state program fill) steps) (task_of (map text c.args.words.now)) c.answer_words.result (see c.args.desk.now)
+    done_captured RingsShowNoFault (λ program fill steps made. no_fault_in_rings (first_state program fill) steps) (task_of c.args.words.now) c.answer_words.result (see c.args.desk.now)
     (see c.answer_words.new.desk) c.answer_words.ensures
 
 pub returns-clause-live_inside : goal.returns-clause-live_inside
 returns-clause-live_inside g c =
     let see = g.D.Desk.seen in
-    done_live LiveRunStaysInside (λ chain fill steps kept. kept.inside) (task_of (map text c.args.words.now)) c.answer_words.result (see c.args.desk.now) (see c.answer_words.new.desk)
+    done_live LiveRunStaysInside (λ chain fill steps kept. kept.inside) (task_of c.args.words.now) c.answer_words.result (see c.args.desk.now) (see c.answer_words.new.desk)
     c.answer_words.ensures
 
 pub returns-clause-live_pictures : goal.returns-clause-live_pictures
 returns-clause-live_pictures g c =
     let see = g.D.Desk.seen in
-    done_live LiveRunShowsPictures (λ chain fill steps kept. kept.shown) (task_of (map text c.args.words.now)) c.answer_words.result (see c.args.desk.now) (see c.answer_words.new.desk)
+    done_live LiveRunShowsPictures (λ chain fill steps kept. kept.shown) (task_of c.args.words.now) c.answer_words.result (see c.args.desk.now) (see c.answer_words.new.desk)
     c.answer_words.ensures
 
 pub returns-clause-live_no_fault : goal.returns-clause-live_no_fault
 returns-clause-live_no_fault g c =
     let see = g.D.Desk.seen in
-    done_live LiveRunShowsNoFault (λ chain fill steps kept. kept.quiet) (task_of (map text c.args.words.now)) c.answer_words.result (see c.args.desk.now) (see c.answer_words.new.desk)
+    done_live LiveRunShowsNoFault (λ chain fill steps kept. kept.quiet) (task_of c.args.words.now) c.answer_words.result (see c.args.desk.now) (see c.answer_words.new.desk)
     c.answer_words.ensures
 
 pub returns-clause-chained : goal.returns-clause-chained
 returns-clause-chained g c =
     let see = g.D.Desk.seen in
-    done_chain (map text c.args.words.now) c.answer_words.result (see c.args.desk.now) (see c.answer_words.new.desk) c.answer_words.ensures
+    done_chain c.args.words.now c.answer_words.result (see c.args.desk.now) (see c.answer_words.new.desk) c.answer_words.ensures
 
 pub returns-clause-damaged : goal.returns-clause-damaged
 returns-clause-damaged g c =
     let see = g.D.Desk.seen in
-    done_damage (map text c.args.words.now) c.answer_words.result (see c.args.desk.now) (see c.answer_words.new.desk) c.answer_words.ensures
+    done_damage c.args.words.now c.answer_words.result (see c.args.desk.now) (see c.answer_words.new.desk) c.answer_words.ensures
 
 pub returns-clause-ringed : goal.returns-clause-ringed
 returns-clause-ringed g c =
     let see = g.D.Desk.seen in
-    done_ring (map text c.args.words.now) c.answer_words.result (see c.args.desk.now) (see c.answer_words.new.desk) c.answer_words.ensures
+    done_ring c.args.words.now c.answer_words.result (see c.args.desk.now) (see c.answer_words.new.desk) c.answer_words.ensures
 
 pub returns-clause-done : goal.returns-clause-done
 returns-clause-done g c =
     let see = g.D.Desk.seen in
-    done_counts (task_of (map text c.args.words.now)) c.answer_words.result (see c.args.desk.now) (see c.answer_words.new.desk) c.answer_words.ensures
+    done_counts (task_of c.args.words.now) c.answer_words.result (see c.args.desk.now) (see c.answer_words.new.desk) c.answer_words.ensures
 
 pub returns-clause-read_fault : goal.returns-clause-read_fault
 returns-clause-read_fault g c =
     let see = g.D.Desk.seen in
-    read_fault_comes (map text c.args.words.now) c.answer_words.result (see c.args.desk.now) (see c.answer_words.new.desk) c.answer_words.ensures
+    read_fault_comes (task_of c.args.words.now) c.answer_words.result (see c.args.desk.now) (see c.answer_words.new.desk) c.answer_words.ensures
 
 pub returns-clause-bad_input : goal.returns-clause-bad_input
 returns-clause-bad_input g c =
     let see = g.D.Desk.seen in
-    bad_input_comes (task_of (map text c.args.words.now)) c.answer_words.result (see c.args.desk.now) (see c.answer_words.new.desk) c.answer_words.ensures
+    bad_input_comes (task_of c.args.words.now) c.answer_words.result (see c.args.desk.now) (see c.answer_words.new.desk) c.answer_words.ensures
 
 pub returns-clause-bad_input_must : goal.returns-clause-bad_input_must
 returns-clause-bad_input_must g c =
     let see = g.D.Desk.seen in
-    bad_input_must (task_of (map text c.args.words.now)) c.answer_words.result (see c.args.desk.now) (see c.answer_words.new.desk) c.answer_words.ensures
+    bad_input_must (task_of c.args.words.now) c.answer_words.result (see c.args.desk.now) (see c.answer_words.new.desk) c.answer_words.ensures
 
 pub returns-clause-complete : goal.returns-clause-complete
 returns-clause-complete g c =
     let see = g.D.Desk.seen in
-    completes (task_of (map text c.args.words.now)) c.answer_words.result (see c.args.desk.now) (see c.answer_words.new.desk) c.answer_words.ensures
+    completes (task_of c.args.words.now) c.answer_words.result (see c.args.desk.now) (see c.answer_words.new.desk) c.answer_words.ensures
 
 pub returns-clause-refused : goal.returns-clause-refused
 returns-clause-refused g c =
     let see = g.D.Desk.seen in
-    refused_only_says (task_of (map text c.args.words.now)) c.answer_words.result (see c.args.desk.now) (see c.answer_words.new.desk) c.answer_words.ensures
+    refused_only_says (task_of c.args.words.now) c.answer_words.result (see c.args.desk.now) (see c.answer_words.new.desk) c.answer_words.ensures
 
 pub returns-clause-write_fault : goal.returns-clause-write_fault
 returns-clause-write_fault g c =
     let see = g.D.Desk.seen in
-    write_fault_comes (task_of (map text c.args.words.now)) c.answer_words.result (see c.args.desk.now) (see c.answer_words.new.desk) c.answer_words.ensures
+    write_fault_comes (task_of c.args.words.now) c.answer_words.result (see c.args.desk.now) (see c.answer_words.new.desk) c.answer_words.ensures
 
 pub returns-clause-stands : goal.returns-clause-stands
 returns-clause-stands g c =
     let see = g.D.Desk.seen in
-    write_fault_stands (map text c.args.words.now) c.answer_words.result (see c.args.desk.now) (see c.answer_words.new.desk) c.answer_words.ensures
+    write_fault_stands c.args.words.now c.answer_words.result (see c.args.desk.now) (see c.answer_words.new.desk) c.answer_words.ensures
 
 pub returns-clause-untouched : goal.returns-clause-untouched
 returns-clause-untouched g c =
     let see = g.D.Desk.seen in
-    others_untouched (map text c.args.words.now) c.answer_words.result (see c.args.desk.now) (see c.answer_words.new.desk) c.answer_words.ensures
+    others_untouched (task_of c.args.words.now) c.answer_words.result (see c.args.desk.now) (see c.answer_words.new.desk) c.answer_words.ensures
 
 pub returns-clause-names : goal.returns-clause-names
 returns-clause-names g c =
     let see = g.D.Desk.seen in
-    names_kept (task_of (map text c.args.words.now)) c.answer_words.result (see c.args.desk.now) (see c.answer_words.new.desk) c.answer_words.ensures
+    names_kept (task_of c.args.words.now) c.answer_words.result (see c.args.desk.now) (see c.answer_words.new.desk) c.answer_words.ensures
 
 pub returns-clause-usage : goal.returns-clause-usage
 returns-clause-usage g c =
     let see = g.D.Desk.seen in
-    usage_comes (map text c.args.words.now) c.answer_words.result (see c.args.desk.now) (see c.answer_words.new.desk) c.answer_words.ensures
+    usage_comes (task_of c.args.words.now) c.answer_words.result (see c.args.desk.now) (see c.answer_words.new.desk) c.answer_words.ensures
 
 pub returns-clause-image_and_report : goal.returns-clause-image_and_report
 returns-clause-image_and_report g c =
     let see = g.D.Desk.seen in
-    done_run (map text c.args.words.now) c.answer_words.result (see c.args.desk.now) (see c.answer_words.new.desk) c.answer_words.ensures
+    done_run c.args.words.now c.answer_words.result (see c.args.desk.now) (see c.answer_words.new.desk) c.answer_words.ensures
 
 pub returns-clause-captured : goal.returns-clause-captured
 returns-clause-captured g c =
     let see = g.D.Desk.seen in
-    done_capture (map text c.args.words.now) c.answer_words.result (see c.args.desk.now) (see c.answer_words.new.desk) c.answer_words.ensures
+    done_capture c.args.words.now c.answer_words.result (see c.args.desk.now) (see c.answer_words.new.desk) c.answer_words.ensures
 
 pub returns-clause-accepted : goal.returns-clause-accepted
 returns-clause-accepted g c =
     let see = g.D.Desk.seen in
-    done_verify (map text c.args.words.now) c.answer_words.result (see c.args.desk.now) (see c.answer_words.new.desk) c.answer_words.ensures
+    done_verify c.args.words.now c.answer_words.result (see c.args.desk.now) (see c.answer_words.new.desk) c.answer_words.ensures
 
 pub returns-clause-listed : goal.returns-clause-listed
 returns-clause-listed g c =
     let see = g.D.Desk.seen in
-    done_list (map text c.args.words.now) c.answer_words.result (see c.args.desk.now) (see c.answer_words.new.desk) c.answer_words.ensures
+    done_list c.args.words.now c.answer_words.result (see c.args.desk.now) (see c.answer_words.new.desk) c.answer_words.ensures
 
 pub returns-clause-compiled : goal.returns-clause-compiled
 returns-clause-compiled g c =
     let see = g.D.Desk.seen in
-    done_compile (map text c.args.words.now) c.answer_words.result (see c.args.desk.now) (see c.answer_words.new.desk) c.answer_words.ensures
+    done_compile c.args.words.now c.answer_words.result (see c.args.desk.now) (see c.answer_words.new.desk) c.answer_words.ensures
 
 pub returns-clause-generated : goal.returns-clause-generated
 returns-clause-generated g c =
     let see = g.D.Desk.seen in
-    done_make (map text c.args.words.now) c.answer_words.result (see c.args.desk.now) (see c.answer_words.new.desk) c.answer_words.ensures
+    done_make c.args.words.now c.answer_words.result (see c.args.desk.now) (see c.answer_words.new.desk) c.answer_words.ensures
 
 pub returns-clause-assembled : goal.returns-clause-assembled
 returns-clause-assembled g c =
     let see = g.D.Desk.seen in
-    done_assemble (map text c.args.words.now) c.answer_words.result (see c.args.desk.now) (see c.answer_words.new.desk) c.answer_words.ensures
+    done_assemble c.args.words.now c.answer_words.result (see c.args.desk.now) (see c.answer_words.new.desk) c.answer_words.ensures
 
 pub returns-clause-last : goal.returns-clause-last
 returns-clause-last g c =
     let see = g.D.Desk.seen in
-    ends_at_fault (task_of (map text c.args.words.now)) c.answer_words.result (see c.args.desk.now) (see c.answer_words.new.desk) c.answer_words.ensures
+    ends_at_fault (task_of c.args.words.now) c.answer_words.result (see c.args.desk.now) (see c.answer_words.new.desk) c.answer_words.ensures
 
 pub returns-clause-order : goal.returns-clause-order
 returns-clause-order g c =
     let see = g.D.Desk.seen in
-    in_order (task_of (map text c.args.words.now)) c.answer_words.result (see c.args.desk.now) (see c.answer_words.new.desk) c.answer_words.ensures
+    in_order (task_of c.args.words.now) c.answer_words.result (see c.args.desk.now) (see c.answer_words.new.desk) c.answer_words.ensures
