@@ -1,17 +1,18 @@
-//! A program file that is listed.
+//! The command that lists a program.
 
-ghost use Rattle.std.specs.Prelude.{◌≡◌, ◌+◌, ◌*◌, ◌^◌, ◌≤◌, [], true, false, length, IfErr, IfOk};
+ghost use Rattle.std.specs.Prelude.{◌≡◌, ◌+◌, ◌*◌, ◌^◌, ◌≤◌, [], true, false, length, IfOk};
 ghost use Rattle.std.specs.List.{All, flat_map};
 ghost use Rattle.machine_model.specs.Paths.{begins_at_base, end_of, span};
-ghost use Rattle.bt878_contract.specs.Tasks.{IsListed};
+ghost use Rattle.bt878_contract.specs.Tasks.{IsProduct, inputs_of};
 ghost use Rattle.bt878_top.specs.Contents.{listing_with};
+ghost use Rattle.bt878_top.specs.Products.{product_of};
 ghost use Rattle.capture_desk.specs.Desks.{IsAllowed, Puts, SayCounts, after_say};
-ghost use Rattle.command_inputs.specs.Programs.{IsBadFile, longest_program};
-ghost use Rattle.command_steps.specs.Inputs.{Always, OfInput, StopsAt};
 ghost use Rattle.command_steps.specs.Outputs.{Finishes};
-ghost use Rattle.command_steps.specs.Reading.{OnlyReads, ReadsThrough};
+ghost use Rattle.command_steps.specs.Reading.{Takes};
 ghost use Rattle.risc_listing.specs.Listings.{all_word_lines, base_line, entry_line, lines_by, span_line, span_lines, word_lines};
 
+use crate::produced::Produced;
+use bt878_words::Task;
 use capture_desk::{Desk, Failed, say_all};
 use capture_file::ProgramFile;
 use command_inputs::read_file;
@@ -30,7 +31,11 @@ pub struct Listed {
 
 /// `list PROG`: reads a program file, whose program need not be sound, and makes ready what its listing takes: saying it
 /// takes no more memory.
-pub fn list<'a, D: Desk>(alloc: Global, program: &'a str, desk: &mut D) -> Result<Produced<'a>, Refusal>
+pub fn list<'a, D: Desk>(
+    alloc: Global,
+    program: &'a str,
+    desk: &mut D,
+) -> Result<Produced<'a>, Refusal>
     requires { IsAllowed program.now (D.seen desk.old).told.may_open }
     ensures takes { Takes (inputs_of (Task.List program.entry)) result (D.seen desk.old) (D.seen desk.new) }
     ensures makes { IfOk result (λ produced. IsProduct (Task.List program.entry) (D.seen desk.old).told.inputs (product_of produced)) }

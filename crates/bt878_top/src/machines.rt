@@ -2,7 +2,6 @@
 
 ghost use Rattle.std.specs.Prelude.{◌≡◌, [], IfOk};
 ghost use Rattle.damage_map.specs.Laws.{map_after};
-ghost use Rattle.machine_model.specs.Paths.{IsSound};
 ghost use Rattle.machine_model.specs.States.{first_state};
 ghost use Rattle.machine_watch.specs.Watches.{watching};
 ghost use Rattle.picture_model.specs.Programs.{compiled};
@@ -15,38 +14,25 @@ use page_ram::PageRam;
 use program_build::{Checked, build};
 use ring_compile::{Ring, compile_ring};
 use ring_machine::{BlockCount, RingMachine};
-use risc_verify::{Accepted, Program, Why};
 use std::alloc::{AllocError, Global};
-use stream_play::machine_of;
+use stream_play::machine_of_sound;
 
-/// A program that is surely sound, as the machine takes it: verified as any other is.
-fn accept_sound(alloc: Global, program: Program) -> Result<Accepted, AllocError>
-    requires { IsSound program }
-    ensures { IfOk result (λ accepted. accepted ≡ program) }
-{
-    match verify_program(alloc, program) {
-        Ok(accepted) => Ok(accepted),
-        Err(Why::Bad { .. }) => unreachable!(),
-        Err(Why::Memory) => Err(AllocError),
-    }
-}
-
-/// The machine of a description.
+/// The machine of a description, whose program is let go of.
 pub fn machine_of_description(
     alloc: Global,
-    checked: &Checked,
+    checked: Checked,
 ) -> Result<Machine<PageRam>, AllocError>
-    ensures { IfOk result (λ machine. machine ≡ first_state (compiled checked.now) checked.now.fill) }
+    ensures { IfOk result (λ machine. machine ≡ first_state (compiled checked) checked.fill) }
 {
-    let accepted = accept_sound(alloc, build(alloc, checked)?)?;
-    machine_of(alloc, accepted, checked.fill())
+    let fill = checked.fill();
+    machine_of_sound(alloc, checked.into_program(alloc)?, fill)
 }
 
 /// The machine of a description, of whose rows nothing is told yet.
 pub fn map_of(alloc: Global, checked: &Checked) -> Result<Watched<PageRam, Track>, AllocError>
     ensures { IfOk result (λ map. map ≡ map_after checked.now checked.now.fill []) }
 {
-    let machine = machine_of_description(alloc, checked)?;
+    let machine = machine_of_sound(alloc, build(alloc, checked)?, checked.fill())?;
     Ok(Watched::new(machine, Track::new(alloc, checked)?))
 }
 
@@ -55,7 +41,7 @@ pub fn machine_of_ring(alloc: Global, ring: Ring) -> Result<RingMachine<PageRam>
     ensures first { IfOk result (λ m. m ≡ watching (first_state (ring_program ring) ring.fill) (record { ring = ring; blocks = 0 })) }
     ensures ring { IfOk result (λ _. IsRing ring) }
 {
-    let accepted = accept_sound(alloc, compile_ring(alloc, &ring)?)?;
-    let machine = machine_of(alloc, accepted, ring.fill())?;
+    let program = compile_ring(alloc, &ring)?;
+    let machine = machine_of_sound(alloc, program, ring.fill())?;
     Ok(Watched::new(machine, BlockCount::new(ring)))
 }

@@ -87,15 +87,30 @@ impl Outputs<'_> {
                 checked,
                 seed,
                 frames,
-            } => one_output(*name, Contents::Stream(checked.frame(), *seed, frames), text, desk),
-            Outputs::Image { name, machine } => one_output(*name, Contents::Image(machine.ram()), text, desk),
+            } => one_output(
+                *name,
+                Contents::Stream(checked.frame(), *seed, frames),
+                text,
+                desk,
+            ),
+            Outputs::Image { name, machine } => one_output(
+                *name,
+                Contents::Image(machine.ram()),
+                text,
+                desk,
+            ),
             Outputs::ProgramAndImage {
                 program,
                 fill,
                 image,
                 machine,
             } => program_and_image(*program, *fill, *image, machine, text, desk),
-            Outputs::ChainImage { name, buffer } => one_output(*name, Contents::Image(buffer.ram()), text, desk),
+            Outputs::ChainImage { name, buffer } => one_output(
+                *name,
+                Contents::Image(buffer.ram()),
+                text,
+                desk,
+            ),
         }
     }
 }

@@ -13,8 +13,8 @@ use crate::machines::{machine_of_description, machine_of_ring, map_of};
 use crate::produced::{Outputs, Produced};
 use bt878_words::Task;
 use capture_desk::Desk;
-use command_inputs::{Loaded, Paired, accept, buffer_file, check_file, frame_file, ring_file};
-use command_texts::{Refusal, blocks_text, report_text};
+use command_inputs::{Loaded, accept, buffer_file, check_file, frame_file, ring_file};
+use command_texts::Refusal;
 use damage_map::Track;
 use damage_text::damage_text;
 use machine_watch::Watched;
@@ -22,7 +22,7 @@ use page_ram::PageRam;
 use pixel_layout::Parity;
 use program_build::Checked;
 use std::alloc::{AllocError, Global};
-use stream_play::{machine_of, play_file};
+use stream_play::{Played, machine_of, play_and_tell, play_file};
 
 /// `run PROG STREAM IMAGE`: runs the program over the stream, writes the image of its memory and says its report.
 pub fn run<'a, D: Desk>(
@@ -39,12 +39,11 @@ pub fn run<'a, D: Desk>(
 {
     let Loaded { accepted, fill } = accept(alloc, program, desk)?;
     let machine = Watched::new(machine_of(alloc, accepted, fill)?, ());
-    let machine = play_file(alloc, machine, stream, desk)?.into_machine();
-    let text = report_text(alloc, &machine.report())?;
+    let Played { player, text } = play_and_tell(alloc, machine, stream, desk)?;
     Ok(Produced::Files {
         outputs: Outputs::Image {
             name: image,
-            machine,
+            machine: player.into_machine(),
         },
         text,
     })
@@ -66,15 +65,15 @@ pub fn capture<'a, D: Desk>(
     ensures makes { IfOk result (λ produced. IsProduct (Task.Capture desc.entry stream.entry program.entry image.entry) (D.seen desk.old).told.inputs (product_of produced)) }
 {
     let checked = check_file(alloc, desc, desk)?;
-    let machine = Watched::new(machine_of_description(alloc, &checked)?, ());
-    let machine = play_file(alloc, machine, stream, desk)?.into_machine();
-    let text = report_text(alloc, &machine.report())?;
+    let fill = checked.fill();
+    let machine = Watched::new(machine_of_description(alloc, checked)?, ());
+    let Played { player, text } = play_and_tell(alloc, machine, stream, desk)?;
     Ok(Produced::Files {
         outputs: Outputs::ProgramAndImage {
             program,
-            fill: checked.fill(),
+            fill,
             image,
-            machine,
+            machine: player.into_machine(),
         },
         text,
     })
@@ -96,15 +95,15 @@ pub fn ring<'a, D: Desk>(
     ensures makes { IfOk result (λ produced. IsProduct (Task.Ring ring.entry stream.entry program.entry image.entry) (D.seen desk.old).told.inputs (product_of produced)) }
 {
     let ring = ring_file(alloc, ring, desk)?;
-    let machine = play_file(alloc, machine_of_ring(alloc, ring)?, stream, desk)?;
-    let text = blocks_text(alloc, machine.watch().blocks(), &machine.machine().report())?;
-    let fill = machine.watch().ring().fill();
+    let fill = ring.fill();
+    let machine = machine_of_ring(alloc, ring)?;
+    let Played { player, text } = play_and_tell(alloc, machine, stream, desk)?;
     Ok(Produced::Files {
         outputs: Outputs::ProgramAndImage {
             program,
             fill,
             image,
-            machine: machine.into_machine(),
+            machine: player.into_machine(),
         },
         text,
     })
@@ -165,13 +164,12 @@ pub fn chain<'a, D: Desk>(
     ensures makes { IfOk result (λ produced. IsProduct (Task.Chain first.entry second.entry stream.entry image.entry) (D.seen desk.old).told.inputs (product_of produced)) }
 {
     let frame = frame_file(alloc, first, desk)?;
-    let Paired { buffer, .. } = buffer_file(alloc, &frame, second, desk)?;
-    let buffer = play_file(alloc, buffer, stream, desk)?;
-    let text = report_text(alloc, &buffer.report())?;
+    let buffer = buffer_file(alloc, &frame, second, desk)?;
+    let Played { player, text } = play_and_tell(alloc, buffer, stream, desk)?;
     Ok(Produced::Files {
         outputs: Outputs::ChainImage {
             name: image,
-            buffer,
+            buffer: player,
         },
         text,
     })
