@@ -1,75 +1,149 @@
 -- Inputs that are taken one after the other.
-use Rattle.std.proofs.Common.{◌≡◌, inl, inr, List, [], ◌∷◌, ◌++◌, refl, sym, ap, subst, ◌∙◌}
-use Rattle.capture_desk.specs.Desks.{Seen, is_missing}
-use Rattle.capture_desk.proofs.Telling.{tells_both}
+use Rattle.std.proofs.Common.{◌≡◌, ℕ, inl, inr, List, [], ◌∷◌, ◌++◌, Option, Result, Ok, Err, IsErrAnd, IfErr, refl, sym, ap, subst, ◌∙◌, append_assoc}
+use Rattle.std.proofs.lemmas.List.{append-nil}
+use Rattle.std.proofs.lemmas.Result.{err_from_is_err_and}
+use Rattle.capture_desk.specs.declared.calls.Call.{Call}
+use Rattle.capture_desk.specs.Desks.{Inputs, Seen, is_missing}
+use Rattle.capture_desk.proofs.Telling.{tells_both, tells_none}
 use Rattle.command_texts.specs.declared.refusal.Refusal.{Refusal}
 use Rattle.command_texts.specs.declared.refusal.Refusal.TheVariants.{NoMemory, ReadFault}
 use Rattle.command_steps.specs.Inputs.{Input, IsThereAndGood, StopsAt, StopsIn}
-use Rattle.command_steps.specs.Reading.{AreTaken, AreTakenUpTo, OnlyReads, ReadsThrough, Stopped, Took}
+use Rattle.command_steps.specs.Reading.{AreTaken, AreTakenUpTo, Stopped, Takes, Took}
 use Rattle.command_steps.proofs.Inputs.{rose_from, same_inputs}
 
--- one input was read, and then others were, or not all of them
-abbrev Reads : Input → Seen → Seen → Type 0
-Reads input old new = OnlyReads input.name input.judge.most input.judge.MayGoOn old new
+-- ---- the calls
 
--- and it was read through
-abbrev Through : Input → Seen → Seen → Type 0
-Through input old new = ReadsThrough input.name input.judge.most input.judge.MayGoOn old new
+all_calls : (first later : List Input) (told : Option Inputs) (a b : List Call) → AreTaken first told a → AreTaken later told b → AreTaken (first ++ later) told (a ++ b)
+all_calls [] later told a b none h = subst (λ x. AreTaken later told (x ++ b)) (sym none) h
+all_calls (input ∷ first) later told a b (x, y, e, whole, good, more) h =
+    (x, y ++ b, ap (λ z. z ++ b) e ∙ append_assoc x y b, whole, good, all_calls first later told y b more h)
 
-module _ (input : Input) (old mid : Seen) (reads : Reads input old mid) where
-  same : mid.told.inputs ≡ old.told.inputs
-  same = same_inputs mid.told old.told reads.told
+calls_up_to : (first later : List Input) (told : Option Inputs) (a b : List Call) → AreTaken first told a → AreTakenUpTo later told b → AreTakenUpTo (first ++ later) told (a ++ b)
+calls_up_to [] later told a b none h = subst (λ x. AreTakenUpTo later told (x ++ b)) (sym none) h
+calls_up_to (input ∷ first) later told a b (x, y, e, whole, good, more) h =
+    inr (x, y ++ b, ap (λ z. z ++ b) e ∙ append_assoc x y b, whole, good, calls_up_to first later told y b more h)
 
-  pub took_first : (inputs : List Input) (new : Seen) → Through input old mid → IsThereAndGood input old.told.inputs → Took inputs mid new → Took (input ∷ inputs) old new
-  took_first inputs new through good later =
-      record {
-        told = later.told ∙ reads.told;
-        reads = later.reads ∙ through.reads;
-        writes = later.writes ∙ reads.writes;
-        calls = (
-          through.calls.0 ++ later.calls.0,
-          (through.calls.0, later.calls.0, refl, through.calls.1, good, subst (λ told. AreTaken inputs told later.calls.0) same later.calls.1),
-          tells_both through.calls.0 later.calls.0 old.calls mid.calls new.calls through.calls.2 later.calls.2,
-        );
-      }
+no_calls : (inputs : List Input) (told : Option Inputs) → AreTakenUpTo inputs told []
+no_calls [] told = refl
+no_calls (input ∷ inputs) told = inl tt
 
-  pub stopped_first : (inputs : List Input) (refusal : Refusal) → StopsAt input.judge.IsBad input.name refusal old mid → Stopped (input ∷ inputs) refusal old mid
-  stopped_first inputs refusal why =
-      record {
-        told = reads.told;
-        writes = reads.writes;
-        why = inl why;
-        calls = (reads.calls.0, inl reads.calls.1, reads.calls.2);
-      }
+calls_before : (first later : List Input) (told : Option Inputs) (a : List Call) → AreTakenUpTo first told a → AreTakenUpTo (first ++ later) told a
+calls_before [] later told a none = subst (AreTakenUpTo later told) (sym none) (no_calls later told)
+calls_before (input ∷ first) later told a (inl h) = inl h
+calls_before (input ∷ first) later told a (inr (x, y, e, whole, good, more)) = inr (x, y, e, whole, good, calls_before first later told y more)
 
-  stops_before : (other : Input) (refusal : Refusal) (new : Seen) → mid.reads ≡ old.reads → StopsAt other.judge.IsBad other.name refusal mid new → StopsAt other.judge.IsBad other.name refusal old new
-  stops_before other ReadFault new quiet (inl h) = inl (rose_from old.reads mid.reads new.reads quiet h)
-  stops_before other ReadFault new quiet (inr h) = inr (ap (is_missing other.name) (sym same) ∙ h)
-  stops_before other NoMemory new quiet h = tt
-  stops_before other refusal new quiet h = subst (other.judge.IsBad other.name refusal) same h
+-- ---- why one is not taken
 
-  stops_then : (inputs : List Input) (refusal : Refusal) (new : Seen) → mid.reads ≡ old.reads → StopsIn inputs refusal mid new → StopsIn inputs refusal old new
-  stops_then [] refusal new quiet h = h
-  stops_then (other ∷ inputs) refusal new quiet (inl h) = inl (stops_before other refusal new quiet h)
-  stops_then (other ∷ inputs) refusal new quiet (inr h) = inr (subst (IsThereAndGood other) same h.0, stops_then inputs refusal new quiet h.1)
+-- want of memory is free
+no_memory : (inputs : List Input) (old new : Seen) → StopsIn inputs NoMemory old new
+no_memory [] old new = refl
+no_memory (input ∷ inputs) old new = inl tt
 
-  pub stopped_later : (inputs : List Input) (refusal : Refusal) (new : Seen) → Through input old mid → IsThereAndGood input old.told.inputs → Stopped inputs refusal mid new → Stopped (input ∷ inputs) refusal old new
-  stopped_later inputs refusal new through good later =
-      record {
-        told = later.told ∙ reads.told;
-        writes = later.writes ∙ reads.writes;
-        why = inr (good, stops_then inputs refusal new through.reads later.why);
-        calls = (
-          through.calls.0 ++ later.calls.0,
-          inr (through.calls.0, later.calls.0, refl, through.calls.1, good, subst (λ told. AreTakenUpTo inputs told later.calls.0) same later.calls.1),
-          tells_both through.calls.0 later.calls.0 old.calls mid.calls new.calls through.calls.2 later.calls.2,
-        );
-      }
+stops_before : (first later : List Input) (refusal : Refusal) (old new : Seen) → StopsIn first refusal old new → StopsIn (first ++ later) refusal old new
+stops_before [] later refusal old new none = subst (λ r. StopsIn later r old new) (sym none) (no_memory later old new)
+stops_before (input ∷ first) later refusal old new (inl h) = inl h
+stops_before (input ∷ first) later refusal old new (inr (good, more)) = inr (good, stops_before first later refusal old new more)
+
+stops_behind : (first later : List Input) (refusal : Refusal) (old new : Seen) (a : List Call) → AreTaken first old.told.inputs a → StopsIn later refusal old new → StopsIn (first ++ later) refusal old new
+stops_behind [] later refusal old new a none h = h
+stops_behind (input ∷ first) later refusal old new a (x, y, e, whole, good, more) h = inr (good, stops_behind first later refusal old new y more h)
+
+-- the inputs stay, and no read failed before
+module _ (old mid new : Seen) (same : mid.told.inputs ≡ old.told.inputs) (quiet : mid.reads ≡ old.reads) where
+  stops_at : (input : Input) (refusal : Refusal) → StopsAt input.judge.IsBad input.name refusal mid new → StopsAt input.judge.IsBad input.name refusal old new
+  stops_at input ReadFault (inl h) = inl (rose_from old.reads mid.reads new.reads quiet h)
+  stops_at input ReadFault (inr h) = inr (ap (is_missing input.name) (sym same) ∙ h)
+  stops_at input NoMemory h = tt
+  stops_at input refusal h = subst (input.judge.IsBad input.name refusal) same h
+
+  stops_from : (inputs : List Input) (refusal : Refusal) → StopsIn inputs refusal mid new → StopsIn inputs refusal old new
+  stops_from [] refusal h = h
+  stops_from (input ∷ inputs) refusal (inl h) = inl (stops_at input refusal h)
+  stops_from (input ∷ inputs) refusal (inr h) = inr (subst (IsThereAndGood input) same h.0, stops_from inputs refusal h.1)
+
+-- ---- some inputs, and then others
+
+-- a step that answers this refusal
+pub stops_with : {A : Type 0} (inputs : List Input) (r : Result A Refusal) (refusal : Refusal) (old new : Seen) → IsErrAnd r (λ y. y ≡ refusal) → Stopped inputs refusal old new → Takes inputs r old new
+stops_with inputs r refusal old new is h =
+    let p = err_from_is_err_and r is in
+    subst (λ (x : Result _ Refusal). Takes inputs x old new) (sym p.1) (subst (λ y. Stopped inputs y old new) (sym p.2) h)
 
 -- nothing is left to be taken
 pub took_none : (s : Seen) → Took [] s s
-took_none s = record { told = refl; reads = refl; writes = refl; calls = ([], refl, inr refl) }
+took_none s = record { told = refl; reads = refl; writes = refl; calls = ([], refl, tells_none s.calls) }
 
--- one input alone
-pub took_one : (input : Input) (old new : Seen) → Reads input old new → Through input old new → IsThereAndGood input old.told.inputs → Took (input ∷ []) old new
-took_one input old new reads through good = took_first input old new reads [] new through good (took_none new)
+-- or memory runs out first
+pub stopped_none : (s : Seen) → Stopped [] NoMemory s s
+stopped_none s = record { told = refl; writes = refl; why = refl; calls = ([], refl, tells_none s.calls) }
+
+pub takes_none : {A : Type 0} (r : Result A Refusal) (s : Seen) → IfErr r (λ refusal. refusal ≡ NoMemory) → Takes [] r s s
+takes_none (Ok x) s h = took_none s
+takes_none (Err refusal) s h = subst (λ r. Stopped [] r s s) (sym h) (stopped_none s)
+
+module _ (first : List Input) (old mid : Seen) where
+  pub took_then : (later : List Input) (new : Seen) → Took first old mid → Took later mid new → Took (first ++ later) old new
+  took_then later new took h =
+      let same : mid.told.inputs ≡ old.told.inputs = same_inputs mid.told old.told took.told in
+      record {
+        told = h.told ∙ took.told;
+        reads = h.reads ∙ took.reads;
+        writes = h.writes ∙ took.writes;
+        calls = (
+          took.calls.0 ++ h.calls.0,
+          all_calls first later old.told.inputs took.calls.0 h.calls.0 took.calls.1 (subst (λ told. AreTaken later told h.calls.0) same h.calls.1),
+          tells_both took.calls.0 h.calls.0 old.calls mid.calls new.calls took.calls.2 h.calls.2,
+        );
+      }
+
+  pub stopped_then : (later : List Input) (refusal : Refusal) (new : Seen) → Took first old mid → Stopped later refusal mid new → Stopped (first ++ later) refusal old new
+  stopped_then later refusal new took h =
+      let same : mid.told.inputs ≡ old.told.inputs = same_inputs mid.told old.told took.told in
+      record {
+        told = h.told ∙ took.told;
+        writes = h.writes ∙ took.writes;
+        why = stops_behind first later refusal old new took.calls.0 took.calls.1 (stops_from old mid new same took.reads later refusal h.why);
+        calls = (
+          took.calls.0 ++ h.calls.0,
+          calls_up_to first later old.told.inputs took.calls.0 h.calls.0 took.calls.1 (subst (λ told. AreTakenUpTo later told h.calls.0) same h.calls.1),
+          tells_both took.calls.0 h.calls.0 old.calls mid.calls new.calls took.calls.2 h.calls.2,
+        );
+      }
+
+  -- one that was not taken ends it, whatever inputs would come behind
+  pub stopped_before : (later : List Input) (refusal : Refusal) → Stopped first refusal old mid → Stopped (first ++ later) refusal old mid
+  stopped_before later refusal h =
+      record {
+        told = h.told;
+        writes = h.writes;
+        why = stops_before first later refusal old mid h.why;
+        calls = (h.calls.0, calls_before first later old.told.inputs h.calls.0 h.calls.1, h.calls.2);
+      }
+
+  -- and so does want of memory behind those that were taken
+  pub stopped_behind : (later : List Input) → Took first old mid → Stopped (first ++ later) NoMemory old mid
+  stopped_behind later took =
+      let h = stopped_then [] NoMemory mid took (stopped_none mid) in
+      record {
+        told = h.told;
+        writes = h.writes;
+        why = no_memory (first ++ later) old mid;
+        calls = (
+          took.calls.0,
+          subst (AreTakenUpTo (first ++ later) old.told.inputs) (append-nil took.calls.0)
+              (calls_up_to first later old.told.inputs took.calls.0 [] took.calls.1 (no_calls later old.told.inputs)),
+          took.calls.2,
+        );
+      }
+
+  -- by the answer of a step: those behind are taken by what follows
+  pub takes_then : {A : Type 0} (later : List Input) (r : Result A Refusal) (new : Seen) → Took first old mid → Takes later r mid new → Takes (first ++ later) r old new
+  takes_then later (Ok x) new took h = took_then later new took h
+  takes_then later (Err refusal) new took h = stopped_then later refusal new took h
+
+  -- an early return
+  pub takes_before : {A : Type 0} (later : List Input) (r : Result A Refusal) (refusal : Refusal) → IsErrAnd r (λ y. y ≡ refusal) → Stopped first refusal old mid → Takes (first ++ later) r old mid
+  takes_before later r refusal is h = stops_with (first ++ later) r refusal old mid is (stopped_before later refusal h)
+
+  pub takes_behind : {A : Type 0} (later : List Input) (r : Result A Refusal) → IsErrAnd r (λ y. y ≡ NoMemory) → Took first old mid → Takes (first ++ later) r old mid
+  takes_behind later r is took = stops_with (first ++ later) r NoMemory old mid is (stopped_behind later took)

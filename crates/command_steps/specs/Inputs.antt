@@ -80,6 +80,13 @@ ByBytes P told bytes = P bytes
 abbrev pub Always : List ℕ → Type 0
 Always bytes = ⊤
 
+-- an input that is read and not judged yet: all bytes are good
+abbrev pub raw_files : ℕ → Judge
+raw_files most = record { most = most; MayGoOn = Always; IsGood = ByBytes Always; IsBad = λ name refusal told. ⊥ }
+
+abbrev pub a_raw : List ℕ → ℕ → Input
+a_raw name most = record { name = name; judge = raw_files most }
+
 abbrev pub IsThereAndGood : Input → Option Inputs → Type 0
 IsThereAndGood input told = OfInput input.name told (input.judge.IsGood told)
 

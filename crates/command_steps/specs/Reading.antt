@@ -56,17 +56,6 @@ IsTakingOf input told calls = IsTaking input.name input.judge.most input.judge.M
 abbrev pub IsWholeTakingOf : Input → Option Inputs → List Call → Type 0
 IsWholeTakingOf input told calls = IsWholeTaking input.name input.judge.most input.judge.MayGoOn told calls
 
--- nothing was done but that an input was opened and read
-pub record OnlyReads (name : List ℕ) (most : ℕ) (MayGoOn : List ℕ → Type 0) (old new : Seen) : Type 0 where
-  pub told : apart new.told ≡ apart old.told
-  pub writes : new.writes ≡ old.writes
-  pub calls : Calls (IsTaking name most MayGoOn old.told.inputs) old new
-
--- it was opened once and read through, and no read failed
-pub record ReadsThrough (name : List ℕ) (most : ℕ) (MayGoOn : List ℕ → Type 0) (old new : Seen) : Type 0 where
-  pub reads : new.reads ≡ old.reads
-  pub calls : Calls (IsWholeTaking name most MayGoOn old.told.inputs) old new
-
 -- ---- several inputs
 
 -- all inputs were opened and read through, one after the other, each found good before the next

@@ -39,10 +39,7 @@ fn write_output<C: Content, D: Desk>(name: &str, content: &C, desk: &mut D) -> R
 {
     desk.create_out(name)?;
     content.put(desk)?;
-    match desk.finish() {
-        Ok(()) => Ok(()),
-        Err(failed) => Err(failed),
-    }
+    desk.finish()
 }
 
 /// Writes outputs, one after the other, and then says a text. Where a call fails, it is the last.

@@ -3,8 +3,8 @@
 ghost use Rattle.std.specs.Prelude.{◌≡◌, ◌+◌, ◌-◌, ◌<◌, ◌≤◌, ◌^◌, ◌++◌, [], ◌∷◌, length, take, IfErr, IfOk, IsTrue};
 ghost use Rattle.capture_desk.specs.declared.calls.Call.TheVariants as Call;
 ghost use Rattle.capture_desk.specs.Desks.{IsAllowed, ReadCounts, Tells, after_read, moved_by};
-ghost use Rattle.command_steps.specs.Inputs.{Always, OfInput, OfRest, StopsAtRead, StopsReading, apart};
-ghost use Rattle.command_steps.specs.Reading.{AreAllReads, AreReads, Calls, IsPiece, OnlyReads, ReadsThrough, Opened, OpensBy};
+ghost use Rattle.command_steps.specs.Inputs.{Always, OfInput, OfRest, StopsAtRead, a_raw, apart};
+ghost use Rattle.command_steps.specs.Reading.{AreAllReads, AreReads, Calls, IsPiece, Opened, OpensBy, Takes};
 
 use crate::keeps::Keeps;
 use capture_desk::{Desk, Failed, OpenFault};
@@ -74,10 +74,8 @@ fn keep_rest<D: Desk, K: Keeps>(
         if count == 0 {
             return Ok(());
         }
-        match keeper.keep(alloc, &buffer[..count]) {
-            Ok(()) => at += count,
-            Err(_) => return Err(Refusal::NoMemory),
-        }
+        keeper.keep(alloc, &buffer[..count])?;
+        at += count;
     }
     Ok(())
 }
@@ -95,9 +93,7 @@ fn keep_input<D: Desk, K: Keeps>(
     requires few { most < 2 ^ 32 }
     requires room { length buffer.old ≡ 65536 }
     ensures bytes { IfOk result (λ _. OfInput name.now (D.seen desk.old).told.inputs (λ content. K.kept keeper.new ≡ K.kept keeper.old ++ take (most + 1) content)) }
-    ensures stops { IfErr result (λ refusal. StopsReading name.now refusal (D.seen desk.old) (D.seen desk.new)) }
-    ensures reads { OnlyReads name.now most Always (D.seen desk.old) (D.seen desk.new) }
-    ensures through { IfOk result (λ _. ReadsThrough name.now most Always (D.seen desk.old) (D.seen desk.new)) }
+    ensures takes { Takes (a_raw name.now most ∷ []) result (D.seen desk.old) (D.seen desk.new) }
 {
     open(name, desk)?;
     keep_rest(alloc, most, desk, keeper, buffer)
@@ -114,14 +110,9 @@ pub fn read_pieces<D: Desk, K: Keeps>(
     requires allowed { IsAllowed name.now (D.seen desk.old).told.may_open }
     requires few { most < 2 ^ 32 }
     ensures bytes { IfOk result (λ _. OfInput name.now (D.seen desk.old).told.inputs (λ content. K.kept keeper.new ≡ K.kept keeper.old ++ take (most + 1) content)) }
-    ensures stops { IfErr result (λ refusal. StopsReading name.now refusal (D.seen desk.old) (D.seen desk.new)) }
-    ensures reads { OnlyReads name.now most Always (D.seen desk.old) (D.seen desk.new) }
-    ensures through { IfOk result (λ _. ReadsThrough name.now most Always (D.seen desk.old) (D.seen desk.new)) }
+    ensures takes { Takes (a_raw name.now most ∷ []) result (D.seen desk.old) (D.seen desk.new) }
 {
-    let mut buffer = match vec![in alloc; 0; PIECE] {
-        Ok(buffer) => buffer,
-        Err(_) => return Err(Refusal::NoMemory),
-    };
+    let mut buffer = vec![in alloc; 0; PIECE]?;
     keep_input(alloc, name, most, desk, keeper, &mut buffer)
 }
 
@@ -135,9 +126,7 @@ pub fn read_whole<D: Desk>(
     requires allowed { IsAllowed name.now (D.seen desk.old).told.may_open }
     requires few { most < 2 ^ 32 }
     ensures bytes { IfOk result (λ bytes. OfInput name.now (D.seen desk.old).told.inputs (λ content. bytes.items ≡ take (most + 1) content)) }
-    ensures stops { IfErr result (λ refusal. StopsReading name.now refusal (D.seen desk.old) (D.seen desk.new)) }
-    ensures reads { OnlyReads name.now most Always (D.seen desk.old) (D.seen desk.new) }
-    ensures through { IfOk result (λ _. ReadsThrough name.now most Always (D.seen desk.old) (D.seen desk.new)) }
+    ensures takes { Takes (a_raw name.now most ∷ []) result (D.seen desk.old) (D.seen desk.new) }
 {
     let mut bytes = Vec::new(alloc);
     read_pieces(alloc, name, most, desk, &mut bytes)?;

@@ -1,18 +1,13 @@
 //! Refusals, said as the last act.
 
-ghost use Rattle.std.specs.Prelude.{◌≡◌, IfErr, IfOk};
-ghost use Rattle.capture_desk.specs.Desks.{Seen};
-ghost use Rattle.command_texts.specs.Answers.{answer_of};
+ghost use Rattle.std.specs.Prelude.{◌≡◌};
 ghost use Rattle.command_texts.specs.Texts.{answer_text};
 ghost use Rattle.command_steps.specs.Outputs.{Refused, SaysAtOnce};
 
 use bt878_words::UsageFault;
 use capture_desk::{Desk, say_all};
-use command_texts::{
-    Answer, NO_MEMORY, READ_FAULT, Refusal, chain_text, desc_text, geometry_text, listing_text,
-    malformed_text, rejected_text, ring_text, usage_text,
-};
-use std::alloc::{AllocError, Global};
+use command_texts::{Answer, NO_MEMORY, Refusal, refusal_text, usage_text};
+use std::alloc::Global;
 
 /// Says a text as the last act: a fault of the desk changes nothing more.
 fn say_last<D: Desk>(text: &[u8], desk: &mut D)
@@ -22,39 +17,15 @@ fn say_last<D: Desk>(text: &[u8], desk: &mut D)
     let _ = say_all(desk, text);
 }
 
-/// Says the text of a refusal. The error is want of memory for it, and nothing was said.
-fn say_refusal<D: Desk>(alloc: Global, refusal: &Refusal, desk: &mut D) -> Result<(), AllocError>
-    ensures reads { (D.seen desk.new).reads ≡ (D.seen desk.old).reads }
-    ensures says { IfOk result (λ _. SaysAtOnce (answer_text (answer_of refusal.now)) (D.seen desk.old) (D.seen desk.new)) }
-    ensures same { IfErr result (λ _. D.seen desk.new ≡ D.seen desk.old) }
-{
-    let text = match refusal {
-        Refusal::ReadFault => {
-            say_last(READ_FAULT.as_bytes(), desk);
-            return Ok(());
-        }
-        Refusal::NoMemory => {
-            say_last(NO_MEMORY.as_bytes(), desk);
-            return Ok(());
-        }
-        Refusal::Malformed(input, fault) => malformed_text(alloc, *input, fault.at, fault.kind)?,
-        Refusal::BadDesc(fault) => desc_text(alloc, fault)?,
-        Refusal::BadGeometry(fault) => geometry_text(alloc, *fault)?,
-        Refusal::BadChain(fault) => chain_text(alloc, *fault)?,
-        Refusal::BadRing(fault) => ring_text(alloc, fault)?,
-        Refusal::BadText(fault) => listing_text(alloc, *fault)?,
-        Refusal::Rejected { at, nth, cause } => rejected_text(alloc, *at, *nth, *cause)?,
-    };
-    say_last(&text, desk);
-    Ok(())
-}
-
 /// Says the text of a refusal, and answers it; `NoMemory` where there is no memory for the text.
 pub fn refuse<D: Desk>(alloc: Global, refusal: Refusal, desk: &mut D) -> Answer
     ensures { Refused refusal result (D.seen desk.old) (D.seen desk.new) }
 {
-    match say_refusal(alloc, &refusal, desk) {
-        Ok(()) => refusal.into_answer(),
+    match refusal_text(alloc, &refusal) {
+        Ok(text) => {
+            say_last(text.as_bytes(), desk);
+            refusal.into_answer()
+        }
         Err(_) => {
             say_last(NO_MEMORY.as_bytes(), desk);
             Answer::NoMemory

@@ -27,6 +27,8 @@ use Rattle.ring_compile.specs.Files as ring_keys
 use Rattle.risc_asm.specs.Words.{listing_words}
 use Rattle.command_texts.specs.declared.answer.Answer.{Answer}
 use Rattle.command_texts.specs.declared.answer.Answer.TheVariants.{Done, Usage, ReadFault, WriteFault, Malformed, BadDesc, BadGeometry, BadChain, BadRing, BadText, Rejected, NoMemory}
+use Rattle.command_texts.specs.declared.texts.RefusalText.{RefusalText}
+use Rattle.command_texts.specs.declared.texts.RefusalText.TheVariants.{Ready, Made}
 
 abbrev pub byte_text : ℕ → List ℕ
 byte_text n = hex 2 n
@@ -132,6 +134,11 @@ answer_text (Rejected at nth cause) =
     codes "rejected at " ++ (address_text at ++ (codes ", step " ++ (decimal nth
     ++ (codes ": " ++ (cause_words cause ++ line_end)))))
 answer_text NoMemory = codes "no memory\n"
+
+-- the bytes of a text that stands ready, or of one that was made
+abbrev pub refusal_bytes : RefusalText → List ℕ
+refusal_bytes (Ready text) = text.now
+refusal_bytes (Made text) = text.items
 
 -- a report: the turns taken, the bytes stored, the pushes lost and INT_STAT
 abbrev pub lost_words : List ℕ → List ℕ

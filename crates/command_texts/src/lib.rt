@@ -8,6 +8,6 @@ mod texts;
 pub use answer::Answer;
 pub use refusal::Refusal;
 pub use texts::{
-    ACCEPTED, NO_MEMORY, READ_FAULT, blocks_text, built_text, chain_text, desc_text, geometry_text,
-    listing_text, made_text, malformed_text, rejected_text, report_text, ring_text, usage_text,
+    ACCEPTED, NO_MEMORY, RefusalText, blocks_text, built_text, made_text, refusal_text,
+    report_text, usage_text,
 };

@@ -1,12 +1,14 @@
 //! The texts that are said.
 
 ghost use Rattle.std.specs.Prelude.{◌≡◌, IfOk, Some, codes, string_bytes};
-ghost use Rattle.command_texts.specs.Texts.{answer_text, blocks_text, built_text, cause_words, input_words, key_text, kind_words, lost_words, made_text, not_toml_text, report_text, ring_place_text};
+ghost use Rattle.command_texts.specs.Answers.{answer_of};
+ghost use Rattle.command_texts.specs.Texts.{answer_text, blocks_text, built_text, cause_words, input_words, key_text, kind_words, lost_words, made_text, not_toml_text, refusal_bytes, report_text, ring_place_text};
 
 use crate::answer::Answer;
+use crate::refusal::Refusal;
 use bt878_words::UsageFault;
 use capture_desc::DescFault;
-use capture_file::{FileKind, Input};
+use capture_file::{FileFault, FileKind, Input};
 use chain_model::ChainFault;
 use dma_machine::Report;
 use machine_model::Cause;
@@ -17,7 +19,7 @@ use std::alloc::{AllocError, Global};
 use std::fmt;
 
 /// What is said where an input could not be read.
-pub const READ_FAULT: &str = "read fault\n";
+const READ_FAULT: &str = "read fault\n";
 
 /// What is said for want of memory.
 pub const NO_MEMORY: &str = "no memory\n";
@@ -104,7 +106,7 @@ pub fn usage_text(fault: UsageFault) -> &'static str
 }
 
 /// The text of a program that isn't sound.
-pub fn rejected_text(alloc: Global, at: u64, nth: u64, cause: Cause) -> Result<Vec<u8>, AllocError>
+fn rejected_text(alloc: Global, at: u64, nth: u64, cause: Cause) -> Result<Vec<u8>, AllocError>
     ensures { IfOk result (λ text. text.items ≡ answer_text (Answer.Rejected at nth cause)) }
 {
     let cause = CauseWords(cause);
@@ -140,7 +142,7 @@ fn key_text(alloc: Global, file: &str, fault: &str, key: &str) -> Result<Vec<u8>
 }
 
 /// The text of a file that holds no description.
-pub fn desc_text(alloc: Global, fault: &DescFault) -> Result<Vec<u8>, AllocError>
+fn desc_text(alloc: Global, fault: &DescFault) -> Result<Vec<u8>, AllocError>
     ensures { IfOk result (λ text. text.items ≡ answer_text (Answer.BadDesc fault.now)) }
 {
     let file = "description";
@@ -162,7 +164,7 @@ fn ring_place_text(alloc: Global, fault: BuildFault) -> Result<Vec<u8>, AllocErr
 }
 
 /// The text of a file that describes no ring.
-pub fn ring_text(alloc: Global, fault: &RingFault) -> Result<Vec<u8>, AllocError>
+fn ring_text(alloc: Global, fault: &RingFault) -> Result<Vec<u8>, AllocError>
     ensures { IfOk result (λ text. text.items ≡ answer_text (Answer.BadRing fault.now)) }
 {
     let file = "ring";
@@ -185,7 +187,7 @@ pub fn ring_text(alloc: Global, fault: &RingFault) -> Result<Vec<u8>, AllocError
 }
 
 /// The text of a geometry that has a fault.
-pub fn geometry_text(alloc: Global, fault: BuildFault) -> Result<Vec<u8>, AllocError>
+fn geometry_text(alloc: Global, fault: BuildFault) -> Result<Vec<u8>, AllocError>
     ensures { IfOk result (λ text. text.items ≡ answer_text (Answer.BadGeometry fault)) }
 {
     let text = format!(in alloc; "geometry: {fault}\n")?;
@@ -193,7 +195,7 @@ pub fn geometry_text(alloc: Global, fault: BuildFault) -> Result<Vec<u8>, AllocE
 }
 
 /// The text of two descriptions that make no chain.
-pub fn chain_text(alloc: Global, fault: ChainFault) -> Result<Vec<u8>, AllocError>
+fn chain_text(alloc: Global, fault: ChainFault) -> Result<Vec<u8>, AllocError>
     ensures { IfOk result (λ text. text.items ≡ answer_text (Answer.BadChain fault)) }
 {
     let text = format!(in alloc; "chain: {fault}\n")?;
@@ -201,7 +203,7 @@ pub fn chain_text(alloc: Global, fault: ChainFault) -> Result<Vec<u8>, AllocErro
 }
 
 /// What is said of a text that is no listing of a program.
-pub fn listing_text(alloc: Global, fault: AsmFault) -> Result<Vec<u8>, AllocError>
+fn listing_text(alloc: Global, fault: AsmFault) -> Result<Vec<u8>, AllocError>
     ensures { IfOk result (λ text. text.items ≡ answer_text (Answer.BadText fault)) }
 {
     let text = format!(in alloc; "listing: {fault}\n")?;
@@ -209,18 +211,54 @@ pub fn listing_text(alloc: Global, fault: AsmFault) -> Result<Vec<u8>, AllocErro
 }
 
 /// The text of a fault of a file.
-pub fn malformed_text(
-    alloc: Global,
-    input: Input,
-    at: u64,
-    kind: FileKind,
-) -> Result<Vec<u8>, AllocError>
-    ensures { IfOk result (λ text. text.items ≡ answer_text (Answer.Malformed input (record { at = at; kind = kind }))) }
+fn malformed_text(alloc: Global, input: Input, fault: FileFault) -> Result<Vec<u8>, AllocError>
+    ensures { IfOk result (λ text. text.items ≡ answer_text (Answer.Malformed input fault)) }
 {
+    let FileFault { at, kind } = fault;
     let input = input_words(input);
     let kind = KindWords(kind);
     let text = format!(in alloc; "{input}: {kind} at {at}\n")?;
     Ok(text.into_bytes())
+}
+
+/// The text of a refusal.
+#[derive(Drop)]
+pub enum RefusalText {
+    /// It stands ready, so that it can be said where no memory is left.
+    Ready(&'static str),
+    /// It was made.
+    Made(Vec<u8>),
+}
+
+impl RefusalText {
+    /// The bytes of the text.
+    pub fn as_bytes(&self) -> &[u8]
+        ensures { result.now ≡ refusal_bytes self.now }
+    {
+        match self {
+            RefusalText::Ready(text) => text.as_bytes(),
+            RefusalText::Made(text) => text.as_slice(),
+        }
+    }
+}
+
+/// The text of a refusal: that of the answer that it becomes. The error is want of memory; the texts of `ReadFault` and of
+/// `NoMemory` take none.
+pub fn refusal_text(alloc: Global, refusal: &Refusal) -> Result<RefusalText, AllocError>
+    ensures { IfOk result (λ text. refusal_bytes text ≡ answer_text (answer_of refusal.now)) }
+{
+    let text = match refusal {
+        Refusal::ReadFault => return Ok(RefusalText::Ready(READ_FAULT)),
+        Refusal::NoMemory => return Ok(RefusalText::Ready(NO_MEMORY)),
+        Refusal::Malformed(input, fault) => malformed_text(alloc, *input, *fault)?,
+        Refusal::BadDesc(fault) => desc_text(alloc, fault)?,
+        Refusal::BadGeometry(fault) => geometry_text(alloc, *fault)?,
+        Refusal::BadChain(fault) => chain_text(alloc, *fault)?,
+        Refusal::BadRing(fault) => ring_text(alloc, fault)?,
+        Refusal::BadText(fault) => listing_text(alloc, *fault)?,
+        Refusal::Rejected { at, nth, cause } => rejected_text(alloc, *at, *nth, *cause)?,
+    };
+    Ok(RefusalText::Made(text))
 }
 
 /// The pushes lost, in words.

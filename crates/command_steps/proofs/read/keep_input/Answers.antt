@@ -1,30 +1,24 @@
-use Rattle.std.proofs.Common.{[], ◌∙◌, ap}
-use Rattle.command_texts.specs.declared.refusal.Refusal.{Refusal}
-use Rattle.command_steps.specs.Inputs.{Always, apart}
-use Rattle.command_steps.proofs.Taking.{all_taken, always_read, both_done, taken}
+use Rattle.std.proofs.Common.{[], ◌∷◌}
+use Rattle.command_steps.specs.Inputs.{Always, a_raw}
+use Rattle.command_steps.proofs.Sequence.{stops_with}
+use Rattle.command_steps.proofs.Taking.{always_read}
+use Rattle.command_steps.proofs.Opening.{not_opened, raw_is_there, stops_at_rest, takes_opened}
 use Rattle.command_steps.proofs.read.keep_input.Goals as goal
 
-pub returns-clause-reads : goal.returns-clause-reads
-returns-clause-reads g c =
+pub returns-in_err-open-clause-takes : goal.returns-in_err-open-clause-takes
+returns-in_err-open-clause-takes g c =
     let see = g.D.Desk.seen in
-    let e = c.in_ok-open.ensures in
-    record {
-      told = c.keep_rest.ensures.told ∙ ap apart e.opened.1;
-      writes = c.keep_rest.ensures.writes ∙ e.writes;
-      calls =
-          taken c.args.name.now c.args.most Always _ Refusal c.in_ok-open.field-0 (see c.args.desk.now) (see c.open.new.desk) (see c.keep_rest.new.desk) (λ at. Always [])
-          e.opened.0 e.opened.1 (λ at h. always_read (see c.open.new.desk).told.rest at) e.calls c.keep_rest.ensures.calls;
-    }
+    let input = a_raw c.args.name.now c.args.most in
+    let e = c.in_err-open.ensures in
+    stops_with (input ∷ []) c.from_residual.result c.in_err-open.field-0.0 (see c.args.desk.now) (see c.open.new.desk) c.from_residual.ensures.1
+    (not_opened input (see c.args.desk.now) (Unit {0}) c.in_err-open.field-0.0 (see c.open.new.desk) e.opened e.writes e.calls)
 
-pub returns-clause-through : goal.returns-clause-through
-returns-clause-through g c =
+pub returns-clause-takes : goal.returns-clause-takes
+returns-clause-takes g c =
     let see = g.D.Desk.seen in
     let e = c.in_ok-open.ensures in
-    both_done c.keep_rest.result
-    (λ quiet through. record {
-      reads = quiet ∙ e.quiet;
-      calls =
-          all_taken c.args.name.now c.args.most Always _ Refusal c.in_ok-open.field-0 (see c.args.desk.now) (see c.open.new.desk) (see c.keep_rest.new.desk) (λ at. Always [])
-          e.opened.0 e.opened.1 (λ at h. always_read (see c.open.new.desk).told.rest at) e.calls through;
-    })
-    c.keep_rest.ensures.quiet c.keep_rest.ensures.through
+    let k = c.keep_rest.ensures in
+    takes_opened (a_raw c.args.name.now c.args.most) (see c.args.desk.now) c.in_ok-open.field-0 (see c.open.new.desk) (see c.keep_rest.new.desk) e.opened e.writes e.quiet e.calls
+    (λ at. Always []) (λ at h. always_read (see c.open.new.desk).told.rest at) k.told k.writes c.keep_rest.result k.quiet k.calls k.through
+    (raw_is_there c.keep_rest.result c.args.name.now (see c.args.desk.now).told (see c.open.new.desk).told e.opened.0 e.opened.1)
+    (stops_at_rest (a_raw c.args.name.now c.args.most) (see c.args.desk.now) c.keep_rest.result (see c.open.new.desk) (see c.keep_rest.new.desk) e.quiet k.stops)

@@ -52,7 +52,7 @@ loop-at-preserved g c =
       told = e.told ∙ ap (λ t. after_read n t) i.told ∙ after_read-after_read at n _;
       taken =
           more_kept (kept c.args.keeper.now) (kept c.loop-at.keeper) (kept c.keep.new.self) at n _ c.read_into.new.buffer i.taken
-          (subst (λ (t : Told). OfRest t.rest (λ rest. IsPiece n rest c.read_into.new.buffer)) i.told e.piece) c.in-Ok-keep.ensures;
+          (subst (λ (t : Told). OfRest t.rest (λ rest. IsPiece n rest c.read_into.new.buffer)) i.told e.piece) c.in_ok-keep.ensures;
       counts = (e.counts.0 ∙ i.counts.0, e.counts.1 ∙ i.counts.1);
       calls =
           read_more Before c.args.most at c.min-piece.result n (see c.args.desk.now) (see c.loop-at.desk) (see c.read_into.new.desk) i.calls
@@ -88,8 +88,8 @@ returns-then-count-eq0-clause-through g c =
     all_read_end Before c.args.most at c.min-piece.result c.in-Ok.count (see c.args.desk.now) (see c.loop-at.desk) (see c.read_into.new.desk) c.loop-at.invariant.calls
     (next_read c.args.most at c.min-piece.result (omega (arith, c.loop-at-test.true)) c.min-piece.ensures) c.if-count-eq0.true c.in-Ok.ensures.calls
 
-pub returns-in-Err-keep-clause-calls : goal.returns-in-Err-keep-clause-calls
-returns-in-Err-keep-clause-calls g c =
+pub returns-in_err-keep-clause-calls : goal.returns-in_err-keep-clause-calls
+returns-in_err-keep-clause-calls g c =
     let see = g.D.Desk.seen in
     let at = c.loop-at.at in
     read_end Before c.args.most at c.min-piece.result c.in-Ok.count (see c.args.desk.now) (see c.loop-at.desk) (see c.read_into.new.desk) c.loop-at.invariant.calls
