@@ -5,7 +5,9 @@ use Rattle.capture_desc.specs.declared.desc.Desc.{Desc}
 use Rattle.picture_model.specs.Geometry.{frame_fault}
 use Rattle.chain_model.specs.declared.ChainFault.{ChainFault}
 use Rattle.double_buffer.specs.Faults.{chain_fault}
+use Rattle.double_buffer.specs.Pairs.{first_of_two}
 use Rattle.double_buffer.specs.Promises.{IsPair}
+use Rattle.slot_chain.specs.States.{ChainState}
 use Rattle.command_texts.specs.declared.refusal.Refusal.{Refusal}
 use Rattle.command_texts.specs.declared.refusal.Refusal.TheVariants.{BadChain, NoMemory}
 use Rattle.command_steps.specs.Inputs.{Always, ByBytes, Input, Judge, OfInput}
@@ -81,3 +83,21 @@ abbrev pub IsBadWith : Desc → List ℕ → Refusal → Option Inputs → Type 
 IsBadWith first name (BadChain fault) told =
     OfInput name told (λ bytes. (second : Desc) × (frame_of bytes ≡ Ok second) × (chain_fault first second ≡ Some fault))
 IsBadWith first name refusal told = IsBadDescBy frame_fault name refusal told
+
+-- a file is that of a description that makes a chain with the first
+abbrev pub HoldsSecondWith : Desc → List ℕ → Type 0
+HoldsSecondWith first bytes = (second : Desc) × (frame_of bytes ≡ Ok second) × IsPair first second
+
+abbrev pub second_with : Desc → Judge
+second_with first =
+    record { most = longest_description; MayGoOn = Always; IsGood = ByBytes (HoldsSecondWith first); IsBad = IsBadWith first }
+
+abbrev pub a_second_with : Desc → List ℕ → Input
+a_second_with first name = record { name = name; judge = second_with first }
+
+-- the chain, before its first step, of a description and of that of a second file
+pub record IsPairedBy (first : Desc) (name : List ℕ) (told : Option Inputs) (buffer : ChainState) : Type 0 where
+  pub second : Desc
+  pub reads : OfInput name told (λ bytes. IsFrameFile bytes second)
+  pub pair : IsPair first second
+  pub begins : buffer ≡ first_of_two first second

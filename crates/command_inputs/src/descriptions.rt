@@ -1,13 +1,13 @@
 //! A description file, read and judged.
 
-ghost use Rattle.std.specs.Prelude.{◌≡◌, ◌≤◌, length, IfErr, IfOk, Ok};
+ghost use Rattle.std.specs.Prelude.{◌≡◌, ◌≤◌, [], ◌∷◌, length, IfErr, IfOk, Ok};
 ghost use Rattle.capture_desc.specs.Description.{described};
 ghost use Rattle.capture_desc.specs.WellFormed.{IsWellFormed};
 ghost use Rattle.capture_desk.specs.Desks.{IsAllowed};
-ghost use Rattle.command_steps.specs.Inputs.{Always, OfInput, StopsAt};
-ghost use Rattle.command_steps.specs.Reading.{OnlyReads, ReadsThrough};
-ghost use Rattle.command_inputs.specs.Chains.{IsFrameFile};
-ghost use Rattle.command_inputs.specs.Descriptions.{Describes, IsBadDesc, IsBadDescBy, IsRefused, Misreads, geometry_refusal, longest_description};
+ghost use Rattle.command_steps.specs.Inputs.{OfInput};
+ghost use Rattle.command_steps.specs.Reading.{Takes};
+ghost use Rattle.command_inputs.specs.Chains.{IsFrameFile, a_first_description};
+ghost use Rattle.command_inputs.specs.Descriptions.{Describes, IsRefused, Misreads, a_description, geometry_refusal, longest_description};
 ghost use Rattle.picture_model.specs.Geometry.{first_fault, frame_fault};
 
 use crate::limited::read_limited;
@@ -51,10 +51,7 @@ fn check_bytes(alloc: Global, bytes: &[u8]) -> Result<Checked, Refusal>
     ensures describes { IfOk result (Describes bytes.now) }
     ensures refuses { IfErr result (IsRefused first_fault bytes.now) }
 {
-    let desc = match parse(alloc, bytes) {
-        Ok(desc) => desc,
-        Err(refusal) => return Err(refusal),
-    };
+    let desc = parse(alloc, bytes)?;
     match check(alloc, desc) {
         Ok(checked) => Ok(checked),
         Err(error) => Err(geometry_refusal(error)),
@@ -67,10 +64,7 @@ fn frame_bytes(alloc: Global, bytes: &[u8]) -> Result<Frame, Refusal>
     ensures describes { IfOk result (IsFrameFile bytes.now) }
     ensures refuses { IfErr result (IsRefused frame_fault bytes.now) }
 {
-    let desc = match parse(alloc, bytes) {
-        Ok(desc) => desc,
-        Err(refusal) => return Err(refusal),
-    };
+    let desc = parse(alloc, bytes)?;
     match Frame::new(alloc, desc) {
         Ok(frame) => Ok(frame),
         Err(error) => Err(geometry_refusal(error)),
@@ -83,15 +77,10 @@ fn frame_bytes(alloc: Global, bytes: &[u8]) -> Result<Frame, Refusal>
 pub fn check_file<D: Desk>(alloc: Global, name: &str, desk: &mut D) -> Result<Checked, Refusal>
     requires { IsAllowed name.now (D.seen desk.old).told.may_open }
     ensures describes { IfOk result (λ checked. OfInput name.now (D.seen desk.old).told.inputs (λ bytes. Describes bytes checked)) }
-    ensures stops { IfErr result (λ refusal. StopsAt IsBadDesc name.now refusal (D.seen desk.old) (D.seen desk.new)) }
-    ensures reads { OnlyReads name.now longest_description Always (D.seen desk.old) (D.seen desk.new) }
-    ensures through { IfOk result (λ _. ReadsThrough name.now longest_description Always (D.seen desk.old) (D.seen desk.new)) }
+    ensures takes { Takes (a_description name.now ∷ []) result (D.seen desk.old) (D.seen desk.new) }
 {
     let bytes = read_limited(alloc, name, LONGEST_DESCRIPTION, Input::Desc, desk)?;
-    match check_bytes(alloc, &bytes) {
-        Ok(checked) => Ok(checked),
-        Err(refusal) => Err(refusal),
-    }
+    check_bytes(alloc, &bytes)
 }
 
 /// Reads a description file of a chain, whose program isn't made: `Malformed` and `BadDesc` as `check_file`,
@@ -100,13 +89,8 @@ pub fn check_file<D: Desk>(alloc: Global, name: &str, desk: &mut D) -> Result<Ch
 pub fn frame_file<D: Desk>(alloc: Global, name: &str, desk: &mut D) -> Result<Frame, Refusal>
     requires { IsAllowed name.now (D.seen desk.old).told.may_open }
     ensures describes { IfOk result (λ frame. OfInput name.now (D.seen desk.old).told.inputs (λ bytes. IsFrameFile bytes frame)) }
-    ensures stops { IfErr result (λ refusal. StopsAt (IsBadDescBy frame_fault) name.now refusal (D.seen desk.old) (D.seen desk.new)) }
-    ensures reads { OnlyReads name.now longest_description Always (D.seen desk.old) (D.seen desk.new) }
-    ensures through { IfOk result (λ _. ReadsThrough name.now longest_description Always (D.seen desk.old) (D.seen desk.new)) }
+    ensures takes { Takes (a_first_description name.now ∷ []) result (D.seen desk.old) (D.seen desk.new) }
 {
     let bytes = read_limited(alloc, name, LONGEST_DESCRIPTION, Input::Desc, desk)?;
-    match frame_bytes(alloc, &bytes) {
-        Ok(frame) => Ok(frame),
-        Err(refusal) => Err(refusal),
-    }
+    frame_bytes(alloc, &bytes)
 }

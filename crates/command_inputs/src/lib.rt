@@ -8,8 +8,8 @@ mod listings;
 mod programs;
 mod rings;
 
-pub use chains::{Paired, buffer_file};
+pub use chains::buffer_file;
 pub use descriptions::{check_file, frame_file};
 pub use listings::assemble_file;
-pub use programs::{Loaded, accept, read_file, verify_program};
+pub use programs::{Loaded, accept, read_file};
 pub use rings::ring_file;

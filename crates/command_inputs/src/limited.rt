@@ -1,10 +1,10 @@
 //! Files that may have so many bytes and no more, read whole.
 
-ghost use Rattle.std.specs.Prelude.{◌≡◌, ◌<◌, ◌≤◌, ◌^◌, vec_len, IfErr, IfOk};
+ghost use Rattle.std.specs.Prelude.{◌≡◌, ◌<◌, ◌≤◌, ◌^◌, [], ◌∷◌, vec_len, IfOk};
 ghost use Rattle.capture_desk.specs.Desks.{IsAllowed};
-ghost use Rattle.command_steps.specs.Inputs.{Always, OfInput, StopsAt};
-ghost use Rattle.command_steps.specs.Reading.{OnlyReads, ReadsThrough};
-ghost use Rattle.command_inputs.specs.Limits.{IsLonger};
+ghost use Rattle.command_steps.specs.Inputs.{OfInput};
+ghost use Rattle.command_steps.specs.Reading.{Takes};
+ghost use Rattle.command_inputs.specs.Limits.{a_limited};
 
 use capture_desk::Desk;
 use capture_file::{FileFault, FileKind, Input};
@@ -24,9 +24,7 @@ pub fn read_limited<D: Desk>(
     requires few { most < 2 ^ 32 }
     ensures short { IfOk result (λ bytes. vec_len bytes ≤ most) }
     ensures whole { IfOk result (λ bytes. OfInput name.now (D.seen desk.old).told.inputs (λ content. bytes.items ≡ content)) }
-    ensures stops { IfErr result (λ refusal. StopsAt (IsLonger most file) name.now refusal (D.seen desk.old) (D.seen desk.new)) }
-    ensures reads { OnlyReads name.now most Always (D.seen desk.old) (D.seen desk.new) }
-    ensures through { IfOk result (λ _. ReadsThrough name.now most Always (D.seen desk.old) (D.seen desk.new)) }
+    ensures takes { Takes (a_limited most file name.now ∷ []) result (D.seen desk.old) (D.seen desk.new) }
 {
     let bytes = read_whole(alloc, name, most, desk)?;
     if bytes.len() > most {

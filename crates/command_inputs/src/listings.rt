@@ -1,11 +1,11 @@
 //! A text, read and assembled.
 
-ghost use Rattle.std.specs.Prelude.{◌≡◌, ◌+◌, ◌++◌, take, IfErr, IfOk};
+ghost use Rattle.std.specs.Prelude.{◌≡◌, ◌+◌, ◌++◌, [], ◌∷◌, take, IfOk};
 ghost use Rattle.capture_desk.specs.Desks.{IsAllowed};
-ghost use Rattle.command_steps.specs.Inputs.{Always, OfInput, StopsAt, StopsReading};
-ghost use Rattle.command_steps.specs.Reading.{OnlyReads, ReadsThrough};
+ghost use Rattle.command_steps.specs.Inputs.{OfInput, a_raw};
+ghost use Rattle.command_steps.specs.Reading.{Takes};
 ghost use Rattle.risc_asm.specs.Answers.{most_bytes};
-ghost use Rattle.command_inputs.specs.Listings.{GivesAssembled, IsBadText};
+ghost use Rattle.command_inputs.specs.Listings.{GivesAssembled, a_listing};
 
 use capture_desk::Desk;
 use capture_file::ProgramFile;
@@ -35,9 +35,7 @@ impl Keeps for Pieces {
 fn read_text<D: Desk>(alloc: Global, name: &str, desk: &mut D) -> Result<Text, Refusal>
     requires { IsAllowed name.now (D.seen desk.old).told.may_open }
     ensures bytes { IfOk result (λ text. OfInput name.now (D.seen desk.old).told.inputs (λ content. text ≡ take (most_bytes + 1) content)) }
-    ensures stops { IfErr result (λ refusal. StopsReading name.now refusal (D.seen desk.old) (D.seen desk.new)) }
-    ensures reads { OnlyReads name.now most_bytes Always (D.seen desk.old) (D.seen desk.new) }
-    ensures through { IfOk result (λ _. ReadsThrough name.now most_bytes Always (D.seen desk.old) (D.seen desk.new)) }
+    ensures takes { Takes (a_raw name.now most_bytes ∷ []) result (D.seen desk.old) (D.seen desk.new) }
 {
     let mut pieces = Pieces {
         text: Text::new(alloc),
@@ -56,9 +54,7 @@ pub fn assemble_file<D: Desk>(
 ) -> Result<ProgramFile, Refusal>
     requires { IsAllowed name.now (D.seen desk.old).told.may_open }
     ensures assembles { IfOk result (λ file. OfInput name.now (D.seen desk.old).told.inputs (λ bytes. GivesAssembled bytes file)) }
-    ensures stops { IfErr result (λ refusal. StopsAt IsBadText name.now refusal (D.seen desk.old) (D.seen desk.new)) }
-    ensures reads { OnlyReads name.now most_bytes Always (D.seen desk.old) (D.seen desk.new) }
-    ensures through { IfOk result (λ _. ReadsThrough name.now most_bytes Always (D.seen desk.old) (D.seen desk.new)) }
+    ensures takes { Takes (a_listing name.now ∷ []) result (D.seen desk.old) (D.seen desk.new) }
 {
     let text = read_text(alloc, name, desk)?;
     match text.assemble(alloc) {

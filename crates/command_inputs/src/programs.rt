@@ -1,12 +1,12 @@
 //! A program file, read and judged.
 
-ghost use Rattle.std.specs.Prelude.{◌≡◌, ◌<◌, IfErr, IfOk, Ok};
+ghost use Rattle.std.specs.Prelude.{◌≡◌, ◌<◌, [], ◌∷◌, IfErr, IfOk, Ok};
 ghost use Rattle.capture_desk.specs.Desks.{IsAllowed};
 ghost use Rattle.capture_file.specs.Programs.{program_of};
-ghost use Rattle.command_steps.specs.Inputs.{Always, OfInput, StopsAt};
-ghost use Rattle.command_steps.specs.Reading.{OnlyReads, ReadsThrough};
+ghost use Rattle.command_steps.specs.Inputs.{OfInput};
+ghost use Rattle.command_steps.specs.Reading.{Takes};
 ghost use Rattle.machine_model.specs.Paths.{IsSound};
-ghost use Rattle.command_inputs.specs.Programs.{Accepts, IsBadFile, IsBadProgram, IsRefused, Misreads, longest_program};
+ghost use Rattle.command_inputs.specs.Programs.{Accepts, IsRefused, Misreads, a_program, a_sound_program};
 ghost use Rattle.risc_verify.specs.Verdicts.{Refuses};
 
 use capture_desk::Desk;
@@ -46,15 +46,10 @@ fn parse(alloc: Global, bytes: &[u8]) -> Result<ProgramFile, Refusal>
 pub fn read_file<D: Desk>(alloc: Global, name: &str, desk: &mut D) -> Result<ProgramFile, Refusal>
     requires { IsAllowed name.now (D.seen desk.old).told.may_open }
     ensures file { IfOk result (λ file. OfInput name.now (D.seen desk.old).told.inputs (λ bytes. program_of bytes ≡ Ok file)) }
-    ensures stops { IfErr result (λ refusal. StopsAt IsBadFile name.now refusal (D.seen desk.old) (D.seen desk.new)) }
-    ensures reads { OnlyReads name.now longest_program Always (D.seen desk.old) (D.seen desk.new) }
-    ensures through { IfOk result (λ _. ReadsThrough name.now longest_program Always (D.seen desk.old) (D.seen desk.new)) }
+    ensures takes { Takes (a_program name.now ∷ []) result (D.seen desk.old) (D.seen desk.new) }
 {
     let bytes = read_whole(alloc, name, LONGEST_PROGRAM, desk)?;
-    match parse(alloc, &bytes) {
-        Ok(file) => Ok(file),
-        Err(refusal) => Err(refusal),
-    }
+    parse(alloc, &bytes)
 }
 
 /// Verifies a program. The verifier's steps are counted in the ledger of `blank`.
@@ -76,7 +71,7 @@ fn verify_over<L: Ledger>(alloc: Global, program: Program, blank: Blank) -> Resu
 /// Verifies a program. The verifier's steps are counted in a ledger of their own. Errors: `Bad` with the
 /// first place of the program's path that isn't fine, only where the program isn't sound; `Memory` for want
 /// of memory (what a fault is, and their order, is this project's own rule).
-pub fn verify_program(alloc: Global, program: Program) -> Result<Accepted, Why>
+fn verify_program(alloc: Global, program: Program) -> Result<Accepted, Why>
     ensures accepted { IfOk result (λ accepted. accepted ≡ program) }
     ensures refused { IfErr result (λ why. Refuses program why) }
     ensures sound { IfOk result IsSound }
@@ -101,9 +96,7 @@ fn judge(alloc: Global, file: ProgramFile) -> Result<Loaded, Refusal>
 pub fn accept<D: Desk>(alloc: Global, name: &str, desk: &mut D) -> Result<Loaded, Refusal>
     requires { IsAllowed name.now (D.seen desk.old).told.may_open }
     ensures accepts { IfOk result (λ loaded. OfInput name.now (D.seen desk.old).told.inputs (λ bytes. Accepts (program_of bytes) loaded.accepted loaded.fill)) }
-    ensures stops { IfErr result (λ refusal. StopsAt IsBadProgram name.now refusal (D.seen desk.old) (D.seen desk.new)) }
-    ensures reads { OnlyReads name.now longest_program Always (D.seen desk.old) (D.seen desk.new) }
-    ensures through { IfOk result (λ _. ReadsThrough name.now longest_program Always (D.seen desk.old) (D.seen desk.new)) }
+    ensures takes { Takes (a_sound_program name.now ∷ []) result (D.seen desk.old) (D.seen desk.new) }
 {
     let file = read_file(alloc, name, desk)?;
     judge(alloc, file)

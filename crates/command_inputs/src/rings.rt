@@ -1,10 +1,10 @@
 //! A ring file, read and judged.
 
-ghost use Rattle.std.specs.Prelude.{◌≤◌, length, IfErr, IfOk};
+ghost use Rattle.std.specs.Prelude.{◌≤◌, [], ◌∷◌, length, IfErr, IfOk};
 ghost use Rattle.capture_desk.specs.Desks.{IsAllowed};
-ghost use Rattle.command_steps.specs.Inputs.{Always, OfInput, StopsAt};
-ghost use Rattle.command_steps.specs.Reading.{OnlyReads, ReadsThrough};
-ghost use Rattle.command_inputs.specs.Rings.{IsBadRing, IsRefused, IsRingFile, longest_ring};
+ghost use Rattle.command_steps.specs.Inputs.{OfInput};
+ghost use Rattle.command_steps.specs.Reading.{Takes};
+ghost use Rattle.command_inputs.specs.Rings.{IsRefused, IsRingFile, a_ring, longest_ring};
 
 use crate::limited::read_limited;
 use capture_desk::Desk;
@@ -34,13 +34,8 @@ fn read_bytes(alloc: Global, bytes: &[u8]) -> Result<Ring, Refusal>
 pub fn ring_file<D: Desk>(alloc: Global, name: &str, desk: &mut D) -> Result<Ring, Refusal>
     requires { IsAllowed name.now (D.seen desk.old).told.may_open }
     ensures ring { IfOk result (λ ring. OfInput name.now (D.seen desk.old).told.inputs (λ bytes. IsRingFile bytes ring)) }
-    ensures stops { IfErr result (λ refusal. StopsAt IsBadRing name.now refusal (D.seen desk.old) (D.seen desk.new)) }
-    ensures reads { OnlyReads name.now longest_ring Always (D.seen desk.old) (D.seen desk.new) }
-    ensures through { IfOk result (λ _. ReadsThrough name.now longest_ring Always (D.seen desk.old) (D.seen desk.new)) }
+    ensures takes { Takes (a_ring name.now ∷ []) result (D.seen desk.old) (D.seen desk.new) }
 {
     let bytes = read_limited(alloc, name, LONGEST_RING, Input::Ring, desk)?;
-    match read_bytes(alloc, &bytes) {
-        Ok(ring) => Ok(ring),
-        Err(refusal) => Err(refusal),
-    }
+    read_bytes(alloc, &bytes)
 }

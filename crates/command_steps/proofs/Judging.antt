@@ -5,8 +5,8 @@ use Rattle.capture_desk.specs.declared.calls.Call.{Call}
 use Rattle.capture_desk.specs.declared.calls.Call.TheVariants.{OpenIn, Read, CreateOut, Finish, Say}
 use Rattle.capture_desk.specs.Desks.{Inputs, Seen}
 use Rattle.command_texts.specs.declared.refusal.Refusal.{Refusal}
-use Rattle.command_texts.specs.declared.refusal.Refusal.TheVariants.{NoMemory}
-use Rattle.command_steps.specs.Inputs.{Input, Judge, OfInput, StopsAt, StopsIn}
+use Rattle.command_texts.specs.declared.refusal.Refusal.TheVariants.{NoMemory, ReadFault}
+use Rattle.command_steps.specs.Inputs.{Input, Judge, OfInput, StopsAt, StopsIn, raw_files}
 use Rattle.command_steps.specs.Reading.{AreAllReads, AreReads, AreTakenUpTo, IsTaking, IsWholeTaking, Stopped, Takes, Took}
 use Rattle.command_steps.proofs.Sequence.{stops_with}
 
@@ -33,6 +33,12 @@ taking_of_all name most MayGoOn told (Finish done ∷ calls) h = absurd h
 taking_of_all name most MayGoOn told (Say ∷ calls) h = absurd h
 
 -- ---- one judge in place of another that reads as far
+
+-- an input that is not judged yet is bad in no way
+pub raw_stops : (IsBad : List ℕ → Refusal → Option Inputs → Type 0) (most : ℕ) (name : List ℕ) (refusal : Refusal) (old new : Seen) → StopsAt (raw_files most).IsBad name refusal old new → StopsAt IsBad name refusal old new
+raw_stops IsBad most name ReadFault old new h = h
+raw_stops IsBad most name NoMemory old new h = tt
+raw_stops IsBad most name refusal old new h = absurd h
 
 module _ (name : List ℕ) (from to : Judge) where
   -- the input as it was judged at first, and as it is judged in the end

@@ -1,33 +1,61 @@
 -- What is read to one byte beyond the longest tells what the whole file is.
-use Rattle.std.proofs.Common.{◌≡◌, ◌+◌, ◌∙◌, List, ℕ, take, Ok, Err, ap, sym, subst}
+use Rattle.std.proofs.Common.{◌≡◌, ◌+◌, ◌∙◌, List, ℕ, take, Result, Ok, Err, IfErr, IfOk, ap, sym, subst}
+use Rattle.std.proofs.lemmas.Result.{IfErr-weaker, IfOk-weaker}
+use Rattle.capture_file.specs.declared.FileFault.{FileFault}
 use Rattle.capture_file.specs.declared.Input.TheVariants.{Program}
+use Rattle.capture_file.specs.declared.program.ProgramFile.{ProgramFile}
 use Rattle.capture_file.specs.Programs.{program_of}
 use Rattle.capture_desk.specs.Desks.{Seen}
 use Rattle.command_texts.specs.declared.refusal.Refusal.{Refusal}
 use Rattle.command_texts.specs.declared.refusal.Refusal.TheVariants.{Malformed, NoMemory, ReadFault}
-use Rattle.command_steps.specs.Inputs.{OfInput, StopsAt}
-use Rattle.command_inputs.specs.Programs.{IsBadFile, Misreads, longest_program}
+use Rattle.command_steps.specs.Inputs.{OfInput, StopsAt, raw_files}
 use Rattle.command_steps.proofs.Inputs.{OfInput-map}
+use Rattle.command_steps.proofs.Judging.{judged, not_judged, raw_stops}
+use Rattle.command_inputs.specs.Programs.{HoldsProgram, IsBadFile, Misreads, longest_program, program_files}
 use Rattle.command_inputs.proofs.WholeFiles.{read_is_whole}
 use Rattle.command_inputs.proofs.programs.read_file.Goals as goal
 
-misread : (name : List ℕ) (refusal : Refusal) (old new : Seen) (bytes : List ℕ) → OfInput name old.told.inputs (λ content. bytes ≡ take (longest_program + 1) content) →
-    Misreads (program_of bytes) refusal → StopsAt IsBadFile name refusal old new
-misread name (Malformed Program fault) old new bytes read h =
-    OfInput-map name old.told.inputs (λ content. bytes ≡ take (longest_program + 1) content) (λ content. program_of content ≡ Err fault)
-    (λ content e. sym (read_is_whole content) ∙ ap program_of (sym e) ∙ h) read
-misread name NoMemory old new bytes read h = tt
-misread name ReadFault old new bytes read h = absurd h
-misread name refusal old new bytes read h = h
+module _ (name : List ℕ) (old new : Seen) (bytes : List ℕ) (read : OfInput name old.told.inputs (λ content. bytes ≡ take (longest_program + 1) content)) where
+  -- what the bytes are found to be, the file is
+  whole_found : (found : Result ProgramFile FileFault) → program_of bytes ≡ found → OfInput name old.told.inputs (λ content. program_of content ≡ found)
+  whole_found found h =
+      OfInput-map name old.told.inputs (λ content. bytes ≡ take (longest_program + 1) content) (λ content. program_of content ≡ found)
+      (λ content e. sym (read_is_whole content) ∙ ap program_of (sym e) ∙ h) read
 
-pub returns-in-Ok-clause-file : goal.returns-in-Ok-clause-file
-returns-in-Ok-clause-file g c =
-    OfInput-map c.args.name.now (g.D.Desk.seen c.args.desk.now).told.inputs (λ content. c.in_ok-bytes.bytes.items ≡ take (longest_program + 1) content)
-    (λ content. program_of content ≡ Ok c.in-Ok.file)
-    (λ content e. sym (read_is_whole content) ∙ ap program_of (sym e) ∙ ap program_of (sym c.deref.ensures.value) ∙ c.in-Ok.ensures.reads) c.in_ok-bytes.ensures.bytes
+  misread : (refusal : Refusal) → Misreads (program_of bytes) refusal → StopsAt IsBadFile name refusal old new
+  misread (Malformed Program fault) h = whole_found (Err fault) h
+  misread NoMemory h = tt
+  misread ReadFault h = absurd h
+  misread refusal h = h
 
-pub returns-clause-stops : goal.returns-clause-stops
-returns-clause-stops g c =
-    let see = g.D.Desk.seen in
-    misread c.args.name.now c.in-Err.refusal (see c.args.desk.now) _ c.in_ok-bytes.bytes.items c.in_ok-bytes.ensures.bytes
-    (subst (λ bytes. Misreads (program_of bytes) c.in-Err.refusal) c.deref.ensures.value c.in-Err.ensures.misreads)
+pub returns-in_err-bytes-clause-takes : goal.returns-in_err-bytes-clause-takes
+returns-in_err-bytes-clause-takes g c =
+    let name = c.args.name.now in
+    let old = g.D.Desk.seen c.args.desk.now in
+    let new = g.D.Desk.seen c.read_whole.new.desk in
+    let refusal = c.in_err-bytes.field-0.0 in
+    not_judged name (raw_files longest_program) program_files c.from_residual.result refusal old new c.from_residual.ensures.1 (raw_stops IsBadFile longest_program name refusal old new) c.in_err-bytes.ensures.takes
+
+pub returns-clause-file : goal.returns-clause-file
+returns-clause-file g c =
+    let name = c.args.name.now in
+    let old = g.D.Desk.seen c.args.desk.now in
+    let bytes = c.in_ok-bytes.bytes.items in
+    let r = c.parse.result in
+    IfOk-weaker r (λ file. program_of bytes ≡ Ok file) (λ file. OfInput name old.told.inputs (λ content. program_of content ≡ Ok file))
+    (λ file. whole_found name old old bytes c.in_ok-bytes.ensures.bytes (Ok file)) (subst (λ bytes. IfOk r (λ file. program_of bytes ≡ Ok file)) c.deref.ensures.value c.parse.ensures.reads)
+
+pub returns-clause-takes : goal.returns-clause-takes
+returns-clause-takes g c =
+    let name = c.args.name.now in
+    let old = g.D.Desk.seen c.args.desk.now in
+    let new = g.D.Desk.seen c.read_whole.new.desk in
+    let bytes = c.in_ok-bytes.bytes.items in
+    let read = c.in_ok-bytes.ensures.bytes in
+    let r = c.parse.result in
+    judged name (raw_files longest_program) program_files r old new
+    (IfOk-weaker r (λ file. program_of bytes ≡ Ok file) (λ _. OfInput name old.told.inputs HoldsProgram)
+    (λ file h. OfInput-map name old.told.inputs (λ content. program_of content ≡ Ok file) HoldsProgram (λ content e. (file, e)) (whole_found name old new bytes read (Ok file) h))
+    (subst (λ bytes. IfOk r (λ file. program_of bytes ≡ Ok file)) c.deref.ensures.value c.parse.ensures.reads))
+    (IfErr-weaker r (Misreads (program_of bytes)) (λ refusal. StopsAt IsBadFile name refusal old new) (misread name old new bytes read)
+    (subst (λ bytes. IfErr r (Misreads (program_of bytes))) c.deref.ensures.value c.parse.ensures.misreads)) c.in_ok-bytes.ensures.takes

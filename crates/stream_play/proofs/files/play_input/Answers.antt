@@ -1,43 +1,46 @@
-use Rattle.std.proofs.Common.{◌∙◌, ap}
-use Rattle.command_steps.proofs.Inputs.{opened_input}
-use Rattle.stream_play.specs.Plays.{PlaysAll}
-use Rattle.command_steps.specs.Inputs.{apart}
-use Rattle.stream_play.proofs.Loading.{all_read_through, read_through}
+use Rattle.std.proofs.Common.{[], ◌∷◌, take}
+use Rattle.std.proofs.lemmas.Result.{IfErr-weaker, IfOk-weaker}
+use Rattle.command_steps.specs.Inputs.{OfInput, OfRest, StopsAt}
+use Rattle.command_steps.proofs.Inputs.{OfInput-map, opened_input}
+use Rattle.command_steps.proofs.Opening.{not_opened, takes_opened}
+use Rattle.command_steps.proofs.Sequence.{stops_with}
+use Rattle.stream_play.specs.Plays.{PlaysAll, StopsPlaying}
+use Rattle.stream_play.specs.Runs.{HoldsNoFault, HoldsSteps, IsBadStream, a_stream_file}
+use Rattle.stream_play.proofs.Loading.{stops_at_stream}
 use Rattle.stream_play.proofs.files.play_input.Goals as goal
 
-pub returns-in-Ok-clause-played : goal.returns-in-Ok-clause-played
-returns-in-Ok-clause-played g c =
-    let m = c.args.player.now in
-    let now = c.play.new.player in
+pub returns-in_err-open-clause-takes : goal.returns-in_err-open-clause-takes
+returns-in_err-open-clause-takes g c =
+    let input = a_stream_file g.P.Player.has_slots c.args.name.now in
+    let old = g.D.Desk.seen c.args.desk.now in
+    let new = g.D.Desk.seen c.open.new.desk in
+    let refusal = c.in_err-open.field-0.0 in
+    let e = c.in_err-open.ensures in
+    stops_with (input ∷ []) c.from_residual.result refusal old new c.from_residual.ensures.1 (not_opened input old (Unit {0}) refusal new e.opened e.writes e.calls)
+
+pub returns-clause-played : goal.returns-clause-played
+returns-clause-played g c =
+    let old = (g.D.Desk.seen c.args.desk.now).told in
     let opened = (g.D.Desk.seen c.open.new.desk).told in
-    opened_input c.args.name.now (g.D.Desk.seen c.args.desk.now).told opened (λ bytes. PlaysAll g.P.Player.act g.P.Player.has_slots bytes m now)
-    c.in_ok-open.ensures.opened.0 c.in_ok-open.ensures.opened.1 c.in-Ok.ensures.played
+    let e = c.in_ok-open.ensures.opened in
+    let P = PlaysAll g.P.Player.act g.P.Player.has_slots in
+    IfOk-weaker c.play.result (λ _. OfRest opened.rest (λ bytes. P bytes c.args.player.now c.play.new.player)) (λ _. OfInput c.args.name.now old.inputs (λ bytes. P bytes c.args.player.now c.play.new.player))
+    (λ done h. opened_input c.args.name.now old opened (λ bytes. P bytes c.args.player.now c.play.new.player) e.0 e.1 h) c.play.ensures.played
 
-pub returns-in-Ok-clause-reads : goal.returns-in-Ok-clause-reads
-returns-in-Ok-clause-reads g c =
-    let see = g.D.Desk.seen in
+pub returns-clause-takes : goal.returns-clause-takes
+returns-clause-takes g c =
+    let name = c.args.name.now in
+    let has_slots = g.P.Player.has_slots in
+    let old = g.D.Desk.seen c.args.desk.now in
+    let mid = g.D.Desk.seen c.open.new.desk in
+    let new = g.D.Desk.seen c.play.new.desk in
     let e = c.in_ok-open.ensures in
-    record {
-      told = c.in-Ok.ensures.told ∙ ap apart e.opened.1;
-      writes = c.in-Ok.ensures.writes ∙ e.writes;
-      calls = read_through g.P.Player.has_slots c.args.name.now _ c.in_ok-open.field-0 (see c.args.desk.now) (see c.open.new.desk) (see c.play.new.desk) e.opened.0 e.opened.1 e.calls c.in-Ok.ensures.calls;
-    }
-
-pub returns-in-Ok-clause-through : goal.returns-in-Ok-clause-through
-returns-in-Ok-clause-through g c =
-    let see = g.D.Desk.seen in
-    let e = c.in_ok-open.ensures in
-    record {
-      reads = c.in-Ok.ensures.quiet ∙ e.quiet;
-      calls = all_read_through g.P.Player.has_slots c.args.name.now _ c.in_ok-open.field-0 (see c.args.desk.now) (see c.open.new.desk) (see c.play.new.desk) e.opened.0 e.opened.1 e.calls c.in-Ok.ensures.through;
-    }
-
-pub returns-in-Err-clause-reads : goal.returns-in-Err-clause-reads
-returns-in-Err-clause-reads g c =
-    let see = g.D.Desk.seen in
-    let e = c.in_ok-open.ensures in
-    record {
-      told = c.in-Err.ensures.told ∙ ap apart e.opened.1;
-      writes = c.in-Err.ensures.writes ∙ e.writes;
-      calls = read_through g.P.Player.has_slots c.args.name.now _ c.in_ok-open.field-0 (see c.args.desk.now) (see c.open.new.desk) (see c.play.new.desk) e.opened.0 e.opened.1 e.calls c.in-Err.ensures.calls;
-    }
+    let k = c.play.ensures in
+    let P = PlaysAll g.P.Player.act has_slots in
+    takes_opened (a_stream_file has_slots name) old c.in_ok-open.field-0 mid new e.opened e.writes e.quiet e.calls (λ at. OfRest mid.told.rest (λ bytes. HoldsNoFault has_slots (take at bytes))) (λ at h. h) k.told
+    k.writes c.play.result k.quiet k.calls k.through
+    (IfOk-weaker c.play.result (λ _. OfRest mid.told.rest (λ bytes. P bytes c.args.player.now c.play.new.player)) (λ _. OfInput name old.told.inputs (HoldsSteps has_slots))
+    (λ done h. OfInput-map name old.told.inputs (λ bytes. P bytes c.args.player.now c.play.new.player) (HoldsSteps has_slots) (λ bytes p. (p.0, p.1))
+    (opened_input name old.told mid.told (λ bytes. P bytes c.args.player.now c.play.new.player) e.opened.0 e.opened.1 h)) k.played)
+    (IfErr-weaker c.play.result (λ refusal. StopsPlaying has_slots mid.told.rest refusal mid new) (λ refusal. StopsAt (IsBadStream has_slots) name refusal old new)
+    (λ refusal. stops_at_stream has_slots refusal name old mid new e.opened.0 e.opened.1 e.quiet) k.stops)
