@@ -151,8 +151,23 @@ impl<R: Ram> Chain<R> {
         self.wheel.machine.stand(count);
     }
 
-    /// So many turns of the controller.
+    /// So many turns of the controller. Where the machine stands still they only count.
+    #[inline]
     pub fn turns(&mut self, count: u32)
+        ensures { self.new ≡ turned count self.old }
+    {
+        if self.stands_still() {
+            self.stand(count);
+        } else {
+            self.turns_apart(count);
+        }
+    }
+
+    /// The same turns of a machine that may move, up to where it stands still. It stands out of line, so that a machine that
+    /// stands still saves no registers.
+    #[cold]
+    #[inline(never)]
+    fn turns_apart(&mut self, count: u32)
         ensures { self.new ≡ turned count self.old }
     {
         for turn in 0..count {

@@ -1,6 +1,6 @@
 use Rattle.std.proofs.Common.{◌≡◌, ◌+◌, ◌-◌, arith, ◌∙◌}
 use Rattle.slot_chain.proofs.Counted.{turned_more, turned_rest}
-use Rattle.slot_chain.proofs.chain.Chain.turns.Goals as goal
+use Rattle.slot_chain.proofs.chain.Chain.turns_apart.Goals as goal
 
 pub loop-turn-preserved : goal.loop-turn-preserved
 loop-turn-preserved g c =
