@@ -26,7 +26,7 @@ use Rattle.command_steps.specs.Outputs.{EndsAtFault, Product, Says, delivered}
 use Rattle.command_steps.specs.Inputs.{AreGood, OfInput, SameCounts, ReadsRose, WritesRose, apart}
 use Rattle.command_texts.specs.Texts.{answer_text, made_text}
 use Rattle.stream_play.specs.Plays.{longest_stream}
-use Rattle.command_inputs.specs.Programs.{GivesSound, HoldsProgram, HoldsSound}
+use Rattle.command_inputs.specs.Programs.{GivesSound}
 use Rattle.bt878_contract.specs.Tasks.{IsListed}
 use Rattle.chain_model.specs.Chains.{Chain}
 use Rattle.chain_model.specs.Live.{LiveStep}
@@ -34,12 +34,12 @@ use Rattle.chain_law.specs.Runs.{KeepsLivePromises}
 use Rattle.stream_play.specs.Runs.{IsRun, LiveRan, OfRun, Ran}
 use Rattle.stream_play.proofs.Fitting.{steps_fit}
 use Rattle.command_steps.proofs.Inputs.{OfInput-map}
-use Rattle.command_inputs.specs.Descriptions.{GivesCompiled, GivesDescribed, HoldsValid}
-use Rattle.command_inputs.specs.Listings.{GivesAssembled, HoldsListing}
-use Rattle.command_inputs.specs.Rings.{GivesRing, GivesRingProgram, HoldsRing}
+use Rattle.command_inputs.specs.Descriptions.{GivesCompiled, GivesDescribed}
+use Rattle.command_inputs.specs.Listings.{GivesAssembled}
+use Rattle.command_inputs.specs.Rings.{GivesRing, GivesRingProgram}
 use Rattle.ring_model.specs.Rings.{Ring}
-use Rattle.bt878_contract.specs.Tasks.{Answers, ChainOf, DescMakes, Ends, IsDone, IsLiveRun, IsPartDone, IsRefused, ListingMakes, Makes, MakesBy, Meaning, MakesOther, Reports, ReportsBlocks, RunsChain, RunsProgram}
-use Rattle.bt878_contract.specs.Tasks.{IsWholeWork, RunMakes, RunOf, TellsRows, compiled_text, image_of_run, input_of, inputs_of, meaning, names_read, names_written, no_file, program_and_image, program_file, program_text}
+use Rattle.bt878_contract.specs.Tasks.{Answers, ChainOf, DescMakes, Ends, IsDone, IsLiveRun, IsPartDone, IsRefused, ListingMakes, MakesBy, Meaning, MakesOther, Reports, ReportsBlocks, RunsChain, RunsProgram}
+use Rattle.bt878_contract.specs.Tasks.{RunMakes, RunOf, TellsRows, compiled_text, image_of_run, input_of, inputs_of, meaning, names_read, names_written, no_file, program_and_image, program_file, program_text, sources}
 use Rattle.bt878_contract.specs.Clauses.{AreTold, CreatesNone, IsAssembled, IsBadInput, IsCompiled, IsCut, IsInOrder, IsGenerated, IsGood, IsOutput, IsRefusal, IsUnreadOf, IsUsage, OfDesc, OfDescRun}
 use Rattle.bt878_contract.specs.Clauses.{OfLive, OfLiveBy, OfLiveRun, OfLiveSteps, OfRan, OfRanBy, OfRingRun, OfSteps, OnlyOutputs, OnlySays, SameNames, SameOutput, SaysAccepted, SaysAll, SaysBlocks, SaysDamage}
 use Rattle.bt878_contract.specs.Clauses.{SaysListing, ShowsImage, ShowsLast, ShowsLastLive, ShowsProgram, StandsAt, StaysInside, TellsInput, UnlessCut}

@@ -1,16 +1,12 @@
 -- What follows of an input that the desk tells, and of a run over two.
 use Rattle.std.proofs.Common.{◌≡◌, ℕ, inl, inr, true, false, Bool, List, [], ◌∷◌, Option, Some, None, refl}
 use Rattle.capture_desk.specs.Desks.{Seen, Inputs, is_missing, named}
-use Rattle.machine_model.specs.Paths.{RiscProgram}
 use Rattle.command_texts.specs.declared.refusal.Refusal.TheVariants.{ReadFault}
 use Rattle.command_texts.specs.Answers.{answer_of}
-use Rattle.command_steps.specs.Inputs.{OfFile, OfInput, IsUnread}
-use Rattle.command_steps.specs.Outputs.{Product}
-use Rattle.stream_play.specs.Runs.{HoldsSteps, IsRun, OfRun, Ran}
+use Rattle.command_steps.specs.Inputs.{AreGood, Input, OfFile, OfInput, IsUnread}
+use Rattle.command_steps.specs.Reading.{AreTaken}
+use Rattle.capture_desk.specs.declared.calls.Call.{Call}
 use Rattle.command_steps.proofs.Inputs.{OfInput-map}
-use Rattle.capture_desc.specs.declared.desc.Desc.{Desc}
-use Rattle.command_inputs.specs.Chains.{GivesChain, HoldsFrame, HoldsSecond}
-use Rattle.bt878_contract.specs.Tasks.{ChainOf, RunOf}
 use Rattle.bt878_contract.specs.Clauses.{AreTold, IsCut}
 
 -- two facts of one input

@@ -5,8 +5,7 @@ use Rattle.std.proofs.lemmas.Bool.{or_parts}
 use Rattle.bt878_words.specs.declared.Task.{Task}
 use Rattle.bt878_words.specs.declared.UsageFault.{UsageFault}
 use Rattle.bt878_words.specs.declared.UsageFault.TheVariants.{SameName}
-use Rattle.bt878_words.specs.declared.Verb.{Verb}
-use Rattle.bt878_words.specs.Words.{Word, apart, apart_if, has_clash, named, reads, task_of, verb_named, with_verb, writes}
+use Rattle.bt878_words.specs.Words.{Word, apart_if, has_clash, named, reads, task_of, verb_named, with_verb, writes}
 use Rattle.capture_desk.specs.Desks.{IsAllowed, is_among}
 use Rattle.bt878_contract.specs.Tasks.{AreAllowed, AreNames}
 use Rattle.bt878_contract.proofs.Outputs.{AreApart, first_among, later_among}
@@ -23,13 +22,11 @@ no_clash_in (Ok found) task e =
     let u = unclashed (has_clash (reads found) (writes found)) found task e in
     subst (λ t. has_clash (reads t) (writes t) ≡ false) u.1 u.0
 
-no_clash_with : (verb : Option Verb) (others : List Word) (task : Task) → with_verb verb others ≡ Ok task → has_clash (reads task) (writes task) ≡ false
-no_clash_with None others task e = absurd (cc)
-no_clash_with (Some verb) others task e = no_clash_in (named verb others) task e
-
 no_clash : (words : List Word) (task : Task) → task_of words ≡ Ok task → has_clash (reads task) (writes task) ≡ false
 no_clash [] task e = absurd (cc)
-no_clash (word ∷ others) task e = no_clash_with (verb_named word.now) others task e
+no_clash (word ∷ others) task e =
+    (elim (verb_named word.now) as (λ verb. with_verb verb others ≡ Ok task → has_clash (reads task) (writes task) ≡ false)
+    [ None ↦ (λ e. absurd (cc)) | Some verb ↦ (λ e. no_clash_in (named verb others) task e) ]) e
 
 apart_from : (taken names : List (List ℕ)) → has_clash taken names ≡ false → AreApart names
 apart_from taken [] e = tt

@@ -2,7 +2,6 @@
 use Rattle.std.specs.Prelude.{◌≡◌, ℕ, ◌≤◌, ◌⊎◌, ⊤, false, true, List, [], ◌∷◌, ◌++◌, length, take, Option, Some, None, option_map, Result, Ok, Err}
 use Rattle.bt878_words.specs.declared.Task.{Task}
 use Rattle.bt878_words.specs.declared.UsageFault.{UsageFault}
-use Rattle.bt878_words.specs.Words.{writes}
 use Rattle.capture_desk.specs.Desks.{Seen, Inputs, Outputs, Tells, Told, said_by, is_among, is_missing, output_named}
 use Rattle.capture_desc.specs.declared.desc.Desc.{Desc}
 use Rattle.machine_model.specs.States.{State}
@@ -22,20 +21,20 @@ use Rattle.command_texts.specs.declared.answer.Answer.TheVariants.{Done, Usage, 
 use Rattle.command_texts.specs.declared.refusal.Refusal.{Refusal}
 use Rattle.command_texts.specs.declared.refusal.Refusal.TheVariants.{ReadFault, NoMemory}
 use Rattle.command_texts.specs.Answers.{answer_of}
-use Rattle.command_steps.specs.Outputs.{Product, names_of}
+use Rattle.command_steps.specs.Outputs.{Product}
 use Rattle.command_steps.specs.Reading.{Calls}
 use Rattle.command_steps.specs.Inputs.{AreGood, IsFirstBadOf, OfInput, ReadsRose, WritesRose}
 use Rattle.command_texts.specs.Texts.{accepted_text, answer_text, blocks_text, made_text, report_text}
-use Rattle.command_inputs.specs.Programs.{HoldsSound, GivesSound}
+use Rattle.command_inputs.specs.Programs.{HoldsSound}
 use Rattle.stream_play.specs.Runs.{IsRun, LiveRan, Ran, chain_ran, first_of, last_live_of, last_of, live_steps_of, OfRun}
-use Rattle.command_inputs.specs.Descriptions.{Describes, GivesCompiled, GivesDescribed}
+use Rattle.command_inputs.specs.Descriptions.{Describes, GivesDescribed}
 use Rattle.damage_text.specs.Texts.{damage_text}
 use Rattle.command_inputs.specs.Listings.{GivesAssembled}
-use Rattle.command_inputs.specs.Rings.{GivesRing, GivesRingProgram}
+use Rattle.command_inputs.specs.Rings.{GivesRing}
 use Rattle.chain_model.specs.Chains.{Chain}
 use Rattle.chain_model.specs.Live.{LiveStep}
 use Rattle.ring_model.specs.Rings.{Ring}
-use Rattle.bt878_contract.specs.Tasks.{ChainMeaning, IsLiveRun, IsPartOfWork, IsProduct, IsRefusedWork, IsWholeWork, Meaning, MakesOther, RunsChain, RunsProgram}
+use Rattle.bt878_contract.specs.Tasks.{IsLiveRun, IsPartOfWork, IsProduct, IsRefusedWork, IsWholeWork, Meaning, RunsChain, RunsProgram}
 use Rattle.bt878_contract.specs.Tasks.{blocks_of, rows_told, compiled_text, input_of, inputs_of, meaning, program_text}
 
 -- ---- the words

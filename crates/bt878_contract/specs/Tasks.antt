@@ -1,9 +1,9 @@
 -- What the words ask for, what each command means, what comes of it, and why it is refused.
-use Rattle.std.specs.Prelude.{◌≡◌, ℕ, ⊤, Bool, List, [], ◌∷◌, ◌++◌, map, length, Option, Some, None, MatchOption, Result, Ok, Err, true}
+use Rattle.std.specs.Prelude.{◌≡◌, ℕ, ⊤, Bool, List, [], ◌∷◌, ◌++◌, map, length, Option, Some, None, MatchOption, Result, Ok, Err, true, false}
 use Rattle.bt878_words.specs.declared.Task.{Task}
 use Rattle.bt878_words.specs.declared.Task.TheVariants as command
 use Rattle.bt878_words.specs.declared.UsageFault.{UsageFault}
-use Rattle.bt878_words.specs.Words.{Word, task_of, writes}
+use Rattle.bt878_words.specs.Words.{writes}
 use Rattle.capture_desk.specs.declared.calls.Call.{Call}
 use Rattle.capture_desk.specs.Desks.{Inputs, IsAllowed, IsWriteFault, Seen, is_among, said_by}
 use Rattle.capture_desc.specs.declared.desc.Desc.{Desc}
@@ -38,7 +38,7 @@ use Rattle.chain_law.specs.Runs.{KeepsLivePromises}
 use Rattle.ring_model.specs.Rings.{Ring, ends}
 use Rattle.ring_model.specs.Runs.{block_ends}
 use Rattle.stream_play.specs.Plays.{longest_stream}
-use Rattle.stream_play.specs.Runs.{IsRun, LiveRan, Ran, a_stream, a_stream_file, chain_ran, first_of, last_live_of, last_of, live_steps_of}
+use Rattle.stream_play.specs.Runs.{IsRun, LiveRan, Ran, a_stream_file, chain_ran, first_of, last_live_of, last_of, live_steps_of}
 
 -- ---- what a task makes of its inputs
 
