@@ -1,3 +1,4 @@
 pub mod Ending
 pub mod Products
+pub mod Playing
 mod Saying

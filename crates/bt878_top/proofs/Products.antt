@@ -44,6 +44,7 @@ use Rattle.command_inputs.specs.Chains.{IsFrameFile}
 use Rattle.stream_play.specs.Plays.{HasPlayed, HasPlayedWatched}
 use Rattle.stream_play.specs.Runs.{HasPlayedChain, HasPlayedRing, IsRun, LiveRan, Ran, first_of, last_live_of, last_of}
 use Rattle.stream_play.proofs.Fitting.{all_fit, steps_fit}
+use Rattle.bt878_contract.specs.Tasks as tasks
 use Rattle.bt878_contract.specs.Tasks.{ChainOf, DescMakes, IsListed, IsProduct, ListingMakes, Makes, MakesBy, Reports, ReportsBlocks, RunMakes, RunMeaning, RunOf, RunsProgram, TellsRows}
 use Rattle.bt878_contract.specs.Tasks.{blocks_of, compiled_text, image_file, image_of_run, input_of, no_file, program_and_image, program_file, program_text, rows_told}
 
@@ -105,7 +106,10 @@ module _ (program stream image : Word) (inputs : Option Inputs) (accepted : Risc
       record {
         names = refl;
         made =
-            over_stream _ inputs _ (λ a. Accepts (program_of a) accepted fill) (λ b. HasPlayed b (first_state accepted fill) m)
+            over_stream
+            (record { source = tasks.SoundProgram program.now; stream = stream.now; Gives = GivesSound; files = image_of_run image.now; Says = Reports }) inputs
+            (record { files = (image.now, image_of m.memory) ∷ []; text = text })
+            (λ a. Accepts (program_of a) accepted fill) (λ b. HasPlayed b (first_state accepted fill) m)
             (λ a b g p.
             let r : Ran = record { program = accepted; fill = fill; steps = p.0 } in
             let is : IsRun GivesSound a b r = record { gives = g; reads = p.1 } in
@@ -128,7 +132,10 @@ module _ (desc stream : Word) (inputs : Option Inputs) (d : Desc) where
       record {
         names = refl;
         made =
-            over_stream _ inputs _ (λ a. Describes a d) (λ b. HasPlayed b (first_state (compiled d) d.fill) m)
+            over_stream
+            (record { source = tasks.Description desc.now; stream = stream.now; Gives = GivesCompiled; files = program_and_image program.now image.now; Says = Reports }) inputs
+            (record { files = (program.now, spelled m.program d.fill) ∷ (image.now, image_of m.memory) ∷ []; text = text })
+            (λ a. Describes a d) (λ b. HasPlayed b (first_state (compiled d) d.fill) m)
             (λ a b g p.
             let r : Ran = record { program = compiled d; fill = d.fill; steps = p.0 } in
             let sound = description_sound a g in
@@ -143,7 +150,10 @@ module _ (desc stream : Word) (inputs : Option Inputs) (d : Desc) where
       record {
         names = refl;
         made =
-            over_stream _ inputs _ (λ a. Describes a d) (λ b. HasPlayedWatched track_notes b (map_after d d.fill []) map)
+            over_stream
+            (record { source = tasks.Description desc.now; stream = stream.now; Gives = GivesCompiled; files = no_file; Says = TellsRows }) inputs
+            (record { files = []; text = text })
+            (λ a. Describes a d) (λ b. HasPlayedWatched track_notes b (map_after d d.fill []) map)
             (λ a b g p.
             let r : Ran = record { program = compiled d; fill = d.fill; steps = p.0 } in
             let is : IsRun GivesCompiled a b r = record { gives = its_program a g; reads = p.1 } in
@@ -177,7 +187,10 @@ module _ (file stream program image : Word) (inputs : Option Inputs) (ring : Rin
       record {
         names = refl;
         made =
-            over_stream _ inputs _ (λ a. IsRingFile a ring) (λ b. HasPlayedRing b ring (first_state (ring_program ring) ring.fill) m)
+            over_stream
+            (record { source = tasks.RingFile file.now; stream = stream.now; Gives = GivesRingProgram; files = program_and_image program.now image.now; Says = ReportsBlocks }) inputs
+            (record { files = (program.now, spelled m.machine.program ring.fill) ∷ (image.now, image_of m.machine.memory) ∷ []; text = text })
+            (λ a. IsRingFile a ring) (λ b. HasPlayedRing b ring (first_state (ring_program ring) ring.fill) m)
             (λ a b g p.
             let r : Ran = record { program = ring_program ring; fill = ring.fill; steps = p.0 } in
             let sound : IsSound r.program = ring_sound ring g.ring in
@@ -252,30 +265,34 @@ module _ (file : Word) (inputs : Option Inputs) where
         made = (OfInput-map file.now inputs (λ bytes. Accepts (program_of bytes) program fill) HoldsSound (λ bytes is. (program, fill, is)) h, refl);
       }
 
-  pub compile_made : (program : Word) (d : Desc) → OfInput file.now inputs (λ bytes. Describes bytes d) →
-      IsProduct (command.Compile file program) inputs (record { files = program_file program.now (compiled d) d.fill ∷ []; text = program_text (compiled d) })
-  compile_made program d h =
-      record {
+  pub compile_made : (program : Word) (d : Desc) (p : RiscProgram) (fill : ℕ) (product : Product) → p ≡ compiled d → fill ≡ d.fill →
+      product ≡ record { files = program_file program.now p fill ∷ []; text = program_text p } → OfInput file.now inputs (λ bytes. Describes bytes d) → IsProduct (command.Compile file program) inputs product
+  compile_made program d p fill product is fills made h = subst (IsProduct (command.Compile file program) inputs) (sym made)
+      (record {
         names = refl;
         made = (
           OfInput-map file.now inputs (λ bytes. Describes bytes d)
-              (DescMakes (λ x. program_file program.now (compiled x) x.fill) compiled_text (record { files = program_file program.now (compiled d) d.fill ∷ []; text = program_text (compiled d) }))
-              (λ bytes g. record { description = d; describes = g; writes = refl; says = refl }) h,
+              (DescMakes (λ x. program_file program.now (compiled x) x.fill) compiled_text (record { files = program_file program.now p fill ∷ []; text = program_text p }))
+              (λ bytes g.
+              record {
+                description = d;
+                describes = g;
+                writes = ap (λ x. program_file program.now x fill ∷ []) is ∙ ap (λ x. program_file program.now (compiled d) x ∷ []) fills;
+                says = ap program_text is;
+              }) h,
           tt,
         );
-      }
+      })
 
-  pub make_made : (stream : Word) (seed frames : ℕ) (d : Desc) → OfInput file.now inputs (λ bytes. Describes bytes d) →
-      IsProduct (command.Make file seed frames stream) inputs
-      (record { files = (stream.now, made d seed frames) ∷ []; text = made_text (made_fields d frames) (made_entries d frames) })
-  make_made stream seed frames d h =
+  pub make_made : (stream : Word) (seed frames count : ℕ) (text : List ℕ) (d : Desc) → count ≡ frames → text ≡ made_text (made_fields d frames) (made_entries d frames) → OfInput file.now inputs (λ bytes. Describes bytes d) →
+      IsProduct (command.Make file seed frames stream) inputs (record { files = (stream.now, made d seed count) ∷ []; text = text })
+  make_made stream seed frames count text d is says h =
       record {
         names = refl;
         made = (
           OfInput-map file.now inputs (λ bytes. Describes bytes d)
-              (DescMakes (λ x. (stream.now, made x seed frames)) (λ x. made_text (made_fields x frames) (made_entries x frames))
-              (record { files = (stream.now, made d seed frames) ∷ []; text = made_text (made_fields d frames) (made_entries d frames) }))
-              (λ bytes g. record { description = d; describes = g; writes = refl; says = refl }) h,
+              (DescMakes (λ x. (stream.now, made x seed frames)) (λ x. made_text (made_fields x frames) (made_entries x frames)) (record { files = (stream.now, made d seed count) ∷ []; text = text }))
+              (λ bytes g. record { description = d; describes = g; writes = ap (λ n. (stream.now, made d seed n) ∷ []) is; says = says }) h,
           tt,
         );
       }

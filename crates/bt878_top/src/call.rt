@@ -39,8 +39,8 @@ fn produce<'a, D: Desk>(
     task: Task<'a>,
     desk: &mut D,
 ) -> Result<Produced<'a>, Refusal>
-    requires opens { AreAllowed (reads task.entry) (D.seen desk.old).told.may_open }
-    requires frames { HasFrames task.entry }
+    requires opens { AreAllowed (reads task) (D.seen desk.old).told.may_open }
+    requires frames { HasFrames task }
     ensures takes { Takes (inputs_of task.entry) result (D.seen desk.old) (D.seen desk.new) }
     ensures makes { IfOk result (λ produced. IsProduct task.entry (D.seen desk.old).told.inputs (product_of produced)) }
 {
@@ -84,9 +84,9 @@ fn produce<'a, D: Desk>(
 
 /// Does a task: what it makes of its inputs is delivered, or its refusal is said.
 fn answer_task<D: Desk>(alloc: Global, task: Task<'_>, desk: &mut D) -> Answer
-    requires opens { AreAllowed (reads task.entry) (D.seen desk.old).told.may_open }
-    requires creates { AreAllowed (writes task.entry) (D.seen desk.old).told.may_create }
-    requires frames { HasFrames task.entry }
+    requires opens { AreAllowed (reads task) (D.seen desk.old).told.may_open }
+    requires creates { AreAllowed (writes task) (D.seen desk.old).told.may_create }
+    requires frames { HasFrames task }
     ensures { Ends task.entry result (D.seen desk.old) (D.seen desk.new) }
 {
     match produce(alloc, task, desk) {
