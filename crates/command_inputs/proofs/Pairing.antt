@@ -1,8 +1,8 @@
 -- The second description of a chain, which is judged with the first.
-use Rattle.std.proofs.Common.{◌≡◌, List, ℕ, ◌∷◌, Option, Some, Result, Ok, Err, IfOk, IfErr}
+use Rattle.std.proofs.Common.{◌≡◌, List, ℕ, ◌∷◌, Some, Result, Ok, Err, IfOk}
 use Rattle.std.specs.Prelude.{OnOk}
 use Rattle.capture_desc.specs.declared.desc.Desc.{Desc}
-use Rattle.capture_desk.specs.Desks.{Inputs, Seen}
+use Rattle.capture_desk.specs.Desks.{Seen}
 use Rattle.chain_model.specs.declared.ChainFault.{ChainFault}
 use Rattle.double_buffer.specs.Faults.{chain_fault}
 use Rattle.double_buffer.specs.Pairs.{first_of_two}

@@ -1,5 +1,5 @@
 -- An input that was read, and is then judged: it is good, or bad as a refusal says.
-use Rattle.std.proofs.Common.{◌++◌, take, IsErrAnd, ap, ◌∙◌, ◌≡◌, ℕ, ◌+◌, inl, inr, arith, true, false, List, [], ◌∷◌, Option, Some, None, Result, Ok, Err, IfOk, IfErr, refl, sym, subst}
+use Rattle.std.proofs.Common.{◌++◌, take, IsErrAnd, ap, ◌∙◌, ◌≡◌, ℕ, ◌+◌, inl, inr, arith, true, false, List, [], ◌∷◌, Option, Some, None, Result, Ok, Err, IfOk, IfErr, sym, subst}
 use Rattle.std.proofs.lemmas.List.{append-nil}
 use Rattle.capture_desk.specs.declared.calls.Call.{Call}
 use Rattle.capture_desk.specs.declared.calls.Call.TheVariants.{OpenIn, Read, CreateOut, Finish, Say}

@@ -1,5 +1,5 @@
 -- An input that is opened, and then read.
-use Rattle.std.proofs.Common.{◌≡◌, ℕ, inl, inr, false, List, [], ◌∷◌, take, Result, Ok, Err, IfOk, IfErr, refl, sym, ap, subst, ◌∙◌}
+use Rattle.std.proofs.Common.{◌≡◌, ℕ, inl, false, List, [], ◌∷◌, take, Result, Ok, Err, IfOk, IfErr, refl, sym, ap, ◌∙◌}
 use Rattle.std.proofs.lemmas.List.{append-nil}
 use Rattle.capture_desk.specs.Desks.{Seen, Told, is_missing, after_open}
 use Rattle.command_texts.specs.declared.refusal.Refusal.{Refusal}

@@ -1,5 +1,5 @@
 -- Laws of players and of streams that come in pieces.
-use Rattle.std.proofs.Common.{◌≡◌, ℕ, ◌+◌, ◌-◌, ◌<◌, ◌≤◌, ◌⊎◌, inl, inr, Bool, false, List, [], ◌∷◌, ◌++◌, length, take, drop, option_map, Option, Some, None, Ok, Err, Result, refl, sym, ap, subst}
+use Rattle.std.proofs.Common.{◌≡◌, ℕ, ◌+◌, ◌-◌, ◌<◌, ◌≤◌, ◌⊎◌, inl, inr, Bool, List, [], ◌∷◌, ◌++◌, length, take, drop, option_map, Option, Some, None, Ok, Err, Result, refl, sym, ap, subst}
 use Rattle.std.proofs.Common.{◌∙◌, arith, length-drop, length-take, append_assoc}
 use Rattle.std.specs.Prelude.{IfErr, IfOk}
 use Rattle.std.proofs.lemmas.Bool.{lt-ltb}
@@ -7,11 +7,8 @@ use Rattle.std.proofs.Math.Seq.{take-add}
 use Rattle.std.proofs.lemmas.List.{append-nil, take_all, drop-drop, take-append-drop, take-take}
 use Rattle.command_steps.specs.Inputs.{OfRest}
 use Rattle.command_steps.specs.Reading.{IsPiece}
-use Rattle.capture_file.specs.Streams.{steps_of, Reading, reading, with_step, Ending, Unfinished, Ended, Bad, atomic, steps_run, stream_of, whole_file, within_if, too_long, judged}
+use Rattle.capture_file.specs.Streams.{steps_of, Reading, reading, with_step, Ending, Unfinished, Ended, Bad, stream_of, whole_file, within_if, too_long, judged}
 use Rattle.capture_file.specs.declared.FileFault.{FileFault}
-use Rattle.machine_model.specs.States.{State}
-use Rattle.machine_model.specs.Steps.{run}
-use Rattle.machine_model.proofs.Runs.{run-append}
 use Rattle.capture_file.specs.declared.Step.{Step}
 use Rattle.capture_file.specs.Readers.{Reader, fresh, resumed, closed_by}
 use Rattle.stream_play.specs.Plays.{GoesOn, Handed, HandedAll, HandedFront, HandedPart, IsAtFault, PlaysAll, acted, longest_stream}

@@ -1,6 +1,5 @@
 -- The blocks that are counted while a stream is played are all its block ends.
-use Rattle.std.proofs.Common.{◌≡◌, ℕ, zero, suc, ◌+◌, ◌-◌, ◌^◌, ◌≤◌, false, All, List, [], ◌∷◌, replicate, Option, Some, None, refl, ap, ◌∙◌, arith}
-use Rattle.machine_model.specs.Safety.{IsStep}
+use Rattle.std.proofs.Common.{◌≡◌, ℕ, zero, suc, ◌+◌, ◌≤◌, false, List, [], ◌∷◌, replicate, Option, Some, None, refl, ap, ◌∙◌, arith}
 use Rattle.machine_model.specs.States.{State, first_state}
 use Rattle.machine_model.specs.Steps as machine
 use Rattle.machine_model.specs.Steps.{run, step}
@@ -9,8 +8,8 @@ use Rattle.ring_model.specs.Rings.{IsRing, Ring, ends, ring_program}
 use Rattle.ring_model.specs.Runs.{BlockAt, block_end, block_ends, block_ends_seen, one_if}
 use Rattle.ring_model.proofs.Counting.{block_ends-append}
 use Rattle.ring_law.proofs.Seeing.{blocks_seen_are_ended}
-use Rattle.machine_watch.specs.Watches.{kept_after, watching}
-use Rattle.ring_machine.specs.States.{Counted, RingState, block_notes}
+use Rattle.machine_watch.specs.Watches.{watching}
+use Rattle.ring_machine.specs.States.{RingState, block_notes}
 use Rattle.ring_machine.proofs.Counting.{blocks_counted}
 use Rattle.capture_file.specs.declared.Step.{Step}
 use Rattle.capture_file.specs.declared.Step.TheVariants.{Push, Control, Turns, Host, Patch}

@@ -1,4 +1,4 @@
-use Rattle.std.proofs.Common.{◌≡◌, ◌+◌, ◌<◌, ◌≤◌, length, refl, take, ap, subst, arith}
+use Rattle.std.proofs.Common.{◌≡◌, ◌+◌, ◌<◌, ◌≤◌, length, refl, take, subst, arith}
 use Rattle.command_steps.specs.Inputs.{raw_files}
 use Rattle.command_steps.proofs.Inputs.{OfInput-map}
 use Rattle.command_steps.proofs.Judging.{found_bad, found_good, not_judged, raw_stops}

@@ -1,12 +1,12 @@
 -- A program that was read is judged.
-use Rattle.std.proofs.Common.{◌≡◌, List, ℕ, Result, Ok, IfErr, IfOk, sym, subst}
+use Rattle.std.proofs.Common.{◌≡◌, List, ℕ, Result, Ok, sym, subst}
 use Rattle.std.proofs.lemmas.Result.{IfErr-weaker, IfOk-weaker}
 use Rattle.capture_file.specs.declared.FileFault.{FileFault}
 use Rattle.capture_file.specs.declared.program.ProgramFile.{ProgramFile}
 use Rattle.capture_file.specs.Programs.{program_of}
 use Rattle.capture_desk.specs.Desks.{Seen}
 use Rattle.command_texts.specs.declared.refusal.Refusal.{Refusal}
-use Rattle.command_texts.specs.declared.refusal.Refusal.TheVariants.{Malformed, NoMemory, ReadFault, Rejected}
+use Rattle.command_texts.specs.declared.refusal.Refusal.TheVariants.{NoMemory, ReadFault, Rejected}
 use Rattle.command_steps.specs.Inputs.{OfInput, StopsAt}
 use Rattle.command_steps.proofs.Inputs.{OfInput-map}
 use Rattle.command_steps.proofs.Judging.{judged, not_judged}
