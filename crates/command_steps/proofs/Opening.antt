@@ -7,7 +7,7 @@ use Rattle.command_texts.specs.declared.refusal.Refusal.TheVariants.{NoMemory, R
 use Rattle.command_steps.specs.Inputs.{Always, Input, IsThereAndGood, OfInput, OfRest, StopsAt, StopsAtRead, StopsReading, apart}
 use Rattle.command_steps.specs.Reading.{AreAllReads, AreReads, Calls, OpensBy, Opened, Stopped, Takes, Took}
 use Rattle.command_steps.proofs.Inputs.{opened_input, rose_from}
-use Rattle.command_steps.proofs.Taking.{all_taken, always_read, nothing_taken, not_taken, taken}
+use Rattle.command_steps.proofs.Taking.{all_taken, always_read, not_taken, taken}
 
 -- an input that was opened is there
 there_is : (name : List ℕ) (old opened : Told) → is_missing name old.inputs ≡ false → opened ≡ after_open name old → OfInput name old.inputs Always
@@ -35,12 +35,6 @@ module _ (input : Input) (old : Seen) where
         why = inl (unread refusal new opened.0);
         calls = (called.0, inl called.1, called.2);
       }
-
-  -- memory ran out before it was opened
-  pub nothing_opened : Stopped (input ∷ []) NoMemory old old
-  nothing_opened =
-      let called = nothing_taken input.name input.judge.most input.judge.MayGoOn old old refl in
-      record { told = refl; writes = refl; why = inl tt; calls = (called.0, inl called.1, called.2) }
 
   -- it was opened, and its rest was not read to its end
   unread_rest : (refusal : Refusal) (mid new : Seen) → mid.reads ≡ old.reads → StopsAtRead refusal mid new → StopsAt input.judge.IsBad input.name refusal old new

@@ -1,5 +1,5 @@
 -- The calls by which an input is taken.
-use Rattle.std.proofs.Common.{◌≡◌, ℕ, ◌+◌, ◌<◌, inl, inr, zero, suc, arith, true, false, List, [], ◌∷◌, ◌++◌, take, Option, Some, None, Result, Ok, Err, IfOk, refl, sym, subst, append_assoc}
+use Rattle.std.proofs.Common.{◌≡◌, ℕ, ◌+◌, ◌<◌, inl, inr, zero, suc, arith, true, false, List, [], ◌∷◌, ◌++◌, take, Option, Some, None, Ok, Err, refl, sym, subst, append_assoc}
 use Rattle.std.proofs.lemmas.List.{append-nil}
 use Rattle.capture_desk.specs.declared.calls.Call.{Call}
 use Rattle.capture_desk.specs.declared.calls.Call.TheVariants.{OpenIn, Read, CreateOut, Finish, Say}
@@ -71,11 +71,6 @@ read_failed MayGoOn most at size old mid new h next tells = (
   h.goes_on (Read size None ∷ []) (next, refl),
   tells_both h.made (Read size None ∷ []) old.calls mid.calls new.calls h.tells tells,
 )
-
--- two facts of what was done give a third
-pub both_done : {A E P Q R : Type 0} (r : Result A E) → (P → Q → R) → IfOk r (λ _. P) → IfOk r (λ _. Q) → IfOk r (λ _. R)
-both_done (Ok x) f p q = f p q
-both_done (Err e) f p q = tt
 
 -- ---- what is so of the rest of an input that was opened is so of the input
 
