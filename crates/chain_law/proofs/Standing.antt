@@ -3,13 +3,11 @@ use Rattle.std.proofs.Common.{◌≡◌, ℕ, suc, ◌+◌, ◌*◌, ◌<◌, �
 use Rattle.std.proofs.lemmas.List.{append-nil}
 use Rattle.risc_word.specs.declared.Ctl.{Ctl}
 use Rattle.risc_word.specs.declared.Instr.{Instr}
-use Rattle.risc_word.specs.declared.Instr.TheVariants.{Jump}
 use Rattle.risc_word.specs.Words.{IsInstr, encoded}
 use Rattle.pixel_layout.specs.declared.Parity.{Parity}
 use Rattle.pixel_layout.specs.declared.Parity.TheVariants.{Top, Bottom}
 use Rattle.machine_model.specs.Accesses.{AreFetchedAlike}
-use Rattle.machine_model.specs.Paths.{RiscProgram, Place, IsSound, fetch, path, demands_cause, demands_of, spans_of}
-use Rattle.machine_model.proofs.Places.{path-suc}
+use Rattle.machine_model.specs.Paths.{RiscProgram, Place, fetch, demands_cause, demands_of, spans_of}
 use Rattle.capture_desc.specs.declared.desc.Desc.{Desc}
 use Rattle.capture_desc.specs.declared.desc.Fields.{Fields}
 use Rattle.capture_desc.specs.declared.desc.Fields.TheVariants as fields
@@ -18,8 +16,8 @@ use Rattle.picture_model.specs.Programs.{begin_by, body, closing, compiled, next
 use Rattle.picture_model.proofs.Circle.{words_split}
 use Rattle.picture_model.proofs.FaultlessGeometry.{IsRight, IsFrame-IsRight}
 use Rattle.picture_model.proofs.Sections.{good_body, section_stands, signal_spelled}
-use Rattle.field_law.specs.Sections.{Holds, HoldsFrom, IsPlain, Stands, StandsFrom}
-use Rattle.field_law.proofs.OnPath.{pc_after, sound_holds}
+use Rattle.field_law.specs.Sections.{Holds, HoldsFrom, Stands}
+use Rattle.field_law.proofs.OnPath.{ComesTo, one_on, sound_holds, walks}
 use Rattle.picture_law.proofs.Program.{body_plain, fetched_at, stands_from}
 use Rattle.chain_model.specs.Chains.{Chain, IsChain, IsSoundChain, Patching, alone, alone_in, head, next, part_of, patched, patched_words, slot_at}
 use Rattle.chain_model.proofs.Slots.{length-alone, path_to_head}
@@ -27,28 +25,6 @@ use Rattle.chain_model.proofs.Words.{behind_alike}
 use Rattle.chain_law.specs.Fragments.{IsFragment}
 use Rattle.chain_law.specs.Pictures.{section_in}
 use Rattle.chain_law.proofs.Splits.{head_there, part_split, words_after, words_before}
-
--- ---- the path walks through a section that stands on it
-
--- a place of the path stands at an address
-abbrev ComesTo : RiscProgram → ℕ → Type 0
-ComesTo program address = (number : ℕ) × ((path program number).pc ≡ address)
-
-module _ (program : RiscProgram) (sound : IsSound program) where
-  one_on : (address : ℕ) (i : Instr) (count : ℕ) → IsPlain i → fetch program address ≡ Ok (i, count) → ComesTo program address → ComesTo program (address + 4 * count)
-  one_on address i count plain read here =
-      let there : fetch program (path program here.0).pc ≡ Ok (i, count) = ap (fetch program) here.1 ∙ read in (
-        suc here.0,
-        ap (λ (p : Place). p.pc) (path-suc program here.0 i count sound there) ∙ pc_after i count (path program here.0) plain
-            ∙ ap (λ (pc : ℕ). pc + 4 * count) here.1,
-      )
-
-  walks : (instrs : List Instr) (address : ℕ) (ctl : Ctl) (target : ℕ) → StandsFrom program address instrs ctl target → ComesTo program address → ComesTo program target
-  walks [] address ctl target stands here =
-      let there : fetch program (path program here.0).pc ≡ Ok (Jump ctl target, 2) = ap (fetch program) here.1 ∙ stands in
-      (suc here.0, ap (λ (p : Place). p.pc) (path-suc program here.0 (Jump ctl target) 2 sound there))
-  walks (i ∷ rest) address ctl target stands here =
-      walks rest (address + 4 * length (encoded i)) ctl target stands.2 (one_on address i (length (encoded i)) stands.1 stands.0 here)
 
 -- ---- programs that fetch the same behind an address hold the same
 

@@ -12,7 +12,7 @@ use Rattle.machine_model.specs.Turns.{Store}
 use Rattle.machine_model.proofs.Demanded.{written-IsRange, demand-granted}
 use Rattle.machine_model.proofs.Ranges.{granted_at}
 use Rattle.field_law.specs.Fields.{Token, Mark, Row}
-use Rattle.field_law.specs.Sections.{Section, Holds, Ask, Await, Begin, GoOn, ask, ask_of, asked, asks, laid, planned, field_stores, section_stores}
+use Rattle.field_law.specs.Sections.{Section, Holds, Ask, Await, Begin, GoOn, ask, ask_of, asked, asks, laid, planned, body_stores, section_stores}
 use Rattle.field_law.specs.Trails.{Trail, IsOnTrail, Leads, LeadsFrom, next_at, trail_of}
 use Rattle.field_law.proofs.CutLines.{laid_each}
 use Rattle.field_law.proofs.InSection.{section_leads}
@@ -85,7 +85,7 @@ asks_fine program q end at (instr ∷ rest) closing h =
     (on_trail_fine program q instr h.2, asks_fine program q end (next_at instr at) rest closing h.3)
 
 pub trail_stores_granted : (t : Trail) (field : Queue → List Token) (program : RiscProgram) → Leads t program → (q : Queue) →
-    All (λ store. granted program.grants store.address ≡ true) (field_stores t.body field q)
+    All (λ store. granted program.grants store.address ≡ true) (body_stores t.body field q)
 trail_stores_granted t field program held q =
     planned_granted program.grants (asks q t.body) [] (field q) (asks_fine program q t.end t.at t.body t.closing held)
 

@@ -20,7 +20,7 @@ begins_in s = record { holds = λ program held. held; there = refl }
 
 -- ---- a program that holds a section leads along it
 
-plain_next : (instr : Instr) (at : ℕ) → IsPlain instr → next_at instr at ≡ at + 4 * length (encoded instr)
+pub plain_next : (instr : Instr) (at : ℕ) → IsPlain instr → next_at instr at ≡ at + 4 * length (encoded instr)
 plain_next (Write ctl ends off count addr) at plain = refl
 plain_next (Skip ctl ends count) at plain = refl
 plain_next (WriteC ctl ends off count) at plain = absurd plain

@@ -1,12 +1,12 @@
 -- A sound program holds each section that stands on its path.
-use Rattle.std.proofs.Common.{◌≡◌, ℕ, suc, ◌+◌, ◌*◌, List, [], ◌∷◌, length, Option, None, Ok, refl, sym, ap, ◌∙◌}
+use Rattle.std.proofs.Common.{◌≡◌, ℕ, suc, ◌+◌, ◌*◌, List, [], ◌∷◌, length, Option, None, Ok, refl, sym, ap, ◌∙◌, arith}
 use Rattle.risc_word.specs.declared.Ctl.{Ctl}
 use Rattle.risc_word.specs.declared.Instr.{Instr}
 use Rattle.risc_word.specs.declared.Instr.TheVariants.{Write, Skip, WriteC, Jump, Sync, Write123, Skip123, Write1S23}
 use Rattle.risc_word.specs.Words.{Reading, encoded}
 use Rattle.machine_model.specs.declared.Cause.{Cause}
 use Rattle.machine_model.specs.Paths.{RiscProgram, Place, is_word, fetch, path, IsSound, demands_of, demands_cause, instr_cause, reading_cause, next_by, place_read, place_after}
-use Rattle.machine_model.proofs.Places.{inside_if}
+use Rattle.machine_model.proofs.Places.{inside_if, path-suc}
 use Rattle.field_law.specs.Sections.{Section, IsPlain, HoldsFrom, Holds, StandsFrom, Stands}
 
 -- what an instruction without a fault writes is granted
@@ -56,3 +56,34 @@ module _ (program : RiscProgram) (sound : IsSound program) where
 
 pub sound_holds : (s : Section) (program : RiscProgram) (number : ℕ) → IsSound program → (path program number).pc ≡ s.at → Stands s program → Holds s program
 sound_holds s program number sound here stands = holds_from program sound s.body s.at s.closing s.target number here stands
+
+-- ---- the path walks through a section that stands on it
+
+-- a place of the path stands at an address
+abbrev pub ComesTo : RiscProgram → ℕ → Type 0
+ComesTo program address = (number : ℕ) × ((path program number).pc ≡ address)
+
+module _ (program : RiscProgram) (sound : IsSound program) where
+  one_after : (number address : ℕ) (i : Instr) (count : ℕ) → IsPlain i → fetch program address ≡ Ok (i, count) → (path program number).pc ≡ address →
+      (path program (suc number)).pc ≡ address + 4 * count
+  one_after number address i count plain read here =
+      ap (λ (p : Place). p.pc) (path-suc program number i count sound (ap (fetch program) here ∙ read)) ∙ pc_after i count (path program number) plain
+      ∙ ap (λ (pc : ℕ). pc + 4 * count) here
+
+  -- so many places later it stands where the closing leads
+  pub place_behind : (instrs : List Instr) (number address : ℕ) (ctl : Ctl) (target : ℕ) → StandsFrom program address instrs ctl target → (path program number).pc ≡ address →
+      (path program (suc (length instrs + number))).pc ≡ target
+  place_behind [] number address ctl target stands here =
+      let there : number ≡ length {A = Instr} [] + number = omega arith in
+      ap (λ (n : ℕ). (path program (suc n)).pc) (sym there)
+      ∙ ap (λ (p : Place). p.pc) (path-suc program number (Jump ctl target) 2 sound (ap (fetch program) here ∙ stands))
+  place_behind (i ∷ rest) number address ctl target stands here =
+      let there : length rest + suc number ≡ length (i ∷ rest) + number = omega arith in
+      ap (λ (n : ℕ). (path program (suc n)).pc) (sym there)
+      ∙ place_behind rest (suc number) (address + 4 * length (encoded i)) ctl target stands.2 (one_after number address i (length (encoded i)) stands.1 stands.0 here)
+
+  pub one_on : (address : ℕ) (i : Instr) (count : ℕ) → IsPlain i → fetch program address ≡ Ok (i, count) → ComesTo program address → ComesTo program (address + 4 * count)
+  one_on address i count plain read here = (suc here.0, one_after here.0 address i count plain read here.1)
+
+  pub walks : (instrs : List Instr) (address : ℕ) (ctl : Ctl) (target : ℕ) → StandsFrom program address instrs ctl target → ComesTo program address → ComesTo program target
+  walks instrs address ctl target stands here = (suc (length instrs + here.0), place_behind instrs here.0 address ctl target stands here.1)

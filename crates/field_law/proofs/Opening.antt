@@ -18,7 +18,7 @@ use Rattle.machine_model.specs.declared.Skipping.TheVariants.{Nothing}
 use Rattle.machine_model.specs.States.{State}
 use Rattle.machine_model.specs.Turns.{is_stray, lowest_stray, code_if, common_code, dropped, met, code_seen, stray_seen, waited, Store}
 use Rattle.field_law.specs.Fields.{Token, Mark, Brings}
-use Rattle.field_law.specs.Sections.{IsUsedUp, UsesField, asks, field_stores}
+use Rattle.field_law.specs.Sections.{IsUsedUp, UsesField, asks, body_stores}
 use Rattle.field_law.specs.Trails.{Trail}
 use Rattle.field_law.specs.Arrivals.{over_queues}
 use Rattle.field_law.proofs.Changed.{changed, each_queue}
@@ -44,7 +44,7 @@ pub record Opening (t : Trail) (field : Queue → List Token) (Rests : List Entr
   pub order : (q : Queue) → (queue_state q queues).entries ++ later q ≡ before q ++ (entries q ++ rest q)
   pub unmarked : (q : Queue) → IsUnmarked t.code (before q)
   pub brings : (q : Queue) → Brings (Mark t.code ∷ field q) (entries q)
-  pub comes : Comes memory (field_stores t.body field)
+  pub comes : Comes memory (body_stores t.body field)
   pub bounded : 5 * suc (length t.body) + 1 + over_queues (λ q. length (before q) + length (entries q)) ≤ bound
 
 less_before : (q : Queue) (new : List Entry) (before entries : Queue → List Entry) → length (before q) ≡ suc (length new) →
@@ -166,12 +166,12 @@ module _ (t : Trail) (field : Queue → List Token) (uses : UsesField t.body fie
                 body = t.body;
                 stands = subst (λ (at : ℕ). Stands at t.body) (sym h.there) begins;
                 plain = tt;
-                stores = field_stores t.body field;
+                stores = body_stores t.body field;
                 left = λ q. length (o q).field;
                 outlook =
-                    each_removed (λ q held. Outlook IsUsedUp Rests (asks q t.body) (field_stores t.body field q) (length (o q).field) held.taken (held.entries ++ later q)) m.queues
+                    each_removed (λ q held. Outlook IsUsedUp Rests (asks q t.body) (body_stores t.body field q) (length (o q).field) held.taken (held.entries ++ later q)) m.queues
                     (λ q.
-                    subst (λ (ahead : List Entry). Outlook IsUsedUp Rests (asks q t.body) (field_stores t.body field q) (length (o q).field) 0 ahead) (sym (o q).order)
+                    subst (λ (ahead : List Entry). Outlook IsUsedUp Rests (asks q t.body) (body_stores t.body field q) (length (o q).field) 0 ahead) (sym (o q).order)
                     (outlook_at_start IsUsedUp Rests (asks q t.body) (field q) (o q).field (h.rest q) (h.rests q) (uses q) (o q).brings));
                 comes = h.comes;
                 bounded = omega arith;

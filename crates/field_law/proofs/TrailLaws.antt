@@ -19,7 +19,7 @@ use Rattle.machine_model.specs.Steps.{Turn, with_program, run_in}
 use Rattle.machine_model.specs.Safety.{JobFits, IsOrderly}
 use Rattle.machine_model.proofs.Runs.{run_in-append}
 use Rattle.field_law.specs.Fields.{Token}
-use Rattle.field_law.specs.Sections.{PaintsField, field_stores}
+use Rattle.field_law.specs.Sections.{PaintsField, body_stores}
 use Rattle.field_law.specs.Trails.{Trail, Leads}
 use Rattle.field_law.specs.Arrivals.{Met, after, coming, pushed_by, entries_of, over_queues, is_end, has_end, turns_in}
 use Rattle.field_law.specs.TrailLaws.{TrailReceives, TrailShowsPicture, TrailShowsNoFault, TrailEndsWithClosing, TrailIsBounded}
@@ -51,7 +51,7 @@ end-append address m (met ∷ early) late h =
 -- ---- the beginning
 
 module _ (t : Trail) (field : Queue → List Token) (m : State) (steps : List Met) (r : TrailReceives t field m steps) (given : Type 0) (chunks : List Chunk) (final : ℕ → ℕ)
-    (painted : given → Settles chunks final m.memory (field_stores t.body field)) where
+    (painted : given → Settles chunks final m.memory (body_stores t.body field)) where
   abbrev first_bound : ℕ
   first_bound = 5 * suc (length t.body) + 1 + over_queues (entries_of r.arrives.before r.arrives.entries)
 
@@ -79,7 +79,7 @@ module _ (t : Trail) (field : Queue → List Token) (m : State) (steps : List Me
 
 module _ (t : Trail) (field : Queue → List Token) (m : State) (early late : List Met) (program : RiscProgram) (r : TrailReceives t field m (early ++ (program, Turn) ∷ late))
     (unended : has_end t.end m early ≡ false) (given : Type 0) (chunks : List Chunk) (final : ℕ → ℕ)
-    (painted : given → Settles chunks final m.memory (field_stores t.body field)) where
+    (painted : given → Settles chunks final m.memory (body_stores t.body field)) where
   abbrev seen : Queue → List Entry
   seen = coming ((program, Turn) ∷ late)
 
@@ -127,7 +127,7 @@ module _ (t : Trail) (field : Queue → List Token) (m : State) (early late : Li
 -- ---- the laws
 
 paints_settles : (t : Trail) (field : Queue → List Token) (final : ℕ → ℕ) (m : State) → PaintsField t.body field m.memory final →
-    Settles (chunks_of m.memory) final m.memory (field_stores t.body field)
+    Settles (chunks_of m.memory) final m.memory (body_stores t.body field)
 paints_settles t field final m h = record { same = refl; within = h.within; agree = h.agree; settled = h.others }
 
 pub trail_shows_picture : TrailShowsPicture

@@ -133,15 +133,15 @@ abbrev pub UsesField : List Instr → (Queue → List Token) → Type 0
 UsesField body field = (q : Queue) → UsesUp (asks q body) [] (field q)
 
 -- the stores of instructions for a field, by the queue that brings their bytes
-abbrev pub field_stores : List Instr → (Queue → List Token) → Queue → List Store
-field_stores body field q = planned (asks q body) [] (field q)
+abbrev pub body_stores : List Instr → (Queue → List Token) → Queue → List Store
+body_stores body field q = planned (asks q body) [] (field q)
 
 -- Memory as it is to be in the end, a byte for each address: each store goes to a granted byte and has the byte that is
 -- to be there, and where nothing is stored, the byte that is there stays
 pub record PaintsField (body : List Instr) (field : Queue → List Token) (memory : List Block) (final : ℕ → ℕ) : Type 0 where
-  pub within : (q : Queue) → All (λ store. granted (chunks_of memory) store.address ≡ true) (field_stores body field q)
-  pub agree : (q : Queue) → All (λ store. final store.address ≡ store.byte) (field_stores body field q)
-  pub others : (address : ℕ) → ((q : Queue) → is_stored address (field_stores body field q) ≡ false) →
+  pub within : (q : Queue) → All (λ store. granted (chunks_of memory) store.address ≡ true) (body_stores body field q)
+  pub agree : (q : Queue) → All (λ store. final store.address ≡ store.byte) (body_stores body field q)
+  pub others : (address : ℕ) → ((q : Queue) → is_stored address (body_stores body field q) ≡ false) →
       byte_at memory address ≡ final address
 
 -- a section does so by its body
@@ -149,7 +149,7 @@ abbrev pub Uses : Section → (Queue → List Token) → Type 0
 Uses s field = UsesField s.body field
 
 abbrev pub section_stores : Section → (Queue → List Token) → Queue → List Store
-section_stores s field q = field_stores s.body field q
+section_stores s field q = body_stores s.body field q
 
 abbrev pub Paints : Section → (Queue → List Token) → List Block → (ℕ → ℕ) → Type 0
 Paints s field memory final = PaintsField s.body field memory final

@@ -13,7 +13,7 @@ ghost use Rattle.machine_model.specs.States.{State};
 ghost use Rattle.machine_model.specs.Steps.{Step, Turn, run, run_in};
 ghost use Rattle.machine_model.specs.Turns.{Store};
 ghost use Rattle.field_law.specs.Fields.{Token};
-ghost use Rattle.field_law.specs.Sections.{Section, Holds, Stands, Ask, UsesUp, planned, is_stored, field_stores, section_stores, Paints};
+ghost use Rattle.field_law.specs.Sections.{Section, Holds, Stands, Ask, UsesUp, planned, is_stored, body_stores, section_stores, Paints};
 ghost use Rattle.field_law.specs.Trails.{Trail, Leads, trail_of};
 ghost use Rattle.field_law.specs.CutLines.{CutLine, IsCovered, lines_asks, lines_rows, lines_stores, address_in, EachByte};
 ghost use Rattle.field_law.specs.Arrivals.{meeting, is_signal, has_signal};
@@ -34,7 +34,7 @@ pub fn trail_shows_its_field()
 /// A program that leads along a trail grants what it stores, whatever field it uses up.
 pub fn trail_grants_its_stores()
     ensures { (t : Trail) (field : Queue → List Token) (program : RiscProgram) → Leads t program → (q : Queue) →
-        All (λ store. granted program.grants store.address ≡ true) (field_stores t.body field q) }
+        All (λ store. granted program.grants store.address ≡ true) (body_stores t.body field q) }
 {}
 
 /// A section is a trail: a program that holds the one leads along the other.

@@ -136,7 +136,7 @@ module _ (d : Desc) (right : IsRight d) (field : Parity) (described : describes 
 
 -- ---- a program that holds the section grants the picture's places
 
-stored_holds : (P : ℕ → Type 0) (stores : List Store) (address : ℕ) → All (λ store. P store.address) stores → is_stored address stores ≡ true → P address
+pub stored_holds : (P : ℕ → Type 0) (stores : List Store) (address : ℕ) → All (λ store. P store.address) stores → is_stored address stores ≡ true → P address
 stored_holds P [] address all some = cc
 stored_holds P (store ∷ stores) address all some =
     ⊎_elim

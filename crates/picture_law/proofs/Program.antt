@@ -31,7 +31,7 @@ use Rattle.picture_law.specs.Sections.{section_of}
 
 -- ---- the instructions of a body
 
-piece_plain : (planar : Bool) (kind : PieceKind) (p : Piece) → IsPlain (instr_by planar kind p)
+pub piece_plain : (planar : Bool) (kind : PieceKind) (p : Piece) → IsPlain (instr_by planar kind p)
 piece_plain true Write p = refl
 piece_plain true WriteLuma p = refl
 piece_plain true Skip p = tt

@@ -1,0 +1,9 @@
+pub mod ByBytes
+pub mod Walked
+pub mod Laws
+pub mod Places
+pub mod Behind
+pub mod Compiled
+pub mod CompiledFields
+pub mod WorkedLoop
+pub mod Verdicts
