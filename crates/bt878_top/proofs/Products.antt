@@ -124,12 +124,13 @@ module _ (desc stream : Word) (inputs : Option Inputs) (d : Desc) where
   its_program : (bytes : List ℕ) → Describes bytes d → GivesCompiled bytes (compiled d) d.fill
   its_program bytes h = record { description = d; describes = h; compiles = refl; fills = refl }
 
-  pub capture_made : (program image : Word) (m : State) (text : List ℕ) → OfInput desc.now inputs (λ bytes. Describes bytes d) →
+  pub capture_made : (program image : Word) (m : State) (text : List ℕ) (fill : ℕ) → fill ≡ d.fill → OfInput desc.now inputs (λ bytes. Describes bytes d) →
       OfInput stream.now inputs (λ bytes. HasPlayed bytes (first_state (compiled d) d.fill) m) → text ≡ report_text (report_of m) →
       IsProduct (command.Capture desc stream program image) inputs
-      (record { files = (program.now, spelled m.program d.fill) ∷ (image.now, image_of m.memory) ∷ []; text = text })
-  capture_made program image m text gives plays says =
-      record {
+      (record { files = (program.now, spelled m.program fill) ∷ (image.now, image_of m.memory) ∷ []; text = text })
+  capture_made program image m text fill fills gives plays says =
+      subst (λ f. IsProduct (command.Capture desc stream program image) inputs (record { files = (program.now, spelled m.program f) ∷ (image.now, image_of m.memory) ∷ []; text = text })) (sym fills)
+      (record {
         names = refl;
         made =
             over_stream
@@ -141,7 +142,7 @@ module _ (desc stream : Word) (inputs : Option Inputs) (d : Desc) where
             let sound = description_sound a g in
             let is : IsRun GivesCompiled a b r = record { gives = its_program a g; reads = p.1 } in
             (r, is, run_makes r sound GivesCompiled a b is _ _ (same_both r sound m p.2 program.now image.now) (Reports a r) text (its_report r sound m p.2 text says))) gives plays;
-      }
+      })
 
   pub damage_made : (map : Map) (text : List ℕ) → OfInput desc.now inputs (λ bytes. Describes bytes d) →
       OfInput stream.now inputs (λ bytes. HasPlayedWatched track_notes bytes (map_after d d.fill []) map) → text ≡ damage_text d (λ field. rows_of field map) →
@@ -178,13 +179,15 @@ module _ (desc stream : Word) (inputs : Option Inputs) (d : Desc) where
           ∙ ap (λ marks. field_text Top (picture_rows d Top) (two Top) ++ (field_text Bottom (picture_rows d Bottom) marks ++ [])) (h Bottom refl)
 
 -- the program of a ring
-module _ (file stream program image : Word) (inputs : Option Inputs) (ring : Ring) (m : RingState) (text : List ℕ) where
+module _ (file stream program image : Word) (inputs : Option Inputs) (ring : Ring) (m : RingState) (last : State) (text : List ℕ) (fill : ℕ) (fills : fill ≡ ring.fill) (is_last : last ≡ m.machine) where
   pub ring_made : OfInput file.now inputs (λ bytes. IsRingFile bytes ring) → OfInput stream.now inputs (λ bytes. HasPlayedRing bytes ring (first_state (ring_program ring) ring.fill) m) →
       text ≡ blocks_text m.kept.blocks (report_of m.machine) →
       IsProduct (command.Ring file stream program image) inputs
-      (record { files = (program.now, spelled m.machine.program ring.fill) ∷ (image.now, image_of m.machine.memory) ∷ []; text = text })
+      (record { files = (program.now, spelled last.program fill) ∷ (image.now, image_of last.memory) ∷ []; text = text })
   ring_made gives plays tells =
-      record {
+      subst (λ f. IsProduct (command.Ring file stream program image) inputs (record { files = (program.now, spelled last.program f) ∷ (image.now, image_of last.memory) ∷ []; text = text })) (sym fills)
+      (subst (λ (s : State). IsProduct (command.Ring file stream program image) inputs (record { files = (program.now, spelled s.program ring.fill) ∷ (image.now, image_of s.memory) ∷ []; text = text })) (sym is_last)
+      (record {
         names = refl;
         made =
             over_stream
@@ -194,7 +197,7 @@ module _ (file stream program image : Word) (inputs : Option Inputs) (ring : Rin
             (λ a b g p.
             let r : Ran = record { program = ring_program ring; fill = ring.fill; steps = p.0 } in
             let sound : IsSound r.program = ring_sound ring g.ring in
-            let last : m.machine ≡ last_of r = ap (λ (s : RingState). s.machine) p.2 in
+            let shows : m.machine ≡ last_of r = ap (λ (s : RingState). s.machine) p.2 in
             let blocks : m.kept.blocks ≡ blocks_of ring r = ap (λ (s : RingState). s.kept.blocks) p.2 in
             let its : GivesRing ring a r.program r.fill = record { holds = g; compiles = refl; fills = refl } in
             let is : IsRun GivesRingProgram a b r = record { gives = (ring, its); reads = p.1 } in
@@ -202,10 +205,10 @@ module _ (file stream program image : Word) (inputs : Option Inputs) (ring : Rin
             record {
               ring = ring;
               gives = its;
-              says = tells ∙ ap (λ n. blocks_text n (report_of m.machine)) blocks ∙ ap (λ s. blocks_text (blocks_of ring r) (report_of s)) last;
+              says = tells ∙ ap (λ n. blocks_text n (report_of m.machine)) blocks ∙ ap (λ s. blocks_text (blocks_of ring r) (report_of s)) shows;
             } in
-            (r, is, run_makes r sound GivesRingProgram a b is _ _ (same_both r sound m.machine last program.now image.now) (ReportsBlocks a r) text said)) gives plays;
-      }
+            (r, is, run_makes r sound GivesRingProgram a b is _ _ (same_both r sound m.machine shows program.now image.now) (ReportsBlocks a r) text said)) gives plays;
+      }))
 
 -- ---- the chain of two descriptions
 
