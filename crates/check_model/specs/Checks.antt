@@ -13,6 +13,7 @@ use Rattle.machine_model.specs.Paths.{RiscProgram, all_words, fetch, is_data}
 use Rattle.capture_desc.specs.declared.desc.Desc.{Desc}
 use Rattle.picture_model.specs.Programs.{body, vertical}
 use Rattle.field_law.specs.Sections.{Ask, Await, Begin, GoOn, asked, asks}
+use Rattle.field_law.specs.Trails.{next_at}
 use Rattle.check_model.specs.ByBytes.{by_bytes}
 use Rattle.check_model.specs.Lines.{Reach, last_spot, line_bytes, next_spot, nowhere, reached}
 use Rattle.check_model.specs.declared.Spot.{Spot}
@@ -162,11 +163,6 @@ abbrev pub short_why : Desc → Parity → Awaited → Why
 short_why d field left = let q = lowest_left left in unlike_why d field q (Await (vertical field)) (left q)
 
 -- ---- the walk along the path
-
--- where the machine goes on after an instruction
-abbrev pub next_at : Instr → ℕ → ℕ
-next_at (Jump ctl target) at = target
-next_at instr at = at + 4 * length (encoded instr)
 
 -- Behind a field's end only JUMPs stand up to the next field's SYNC; else the first place where that isn't so. The next
 -- place is searched by `more`

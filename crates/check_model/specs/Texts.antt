@@ -35,9 +35,9 @@ queue_words One = codes "queue 1"
 queue_words Two = codes "queue 2"
 queue_words Three = codes "queue 3"
 
--- a line on a queue, and what is said of it
-abbrev pub on_line : Line → Queue → List ℕ → List ℕ
-on_line l q words = line_words l ++ (codes ", " ++ (queue_words q ++ (codes ": " ++ words)))
+-- a line on a queue
+abbrev pub on_line : Line → Queue → List ℕ
+on_line l q = line_words l ++ (codes ", " ++ queue_words q)
 
 abbrev pub why_words : Why → List ℕ
 why_words (why.NoSync code) = codes "no sync " ++ code_name code
@@ -46,16 +46,16 @@ why_words why.NoNextField = codes "no next field"
 why_words why.WriteC = codes "writec"
 why_words why.LanesOff = codes "lanes off"
 why_words (why.SyncAwaited code) = codes "sync " ++ (code_name code ++ codes " awaited")
-why_words (why.ByteAwaited l q byte) = on_line l q (codes "byte " ++ (decimal byte ++ codes " awaited"))
+why_words (why.ByteAwaited l q byte) = on_line l q ++ (codes ": byte " ++ (decimal byte ++ codes " awaited"))
 why_words (why.PlaceAwaited l q byte address) =
-    on_line l q (codes "byte " ++ (decimal byte ++ (codes " at " ++ (address_text address ++ codes " awaited"))))
-why_words (why.NoPlaceAwaited l q byte) = on_line l q (codes "byte " ++ (decimal byte ++ codes " without a place awaited"))
-why_words (why.NoSolAwaited l q byte) = on_line l q (codes "no sol awaited at byte " ++ decimal byte)
-why_words (why.SolAwaited l q) = on_line l q (codes "sol awaited")
+    on_line l q ++ (codes ": byte " ++ (decimal byte ++ (codes " at " ++ (address_text address ++ codes " awaited"))))
+why_words (why.NoPlaceAwaited l q byte) = on_line l q ++ (codes ": byte " ++ (decimal byte ++ codes " without a place awaited"))
+why_words (why.NoSolAwaited l q byte) = on_line l q ++ (codes ": no sol awaited at byte " ++ decimal byte)
+why_words (why.SolAwaited l q) = on_line l q ++ codes ": sol awaited"
 why_words (why.NothingMore q) = queue_words q ++ codes ": nothing awaited"
-why_words (why.EolAwaited l q) = on_line l q (codes "eol awaited")
+why_words (why.EolAwaited l q) = on_line l q ++ codes ": eol awaited"
 why_words (why.EarlyEol l q byte bytes) =
-    on_line l q (codes "eol at byte " ++ (decimal byte ++ (codes " of " ++ decimal bytes)))
+    on_line l q ++ (codes ": eol at byte " ++ (decimal byte ++ (codes " of " ++ decimal bytes)))
 why_words why.NothingAwaited = codes "nothing awaited"
 why_words why.Unread = codes "no instruction"
 

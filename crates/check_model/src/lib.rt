@@ -3,6 +3,7 @@
 #![tactic(auto)]
 
 pub mod laws;
+pub mod words;
 
 use fifo_model::Queue;
 use risc_word::{Code, Ctl};

@@ -1,0 +1,9 @@
+pub mod Parts
+pub mod Tracks
+pub mod Numbers
+pub mod Spots
+pub mod Instrs
+pub mod Orders
+pub mod Walking
+pub mod Standing
+pub mod Choosing

@@ -1,0 +1,4 @@
+pub mod Cursors
+pub mod Tracks
+pub mod Walks
+pub mod Plans
