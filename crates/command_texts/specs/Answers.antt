@@ -1,7 +1,7 @@
 -- The status of each answer, and the answer of each refusal.
 use Rattle.std.specs.Prelude.{ℕ}
 use Rattle.command_texts.specs.declared.answer.Answer.{Answer}
-use Rattle.command_texts.specs.declared.answer.Answer.TheVariants.{Done, Usage, ReadFault, WriteFault, Malformed, BadDesc, BadGeometry, BadChain, BadRing, BadText, Rejected, NoMemory}
+use Rattle.command_texts.specs.declared.answer.Answer.TheVariants.{Done, Usage, ReadFault, WriteFault, Malformed, BadDesc, BadGeometry, BadChain, BadRing, BadText, Rejected, Differs, NoMemory}
 use Rattle.command_texts.specs.declared.refusal.Refusal.{Refusal}
 use Rattle.command_texts.specs.declared.refusal.Refusal.TheVariants as refusal
 
@@ -17,6 +17,7 @@ status_of (BadChain fault) = 1
 status_of (BadRing fault) = 3
 status_of (BadText fault) = 3
 status_of (Rejected at nth cause) = 1
+status_of (Differs text) = 1
 status_of NoMemory = 6
 
 abbrev pub answer_of : Refusal → Answer
@@ -28,4 +29,5 @@ answer_of (refusal.BadChain fault) = BadChain fault
 answer_of (refusal.BadRing fault) = BadRing fault
 answer_of (refusal.BadText fault) = BadText fault
 answer_of (refusal.Rejected at nth cause) = Rejected at nth cause
+answer_of (refusal.Differs text) = Differs text
 answer_of refusal.NoMemory = NoMemory

@@ -26,7 +26,7 @@ use Rattle.ring_compile.specs.declared.fault.RingFault.TheVariants as ring
 use Rattle.ring_compile.specs.Files as ring_keys
 use Rattle.risc_asm.specs.Words.{listing_words}
 use Rattle.command_texts.specs.declared.answer.Answer.{Answer}
-use Rattle.command_texts.specs.declared.answer.Answer.TheVariants.{Done, Usage, ReadFault, WriteFault, Malformed, BadDesc, BadGeometry, BadChain, BadRing, BadText, Rejected, NoMemory}
+use Rattle.command_texts.specs.declared.answer.Answer.TheVariants.{Done, Usage, ReadFault, WriteFault, Malformed, BadDesc, BadGeometry, BadChain, BadRing, BadText, Rejected, Differs, NoMemory}
 use Rattle.command_texts.specs.declared.texts.RefusalText.{RefusalText}
 use Rattle.command_texts.specs.declared.texts.RefusalText.TheVariants.{Ready, Made}
 
@@ -133,6 +133,7 @@ answer_text (BadText fault) = codes "listing: " ++ (listing_words fault ++ line_
 answer_text (Rejected at nth cause) =
     codes "rejected at " ++ (address_text at ++ (codes ", step " ++ (decimal nth
     ++ (codes ": " ++ (cause_words cause ++ line_end)))))
+answer_text (Differs text) = text
 answer_text NoMemory = codes "no memory\n"
 
 -- the bytes of a text that stands ready, or of one that was made

@@ -3,6 +3,7 @@
 ghost use Rattle.std.specs.Prelude.{◌≡◌};
 ghost use Rattle.command_texts.specs.Answers.{status_of};
 
+use crate::check_text::CheckText;
 use bt878_words::UsageFault;
 use capture_desc::DescFault;
 use capture_file::{FileFault, Input};
@@ -38,20 +39,23 @@ pub enum Answer {
     /// The program isn't sound: the address of the first place of its path that isn't fine, the
     /// number of that place, counted from 0, and its fault.
     Rejected { at: u64, nth: u64, cause: Cause },
+    /// A program doesn't show each field of a description: a line for each described field.
+    Differs(CheckText),
     /// Want of memory.
     NoMemory,
 }
 
 impl Answer {
-    /// The status with which the program ends: 0 for `Done`, 1 for `Rejected`, `BadGeometry` and
-    /// `BadChain`, 2 for `Usage`, 3 for `Malformed`, `BadDesc`, `BadRing` and `BadText`, 4 for `ReadFault`, 5 for `WriteFault`
-    /// and 6 for `NoMemory`.
+    /// The status with which the program ends: 0 for `Done`, 1 for `Rejected`, `BadGeometry`, `BadChain` and `Differs`, 2 for
+    /// `Usage`, 3 for `Malformed`, `BadDesc`, `BadRing` and `BadText`, 4 for `ReadFault`, 5 for `WriteFault` and 6 for
+    /// `NoMemory`.
     pub fn status(&self) -> u8
         ensures { result ≡ status_of self.now }
     {
         match self {
             Answer::Done => 0,
             Answer::BadGeometry(_) | Answer::BadChain(_) | Answer::Rejected { .. } => 1,
+            Answer::Differs(_) => 1,
             Answer::Usage(_) => 2,
             Answer::Malformed(..) | Answer::BadDesc(_) => 3,
             Answer::BadRing(_) | Answer::BadText(_) => 3,

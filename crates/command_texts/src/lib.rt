@@ -2,10 +2,12 @@
 #![tactic(auto)]
 
 mod answer;
+mod check_text;
 mod refusal;
 mod texts;
 
 pub use answer::Answer;
+pub use check_text::CheckText;
 pub use refusal::Refusal;
 pub use texts::{
     ACCEPTED, NO_MEMORY, RefusalText, blocks_text, built_text, made_text, refusal_text,

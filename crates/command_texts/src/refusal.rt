@@ -4,6 +4,7 @@ ghost use Rattle.std.specs.Prelude.{◌≡◌};
 ghost use Rattle.command_texts.specs.Answers.{answer_of};
 
 use crate::answer::Answer;
+use crate::check_text::CheckText;
 use capture_desc::DescFault;
 use capture_file::{FileFault, Input};
 use chain_model::ChainFault;
@@ -34,6 +35,8 @@ pub enum Refusal {
     /// The program isn't sound: the address of the first place of its path that isn't fine, the
     /// number of that place, counted from 0, and its fault.
     Rejected { at: u64, nth: u64, cause: Cause },
+    /// A program doesn't show each field of a description: a line for each described field.
+    Differs(CheckText),
     /// Want of memory.
     NoMemory,
 }
@@ -63,6 +66,7 @@ impl Refusal {
             Refusal::BadRing(fault) => Answer::BadRing(fault),
             Refusal::BadText(fault) => Answer::BadText(fault),
             Refusal::Rejected { at, nth, cause } => Answer::Rejected { at, nth, cause },
+            Refusal::Differs(text) => Answer::Differs(text),
             Refusal::NoMemory => Answer::NoMemory,
         }
     }

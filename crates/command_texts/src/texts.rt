@@ -223,14 +223,14 @@ fn malformed_text(alloc: Global, input: Input, fault: FileFault) -> Result<Vec<u
 
 /// The text of a refusal.
 #[derive(Drop)]
-pub enum RefusalText {
+pub enum RefusalText<'a> {
     /// It stands ready, so that it can be said where no memory is left.
-    Ready(&'static str),
+    Ready(&'a str),
     /// It was made.
     Made(Vec<u8>),
 }
 
-impl RefusalText {
+impl RefusalText<'_> {
     /// The bytes of the text.
     pub fn as_bytes(&self) -> &[u8]
         ensures { result.now ≡ refusal_bytes self.now }
@@ -243,13 +243,14 @@ impl RefusalText {
 }
 
 /// The text of a refusal: that of the answer that it becomes. The error is want of memory; the texts of `ReadFault` and of
-/// `NoMemory` take none.
-pub fn refusal_text(alloc: Global, refusal: &Refusal) -> Result<RefusalText, AllocError>
+/// `NoMemory` take none, and that of `Differs` was made before.
+pub fn refusal_text(alloc: Global, refusal: &Refusal) -> Result<RefusalText<'_>, AllocError>
     ensures { IfOk result (λ text. refusal_bytes text ≡ answer_text (answer_of refusal.now)) }
 {
     let text = match refusal {
         Refusal::ReadFault => return Ok(RefusalText::Ready(READ_FAULT)),
         Refusal::NoMemory => return Ok(RefusalText::Ready(NO_MEMORY)),
+        Refusal::Differs(text) => return Ok(RefusalText::Ready(text.as_str())),
         Refusal::Malformed(input, fault) => malformed_text(alloc, *input, *fault)?,
         Refusal::BadDesc(fault) => desc_text(alloc, fault)?,
         Refusal::BadGeometry(fault) => geometry_text(alloc, *fault)?,
