@@ -24,6 +24,7 @@ pub fn refuse<D: Desk>(alloc: Global, refusal: Refusal, desk: &mut D) -> Answer
     match refusal_text(alloc, &refusal) {
         Ok(text) => {
             say_last(text.as_bytes(), desk);
+            drop(text);
             refusal.into_answer()
         }
         Err(_) => {
