@@ -5,3 +5,4 @@ mod Judged
 mod Lengths
 pub mod WholeFiles
 pub mod Pairing
+pub mod Showing

@@ -4,3 +4,4 @@ pub mod Listings
 pub mod Rings
 pub mod Limits
 pub mod Chains
+pub mod Checked
