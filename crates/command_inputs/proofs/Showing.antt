@@ -1,9 +1,7 @@
 -- The description of a check, which is judged by a program.
-use Rattle.std.proofs.Common.{◌≡◌, List, ℕ, ◌∷◌, true, false, Result, Ok, Err, IfOk}
+use Rattle.std.proofs.Common.{List, ℕ, ◌∷◌, Bool, true, false, Result}
 use Rattle.capture_desc.specs.declared.desc.Desc.{Desc}
 use Rattle.capture_desk.specs.Desks.{Seen}
-use Rattle.check_model.specs.Texts.{check_text}
-use Rattle.check_model.specs.Verdicts.{shows}
 use Rattle.machine_model.specs.Paths.{RiscProgram}
 use Rattle.picture_model.specs.Geometry.{frame_fault}
 use Rattle.command_texts.specs.declared.refusal.Refusal.{Refusal}
@@ -12,8 +10,8 @@ use Rattle.command_steps.specs.Inputs.{Input, OfInput, StopsAt}
 use Rattle.command_steps.specs.Reading.{Takes}
 use Rattle.command_steps.proofs.Inputs.{OfInput-map}
 use Rattle.command_steps.proofs.Judging.{takes_as}
-use Rattle.command_inputs.specs.Chains.{IsFrameFile, frame_of}
-use Rattle.command_inputs.specs.Checked.{AreShown, Differ, HoldsShown, HoldsShownBy, IsBadFor, IsBadShown, IsFound, IsRefusedBy, a_shown_description, a_shown_with, shown_files, shown_with}
+use Rattle.command_inputs.specs.Chains.{IsFrameFile}
+use Rattle.command_inputs.specs.Checked.{AreShown, Finds, FindsBy, FindsIn, HoldsShown, HoldsShownBy, IsBadFor, IsBadShown, IsRefusedBy, a_shown_description, a_shown_with, shown_files, shown_with}
 use Rattle.command_inputs.specs.Descriptions.{IsBadDescBy}
 use Rattle.command_inputs.specs.Programs.{GivesSound}
 
@@ -28,21 +26,20 @@ module _ (program : RiscProgram) (name : List ℕ) (old new : Seen) where
   frame_stops refusal h = h
 
   module _ (d : Desc) (reads : OfInput name old.told.inputs (λ bytes. IsFrameFile bytes d)) where
+    -- what is found of the description, is found of the file
+    pub found : (all_shown : Bool) (text : List ℕ) → Finds program d all_shown text → OfInput name old.told.inputs (λ bytes. FindsIn program bytes all_shown text)
+    found all_shown text finds =
+        OfInput-map name old.told.inputs (λ bytes. IsFrameFile bytes d) (λ bytes. FindsIn program bytes all_shown text)
+        (λ bytes e. record { description = d; reads = e; finds = finds }) reads
+
     pub differing_stops : (refusal : Refusal) → IsRefusedBy program d refusal → StopsAt (IsBadFor program) name refusal old new
     differing_stops NoMemory h = tt
-    differing_stops (Differs text) (finds, says) =
-        OfInput-map name old.told.inputs (λ bytes. IsFrameFile bytes d) (λ bytes. IsFound program bytes false text)
-        (λ bytes e. record { description = d; reads = e; finds = finds; says = says }) reads
+    differing_stops (Differs text) h = found false text h
     differing_stops refusal h = absurd h
 
-    pub found : (text : List ℕ) → (shows program d ≡ true) × (text ≡ check_text program d) → OfInput name old.told.inputs (λ bytes. IsFound program bytes true text)
-    found text (finds, says) =
-        OfInput-map name old.told.inputs (λ bytes. IsFrameFile bytes d) (λ bytes. IsFound program bytes true text)
-        (λ bytes e. record { description = d; reads = e; finds = finds; says = says }) reads
-
-    pub holds_shown : (text : List ℕ) → (shows program d ≡ true) × (text ≡ check_text program d) → OfInput name old.told.inputs (HoldsShown program)
-    holds_shown text (finds, says) =
-        OfInput-map name old.told.inputs (λ bytes. IsFrameFile bytes d) (HoldsShown program) (λ bytes e. (d, e, finds)) reads
+    pub holds_shown : (text : List ℕ) → Finds program d true text → OfInput name old.told.inputs (HoldsShown program)
+    holds_shown text finds =
+        OfInput-map name old.told.inputs (λ bytes. IsFrameFile bytes d) (HoldsShown program) (λ bytes e. (d, e, finds.shown)) reads
 
 -- ---- the program was read from a file
 
@@ -52,16 +49,17 @@ module _ (program_name name : List ℕ) (program : RiscProgram) (fill : ℕ) (ol
       OfInput-map program_name old.told.inputs (λ program_bytes. GivesSound program_bytes program fill) (λ program_bytes. AreShown program_bytes bytes)
       (λ program_bytes accepts. record { program = program; fill = fill; accepts = accepts; shown = shown }) reads
 
-  differ : (text bytes : List ℕ) → IsFound program bytes false text → OfInput program_name old.told.inputs (λ program_bytes. Differ program_bytes bytes text)
-  differ text bytes found =
-      OfInput-map program_name old.told.inputs (λ program_bytes. GivesSound program_bytes program fill) (λ program_bytes. Differ program_bytes bytes text)
-      (λ program_bytes accepts. record { program = program; fill = fill; accepts = accepts; found = found }) reads
+  -- what is found of the description, is found of both files
+  pub found_by : (all_shown : Bool) (text bytes : List ℕ) → FindsIn program bytes all_shown text → OfInput program_name old.told.inputs (λ program_bytes. FindsBy program_bytes bytes all_shown text)
+  found_by all_shown text bytes finds =
+      OfInput-map program_name old.told.inputs (λ program_bytes. GivesSound program_bytes program fill) (λ program_bytes. FindsBy program_bytes bytes all_shown text)
+      (λ program_bytes accepts. record { program = program; fill = fill; accepts = accepts; finds = finds }) reads
 
   shown_stops : (refusal : Refusal) → StopsAt (IsBadFor program) name refusal old new → StopsAt (IsBadShown program_name) name refusal old new
   shown_stops ReadFault h = h
   shown_stops NoMemory h = tt
   shown_stops (Differs text) h =
-      OfInput-map name old.told.inputs (λ bytes. IsFound program bytes false text) (λ bytes. OfInput program_name old.told.inputs (λ program_bytes. Differ program_bytes bytes text)) (differ text) h
+      OfInput-map name old.told.inputs (λ bytes. FindsIn program bytes false text) (λ bytes. OfInput program_name old.told.inputs (λ program_bytes. FindsBy program_bytes bytes false text)) (found_by false text) h
   shown_stops refusal h = h
 
   -- it is taken as one that is judged by both files

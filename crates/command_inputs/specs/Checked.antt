@@ -13,22 +13,34 @@ use Rattle.command_inputs.specs.Chains.{frame_of}
 use Rattle.command_inputs.specs.Descriptions.{IsBadDescBy, longest_description}
 use Rattle.command_inputs.specs.Programs.{GivesSound}
 
--- ---- where the program is known
+-- ---- what is found
 
--- a file is that of a description; whether the program shows each field that it describes, and what is said of them
-pub record IsFound (program : RiscProgram) (bytes : List ℕ) (all_shown : Bool) (text : List ℕ) : Type 0 where
+-- of a program and a description: whether each described field is shown, and what is said of them
+pub record Finds (program : RiscProgram) (d : Desc) (all_shown : Bool) (text : List ℕ) : Type 0 where
+  pub shown : shows program d ≡ all_shown
+  pub says : text ≡ check_text program d
+
+-- why a description is refused; want of memory is free
+abbrev pub IsRefusedBy : RiscProgram → Desc → Refusal → Type 0
+IsRefusedBy program d (Differs text) = Finds program d false text
+IsRefusedBy program d NoMemory = ⊤
+IsRefusedBy program d _ = ⊥
+
+-- the same of the description of a file
+pub record FindsIn (program : RiscProgram) (bytes : List ℕ) (all_shown : Bool) (text : List ℕ) : Type 0 where
   pub description : Desc
   pub reads : frame_of bytes ≡ Ok description
-  pub finds : shows program description ≡ all_shown
-  pub says : text ≡ check_text program description
+  pub finds : Finds program description all_shown text
 
--- each of them is shown
+-- ---- as an input, where the program is known
+
+-- a file is that of a description each field of which is shown
 abbrev pub HoldsShown : RiscProgram → List ℕ → Type 0
 HoldsShown program bytes = (d : Desc) × (frame_of bytes ≡ Ok d) × (shows program d ≡ true)
 
 -- or not each, or it is no description
 abbrev pub IsBadFor : RiscProgram → List ℕ → Refusal → Option Inputs → Type 0
-IsBadFor program name (Differs text) told = OfInput name told (λ bytes. IsFound program bytes false text)
+IsBadFor program name (Differs text) told = OfInput name told (λ bytes. FindsIn program bytes false text)
 IsBadFor program name refusal told = IsBadDescBy frame_fault name refusal told
 
 abbrev pub shown_with : RiscProgram → Judge
@@ -38,26 +50,28 @@ shown_with program =
 abbrev pub a_shown_with : RiscProgram → List ℕ → Input
 a_shown_with program name = record { name = name; judge = shown_with program }
 
--- ---- the program is that of a file, and sound
+-- ---- as an input, where the program is that of a file, and sound
 
+-- what is found of the program of a file and of the description of another
+pub record FindsBy (program_bytes bytes : List ℕ) (all_shown : Bool) (text : List ℕ) : Type 0 where
+  pub program : RiscProgram
+  pub fill : ℕ
+  pub accepts : GivesSound program_bytes program fill
+  pub finds : FindsIn program bytes all_shown text
+
+-- each field that is described is shown
 pub record AreShown (program_bytes bytes : List ℕ) : Type 0 where
   pub program : RiscProgram
   pub fill : ℕ
   pub accepts : GivesSound program_bytes program fill
   pub shown : HoldsShown program bytes
 
-pub record Differ (program_bytes bytes text : List ℕ) : Type 0 where
-  pub program : RiscProgram
-  pub fill : ℕ
-  pub accepts : GivesSound program_bytes program fill
-  pub found : IsFound program bytes false text
-
 abbrev pub HoldsShownBy : List ℕ → Option Inputs → List ℕ → Type 0
 HoldsShownBy program_name told bytes = OfInput program_name told (λ program_bytes. AreShown program_bytes bytes)
 
 abbrev pub IsBadShown : List ℕ → List ℕ → Refusal → Option Inputs → Type 0
 IsBadShown program_name name (Differs text) told =
-    OfInput name told (λ bytes. OfInput program_name told (λ program_bytes. Differ program_bytes bytes text))
+    OfInput name told (λ bytes. OfInput program_name told (λ program_bytes. FindsBy program_bytes bytes false text))
 IsBadShown program_name name refusal told = IsBadDescBy frame_fault name refusal told
 
 abbrev pub shown_files : List ℕ → Judge
@@ -66,11 +80,3 @@ shown_files program_name =
 
 abbrev pub a_shown_description : List ℕ → List ℕ → Input
 a_shown_description program_name name = record { name = name; judge = shown_files program_name }
-
--- ---- what is found of a description
-
--- why it is refused; want of memory is free
-abbrev pub IsRefusedBy : RiscProgram → Desc → Refusal → Type 0
-IsRefusedBy program d (Differs text) = (shows program d ≡ false) × (text ≡ check_text program d)
-IsRefusedBy program d NoMemory = ⊤
-IsRefusedBy program d _ = ⊥

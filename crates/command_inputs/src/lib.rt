@@ -1,7 +1,9 @@
-//! Inputs that are read and judged: program files, descriptions, one or the two of a chain, ring files, and texts of listings.
+//! Inputs that are read and judged: program files, descriptions, one or the two of a chain or that of a check, ring files, and
+//! texts of listings.
 #![tactic(auto)]
 
 mod chains;
+mod checks;
 mod descriptions;
 mod limited;
 mod listings;
@@ -9,6 +11,7 @@ mod programs;
 mod rings;
 
 pub use chains::buffer_file;
+pub use checks::shown_file;
 pub use descriptions::{check_file, frame_file};
 pub use listings::assemble_file;
 pub use programs::{Loaded, accept, read_file};
