@@ -1,6 +1,6 @@
 -- What the top call promises, said one by one, follows from its one exact clause.
 use Rattle.std.specs.Prelude.{⊤}
-use Rattle.std.proofs.Common.{◌≡◌, ℕ, ◌⊎◌, inl, inr, false, List, [], ◌∷◌, Option, Result, Ok, Err, All, refl, sym, ap, subst, ◌∙◌}
+use Rattle.std.proofs.Common.{true, ◌≡◌, ℕ, ◌⊎◌, inl, inr, false, List, [], ◌∷◌, Option, Result, Ok, Err, All, refl, sym, ap, subst, ◌∙◌}
 use Rattle.bt878_words.specs.declared.Task.{Task}
 use Rattle.bt878_words.specs.declared.Task.TheVariants as command
 use Rattle.bt878_words.specs.declared.UsageFault.{UsageFault}
@@ -18,7 +18,7 @@ use Rattle.picture_model.specs.Programs.{compiled}
 use Rattle.field_stream.specs.Made.{made, made_entries, made_fields}
 use Rattle.risc_listing.specs.Listings.{listing}
 use Rattle.command_texts.specs.declared.answer.Answer.{Answer}
-use Rattle.command_texts.specs.declared.answer.Answer.TheVariants.{Done, Usage, ReadFault, WriteFault, Malformed, BadDesc, BadGeometry, BadChain, BadRing, BadText, Rejected, NoMemory}
+use Rattle.command_texts.specs.declared.answer.Answer.TheVariants.{Done, Usage, ReadFault, WriteFault, Malformed, BadDesc, BadGeometry, BadChain, BadRing, BadText, Rejected, Differs, NoMemory}
 use Rattle.command_texts.specs.declared.refusal.Refusal.{Refusal}
 use Rattle.command_texts.specs.declared.refusal.Refusal.TheVariants as refusal
 use Rattle.command_texts.specs.Answers.{answer_of}
@@ -36,12 +36,13 @@ use Rattle.stream_play.proofs.Fitting.{steps_fit}
 use Rattle.command_steps.proofs.Inputs.{OfInput-map}
 use Rattle.command_inputs.specs.Descriptions.{GivesCompiled, GivesDescribed}
 use Rattle.command_inputs.specs.Listings.{GivesAssembled}
+use Rattle.command_inputs.specs.Checked.{FindsBy}
 use Rattle.command_inputs.specs.Rings.{GivesRing, GivesRingProgram}
 use Rattle.ring_model.specs.Rings.{Ring}
 use Rattle.bt878_contract.specs.Tasks.{Answers, ChainOf, DescMakes, Ends, IsDone, IsLiveRun, IsPartDone, IsRefused, ListingMakes, MakesBy, Meaning, MakesOther, Reports, ReportsBlocks, RunsChain, RunsProgram}
 use Rattle.bt878_contract.specs.Tasks.{RunMakes, RunOf, TellsRows, compiled_text, image_of_run, input_of, inputs_of, meaning, names_read, names_written, no_file, program_and_image, program_file, program_text, sources}
 use Rattle.bt878_contract.specs.Clauses.{AreTold, CreatesNone, IsAssembled, IsBadInput, IsCompiled, IsCut, IsInOrder, IsGenerated, IsGood, IsOutput, IsRefusal, IsUnreadOf, IsUsage, OfDesc, OfDescRun}
-use Rattle.bt878_contract.specs.Clauses.{OfLive, OfLiveBy, OfLiveRun, OfLiveSteps, OfRan, OfRanBy, OfRingRun, OfSteps, OnlyOutputs, OnlySays, SameNames, SameOutput, SaysAccepted, SaysAll, SaysBlocks, SaysDamage}
+use Rattle.bt878_contract.specs.Clauses.{OfLive, OfLiveBy, OfLiveRun, OfLiveSteps, OfRan, OfRanBy, OfRingRun, OfSteps, OnlyOutputs, OnlySays, SameNames, SameOutput, SaysAccepted, SaysAll, SaysBlocks, SaysChecked, SaysDamage}
 use Rattle.bt878_contract.specs.Clauses.{SaysListing, ShowsImage, ShowsLast, ShowsLastLive, ShowsProgram, StandsAt, StaysInside, TellsInput, UnlessCut}
 use Rattle.bt878_contract.proofs.Words.{outputs_apart}
 use Rattle.bt878_contract.proofs.Inputs.{both-map, taken_are_good, three-map}
@@ -245,6 +246,15 @@ module _ (words : List Word) (answer : Answer) (old new : Seen) (h : Answers (ta
       let d = task_done task is in
       (d.made.made.0, subst (λ text. SaysAll text old.told new.told) d.made.made.1 (its_text task old new d), its_text_alone task old new d refl)
 
+  pub done_check : (program desc : Word) → task_of words ≡ Ok (command.Check program desc) → SaysChecked program.now desc.now old.told new.told
+  done_check program desc is =
+      let task = command.Check program desc in
+      let d = task_done task is in (
+        both-map program.now desc.now old.told.inputs (λ a b. FindsBy a b true d.product.text) (λ a b. (text : List ℕ) × FindsBy a b true text × SaysAll text old.told new.told)
+            (λ a b found. (d.product.text, found, its_text task old new d)) d.made.made.0,
+        its_text_alone task old new d refl,
+      )
+
   pub done_list : (program : Word) → task_of words ≡ Ok (command.List program) → SaysListing program.now old.told new.told
   done_list program is =
       let task = command.List program in
@@ -275,6 +285,7 @@ refusal_in (BadChain fault) = refusal.BadChain fault
 refusal_in (BadRing fault) = refusal.BadRing fault
 refusal_in (BadText fault) = refusal.BadText fault
 refusal_in (Rejected at nth cause) = refusal.Rejected at nth cause
+refusal_in (Differs text) = refusal.Differs text
 refusal_in answer = refusal.NoMemory
 
 refusal_back : (r : Refusal) → refusal_in (answer_of r) ≡ r
@@ -287,6 +298,7 @@ refusal_back (refusal.BadChain fault) = refl
 refusal_back (refusal.BadRing fault) = refl
 refusal_back (refusal.BadText fault) = refl
 refusal_back (refusal.Rejected at nth cause) = refl
+refusal_back (refusal.Differs text) = refl
 refusal_back refusal.NoMemory = refl
 
 one_refusal : (a b : Refusal) → answer_of a ≡ answer_of b → a ≡ b
@@ -308,6 +320,7 @@ is_other (refusal.BadChain fault) = tt
 is_other (refusal.BadRing fault) = tt
 is_other (refusal.BadText fault) = tt
 is_other (refusal.Rejected at nth cause) = tt
+is_other (refusal.Differs text) = tt
 is_other refusal.NoMemory = tt
 
 -- a refusal's answer comes of that refusal
@@ -378,6 +391,7 @@ in_order (Ok task) answer old new h =
     refused_order (refusal.BadRing fault) refused = refused.calls
     refused_order (refusal.BadText fault) refused = refused.calls
     refused_order (refusal.Rejected at nth cause) refused = refused.calls
+    refused_order (refusal.Differs text) refused = refused.calls
     refused_order refusal.NoMemory refused = refused.calls
 
 -- ---- what an answer leaves

@@ -1,5 +1,5 @@
 -- Why an input is not taken: a told input is bad in one way only, and a good one isn't bad.
-use Rattle.std.proofs.Common.{◌≡◌, ℕ, ◌<◌, ◌⊎◌, inl, inr, Bool, List, [], ◌∷◌, map, Option, Result, Ok, Err, refl, sym, ap, subst, ◌∙◌, arith}
+use Rattle.std.proofs.Common.{false, true, ◌≡◌, ℕ, ◌<◌, ◌⊎◌, inl, inr, Bool, List, [], ◌∷◌, map, Option, Result, Ok, Err, refl, sym, ap, subst, ◌∙◌, arith}
 use Rattle.capture_desk.specs.Desks.{HasRisen, Inputs, Seen}
 use Rattle.machine_model.specs.declared.Cause.{Cause}
 use Rattle.machine_model.specs.Paths.{RiscProgram, IsSound, IsFirstBad}
@@ -11,11 +11,11 @@ use Rattle.capture_file.specs.declared.Step.{Step}
 use Rattle.capture_file.specs.Programs.{program_of}
 use Rattle.capture_file.specs.Streams.{steps_of}
 use Rattle.command_texts.specs.declared.refusal.Refusal.{Refusal}
-use Rattle.command_texts.specs.declared.refusal.Refusal.TheVariants.{ReadFault, Malformed, BadDesc, BadGeometry, BadChain, BadRing, BadText, Rejected, NoMemory}
+use Rattle.command_texts.specs.declared.refusal.Refusal.TheVariants.{ReadFault, Malformed, BadDesc, BadGeometry, BadChain, BadRing, BadText, Rejected, Differs, NoMemory}
 use Rattle.command_texts.specs.Answers.{answer_of}
 use Rattle.command_steps.specs.Inputs.{AreGood, ByBytes, Input, IsFirstBadOf, OfInput, StopsAt, StopsIn}
 use Rattle.stream_play.specs.Plays.{longest_stream}
-use Rattle.command_inputs.specs.Programs.{HoldsProgram, HoldsSound, IsBadFile, IsBadProgram, Rejects, a_program, a_sound_program}
+use Rattle.command_inputs.specs.Programs.{GivesSound, HoldsProgram, HoldsSound, IsBadFile, IsBadProgram, Rejects, a_program, a_sound_program}
 use Rattle.stream_play.specs.Runs.{HoldsSteps, IsBadStream, a_stream_file}
 use Rattle.command_steps.proofs.Inputs.{OfInput-map}
 use Rattle.command_inputs.specs.Descriptions.{HoldsValid, IsBadDesc, IsBadDescBy, a_description, description_by, description_of}
@@ -29,6 +29,9 @@ use Rattle.picture_model.specs.declared.BuildFault.{BuildFault}
 use Rattle.picture_model.specs.Geometry.{first_fault, frame_fault}
 use Rattle.chain_model.specs.declared.ChainFault.{ChainFault}
 use Rattle.command_inputs.specs.Chains.{GivesChain, HasFault, HoldsFrame, HoldsSecond, IsBadSecond, a_first_description, a_second_description, frame_of}
+use Rattle.check_model.specs.Texts.{check_text}
+use Rattle.check_model.specs.Verdicts.{shows}
+use Rattle.command_inputs.specs.Checked.{AreShown, FindsBy, HoldsShownBy, IsBadShown, a_shown_description}
 use Rattle.command_inputs.specs.Rings.{HoldsRing, IsBadRing, a_ring, ring_of}
 use Rattle.bt878_contract.specs.Tasks.{Source, input_of}
 use Rattle.bt878_contract.specs.Tasks as tasks
@@ -332,6 +335,67 @@ text_once a b bytes one two =
 text_judge : IsByteJudge IsBadText HoldsListing IsAtFault
 text_judge = record { tells = text_tells; excludes = text_excludes; once = text_once }
 
+-- a description that is judged by a program
+module _ (program : List ℕ) where
+  pub record IsDiffering (refusal : Refusal) (told : Option Inputs) (bytes : List ℕ) : Type 0 where
+    text : List ℕ
+    is : refusal ≡ Differs text
+    found : OfInput program told (λ a. FindsBy a bytes false text)
+
+  abbrev WhyShown : Refusal → Option Inputs → List ℕ → Type 0
+  WhyShown refusal told bytes = IsRefusedBy frame_of refusal bytes ⊎ IsDiffering refusal told bytes
+
+  shown_tells : (name : List ℕ) (refusal : Refusal) (inputs : Option Inputs) → IsBadShown program name refusal inputs → OfInput name inputs (WhyShown refusal inputs)
+  shown_tells name (Differs text) inputs h =
+      OfInput-map name inputs (λ bytes. OfInput program inputs (λ a. FindsBy a bytes false text)) (WhyShown (Differs text) inputs)
+      (λ bytes bad. inr (record { text = text; is = refl; found = bad })) h
+  shown_tells name refusal inputs h =
+      OfInput-map name inputs (IsRefusedBy frame_of refusal) (WhyShown refusal inputs) (λ bytes. inl) (desc_tells frame_fault name refusal inputs h)
+
+  same_description : (bytes : List ℕ) (d e : Desc) → frame_of bytes ≡ Ok d → frame_of bytes ≡ Ok e → d ≡ e
+  same_description bytes d e one two = cc
+
+  same_program : (x : List ℕ) (p q : RiscProgram) (f g : ℕ) → GivesSound x p f → GivesSound x q g → p ≡ q
+  same_program x p q f g one two =
+      ap (λ (file : ProgramFile). file.program) (same_file x (record { program = p; fill = f }) (record { program = q; fill = g }) one.reads two.reads)
+
+  not_both : (x bytes text : List ℕ) → AreShown x bytes → FindsBy x bytes false text → ⊥
+  not_both x bytes text h k =
+      let program = same_program x h.program k.program h.fill k.fill h.accepts k.accepts in
+      let description = same_description bytes h.shown.0 k.finds.description h.shown.1 k.finds.reads in
+      let both : true ≡ false = sym h.shown.2 ∙ ap (λ p. shows p h.shown.0) program ∙ ap (shows k.program) description ∙ k.finds.finds.shown in
+      absurd (cc both)
+
+  shown_excludes : (refusal : Refusal) (inputs : Option Inputs) (bytes : List ℕ) → AreTold inputs → HoldsShownBy program inputs bytes → WhyShown refusal inputs bytes → ⊥
+  shown_excludes refusal inputs bytes told good (inl why) =
+      let some = told_some program inputs (λ a. AreShown a bytes) told good in
+      not_refused frame_of refusal bytes some.1.shown.0 some.1.shown.1 why
+  shown_excludes refusal inputs bytes told good (inr why) =
+      both_of program inputs (λ a. AreShown a bytes) (λ a. FindsBy a bytes false why.text) ⊥ told
+      (λ a given bad. not_both a bytes why.text given bad) good why.found
+
+  shown_once : (a b : Refusal) (inputs : Option Inputs) (bytes : List ℕ) → AreTold inputs → WhyShown a inputs bytes → WhyShown b inputs bytes → a ≡ b
+  shown_once a b inputs bytes told (inl one) (inl two) = refused_once frame_of a b bytes one two
+  shown_once a b inputs bytes told (inl one) (inr two) =
+      let some = told_some program inputs (λ x. FindsBy x bytes false two.text) told two.found in
+      absurd (not_refused frame_of a bytes some.1.finds.description some.1.finds.reads one)
+  shown_once a b inputs bytes told (inr one) (inl two) =
+      let some = told_some program inputs (λ x. FindsBy x bytes false one.text) told one.found in
+      absurd (not_refused frame_of b bytes some.1.finds.description some.1.finds.reads two)
+  shown_once a b inputs bytes told (inr one) (inr two) =
+      let same : one.text ≡ two.text =
+      both_of program inputs (λ x. FindsBy x bytes false one.text) (λ x. FindsBy x bytes false two.text) (one.text ≡ two.text) told
+      (λ x h k. one_text x bytes one.text two.text h k) one.found two.found in
+      one.is ∙ ap Differs same ∙ sym two.is
+    where
+      one_text : (x bytes s t : List ℕ) → FindsBy x bytes false s → FindsBy x bytes false t → s ≡ t
+      one_text x bytes s t h k =
+          h.finds.finds.says ∙ ap (λ p. check_text p h.finds.description) (same_program x h.program k.program h.fill k.fill h.accepts k.accepts)
+          ∙ ap (check_text k.program) (same_description bytes h.finds.description k.finds.description h.finds.reads k.finds.reads) ∙ sym k.finds.finds.says
+
+  shown_judge : IsJudge (IsBadShown program) (HoldsShownBy program) WhyShown
+  shown_judge = record { tells = shown_tells; excludes = shown_excludes; once = shown_once }
+
 -- ---- inputs whose judges are so
 
 pub record IsJudged (input : Input) : Type 1 where
@@ -366,6 +430,9 @@ ring_judged name = record { Why = λ refusal inputs. IsRefusedBy ring_of refusal
 pub listing_judged : (name : List ℕ) → IsJudged (a_listing name)
 listing_judged name = record { Why = λ refusal inputs. IsAtFault refusal; judges = by_bytes text_judge }
 
+pub shown_judged : (program name : List ℕ) → IsJudged (a_shown_description program name)
+shown_judged program name = record { Why = WhyShown program; judges = shown_judge program }
+
 pub judged_source : (source : Source) → IsJudged (input_of source)
 judged_source (tasks.Program name) = program_judged name
 judged_source (tasks.SoundProgram name) = sound_program_judged name
@@ -375,6 +442,7 @@ judged_source (tasks.SecondDescription first name) = second_judged first name
 judged_source (tasks.Stream chained name) = stream_judged chained name
 judged_source (tasks.RingFile name) = ring_judged name
 judged_source (tasks.Listing name) = listing_judged name
+judged_source (tasks.ShownDescription program name) = shown_judged program name
 
 pub judged : (sources : List Source) → AreJudged (map input_of sources)
 judged [] = tt

@@ -16,14 +16,17 @@ use Rattle.field_law.specs.Arrivals.{meeting, coming, entries_of, is_signal, ove
 use Rattle.picture_law.specs.Pictures.{IsKeptAt, Picture, of_row}
 use Rattle.picture_law.specs.Sections.{section_of}
 use Rattle.picture_law.specs.Runs.{ArrivesAt, IsCapture, IsFirstSignal, IsSignalled, between, step_at}
-use Rattle.picture_law.proofs.Places.{run_shows_picture, run_shows_no_fault, run_tells_field, run_signals_in_time}
+use Rattle.picture_law.proofs.Places.{run_shows_picture, run_tells_field}
 use Rattle.damage_law.specs.Marks.{answer, last_step, marks}
 use Rattle.damage_law.proofs.LastSignals.{answers_stay}
 use Rattle.damage_map.proofs.ArrivedFields.{arrived_rows_are_whole}
 use Rattle.damage_map.proofs.StandingRows.{whole_rows_stand}
 use Rattle.damage_law.specs.Standing.{StandsAt, row_entries}
 use Rattle.bt878_contract.specs.Rows.{HasArrivedRows, HoldsWholeRows, IsSignalFrom}
-use Rattle.bt878_contract.specs.Pictures.{ArrivesUpTo, IsCompiled, IsShown, ShowsPictures, ShowsNoFault, SignalsInTime}
+use Rattle.check_law.specs.Laws.{Found}
+use Rattle.check_law.specs.Runs.{IsCapture as FoundCapture, IsEnded}
+use Rattle.check_law.proofs.Places.{run_shows_picture as found_shows_picture, run_shows_no_fault as found_shows_no_fault, run_ends_with_closing as found_ends_with_closing, run_ends_in_time as found_ends_in_time}
+use Rattle.bt878_contract.specs.Pictures.{ArrivesUpTo, ArrivesUpToEnd, EndsInTime, IsCompiled, IsShown, ShowsField, ShowsNoFault, ShowsPictures, ShowsSignalledPictures}
 
 module _ (program : RiscProgram) (fill : ℕ) (steps : List Step) (made : All IsStep steps) where
   capture : (d : Desc) (field : Parity) (picture : Picture) → IsCompiled program d field picture → IsCapture d field picture steps
@@ -40,7 +43,7 @@ module _ (program : RiscProgram) (fill : ℕ) (steps : List Step) (made : All Is
       ArrivesUpTo d field picture (first_state (compiled d) fill) steps j k → IsSignalled d field picture fill steps j k
   signalled d field picture j k c a = record { capture = capture d field picture c; signal = a.signal; arrives = a.arrives }
 
-  pub pictures_shown : ShowsPictures (first_state program fill) steps
+  pub pictures_shown : ShowsSignalledPictures (first_state program fill) steps
   pictures_shown d field picture j k c =
       subst
       (λ (p : RiscProgram).
@@ -50,23 +53,30 @@ module _ (program : RiscProgram) (fill : ℕ) (steps : List Step) (made : All Is
       let s = signalled d field picture j k c a in
       record { memory = run_shows_picture d field picture fill steps j k s; told = run_tells_field d field picture fill steps j k s })
 
-  pub no_fault_shown : ShowsNoFault (first_state program fill) steps
-  no_fault_shown d field picture j k i c =
-      subst
-      (λ (p : RiscProgram).
-      ArrivesUpTo d field picture (first_state p fill) steps j k → j ≤ i → i ≤ k → step_at steps i ≡ Turn →
-      sets_fdsr (state_at (first_state p fill) steps i) ≡ false)
-      (sym c.same) (λ a. run_shows_no_fault d field picture fill steps j k i (signalled d field picture j k c a))
+  -- ---- every program that shows a field
 
-  pub signals_come : SignalsInTime (first_state program fill) steps
-  signals_come d field picture j i l c =
-      subst
-      (λ (p : RiscProgram).
-      j ≤ i → i ≤ l → l ≤ length steps → (arrives : ArrivesAt d field picture (state_at (first_state p fill) steps j) (between j l steps)) →
-      ((q : Queue) → entries_of arrives.before arrives.entries q ≤ length (queue_state q (state_at (first_state p fill) steps j).queues).entries + length (coming (meeting (compiled d) (between j i steps)) q)) →
-      5 * size d field + over_queues (entries_of arrives.before arrives.entries) ≤ turns_in (meeting (compiled d) (between i l steps)) →
-      (k : ℕ) × IsFirstSignal (section_of d field) (first_state p fill) steps j k × (k < l))
-      (sym c.same) (run_signals_in_time d field picture fill steps j i l (capture d field picture c))
+  module _ (d : Desc) (field : Parity) (f : Found) (picture : Picture) (shown : ShowsField program d field f picture) where
+    found_capture : FoundCapture program d field f picture steps
+    found_capture = record { shown = shown.shows; pictured = shown.pictured; made = made }
+
+    ended : (j k : ℕ) → ArrivesUpToEnd d field f picture (first_state program fill) steps j k → IsEnded program d field f picture fill steps j k
+    ended j k a = record { capture = found_capture; signal = a.ends; arrives = a.arrives }
+
+  pub fields_shown : ShowsPictures (first_state program fill) steps
+  fields_shown d field f picture j k shown a =
+      let e = ended d field f picture shown j k a in
+      record {
+        memory = found_shows_picture program d field f picture fill steps j k e;
+        closing = found_ends_with_closing program d field f picture fill steps j k e;
+      }
+
+  pub no_fault_shown : ShowsNoFault (first_state program fill) steps
+  no_fault_shown d field f picture j k i shown a = found_shows_no_fault program d field f picture fill steps j k i (ended d field f picture shown j k a)
+
+  pub fields_end_in_time : EndsInTime (first_state program fill) steps
+  fields_end_in_time d field f picture j i l shown = found_ends_in_time program d field f picture fill steps j i l (found_capture d field f picture shown)
+
+  -- ---- compiled programs
 
   pub rows_arrived : HasArrivedRows (first_state program fill) steps
   rows_arrived d field picture j k c =

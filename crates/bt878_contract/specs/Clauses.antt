@@ -30,6 +30,7 @@ use Rattle.stream_play.specs.Runs.{IsRun, LiveRan, Ran, chain_ran, first_of, las
 use Rattle.command_inputs.specs.Descriptions.{Describes, GivesDescribed}
 use Rattle.damage_text.specs.Texts.{damage_text}
 use Rattle.command_inputs.specs.Listings.{GivesAssembled}
+use Rattle.command_inputs.specs.Checked.{FindsBy}
 use Rattle.command_inputs.specs.Rings.{GivesRing}
 use Rattle.chain_model.specs.Chains.{Chain}
 use Rattle.chain_model.specs.Live.{LiveStep}
@@ -182,6 +183,13 @@ IsAssembled text program old new =
     OfInput text old.inputs (λ bytes. (file : ProgramFile) × GivesAssembled bytes file
     × IsOutput program (spelled file.program file.fill) new.outputs × SaysAll (program_text file.program) old new)
 
+-- the program of the first file is sound and shows each field that the description of the second describes, what is found of
+-- them is said, and nothing is created
+abbrev pub SaysChecked : List ℕ → List ℕ → Told → Told → Type 0
+SaysChecked program desc old new =
+    OfInput program old.inputs (λ a. OfInput desc old.inputs (λ b.
+    (text : List ℕ) × FindsBy a b true text × SaysAll text old new)) × CreatesNone old new
+
 -- ---- why it is refused
 
 -- the desk met a fault of reading, or tells that one of these inputs isn't there
@@ -191,7 +199,7 @@ IsUnreadOf names old new =
     ⊎ ((name : List ℕ) × (is_among name names ≡ true) × (is_missing name old.told.inputs ≡ true))
 
 -- the cause of a refusal that tells what is bad about an input: `Malformed`, `Rejected`, `BadDesc`, `BadGeometry`,
--- `BadChain`, `BadRing` or `BadText`
+-- `BadChain`, `BadRing`, `BadText` or `Differs`
 abbrev pub IsBadInput : Result Task UsageFault → Refusal → Option Inputs → Type 0
 IsBadInput (Ok task) refusal inputs = IsFirstBadOf (inputs_of task) refusal inputs
 IsBadInput (Err fault) refusal inputs = ⊥

@@ -33,6 +33,7 @@ use Rattle.command_inputs.specs.Programs.{GivesSound, HoldsSound, a_program, a_s
 use Rattle.command_inputs.specs.Descriptions.{Describes, GivesCompiled, GivesDescribed, a_description}
 use Rattle.command_inputs.specs.Listings.{GivesAssembled, a_listing}
 use Rattle.command_inputs.specs.Chains.{GivesChain, a_first_description, a_second_description}
+use Rattle.command_inputs.specs.Checked.{FindsBy, a_shown_description}
 use Rattle.command_inputs.specs.Rings.{GivesRing, GivesRingProgram, a_ring}
 use Rattle.chain_law.specs.Runs.{KeepsLivePromises}
 use Rattle.ring_model.specs.Rings.{Ring, ends}
@@ -138,6 +139,8 @@ pub data Source : Type 0 where
   Stream : Bool → List ℕ → Source
   RingFile : List ℕ → Source
   Listing : List ℕ → Source
+  -- a description that is judged by the program of a file, which has to show each field of it
+  ShownDescription : List ℕ → List ℕ → Source
 
 -- how it is judged
 abbrev pub input_of : Source → Input
@@ -149,6 +152,7 @@ input_of (SecondDescription first name) = a_second_description first name
 input_of (Stream chained name) = a_stream_file chained name
 input_of (RingFile name) = a_ring name
 input_of (Listing name) = a_listing name
+input_of (ShownDescription program name) = a_shown_description program name
 
 -- ---- the meaning of each command
 
@@ -222,6 +226,11 @@ abbrev pub AssembledOf : List ℕ → List (List ℕ) → Product → Type 0
 AssembledOf program (text ∷ []) product = ListingMakes program product text
 AssembledOf program _ product = ⊥
 
+-- what a check makes: the program is sound and shows each described field, and this is what is said of them
+abbrev pub CheckOf : List (List ℕ) → Product → Type 0
+CheckOf (program ∷ desc ∷ []) product = FindsBy program desc true product.text
+CheckOf _ product = ⊥
+
 -- what is made of the contents of the inputs
 abbrev pub makes : Meaning → List (List ℕ) → Product → Type 0
 makes (RunsProgram r) contents product = RunOf r.Gives r.files r.Says contents product
@@ -275,6 +284,8 @@ meaning (command.Ring ring stream program image) =
       Says = ReportsBlocks;
     })
 meaning (command.Assemble text program) = made_of (Listing text.now) (AssembledOf program.now)
+meaning (command.Check program desc) =
+    MakesOther (record { sources = SoundProgram program.now ∷ ShownDescription program.now desc.now ∷ []; makes = CheckOf; text = None })
 
 -- the inputs of a task, with their judges
 abbrev pub inputs_of : Task → List Input

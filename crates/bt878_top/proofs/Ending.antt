@@ -36,6 +36,7 @@ ends_by task (refusal.BadChain fault) old new h = (refusal.BadChain fault, refl,
 ends_by task (refusal.BadRing fault) old new h = (refusal.BadRing fault, refl, h)
 ends_by task (refusal.BadText fault) old new h = (refusal.BadText fault, refl, h)
 ends_by task (refusal.Rejected at nth cause) old new h = (refusal.Rejected at nth cause, refl, h)
+ends_by task (refusal.Differs text) old new h = (refusal.Differs text, refl, h)
 ends_by task refusal.NoMemory old new h = (refusal.NoMemory, refl, h)
 
 no_memory : (inputs : List Input) (old new : Seen) → StopsIn inputs refusal.NoMemory old new

@@ -39,6 +39,7 @@ use Rattle.command_steps.proofs.Inputs.{OfInput-map}
 use Rattle.command_inputs.specs.Programs.{Accepts, GivesSound, HoldsSound}
 use Rattle.command_inputs.specs.Descriptions.{Describes, GivesCompiled, GivesDescribed}
 use Rattle.command_inputs.specs.Listings.{GivesAssembled}
+use Rattle.command_inputs.specs.Checked.{FindsBy, FindsIn}
 use Rattle.command_inputs.specs.Rings.{GivesRing, GivesRingProgram, IsRingFile}
 use Rattle.command_inputs.specs.Chains.{IsFrameFile}
 use Rattle.stream_play.specs.Plays.{HasPlayed, HasPlayedWatched}
@@ -309,6 +310,21 @@ module _ (file : Word) (inputs : Option Inputs) where
           OfInput-map file.now inputs (λ bytes. GivesAssembled bytes (record { program = p; fill = fill }))
               (ListingMakes program.now (record { files = program_file program.now p fill ∷ []; text = program_text p }))
               (λ bytes is. record { file = record { program = p; fill = fill }; assembles = is; writes = refl; says = refl }) h,
+          tt,
+        );
+      }
+
+-- ---- a program and a description
+
+module _ (program desc : Word) (inputs : Option Inputs) (accepted : RiscProgram) (fill : ℕ) (text : List ℕ) where
+  pub check_made : OfInput program.now inputs (λ bytes. Accepts (program_of bytes) accepted fill) → OfInput desc.now inputs (λ bytes. FindsIn accepted bytes true text) →
+      IsProduct (command.Check program desc) inputs (record { files = []; text = text })
+  check_made gives found =
+      record {
+        names = refl;
+        made = (
+          both_inputs program.now desc.now inputs (λ a. Accepts (program_of a) accepted fill) (λ b. FindsIn accepted b true text) (λ a b. FindsBy a b true text)
+              (λ a b g f. record { program = accepted; fill = fill; accepts = g; finds = f }) gives found,
           tt,
         );
       }

@@ -8,7 +8,7 @@ use Rattle.bt878_top.specs.Contents.{listing_with}
 use Rattle.bt878_top.specs.declared.produced.Outputs.{Outputs}
 use Rattle.bt878_top.specs.declared.produced.Outputs.TheVariants as outputs
 use Rattle.bt878_top.specs.declared.produced.Produced.{Produced}
-use Rattle.bt878_top.specs.declared.produced.Produced.TheVariants.{Ready, Listing, Files}
+use Rattle.bt878_top.specs.declared.produced.Produced.TheVariants.{Ready, Checked, Listing, Files}
 
 -- the files in their order, each a name with bytes
 abbrev pub files_of : Outputs → List (List ℕ × List ℕ)
@@ -23,5 +23,6 @@ files_of (outputs.ChainImage name buffer) = (name.now, image_of buffer.live.mach
 -- the files and the text
 abbrev pub product_of : Produced → Product
 product_of (Ready text) = record { files = []; text = text.now }
+product_of (Checked text) = record { files = []; text = text }
 product_of (Listing listed) = record { files = []; text = listing_with listed.program listed.memory.items }
 product_of (Files outputs text) = record { files = files_of outputs; text = string_bytes text }

@@ -3,9 +3,9 @@
 ghost use Rattle.std.specs.Prelude.{◌≡◌, ℕ, ◌⊎◌, IfOk, List, Ok};
 ghost use Rattle.bt878_words.specs.Words.{HasFrames, Word, task_of, writes};
 ghost use Rattle.bt878_contract.specs.Clauses.{AreTold, IsAssembled, IsBadInput, IsCompiled, IsGenerated, IsGood, IsInOrder, IsRefusal, IsUnreadOf, IsUsage, OfDescRun, OfLive, OfLiveRun, OfLiveSteps};
-ghost use Rattle.bt878_contract.specs.Clauses.{OfRan, OfRingRun, OfSteps, OnlyOutputs, OnlySays, SameNames, SaysAccepted, SaysBlocks, SaysDamage, SaysListing, ShowsImage, ShowsLast, ShowsLastLive};
+ghost use Rattle.bt878_contract.specs.Clauses.{OfRan, OfRingRun, OfSteps, OnlyOutputs, OnlySays, SameNames, SaysAccepted, SaysBlocks, SaysChecked, SaysDamage, SaysListing, ShowsImage, ShowsLast, ShowsLastLive};
 ghost use Rattle.bt878_contract.specs.Clauses.{ShowsProgram, StandsAt, StaysInside, TellsInput, UnlessCut};
-ghost use Rattle.bt878_contract.specs.Pictures.{ShowsNoFault, ShowsPictures, SignalsInTime};
+ghost use Rattle.bt878_contract.specs.Pictures.{EndsInTime, ShowsNoFault, ShowsPictures, ShowsSignalledPictures};
 ghost use Rattle.bt878_contract.specs.Rows.{HasArrivedRows, HoldsWholeRows};
 ghost use Rattle.bt878_contract.specs.Rings.{RingsShowNoFault, ShowsRings};
 ghost use Rattle.bt878_contract.specs.Tasks.{Answers, AreAllowed, AreNames, Ends, IsProduct, inputs_of, names_read, names_written, reads};
@@ -25,7 +25,7 @@ ghost use Rattle.stream_play.specs.Runs.{OfRun};
 use crate::descriptions::make;
 use crate::listings::list;
 use crate::produced::Produced;
-use crate::programs::{assemble, compile, verify};
+use crate::programs::{assemble, check, compile, verify};
 use crate::runs::{capture, chain, damage, ring, run};
 use bt878_words::{Task, read_task};
 use capture_desk::Desk;
@@ -79,6 +79,7 @@ fn produce<'a, D: Desk>(
             image,
         } => ring(alloc, file, stream, program, image, desk),
         Task::Assemble { text, program } => assemble(alloc, text, program, desk),
+        Task::Check { program, desc } => check(alloc, program, desc, desk),
     }
 }
 
@@ -160,18 +161,24 @@ pub fn bt878<D: Desk>(alloc: Global, words: &[&str], desk: &mut D) -> Answer
     ensures inside { (result ≡ Answer.Done) →
         OfRan (task_of words.now) (D.seen desk.old).told.inputs StaysInside }
 
-    // At Done of these, for every valid description whose program is the one that ran (for
-    // `capture` the description that was read), every field of it, every picture and all places of those
-    // steps: after the first signal of a field that arrived in order and lost nothing, memory holds each
-    // byte of the picture that is not clipped at its place and is as it was everywhere else; no turn up to
-    // the signal sets FDSR, and the RISC status tells the field; and once all entries were pushed the
-    // signal comes within a bound of turns.
+    // At Done of these, for every description a field of which the program that ran shows (as `check` finds it),
+    // every picture of the field and all places of those steps: after the first end of a field that arrived in order
+    // and lost nothing, memory holds each byte of the picture that is not clipped at its place and is as it was
+    // everywhere else, and the control bits of the JUMP that ends the field are applied; no turn up to then sets
+    // FDSR; and once all entries were pushed the end comes within a bound of turns. Compiled programs show each
+    // described field (the law `compiled_programs_are_found` of check_law).
     ensures pictures { (result ≡ Answer.Done) →
         OfRan (task_of words.now) (D.seen desk.old).told.inputs (OfSteps ShowsPictures) }
     ensures no_fault_shown { (result ≡ Answer.Done) →
         OfRan (task_of words.now) (D.seen desk.old).told.inputs (OfSteps ShowsNoFault) }
     ensures in_time { (result ≡ Answer.Done) →
-        OfRan (task_of words.now) (D.seen desk.old).told.inputs (OfSteps SignalsInTime) }
+        OfRan (task_of words.now) (D.seen desk.old).told.inputs (OfSteps EndsInTime) }
+
+    // At Done of these, for every valid description whose program is the one that ran (for `capture` the
+    // description that was read): the same after the first signal of a field, and then RISCI is set and the RISC
+    // status tells the field.
+    ensures signalled_pictures { (result ≡ Answer.Done) →
+        OfRan (task_of words.now) (D.seen desk.old).told.inputs (OfSteps ShowsSignalledPictures) }
 
     // At Done of these, for every ring whose program and fill are those that ran (for `ring` the ring that was
     // read), all lines and all places of those steps: where a ring run goes from place j up to and with step k,
@@ -239,12 +246,17 @@ pub fn bt878<D: Desk>(alloc: Global, words: &[&str], desk: &mut D) -> Answer
         task_of words.now ≡ Ok (Task.Assemble text program) →
         IsAssembled text.now program.now (D.seen desk.old).told (D.seen desk.new).told }
 
+    // At Done of `check` the program is sound and shows each described field, and what is found of them was said.
+    ensures checked { (result ≡ Answer.Done) → (program desc : Word) →
+        task_of words.now ≡ Ok (Task.Check program desc) →
+        SaysChecked program.now desc.now (D.seen desk.old).told (D.seen desk.new).told }
+
     // At Done both counts of faults are as they were.
     ensures done { (result ≡ Answer.Done) → SameCounts (D.seen desk.old) (D.seen desk.new) }
 
     // When each refusal comes, and, but for want of memory and faults of reading, that it must come:
-    // `Malformed`, `Rejected`, `BadDesc`, `BadGeometry`, `BadChain`, `BadRing` and `BadText` exactly where the
-    // first bad input is so.
+    // `Malformed`, `Rejected`, `BadDesc`, `BadGeometry`, `BadChain`, `BadRing`, `BadText` and `Differs` exactly where
+    // the first bad input is so.
     ensures read_fault { (result ≡ Answer.ReadFault) →
         IsUnreadOf (names_read (task_of words.now))
         (D.seen desk.old)

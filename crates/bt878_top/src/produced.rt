@@ -13,7 +13,7 @@ use crate::contents::{Contents, Frames};
 use crate::listings::{Listed, say_whole};
 use capture_desk::Desk;
 use command_steps::{Output, finish};
-use command_texts::Answer;
+use command_texts::{Answer, CheckText};
 use dma_machine::Machine;
 use double_buffer::DoubleBuffer;
 use page_ram::PageRam;
@@ -62,6 +62,8 @@ pub enum Outputs<'a> {
 pub enum Produced<'a> {
     /// A text that stands ready.
     Ready(&'static str),
+    /// What is found of the fields of a description.
+    Checked(CheckText),
     /// A listing, which is said piece by piece.
     Listing(Listed),
     /// Outputs, and a text.
@@ -124,6 +126,7 @@ impl Produced<'_> {
     {
         match self {
             Produced::Ready(text) => say_alone(*text, desk),
+            Produced::Checked(text) => say_alone(text.as_str(), desk),
             Produced::Listing(listed) => say_whole(listed, desk),
             Produced::Files { outputs, text } => outputs.deliver(text, desk),
         }

@@ -9,7 +9,7 @@ ghost use Rattle.command_steps.specs.Reading.{Takes};
 use crate::produced::{Outputs, Produced};
 use bt878_words::Task;
 use capture_desk::Desk;
-use command_inputs::{accept, assemble_file, check_file};
+use command_inputs::{accept, assemble_file, check_file, shown_file};
 use command_texts::{ACCEPTED, Refusal, built_text};
 use risc_verify::Program;
 use std::alloc::{AllocError, Global};
@@ -26,6 +26,23 @@ pub fn verify<'a, D: Desk>(
 {
     accept(alloc, program, desk)?;
     Ok(Produced::Ready(ACCEPTED))
+}
+
+/// `check PROG DESC`: says of each described field whether the program, which has to be sound, shows it.
+pub fn check<'a, D: Desk>(
+    alloc: Global,
+    program: &'a str,
+    desc: &'a str,
+    desk: &mut D,
+) -> Result<Produced<'a>, Refusal>
+    requires program { IsAllowed program.now (D.seen desk.old).told.may_open }
+    requires desc { IsAllowed desc.now (D.seen desk.old).told.may_open }
+    ensures takes { Takes (inputs_of (Task.Check program.entry desc.entry)) result (D.seen desk.old) (D.seen desk.new) }
+    ensures makes { IfOk result (λ produced. IsProduct (Task.Check program.entry desc.entry) (D.seen desk.old).told.inputs (product_of produced)) }
+{
+    let loaded = accept(alloc, program, desk)?;
+    let text = shown_file(alloc, &loaded.accepted, desc, desk)?;
+    Ok(Produced::Checked(text))
 }
 
 /// A program file under a name, and how many words and chunks the program has.

@@ -33,7 +33,8 @@ verb_named word =
     else (if bytes_eq word (codes "damage") then Some verb.Damage
     else (if bytes_eq word (codes "ring") then Some verb.Ring
     else (if bytes_eq word (codes "assemble") then Some verb.Assemble
-    else None)))))))))
+    else (if bytes_eq word (codes "check") then Some verb.Check
+    else None))))))))))
 
 -- a decimal number of 64 bits, in digits without a sign and without a leading zero
 abbrev pub is_digit : ℕ → Bool
@@ -77,6 +78,7 @@ named verb.Chain (one ∷ two ∷ stream ∷ image ∷ []) = Ok (task.Chain one 
 named verb.Damage (desc ∷ stream ∷ []) = Ok (task.Damage desc stream)
 named verb.Ring (ring ∷ stream ∷ program ∷ image ∷ []) = Ok (task.Ring ring stream program image)
 named verb.Assemble (text ∷ program ∷ []) = Ok (task.Assemble text program)
+named verb.Check (program ∷ desc ∷ []) = Ok (task.Check program desc)
 named _ _ = Err WordCount
 
 -- the names of the inputs and of the outputs, in the order in which they are read and written
@@ -91,6 +93,7 @@ reads (task.Chain one two stream image) = one.now ∷ two.now ∷ stream.now ∷
 reads (task.Damage desc stream) = desc.now ∷ stream.now ∷ []
 reads (task.Ring ring stream program image) = ring.now ∷ stream.now ∷ []
 reads (task.Assemble text program) = text.now ∷ []
+reads (task.Check program desc) = program.now ∷ desc.now ∷ []
 
 abbrev pub writes : Task → List (List ℕ)
 writes (task.List program) = []
@@ -103,6 +106,7 @@ writes (task.Chain one two stream image) = image.now ∷ []
 writes (task.Damage desc stream) = []
 writes (task.Ring ring stream program image) = program.now ∷ image.now ∷ []
 writes (task.Assemble text program) = program.now ∷ []
+writes (task.Check program desc) = []
 
 -- an output has the name of an input or of another output
 abbrev pub is_among : List ℕ → List (List ℕ) → Bool
@@ -140,6 +144,7 @@ command_in (task.Chain one two stream image) = command.Chain
 command_in (task.Damage desc stream) = command.Damage
 command_in (task.Ring ring stream program image) = command.Ring
 command_in (task.Assemble text program) = command.Assemble
+command_in (task.Check program desc) = command.Check
 
 abbrev pub command_if : Result Task UsageFault → Result Command UsageFault
 command_if (Err fault) = Err fault

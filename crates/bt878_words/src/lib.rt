@@ -42,6 +42,8 @@ pub enum Command {
     Ring,
     /// `assemble TEXT PROG`
     Assemble,
+    /// `check PROG DESC`
+    Check,
 }
 
 /// What the program is asked to do, with the names of files and the numbers.
@@ -104,6 +106,11 @@ pub enum Task<'a> {
         text: &'a str,
         program: &'a str,
     },
+    /// Checks a program against a description.
+    Check {
+        program: &'a str,
+        desc: &'a str,
+    },
 }
 
 /// The first word.
@@ -119,6 +126,7 @@ enum Verb {
     Damage,
     Ring,
     Assemble,
+    Check,
 }
 
 fn verb_of(word: &str) -> Option<Verb>
@@ -135,6 +143,7 @@ fn verb_of(word: &str) -> Option<Verb>
         "damage" => Some(Verb::Damage),
         "ring" => Some(Verb::Ring),
         "assemble" => Some(Verb::Assemble),
+        "check" => Some(Verb::Check),
         _ => None,
     }
 }
@@ -221,6 +230,7 @@ fn task_for<'a>(verb: Verb, others: &[&'a str]) -> Result<Task<'a>, UsageFault>
             image,
         }),
         (Verb::Assemble, &[text, program]) => Ok(Task::Assemble { text, program }),
+        (Verb::Check, &[program, desc]) => Ok(Task::Check { program, desc }),
         _ => Err(UsageFault::WordCount),
     }
 }
@@ -251,7 +261,8 @@ impl Task<'_> {
         ensures { result ≡ has_clash (reads self.now) (writes self.now) }
     {
         match *self {
-            Task::List { .. } | Task::Verify { .. } | Task::Damage { .. } => false,
+            Task::List { .. } | Task::Verify { .. } => false,
+            Task::Damage { .. } | Task::Check { .. } => false,
             Task::Run {
                 program,
                 stream,
@@ -296,6 +307,7 @@ impl Task<'_> {
             Task::Damage { .. } => Command::Damage,
             Task::Ring { .. } => Command::Ring,
             Task::Assemble { .. } => Command::Assemble,
+            Task::Check { .. } => Command::Check,
         }
     }
 }

@@ -1,13 +1,13 @@
 -- Each clause follows from the one exact clause.
 use Rattle.bt878_words.specs.Words.{task_of}
-use Rattle.bt878_contract.specs.Pictures.{ShowsPictures, ShowsNoFault, SignalsInTime}
+use Rattle.bt878_contract.specs.Pictures.{EndsInTime, ShowsNoFault, ShowsPictures, ShowsSignalledPictures}
 use Rattle.bt878_contract.specs.Rows.{HasArrivedRows, HoldsWholeRows}
-use Rattle.bt878_contract.proofs.Pictures.{pictures_shown, no_fault_shown, rows_arrived, signals_come, whole_rows_held}
+use Rattle.bt878_contract.proofs.Pictures.{fields_end_in_time, fields_shown, no_fault_shown, pictures_shown, rows_arrived, whole_rows_held}
 use Rattle.bt878_contract.specs.Rings.{RingsShowNoFault, ShowsRings}
 use Rattle.bt878_contract.proofs.Rings.{no_fault_in_rings, rings_shown}
 use Rattle.machine_model.specs.States.{first_state}
 use Rattle.chain_law.specs.Runs.{LiveRunShowsNoFault, LiveRunShowsPictures, LiveRunStaysInside}
-use Rattle.bt878_contract.proofs.Consequences.{bad_input_comes, bad_input_must, completes, done_assemble, done_capture, done_captured, done_chain, done_compile, done_counts, done_damage, done_inside}
+use Rattle.bt878_contract.proofs.Consequences.{bad_input_comes, bad_input_must, completes, done_assemble, done_capture, done_captured, done_chain, done_check, done_compile, done_counts, done_damage, done_inside}
 use Rattle.bt878_contract.proofs.Consequences.{done_list, done_live, done_make, done_ring, done_run, done_sound, done_verify, ends_at_fault, in_order, names_kept, others_untouched, read_fault_comes}
 use Rattle.bt878_contract.proofs.Consequences.{refused_only_says, usage_comes, write_fault_comes, write_fault_stands}
 use Rattle.bt878_top.proofs.call.bt878.Goals as goal
@@ -25,7 +25,17 @@ returns-clause-inside g c =
 pub returns-clause-pictures : goal.returns-clause-pictures
 returns-clause-pictures g c =
     let see = g.D.Desk.seen in
-    done_captured ShowsPictures pictures_shown (task_of c.args.words.now) c.answer_words.result (see c.args.desk.now) (see c.answer_words.new.desk) c.answer_words.ensures
+    done_captured ShowsPictures fields_shown (task_of c.args.words.now) c.answer_words.result (see c.args.desk.now) (see c.answer_words.new.desk) c.answer_words.ensures
+
+pub returns-clause-signalled_pictures : goal.returns-clause-signalled_pictures
+returns-clause-signalled_pictures g c =
+    let see = g.D.Desk.seen in
+    done_captured ShowsSignalledPictures pictures_shown (task_of c.args.words.now) c.answer_words.result (see c.args.desk.now) (see c.answer_words.new.desk) c.answer_words.ensures
+
+pub returns-clause-checked : goal.returns-clause-checked
+returns-clause-checked g c =
+    let see = g.D.Desk.seen in
+    done_check c.args.words.now c.answer_words.result (see c.args.desk.now) (see c.answer_words.new.desk) c.answer_words.ensures
 
 pub returns-clause-no_fault_shown : goal.returns-clause-no_fault_shown
 returns-clause-no_fault_shown g c =
@@ -35,7 +45,7 @@ returns-clause-no_fault_shown g c =
 pub returns-clause-in_time : goal.returns-clause-in_time
 returns-clause-in_time g c =
     let see = g.D.Desk.seen in
-    done_captured SignalsInTime signals_come (task_of c.args.words.now) c.answer_words.result (see c.args.desk.now) (see c.answer_words.new.desk) c.answer_words.ensures
+    done_captured EndsInTime fields_end_in_time (task_of c.args.words.now) c.answer_words.result (see c.args.desk.now) (see c.answer_words.new.desk) c.answer_words.ensures
 
 pub returns-clause-arrived_rows : goal.returns-clause-arrived_rows
 returns-clause-arrived_rows g c =
