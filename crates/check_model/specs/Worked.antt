@@ -6,9 +6,10 @@ use Rattle.risc_word.specs.declared.Instr.{Instr}
 use Rattle.risc_word.specs.declared.Instr.TheVariants.{Write, Skip, Jump, Write123, Skip123, Write1S23}
 use Rattle.page_table.specs.Grants.{chunk}
 use Rattle.pixel_layout.specs.declared.Format.TheVariants.{Yuv420p}
-use Rattle.pixel_layout.specs.declared.Parity.TheVariants.{Top}
+use Rattle.pixel_layout.specs.declared.Parity.TheVariants.{Top, Bottom}
 use Rattle.machine_model.specs.Paths.{RiscProgram, one_span}
 use Rattle.capture_desc.specs.declared.desc.Desc.{Desc}
+use Rattle.capture_desc.specs.declared.desc.Fields.TheVariants as fields
 use Rattle.picture_model.specs.Programs.{closing, no_control, sync, words_of}
 use Rattle.picture_model.specs.Worked.{smallest}
 use Rattle.check_model.specs.Texts.{verdict_words}
@@ -38,6 +39,13 @@ of_smallest instrs = verdict_words (verdict (standing instrs) smallest Top)
 
 abbrev pub of_planar : List Instr → List ℕ
 of_planar instrs = verdict_words (verdict (standing instrs) planar Top)
+
+-- two rows of eight pixels, one in each field, and what is said of the bottom one
+abbrev pub interlaced : Desc
+interlaced = record smallest { height = 2; fields = fields.Both }
+
+abbrev pub of_bottom : List Instr → List ℕ
+of_bottom instrs = verdict_words (verdict (standing instrs) interlaced Bottom)
 
 -- how an instruction stands in its line
 abbrev pub whole : Ends

@@ -7,7 +7,7 @@ ghost use Rattle.pixel_layout.specs.declared.Parity.TheVariants.{Top};
 ghost use Rattle.picture_model.specs.Programs.{closing, compiled, no_control, sync};
 ghost use Rattle.picture_model.specs.Worked.{smallest};
 ghost use Rattle.check_model.specs.Texts.{check_text};
-ghost use Rattle.check_model.specs.Worked.{around, chroma_alone, chroma_row, first, inner, jump, last, line, luma_row, of_planar, of_smallest, opened_to, planar, planar_body, skip, whole, write};
+ghost use Rattle.check_model.specs.Worked.{around, chroma_alone, chroma_row, first, inner, jump, last, line, luma_row, of_bottom, of_planar, of_smallest, opened_to, planar, planar_body, skip, whole, write};
 
 /// The compiled program of a description shows its field. So do programs that cut a line elsewhere, that have JUMPs between,
 /// whose field ends at the next one's SYNC, or that take luma and chroma one after the other. Of several openings the first
@@ -31,7 +31,7 @@ pub fn worked_programs_are_shown()
 pub fn worked_openings_and_ends_differ()
     ensures none { of_smallest (sync true Vro ∷ sync false Fm1 ∷ write whole 8 0x20000 ∷ closing Top 0x1000 ∷ []) ≡ codes "differs at 00001000: no sync vre" }
     ensures no_resync { of_smallest (opened_to false (sync false Fm1 ∷ write whole 8 0x20000 ∷ []) (jump 0x1000)) ≡ codes "differs at 00001000: no resync" }
-    ensures endless { of_smallest (opened_to true (sync false Fm1 ∷ []) (jump 0x1010)) ≡ codes "differs at 00001010: no next field" }
+    ensures endless { of_smallest (opened_to true (sync false Fm1 ∷ jump 0x1018 ∷ []) (jump 0x1010)) ≡ codes "differs at 00001018: no next field" }
     ensures endless_behind { of_smallest (opened_to true (sync false Fm1 ∷ write whole 8 0x20000 ∷ []) (jump 0x1018)) ≡
         codes "differs at 00001018: no next field" }
     ensures behind { of_smallest (line (write whole 8 0x20000 ∷ skip inner 0 ∷ [])) ≡ codes "differs at 00001018: nothing awaited" }
@@ -67,4 +67,10 @@ pub fn worked_planar_lines_differ()
     ensures chroma { of_planar (planar_body (chroma_row ∷ Write123 no_control whole 0 (10 ∷ 5 ∷ 5 ∷ []) (0x2000a ∷ 0x20014 ∷ 0x20019 ∷ []) ∷ [])) ≡
         codes "differs at 00001040: row 1, queue 2: byte 0 without a place awaited" }
     ensures short { of_planar (planar_body (chroma_row ∷ [])) ≡ codes "differs at 00001000: row 1, queue 1: byte 0 awaited" }
+{}
+
+/// Rows are named as rows of the picture.
+pub fn worked_rows_are_the_pictures()
+    ensures shown { of_bottom (sync true Vro ∷ sync false Fm1 ∷ write whole 8 0x20008 ∷ jump 0x1000 ∷ []) ≡ codes "shown from 00001000 to 00001018, 2 instructions, jump" }
+    ensures short { of_bottom (sync true Vro ∷ sync false Fm1 ∷ write first 3 0x20008 ∷ jump 0x1000 ∷ []) ≡ codes "differs at 00001000: row 1, queue 1: byte 3 awaited" }
 {}

@@ -217,7 +217,7 @@ fn sync_why(
     ensures at { result ≡ None → AreIn frame.now field plan.now tracks.new }
     ensures few { result ≡ None → CountMore tracks.old tracks.new 0 }
 {
-    let nothing = first_nothing(plan, tracks);
+    let mut before = *tracks;
     if let Some(why) = take_awaited(frame, field, plan, Queue::One, &mut tracks.one, code) {
         return Some(why);
     }
@@ -227,7 +227,8 @@ fn sync_why(
     if let Some(why) = take_awaited(frame, field, plan, Queue::Three, &mut tracks.three, code) {
         return Some(why);
     }
-    nothing
+    // only where all that await something await this
+    first_nothing(plan, &mut before)
 }
 
 /// Why an instruction isn't what is awaited. Where it is, it is taken.
@@ -271,10 +272,13 @@ pub(crate) fn none_left(plan: &Program, tracks: &mut Tracks) -> bool
     ensures at { (d : Desc) (field : AnyParity) → AreIn d field plan.now tracks.old → AreIn d field plan.now tracks.new }
     ensures few { CountMore tracks.old tracks.new 0 }
 {
-    let one = awaits_nothing(plan, Queue::One, &mut tracks.one.cursor);
-    let two = awaits_nothing(plan, Queue::Two, &mut tracks.two.cursor);
-    let three = awaits_nothing(plan, Queue::Three, &mut tracks.three.cursor);
-    one && two && three
+    if !awaits_nothing(plan, Queue::One, &mut tracks.one.cursor) {
+        return false;
+    }
+    if !awaits_nothing(plan, Queue::Two, &mut tracks.two.cursor) {
+        return false;
+    }
+    awaits_nothing(plan, Queue::Three, &mut tracks.three.cursor)
 }
 
 /// Why the next field may not begin, where something is awaited: the lowest queue is said.
