@@ -1,21 +1,19 @@
 -- Every run shows the pictures that it captures, by the law of the picture; all their rows are whole, and the bytes of whole
 -- rows stand in memory.
-use Rattle.std.proofs.Common.{◌≡◌, ℕ, ◌+◌, ◌*◌, ◌<◌, ◌≤◌, true, false, List, length, replicate, slice_index_or, Some, All, sym, ◌∙◌, subst}
+use Rattle.std.proofs.Common.{◌≡◌, ℕ, ◌+◌, true, false, List, replicate, slice_index_or, Some, All, sym, ◌∙◌, subst}
 use Rattle.fifo_model.specs.declared.Queue.{Queue}
-use Rattle.fifo_model.specs.Queues.{queue_state}
 use Rattle.pixel_layout.specs.declared.Parity.{Parity}
 use Rattle.machine_model.specs.Paths.{RiscProgram}
 use Rattle.machine_model.specs.States.{first_state}
-use Rattle.machine_model.specs.Turns.{sets_fdsr}
-use Rattle.machine_model.specs.Steps.{Step, Turn, state_at}
+use Rattle.machine_model.specs.Steps.{Step, state_at}
 use Rattle.machine_model.specs.Safety.{IsStep}
 use Rattle.capture_desc.specs.declared.desc.Desc.{Desc}
 use Rattle.picture_model.specs.Described.{field_height}
-use Rattle.picture_model.specs.Programs.{compiled, size}
-use Rattle.field_law.specs.Arrivals.{meeting, coming, entries_of, is_signal, over_queues, turns_in}
+use Rattle.picture_model.specs.Programs.{compiled}
+use Rattle.field_law.specs.Arrivals.{is_signal}
 use Rattle.picture_law.specs.Pictures.{IsKeptAt, Picture, of_row}
 use Rattle.picture_law.specs.Sections.{section_of}
-use Rattle.picture_law.specs.Runs.{ArrivesAt, IsCapture, IsFirstSignal, IsSignalled, between, step_at}
+use Rattle.picture_law.specs.Runs.{IsCapture, IsSignalled, between}
 use Rattle.picture_law.proofs.Places.{run_shows_picture, run_tells_field}
 use Rattle.damage_law.specs.Marks.{answer, last_step, marks}
 use Rattle.damage_law.proofs.LastSignals.{answers_stay}

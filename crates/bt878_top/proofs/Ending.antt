@@ -13,7 +13,7 @@ use Rattle.command_texts.specs.Texts.{answer_text}
 use Rattle.command_steps.specs.declared.outputs.Output.{Output}
 use Rattle.command_steps.specs.Inputs.{Input, StopsIn, apart}
 use Rattle.command_steps.specs.Reading.{Stopped, Took}
-use Rattle.command_steps.specs.Outputs.{AreCutOff, AreDelivered, Finishes, IsDeliveryPart, IsPart, LastWriteFailed, Product, Refused, Says, delivered, delivery, names_of}
+use Rattle.command_steps.specs.Outputs.{AreCutOff, AreDelivered, Finishes, IsDeliveryPart, IsPart, LastWriteFailed, Product, Refused, Says, delivered, delivery}
 use Rattle.command_steps.proofs.Parts.{apart_part, apart_delivered}
 use Rattle.bt878_contract.specs.Tasks.{AreAllowed, Ends, IsDone, IsPartDone, IsProduct, IsRefused, Stops, inputs_of}
 use Rattle.bt878_contract.proofs.Judges.{stops_later}

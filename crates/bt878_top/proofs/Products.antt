@@ -1,5 +1,5 @@
 -- What each command makes of the contents of its inputs.
-use Rattle.std.proofs.Common.{◌≡◌, ℕ, List, [], ◌∷◌, ◌++◌, Bool, true, false, flat_map, Option, Some, None, Ok, refl, sym, ap, subst, ◌∙◌}
+use Rattle.std.proofs.Common.{◌≡◌, ℕ, List, [], ◌∷◌, ◌++◌, Bool, true, flat_map, Option, Some, None, Ok, refl, sym, ap, subst, ◌∙◌}
 use Rattle.capture_desk.specs.Desks.{Inputs, named}
 use Rattle.bt878_words.specs.declared.Task.TheVariants as command
 use Rattle.bt878_words.specs.Words.{Word}
@@ -37,16 +37,16 @@ use Rattle.command_steps.specs.Inputs.{OfFile, OfInput}
 use Rattle.command_steps.specs.Outputs.{Product}
 use Rattle.command_steps.proofs.Inputs.{OfInput-map}
 use Rattle.command_inputs.specs.Programs.{Accepts, GivesSound, HoldsSound}
-use Rattle.command_inputs.specs.Descriptions.{Describes, GivesCompiled, GivesDescribed}
+use Rattle.command_inputs.specs.Descriptions.{Describes, GivesCompiled}
 use Rattle.command_inputs.specs.Listings.{GivesAssembled}
 use Rattle.command_inputs.specs.Checked.{FindsBy, FindsIn}
 use Rattle.command_inputs.specs.Rings.{GivesRing, GivesRingProgram, IsRingFile}
 use Rattle.command_inputs.specs.Chains.{IsFrameFile}
 use Rattle.stream_play.specs.Plays.{HasPlayed, HasPlayedWatched}
-use Rattle.stream_play.specs.Runs.{HasPlayedChain, HasPlayedRing, IsRun, LiveRan, Ran, first_of, last_live_of, last_of}
+use Rattle.stream_play.specs.Runs.{HasPlayedChain, HasPlayedRing, IsRun, LiveRan, Ran, first_of, last_of}
 use Rattle.stream_play.proofs.Fitting.{all_fit, steps_fit}
 use Rattle.bt878_contract.specs.Tasks as tasks
-use Rattle.bt878_contract.specs.Tasks.{ChainOf, DescMakes, IsListed, IsProduct, ListingMakes, Makes, MakesBy, Reports, ReportsBlocks, RunMakes, RunMeaning, RunOf, RunsProgram, TellsRows}
+use Rattle.bt878_contract.specs.Tasks.{ChainOf, DescMakes, IsListed, IsProduct, ListingMakes, MakesBy, Reports, ReportsBlocks, RunMakes, RunMeaning, RunOf, RunsProgram, TellsRows}
 use Rattle.bt878_contract.specs.Tasks.{blocks_of, compiled_text, image_file, image_of_run, input_of, no_file, program_and_image, program_file, program_text, rows_told}
 
 -- ---- two inputs

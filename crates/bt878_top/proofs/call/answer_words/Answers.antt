@@ -1,6 +1,6 @@
 use Rattle.std.proofs.Common.{◌≡◌, Ok, sym, subst, ◌∙◌}
 use Rattle.bt878_words.specs.Words.{task_of}
-use Rattle.bt878_contract.specs.Tasks.{Answers, AreNames, names_read, names_written}
+use Rattle.bt878_contract.specs.Tasks.{AreNames, names_read, names_written}
 use Rattle.bt878_contract.proofs.Words.{all_allowed}
 use Rattle.bt878_contract.specs.Tasks as tasks
 use Rattle.bt878_words.specs.Words as words

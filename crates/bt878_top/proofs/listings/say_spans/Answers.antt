@@ -1,6 +1,6 @@
-use Rattle.std.proofs.Common.{◌≡◌, ◌<◌, ◌++◌, List, length, ap, subst, arith}
+use Rattle.std.proofs.Common.{◌<◌, ◌++◌, length, ap, subst, arith}
 use Rattle.std.proofs.lemmas.Result.{err_from_is_err_and}
-use Rattle.machine_model.specs.Paths.{Span, span}
+use Rattle.machine_model.specs.Paths.{span}
 use Rattle.risc_listing.specs.Listings.{span_lines}
 use Rattle.risc_listing.proofs.Spans.{no_span}
 use Rattle.bt878_top.proofs.Saying.{piece_breaks_off, piece_said, said_both, spans_split}

@@ -1,4 +1,4 @@
-use Rattle.std.proofs.Common.{ℕ, List, [], ◌∷◌, Ok, Err, true, sym}
+use Rattle.std.proofs.Common.{ℕ, List, [], Ok, Err, true, sym}
 use Rattle.capture_file.specs.Programs.{program_of}
 use Rattle.command_inputs.specs.Checked.{FindsIn, a_shown_description}
 use Rattle.command_inputs.specs.Programs.{Accepts, a_sound_program}

@@ -1,6 +1,4 @@
-use Rattle.std.proofs.Common.{sym, subst}
 use Rattle.bt878_words.specs.declared.Task.TheVariants as command
-use Rattle.bt878_contract.specs.Tasks.{IsProduct}
 use Rattle.bt878_top.proofs.Products.{compile_made}
 use Rattle.bt878_top.proofs.programs.compile.Goals as goal
 

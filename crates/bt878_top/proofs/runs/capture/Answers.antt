@@ -1,6 +1,6 @@
-use Rattle.std.proofs.Common.{◌≡◌, List, ℕ, ap, false, refl, sym, ◌∙◌}
+use Rattle.std.proofs.Common.{◌≡◌, ap, false, sym, ◌∙◌}
 use Rattle.std.specs.Prelude.{string_bytes}
-use Rattle.machine_model.specs.States.{State, first_state}
+use Rattle.machine_model.specs.States.{first_state}
 use Rattle.machine_watch.specs.Watches.{Watching, no_notes}
 use Rattle.dma_machine.specs.Facts.{report_of}
 use Rattle.picture_model.specs.Programs.{compiled}

@@ -1,6 +1,5 @@
-use Rattle.std.proofs.Common.{List, ℕ, true, subst, ◌∙◌}
+use Rattle.std.proofs.Common.{true, subst, ◌∙◌}
 use Rattle.std.specs.Prelude.{string_bytes}
-use Rattle.double_buffer.specs.Pairs.{first_of_two}
 use Rattle.command_inputs.specs.Chains.{IsFrameFile}
 use Rattle.double_buffer.specs.Plays.{chain_act}
 use Rattle.stream_play.specs.Plays.{PlaysAll}

@@ -1,4 +1,4 @@
-use Rattle.std.proofs.Common.{◌≡◌, List, ℕ, [], ◌∷◌, ap, false, refl, sym, subst, ◌∙◌}
+use Rattle.std.proofs.Common.{[], ◌∷◌, false, subst}
 use Rattle.std.specs.Prelude.{string_bytes}
 use Rattle.damage_map.specs.Laws.{map_after}
 use Rattle.damage_map.specs.Tracks.{track_notes}

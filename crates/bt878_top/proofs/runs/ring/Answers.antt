@@ -1,11 +1,9 @@
-use Rattle.std.proofs.Common.{◌≡◌, List, ℕ, ap, false, refl, sym, subst, ◌∙◌}
+use Rattle.std.proofs.Common.{false, subst}
 use Rattle.std.specs.Prelude.{string_bytes}
-use Rattle.machine_model.specs.States.{State, first_state}
-use Rattle.machine_watch.specs.Watches.{Watching, watching}
-use Rattle.dma_machine.specs.Facts.{report_of}
+use Rattle.machine_model.specs.States.{first_state}
+use Rattle.machine_watch.specs.Watches.{watching}
 use Rattle.ring_model.specs.Rings.{ring_program}
 use Rattle.ring_machine.specs.States.{block_notes}
-use Rattle.command_texts.specs.Texts.{blocks_text}
 use Rattle.command_inputs.specs.Rings.{a_ring}
 use Rattle.stream_play.specs.Plays.{PlaysAll, watch_act}
 use Rattle.stream_play.specs.Runs.{HasPlayedRing, a_stream}
