@@ -197,7 +197,7 @@ pub fn bt878<D: Desk>(alloc: Global, words: &[&str], desk: &mut D) -> Answer
         OfDescRun desc.now stream.now (D.seen desk.old).told.inputs
         (SaysDamage (D.seen desk.old).told (D.seen desk.new).told) }
 
-    // At Done of `run`, `capture`, `damage` and `ring`, for every description and picture as above: where the
+    // At Done of these, for every description and picture as in `signalled_pictures`: where the
     // field that arrived is the last one that is signalled, every row of it is whole (so `damage` says it).
     ensures arrived_rows { (result ≡ Answer.Done) →
         OfRan (task_of words.now) (D.seen desk.old).told.inputs (OfSteps HasArrivedRows) }
