@@ -65,6 +65,19 @@ pub fn judged(
     left_by(alloc, &words, &words[1..], &files, &[], limits)
 }
 
+pub fn checked(
+    alloc: Global,
+    program: &[u8],
+    description: &[u8],
+    failing: &[u64],
+    longest: usize,
+) -> Result<Left, AllocError> {
+    let words = ["check", "program", "description"];
+    let files = [program, description];
+    let limits = Limits::new(failing, longest, 1000);
+    left_by(alloc, &words, &words[1..], &files, &[], limits)
+}
+
 pub fn assembled(
     alloc: Global,
     text: &[u8],

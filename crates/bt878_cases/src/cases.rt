@@ -50,6 +50,10 @@ pub const ONE_LINE_IMAGE: Parts = &[
 pub const ONE_LINE_LISTING: &[u8] =
     b"base 00001000\n00001000 sync vre resync\n00001008 sync fm1\n00001010 write sol eol 8 00020000\n00001018 jump irq set=1 reset=e 00001000\npage 00020000\nfill 00\n";
 
+/// A program without words.
+pub const NO_WORDS: &[u8] =
+    b"BRP1\x00\x10\x00\x00\x00\x00\x00\x00\x01\x00\x00\x00\x00\x00\x02\x00\x00";
+
 /// What `list` says.
 pub static LISTED: [Judged; 6] = [
     // instructions with the fields that aren't 0
@@ -153,7 +157,7 @@ pub static JUDGED: [Judged; 18] = [
     },
     // a program without words is cut at its base
     Judged {
-        program: b"BRP1\x00\x10\x00\x00\x00\x00\x00\x00\x01\x00\x00\x00\x00\x00\x02\x00\x00",
+        program: NO_WORDS,
         status: 1,
         said: b"rejected at 00001000, step 0: cut\n",
     },

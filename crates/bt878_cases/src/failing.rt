@@ -2,7 +2,8 @@
 
 use crate::buffers::{CHAIN_STREAM, FIRST, RING, RING_STREAM, SECOND};
 use crate::calls::{
-    LONG, assembled, captured, chained, compiled, damaged, judged, listed, made, played, ringed,
+    LONG, assembled, captured, chained, checked, compiled, damaged, judged, listed, made, played,
+    ringed,
 };
 use crate::cases::{ONE_LINE, ONE_LINE_LISTING, ONE_LINE_STREAM};
 use crate::left::Left;
@@ -19,6 +20,7 @@ const STILL_STREAM: &[u8] = b"BFS1\x04\x04\x04\x06\x00";
 enum Command {
     List,
     Verify,
+    Check,
     Assemble,
     Compile,
     Make,
@@ -29,9 +31,10 @@ enum Command {
     Ring,
 }
 
-static COMMANDS: [Command; 10] = [
+static COMMANDS: [Command; 11] = [
     Command::List,
     Command::Verify,
+    Command::Check,
     Command::Assemble,
     Command::Compile,
     Command::Make,
@@ -48,6 +51,7 @@ impl Command {
         match self {
             Command::List => listed(alloc, ONE_LINE, failing, longest),
             Command::Verify => judged(alloc, ONE_LINE, failing, longest),
+            Command::Check => checked(alloc, ONE_LINE, FIRST, failing, longest),
             Command::Assemble => assembled(alloc, ONE_LINE_LISTING, failing, longest),
             Command::Compile => compiled(alloc, FIRST, failing, longest, 5000),
             Command::Make => made(alloc, FIRST, failing, longest, 5000),
@@ -63,6 +67,7 @@ impl Command {
     fn inputs(self) -> &'static [&'static [u8]] {
         match self {
             Command::List | Command::Verify => &[ONE_LINE],
+            Command::Check => &[ONE_LINE, FIRST],
             Command::Assemble => &[ONE_LINE_LISTING],
             Command::Compile | Command::Make => &[FIRST],
             Command::Run => &[ONE_LINE, ONE_LINE_STREAM],
@@ -75,7 +80,7 @@ impl Command {
     /// How many outputs the command writes.
     fn outputs(self) -> u64 {
         match self {
-            Command::List | Command::Verify | Command::Damage => 0,
+            Command::List | Command::Verify | Command::Check | Command::Damage => 0,
             Command::Capture | Command::Ring => 2,
             _ => 1,
         }
@@ -251,5 +256,20 @@ fn each_command_works_byte_by_byte(rt: HostRuntime) -> Result<(), Fail> {
         assert!(rt; works_byte_by_byte(rt.alloc(), *command)?);
         assert!(rt; each_reading_call_fails(rt.alloc(), *command, 1)?);
     }
+    Ok(())
+}
+
+/// A program that differs from a description is told as a refusal is: a fault of saying it changes nothing.
+#[test]
+fn a_difference_stays_where_it_cannot_be_said(rt: HostRuntime) -> Result<(), Fail> {
+    let reads = Command::Check.reading_calls(LONG);
+    let left = checked(
+        rt.alloc(),
+        ONE_LINE,
+        SECOND,
+        &[reads.saturating_add(1)],
+        LONG,
+    )?;
+    assert!(rt; left.says(1, b"") && left.has_faults(0, 1));
     Ok(())
 }

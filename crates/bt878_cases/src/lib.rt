@@ -24,6 +24,8 @@ mod order;
 #[cfg(test)]
 mod painting;
 #[cfg(test)]
+mod shown;
+#[cfg(test)]
 mod tests;
 #[cfg(test)]
 mod words;

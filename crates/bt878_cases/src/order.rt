@@ -1,7 +1,8 @@
 // The order of work: the calls that a desk was given.
 
+use crate::buffers::{FIRST, SECOND};
 use crate::calls::{LONG, status_of};
-use crate::cases::{ONE_LINE, ONE_LINE_STREAM};
+use crate::cases::{NO_WORDS, ONE_LINE, ONE_LINE_STREAM};
 use crate::desks::{Limits, desk_of};
 use capture_desk::{Call, LoggedDesk, MemDesk, Octets};
 use std::alloc::{AllocError, Global};
@@ -28,6 +29,20 @@ fn line(alloc: Global, call: &Call) -> Result<Vec<u8>, AllocError> {
         Call::Say => format!(in alloc; "say\n")?,
     };
     Ok(text.into_bytes())
+}
+
+/// A desk of `check` that was called on, with its calls.
+fn logged_check(
+    alloc: Global,
+    program: &[u8],
+    description: &[u8],
+) -> Result<LoggedDesk<MemDesk>, AllocError> {
+    let words = ["check", "program", "description"];
+    let limits = Limits::new(&[], LONG, 500);
+    let desk = desk_of(alloc, &words[1..], &[program, description], &[], limits)?;
+    let mut desk = LoggedDesk::new(alloc, desk);
+    let _ = status_of(alloc, &words, &mut desk);
+    Ok(desk)
 }
 
 /// A desk of `run` that was called on, with its calls.
@@ -81,6 +96,20 @@ fn makes_calls(
     }
 }
 
+/// Whether `check program description` makes these calls, the last one first.
+fn checks_in_calls(
+    alloc: Global,
+    program: &[u8],
+    description: &[u8],
+    wanted: &[u8],
+) -> Result<bool, AllocError> {
+    let desk = logged_check(alloc, program, description)?;
+    match desk.calls() {
+        Some(calls) => are_lines(alloc, calls, wanted),
+        None => Ok(false),
+    }
+}
+
 /// Each input is opened and read to its end before the next is opened; then the output is made, and the
 /// report is said.
 #[test]
@@ -113,5 +142,23 @@ fn a_failed_creation_is_the_last_call(rt: HostRuntime) -> Result<(), Fail> {
     let wanted =
         b"create image failed\nread 65536: 0\nread 65536: 26\nopen stream\nread 65536: 0\nread 65536: 53\nopen program\n";
     assert!(rt; makes_calls(rt.alloc(), ONE_LINE, ONE_LINE_STREAM, &[7], wanted)?);
+    Ok(())
+}
+
+/// The program is read through and judged before the description is opened; then the verdict is said.
+#[test]
+fn a_check_works_in_order(rt: HostRuntime) -> Result<(), Fail> {
+    let wanted =
+        b"say\nread 65536: 0\nread 65536: 68\nopen description\nread 65536: 0\nread 65536: 53\nopen program\n";
+    assert!(rt; checks_in_calls(rt.alloc(), ONE_LINE, FIRST, wanted)?);
+    assert!(rt; checks_in_calls(rt.alloc(), ONE_LINE, SECOND, wanted)?);
+    Ok(())
+}
+
+/// A program that isn't sound is told before the description is opened.
+#[test]
+fn an_unsound_program_is_told_first(rt: HostRuntime) -> Result<(), Fail> {
+    let wanted = b"say\nread 65536: 0\nread 65536: 21\nopen program\n";
+    assert!(rt; checks_in_calls(rt.alloc(), NO_WORDS, FIRST, wanted)?);
     Ok(())
 }

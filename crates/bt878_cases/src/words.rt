@@ -21,6 +21,10 @@ fn words_are_judged_in_order(rt: HostRuntime) {
     assert!(rt; reads(&["run", "a", "a", "b"], Command::Run));
     assert!(rt; reads(&["verify", "a"], Command::Verify));
     assert!(rt; reads(&["list", "a"], Command::List));
+    assert!(rt; reads(&["check", "p", "d"], Command::Check));
+    assert!(rt; reads(&["check", "a", "a"], Command::Check));
+    assert!(rt; is_refused(&["check", "p"], UsageFault::WordCount));
+    assert!(rt; is_refused(&["check", "p", "d", "e"], UsageFault::WordCount));
     assert!(rt; reads(&["compile", "d", "p"], Command::Compile));
     assert!(rt; reads(&["assemble", "t", "p"], Command::Assemble));
     assert!(rt; reads(&["chain", "d", "e", "s", "i"], Command::Chain));
