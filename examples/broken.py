@@ -28,6 +28,12 @@ class Bug(NamedTuple):
     status: str = ""  # of `run` on scattered.bfs, where it is accepted
     moved: int = 8400
     same_image: bool = True
+    top: str = "shown from 00a00000 to 00a01048, 12 instructions, jump"  # what `check` says, where it is accepted
+    bottom: str = "shown from 00a00020 to 00a02048, 11 instructions, jump irq set=1 reset=e"
+
+    def checked(self):
+        """What `check` says beside scattered.toml."""
+        return self.verdict + "\n" if self.verdict != "accepted" else f"top: {self.top}\nbottom: {self.bottom}\n"
 
 
 def top_list(*arguments):
@@ -84,22 +90,39 @@ BUGS = [
     Bug("a list without its JUMP", without_jump, "rejected at 00a01048, step 13: cut"),
     Bug("a JUMP a word too far", word(0, 7, lambda w: w + 4), "rejected at 00a01004, step 4: reserved 0"),
     Bug("bytes not swapped", swap, "rejected at 00a00000, step 0: reserved 0", None),
-    Bug("a length in pixels", top_list(PAGES, 0, 300, 1200, 7), OK, 39, "10004800", 6300, False),
-    Bug("four bytes too few", top_list(PAGES, 0, 596, 1200, 7), OK, 14, "10004800", 8372, False),
-    Bug("four bytes too many", top_list(PAGES, 0, 604, 1200, 7), OK, 14, "10004800"),
-    Bug("a count of 4,096", word(1, 2, lambda w: WRITE << 28 | IS_SOL | IS_EOL | 4096), OK, 2, "10000800", 7800, False),
-    Bug("pages exchanged", top_list([SECOND, FIRST, THIRD], 0, 600, 1200, 7), OK, 16, "10000800", 8400, False),
-    Bug("no EOL", word(1, 2, lambda w: w & ~IS_EOL), OK, 2, "10000800"),
-    Bug("no SOL", word(1, 2, lambda w: w & ~IS_SOL), OK, 2, "10004800", 7800, False),
-    Bug("SOL on the rest of a split line", word(1, 10, lambda w: w | IS_SOL), OK, 2, "10004800", 7800, False),
-    Bug("FM3 for packed data", word(1, 0, lambda w: SYNC << 28 | FM3), OK, 2, "00004000", 0, False),
-    Bug("a line too many", top_list(PAGES, 0, 600, 1200, 8), OK, 25, "10004800"),
-    Bug("a line too few", top_list(PAGES, 0, 600, 1200, 6), OK, 25, "10000800", 7800, False),
-    Bug("fields exchanged", exchange, OK, 32, "10000800", 8400, False),
-    Bug("no IRQ", word(2, -2, lambda w: w & ~IS_IRQ), OK, None, "10000000"),
-    Bug("the top field's status", word(2, -2, lambda w: w ^ (0x33 << 16)), OK, None, "20000800"),
-    Bug("a status that is never cleared", word(2, -2, lambda w: w & ~(0xF << 20)), OK, None, "10000800"),
-    Bug("no RESYNC", without_resync, OK, None, "10000800"),
+    Bug("a length in pixels", top_list(PAGES, 0, 300, 1200, 7), OK, 39, "10004800", 6300, False,
+        "differs at 00a01008: row 0, queue 1: eol at byte 299 of 600"),
+    Bug("four bytes too few", top_list(PAGES, 0, 596, 1200, 7), OK, 14, "10004800", 8372, False,
+        "differs at 00a01008: row 0, queue 1: eol at byte 595 of 600"),
+    Bug("four bytes too many", top_list(PAGES, 0, 604, 1200, 7), OK, 14, "10004800",
+        top="differs at 00a01008: row 2, queue 1: byte 0 at 030054b0 awaited"),
+    Bug("a count of 4,096", word(1, 2, lambda w: WRITE << 28 | IS_SOL | IS_EOL | 4096), OK, 2, "10000800", 7800, False,
+        "differs at 00a01008: lanes off"),
+    Bug("pages exchanged", top_list([SECOND, FIRST, THIRD], 0, 600, 1200, 7), OK, 16, "10000800", 8400, False,
+        "differs at 00a01008: row 0, queue 1: byte 0 at 03005000 awaited"),
+    Bug("no EOL", word(1, 2, lambda w: w & ~IS_EOL), OK, 2, "10000800",
+        top="differs at 00a01008: row 0, queue 1: eol awaited"),
+    Bug("no SOL", word(1, 2, lambda w: w & ~IS_SOL), OK, 2, "10004800", 7800, False,
+        "differs at 00a01008: row 0, queue 1: sol awaited"),
+    Bug("SOL on the rest of a split line", word(1, 10, lambda w: w | IS_SOL), OK, 2, "10004800", 7800, False,
+        "differs at 00a01028: row 6, queue 1: no sol awaited at byte 496"),
+    Bug("FM3 for packed data", word(1, 0, lambda w: SYNC << 28 | FM3), OK, 2, "00004000", 0, False,
+        "differs at 00a01000: sync fm1 awaited"),
+    Bug("a line too many", top_list(PAGES, 0, 600, 1200, 8), OK, 25, "10004800",
+        top="differs at 00a01048: nothing awaited"),
+    Bug("a line too few", top_list(PAGES, 0, 600, 1200, 6), OK, 25, "10000800", 7800, False,
+        "differs at 00a00020: row 12, queue 1: byte 0 awaited"),
+    Bug("fields exchanged", exchange, OK, 32, "10000800", 8400, False,
+        "differs at 00a01008: row 0, queue 1: byte 0 at 03005000 awaited",
+        "differs at 00a02008: row 1, queue 1: byte 0 at 03005258 awaited"),
+    Bug("no IRQ", word(2, -2, lambda w: w & ~IS_IRQ), OK, None, "10000000",
+        bottom="shown from 00a00020 to 00a02048, 11 instructions, jump set=1 reset=e"),
+    Bug("the top field's status", word(2, -2, lambda w: w ^ (0x33 << 16)), OK, None, "20000800",
+        bottom="shown from 00a00020 to 00a02048, 11 instructions, jump irq set=2 reset=d"),
+    Bug("a status that is never cleared", word(2, -2, lambda w: w & ~(0xF << 20)), OK, None, "10000800",
+        bottom="shown from 00a00020 to 00a02048, 11 instructions, jump irq set=1"),
+    Bug("no RESYNC", without_resync, OK, None, "10000800",
+        top="differs at 00a00000: no resync", bottom="differs at 00a00020: no resync"),
 ]  # fmt: skip
 FILES = {"stale_jump": 2, "page_end": 1, "no_eol": 12}  # those that are written, by their place in BUGS
 

@@ -49,6 +49,61 @@ VERDICTS |= {name: broken.BUGS[number].verdict for name, number in broken.FILES.
 PROGRAMS = ["main_loop", "scattered", "chroma", "overlay", "one_line", "two_lines", "ring", *VERDICTS]
 RINGED = "blocks 3\n" + report(36016, 9000, 0, "00000800")
 CHAINED = report(128, 16, 0, "10000800")
+COMPILED_LINE = "shown from 00001000 to 00001018, 2 instructions, jump irq set=1 reset=e"
+CHECKED = {  # program, description: what is said of each described field
+    ("main_loop", "main_loop"): [
+        "shown from 00a00000 to 00a02018, 11 instructions, jump",
+        "shown from 00a00020 to 00a04018, 11 instructions, jump irq set=1 reset=e",
+    ],
+    ("scattered", "scattered"): [
+        "shown from 00a00000 to 00a01048, 12 instructions, jump",
+        "shown from 00a00020 to 00a02048, 11 instructions, jump irq set=1 reset=e",
+    ],
+    ("chroma", "chroma"): [
+        "shown from 00a00000 to 00a01054, 9 instructions, jump",
+        "shown from 00a00020 to 00a02048, 7 instructions, jump irq set=1 reset=e",
+    ],
+    ("overlay", "overlay"): ["shown from 00a00000 to 00a0105c, 16 instructions, jump irq set=1 reset=e"],
+    ("one_line", "one_line"): [COMPILED_LINE],
+    ("two_lines", "two_lines"): ["shown from 00001000 to 00001028, 4 instructions, jump irq set=1 reset=e"],
+    ("no_eol", "scattered"): [
+        "differs at 00a01008: row 0, queue 1: eol awaited",
+        "shown from 00a00020 to 00a02048, 11 instructions, jump irq set=1 reset=e",
+    ],
+    ("one_line", "two_lines"): ["differs at 00001010: row 0, queue 1: eol at byte 7 of 16"],
+    ("two_lines", "one_line"): ["differs at 00001010: queue 1: nothing awaited"],  # of 12 bytes four are too many
+    ("one_line", "chain_first"): [COMPILED_LINE],
+    ("one_line", "chain_second"): ["differs at 00001010: row 0, queue 1: byte 0 at 00030000 awaited"],
+    ("overlay", "scattered"): [
+        "differs at 00a01008: row 0, queue 1: byte 0 at 03005000 awaited",
+        "differs at 00a00000: sync fm1 awaited",
+    ],
+    ("ring", "one_line"): ["differs at 00001000: no sync vre"],
+}
+CHECKED_COMPILED = {  # program beside the description that it is compiled of
+    "main_loop_compiled": [
+        "shown from 00001000 to 0000103c, 7 instructions, jump irq set=1 reset=e",
+        "shown from 00001044 to 00001084, 8 instructions, jump irq set=2 reset=d",
+    ],
+    "scattered_compiled": [
+        "shown from 00001000 to 00001050, 9 instructions, jump irq set=1 reset=e",
+        "shown from 00001058 to 000010a8, 9 instructions, jump irq set=2 reset=d",
+    ],
+    "chroma_compiled": [
+        "shown from 00001000 to 0000105c, 6 instructions, jump irq set=1 reset=e",
+        "shown from 00001064 to 000010b4, 5 instructions, jump irq set=2 reset=d",
+    ],
+    "overlay_compiled": ["shown from 00001000 to 00001064, 13 instructions, jump irq set=1 reset=e"],
+    "planar": [
+        "shown from 00001000 to 00001040, 4 instructions, jump irq set=1 reset=e",
+        "shown from 00001048 to 0000106c, 2 instructions, jump irq set=2 reset=d",
+    ],
+    "ordinary": [
+        "shown from 00001000 to 00001790, 241 instructions, jump irq set=1 reset=e",
+        "shown from 00001798 to 00001f28, 241 instructions, jump irq set=2 reset=d",
+    ],
+    "chain_second_compiled": [COMPILED_LINE],
+}
 DAMAGED = {  # description, stream: what is said
     ("two_lines", "early_eol"): "top 1 of 2\nbad 0\n",
     ("scattered", "scattered"): "top 7 of 7\nbottom 7 of 7\n",
@@ -209,6 +264,25 @@ def generated():
         yield Case(f"a frame of {name} is made", f"make {name}.toml 1 1 out.bfs", said, 0, (output,))
 
 
+def said_of(description, verdicts):
+    """What `check` says of each field of a description, and its status."""
+    fields = Description(f"{HERE}/{description}.toml").fields
+    lines = [f"{field}: {verdict}\n" for field, verdict in zip(fields, verdicts, strict=True)]
+    return "".join(lines), any(verdict.startswith("differs") for verdict in verdicts)
+
+
+def checked():
+    for (name, description), verdicts in CHECKED.items():
+        words = f"check {name}.brp {description}.toml"
+        yield Case(f"{name} is checked against {description}", words, *said_of(description, verdicts))
+    for name, verdicts in CHECKED_COMPILED.items():
+        description = name.removesuffix("_compiled")
+        words = f"check {name}.brp {description}.toml"
+        yield Case(f"{name} is checked against {description}", words, *said_of(description, verdicts))
+    words = "check into_operand.brp none.toml"
+    yield Case("what isn't sound isn't checked", words, VERDICTS["into_operand"] + "\n", 1)
+
+
 def captured():
     for name, stream, numbers in (
         ("one_line", "one_line", REPORTS["one_line", "one_line"]),
@@ -238,6 +312,9 @@ def refused():
     yield Case("a stream is no program", "verify one_line.bfs", "program file: magic at 0\n", 3)
     yield Case("a description is no listing", "assemble one_line.toml none", "listing: line 1\n", 3, ("none",))
     yield Case("a ring is no description", "compile ring.toml none", "description: unknown key blocks\n", 3, ("none",))
+    yield Case("a ring is nothing to check", "check one_line.brp ring.toml", "description: unknown key blocks\n", 3)
+    yield Case("a description isn't there", "check one_line.brp none.toml", "read fault\n", 4)
+    yield Case("a description is missing", "check one_line.brp", "usage: wrong number of words\n", 2)
     yield Case("an input isn't there", "verify none.brp", "read fault\n", 4)
     yield Case("a command isn't known", "play one_line.brp", "usage: unknown command\n", 2)
 
@@ -254,7 +331,7 @@ def files():
 
 
 def cases():
-    for part in (judged(), listed(), ran(), described(files()), generated(), captured(), told(), refused()):
+    for part in (judged(), listed(), ran(), described(files()), checked(), generated(), captured(), told(), refused()):
         yield from part
 
 
