@@ -21,7 +21,9 @@ import tempfile
 
 import broken
 import cases
+import check_model
 import descriptions
+import differences
 import emulator
 import lay_out
 import make_examples
@@ -46,11 +48,14 @@ class Check:
         self.binary, self.folder = os.path.abspath(binary), folder
         self.passed, self.failed, self.skipped = 0, 0, 0
 
-    def run(self, *words):
-        """What the command says, in the scratch folder; `@name` is a file of the examples."""
+    def answer(self, *words):
+        """What the command says, in the scratch folder, and its status; `@name` is a file of the examples."""
         words = [os.path.join(HERE, word[1:]) if word.startswith("@") else word for word in words]
         done = subprocess.run([self.binary, *words], cwd=self.folder, capture_output=True, timeout=100)
-        return done.stdout.decode()
+        return done.stdout.decode(), done.returncode
+
+    def run(self, *words):
+        return self.answer(*words)[0]
 
     def script(self, name, *words):
         words = [sys.executable, os.path.join(HERE, name), *words]
@@ -167,6 +172,36 @@ def check_descriptions(check):
         check.same(f"description {text[-60:]!r}", check.run("compile", "description", "program"), wanted)
 
 
+def check_differences(check):
+    """What `check` says of each program and description, and that the plain model beside says the same."""
+    for case in differences.CASES:
+        wanted = "".join(line + "\n" for line in case.said), any("differs" in line for line in case.said)
+        check.write("program", differences.program_of(case.lines))
+        check.write("description", case.description.encode())
+        check.same(f"checked: {case.name}", check.answer("check", "program", "description"), wanted)
+        said = check_model.check(*(os.path.join(check.folder, name) for name in ("program", "description")))
+        check.same(f"check_model.py: {case.name}", said, wanted)
+
+
+def check_shown(check):
+    """The examples beside descriptions, and each compiled program beside its own; each bug beside what it was planted in."""
+    for (name, description), verdicts in cases.CHECKED.items():
+        wanted = cases.said_of(description, verdicts)
+        said = check.answer("check", f"@{name}.brp", f"@{description}.toml")
+        check.same(f"{name} checked against {description}", said, wanted)
+        said = check_model.check(f"{HERE}/{name}.brp", f"{HERE}/{description}.toml")
+        check.same(f"check_model.py, {name} against {description}", said, wanted)
+    for name, verdicts in cases.CHECKED_COMPILED.items():
+        description = name.removesuffix("_compiled")
+        check.run("compile", f"@{description}.toml", "compiled")
+        wanted = cases.said_of(description, verdicts)
+        check.same(f"{name}, checked", check.answer("check", "compiled", f"@{description}.toml"), wanted)
+    for bug in broken.BUGS:
+        check.write("bug", broken.laid_out(bug))
+        wanted = bug.checked(), bug.verdict != "accepted" or "differs" in bug.top + bug.bottom
+        check.same(f"{bug.name}, checked", check.answer("check", "bug", "@scattered.toml"), wanted)
+
+
 def check_bugs(check):
     check.run("compile", "@scattered.toml", "compiled")
     right = check.run("list", "compiled").splitlines()
@@ -225,8 +260,8 @@ def check_pages(check):
 
 
 PARTS = [
-    check_files, check_runs, check_machine, check_lay_out, check_later, check_compiled, check_descriptions, check_bugs,
-    check_pictures, check_pages,
+    check_files, check_runs, check_machine, check_lay_out, check_later, check_compiled, check_descriptions,
+    check_differences, check_shown, check_bugs, check_pictures, check_pages,
 ]  # fmt: skip
 
 
