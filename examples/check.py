@@ -29,7 +29,7 @@ import lay_out
 import make_examples
 import rings_and_chains
 from as_compiled import as_compiled
-from cases import CHAINED, DAMAGED, IMAGES, REPORTS, RINGED, VERDICTS, report
+from cases import CHAINED, COMPILED_LINE, DAMAGED, IMAGES, REPORTS, RINGED, VERDICTS, report
 from description import Description
 from formats import JUMP, image, one_span, program, read_program
 from machine import Machine, Program
@@ -40,6 +40,7 @@ LATER = {  # commands that an older program doesn't know: words, what is said, a
     "ring": ("@ring.toml @ring.bfs program image", RINGED, "ring"),
     "chain": ("@chain_first.toml @chain_second.toml @chain.bfs image", CHAINED, "chain"),
     "damage": ("@two_lines.toml @early_eol.bfs", DAMAGED["two_lines", "early_eol"], None),
+    "check": ("@one_line.brp @one_line.toml", f"top: {COMPILED_LINE}\n", None),
 }
 
 
