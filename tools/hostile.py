@@ -116,6 +116,7 @@ LISTING = b"""base 00001000
 page 00020000
 fill 00
 """
+SHOWN = b"top: shown from 00001000 to 00001018, 2 instructions, jump irq set=1 reset=e\n"
 REPORT = b"turns 9\nmoved 8\noverruns 0 0 0 0\nstatus 10000800\n"
 
 
@@ -165,6 +166,9 @@ COMMANDS = {
     "ring": Command("R S P I", {"R": RING, "S": RING_STREAM}, "P I",
                     b"blocks 2\nturns 10\nmoved 16\noverruns 0 0 0 0\nstatus 10000800\n",
                     {"R": RING_LARGE, "S": long_stream(b"BFS1")}),
+    "check": Command("P D", {"P": PROGRAM, "D": DESC}, "", SHOWN, {
+        "P": brp1(ONE_LINE + skipping(20_000), [0x20000]),
+        "D": description([0x20000 + 0x1000 * i for i in range(1024)])}),
 }  # fmt: skip
 
 # the stream that each command with one reads, and the input that holds it
@@ -183,9 +187,11 @@ GEOMETRY = (
     r"|page (unaligned|twice) \d+|too few (pages|bytes), need \d+, have \d+|program base|program on page)"
 )
 CAUSE = r"(cut|reserved [0-9a-f]|sync code [0-9a-f]|jump out [0-9a-f]{8}|no target|wrap|ungranted [0-9a-f]{8})"
+CHECK = r"(top|bottom): (shown from|differs at) [^\n]*"
 CHAIN = r"(base|shared \d+|too many|too long|on page)"
 TEXTS = {
-    REFUSED: r"geometry: %s|rejected at [0-9a-f]{8,9}, step \d+: %s|chain: %s" % (GEOMETRY, CAUSE, CHAIN),
+    REFUSED: r"geometry: %s|rejected at [0-9a-f]{8,9}, step \d+: %s|chain: %s|%s(\n%s)?" % (
+        GEOMETRY, CAUSE, CHAIN, CHECK, CHECK),
     USAGE: r"usage: (no command|unknown command|wrong number of words|bad number|same name)",
     MALFORMED: r"(program file|stream file): %s at \d+|(description|ring file): too long at 1048576|description: %s"
     r"|ring: (%s|%s)|listing: (line \d+|short at \d+|too long)" % (KIND, KEY, KEY, GEOMETRY),
@@ -602,6 +608,8 @@ FORMS = [
     ("BFS1 for a map", "damage", "S", STREAM_TAGS, lambda data: named("stream file", stream_fault(data, False))),
     ("BFS1 for a ring", "ring", "S", STREAM_TAGS, lambda data: named("stream file", stream_fault(data, False))),
     ("BFS3", "chain", "S", CHAINED, lambda data: named("stream file", stream_fault(data, True))),
+    ("BRP3 checked", "check", "P", SPANNED, lambda data: named("program file", program_fault(data))),
+    ("description checked", "check", "D", DESC, None),
     ("description", "compile", "D", DESC + b"clip = [[0, 0, 1, 1]]\nfill = 7\n", None),
     ("description with chunks", "make", "D", description(None, chunks=[[0x20004, 4], [0x30000, 4]]), None),
     ("ring", "ring", "R", RING, None),
@@ -906,6 +914,22 @@ def longest_program(count, pages):
     return brp1(words, [0x800000 + 0x1000 * i for i in range(pages)])
 
 
+def openings(count):
+    """A program of so many openings of the top field, behind each of which comes a byte of queue 2."""
+    return brp1(numbers("80008004 0 80000006 0 a3000000 1") * count + numbers("70000000 00001000"), [])
+
+
+def checked_storms():
+    """Descriptions of a million instructions and more, and programs that differ from them at each of their openings."""
+    grey = {"format": '"y8"', "width": 1024, "height": 1024, "clip": [[16 * i + 2, 0, 2, 1024] for i in range(64)]}
+    packed = description([0x1000000 + 0x2000 * i for i in range(256)], **grey)
+    other = b"top: differs at 00001010: queue 2: nothing awaited\n"
+    return [
+        Storm("openings that all differ", "check", {"P": openings(174_000), "D": packed}, REFUSED, other,
+              {"P": openings(87_000)}),
+    ]  # fmt: skip
+
+
 def storm_list():
     storms = []
     for name in ("run", "capture"):
@@ -923,7 +947,7 @@ def storm_list():
     storms.append(Storm("the largest program", "run", {"P": longest, **empty}, DONE, None, {"P": half, **empty}))
     storms.append(Storm("program: one byte too long", "list", {"P": longest + b"\0"}, MALFORMED,
                         b"program file: after end at %d\n" % len(longest)))  # fmt: skip
-    return storms + description_storms() + listing_storms()
+    return storms + description_storms() + listing_storms() + checked_storms()
 
 
 def table_line(trial, label, name, size, answer, half):

@@ -2,6 +2,8 @@
 use Rattle.std.proofs.Common.{◌≡◌, ℕ, zero, suc, ◌+◌, ◌-◌, ◌*◌, ◌<◌, ◌≤◌, ◌^◌, Bool, true, false, ◌&&◌, ◌==◌, List, [], ◌∷◌, ◌++◌, length, drop, Option, Some, None, option_map, refl, sym, ap, subst, ◌∙◌, arith, eq-eqb, ne_eqb, append_assoc, drop-drop, eqb-true}
 use Rattle.std.specs.Prelude.{IfSome, IsTrue}
 use Rattle.std.proofs.lemmas.Bool.{cond-false, cond-true, false_from_ne_true}
+use Rattle.std.proofs.lemmas.List.{append-nil}
+use Rattle.std.specs.Option.{is_some}
 use Rattle.std.proofs.Math.Seq.{drop-append_seam}
 use Rattle.std.proofs.Common.{Ok, Err}
 use Rattle.risc_word.specs.Words.{Reading, code_number}
@@ -165,6 +167,45 @@ unread_left plan q at done (suc more) fault is =
 
 pub none_left : (plan : RiscProgram) (q : Queue) (at done more : ℕ) → more ≡ 0 → drop done (asks_from more plan q at) ≡ []
 none_left plan q at done more is = ap (λ (more : ℕ). drop done (asks_from more plan q at)) is ∙ drop_none done
+
+pub unread_asks : (plan : RiscProgram) (q : Queue) (at more : ℕ) (fault : WordFault) → fetch plan at ≡ Err fault →
+    asks_from more plan q at ≡ []
+unread_asks plan q at more fault is = unread_left plan q at 0 more fault is
+
+-- nothing of an instruction is left at its beginning where it asks nothing
+pub none_asked : (next : Option Next) (asks : List Ask) → is_some next ≡ false → IsHere next 0 asks → asks ≡ []
+none_asked None [] none h = refl
+none_asked None (a ∷ asks) none h = absurd (omega arith)
+none_asked (Some next) asks none h = cc
+
+-- behind so many instructions the others are asked from an address on
+module _ (plan : RiscProgram) (q : Queue) (number at : ℕ) (instr : Instr) (count : ℕ) (is : fetch plan at ≡ Ok (instr, count))
+    (later : (more : ℕ) → asks_from (number + more) plan q 0 ≡ asks_from number plan q 0 ++ asks_from more plan q at) where
+  before : List Ask
+  before = asks_from number plan q 0
+
+  one_more : asks_from (number + 1) plan q 0 ≡ before ++ bytes_asked (asked q instr)
+  unfolding before
+  one_more =
+      later 1
+      ∙ ap (λ (asks : List Ask). asks_from number plan q 0 ++ asks)
+      (asks_are plan q at 0 instr count is 0 ∙ append-nil (bytes_asked (asked q instr)))
+
+  pub later_on : (more : ℕ) →
+      asks_from (number + 1 + more) plan q 0 ≡ asks_from (number + 1) plan q 0 ++ asks_from more plan q (at + 4 * count)
+  unfolding before
+  later_on more =
+      let same : number + 1 + more ≡ number + suc more = omega arith in
+      ap (λ (n : ℕ). asks_from n plan q 0) same ∙ later (suc more)
+      ∙ ap (λ (asks : List Ask). asks_from number plan q 0 ++ asks) (asks_are plan q at 0 instr count is more)
+      ∙ sym (append_assoc (asks_from number plan q 0) (bytes_asked (asked q instr)) (asks_from more plan q (at + 4 * count)))
+      ∙ ap (λ (asks : List Ask). asks ++ asks_from more plan q (at + 4 * count)) (sym one_more)
+
+  -- it asks nothing
+  pub last_stays : bytes_asked (asked q instr) ≡ [] → asks_from number plan q 0 ≡ asks_from (number + 1) plan q 0
+  unfolding before
+  last_stays none =
+      sym (one_more ∙ ap (λ (asks : List Ask). asks_from number plan q 0 ++ asks) none ∙ append-nil (asks_from number plan q 0))
 
 -- ---- what an instruction asks against what is left
 

@@ -48,7 +48,7 @@ pub enum Next {
 }
 
 // What an instruction asks next where some of its bytes are taken.
-fn here(instr: &Instr, q: Queue, done: u16) -> Option<Next>
+pub(crate) fn here(instr: &Instr, q: Queue, done: u16) -> Option<Next>
     requires { done ≤ length (bytes_asked (asked q instr.now)) }
     ensures { IsHere result done (bytes_asked (asked q instr.now)) }
 {

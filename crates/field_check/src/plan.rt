@@ -7,14 +7,16 @@ ghost use Rattle.picture_model.specs.Programs.{body, words_of};
 ghost use Rattle.field_check.specs.Plans.{IsPlan};
 ghost use Rattle.std.specs.Prelude.{length};
 ghost use Rattle.machine_model.specs.Paths.{all_words};
+ghost use Rattle.field_check.specs.Cursors.{asks_from};
 ghost use Rattle.field_check.specs.Tracks.{AreIn, CountUpTo, lefts};
 ghost use Rattle.check_model.specs.Checks.{awaited};
 ghost use Rattle.capture_desc.specs.declared.desc.Desc.{Desc};
 ghost use Rattle.pixel_layout.specs.declared.Parity.{Parity as AnyParity};
 
-use crate::cursors::{Cursor, Track};
+use crate::cursors::{Cursor, Track, here};
 use crate::judge::Tracks;
 use field_compile::compile_field;
+use fifo_model::Queue;
 use page_table::PageSet;
 use pixel_layout::Parity;
 use planar_plan::Frame;
@@ -45,6 +47,25 @@ pub fn field_plan(alloc: Global, frame: &Frame, field: Parity) -> Result<Program
     Ok(Program::new(0, words, grants))
 }
 
+// How many instructions of the plan lead to the last one that asks something of a queue.
+fn last_asked(plan: &Program, q: Queue) -> u32
+    ensures { asks_from result plan.now q 0 ≡ asks_from (length (all_words plan.now)) plan.now q 0 }
+{
+    let words = plan.words().len() as u32;
+    let mut at = 0;
+    let mut last = 0;
+    for number in 0..words {
+        let Ok((instr, count)) = plan.instr_at(at) else {
+            return last;
+        };
+        if here(&instr, q, 0).is_some() {
+            last = number + 1;
+        }
+        at += 4 * u64::from(count);
+    }
+    last
+}
+
 // The beginning of so many words.
 fn beginning(words: u32) -> Track
     ensures { result ≡ record { cursor = record { at = 0; more = words; done = 0 }; lines = 0; bytes = 0 } }
@@ -60,16 +81,16 @@ fn beginning(words: u32) -> Track
     }
 }
 
-/// The queues at the beginning of a field.
+/// The queues at the beginning of a field. Each sees the plan up to the last instruction that asks something of it, so that
+/// no look passes over what is behind.
 pub(crate) fn first_tracks(plan: &Program) -> Tracks
     ensures at { (d : Desc) (field : AnyParity) → IsPlan d field plan.now → AreIn d field plan.now result }
     ensures left { (d : Desc) (field : AnyParity) → IsPlan d field plan.now → lefts plan.now result ≡ awaited d field }
     ensures none { CountUpTo result 0 }
 {
-    let words = plan.words().len() as u32;
     Tracks {
-        one: beginning(words),
-        two: beginning(words),
-        three: beginning(words),
+        one: beginning(last_asked(plan, Queue::One)),
+        two: beginning(last_asked(plan, Queue::Two)),
+        three: beginning(last_asked(plan, Queue::Three)),
     }
 }

@@ -2,12 +2,14 @@
 
 ghost use Rattle.std.specs.Prelude.{◌≡◌, ◌<◌, ◌≤◌, ◌^◌, length};
 ghost use Rattle.machine_model.specs.Paths.{IsSound};
-ghost use Rattle.check_model.specs.Checks.{checked};
+ghost use Rattle.check_model.specs.Checks.{awaited, checked};
 ghost use Rattle.check_model.specs.Verdicts.{closing_from, closing_of, is_opening, is_shown, said, verdict};
 ghost use Rattle.field_check.specs.Plans.{IsPlan};
+ghost use Rattle.field_check.specs.Tracks.{AreIn, CountUpTo, lefts};
 ghost use Rattle.field_check.specs.Walks.{kept, resyncs};
 
 use crate::cursors::is_same_code;
+use crate::judge::Tracks;
 use crate::plan::first_tracks;
 use crate::walk::{next_at, walk};
 use check_model::{Closing, Verdict, Why};
@@ -27,15 +29,18 @@ fn is_opening(field: Parity, instr: &Instr) -> bool
     }
 }
 
-// What is found of a field from the opening at an address on.
+// What is found of a field from the opening at an address on. The tracks are those of the field's beginning.
 fn checked(
     frame: &Frame,
     field: Parity,
     program: &Program,
     plan: &Program,
+    tracks: Tracks,
     at: u64,
 ) -> Result<(u64, u64), (u64, Why)>
-    requires { IsPlan frame.now field plan.now }
+    requires at { AreIn frame.now field plan.now tracks }
+    requires left { lefts plan.now tracks ≡ awaited frame.now field }
+    requires none { CountUpTo tracks 0 }
     ensures { result ≡ checked program.now frame.now field at }
 {
     let Ok((instr, _)) = program.instr_at(at) else {
@@ -48,15 +53,7 @@ fn checked(
         return Err((at, Why::NoResync));
     }
     let words = program.words().len() as u64;
-    walk(
-        frame,
-        field,
-        program,
-        plan,
-        first_tracks(plan),
-        at + 8,
-        words,
-    )
+    walk(frame, field, program, plan, tracks, at + 8, words)
 }
 
 // Whether a SYNC passes over what comes before its code.
@@ -80,11 +77,20 @@ fn closing_from(program: &Program, at: u64) -> Closing
 }
 
 // What is said of the opening at an address.
-fn said(frame: &Frame, field: Parity, program: &Program, plan: &Program, begin: u64) -> Verdict
-    requires { IsPlan frame.now field plan.now }
+fn said(
+    frame: &Frame,
+    field: Parity,
+    program: &Program,
+    plan: &Program,
+    tracks: Tracks,
+    begin: u64,
+) -> Verdict
+    requires at { AreIn frame.now field plan.now tracks }
+    requires left { lefts plan.now tracks ≡ awaited frame.now field }
+    requires none { CountUpTo tracks 0 }
     ensures { result ≡ said program.now frame.now field begin }
 {
-    match checked(frame, field, program, plan, begin) {
+    match checked(frame, field, program, plan, tracks, begin) {
         Ok((end, count)) => Verdict::Shown {
             begin,
             end,
@@ -123,6 +129,8 @@ pub(crate) fn verdict_by(
 {
     let program = accepted.program();
     let words = program.words().len() as u64;
+    // once for all openings
+    let tracks = first_tracks(plan);
     let mut at = u64::from(program.base());
     let mut first = None;
     for _place in 0..words {
@@ -130,7 +138,7 @@ pub(crate) fn verdict_by(
             unreachable!();
         };
         if is_opening(field, &instr) {
-            let found = said(frame, field, program, plan, at);
+            let found = said(frame, field, program, plan, tracks, at);
             if is_shown(&found) {
                 return found;
             }
