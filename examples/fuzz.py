@@ -6,8 +6,10 @@
 Programs of one span and of several: each is listed, assembled again, verified, and run on two streams where it is
 accepted (machine.py). Files and listings of it that were changed in a place: the first fault of a file
 (program_faults.py), and whether a text is a listing. Descriptions: the stream that `make` draws (cases.py), and the
-memory after its capture (paint.py) and the report (machine.py). A line is printed for each difference, and last how
-many programs were accepted and how many answers differ.
+memory after its capture (paint.py) and the report (machine.py). Programs drawn from a compiled one beside its own and
+another description (draw_checks.py): what `check` says of them (check_model.py). A line is printed for each difference,
+and last how many programs were accepted, of how many pairs a program was judged by a description and how many showed
+it, and how many answers differ.
 """
 
 import argparse
@@ -18,6 +20,8 @@ import sys
 import tempfile
 
 import cases
+import check_model
+import draw_checks
 from description import FORMATS, Description
 from formats import (
     IS_EOL, IS_SOL, JUMP, PXV, SKIP, SKIP123, SYNC, WRITE, WRITE1S23, WRITE123, WRITEC, Stream, assembled, image,
@@ -98,8 +102,8 @@ def drawn_stream(draw, form):
     return stream.end()
 
 
-def drawn_description(draw):
-    """The text of a description that has no fault, but for the odd one."""
+def drawn_keys(draw):
+    """The keys of a description that has no fault, but for the odd one."""
     form = draw.choice(sorted(FORMATS))
     chroma = FORMATS[form][1]
     across, down = chroma or (1, 1)
@@ -121,7 +125,11 @@ def drawn_description(draw):
         at += length + draw.choice([0, 4, 4096])
     needed = ("format", "width", "height", "fields", "chunks", "vbi_bytes")
     keys = {key: value for key, value in keys.items() if key in needed or draw.random() < 0.8}
-    return "".join(f"{key} = {value}\n" for key, value in (keys | {"fill": draw.randrange(256)}).items())
+    return keys | {"fill": draw.randrange(256)}
+
+
+def text_of(keys):
+    return "".join(f"{key} = {value}\n" for key, value in keys.items())
 
 
 class Tool:
@@ -210,22 +218,57 @@ def compare_description(tool, text):
     return [] if all(answers) else [f"stream, report, program, image, machine.py {answers} of {text!r}"]
 
 
+def compare_check(tool, program_file, text):
+    """Whether a program was judged by a description, whether it shows it, and what was wanted where the answers differ."""
+    tool.write("program", program_file)
+    tool.write("description", text.encode())
+    said, verdict = tool.run("check program description"), Program(*read_program(program_file)).verdict()
+    status, fault = tool.run("compile description out")
+    if verdict != "accepted\n":
+        wanted = 1, verdict
+    elif status and "program" not in fault:
+        wanted = status, fault
+    else:
+        at = [os.path.join(tool.folder, name) for name in ("program", "description")]
+        wanted = check_model.check(*at)[::-1]
+    differences = [] if said == wanted else [f"{wanted!r}, said {said!r} of {program_file.hex()} and {text!r}"]
+    return "top:" in wanted[1] or "bottom:" in wanted[1], wanted[0] == 0, differences
+
+
+def compare_checks(tool, draw):
+    """Programs drawn from the compiled one of a description, beside it and beside another: (judged, shown, differences)."""
+    keys = drawn_keys(draw)
+    tool.write("description", text_of(keys).encode())
+    if tool.run("compile description compiled")[0]:
+        return 0, 0, []
+    _, spans, _, _ = read_program(tool.read("compiled"))
+    judged, showed, differences = 0, 0, []
+    for number in range(4):
+        other = keys if number % 2 else draw_checks.changed_keys(draw, keys)
+        found = compare_check(tool, draw_checks.drawn_beside(draw, spans[0][1]), text_of(other))
+        judged, showed, differences = judged + found[0], showed + found[1], differences + found[2]
+    return judged, showed, differences
+
+
 def main():
     words = argparse.ArgumentParser(description=__doc__.splitlines()[0])
     words.add_argument("--bin", required=True, help="the program bt878")
     words.add_argument("--count", type=int, default=200)
     words.add_argument("--seed", type=int, default=1)
-    given, accepted, differ = words.parse_args(), 0, 0
+    given, accepted, differ, judged, showed = words.parse_args(), 0, 0, 0, 0
     with tempfile.TemporaryDirectory() as folder:
         tool = Tool(os.path.abspath(given.bin), folder)
         for number in range(given.count):
             draw = random.Random(given.seed + number)
             good, differences = compare(tool, drawn_program(draw), draw)
-            differences += compare_description(tool, drawn_description(draw)) if number % 4 == 0 else []
+            differences += compare_description(tool, text_of(drawn_keys(draw))) if number % 4 == 0 else []
+            checked = compare_checks(tool, draw)
+            differences += checked[2]
+            judged, showed = judged + checked[0], showed + checked[1]
             accepted, differ = accepted + good, differ + len(differences)
             for difference in differences:
                 print(f"seed {given.seed + number}: wanted {difference!r}")
-    print(f"{given.count} programs, {accepted} accepted, {differ} answers differ")
+    print(f"{given.count} programs, {accepted} accepted; {judged} judged, {showed} shown; {differ} answers differ")
     sys.exit(differ > 0)
 
 
