@@ -177,7 +177,7 @@ def check_differences(check):
     """What `check` says of each program and description, and that the plain model beside says the same."""
     for case in differences.CASES:
         wanted = "".join(line + "\n" for line in case.said), any("differs" in line for line in case.said)
-        check.write("program", differences.program_of(case.lines))
+        check.write("program", differences.program_of(case))
         check.write("description", case.description.encode())
         check.same(f"checked: {case.name}", check.answer("check", "program", "description"), wanted)
         said = check_model.check(*(os.path.join(check.folder, name) for name in ("program", "description")))

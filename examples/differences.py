@@ -40,6 +40,7 @@ class Difference(NamedTuple):
     description: str
     lines: list  # of the program, from BASE on
     said: list  # a line for each described field
+    entry: int = BASE
 
 
 def shown(field, begin, end, count, closing="jump"):
@@ -50,8 +51,8 @@ def differs(at, why, field="top"):
     return f"{field}: differs at {at:08x}: {why}"
 
 
-def one(name, description, lines, at, why):
-    return Difference(name, description, lines, [differs(at, why)])
+def one(name, description, lines, at, why, entry=BASE):
+    return Difference(name, description, lines, [differs(at, why)], entry)
 
 
 SHOWN = [
@@ -74,6 +75,8 @@ SHOWN = [
         [shown("top", 0x1000, 0x104C, 9)]),
     Difference("the second opening shows it", LINE, [VRE, FM1, "write sol eol 8 00020008", VRE, FM1, ROW, END],
         [shown("top", 0x1018, 0x1030, 2)]),
+    Difference("the path comes to the opening behind its entry", LINE, [VRE, FM1, ROW, END],
+        [shown("top", 0x1000, 0x1018, 2)], 0x1010),
     Difference("blanking", BLANKING,
         [VRE, FM1, "skip sol eol 5", "skip sol eol 5", "write sol eol 5 00020040", FM1, ROW, END],
         [shown("top", 0x1000, 0x1030, 6)]),
@@ -98,6 +101,7 @@ OPENINGS = [
     Difference("none of both", FRAME, [FM1, ROW, END],
         [differs(0x1000, "no sync vre"), differs(0x1000, "no sync vro", "bottom")]),
     one("an opening behind the path", LINE, [FM1, "jump 00001000", VRE, FM1, ROW, END], 0x1000, "no sync vre"),
+    one("no opening behind the entry", LINE, [VRE, FM1, "jump 00001008"], 0x1008, "no sync vre", 0x1008),
     one("no RESYNC", LINE, ["sync vre", FM1, ROW, END], 0x1000, "no resync"),
     one("no RESYNC, and nothing else right", LINE, ["sync vre", FM3, END], 0x1000, "no resync"),
     one("the first of two openings is told", LINE,
@@ -106,6 +110,8 @@ OPENINGS = [
     one("JUMPs in a ring, before anything", LINE, [VRE, "jump 00001008"], 0x1008, "no next field"),
     one("JUMPs in a ring, behind the line", LINE, [VRE, FM1, ROW, "jump 00001018"], 0x1018, "no next field"),
     one("two JUMPs in a ring", LINE, [VRE, FM1, ROW, "jump 00001020", "jump 00001018"], 0x1018, "no next field"),
+    one("two JUMPs in a ring, behind one instruction", LINE, [VRE, FM1, "jump 00001018", "jump 00001010"], 0x1018,
+        "no next field"),
     one("counts of 0 in a ring", LINE, [VRE, FM1, "skip sol 0", "jump 00001010"], 0x1010, "no next field"),
 ]  # fmt: skip
 
@@ -247,6 +253,6 @@ BEHIND = [
 CASES = [*SHOWN, *OPENINGS, *INSTRUCTIONS, *CODES, *PLACES, *ENDS, *BEHIND]
 
 
-def program_of(lines, chunks=((0x20000, 4096),)):
-    words = [word for line in lines for word in words_of_line(line.split(" "))]
-    return program(BASE, one_span(BASE, words), chunks, 0)
+def program_of(case):
+    words = [word for line in case.lines for word in words_of_line(line.split(" "))]
+    return program(case.entry, one_span(BASE, words), [(0x20000, 4096)], 0)
