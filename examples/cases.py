@@ -179,23 +179,30 @@ class Drawn:
         return lines
 
 
+def push_field(description, field, stream, draw):
+    """A field is pushed; its picture is answered."""
+    picture = {}
+    stream.control(VRE if field == "top" else VRO)
+    if description.vbi_lines:
+        stream.control(FM1)
+        for _ in range(description.vbi_skip[field]):
+            draw.line(stream, [description.vbi_bytes])
+    for line in range(description.vbi_lines):
+        (picture["vbi", field, line],) = draw.line(stream, [description.vbi_bytes])
+    stream.control(FM3 if description.chroma else FM1)
+    for _ in range(description.skip_lines):
+        draw.line(stream, description.row_bytes)
+    for row in description.rows_of(field):
+        for plane, data in enumerate(draw.line(stream, description.row_bytes)):
+            picture[plane, row] = data
+    return picture
+
+
 def made(description, seed):
     """The stream of one frame, and its picture."""
     stream, draw, picture = Stream(), Drawn(seed), {}
     for field in description.fields:
-        stream.control(VRE if field == "top" else VRO)
-        if description.vbi_lines:
-            stream.control(FM1)
-            for _ in range(description.vbi_skip[field]):
-                draw.line(stream, [description.vbi_bytes])
-        for line in range(description.vbi_lines):
-            (picture["vbi", field, line],) = draw.line(stream, [description.vbi_bytes])
-        stream.control(FM3 if description.chroma else FM1)
-        for _ in range(description.skip_lines):
-            draw.line(stream, description.row_bytes)
-        for row in description.rows_of(field):
-            for plane, data in enumerate(draw.line(stream, description.row_bytes)):
-                picture[plane, row] = data
+        picture |= push_field(description, field, stream, draw)
     return stream.end(), picture
 
 

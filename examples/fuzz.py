@@ -7,14 +7,16 @@ Programs of one span and of several: each is listed, assembled again, verified, 
 accepted (machine.py). Files and listings of it that were changed in a place: the first fault of a file
 (program_faults.py), and whether a text is a listing. Descriptions: the stream that `make` draws (cases.py), and the
 memory after its capture (paint.py) and the report (machine.py). Programs drawn from a compiled one beside its own and
-another description (draw_checks.py): what `check` says of them (check_model.py). A line is printed for each difference,
-and last how many programs were accepted, of how many pairs a program was judged by a description and how many showed
-it, and how many answers differ.
+another description (draw_checks.py): what `check` says of them (check_model.py), and what memory holds once a field that
+it found to be shown has arrived at that opening (paint.py). A line is printed for each difference, and last how many
+programs were accepted, of how many pairs a program was judged by a description and how many showed it, and how many
+answers differ.
 """
 
 import argparse
 import os
 import random
+import re
 import subprocess
 import sys
 import tempfile
@@ -25,13 +27,13 @@ import draw_checks
 from description import FORMATS, Description
 from formats import (
     IS_EOL, IS_SOL, JUMP, PXV, SKIP, SKIP123, SYNC, WRITE, WRITE1S23, WRITE123, WRITEC, Stream, assembled, image,
-    listing, program, read_program,
+    listing, memory_of, program, read_program,
 )  # fmt: skip
 from machine import CODES, Machine, Program
-from paint import filled, paint
+from paint import filled, paint, paint_field
 from program_faults import program_fault
 
-BASE = 0x1000
+BASE, FDSR = 0x1000, 1 << 14
 MEMORIES = [[(0x20000, 4096)], [(0x20000, 64), (0x20040, 32)], [(0x20004, 8), (0x20010, 4)], [(0xFFFFF000, 4096)]]
 
 
@@ -218,6 +220,20 @@ def compare_description(tool, text):
     return [] if all(answers) else [f"stream, report, program, image, machine.py {answers} of {text!r}"]
 
 
+def compare_shown(tool, program_file, description, field, begin):
+    """A field comes to the opening that shows it."""
+    _, spans, chunks, fill = read_program(program_file)
+    tool.write("opening", program(begin, spans, chunks, fill))
+    stream = Stream()
+    picture = cases.push_field(description, field, stream, cases.Drawn(1))
+    tool.write("stream", stream.turns(5 * sum(len(words) for _, words in spans)).end())
+    report = tool.says("run opening stream image")
+    wanted = paint_field(description, picture, {at: bytearray([fill]) * length for at, length in chunks}, field)
+    status = int(report.split()[-1], 16)
+    right = memory_of(tool.read("image")) == wanted and "overruns 0 0 0 0" in report and not status & FDSR
+    return [] if right else [f"{field} isn't in memory, {report!r} of {program_file.hex()}"]
+
+
 def compare_check(tool, program_file, text):
     """Whether a program was judged by a description, whether it shows it, and what was wanted where the answers differ."""
     tool.write("program", program_file)
@@ -232,6 +248,9 @@ def compare_check(tool, program_file, text):
         at = [os.path.join(tool.folder, name) for name in ("program", "description")]
         wanted = check_model.check(*at)[::-1]
     differences = [] if said == wanted else [f"{wanted!r}, said {said!r} of {program_file.hex()} and {text!r}"]
+    for field, begin in re.findall(r"(top|bottom): shown from ([0-9a-f]{8})", said[1]):
+        description = Description(os.path.join(tool.folder, "description"))
+        differences += compare_shown(tool, program_file, description, field, int(begin, 16))
     return "top:" in wanted[1] or "bottom:" in wanted[1], wanted[0] == 0, differences
 
 

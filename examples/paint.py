@@ -29,15 +29,20 @@ def store(memory, address, byte):
     memory[chunk][address - chunk] = byte
 
 
-def paint(description, picture, memory):
-    """Each byte that isn't clipped at its place; all else is left as it is."""
-    for field in description.fields:
-        for line in range(description.vbi_lines):
-            for address, byte in zip(description.vbi_places(field, line), picture["vbi", field, line], strict=True):
-                store(memory, address, byte)
-    for row in range(description.height):
+def paint_field(description, picture, memory, field):
+    for line in range(description.vbi_lines):
+        for address, byte in zip(description.vbi_places(field, line), picture["vbi", field, line], strict=True):
+            store(memory, address, byte)
+    for row in description.rows_of(field):
         for plane, count in enumerate(description.row_bytes):
             for x, address in enumerate(description.row_places(plane, row) or []):
                 if not description.is_clipped(row, x * description.width // count):
                     store(memory, address, picture[plane, row][x])
+    return memory
+
+
+def paint(description, picture, memory):
+    """Each byte that isn't clipped at its place; all else is left as it is."""
+    for field in description.fields:
+        paint_field(description, picture, memory, field)
     return memory
