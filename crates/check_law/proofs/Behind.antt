@@ -4,7 +4,7 @@ use Rattle.risc_word.specs.declared.Code.{Code}
 use Rattle.risc_word.specs.declared.Ctl.{Ctl}
 use Rattle.risc_word.specs.declared.Instr.{Instr}
 use Rattle.risc_word.specs.declared.Instr.TheVariants.{Write, Skip, WriteC, Jump, Sync, Write123, Skip123, Write1S23}
-use Rattle.risc_word.specs.Words.{Reading, code_number}
+use Rattle.risc_word.specs.Words.{Reading}
 use Rattle.fifo_model.specs.declared.Entry.{Entry}
 use Rattle.fifo_model.specs.declared.Queue.{Queue}
 use Rattle.fifo_model.specs.Queues.{Queues, queue_state, control_pushed, is_full, pushed, some_full}
@@ -14,9 +14,10 @@ use Rattle.machine_model.specs.declared.Job.{Job}
 use Rattle.machine_model.specs.declared.Job.TheVariants.{Idle, Waiting, Running}
 use Rattle.machine_model.specs.Paths.{RiscProgram, fetch, is_word}
 use Rattle.machine_model.specs.States.{State, first_state}
-use Rattle.machine_model.specs.Turns.{code_seen, common_code, counted, dropped, fetched, instr_fetched, jumped, lowest_stray, met, stray_seen, turn, turn_if, with_fdsr_unless, worked}
+use Rattle.machine_model.specs.Turns.{counted, fetched, instr_fetched, jumped, lowest_stray, turn, turn_if, worked}
 use Rattle.machine_model.specs.Steps.{Step, Push, Control, Turn, Host, push_control_if, push_if, step, with_fbus_if}
 use Rattle.machine_model.proofs.Runs.{program-run}
+use Rattle.machine_model.proofs.Stored.{stray-memory}
 use Rattle.capture_desc.specs.declared.desc.Desc.{Desc}
 use Rattle.field_law.specs.Arrivals.{is_end}
 use Rattle.field_law.proofs.Closing.{AtEnd, end-AtEnd}
@@ -44,31 +45,10 @@ record Stays (program : RiscProgram) (before after : State) : Type 0 where
 
 -- ---- a turn that waits
 
-unless_memory : (resync : Bool) (m : State) → (with_fdsr_unless resync m).memory ≡ m.memory
-unless_memory true m = refl
-unless_memory false m = refl
-
-met_memory : (same : Bool) (ctl : Ctl) (resync : Bool) (m : State) → (met same ctl resync m).memory ≡ m.memory
-met_memory true ctl resync m = refl
-met_memory false ctl true m = refl
-met_memory false ctl false m = refl
-
-seen_memory : (seen : Option Code) (ctl : Ctl) (resync : Bool) (code : Code) (m : State) → (code_seen seen ctl resync code m).memory ≡ m.memory
-seen_memory None ctl resync code m = refl
-seen_memory (Some seen) ctl resync code m = met_memory (code_number seen == code_number code) ctl resync m
-
-dropped_memory : (q : Queue) (resync : Bool) (m : State) → (dropped q resync m).memory ≡ m.memory
-dropped_memory q true m = refl
-dropped_memory q false m = refl
-
-stray_memory : (stray : Option Queue) (ctl : Ctl) (resync : Bool) (code : Code) (m : State) → (stray_seen stray ctl resync code m).memory ≡ m.memory
-stray_memory (Some q) ctl resync code m = dropped_memory q resync m
-stray_memory None ctl resync code m = seen_memory (common_code m.queues) ctl resync code m
-
 waits_memory : (job : Job) (m : State) → is_waiting job ≡ true → (worked job m).memory ≡ m.memory
 waits_memory Idle m h = cc
 waits_memory (Running instr ds) m h = cc
-waits_memory (Waiting ctl resync code) m h = stray_memory (lowest_stray m.queues) ctl resync code m
+waits_memory (Waiting ctl resync code) m h = stray-memory (lowest_stray m.queues) ctl resync code m
 
 -- ---- a turn that fetches
 

@@ -1,7 +1,7 @@
 //! The three queues of the video FIFO.
 #![tactic(auto)]
 
-ghost use Rattle.std.specs.Prelude.{◌≡◌, ◌+◌, ◌<◌, ◌≤◌, ◌⊎◌, ◌++◌, drop, slice_index, All, IfOk, IsSome, false};
+ghost use Rattle.std.specs.Prelude.{◌≡◌, ◌+◌, ◌<◌, ◌≤◌, ◌⊎◌, ◌++◌, drop, length, slice_index, All, IfOk, IsSome, false};
 ghost use Rattle.sync_status.specs.Statuses.{kind_of, is_control};
 ghost use Rattle.fifo_model.specs.Queues.{queue_state, with_queue_state, empty_queues, max_capacity, push_answer, pushed, control_entry, control_answer, control_pushed, front, front_valid};
 ghost use Rattle.fifo_model.specs.Queues.{front_bytes, taken_from, removed, is_ready, front_code, all_removed, cleared, overruns_of, IsFifo};
@@ -140,6 +140,15 @@ impl Fifo {
         self.rings[0].push(control(c));
         self.rings[1].push(control(c));
         self.rings[2].push(control(c))
+    }
+
+    /// How many entries a queue holds. A front of which some bytes were taken counts.
+    #[inline]
+    pub fn len(&self, q: Queue) -> usize
+        ensures entries { result ≡ length (queue_state q self.now).entries }
+        ensures most { result ≤ max_capacity }
+    {
+        self.rings[q.place()].len()
     }
 
     /// The entry at the front of a queue, if there is one.

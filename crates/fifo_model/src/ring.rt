@@ -82,6 +82,14 @@ impl Ring {
     }
 
     #[inline]
+    pub fn len(&self) -> usize
+        ensures entries { result ≡ length self.now.entries }
+        ensures most { result ≤ max_capacity }
+    {
+        self.entries.len()
+    }
+
+    #[inline]
     pub fn front(&self) -> Option<Entry>
         ensures { result ≡ front self.now }
     {

@@ -49,19 +49,19 @@ fetched-memory : (reading : Reading) (m : State) → (fetched reading m).memory 
 fetched-memory (Err fault) m = refl
 fetched-memory (Ok (instr, count)) m = instr-memory instr count m
 
-unless-memory : (resync : Bool) (m : State) → (with_fdsr_unless resync m).memory ≡ m.memory
+pub unless-memory : (resync : Bool) (m : State) → (with_fdsr_unless resync m).memory ≡ m.memory
 unless-memory true m = refl
 unless-memory false m = refl
 
-met-memory : (awaited : Bool) (ctl : Ctl) (resync : Bool) (m : State) → (met awaited ctl resync m).memory ≡ m.memory
+pub met-memory : (awaited : Bool) (ctl : Ctl) (resync : Bool) (m : State) → (met awaited ctl resync m).memory ≡ m.memory
 met-memory true ctl resync m = refl
 met-memory false ctl resync m = unless-memory resync _
 
-code-memory : (seen : Option Code) (ctl : Ctl) (resync : Bool) (code : Code) (m : State) → (code_seen seen ctl resync code m).memory ≡ m.memory
+pub code-memory : (seen : Option Code) (ctl : Ctl) (resync : Bool) (code : Code) (m : State) → (code_seen seen ctl resync code m).memory ≡ m.memory
 code-memory None ctl resync code m = refl
 code-memory (Some seen) ctl resync code m = met-memory _ ctl resync m
 
-stray-memory : (stray : Option Queue) (ctl : Ctl) (resync : Bool) (code : Code) (m : State) → (stray_seen stray ctl resync code m).memory ≡ m.memory
+pub stray-memory : (stray : Option Queue) (ctl : Ctl) (resync : Bool) (code : Code) (m : State) → (stray_seen stray ctl resync code m).memory ≡ m.memory
 stray-memory None ctl resync code m = code-memory _ ctl resync code m
 stray-memory (Some q) ctl resync code m = unless-memory resync _
 

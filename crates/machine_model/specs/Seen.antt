@@ -1,6 +1,6 @@
 -- What one turn did, and at which instruction.
 use Rattle.std.specs.Prelude.{◌≡◌, ℕ, zero, suc, ◌+◌, ◌-◌, ◌*◌, Bool, true, false, not, ◌&&◌, List, [], ◌∷◌, ◌++◌, length, Option, Some, None, Ok, Err, if◌then◌else◌, ◌==◌}
-use Rattle.std.specs.List.{list_any}
+use Rattle.std.specs.List.{list_any, sum_by}
 use Rattle.risc_word.specs.declared.Code.{Code}
 use Rattle.risc_word.specs.declared.Instr.{Instr}
 use Rattle.risc_word.specs.declared.Instr.TheVariants.{Jump, Sync}
@@ -41,6 +41,14 @@ takes_by _ = false
 
 abbrev pub takes : Application → Bool
 takes a = takes_by (verdict_of a)
+
+-- how many bytes are taken
+abbrev pub taken_by : Verdict → ℕ
+taken_by (Take count) = count
+taken_by _ = 0
+
+abbrev pub bytes_taken : List Application → ℕ
+bytes_taken made = sum_by (λ a. taken_by (verdict_of a)) made
 
 -- the last byte of a line's last entry is taken, so the entry leaves its queue
 abbrev pub ends_by : Verdict → Application → Bool
@@ -151,6 +159,26 @@ seen_if true m = seen_in m.job m
 -- what the turn at a state does
 abbrev pub seen : State → Seen
 seen m = seen_if m.risc_on m
+
+-- how many bytes the burst at a state takes of its queue, stored or not
+abbrev pub taken_served : Option Queue → State → ℕ
+taken_served None m = 0
+taken_served (Some q) m = bytes_taken (applications m.trigger q m)
+
+abbrev pub taken_running : Bool → Demands → State → ℕ
+taken_running true ds m = 0
+taken_running false ds m = taken_served (lowest_served ds m) m
+
+abbrev pub taken_in : Job → State → ℕ
+taken_in (Running instr ds) m = taken_running (is_done ds) ds m
+taken_in _ m = 0
+
+abbrev pub taken_if : Bool → State → ℕ
+taken_if false m = 0
+taken_if true m = taken_in m.job m
+
+abbrev pub taken : State → ℕ
+taken m = taken_if m.risc_on m
 
 -- a data instruction that runs stands at this address, and pc is the address after it
 pub record StandsAt (m : State) (instr : Instr) (at : ℕ) : Type 0 where
