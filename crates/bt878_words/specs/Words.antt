@@ -34,7 +34,10 @@ verb_named word =
     else (if bytes_eq word (codes "ring") then Some verb.Ring
     else (if bytes_eq word (codes "assemble") then Some verb.Assemble
     else (if bytes_eq word (codes "check") then Some verb.Check
-    else None))))))))))
+    else (if bytes_eq word (codes "trace") then Some verb.Trace
+    else (if bytes_eq word (codes "--help") then Some verb.Help
+    else (if bytes_eq word (codes "--version") then Some verb.Version
+    else None)))))))))))))
 
 -- a decimal number of 64 bits, in digits without a sign and without a leading zero
 abbrev pub is_digit : ℕ → Bool
@@ -79,6 +82,9 @@ named verb.Damage (desc ∷ stream ∷ []) = Ok (task.Damage desc stream)
 named verb.Ring (ring ∷ stream ∷ program ∷ image ∷ []) = Ok (task.Ring ring stream program image)
 named verb.Assemble (text ∷ program ∷ []) = Ok (task.Assemble text program)
 named verb.Check (program ∷ desc ∷ []) = Ok (task.Check program desc)
+named verb.Trace (program ∷ stream ∷ []) = Ok (task.Trace program stream)
+named verb.Help [] = Ok task.Help
+named verb.Version [] = Ok task.Version
 named _ _ = Err WordCount
 
 -- the names of the inputs and of the outputs, in the order in which they are read and written
@@ -94,6 +100,9 @@ reads (task.Damage desc stream) = desc.now ∷ stream.now ∷ []
 reads (task.Ring ring stream program image) = ring.now ∷ stream.now ∷ []
 reads (task.Assemble text program) = text.now ∷ []
 reads (task.Check program desc) = program.now ∷ desc.now ∷ []
+reads (task.Trace program stream) = program.now ∷ stream.now ∷ []
+reads task.Help = []
+reads task.Version = []
 
 abbrev pub writes : Task → List (List ℕ)
 writes (task.List program) = []
@@ -107,6 +116,9 @@ writes (task.Damage desc stream) = []
 writes (task.Ring ring stream program image) = program.now ∷ image.now ∷ []
 writes (task.Assemble text program) = program.now ∷ []
 writes (task.Check program desc) = []
+writes (task.Trace program stream) = []
+writes task.Help = []
+writes task.Version = []
 
 -- an output has the name of an input or of another output
 abbrev pub is_among : List ℕ → List (List ℕ) → Bool
@@ -145,6 +157,9 @@ command_in (task.Damage desc stream) = command.Damage
 command_in (task.Ring ring stream program image) = command.Ring
 command_in (task.Assemble text program) = command.Assemble
 command_in (task.Check program desc) = command.Check
+command_in (task.Trace program stream) = command.Trace
+command_in task.Help = command.Help
+command_in task.Version = command.Version
 
 abbrev pub command_if : Result Task UsageFault → Result Command UsageFault
 command_if (Err fault) = Err fault

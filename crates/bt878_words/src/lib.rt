@@ -1,7 +1,7 @@
 //! The words of the command line.
 #![tactic(auto)]
 
-ghost use Rattle.std.specs.Prelude.{◌≡◌, map, IfOk};
+ghost use Rattle.std.specs.Prelude.{◌≡◌, [], ◌∷◌, map, IfOk};
 ghost use Rattle.bt878_words.specs.Words.{HasFrames, apart, command_in, command_of, has_clash, is_among, made_with, named, number_from, number_of, reads, task_of, verb_named, writes};
 
 /// What is wrong with the words, in the order in which it is looked for (this project's own rule).
@@ -44,6 +44,12 @@ pub enum Command {
     Assemble,
     /// `check PROG DESC`
     Check,
+    /// `trace PROG STREAM`
+    Trace,
+    /// `--help`
+    Help,
+    /// `--version`
+    Version,
 }
 
 /// What the program is asked to do, with the names of files and the numbers.
@@ -111,6 +117,15 @@ pub enum Task<'a> {
         program: &'a str,
         desc: &'a str,
     },
+    /// Prints what each step of a stream does with a program.
+    Trace {
+        program: &'a str,
+        stream: &'a str,
+    },
+    /// Prints how the program is used.
+    Help,
+    /// Prints the version of the program.
+    Version,
 }
 
 /// The first word.
@@ -127,6 +142,9 @@ enum Verb {
     Ring,
     Assemble,
     Check,
+    Trace,
+    Help,
+    Version,
 }
 
 fn verb_of(word: &str) -> Option<Verb>
@@ -144,6 +162,9 @@ fn verb_of(word: &str) -> Option<Verb>
         "ring" => Some(Verb::Ring),
         "assemble" => Some(Verb::Assemble),
         "check" => Some(Verb::Check),
+        "trace" => Some(Verb::Trace),
+        "--help" => Some(Verb::Help),
+        "--version" => Some(Verb::Version),
         _ => None,
     }
 }
@@ -191,46 +212,122 @@ fn make<'a>(
     }
 }
 
+/// The task of a command that no other word follows.
+fn task_of_none<'a>(verb: Verb) -> Result<Task<'a>, UsageFault>
+    ensures named { result ≡ named verb [] }
+    ensures frames { IfOk result HasFrames }
+{
+    match verb {
+        Verb::Help => Ok(Task::Help),
+        Verb::Version => Ok(Task::Version),
+        _ => Err(UsageFault::WordCount),
+    }
+}
+
+fn task_of_one<'a>(verb: Verb, program: &'a str) -> Result<Task<'a>, UsageFault>
+    ensures named { result ≡ named verb (program.entry ∷ []) }
+    ensures frames { IfOk result HasFrames }
+{
+    match verb {
+        Verb::List => Ok(Task::List { program }),
+        Verb::Verify => Ok(Task::Verify { program }),
+        _ => Err(UsageFault::WordCount),
+    }
+}
+
+fn task_of_two<'a>(verb: Verb, one: &'a str, two: &'a str) -> Result<Task<'a>, UsageFault>
+    ensures named { result ≡ named verb (one.entry ∷ two.entry ∷ []) }
+    ensures frames { IfOk result HasFrames }
+{
+    match verb {
+        Verb::Compile => Ok(Task::Compile {
+            desc: one,
+            program: two,
+        }),
+        Verb::Damage => Ok(Task::Damage {
+            desc: one,
+            stream: two,
+        }),
+        Verb::Assemble => Ok(Task::Assemble {
+            text: one,
+            program: two,
+        }),
+        Verb::Check => Ok(Task::Check {
+            program: one,
+            desc: two,
+        }),
+        Verb::Trace => Ok(Task::Trace {
+            program: one,
+            stream: two,
+        }),
+        _ => Err(UsageFault::WordCount),
+    }
+}
+
+fn task_of_three<'a>(
+    verb: Verb,
+    program: &'a str,
+    stream: &'a str,
+    image: &'a str,
+) -> Result<Task<'a>, UsageFault>
+    ensures named { result ≡ named verb (program.entry ∷ stream.entry ∷ image.entry ∷ []) }
+    ensures frames { IfOk result HasFrames }
+{
+    match verb {
+        Verb::Run => Ok(Task::Run {
+            program,
+            stream,
+            image,
+        }),
+        _ => Err(UsageFault::WordCount),
+    }
+}
+
+fn task_of_four<'a>(
+    verb: Verb,
+    one: &'a str,
+    two: &'a str,
+    three: &'a str,
+    four: &'a str,
+) -> Result<Task<'a>, UsageFault>
+    ensures named { result ≡ named verb (one.entry ∷ two.entry ∷ three.entry ∷ four.entry ∷ []) }
+    ensures frames { IfOk result HasFrames }
+{
+    match verb {
+        Verb::Capture => Ok(Task::Capture {
+            desc: one,
+            stream: two,
+            program: three,
+            image: four,
+        }),
+        Verb::Make => make(one, number(two), number(three), four),
+        Verb::Chain => Ok(Task::Chain {
+            first: one,
+            second: two,
+            stream: three,
+            image: four,
+        }),
+        Verb::Ring => Ok(Task::Ring {
+            ring: one,
+            stream: two,
+            program: three,
+            image: four,
+        }),
+        _ => Err(UsageFault::WordCount),
+    }
+}
+
+/// The task of a command with the words that follow it.
 fn task_for<'a>(verb: Verb, others: &[&'a str]) -> Result<Task<'a>, UsageFault>
     ensures named { result ≡ named verb others.now }
     ensures frames { IfOk result HasFrames }
 {
-    match (verb, others) {
-        (Verb::List, &[program]) => Ok(Task::List { program }),
-        (Verb::Verify, &[program]) => Ok(Task::Verify { program }),
-        (Verb::Run, &[program, stream, image]) => Ok(Task::Run {
-            program,
-            stream,
-            image,
-        }),
-        (Verb::Compile, &[desc, program]) => Ok(Task::Compile { desc, program }),
-        (Verb::Capture, &[desc, stream, program, image]) => Ok(Task::Capture {
-            desc,
-            stream,
-            program,
-            image,
-        }),
-        (Verb::Make, &[desc, seed, frames, stream]) => make(
-            desc,
-            number(seed),
-            number(frames),
-            stream,
-        ),
-        (Verb::Chain, &[first, second, stream, image]) => Ok(Task::Chain {
-            first,
-            second,
-            stream,
-            image,
-        }),
-        (Verb::Damage, &[desc, stream]) => Ok(Task::Damage { desc, stream }),
-        (Verb::Ring, &[ring, stream, program, image]) => Ok(Task::Ring {
-            ring,
-            stream,
-            program,
-            image,
-        }),
-        (Verb::Assemble, &[text, program]) => Ok(Task::Assemble { text, program }),
-        (Verb::Check, &[program, desc]) => Ok(Task::Check { program, desc }),
+    match others {
+        [] => task_of_none(verb),
+        [one] => task_of_one(verb, one),
+        [one, two] => task_of_two(verb, one, two),
+        [one, two, three] => task_of_three(verb, one, two, three),
+        [one, two, three, four] => task_of_four(verb, one, two, three, four),
         _ => Err(UsageFault::WordCount),
     }
 }
@@ -262,7 +359,8 @@ impl Task<'_> {
     {
         match *self {
             Task::List { .. } | Task::Verify { .. } => false,
-            Task::Damage { .. } | Task::Check { .. } => false,
+            Task::Damage { .. } | Task::Check { .. } | Task::Trace { .. } => false,
+            Task::Help | Task::Version => false,
             Task::Run {
                 program,
                 stream,
@@ -308,6 +406,9 @@ impl Task<'_> {
             Task::Ring { .. } => Command::Ring,
             Task::Assemble { .. } => Command::Assemble,
             Task::Check { .. } => Command::Check,
+            Task::Trace { .. } => Command::Trace,
+            Task::Help => Command::Help,
+            Task::Version => Command::Version,
         }
     }
 }
@@ -343,8 +444,5 @@ pub fn read_task<'a>(words: &[&'a str]) -> Result<Task<'a>, UsageFault>
 pub fn read_words(words: &[&str]) -> Result<Command, UsageFault>
     ensures { result ≡ command_of words.now }
 {
-    match read_task(words) {
-        Ok(task) => Ok(task.command()),
-        Err(fault) => Err(fault),
-    }
+    Ok(read_task(words)?.command())
 }

@@ -1,6 +1,7 @@
 -- What is said: the text of each answer, and the report. Numbers and places are decimal; bytes have two hexadecimal
 -- digits, nibbles one and addresses eight, or nine for 2^32.
-use Rattle.std.specs.Prelude.{ℕ, false, List, [], ◌++◌, codes, slice_index}
+use Rattle.std.specs.Prelude.{ℕ, false, List, [], ◌∷◌, ◌++◌, codes, slice_index}
+use Rattle.std.specs.List.{flat_map}
 use Rattle.std.specs.Fmt.{decimal, digits}
 use Rattle.risc_listing.specs.Lines.{hex, address_text, line_end}
 use Rattle.bt878_words.specs.declared.UsageFault.{UsageFault}
@@ -166,3 +167,37 @@ built_text words pages = codes "words " ++ (decimal words ++ (codes " pages " ++
 
 abbrev pub made_text : ℕ → ℕ → List ℕ
 made_text fields entries = codes "fields " ++ (decimal fields ++ (codes " entries " ++ (decimal entries ++ line_end)))
+
+-- what `--help` prints, line by line
+abbrev pub help_lines : List (List ℕ)
+help_lines =
+    codes "bt878 compiles, checks and runs RISC capture programs of the Bt878." ∷
+    codes "" ∷
+    codes "  bt878 list PROG                         print a program's listing" ∷
+    codes "  bt878 assemble TEXT PROG                make the program of a listing" ∷
+    codes "  bt878 verify PROG                       check that a program is safe" ∷
+    codes "  bt878 check PROG DESC                   check a program against a description" ∷
+    codes "  bt878 compile DESC PROG                 make the program of a description" ∷
+    codes "  bt878 make DESC SEED FRAMES STREAM      make a stream for a description" ∷
+    codes "  bt878 run PROG STREAM IMAGE             run a program on a stream" ∷
+    codes "  bt878 trace PROG STREAM                 print what each step of a run did" ∷
+    codes "  bt878 capture DESC STREAM PROG IMAGE    compile a description and run it" ∷
+    codes "  bt878 damage DESC STREAM                print which rows came whole" ∷
+    codes "  bt878 ring RING STREAM PROG IMAGE       make and run a ring of blocks" ∷
+    codes "  bt878 chain DESC1 DESC2 STREAM IMAGE    run a loop with two buffers" ∷
+    codes "  bt878 --help                            print this" ∷
+    codes "  bt878 --version                         print the version" ∷
+    codes "" ∷
+    codes "Status: 0 done, 1 a program or a description has a fault or differs," ∷
+    codes "2 wrong words, 3 a malformed file, 4 an input can't be read," ∷
+    codes "5 an output can't be written, 6 out of memory, 8 a word that is no text." ∷
+    codes "" ∷
+    codes "The manual is bt878(1)." ∷
+    []
+
+abbrev pub help_text : List ℕ
+help_text = flat_map (λ line. line ++ line_end) help_lines
+
+-- what `--version` prints
+abbrev pub version_text : List ℕ
+version_text = codes "bt878 0.1.0\n"

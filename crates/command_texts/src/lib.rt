@@ -10,6 +10,6 @@ pub use answer::Answer;
 pub use check_text::CheckText;
 pub use refusal::Refusal;
 pub use texts::{
-    ACCEPTED, NO_MEMORY, RefusalText, blocks_text, built_text, made_text, refusal_text,
-    report_text, usage_text,
+    ACCEPTED, HELP, NO_MEMORY, RefusalText, VERSION, blocks_text, built_text, made_text,
+    refusal_text, report_text, usage_text,
 };

@@ -27,6 +27,35 @@ pub const NO_MEMORY: &str = "no memory\n";
 /// What `verify` says of a sound program.
 pub const ACCEPTED: &str = "accepted\n";
 
+/// What `--help` prints.
+pub const HELP: &str = "\
+bt878 compiles, checks and runs RISC capture programs of the Bt878.
+
+  bt878 list PROG                         print a program's listing
+  bt878 assemble TEXT PROG                make the program of a listing
+  bt878 verify PROG                       check that a program is safe
+  bt878 check PROG DESC                   check a program against a description
+  bt878 compile DESC PROG                 make the program of a description
+  bt878 make DESC SEED FRAMES STREAM      make a stream for a description
+  bt878 run PROG STREAM IMAGE             run a program on a stream
+  bt878 trace PROG STREAM                 print what each step of a run did
+  bt878 capture DESC STREAM PROG IMAGE    compile a description and run it
+  bt878 damage DESC STREAM                print which rows came whole
+  bt878 ring RING STREAM PROG IMAGE       make and run a ring of blocks
+  bt878 chain DESC1 DESC2 STREAM IMAGE    run a loop with two buffers
+  bt878 --help                            print this
+  bt878 --version                         print the version
+
+Status: 0 done, 1 a program or a description has a fault or differs,
+2 wrong words, 3 a malformed file, 4 an input can't be read,
+5 an output can't be written, 6 out of memory, 8 a word that is no text.
+
+The manual is bt878(1).
+";
+
+/// What `--version` prints.
+pub const VERSION: &str = "bt878 0.1.0\n";
+
 /// A cause in words.
 #[derive(Drop)]
 struct CauseWords(Cause);
