@@ -2,6 +2,7 @@
 use Rattle.std.proofs.Common.{◌≡◌, ℕ, zero, suc, ◌-◌, ◌<◌, ◌++◌, Bool, true, false, not, List, [], ◌∷◌, Option, Some, None, refl, sym, ap, ◌∙◌, arith, if◌then◌else◌}
 use Rattle.std.specs.Prelude.{◌&&◌, ◌||◌, ◌==◌, ◌+◌}
 use Rattle.std.specs.List.{list_any}
+use Rattle.std.proofs.lemmas.List.Sums.{sum_by-append}
 use Rattle.std.proofs.Math.Bool.{or-false, or-true, or_assoc}
 use Rattle.fifo_model.specs.declared.Queue.{Queue}
 use Rattle.machine_model.specs.declared.Did.{Did}
@@ -10,7 +11,7 @@ use Rattle.machine_model.specs.declared.Seen.{Seen}
 use Rattle.sync_status.specs.declared.Verdict.{Verdict}
 use Rattle.sync_status.specs.declared.Verdict.TheVariants.{Take}
 use Rattle.sync_status.specs.Statuses.{is_end, kind_of, valid_bytes}
-use Rattle.machine_model.specs.Seen.{Application, application, applications, discards_reserved, discards_reserved_by, ends, ends_by, gives_up, gives_up_by, seen_alone, seen_burst, takes, takes_by, verdict_of}
+use Rattle.machine_model.specs.Seen.{Application, application, applications, bytes_taken, discards_reserved, discards_reserved_by, ends, ends_by, gives_up, gives_up_by, seen_alone, seen_burst, taken_by, takes, takes_by, verdict_of}
 use Rattle.machine_model.specs.States.{State}
 use Rattle.machine_model.specs.Turns.{apply}
 use Rattle.dma_machine.specs.Needs.{Applied}
@@ -41,6 +42,23 @@ noted-applied (suc left) q made after before seen some h =
     ∙ continued (apply q before) left q made after before (all_noted q (application q before) seen) h
     ∙ ap (λ n. if made then all_noted q (applications n q after) (all_noted q (application q before) seen) else all_noted q (application q before) seen)
     (sym one_less)
+
+continued_taken : (wanted : Option State) (left : ℕ) (q : Queue) (made : Bool) (after before : State) → Applied wanted made after before →
+    bytes_taken (elim wanted as (λ _. List Application) [ None ↦ [] | Some next ↦ applications left q next ]) ≡ (if made then bytes_taken (applications left q after) else 0)
+continued_taken None left q true after before h = let e = h.0 in cc
+continued_taken None left q false after before h = refl
+continued_taken (Some next) left q true after before h = ap (λ m. bytes_taken (applications left q m)) (sym h.1)
+continued_taken (Some next) left q false after before h = let e = h.0 in cc
+
+-- how many bytes what is left of a burst takes, with an application or none
+pub taken-applied : (left : ℕ) (q : Queue) (made : Bool) (after before : State) → 0 < left → Applied (apply q before) made after before →
+    bytes_taken (applications left q before) ≡ bytes_taken (application q before) + (if made then bytes_taken (applications (left - 1) q after) else 0)
+taken-applied zero q made after before some h = absurd (omega arith)
+taken-applied (suc left) q made after before some h =
+    let one_less : suc left - 1 ≡ left = omega arith in
+    sum_by-append (λ a. taken_by (verdict_of a)) (application q before) _
+    ∙ ap (λ n. bytes_taken (application q before) + n) (continued_taken (apply q before) left q made after before h)
+    ∙ ap (λ n. bytes_taken (application q before) + (if made then bytes_taken (applications n q after) else 0)) (sym one_less)
 
 either : (one other : Bool) (given otherwise : Did) → (if other then given else (if one then given else otherwise)) ≡ (if one || other then given else otherwise)
 either true true given otherwise = refl
@@ -89,3 +107,9 @@ whole_noted q a seen e =
     (sym (or-true seen.took) ∙ ap (λ (v : Verdict). seen.took || takes_by v) verdict)
     (sym (or-false seen.ended) ∙ ap (λ (b : Bool). seen.ended || (b && a.taken + 4 == valid_bytes a.entry.status)) no_end ∙ ap (λ (v : Verdict). seen.ended || ends_by v a) verdict)
     (sym (or-false seen.reserved) ∙ ap (λ (v : Verdict). seen.reserved || discards_reserved_by v a) verdict)
+
+pub whole_taken : (a : Application) → takes_whole (kind_of a.entry.status) a.demand.needs_sol a.taken a.demand.rest ≡ true → 4 ≡ taken_by (verdict_of a)
+whole_taken a e =
+    let whole : IsWhole (kind_of a.entry.status) a.demand.needs_sol a.taken a.demand.rest = plain_whole _ _ _ _ e in
+    let verdict : Take 4 ≡ verdict_of a = sym whole.verdict in
+    ap taken_by verdict

@@ -1,19 +1,19 @@
 -- What is asked of a machine without a turn, and what a turn leaves to say of an instruction.
 use Rattle.std.specs.Prelude.{◌≡◌, ℕ, Bool, true, Option, Some, None, is_some}
 use Rattle.fifo_model.specs.declared.Queue.{Queue}
-use Rattle.fifo_model.specs.Queues.{front, queue_state}
+use Rattle.fifo_model.specs.Queues.{Queues, front, queue_state}
 use Rattle.risc_word.specs.declared.Instr.{Instr}
 use Rattle.machine_model.specs.declared.Demands.{Demands}
 use Rattle.machine_model.specs.declared.Did.{Did}
 use Rattle.machine_model.specs.declared.Did.TheVariants.{Retired}
 use Rattle.machine_model.specs.declared.Job.{Job}
-use Rattle.machine_model.specs.declared.Job.TheVariants.{Idle, Running}
+use Rattle.machine_model.specs.declared.Job.TheVariants.{Idle, Waiting, Running}
 use Rattle.machine_model.specs.Paths.{RiscProgram, is_word}
 use Rattle.machine_model.specs.Safety.{IsSafe}
 use Rattle.machine_model.specs.Seen.{StandsAt, seen}
 use Rattle.machine_model.specs.States.{State}
 use Rattle.machine_model.specs.Steps.{with_program}
-use Rattle.machine_model.specs.Turns.{is_done}
+use Rattle.machine_model.specs.Turns.{is_done, lowest_stray}
 
 -- where the next turn fetches: with RISC enabled an idle machine fetches at pc
 abbrev pub fetches_at : Bool → Job → ℕ → Option ℕ
@@ -22,6 +22,14 @@ fetches_at _ _ pc = None
 
 abbrev pub next_fetch : State → Option ℕ
 next_fetch m = fetches_at m.risc_on m.job m.pc
+
+-- the queue whose front the next turn drops: with RISC enabled a waiting machine drops a front that is no control code
+abbrev pub drops_of : Bool → Job → Queues → Option Queue
+drops_of true (Waiting ctl resync code) queues = lowest_stray queues
+drops_of _ _ queues = None
+
+abbrev pub next_drop : State → Option Queue
+next_drop m = drops_of m.risc_on m.job m.queues
 
 -- where the instruction stands that the next turn retires, if it retires one
 abbrev pub retired_at : Did → ℕ → Option ℕ

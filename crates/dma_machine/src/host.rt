@@ -12,7 +12,7 @@ use risc_word::{Code, Instr, NO_CONTROL};
 
 impl<R: Ram> Engine<R> {
     ghost use Rattle.dma_machine.specs.Facts.{IsMachine, report_of};
-    ghost use Rattle.dma_machine.specs.Looks.{holds, next_fetch};
+    ghost use Rattle.dma_machine.specs.Looks.{holds, next_drop, next_fetch};
     ghost use Rattle.dma_machine.specs.Views.{state_of};
     ghost use Rattle.fifo_model.specs.Queues.{empty_queues, empty_fifo};
     ghost use Rattle.irq_status.specs.Writes.{IsWrite};
@@ -125,7 +125,27 @@ impl<R: Ram> Engine<R> {
         ensures { result ≡ next_fetch (state_of R.memory self.now) }
     {
         match self.phase {
-            Phase::Idle if self.risc_on => Some(self.pc as u32),
+            Phase::Idle if self.risc_on => Some(self.next_address()),
+            _ => None,
+        }
+    }
+
+    /// The address of the next instruction.
+    #[inline]
+    pub fn next_address(&self) -> u32
+        requires { self.now.pc < 2 ^ 32 }
+        ensures { result ≡ self.now.pc }
+    {
+        self.pc as u32
+    }
+
+    /// The queue whose front the next turn drops, if it drops one.
+    #[inline]
+    pub fn next_drop(&self) -> Option<Queue>
+        ensures { result ≡ next_drop (state_of R.memory self.now) }
+    {
+        match self.phase {
+            Phase::Waiting if self.risc_on => self.lowest_stray(),
             _ => None,
         }
     }

@@ -5,19 +5,19 @@
 ghost use Rattle.dma_machine.specs.Counts.{acted, acted_times, with_turns};
 ghost use Rattle.dma_machine.specs.FallThrough.{MovesWhole, falls_through};
 ghost use Rattle.dma_machine.specs.Facts.{IsMachine, report_of};
-ghost use Rattle.dma_machine.specs.Looks.{CanGoOn, RetiresAt, holds, next_fetch, next_retirement};
+ghost use Rattle.dma_machine.specs.Looks.{CanGoOn, RetiresAt, holds, next_drop, next_fetch, next_retirement};
 ghost use Rattle.dma_machine.specs.Stills.{is_still};
-ghost use Rattle.fifo_model.specs.Queues.{empty_queues, more, empty_fifo};
+ghost use Rattle.fifo_model.specs.Queues.{empty_queues, max_capacity, more, empty_fifo, queue_state};
 ghost use Rattle.irq_status.specs.Register.{has_ocerr};
 ghost use Rattle.irq_status.specs.Writes.{IsWrite};
 ghost use Rattle.machine_model.specs.Safety.{StaysInside};
 ghost use Rattle.machine_model.specs.declared.Did.TheVariants.{Still};
-ghost use Rattle.machine_model.specs.Seen.{seen};
+ghost use Rattle.machine_model.specs.Seen.{seen, taken};
 ghost use Rattle.machine_model.specs.States.{started};
 ghost use Rattle.machine_model.specs.Steps.{Turn, control_pushed_as, host, push, push_control, pushed_as, run, with_program};
 ghost use Rattle.machine_model.specs.Turns.{counted, turn};
 ghost use Rattle.page_table.specs.Blocks.{chunks_of};
-ghost use Rattle.std.specs.Prelude.{◌≡◌, ◌<◌, ◌^◌, false, replicate, true};
+ghost use Rattle.std.specs.Prelude.{◌≡◌, ◌<◌, ◌≤◌, ◌^◌, false, length, replicate, true};
 ghost use Rattle.sync_status.specs.Statuses.{is_control, kind_of};
 
 mod engine;
@@ -50,6 +50,15 @@ pub struct Report {
     pub overruns: [u64; 4],
     /// The register INT_STAT.
     pub int_stat: u32,
+}
+
+/// What one turn did, and how many bytes it took of a queue, stored or not.
+#[derive(Clone, Copy, Debug, PartialEq, Eq)]
+pub struct Told {
+    /// What the turn did, and at which instruction.
+    pub seen: Seen,
+    /// The bytes that its applications took.
+    pub taken: u32,
 }
 
 /// A machine with its program, its queues and its memory. Contracts see its `State`. Its program is sound, so it
@@ -310,19 +319,36 @@ impl<R: Ram> Machine<R> {
         ensures inside { StaysInside self.old }
         ensures no_error { has_ocerr self.new.interrupts ≡ false }
     {
-        let seen = self.act_seen();
+        let told = self.act_told();
         self.count(1);
-        seen
+        told.seen
+    }
+
+    /// The same turn, also with how many bytes it took of its queue, stored or not.
+    pub fn turn_told(&mut self) -> Told
+        ensures state { self.new ≡ turn self.old }
+        ensures seen { result.seen ≡ seen self.old }
+        ensures taken { result.taken ≡ taken self.old }
+        ensures still { result.seen.did ≡ Did.Still → self.new ≡ counted self.old }
+        ensures facts { IsMachine self.new }
+        ensures inside { StaysInside self.old }
+        ensures no_error { has_ocerr self.new.interrupts ≡ false }
+    {
+        let told = self.act_told();
+        self.count(1);
+        told
     }
 
     /// Takes a turn without counting it, and tells what it did.
-    fn act_seen(&mut self) -> Seen
+    #[inline(always)]
+    fn act_told(&mut self) -> Told
         ensures state { self.new ≡ acted self.old }
-        ensures seen { result ≡ seen self.old }
+        ensures seen { result.seen ≡ seen self.old }
+        ensures taken { result.taken ≡ taken self.old }
         ensures before { IsMachine self.old }
         ensures facts { IsMachine self.new }
     {
-        self.engine.act_seen()
+        self.engine.act_told()
     }
 
     /// Exchanges the machine's program for another one with which it can go on: one that begins at the same address, has
@@ -377,6 +403,35 @@ impl<R: Ram> Machine<R> {
         ensures facts { IsMachine self.now }
     {
         self.engine.holds(q)
+    }
+
+    /// The address of the next instruction, behind the one that waits or runs. A word of the program stands there.
+    #[inline]
+    pub fn pc(&self) -> u32
+        ensures address { result ≡ self.now.pc }
+        ensures facts { IsMachine self.now }
+    {
+        self.engine.next_address()
+    }
+
+    /// How many entries a queue holds. A front of which some bytes were taken counts.
+    #[inline]
+    pub fn level(&self, q: Queue) -> usize
+        ensures entries { result ≡ length (queue_state q self.now.queues).entries }
+        ensures most { result ≤ max_capacity }
+        ensures facts { IsMachine self.now }
+    {
+        self.engine.queues.len(q)
+    }
+
+    /// The queue whose front the next turn drops: the lowest that has a front without a control code. None exactly where
+    /// RISC is disabled, no SYNC waits, or there is no such queue.
+    #[inline]
+    pub fn next_drop(&self) -> Option<Queue>
+        ensures queue { result ≡ next_drop self.now }
+        ensures facts { IsMachine self.now }
+    {
+        self.engine.next_drop()
     }
 
     /// A register write of the host.

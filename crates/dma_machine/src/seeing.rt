@@ -1,17 +1,18 @@
 //! Turns that tell what they did: each looks at what comes, and then lets the code of turns do it.
 
 ghost use Rattle.dma_machine.specs.Noted.{noted};
-ghost use Rattle.machine_model.specs.Seen.{instr_did, seen_alone};
+ghost use Rattle.machine_model.specs.Seen.{instr_did, seen_alone, taken_by, verdict_of};
 ghost use Rattle.std.specs.Prelude.{◌≡◌, ◌+◌, ◌<◌, ◌≤◌, ◌⊎◌, ◌&&◌, ◌==◌};
 ghost use Rattle.sync_status.specs.Statuses.{is_end, kind_of, valid_bytes};
 
+use crate::Told;
 use crate::engine::{Engine, Phase};
 use crate::parts::{demand_on, is_cut_short, is_done, length_in_words, takes_whole};
 use fifo_model::{Entry, Queue};
 use machine_model::{Demand, Did, Seen, Skipping};
 use page_ram::Ram;
 use risc_word::Instr;
-use sync_status::{StatusKind, Verdict, judge, kind};
+use sync_status::{StatusKind, Verdict, judge, kind, valid};
 
 /// What fetching an instruction does.
 fn instr_did(instr: &Instr, skipping: Skipping) -> Did
@@ -42,6 +43,18 @@ fn seen_alone(did: Did, at: u32) -> Seen
         took: false,
         ended: false,
         reserved: false,
+    }
+}
+
+/// The same, with the bytes that it takes: none.
+#[inline(always)]
+fn told_alone(did: Did, at: u32) -> Told
+    ensures seen { result.seen ≡ seen_alone did at }
+    ensures none { result.taken ≡ 0 }
+{
+    Told {
+        seen: seen_alone(did, at),
+        taken: 0,
     }
 }
 
@@ -100,6 +113,37 @@ fn with_application(seen: Seen, q: Queue, entry: Entry, taken: u8, demand: Deman
     }
 }
 
+/// How many bytes an application takes, by its verdict.
+#[cold]
+#[inline(never)]
+fn taken_by_verdict(entry: Entry, taken: u8, demand: Demand) -> u8
+    requires asked { 1 ≤ demand.rest }
+    requires within { (taken ≡ 0) ⊎ (taken < valid_bytes entry.status) }
+    ensures taken { result ≡ taken_by (verdict_of (record { entry = entry; taken = taken; demand = demand })) }
+    ensures most { result ≤ 4 }
+{
+    let _lanes = valid(entry.status);
+    match judge(entry.status, demand.needs_sol, taken, demand.rest) {
+        Verdict::Take(count) => count,
+        Verdict::Discard | Verdict::Broken | Verdict::Missing => 0,
+    }
+}
+
+/// The same, quick where the entry is taken whole.
+#[inline(always)]
+fn taken_by_application(entry: Entry, taken: u8, demand: Demand) -> u8
+    requires asked { 1 ≤ demand.rest }
+    requires within { (taken ≡ 0) ⊎ (taken < valid_bytes entry.status) }
+    ensures taken { result ≡ taken_by (verdict_of (record { entry = entry; taken = taken; demand = demand })) }
+    ensures most { result ≤ 4 }
+{
+    if takes_whole(entry.status, demand.needs_sol, taken, demand.rest) {
+        4
+    } else {
+        taken_by_verdict(entry, taken, demand)
+    }
+}
+
 impl<R: Ram> Engine<R> {
     ghost use Rattle.dma_machine.specs.Counts.{acted};
     ghost use Rattle.dma_machine.specs.Needs.{Applied, CanWork, IsAddress};
@@ -108,7 +152,7 @@ impl<R: Ram> Engine<R> {
     ghost use Rattle.dma_machine.specs.Stills.{StillIf};
     ghost use Rattle.dma_machine.specs.Views.{state_of};
     ghost use Rattle.machine_model.specs.Paths.{demands_cause, fetch};
-    ghost use Rattle.machine_model.specs.Seen.{address_before, application, applications, fetched_did, seen, seen_burst, seen_in, seen_running, waited_did};
+    ghost use Rattle.machine_model.specs.Seen.{address_before, application, applications, bytes_taken, fetched_did, seen, seen_burst, seen_in, seen_running, taken, taken_in, taken_running, waited_did};
     ghost use Rattle.machine_model.specs.Turns.{apply, burst, common_code, is_done, lowest_stray, ran, worked};
     ghost use Rattle.page_table.specs.Blocks.{chunks_of};
     ghost use Rattle.std.specs.Prelude.{◌≡◌, ◌*◌, ◌-◌, ◌^◌, None};
@@ -161,6 +205,24 @@ impl<R: Ram> Engine<R> {
         }
     }
 
+    /// How many bytes the next application to a queue takes, if there is one.
+    #[inline(always)]
+    fn next_taken(&self, q: Queue) -> u8
+        ensures taken { result ≡ bytes_taken (application q (state_of R.memory self.now)) }
+        ensures most { result ≤ 4 }
+    {
+        if !matches!(self.phase, Phase::Running) {
+            return 0;
+        }
+        let demand = demand_on(&self.demands, q);
+        match self.queues.front(q) {
+            Some(entry) if demand.rest != 0 => {
+                taken_by_application(entry, self.queues.part(q), demand)
+            }
+            _ => 0,
+        }
+    }
+
     /// Makes the next application to a queue and notes it; whether there was one.
     #[inline(always)]
     fn apply_seen(&mut self, q: Queue, seen: &mut Seen) -> bool
@@ -173,48 +235,69 @@ impl<R: Ram> Engine<R> {
         self.apply(q)
     }
 
+    /// The same, and adds the bytes that it takes.
+    #[inline(always)]
+    fn apply_told(&mut self, q: Queue, seen: &mut Seen, taken: &mut u32) -> bool
+        requires within { demands_cause (chunks_of (R.memory self.old.ram)) self.old.demands ≡ None }
+        requires few { taken.old + 4 < 2 ^ 32 }
+        ensures seen { seen.new ≡ all_noted q (application q (state_of R.memory self.old)) seen.old }
+        ensures taken { taken.new ≡ taken.old + bytes_taken (application q (state_of R.memory self.old)) }
+        ensures few { taken.new ≤ taken.old + 4 }
+        ensures applied { Applied (apply q (state_of R.memory self.old)) result (state_of R.memory self.new) (state_of R.memory self.old) }
+        ensures within { demands_cause (chunks_of (R.memory self.new.ram)) self.new.demands ≡ None }
+    {
+        *taken += u32::from(self.next_taken(q));
+        self.apply_seen(q, seen)
+    }
+
     /// A burst from a queue that is served, up to the trigger point, by the instruction at an address.
     #[inline(always)]
-    fn burst_seen_on(&mut self, q: Queue, at: u32) -> Seen
+    fn burst_told_on(&mut self, q: Queue, at: u32) -> Told
         requires { demands_cause (chunks_of (R.memory self.old.ram)) self.old.demands ≡ None }
         ensures state { state_of R.memory self.new ≡ burst self.old.trigger q (state_of R.memory self.old) }
-        ensures seen { result ≡ seen_burst q at (applications self.old.trigger q (state_of R.memory self.old)) }
+        ensures seen { result.seen ≡ seen_burst q at (applications self.old.trigger q (state_of R.memory self.old)) }
+        ensures taken { result.taken ≡ bytes_taken (applications self.old.trigger q (state_of R.memory self.old)) }
     {
         let mut seen = seen_alone(Did::Moved(q), at);
+        let mut taken = 0;
         let mut left = self.trigger;
-        while left > 0 && self.apply_seen(q, &mut seen) {
+        while left > 0 && self.apply_told(q, &mut seen, &mut taken) {
             left -= 1;
         }
-        seen
+        Told { seen, taken }
     }
 
     /// The same, by a loop of its own for each queue.
-    fn burst_seen(&mut self, q: Queue, at: u32) -> Seen
+    #[inline(always)]
+    fn burst_told(&mut self, q: Queue, at: u32) -> Told
         requires { demands_cause (chunks_of (R.memory self.old.ram)) self.old.demands ≡ None }
         ensures state { state_of R.memory self.new ≡ burst self.old.trigger q (state_of R.memory self.old) }
-        ensures seen { result ≡ seen_burst q at (applications self.old.trigger q (state_of R.memory self.old)) }
+        ensures seen { result.seen ≡ seen_burst q at (applications self.old.trigger q (state_of R.memory self.old)) }
+        ensures taken { result.taken ≡ bytes_taken (applications self.old.trigger q (state_of R.memory self.old)) }
     {
         match q {
-            Queue::One => self.burst_seen_on(Queue::One, at),
-            Queue::Two => self.burst_seen_on(Queue::Two, at),
-            Queue::Three => self.burst_seen_on(Queue::Three, at),
+            Queue::One => self.burst_told_on(Queue::One, at),
+            Queue::Two => self.burst_told_on(Queue::Two, at),
+            Queue::Three => self.burst_told_on(Queue::Three, at),
         }
     }
 
     /// A turn of a machine that runs the instruction at an address.
-    fn run_seen(&mut self, at: u32) -> Seen
+    #[inline(always)]
+    fn run_told(&mut self, at: u32) -> Told
         requires target { IsAddress self.old.target }
         requires within { demands_cause (chunks_of (R.memory self.old.ram)) self.old.demands ≡ None }
         ensures state { state_of R.memory self.new ≡ ran (is_done self.old.demands) self.old.instr self.old.demands (state_of R.memory self.old) }
-        ensures seen { result ≡ seen_running (is_done self.old.demands) at self.old.demands (state_of R.memory self.old) }
+        ensures seen { result.seen ≡ seen_running (is_done self.old.demands) at self.old.demands (state_of R.memory self.old) }
+        ensures taken { result.taken ≡ taken_running (is_done self.old.demands) self.old.demands (state_of R.memory self.old) }
     {
         if is_done(&self.demands) {
             self.retire();
-            return seen_alone(Did::Retired, at);
+            return told_alone(Did::Retired, at);
         }
         match self.lowest_served() {
-            Some(q) => self.burst_seen(q, at),
-            None => seen_alone(Did::Still, at),
+            Some(q) => self.burst_told(q, at),
+            None => told_alone(Did::Still, at),
         }
     }
 
@@ -233,44 +316,49 @@ impl<R: Ram> Engine<R> {
     }
 
     /// A turn of an enabled machine.
-    fn work_seen(&mut self) -> Seen
+    #[inline(always)]
+    fn work_told(&mut self) -> Told
         requires can { CanWork (state_of R.memory self.old).job (state_of R.memory self.old) }
         requires small { self.old.pc < 2 ^ 32 }
         ensures state { state_of R.memory self.new ≡ worked (state_of R.memory self.old).job (state_of R.memory self.old) }
-        ensures seen { result ≡ seen_in (state_of R.memory self.old).job (state_of R.memory self.old) }
+        ensures seen { result.seen ≡ seen_in (state_of R.memory self.old).job (state_of R.memory self.old) }
+        ensures taken { result.taken ≡ taken_in (state_of R.memory self.old).job (state_of R.memory self.old) }
     {
         match self.phase {
             Phase::Running => {
                 let at = self.address_before(length_in_words(&self.instr));
-                self.run_seen(at)
+                self.run_told(at)
             }
             Phase::Waiting => {
-                let seen = seen_alone(self.waited_did(), self.address_before(2));
+                let told = told_alone(self.waited_did(), self.address_before(2));
                 self.wait();
-                seen
+                told
             }
             Phase::Idle => {
-                let seen = seen_alone(self.fetched_did(), self.address_before(0));
+                let told = told_alone(self.fetched_did(), self.address_before(0));
                 self.fetch();
-                seen
+                told
             }
         }
     }
 
-    /// Takes a turn without counting it, and finds out whether those after it do nothing.
-    pub fn act_seen(&mut self) -> Seen
+    /// Takes a turn without counting it, and finds out whether those after it do nothing. A caller that asks only for what
+    /// is seen has a copy in which the compiler counts no bytes.
+    #[inline(always)]
+    pub fn act_told(&mut self) -> Told
         requires can { CanWork (state_of R.memory self.old).job (state_of R.memory self.old) }
         requires small { self.old.pc < 2 ^ 32 }
         ensures state { state_of R.memory self.new ≡ acted (state_of R.memory self.old) }
-        ensures seen { result ≡ seen (state_of R.memory self.old) }
+        ensures seen { result.seen ≡ seen (state_of R.memory self.old) }
+        ensures taken { result.taken ≡ taken (state_of R.memory self.old) }
         ensures still { StillIf self.new.still (state_of R.memory self.new) }
     {
-        let seen = if self.risc_on {
-            self.work_seen()
+        let told = if self.risc_on {
+            self.work_told()
         } else {
-            seen_alone(Did::Still, self.address_before(0))
+            told_alone(Did::Still, self.address_before(0))
         };
         self.still = self.is_still();
-        seen
+        told
     }
 }

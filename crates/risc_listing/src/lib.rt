@@ -14,8 +14,8 @@ mod lines;
 mod unnamed;
 
 use arrayvec::ArrayString;
-pub use lines::InstrLine;
-use lines::{LONGEST_LINE, push_at, push_instr_line, push_word_line};
+pub use lines::{InstrLine, code_name, push_at, push_count, push_digit};
+use lines::{LONGEST_LINE, push_instr_line, push_word_line};
 use page_table::{PageSet, is_page};
 use risc_verify::{Program, Spans};
 use risc_word::{Instr, decode};

@@ -3,7 +3,8 @@
 ghost use Rattle.arrayvec.specs.ArrayString.{array_string_len};
 ghost use Rattle.risc_word.specs.declared.Instr.TheVariants.{Jump, Skip, Skip123, Sync, Write, Write123, Write1S23, WriteC};
 ghost use Rattle.risc_listing.specs.Lines.{address_text, addresses_text, at_text, code_name, control_text, count_text, counts_text, data_text, flag_text, instr_line, instr_text, nibble_text, word_line};
-ghost use Rattle.std.specs.Prelude.{◌≡◌, ◌+◌, ◌≤◌, ◌++◌, codes, length, Some};
+ghost use Rattle.std.specs.Fmt.{digits};
+ghost use Rattle.std.specs.Prelude.{◌≡◌, ◌+◌, ◌<◌, ◌≤◌, ◌++◌, codes, false, length, Some};
 
 use crate::digits::{
     address_and_space, five_places, four_places, one_digit, one_place, space_and_address,
@@ -29,6 +30,18 @@ fn push_flag<const CAP: usize>(text: &mut ArrayString<CAP>, name: &str, is_set: 
     }
 }
 
+/// Appends the hexadecimal digit of a number below 16.
+#[inline(always)]
+pub fn push_digit<const CAP: usize>(text: &mut ArrayString<CAP>, value: u8)
+    requires small { value < 16 }
+    requires room { array_string_len text.old + 1 ≤ CAP }
+    ensures bytes { text.new.bytes ≡ text.old.bytes ++ digits 16 false value }
+    ensures long { array_string_len text.new ≤ array_string_len text.old + 1 }
+{
+    let digits = one_digit(value);
+    text.push_str(unsafe { str::from_utf8_unchecked(&digits) });
+}
+
 // A field of four bits that stands only where it isn't 0.
 #[inline(always)]
 fn push_nibble<const CAP: usize>(text: &mut ArrayString<CAP>, name: &str, value: u8)
@@ -41,8 +54,7 @@ fn push_nibble<const CAP: usize>(text: &mut ArrayString<CAP>, name: &str, value:
     }
     text.push_str(name);
     if value < 16 {
-        let digits = one_digit(value);
-        text.push_str(unsafe { str::from_utf8_unchecked(&digits) });
+        push_digit(text, value);
     } else {
         let digits = two_digits(value);
         text.push_str(unsafe { str::from_utf8_unchecked(&digits) });
@@ -72,9 +84,9 @@ fn push_data<const CAP: usize>(text: &mut ArrayString<CAP>, ctl: Ctl, ends: Ends
     push_nibble(text, " off=", off);
 }
 
-// A count after a space.
+/// Appends a space and a number in decimal digits.
 #[inline(always)]
-fn push_count<const CAP: usize>(text: &mut ArrayString<CAP>, n: u16)
+pub fn push_count<const CAP: usize>(text: &mut ArrayString<CAP>, n: u16)
     requires { array_string_len text.old + 6 ≤ CAP }
     ensures bytes { text.new.bytes ≡ text.old.bytes ++ count_text n }
     ensures long { array_string_len text.new ≤ array_string_len text.old + 6 }
@@ -108,7 +120,7 @@ fn push_counts<const CAP: usize>(text: &mut ArrayString<CAP>, counts: &[u16; 3])
     push_count(text, counts[2]);
 }
 
-// An address after a space.
+/// Appends a space and an address, or another word, in eight hexadecimal digits.
 #[inline(always)]
 pub fn push_at<const CAP: usize>(text: &mut ArrayString<CAP>, address: u32)
     requires { array_string_len text.old + 9 ≤ CAP }
@@ -160,8 +172,9 @@ fn push_head<const CAP: usize>(text: &mut ArrayString<CAP>, at: u32)
     text.push_str(unsafe { str::from_utf8_unchecked(&digits) });
 }
 
+/// The name of a control code.
 #[inline(always)]
-fn code_name(code: Code) -> &'static str
+pub fn code_name(code: Code) -> &'static str
     ensures { result.now ≡ code_name code }
 {
     match code {
