@@ -24,7 +24,7 @@ use Rattle.command_texts.specs.declared.refusal.Refusal.TheVariants as refusal
 use Rattle.command_texts.specs.Answers.{answer_of}
 use Rattle.command_steps.specs.Outputs.{EndsAtFault, Product, Says, delivered}
 use Rattle.command_steps.specs.Inputs.{AreGood, OfInput, SameCounts, ReadsRose, WritesRose, apart}
-use Rattle.command_texts.specs.Texts.{answer_text, made_text}
+use Rattle.command_texts.specs.Texts.{answer_text, help_text, made_text, version_text}
 use Rattle.stream_play.specs.Plays.{longest_stream}
 use Rattle.command_inputs.specs.Programs.{GivesSound}
 use Rattle.bt878_contract.specs.Tasks.{IsListed}
@@ -40,9 +40,9 @@ use Rattle.command_inputs.specs.Checked.{FindsBy}
 use Rattle.command_inputs.specs.Rings.{GivesRing, GivesRingProgram}
 use Rattle.ring_model.specs.Rings.{Ring}
 use Rattle.bt878_contract.specs.Tasks.{Answers, ChainOf, DescMakes, Ends, IsDone, IsLiveRun, IsPartDone, IsRefused, ListingMakes, MakesBy, Meaning, MakesOther, Reports, ReportsBlocks, RunsChain, RunsProgram}
-use Rattle.bt878_contract.specs.Tasks.{RunMakes, RunOf, TellsRows, compiled_text, image_of_run, input_of, inputs_of, meaning, names_read, names_written, no_file, program_and_image, program_file, program_text, sources}
+use Rattle.bt878_contract.specs.Tasks.{RunMakes, RunOf, TellsRows, Traces, compiled_text, image_of_run, input_of, inputs_of, meaning, names_read, names_written, no_file, program_and_image, program_file, program_text, sources}
 use Rattle.bt878_contract.specs.Clauses.{AreTold, CreatesNone, IsAssembled, IsBadInput, IsCompiled, IsCut, IsInOrder, IsGenerated, IsGood, IsOutput, IsRefusal, IsUnreadOf, IsUsage, OfDesc, OfDescRun}
-use Rattle.bt878_contract.specs.Clauses.{OfLive, OfLiveBy, OfLiveRun, OfLiveSteps, OfRan, OfRanBy, OfRingRun, OfSteps, OnlyOutputs, OnlySays, SameNames, SameOutput, SaysAccepted, SaysAll, SaysBlocks, SaysChecked, SaysDamage}
+use Rattle.bt878_contract.specs.Clauses.{OfLive, OfLiveBy, OfLiveRun, OfLiveSteps, OfRan, OfRanBy, OfRingRun, OfSteps, OnlyOutputs, OnlySays, SameNames, SameOutput, SaysAccepted, SaysAll, SaysAlone, SaysBlocks, SaysChecked, SaysDamage, SaysTrace}
 use Rattle.bt878_contract.specs.Clauses.{SaysListing, ShowsImage, ShowsLast, ShowsLastLive, ShowsProgram, StandsAt, StaysInside, TellsInput, UnlessCut}
 use Rattle.bt878_contract.proofs.Words.{outputs_apart}
 use Rattle.bt878_contract.proofs.Inputs.{both-map, taken_are_good, three-map}
@@ -76,7 +76,7 @@ module _ (Q : Ran → Type 0) (f : (files : List (List ℕ × List ℕ)) (Says :
       (λ a b m. (m.0, m.1, f (files m.0) (Says a m.0) product b m.0 m.1.reads m.2)) h
 
   ran_of : (m : Meaning) (inputs : Option Inputs) (product : Product) → MakesBy m inputs product → OfRanBy m inputs Q
-  ran_of (RunsProgram r) inputs product h = of_run r.Gives r.files r.Says product (input_of r.source).name r.stream inputs h.0
+  ran_of (RunsProgram r) inputs product h = of_run r.Gives r.files r.Says product (input_of r.source).name (input_of r.stream).name inputs h.0
   ran_of (RunsChain c) inputs product h = tt
   ran_of (MakesOther o) inputs product h = tt
 
@@ -199,6 +199,24 @@ module _ (words : List Word) (answer : Answer) (old new : Seen) (h : Answers (ta
       let says = m.2.says in
       (says.description, m.0, record { gives = says.gives; reads = m.1.reads }, (its_words task old new d _ says.says, its_text_alone task old new d refl)))
       d.made.made.0
+
+  pub done_trace : (program stream : Word) → task_of words ≡ Ok (command.Trace program stream) → OfRun GivesSound program.now stream.now old.told.inputs (SaysTrace old.told new.told)
+  done_trace program stream is =
+      let task = command.Trace program stream in
+      let d = task_done task is in
+      both-map program.now stream.now old.told.inputs (λ a b. RunOf GivesSound no_file Traces (a ∷ b ∷ []) d.product)
+      (λ a b. (r : Ran) × IsRun GivesSound a b r × SaysTrace old.told new.told r)
+      (λ a b m. (m.0, m.1, (its_words task old new d _ m.2.says, its_text_alone task old new d refl))) d.made.made.0
+
+  pub done_help : task_of words ≡ Ok command.Help → SaysAlone help_text old.told new.told
+  done_help is =
+      let task = command.Help in
+      let d = task_done task is in (its_words task old new d help_text d.made.made.1, its_text_alone task old new d refl)
+
+  pub done_version : task_of words ≡ Ok command.Version → SaysAlone version_text old.told new.told
+  done_version is =
+      let task = command.Version in
+      let d = task_done task is in (its_words task old new d version_text d.made.made.1, its_text_alone task old new d refl)
 
   pub done_ring : (ring stream program image : Word) → task_of words ≡ Ok (command.Ring ring stream program image) →
       OfRingRun ring.now stream.now old.told.inputs (λ x r. ShowsProgram program.now new.told r × ShowsImage image.now new.told r × SaysBlocks old.told new.told x r)

@@ -18,6 +18,7 @@ use Rattle.stream_play.specs.Plays.{longest_stream}
 use Rattle.command_inputs.specs.Programs.{GivesSound, HoldsProgram, HoldsSound, IsBadFile, IsBadProgram, Rejects, a_program, a_sound_program}
 use Rattle.stream_play.specs.Runs.{HoldsSteps, IsBadStream, a_stream_file}
 use Rattle.command_steps.proofs.Inputs.{OfInput-map}
+use Rattle.kept_stream.specs.Kept.{HoldsKept, IsBadKept, a_kept_stream, longest_kept}
 use Rattle.command_inputs.specs.Descriptions.{HoldsValid, IsBadDesc, IsBadDescBy, a_description, description_by, description_of}
 use Rattle.risc_asm.specs.declared.AsmFault.{AsmFault}
 use Rattle.risc_asm.specs.declared.AsmError.TheVariants.{Bad}
@@ -204,6 +205,25 @@ module _ (chained : Bool) where
         excludes = λ refusal bytes good why. not_faulty stream_steps Stream refusal bytes good.0 good.1 why;
         once = faulty_once stream_steps Stream;
       }
+
+-- a stream file that is read whole
+abbrev kept_steps : List ℕ → Result (List Step) FileFault
+kept_steps bytes = steps_of longest_kept false bytes
+
+abbrev WhyKept : Refusal → List ℕ → Type 0
+WhyKept refusal bytes = IsFaulty kept_steps Stream refusal bytes
+
+kept_tells : (name : List ℕ) (refusal : Refusal) (inputs : Option Inputs) → IsBadKept name refusal inputs → OfInput name inputs (WhyKept refusal)
+kept_tells name (Malformed Stream fault) inputs h = faulty kept_steps Stream fault name inputs h
+kept_tells name refusal inputs h = absurd h
+
+kept_judge : IsByteJudge IsBadKept HoldsKept WhyKept
+kept_judge =
+    record {
+      tells = kept_tells;
+      excludes = λ refusal bytes good why. not_faulty kept_steps Stream refusal bytes good.0 good.1 why;
+      once = faulty_once kept_steps Stream;
+    }
 
 -- a file that its reader refuses
 module _ {X : Type 0} (read : List ℕ → Result X Refusal) where
@@ -418,6 +438,9 @@ description_judged name = record { Why = λ refusal inputs. IsRefusedBy descript
 pub stream_judged : (chained : Bool) (name : List ℕ) → IsJudged (a_stream_file chained name)
 stream_judged chained name = record { Why = λ refusal inputs. WhyStream chained refusal; judges = by_bytes (stream_judge chained) }
 
+pub kept_judged : (name : List ℕ) → IsJudged (a_kept_stream name)
+kept_judged name = record { Why = λ refusal inputs. WhyKept refusal; judges = by_bytes kept_judge }
+
 pub first_judged : (name : List ℕ) → IsJudged (a_first_description name)
 first_judged name = record { Why = λ refusal inputs. IsRefusedBy frame_of refusal; judges = by_bytes frame_judge }
 
@@ -440,6 +463,7 @@ judged_source (tasks.Description name) = description_judged name
 judged_source (tasks.FirstDescription name) = first_judged name
 judged_source (tasks.SecondDescription first name) = second_judged first name
 judged_source (tasks.Stream chained name) = stream_judged chained name
+judged_source (tasks.KeptStream name) = kept_judged name
 judged_source (tasks.RingFile name) = ring_judged name
 judged_source (tasks.Listing name) = listing_judged name
 judged_source (tasks.ShownDescription program name) = shown_judged program name

@@ -36,7 +36,7 @@ use Rattle.chain_model.specs.Chains.{Chain}
 use Rattle.chain_model.specs.Live.{LiveStep}
 use Rattle.ring_model.specs.Rings.{Ring}
 use Rattle.bt878_contract.specs.Tasks.{IsLiveRun, IsPartOfWork, IsProduct, IsRefusedWork, IsWholeWork, Meaning, RunsChain, RunsProgram}
-use Rattle.bt878_contract.specs.Tasks.{blocks_of, rows_told, compiled_text, input_of, inputs_of, meaning, program_text}
+use Rattle.bt878_contract.specs.Tasks.{blocks_of, rows_told, compiled_text, input_of, inputs_of, meaning, program_text, trace_of}
 
 -- ---- the words
 
@@ -55,7 +55,7 @@ AreTold (Some inputs) = ⊤
 -- P of what a command ran: the program that its first input gives, with its fill, over the steps of the whole stream; the
 -- commands that run no program that stays the same promise nothing of one
 abbrev pub OfRanBy : Meaning → Option Inputs → (Ran → Type 0) → Type 0
-OfRanBy (RunsProgram r) inputs P = OfRun r.Gives (input_of r.source).name r.stream inputs P
+OfRanBy (RunsProgram r) inputs P = OfRun r.Gives (input_of r.source).name (input_of r.stream).name inputs P
 OfRanBy m inputs P = ⊤
 
 abbrev pub OfRan : Result Task UsageFault → Option Inputs → (Ran → Type 0) → Type 0
@@ -141,6 +141,10 @@ SaysBlocks old new ring r = SaysAll (blocks_text (blocks_of ring r) (report_of (
 abbrev pub SaysDamage : Told → Told → Desc → Ran → Type 0
 SaysDamage old new d r = SaysAll (damage_text d (rows_told d r)) old new × CreatesNone old new
 
+-- the trace of the steps is printed, and nothing is created
+abbrev pub SaysTrace : Told → Told → Ran → Type 0
+SaysTrace old new r = SaysAll (trace_of r) old new × CreatesNone old new
+
 -- the program file of `capture` or `ring` is the one spelling of the program that ran and of its fill
 abbrev pub ShowsProgram : List ℕ → Told → Ran → Type 0
 ShowsProgram program new r = IsOutput program (spelled r.program r.fill) new.outputs
@@ -189,6 +193,10 @@ abbrev pub SaysChecked : List ℕ → List ℕ → Told → Told → Type 0
 SaysChecked program desc old new =
     OfInput program old.inputs (λ a. OfInput desc old.inputs (λ b.
     (text : List ℕ) × FindsBy a b true text × SaysAll text old new)) × CreatesNone old new
+
+-- this text is printed, and nothing is created
+abbrev pub SaysAlone : List ℕ → Told → Told → Type 0
+SaysAlone text old new = SaysAll text old new × CreatesNone old new
 
 -- ---- why it is refused
 

@@ -25,7 +25,7 @@ use Rattle.command_texts.specs.declared.answer.Answer.{Answer}
 use Rattle.command_texts.specs.declared.answer.Answer.TheVariants.{Done, Usage, WriteFault}
 use Rattle.command_texts.specs.declared.refusal.Refusal.{Refusal}
 use Rattle.command_texts.specs.Answers.{answer_of}
-use Rattle.command_texts.specs.Texts.{accepted_text, answer_text, blocks_text, built_text, made_text, report_text}
+use Rattle.command_texts.specs.Texts.{accepted_text, answer_text, blocks_text, built_text, help_text, made_text, report_text, version_text}
 use Rattle.command_steps.specs.Inputs.{Input, OfInput, SameCounts, StopsIn, apart}
 use Rattle.command_steps.specs.Reading.{AreTaken, AreTakenUpTo, Calls}
 use Rattle.command_steps.specs.Outputs.{IsDeliveryPart, IsPart, Product, Says, SaysAtOnce, delivered, delivery, names_of}
@@ -38,8 +38,10 @@ use Rattle.command_inputs.specs.Rings.{GivesRing, GivesRingProgram, a_ring}
 use Rattle.chain_law.specs.Runs.{KeepsLivePromises}
 use Rattle.ring_model.specs.Rings.{Ring, ends}
 use Rattle.ring_model.specs.Runs.{block_ends}
+use Rattle.kept_stream.specs.Kept.{a_kept_stream}
 use Rattle.stream_play.specs.Plays.{longest_stream}
 use Rattle.stream_play.specs.Runs.{IsRun, LiveRan, Ran, a_stream_file, chain_ran, first_of, last_live_of, last_of, live_steps_of}
+use Rattle.trace_play.specs.Texts.{trace_text}
 
 -- ---- what a task makes of its inputs
 
@@ -64,6 +66,13 @@ pub record ReportsBlocks (file : List ℕ) (r : Ran) (text : List ℕ) : Type 0 
   pub ring : Ring
   pub gives : GivesRing ring file r.program r.fill
   pub says : text ≡ blocks_text (blocks_of ring r) (report_of (last_of r))
+
+-- what `trace` prints: the lines of all steps, and the report of the machine after them
+abbrev pub trace_of : Ran → List ℕ
+trace_of r = trace_text (first_of r) (steps_run r.steps)
+
+abbrev pub Traces : List ℕ → Ran → List ℕ → Type 0
+Traces file r text = text ≡ trace_of r
 
 -- which rows of a field are whole lines, at its last signal over all steps of a run
 abbrev pub rows_told : Desc → Ran → Parity → Option (List Bool)
@@ -137,6 +146,8 @@ pub data Source : Type 0 where
   SecondDescription : List ℕ → List ℕ → Source
   -- of the form for chains, or of the other
   Stream : Bool → List ℕ → Source
+  -- read whole before anything is made of it
+  KeptStream : List ℕ → Source
   RingFile : List ℕ → Source
   Listing : List ℕ → Source
   -- a description that is judged by the program of a file, which has to show each field of it
@@ -150,6 +161,7 @@ input_of (Description name) = a_description name
 input_of (FirstDescription name) = a_first_description name
 input_of (SecondDescription first name) = a_second_description first name
 input_of (Stream chained name) = a_stream_file chained name
+input_of (KeptStream name) = a_kept_stream name
 input_of (RingFile name) = a_ring name
 input_of (Listing name) = a_listing name
 input_of (ShownDescription program name) = a_shown_description program name
@@ -160,7 +172,7 @@ input_of (ShownDescription program name) = a_shown_description program name
 -- file that it came from
 pub record RunMeaning : Type 1 where
   pub source : Source
-  pub stream : List ℕ
+  pub stream : Source
   pub Gives : List ℕ → RiscProgram → ℕ → Type 0
   pub files : Ran → List (List ℕ × List ℕ)
   pub Says : List ℕ → Ran → List ℕ → Type 0
@@ -185,7 +197,7 @@ pub data Meaning : Type 1 where
 
 -- the inputs, in the order in which they are read
 abbrev pub sources : Meaning → List Source
-sources (RunsProgram r) = r.source ∷ Stream false r.stream ∷ []
+sources (RunsProgram r) = r.source ∷ r.stream ∷ []
 sources (RunsChain c) = FirstDescription c.one ∷ SecondDescription c.one c.two ∷ Stream true c.stream ∷ []
 sources (MakesOther o) = o.sources
 
@@ -246,6 +258,10 @@ its_text (MakesOther o) = o.text
 abbrev pub made_of : Source → (List (List ℕ) → Product → Type 0) → Meaning
 made_of source Makes = MakesOther (record { sources = source ∷ []; makes = Makes; text = None })
 
+-- a text of its own, of no input
+abbrev pub prints_alone : List ℕ → Meaning
+prints_alone text = MakesOther (record { sources = []; makes = λ contents product. ⊤; text = Some text })
+
 abbrev pub meaning : Task → Meaning
 meaning (command.List program) = made_of (Program program.now) ListingOf
 meaning (command.Verify program) =
@@ -253,7 +269,7 @@ meaning (command.Verify program) =
 meaning (command.Run program stream image) =
     RunsProgram (record {
       source = SoundProgram program.now;
-      stream = stream.now;
+      stream = Stream false stream.now;
       Gives = GivesSound;
       files = image_of_run image.now;
       Says = Reports;
@@ -263,7 +279,7 @@ meaning (command.Compile desc program) =
 meaning (command.Capture desc stream program image) =
     RunsProgram (record {
       source = Description desc.now;
-      stream = stream.now;
+      stream = Stream false stream.now;
       Gives = GivesCompiled;
       files = program_and_image program.now image.now;
       Says = Reports;
@@ -274,11 +290,11 @@ meaning (command.Make desc seed frames stream) =
 meaning (command.Chain one two stream image) =
     RunsChain (record { one = one.now; two = two.now; stream = stream.now; image = image.now })
 meaning (command.Damage desc stream) =
-    RunsProgram (record { source = Description desc.now; stream = stream.now; Gives = GivesCompiled; files = no_file; Says = TellsRows })
+    RunsProgram (record { source = Description desc.now; stream = Stream false stream.now; Gives = GivesCompiled; files = no_file; Says = TellsRows })
 meaning (command.Ring ring stream program image) =
     RunsProgram (record {
       source = RingFile ring.now;
-      stream = stream.now;
+      stream = Stream false stream.now;
       Gives = GivesRingProgram;
       files = program_and_image program.now image.now;
       Says = ReportsBlocks;
@@ -286,6 +302,11 @@ meaning (command.Ring ring stream program image) =
 meaning (command.Assemble text program) = made_of (Listing text.now) (AssembledOf program.now)
 meaning (command.Check program desc) =
     MakesOther (record { sources = SoundProgram program.now ∷ ShownDescription program.now desc.now ∷ []; makes = CheckOf; text = None })
+
+meaning (command.Trace program stream) =
+    RunsProgram (record { source = SoundProgram program.now; stream = KeptStream stream.now; Gives = GivesSound; files = no_file; Says = Traces })
+meaning command.Help = prints_alone help_text
+meaning command.Version = prints_alone version_text
 
 -- the inputs of a task, with their judges
 abbrev pub inputs_of : Task → List Input

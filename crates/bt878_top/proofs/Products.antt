@@ -67,9 +67,9 @@ both_inputs name other (Some inputs) P Q R f h k = of_both (named name inputs) (
 module _ (r : RunMeaning) (inputs : Option Inputs) (product : Product) where
   -- the first input gave something, and the stream was played
   over_stream : (P Q : List ℕ → Type 0) → ((a b : List ℕ) → P a → Q b → RunOf r.Gives r.files r.Says (a ∷ b ∷ []) product) →
-      OfInput (input_of r.source).name inputs P → OfInput r.stream inputs Q → MakesBy (RunsProgram r) inputs product
+      OfInput (input_of r.source).name inputs P → OfInput (input_of r.stream).name inputs Q → MakesBy (RunsProgram r) inputs product
   over_stream P Q f gives plays = (
-    both_inputs (input_of r.source).name r.stream inputs P Q (λ a b. RunOf r.Gives r.files r.Says (a ∷ b ∷ []) product) f gives plays,
+    both_inputs (input_of r.source).name (input_of r.stream).name inputs P Q (λ a b. RunOf r.Gives r.files r.Says (a ∷ b ∷ []) product) f gives plays,
     tt,
   )
 
@@ -108,7 +108,7 @@ module _ (program stream image : Word) (inputs : Option Inputs) (accepted : Risc
         names = refl;
         made =
             over_stream
-            (record { source = tasks.SoundProgram program.now; stream = stream.now; Gives = GivesSound; files = image_of_run image.now; Says = Reports }) inputs
+            (record { source = tasks.SoundProgram program.now; stream = tasks.Stream false stream.now; Gives = GivesSound; files = image_of_run image.now; Says = Reports }) inputs
             (record { files = (image.now, image_of m.memory) ∷ []; text = text })
             (λ a. Accepts (program_of a) accepted fill) (λ b. HasPlayed b (first_state accepted fill) m)
             (λ a b g p.
@@ -135,7 +135,7 @@ module _ (desc stream : Word) (inputs : Option Inputs) (d : Desc) where
         names = refl;
         made =
             over_stream
-            (record { source = tasks.Description desc.now; stream = stream.now; Gives = GivesCompiled; files = program_and_image program.now image.now; Says = Reports }) inputs
+            (record { source = tasks.Description desc.now; stream = tasks.Stream false stream.now; Gives = GivesCompiled; files = program_and_image program.now image.now; Says = Reports }) inputs
             (record { files = (program.now, spelled m.program d.fill) ∷ (image.now, image_of m.memory) ∷ []; text = text })
             (λ a. Describes a d) (λ b. HasPlayed b (first_state (compiled d) d.fill) m)
             (λ a b g p.
@@ -153,7 +153,7 @@ module _ (desc stream : Word) (inputs : Option Inputs) (d : Desc) where
         names = refl;
         made =
             over_stream
-            (record { source = tasks.Description desc.now; stream = stream.now; Gives = GivesCompiled; files = no_file; Says = TellsRows }) inputs
+            (record { source = tasks.Description desc.now; stream = tasks.Stream false stream.now; Gives = GivesCompiled; files = no_file; Says = TellsRows }) inputs
             (record { files = []; text = text })
             (λ a. Describes a d) (λ b. HasPlayedWatched track_notes b (map_after d d.fill []) map)
             (λ a b g p.
@@ -192,7 +192,7 @@ module _ (file stream program image : Word) (inputs : Option Inputs) (ring : Rin
         names = refl;
         made =
             over_stream
-            (record { source = tasks.RingFile file.now; stream = stream.now; Gives = GivesRingProgram; files = program_and_image program.now image.now; Says = ReportsBlocks }) inputs
+            (record { source = tasks.RingFile file.now; stream = tasks.Stream false stream.now; Gives = GivesRingProgram; files = program_and_image program.now image.now; Says = ReportsBlocks }) inputs
             (record { files = (program.now, spelled m.machine.program ring.fill) ∷ (image.now, image_of m.machine.memory) ∷ []; text = text })
             (λ a. IsRingFile a ring) (λ b. HasPlayedRing b ring (first_state (ring_program ring) ring.fill) m)
             (λ a b g p.

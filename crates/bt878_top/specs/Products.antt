@@ -4,11 +4,12 @@ use Rattle.capture_file.specs.Images.{image_of}
 use Rattle.capture_file.specs.Programs.{spelled}
 use Rattle.field_stream.specs.Made.{made}
 use Rattle.command_steps.specs.Outputs.{Product}
+use Rattle.trace_play.specs.Playing.{text_left}
 use Rattle.bt878_top.specs.Contents.{listing_with}
 use Rattle.bt878_top.specs.declared.produced.Outputs.{Outputs}
 use Rattle.bt878_top.specs.declared.produced.Outputs.TheVariants as outputs
 use Rattle.bt878_top.specs.declared.produced.Produced.{Produced}
-use Rattle.bt878_top.specs.declared.produced.Produced.TheVariants.{Ready, Checked, Listing, Files}
+use Rattle.bt878_top.specs.declared.produced.Produced.TheVariants.{Ready, Checked, Listing, Traced, Files}
 
 -- the files in their order, each a name with bytes
 abbrev pub files_of : Outputs → List (List ℕ × List ℕ)
@@ -25,4 +26,5 @@ abbrev pub product_of : Produced → Product
 product_of (Ready text) = record { files = []; text = text.now }
 product_of (Checked text) = record { files = []; text = text }
 product_of (Listing listed) = record { files = []; text = listing_with listed.program listed.memory.items }
+product_of (Traced trace) = record { files = []; text = text_left trace }
 product_of (Files outputs text) = record { files = files_of outputs; text = string_bytes text }

@@ -3,8 +3,8 @@
 ghost use Rattle.std.specs.Prelude.{◌≡◌, ℕ, ◌⊎◌, IfOk, List, Ok};
 ghost use Rattle.bt878_words.specs.Words.{HasFrames, Word, task_of, writes};
 ghost use Rattle.bt878_contract.specs.Clauses.{AreTold, IsAssembled, IsBadInput, IsCompiled, IsGenerated, IsGood, IsInOrder, IsRefusal, IsUnreadOf, IsUsage, OfDescRun, OfLive, OfLiveRun, OfLiveSteps};
-ghost use Rattle.bt878_contract.specs.Clauses.{OfRan, OfRingRun, OfSteps, OnlyOutputs, OnlySays, SameNames, SaysAccepted, SaysBlocks, SaysChecked, SaysDamage, SaysListing, ShowsImage, ShowsLast, ShowsLastLive};
-ghost use Rattle.bt878_contract.specs.Clauses.{ShowsProgram, StandsAt, StaysInside, TellsInput, UnlessCut};
+ghost use Rattle.bt878_contract.specs.Clauses.{OfRan, OfRingRun, OfSteps, OnlyOutputs, OnlySays, SameNames, SaysAccepted, SaysAlone, SaysBlocks, SaysChecked, SaysDamage, SaysListing, ShowsImage, ShowsLast, ShowsLastLive};
+ghost use Rattle.bt878_contract.specs.Clauses.{SaysTrace, ShowsProgram, StandsAt, StaysInside, TellsInput, UnlessCut};
 ghost use Rattle.bt878_contract.specs.Pictures.{EndsInTime, ShowsNoFault, ShowsPictures, ShowsSignalledPictures};
 ghost use Rattle.bt878_contract.specs.Rows.{HasArrivedRows, HoldsWholeRows};
 ghost use Rattle.bt878_contract.specs.Rings.{RingsShowNoFault, ShowsRings};
@@ -16,7 +16,7 @@ ghost use Rattle.command_texts.specs.Answers.{answer_of};
 ghost use Rattle.command_steps.specs.Outputs.{EndsAtFault};
 ghost use Rattle.command_steps.specs.Inputs.{ReadsRose, SameCounts, WritesRose};
 ghost use Rattle.command_steps.specs.Reading.{Takes};
-ghost use Rattle.command_texts.specs.Texts.{answer_text};
+ghost use Rattle.command_texts.specs.Texts.{answer_text, help_text, version_text};
 ghost use Rattle.command_inputs.specs.Descriptions.{GivesCompiled};
 ghost use Rattle.machine_model.specs.Paths.{IsSound};
 ghost use Rattle.command_inputs.specs.Programs.{GivesSound};
@@ -27,10 +27,11 @@ use crate::listings::list;
 use crate::produced::Produced;
 use crate::programs::{assemble, check, compile, verify};
 use crate::runs::{capture, chain, damage, ring, run};
+use crate::traces::trace;
 use bt878_words::{Task, read_task};
 use capture_desk::Desk;
 use command_steps::{refuse, refuse_words};
-use command_texts::{Answer, Refusal};
+use command_texts::{Answer, HELP, Refusal, VERSION};
 use std::alloc::Global;
 
 /// Reads the inputs of a task, and makes what it makes of them.
@@ -80,6 +81,9 @@ fn produce<'a, D: Desk>(
         } => ring(alloc, file, stream, program, image, desk),
         Task::Assemble { text, program } => assemble(alloc, text, program, desk),
         Task::Check { program, desc } => check(alloc, program, desc, desk),
+        Task::Trace { program, stream } => trace(alloc, program, stream, desk),
+        Task::Help => Ok(Produced::Ready(HELP)),
+        Task::Version => Ok(Produced::Ready(VERSION)),
     }
 }
 
@@ -91,7 +95,7 @@ fn answer_task<D: Desk>(alloc: Global, task: Task<'_>, desk: &mut D) -> Answer
     ensures { Ends task.entry result (D.seen desk.old) (D.seen desk.new) }
 {
     match produce(alloc, task, desk) {
-        Ok(produced) => produced.deliver(desk),
+        Ok(mut produced) => produced.deliver(desk),
         Err(refusal) => refuse(alloc, refusal, desk),
     }
 }
@@ -126,7 +130,7 @@ pub fn bt878<D: Desk>(alloc: Global, words: &[&str], desk: &mut D) -> Answer
     // comes there.
     ensures usage { IsUsage (task_of words.now) result }
 
-    // At Done of `run`, `capture`, `damage` and `ring` the program that ran is sound.
+    // At Done of `run`, `capture`, `damage`, `ring` and `trace` the program that ran is sound.
     ensures sound { (result ≡ Answer.Done) →
         OfRan (task_of words.now) (D.seen desk.old).told.inputs (λ r. IsSound r.program) }
 
@@ -155,7 +159,7 @@ pub fn bt878<D: Desk>(alloc: Global, words: &[&str], desk: &mut D) -> Answer
         × ShowsImage image.now (D.seen desk.new).told r
         × SaysBlocks (D.seen desk.old).told (D.seen desk.new).told x r) }
 
-    // At Done of `run`, `capture`, `damage` and `ring`: at every place of those steps, what the turn there writes is granted,
+    // At Done of `run`, `capture`, `damage`, `ring` and `trace`: at every place of those steps, what the turn there writes is granted,
     // what it fetches is a word of the program, and OCERR is 0. That a turn stores nowhere else and reads no
     // other word are the laws `turns_store_what_is_listed` and `turns_read_what_is_listed` of machine_model.
     ensures inside { (result ≡ Answer.Done) →
@@ -202,7 +206,7 @@ pub fn bt878<D: Desk>(alloc: Global, words: &[&str], desk: &mut D) -> Answer
     ensures arrived_rows { (result ≡ Answer.Done) →
         OfRan (task_of words.now) (D.seen desk.old).told.inputs (OfSteps HasArrivedRows) }
 
-    // At Done of these four, for every valid description whose program is the one that ran, every field of it and
+    // At Done of these five, for every valid description whose program is the one that ran, every field of it and
     // every signal of the field, whatever came before: right after the signal each byte of a row that is whole and
     // isn't clipped stands at its place, where it has one, and is that byte of the line that the row's instructions took.
     ensures whole_rows { (result ≡ Answer.Done) →
@@ -250,6 +254,22 @@ pub fn bt878<D: Desk>(alloc: Global, words: &[&str], desk: &mut D) -> Answer
     ensures checked { (result ≡ Answer.Done) → (program desc : Word) →
         task_of words.now ≡ Ok (Task.Check program desc) →
         SaysChecked program.now desc.now (D.seen desk.old).told (D.seen desk.new).told }
+
+    // At Done of `trace` the text is the lines of all steps of the whole stream, from the first state, and the report of
+    // the machine after them; nothing is created. Program and fill are those of the whole program file. What a line shows
+    // is the machine after its step, and turns without a line of their own only count (laws of turn_trace).
+    ensures traced { (result ≡ Answer.Done) → (program stream : Word) →
+        task_of words.now ≡ Ok (Task.Trace program stream) →
+        OfRun GivesSound program.now stream.now (D.seen desk.old).told.inputs
+        (SaysTrace (D.seen desk.old).told (D.seen desk.new).told) }
+
+    // At Done of `--help` and `--version` exactly that text is printed, and nothing is created.
+    ensures helped { (result ≡ Answer.Done) →
+        task_of words.now ≡ Ok Task.Help →
+        SaysAlone help_text (D.seen desk.old).told (D.seen desk.new).told }
+    ensures versioned { (result ≡ Answer.Done) →
+        task_of words.now ≡ Ok Task.Version →
+        SaysAlone version_text (D.seen desk.old).told (D.seen desk.new).told }
 
     // At Done both counts of faults are as they were.
     ensures done { (result ≡ Answer.Done) → SameCounts (D.seen desk.old) (D.seen desk.new) }

@@ -9,6 +9,7 @@ mod machines;
 mod produced;
 mod programs;
 mod runs;
+mod traces;
 
 pub use call::bt878;
 pub use command_texts::Answer;

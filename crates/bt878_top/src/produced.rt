@@ -11,6 +11,7 @@ ghost use Rattle.command_steps.specs.Outputs.{Finishes, names_of};
 
 use crate::contents::{Contents, Frames};
 use crate::listings::{Listed, say_whole};
+use crate::traces::say_trace;
 use capture_desk::Desk;
 use command_steps::{Output, finish};
 use command_texts::{Answer, CheckText};
@@ -19,6 +20,7 @@ use double_buffer::DoubleBuffer;
 use page_ram::PageRam;
 use program_build::Checked;
 use risc_verify::Program;
+use trace_play::StreamTrace;
 
 /// The outputs of a command, each with its name.
 #[derive(Drop)]
@@ -66,6 +68,8 @@ pub enum Produced<'a> {
     Checked(CheckText),
     /// A listing, which is said piece by piece.
     Listing(Listed),
+    /// A trace, which is printed piece by piece.
+    Traced(StreamTrace<PageRam>),
     /// Outputs, and a text.
     Files { outputs: Outputs<'a>, text: String },
 }
@@ -120,14 +124,15 @@ impl Outputs<'_> {
 impl Produced<'_> {
     /// Writes the outputs of a command, one after the other, says its text, and answers `Done`; `WriteFault` up to
     /// the first call that fails, after which none follows.
-    pub fn deliver<D: Desk>(&self, desk: &mut D) -> Answer
-        requires { AreAllowed (names_of (product_of self.now).files) (D.seen desk.old).told.may_create }
-        ensures { Finishes (product_of self.now).files (product_of self.now).text result (D.seen desk.old) (D.seen desk.new) }
+    pub fn deliver<D: Desk>(&mut self, desk: &mut D) -> Answer
+        requires { AreAllowed (names_of (product_of self.old).files) (D.seen desk.old).told.may_create }
+        ensures { Finishes (product_of self.old).files (product_of self.old).text result (D.seen desk.old) (D.seen desk.new) }
     {
         match self {
             Produced::Ready(text) => say_alone(*text, desk),
             Produced::Checked(text) => say_alone(text.as_str(), desk),
             Produced::Listing(listed) => say_whole(listed, desk),
+            Produced::Traced(trace) => say_trace(trace, desk),
             Produced::Files { outputs, text } => outputs.deliver(text, desk),
         }
     }

@@ -1,2 +1,2 @@
 mod Judged
-mod UpToLimit
+pub mod UpToLimit

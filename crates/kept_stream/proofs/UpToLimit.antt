@@ -1,7 +1,7 @@
 -- A stream is read to one byte beyond the longest: what is read tells what the whole file is.
-use Rattle.std.proofs.Common.{◌≡◌, ℕ, ◌+◌, ◌<◌, Bool, true, false, List, length, take, Result, refl, sym, ap, ◌∙◌, arith}
+use Rattle.std.proofs.Common.{◌≡◌, ℕ, ◌+◌, ◌<◌, ◌≤◌, Bool, true, false, List, length, take, Ok, refl, sym, ap, ◌∙◌, arith}
 use Rattle.std.specs.Prelude.{nat_le}
-use Rattle.std.proofs.lemmas.Bool.{le-leb, leb-true, leb-false, lt-ltb}
+use Rattle.std.proofs.lemmas.Bool.{le-ltb, leb-true, leb-false, lt-ltb}
 use Rattle.std.proofs.lemmas.List.{length-take, take_all, take-take}
 use Rattle.capture_file.specs.Streams.{Ending, Unfinished, Ended, Bad, Reading, judged, reading, steps_of, stream_of, too_long, whole_file, within_if}
 use Rattle.capture_file.specs.declared.Step.{Step}
@@ -40,3 +40,30 @@ read_is_whole bytes = by_length (nat_le (length bytes) longest_kept) refl
         ap (λ (r : Reading). whole_file (length front) r.steps r.ending) (one ∙ ap (λ x. reading (judged false x).steps (too_long longest_kept (judged false x).ending)) same)
         ∙ same_file (length front) (length bytes) longest_kept below.steps below.ending
         ∙ sym (ap (λ (r : Reading). whole_file (length bytes) r.steps r.ending) two)
+
+-- a stream that isn't too long is a stream by every greater limit
+not_too_long : (count limit : ℕ) (steps found : List Step) (e : Ending) → whole_file count found (too_long limit e) ≡ Ok steps → ⊥
+not_too_long count limit steps found Unfinished h = cc
+not_too_long count limit steps found Ended h = cc
+not_too_long count limit steps found (Bad fault) h = cc
+
+within_limit : (limit : ℕ) (bytes : List ℕ) → length bytes ≤ limit → stream_of limit false bytes ≡ judged false bytes
+unfolding stream_of
+within_limit limit bytes few =
+    ap (λ b. within_if b limit (judged false (take limit bytes))) (le-ltb limit (length bytes) few)
+    ∙ ap (judged false) (take_all limit bytes few)
+
+pub kept_by_more : (limit : ℕ) (bytes : List ℕ) (steps : List Step) → longest_kept ≤ limit → steps_of longest_kept false bytes ≡ Ok steps → steps_of limit false bytes ≡ Ok steps
+kept_by_more limit bytes steps more is = by_length (nat_le (length bytes) longest_kept) refl
+  where
+    by_length : (few : Bool) → nat_le (length bytes) longest_kept ≡ few → steps_of limit false bytes ≡ Ok steps
+    by_length true e =
+        let few = leb-true (length bytes) longest_kept e in
+        ap (λ (r : Reading). whole_file (length bytes) r.steps r.ending)
+        (within_limit limit bytes (omega (arith, few, more)) ∙ sym (within_limit longest_kept bytes few))
+        ∙ is
+    by_length false e =
+        let long = leb-false (length bytes) longest_kept e in
+        let below = judged false (take longest_kept bytes) in
+        absurd (not_too_long (length bytes) longest_kept steps below.steps below.ending
+        (sym (ap (λ (r : Reading). whole_file (length bytes) r.steps r.ending) (beyond longest_kept bytes (omega (arith, long)))) ∙ is))

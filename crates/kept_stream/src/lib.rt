@@ -71,6 +71,7 @@ pub fn keep_stream<D: Desk>(
 ) -> Result<KeptStream, Refusal>
     requires { IsAllowed name.now (D.seen desk.old).told.may_open }
     ensures kept { IfOk result (λ stream. OfInput name.now (D.seen desk.old).told.inputs (λ content. content ≡ stream)) }
+    ensures whole { IfOk result HoldsKept }
     ensures takes { Takes (a_kept_stream name.now ∷ []) result (D.seen desk.old) (D.seen desk.new) }
 {
     let bytes = read_whole(alloc, name, LONGEST_KEPT, desk)?;
