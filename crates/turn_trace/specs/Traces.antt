@@ -7,6 +7,7 @@ use Rattle.sync_status.specs.declared.StatusKind.TheVariants.{Control as Control
 use Rattle.sync_status.specs.Statuses.{kind_of}
 use Rattle.fifo_model.specs.declared.Queue.{Queue}
 use Rattle.fifo_model.specs.declared.Queue.TheVariants.{One, Two, Three}
+use Rattle.fifo_model.specs.declared.Entry.{Entry}
 use Rattle.fifo_model.specs.declared.Pushed.{Pushed}
 use Rattle.fifo_model.specs.declared.Pushed.TheVariants.{Held, Overrun, Off}
 use Rattle.fifo_model.specs.Queues.{more, queue_state}
@@ -14,6 +15,7 @@ use Rattle.irq_status.specs.declared.HostWrite.{HostWrite}
 use Rattle.irq_status.specs.declared.HostWrite.TheVariants.{Ack, Enable, Trigger}
 use Rattle.machine_model.specs.declared.Did.{Did}
 use Rattle.machine_model.specs.declared.Did.TheVariants.{Still, Jumped, Synced, Passed, Begun, Dropped, Matched, Missed, Retired, Moved, GivenUp}
+use Rattle.machine_model.specs.declared.Seen.{Seen}
 use Rattle.machine_model.specs.Seen.{seen, taken}
 use Rattle.machine_model.specs.States.{State}
 use Rattle.machine_model.specs.Steps.{Step, Push, Control, Turn, Host, step, pushed_as, control_pushed_as}
@@ -73,29 +75,39 @@ abbrev pub dropped_words : Option Queue → List ℕ
 dropped_words None = codes "drop"
 dropped_words (Some q) = codes "drop " ++ queue_name q
 
--- what the turn at a state did. Of a turn of which nothing is seen there is no line
-abbrev pub did_words : Did → State → List ℕ
-did_words Still m = []
-did_words Jumped m = codes "jump"
-did_words Synced m = codes "sync"
-did_words Passed m = codes "pass"
-did_words Begun m = codes "begin"
-did_words Dropped m = dropped_words (next_drop m)
-did_words Matched m = codes "match"
-did_words Missed m = codes "miss"
-did_words Retired m = codes "retire"
-did_words (Moved q) m = moved_words q (taken m)
-did_words (GivenUp q) m = given_up_words q (taken m)
+-- what a turn did, the queue from which it dropped an entry, and how many bytes it took. A turn of which nothing is seen
+-- has no line
+abbrev pub did_words : Did → Option Queue → ℕ → List ℕ
+did_words Still drops count = []
+did_words Jumped drops count = codes "jump"
+did_words Synced drops count = codes "sync"
+did_words Passed drops count = codes "pass"
+did_words Begun drops count = codes "begin"
+did_words Dropped drops count = dropped_words drops
+did_words Matched drops count = codes "match"
+did_words Missed drops count = codes "miss"
+did_words Retired drops count = codes "retire"
+did_words (Moved q) drops count = moved_words q count
+did_words (GivenUp q) drops count = given_up_words q count
 
--- the words of a step at a state
-abbrev pub words : Step → State → List ℕ
-words (Push q entry) m =
+-- the words of the steps: those of a turn begin with the count of turns before it
+abbrev pub entry_words : Queue → Entry → Pushed → List ℕ
+entry_words q entry pushed =
     codes "push " ++ (queue_name q ++ (codes " " ++ (status_name (kind_of entry.status) entry.status
-    ++ (at_text entry.dword ++ fate (pushed_as q m)))))
-words (Control code) m = codes "control " ++ (code_name code ++ fate (control_pushed_as m))
+    ++ (at_text entry.dword ++ fate pushed))))
+
+abbrev pub control_words : Code → Pushed → List ℕ
+control_words code pushed = codes "control " ++ (code_name code ++ fate pushed)
+
+abbrev pub turn_words : ℕ → Seen → Option Queue → ℕ → List ℕ
+turn_words turns s drops count =
+    codes "turn" ++ (count_text turns ++ (at_text s.at ++ (codes " " ++ did_words s.did drops count)))
+
+abbrev pub words : Step → State → List ℕ
+words (Push q entry) m = entry_words q entry (pushed_as q m)
+words (Control code) m = control_words code (control_pushed_as m)
 words (Host write) m = write_words write
-words Turn m =
-    codes "turn" ++ (count_text m.turns ++ (at_text (seen m).at ++ (codes " " ++ did_words (seen m).did m)))
+words Turn m = turn_words m.turns (seen m) (next_drop m) (taken m)
 
 -- how many entries a queue holds
 abbrev pub level_text : Queue → State → List ℕ

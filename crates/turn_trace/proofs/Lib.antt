@@ -1,0 +1,2 @@
+pub mod Tracings
+pub mod Lines

@@ -1,0 +1,70 @@
+-- The trace after steps, and turns of which nothing is seen.
+use Rattle.std.proofs.Common.{◌≡◌, ℕ, zero, suc, ◌+◌, ◌-◌, ◌<◌, ◌≤◌, ◌^◌, min, Bool, true, false, List, [], ◌∷◌, ◌++◌, replicate, refl, sym, ap, ap₂, ◌∙◌, arith, append_assoc}
+use Rattle.std.proofs.lemmas.List.{append-nil, replicate-append-replicate}
+use Rattle.fifo_model.specs.Queues.{more}
+use Rattle.machine_model.specs.declared.Did.{Did}
+use Rattle.machine_model.specs.declared.Did.TheVariants.{Still}
+use Rattle.machine_model.specs.Seen.{seen}
+use Rattle.machine_model.specs.States.{State}
+use Rattle.machine_model.specs.Steps.{Step, Turn, run, step}
+use Rattle.machine_model.specs.Turns.{turn}
+use Rattle.dma_machine.specs.Stills.{is_still}
+use Rattle.dma_machine.proofs.Standing.{is_still-turns}
+use Rattle.dma_machine.proofs.StillSeen.{still_counts, still_seen}
+use Rattle.turn_trace.specs.Traces.{Tracing, after, after_all, is_quiet, is_still_did, line, lines, still_after, still_line, told_by, told_if, tracing}
+
+pub after_all-run : (t : Tracing) (steps : List Step) → (after_all t steps).machine ≡ run t.machine steps
+after_all-run t [] = refl
+after_all-run t (s ∷ steps) = after_all-run (after t s) steps
+
+pub after_all-append : (t : Tracing) (first later : List Step) → after_all t (first ++ later) ≡ after_all (after_all t first) later
+after_all-append t [] later = refl
+after_all-append t (s ∷ first) later = after_all-append (after t s) first later
+
+pub lines-append : (t : Tracing) (first later : List Step) → lines t (first ++ later) ≡ lines t first ++ lines (after_all t first) later
+lines-append t [] later = refl
+lines-append t (s ∷ first) later =
+    ap (λ (list : List ℕ). told_by t s ++ list) (lines-append (after t s) first later)
+    ∙ sym (append_assoc (told_by t s) (lines (after t s) first) (lines (after_all (after t s) first) later))
+
+-- a step that is told
+pub told-one : (t : Tracing) (s : Step) → is_quiet s t.machine ≡ false → lines t (s ∷ []) ≡ still_line t.still ++ line s t.machine
+told-one t s loud = ap (λ (list : List ℕ). list ++ []) (ap (λ (quiet : Bool). told_if quiet t s) loud) ∙ append-nil _
+
+pub told-after : (t : Tracing) (s : Step) → is_quiet s t.machine ≡ false → after_all t (s ∷ []) ≡ tracing (step s t.machine) 0
+told-after t s loud = ap (λ (quiet : Bool). tracing (step s t.machine) (still_after quiet t.still)) loud
+
+-- a turn that is not
+pub quiet-one : (t : Tracing) → (seen t.machine).did ≡ Still → lines t (Turn ∷ []) ≡ []
+quiet-one t still = ap (λ (did : Did). told_if (is_still_did did) t Turn ++ []) still
+
+pub quiet-after : (t : Tracing) → (seen t.machine).did ≡ Still → after_all t (Turn ∷ []) ≡ tracing (turn t.machine) (more t.still 1)
+quiet-after t still = ap (λ (did : Did). tracing (turn t.machine) (still_after (is_still_did did) t.still)) still
+
+-- turns of a machine that stands still
+more_more : (n count : ℕ) → more (more n 1) count ≡ more n (suc count)
+more_more n count = omega arith
+
+still_stays : (m : State) → is_still m ≡ true → is_still (turn m) ≡ true
+still_stays m still = ap is_still (still_counts m still) ∙ (is_still-turns (more m.turns 1) m ∙ still)
+
+pub still-lines : (count : ℕ) (t : Tracing) → is_still t.machine ≡ true → lines t (replicate count Turn) ≡ []
+still-lines zero t still = refl
+still-lines (suc count) t still =
+    ap (λ (did : Did). told_if (is_still_did did) t Turn ++ lines (after t Turn) (replicate count Turn)) (still_seen t.machine still)
+    ∙ still-lines count (after t Turn) (still_stays t.machine still)
+
+pub still-after : (count : ℕ) (m : State) (n : ℕ) → is_still m ≡ true → n < 2 ^ 64 → after_all (tracing m n) (replicate count Turn) ≡ tracing (run m (replicate count Turn)) (more n count)
+still-after zero m n still fits = let same : n ≡ more n 0 = omega (arith, fits) in ap (tracing m) same
+still-after (suc count) m n still fits =
+    let small : more n 1 < 2 ^ 64 = omega arith in
+    ap (λ (did : Did). after_all (tracing (turn m) (still_after (is_still_did did) n)) (replicate count Turn)) (still_seen m still)
+    ∙ still-after count (turn m) (more n 1) (still_stays m still) small
+    ∙ ap (tracing (run (turn m) (replicate count Turn))) (more_more n count)
+
+-- turns that were taken of so many, and some more
+pub taken-more : (count left more_taken : ℕ) → more_taken ≤ left → left ≤ count →
+    replicate (count - left) Turn ++ replicate more_taken Turn ≡ replicate (count - (left - more_taken)) Turn
+taken-more count left more_taken some within =
+    let sum : count - left + more_taken ≡ count - (left - more_taken) = omega (arith, some, within) in
+    replicate-append-replicate (count - left) more_taken Turn ∙ ap (λ (n : ℕ). replicate n Turn) sum

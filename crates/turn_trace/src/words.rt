@@ -1,0 +1,242 @@
+//! The words of steps, and the numbers of a machine.
+
+ghost use Rattle.arrayvec.specs.ArrayString.{array_string_len};
+ghost use Rattle.irq_status.specs.Writes.{IsWrite};
+ghost use Rattle.risc_listing.specs.Lines.{at_text, code_name, count_text, line_end};
+ghost use Rattle.std.specs.Prelude.{◌≡◌, ◌+◌, ◌*◌, ◌^◌, ◌<◌, ◌≤◌, ◌++◌, codes, length};
+ghost use Rattle.sync_status.specs.Statuses.{kind_of};
+ghost use Rattle.turn_trace.specs.Traces.{bit_text, control_words, did_words, dropped_words, entry_words, fate, given_up_words, level_text, moved_words, numbers, queue_name, status_name, still_line, turn_words, write_words};
+
+use dma_machine::{Did, Machine, Told};
+use fifo_model::{Entry, Pushed, Queue};
+use irq_status::HostWrite;
+use page_ram::Ram;
+use risc_listing::{Lines, code_name, push_at, push_count, push_digit, push_number};
+use risc_word::Code;
+use sync_status::{Status, StatusKind, kind, valid};
+
+fn queue_name(queue: Queue) -> &'static str
+    ensures name { result.now ≡ queue_name queue }
+    ensures long { length result.now ≡ 1 }
+{
+    match queue {
+        Queue::One => "1",
+        Queue::Two => "2",
+        Queue::Three => "3",
+    }
+}
+
+// The name of a status.
+#[inline(always)]
+fn push_status(text: &mut Lines, status: Status)
+    requires { array_string_len text.old + 10 ≤ 65536 }
+    ensures bytes { text.new.bytes ≡ text.old.bytes ++ status_name (kind_of status) status }
+    ensures long { array_string_len text.new ≤ array_string_len text.old + 10 }
+{
+    match kind(status) {
+        StatusKind::Pixels => text.push_str("pxv"),
+        StatusKind::Start => text.push_str("sol"),
+        StatusKind::End(_) => {
+            text.push_str("eol");
+            push_digit(text, valid(status));
+        }
+        StatusKind::Reserved => {
+            text.push_str("reserved ");
+            push_digit(text, status.nibble());
+        }
+        StatusKind::Control(code) => text.push_str(code_name(code)),
+    }
+}
+
+// What became of a push.
+fn fate(pushed: Pushed) -> &'static str
+    ensures name { result.now ≡ fate pushed }
+    ensures long { length result.now ≤ 8 }
+{
+    match pushed {
+        Pushed::Held => "",
+        Pushed::Overrun => " lost",
+        Pushed::Off => " ignored",
+    }
+}
+
+/// Appends the words of a push of a data entry.
+#[inline(always)]
+pub fn push_entry_words(text: &mut Lines, queue: Queue, entry: Entry, pushed: Pushed)
+    requires { array_string_len text.old + 70 ≤ 65536 }
+    ensures bytes { text.new.bytes ≡ text.old.bytes ++ entry_words queue entry pushed }
+    ensures long { array_string_len text.new ≤ array_string_len text.old + 70 }
+{
+    text.push_str("push ");
+    text.push_str(queue_name(queue));
+    text.push_str(" ");
+    push_status(text, entry.status);
+    push_at(text, entry.dword);
+    text.push_str(fate(pushed));
+}
+
+/// Appends the words of a push of a control code.
+#[inline(always)]
+pub fn push_control_words(text: &mut Lines, code: Code, pushed: Pushed)
+    requires { array_string_len text.old + 70 ≤ 65536 }
+    ensures bytes { text.new.bytes ≡ text.old.bytes ++ control_words code pushed }
+    ensures long { array_string_len text.new ≤ array_string_len text.old + 70 }
+{
+    text.push_str("control ");
+    text.push_str(code_name(code));
+    text.push_str(fate(pushed));
+}
+
+fn bit_text(bit: bool) -> &'static str
+    ensures name { result.now ≡ bit_text bit }
+    ensures long { length result.now ≡ 2 }
+{
+    if bit { " 1" } else { " 0" }
+}
+
+/// Appends the words of a register write.
+#[inline(always)]
+pub fn push_write_words(text: &mut Lines, write: HostWrite)
+    requires write { IsWrite write }
+    requires room { array_string_len text.old + 70 ≤ 65536 }
+    ensures bytes { text.new.bytes ≡ text.old.bytes ++ write_words write }
+    ensures long { array_string_len text.new ≤ array_string_len text.old + 70 }
+{
+    match write {
+        HostWrite::Ack(mask) => {
+            text.push_str("ack");
+            push_at(text, mask);
+        }
+        HostWrite::Enable { fifo, risc } => {
+            text.push_str("enable");
+            text.push_str(bit_text(fifo));
+            text.push_str(bit_text(risc));
+        }
+        HostWrite::Trigger(number) => {
+            text.push_str("trigger");
+            push_count(text, 4 << number);
+        }
+    }
+}
+
+// A burst that takes so many bytes of a queue.
+#[inline(always)]
+fn push_moved(text: &mut Lines, queue: Queue, taken: u32)
+    requires { array_string_len text.old + 27 ≤ 65536 }
+    ensures bytes { text.new.bytes ≡ text.old.bytes ++ moved_words queue taken }
+    ensures long { array_string_len text.new ≤ array_string_len text.old + 27 }
+{
+    text.push_str("move ");
+    text.push_str(queue_name(queue));
+    push_number(text, u64::from(taken));
+}
+
+// The same where the instruction is given up at an entry of the queue.
+#[cold]
+#[inline(never)]
+fn push_given_up(text: &mut Lines, queue: Queue, taken: u32)
+    requires { array_string_len text.old + 35 ≤ 65536 }
+    ensures bytes { text.new.bytes ≡ text.old.bytes ++ given_up_words queue taken }
+    ensures long { array_string_len text.new ≤ array_string_len text.old + 35 }
+{
+    if taken == 0 {
+        text.push_str("give up ");
+        text.push_str(queue_name(queue));
+    } else {
+        push_moved(text, queue, taken);
+        text.push_str(" give up");
+    }
+}
+
+// The drop of a front.
+#[cold]
+#[inline(never)]
+fn push_dropped(text: &mut Lines, drops: Option<Queue>)
+    requires { array_string_len text.old + 35 ≤ 65536 }
+    ensures bytes { text.new.bytes ≡ text.old.bytes ++ dropped_words drops }
+    ensures long { array_string_len text.new ≤ array_string_len text.old + 35 }
+{
+    text.push_str("drop");
+    if let Some(queue) = drops {
+        text.push_str(" ");
+        text.push_str(queue_name(queue));
+    }
+}
+
+// What a turn did, the queue from which it dropped an entry, and how many bytes it took.
+#[inline(always)]
+fn push_did(text: &mut Lines, did: Did, drops: Option<Queue>, taken: u32)
+    requires { array_string_len text.old + 35 ≤ 65536 }
+    ensures bytes { text.new.bytes ≡ text.old.bytes ++ did_words did drops taken }
+    ensures long { array_string_len text.new ≤ array_string_len text.old + 35 }
+{
+    match did {
+        Did::Moved(queue) => push_moved(text, queue, taken),
+        Did::GivenUp(queue) => push_given_up(text, queue, taken),
+        Did::Dropped => push_dropped(text, drops),
+        Did::Jumped => text.push_str("jump"),
+        Did::Synced => text.push_str("sync"),
+        Did::Passed => text.push_str("pass"),
+        Did::Begun => text.push_str("begin"),
+        Did::Matched => text.push_str("match"),
+        Did::Missed => text.push_str("miss"),
+        Did::Retired => text.push_str("retire"),
+        Did::Still => {}
+    }
+}
+
+/// Appends the words of a turn: how many were taken before, the queue from which it dropped an entry, and what it did.
+#[inline(always)]
+pub fn push_turn_words(text: &mut Lines, turns: u64, drops: Option<Queue>, told: Told)
+    requires { array_string_len text.old + 70 ≤ 65536 }
+    ensures bytes { text.new.bytes ≡ text.old.bytes ++ turn_words turns told.seen drops told.taken }
+    ensures long { array_string_len text.new ≤ array_string_len text.old + 70 }
+{
+    text.push_str("turn");
+    push_number(text, turns);
+    push_at(text, told.seen.at);
+    text.push_str(" ");
+    push_did(text, told.seen.did, drops, told.taken);
+}
+
+// How many entries a queue holds.
+#[inline(always)]
+fn push_level<R: Ram>(text: &mut Lines, machine: &Machine<R>, queue: Queue)
+    requires { array_string_len text.old + 6 ≤ 65536 }
+    ensures bytes { text.new.bytes ≡ text.old.bytes ++ level_text queue machine.now }
+    ensures long { array_string_len text.new ≤ array_string_len text.old + 6 }
+{
+    push_count(text, machine.level(queue) as u16);
+}
+
+/// Appends the numbers of a machine, which end a line.
+#[inline(always)]
+pub fn push_numbers<R: Ram>(text: &mut Lines, machine: &Machine<R>)
+    requires { array_string_len text.old + 60 ≤ 65536 }
+    ensures bytes { text.new.bytes ≡ text.old.bytes ++ (numbers machine.now ++ line_end) }
+    ensures long { array_string_len text.new ≤ array_string_len text.old + 60 }
+{
+    let report = machine.report();
+    text.push_str(" |");
+    push_at(text, machine.pc());
+    push_at(text, report.int_stat);
+    push_level(text, machine, Queue::One);
+    push_level(text, machine, Queue::Two);
+    push_level(text, machine, Queue::Three);
+    push_number(text, report.moved);
+    text.push_str("\n");
+}
+
+/// Appends the line of so many turns of which nothing was seen, if there were any.
+#[inline(always)]
+pub fn push_still_line(text: &mut Lines, still: u64)
+    requires { array_string_len text.old + 27 ≤ 65536 }
+    ensures bytes { text.new.bytes ≡ text.old.bytes ++ still_line still }
+    ensures long { array_string_len text.new ≤ array_string_len text.old + 27 }
+{
+    if still != 0 {
+        text.push_str("still");
+        push_number(text, still);
+        text.push_str("\n");
+    }
+}
