@@ -1,11 +1,11 @@
 -- The digits of a number of few decimal places.
-use Rattle.std.proofs.Common.{◌≡◌, ℕ, ◌+◌, ◌/◌, ◌%◌, ◌^◌, ◌<◌, ◌≤◌, List, [], ◌∷◌, ◌++◌, ap, ◌∙◌, arith}
+use Rattle.std.proofs.Common.{append_assoc, length, ◌≡◌, ℕ, ◌+◌, ◌/◌, ◌%◌, ◌^◌, ◌<◌, ◌≤◌, List, [], ◌∷◌, ◌++◌, ap, ◌∙◌, arith}
 use Rattle.std.specs.Fmt.{decimal}
 use Rattle.std.specs.Str.{IsUtf8}
-use Rattle.std.proofs.lemmas.Fmt.{decimal_digit, decimal_step, IsAscii-decimal}
+use Rattle.std.proofs.lemmas.Fmt.{length-decimal-le, decimal_digit, decimal_step, IsAscii-decimal}
 use Rattle.std.proofs.lemmas.Str.{IsUtf8-from_ascii}
-use Rattle.std.proofs.lemmas.Str.Ascii.{IsAscii-cons}
-use Rattle.risc_listing.specs.Lines.{count_text}
+use Rattle.std.proofs.lemmas.Str.Ascii.{IsAscii-cons, IsAscii-nil}
+use Rattle.risc_listing.specs.Lines.{count_text, last_four}
 
 pub two_digits : (n : ℕ) → 10 ≤ n → n < 100 → decimal n ≡ (48 + n / 10) ∷ (48 + n % 10) ∷ []
 two_digits n low high =
@@ -37,6 +37,38 @@ five_digits n low high =
     ∙ ap (λ (m : ℕ). (48 + m) ∷ (48 + n / 10 / 100 % 10) ∷ (48 + n / 10 / 10 % 10) ∷ (48 + n / 10 % 10) ∷ (48 + n % 10) ∷ []) first
     ∙ ap (λ (m : ℕ). (48 + n / 10000) ∷ (48 + m % 10) ∷ (48 + n / 10 / 10 % 10) ∷ (48 + n / 10 % 10) ∷ (48 + n % 10) ∷ []) second
     ∙ ap (λ (m : ℕ). (48 + n / 10000) ∷ (48 + n / 1000 % 10) ∷ (48 + m % 10) ∷ (48 + n / 10 % 10) ∷ (48 + n % 10) ∷ []) third
+
+-- a number of more than four digits, and the four that stand last
+pub four_last : (n : ℕ) → 10000 ≤ n → n < 2 ^ 64 → decimal n ≡ decimal (n / 10000) ++ last_four (n % 10000)
+four_last n low high =
+    let ten : n / 10 / 10 ≡ n / 100 = omega arith in
+    let hundred : n / 100 / 10 ≡ n / 1000 = omega arith in
+    let thousand : n / 1000 / 10 ≡ n / 10000 = omega arith in
+    let one : decimal n ≡ decimal (n / 10) ++ (48 + n % 10) ∷ [] = decimal_step n (omega arith) high in
+    let two : decimal (n / 10) ≡ decimal (n / 100) ++ (48 + n / 10 % 10) ∷ [] =
+    decimal_step (n / 10) (omega arith) (omega arith) ∙ ap (λ m. decimal m ++ (48 + n / 10 % 10) ∷ []) ten in
+    let three : decimal (n / 100) ≡ decimal (n / 1000) ++ (48 + n / 100 % 10) ∷ [] =
+    decimal_step (n / 100) (omega arith) (omega arith) ∙ ap (λ m. decimal m ++ (48 + n / 100 % 10) ∷ []) hundred in
+    let four : decimal (n / 1000) ≡ decimal (n / 10000) ++ (48 + n / 1000 % 10) ∷ [] =
+    decimal_step (n / 1000) (omega arith) (omega arith) ∙ ap (λ m. decimal m ++ (48 + n / 1000 % 10) ∷ []) thousand in
+    let first : n / 1000 % 10 ≡ n % 10000 / 1000 % 10 = omega arith in
+    let second : n / 100 % 10 ≡ n % 10000 / 100 % 10 = omega arith in
+    let third : n / 10 % 10 ≡ n % 10000 / 10 % 10 = omega arith in
+    let fourth : n % 10 ≡ n % 10000 % 10 = omega arith in
+    grind (arith, one, two, three, four, first, second, third, fourth, append_assoc)
+
+pub last_four-IsUtf8 : (n : ℕ) → IsUtf8 (last_four n)
+last_four-IsUtf8 n =
+    let thousands : ℕ = 48 + n / 1000 % 10 in
+    let hundreds : ℕ = 48 + n / 100 % 10 in
+    let tens : ℕ = 48 + n / 10 % 10 in
+    let units : ℕ = 48 + n % 10 in
+    IsUtf8-from_ascii (last_four n)
+    (IsAscii-cons thousands (hundreds ∷ tens ∷ units ∷ []) (omega arith)
+    (IsAscii-cons hundreds (tens ∷ units ∷ []) (omega arith) (IsAscii-cons tens (units ∷ []) (omega arith) (IsAscii-cons units [] (omega arith) IsAscii-nil))))
+
+pub length-count_text : (k n : ℕ) → 0 < k → n < 10 ^ k → n < 2 ^ 64 → length (count_text n) ≤ k + 1
+length-count_text k n some small fits = let long : length (decimal n) ≤ k = length-decimal-le k n some small fits in omega (arith, long)
 
 pub count_text-IsUtf8 : (n : ℕ) → n < 2 ^ 64 → IsUtf8 (count_text n)
 count_text-IsUtf8 n small = IsUtf8-from_ascii (32 ∷ decimal n) (IsAscii-cons 32 (decimal n) (omega arith) (IsAscii-decimal n small))

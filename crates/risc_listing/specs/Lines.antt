@@ -1,5 +1,5 @@
 -- The text of an instruction. Each field stands after one space.
-use Rattle.std.specs.Prelude.{ℕ, ◌-◌, ◌^◌, Bool, true, false, List, [], ◌∷◌, ◌++◌, codes, if◌then◌else◌, ◌==◌, slice_index}
+use Rattle.std.specs.Prelude.{ℕ, ◌+◌, ◌-◌, ◌/◌, ◌%◌, ◌^◌, Bool, true, false, List, [], ◌∷◌, ◌++◌, codes, if◌then◌else◌, ◌==◌, slice_index}
 use Rattle.std.specs.Fmt.{decimal, digits, padded_integral, format_spec}
 use Rattle.risc_word.specs.declared.Code.{Code}
 use Rattle.risc_word.specs.declared.Code.TheVariants.{Vre, Vro, Fm1, Fm3}
@@ -41,6 +41,10 @@ code_name Fm3 = codes "fm3"
 
 abbrev pub count_text : ℕ → List ℕ
 count_text n = codes " " ++ decimal n
+
+-- the last four decimal digits of a number
+abbrev pub last_four : ℕ → List ℕ
+last_four n = (48 + n / 1000 % 10) ∷ (48 + n / 100 % 10) ∷ (48 + n / 10 % 10) ∷ (48 + n % 10) ∷ []
 
 abbrev pub counts_text : List ℕ → List ℕ
 counts_text counts =

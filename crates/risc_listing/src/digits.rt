@@ -1,6 +1,6 @@
 //! Digits of numbers.
 
-ghost use Rattle.risc_listing.specs.Lines.{address_text, at_text, count_text};
+ghost use Rattle.risc_listing.specs.Lines.{address_text, at_text, count_text, last_four};
 ghost use Rattle.std.specs.Fmt.{digit_glyph, digits};
 ghost use Rattle.std.specs.Str.{IsUtf8};
 ghost use Rattle.std.specs.Prelude.{◌≡◌, ◌+◌, ◌/◌, ◌%◌, ◌<◌, ◌≤◌, false, [], ◌∷◌, ◌++◌, codes};
@@ -163,6 +163,21 @@ pub fn five_places(n: u16) -> [u8; 6]
         b' ',
         b'0' + (n / 10000) as u8,
         unit(n / 1000),
+        unit(n / 100),
+        unit(n / 10),
+        unit(n),
+    ]
+}
+
+// The last four decimal digits of a number.
+#[inline(always)]
+pub fn last_four(n: u16) -> [u8; 4]
+    requires { n < 10000 }
+    ensures digits { result ≡ last_four n }
+    ensures text { IsUtf8 result }
+{
+    [
+        b'0' + (n / 1000) as u8,
         unit(n / 100),
         unit(n / 10),
         unit(n),

@@ -2,13 +2,14 @@
 
 ghost use Rattle.arrayvec.specs.ArrayString.{array_string_len};
 ghost use Rattle.risc_word.specs.declared.Instr.TheVariants.{Jump, Skip, Skip123, Sync, Write, Write123, Write1S23, WriteC};
-ghost use Rattle.risc_listing.specs.Lines.{address_text, addresses_text, at_text, code_name, control_text, count_text, counts_text, data_text, flag_text, instr_line, instr_text, nibble_text, word_line};
+ghost use Rattle.risc_listing.specs.Lines.{address_text, addresses_text, at_text, code_name, control_text, count_text, counts_text, data_text, flag_text, instr_line, instr_text, last_four, nibble_text, word_line};
 ghost use Rattle.std.specs.Fmt.{digits};
 ghost use Rattle.std.specs.Prelude.{◌≡◌, ◌+◌, ◌<◌, ◌≤◌, ◌++◌, codes, false, length, Some};
 
+use crate::Lines;
 use crate::digits::{
-    address_and_space, five_places, four_places, one_digit, one_place, space_and_address,
-    three_places, two_digits, two_places,
+    address_and_space, five_places, four_places, last_four, one_digit, one_place,
+    space_and_address, three_places, two_digits, two_places,
 };
 use arrayvec::ArrayString;
 use risc_word::{Code, Ctl, Ends, Instr};
@@ -106,6 +107,31 @@ pub fn push_count<const CAP: usize>(text: &mut ArrayString<CAP>, n: u16)
     } else {
         let places = five_places(n);
         text.push_str(unsafe { str::from_utf8_unchecked(&places) });
+    }
+}
+
+// Appends the last four decimal digits of a number.
+#[inline(always)]
+fn push_last_four(text: &mut Lines, n: u16)
+    requires small { n < 10000 }
+    requires room { array_string_len text.old + 4 ≤ 65536 }
+    ensures { text.new.bytes ≡ text.old.bytes ++ last_four n }
+{
+    let digits = last_four(n);
+    text.push_str(unsafe { str::from_utf8_unchecked(&digits) });
+}
+
+/// Appends a space and a number, which may have up to twenty decimal digits.
+pub fn push_number(text: &mut Lines, n: u64)
+    requires { array_string_len text.old + 21 ≤ 65536 }
+    ensures bytes { text.new.bytes ≡ text.old.bytes ++ count_text n }
+    ensures long { array_string_len text.new ≤ array_string_len text.old + 21 }
+{
+    if n < 10_000 {
+        push_count(text, n as u16);
+    } else {
+        push_number(text, n / 10_000);
+        push_last_four(text, (n % 10_000) as u16);
     }
 }
 

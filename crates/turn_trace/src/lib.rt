@@ -3,9 +3,10 @@
 #![tactic(auto)]
 
 ghost use Rattle.arrayvec.specs.ArrayString.{array_string_len};
+ghost use Rattle.dma_machine.specs.Stills.{is_still};
 ghost use Rattle.irq_status.specs.Writes.{IsWrite};
 ghost use Rattle.machine_model.specs.Steps.{Control, Host, Push, Turn};
-ghost use Rattle.std.specs.Prelude.{◌≡◌, ◌+◌, ◌-◌, ◌<◌, ◌≤◌, ◌∷◌, [], ◌++◌, false, replicate};
+ghost use Rattle.std.specs.Prelude.{◌≡◌, ◌+◌, ◌-◌, ◌<◌, ◌≤◌, ◌∷◌, [], ◌++◌, false, replicate, true};
 ghost use Rattle.sync_status.specs.Statuses.{is_control, kind_of};
 ghost use Rattle.turn_trace.specs.Traces.{after_all, last_line, lines, tracing};
 
@@ -127,7 +128,7 @@ impl<R: Ram> Trace<R> {
     #[inline]
     fn stand(&mut self, count: u32)
         requires { is_still self.old.machine ≡ true }
-        ensures { self.new ≡ after_all self.old (replicate count Turn) }
+        ensures state { self.new ≡ after_all self.old (replicate count Turn) }
         ensures none { lines self.old (replicate count Turn) ≡ [] }
     {
         self.machine.stand(count);

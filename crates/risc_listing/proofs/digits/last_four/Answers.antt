@@ -1,0 +1,12 @@
+use Rattle.std.proofs.Common.{◌≡◌, ◌/◌, ◌%◌, arith, sym, subst}
+use Rattle.std.specs.Str.{IsUtf8}
+use Rattle.risc_listing.proofs.Decimal.{last_four-IsUtf8}
+use Rattle.risc_listing.proofs.digits.last_four.Goals as goal
+
+pub returns-clause-digits : goal.returns-clause-digits
+returns-clause-digits c =
+    let first : c.args.n / 1000 ≡ c.args.n / 1000 % 10 = omega (arith, c.requires) in
+    cc (first)
+
+pub returns-clause-text : goal.returns-clause-text
+returns-clause-text c = subst IsUtf8 (sym (returns-clause-digits c)) (last_four-IsUtf8 c.args.n)
