@@ -26,6 +26,12 @@ import tempfile
 import threading
 import time
 
+from bt878.as_compiled import BASE
+from bt878.built import Built
+from bt878.formats import one_span, program
+from bt878.program_faults import program_fault
+from bt878.stream_faults import stream_fault
+
 DONE, REFUSED, USAGE, MALFORMED, READ_FAULT, WRITE_FAULT, NO_MEMORY, NO_TEXT = 0, 1, 2, 3, 4, 5, 6, 8
 STREAM_LIMIT = 4_294_967_295
 LISTING_LIMIT = 67_108_864
@@ -35,40 +41,27 @@ TEXT_LIMIT = 1_048_576
 # Files
 
 
-def le(number):
-    return struct.pack("<I", number)
-
-
 def numbers(text):
-    return b"".join(le(int(word, 16)) for word in text.split())
+    return [int(word, 16) for word in text.split()]
 
 
-def brp1(words, pages, base=0x1000, fill=0):
-    """A program file of words, as bytes, and of pages."""
-    return b"BRP1" + le(base) + le(len(words) // 4) + words + le(len(pages)) + b"".join(map(le, pages)) + bytes([fill])
+def one(words, chunks):
+    """A program file of one span, and of chunks (address, length)."""
+    return program(BASE, one_span(BASE, words), chunks, 0)
 
 
-def brp2(words, chunks, base=0x1000, fill=0):
-    """A program file of words, as bytes, and of chunks (address, length)."""
-    listed = b"".join(le(at) + le(length) for at, length in chunks)
-    return b"BRP2" + le(base) + le(len(words) // 4) + words + le(len(chunks)) + listed + bytes([fill])
-
-
-def brp3(spans, entry, chunks, fill=0):
-    """A program file of spans (address, words as bytes) and of chunks (address, length)."""
-    listed = b"".join(le(at) + le(len(words) // 4) + words for at, words in spans)
-    granted = b"".join(le(at) + le(length) for at, length in chunks)
-    return b"BRP3" + le(len(spans)) + listed + le(entry) + le(len(chunks)) + granted + bytes([fill])
+def pages(first, count):
+    return [(first + 4096 * i, 4096) for i in range(count)]
 
 
 ONE_LINE = numbers("80008004 0 80000006 0 1c000008 00020000 71e10000 00001000")
-PROGRAM = brp1(ONE_LINE, [0x20000])
-CHUNKED = brp2(numbers("80008004 0 80000006 0 1c000008 00020004 71e10000 00001000"), [(0x20004, 8)])
+PROGRAM = one(ONE_LINE, pages(0x20000, 1))
+CHUNKED = one(numbers("80008004 0 80000006 0 1c000008 00020004 71e10000 00001000"), [(0x20004, 8)])
 # a loop of one slot, and the list that hangs in it
-SPANNED = brp3(
-    [(0x1000, numbers("80008004 0 70000000 00002000")),
-     (0x2000, numbers("80000006 0 1c000008 00020000 71e10000 00001000"))],
-    0x1000, [(0x20000, 8)])  # fmt: skip
+SPANNED = program(
+    BASE, [(0x1000, numbers("80008004 0 70000000 00002000")),
+           (0x2000, numbers("80000006 0 1c000008 00020000 71e10000 00001000"))],
+    [(0x20000, 8)], 0)  # fmt: skip
 FIELD = bytes.fromhex("0404 0406 010210111213 010114151617 0509000000")
 STREAM = b"BFS1" + FIELD + b"\0"
 # every tag of each form
@@ -150,10 +143,10 @@ class Command:
 
 
 COMMANDS = {
-    "verify": Command("P", {"P": PROGRAM}, "", b"accepted\n", {"P": brp1(skipping(20_000), [0x20000])}),
-    "list": Command("P", {"P": PROGRAM}, "", LISTING, {"P": brp1(skipping(20_000), [0x20000])}),
+    "verify": Command("P", {"P": PROGRAM}, "", b"accepted\n", {"P": one(skipping(20_000), pages(0x20000, 1))}),
+    "list": Command("P", {"P": PROGRAM}, "", LISTING, {"P": one(skipping(20_000), pages(0x20000, 1))}),
     "run": Command("P S I", {"P": PROGRAM, "S": STREAM}, "I", REPORT, {
-        "P": brp1(ONE_LINE, [0x20000 + 0x1000 * i for i in range(4096)]), "S": long_stream(b"BFS1")}),
+        "P": one(ONE_LINE, pages(0x20000, 4096)), "S": long_stream(b"BFS1")}),
     "compile": Command("D P", {"D": DESC}, "P", b"words 8 pages 1\n", {"D": DESC_LARGE}),
     "make": Command("D 1 1 S", {"D": DESC}, "S", b"fields 1 entries 2\n", {"D": DESC_LARGE}),
     "capture": Command("D S P I", {"D": DESC, "S": STREAM}, "P I", REPORT, {
@@ -167,7 +160,7 @@ COMMANDS = {
                     b"blocks 2\nturns 10\nmoved 16\noverruns 0 0 0 0\nstatus 10000800\n",
                     {"R": RING_LARGE, "S": long_stream(b"BFS1")}),
     "check": Command("P D", {"P": PROGRAM, "D": DESC}, "", SHOWN, {
-        "P": brp1(ONE_LINE + skipping(20_000), [0x20000]),
+        "P": one(ONE_LINE + skipping(20_000), pages(0x20000, 1)),
         "D": description([0x20000 + 0x1000 * i for i in range(1024)])}),
 }  # fmt: skip
 
@@ -227,18 +220,17 @@ def out_of_table(answer, outputs):
     return None
 
 
-class Tool:
+class Tool(Built):
     """A program under trial, and the folder that it works in."""
 
-    def __init__(self, path, folder):
-        self.path, self.folder = os.path.abspath(path), folder
+    def __init__(self, binary, folder):
+        super().__init__(binary, folder)
         self.launcher = None
         os.makedirs(folder, exist_ok=True)
 
-    def write(self, inputs):
+    def put(self, inputs):
         for name, data in inputs.items():
-            with open(os.path.join(self.folder, name), "wb") as file:
-                file.write(data)
+            self.write(name, data)
 
     def clean(self):
         for name in os.listdir(self.folder):
@@ -251,7 +243,7 @@ class Tool:
             options.setdefault("stdout", said)
             launched = self.launcher.words if self.launcher else []
             child = subprocess.Popen(
-                [*launched, self.path, *words], cwd=self.folder, stdin=subprocess.DEVNULL, stderr=subprocess.DEVNULL,
+                [*launched, self.binary, *words], cwd=self.folder, stdin=subprocess.DEVNULL, stderr=subprocess.DEVNULL,
                 env={**os.environ, **(environment or {})}, **options)  # fmt: skip
             _, code, used = os.wait4(child.pid, 0)
             child.returncode = os.waitstatus_to_exitcode(code)
@@ -266,15 +258,14 @@ class Tool:
         for name in outputs:
             path = os.path.join(self.folder, name)
             if os.path.isfile(path):
-                with open(path, "rb") as file:
-                    found[name] = file.read()
+                found[name] = self.read(name)
                 os.remove(path)
         return found
 
     def command(self, name, inputs=None, environment=None, **options):
         command = COMMANDS[name]
         self.taken(command.outputs)
-        self.write({**command.inputs, **(inputs or {})})
+        self.put({**command.inputs, **(inputs or {})})
         return self.run([name, *command.words], command.outputs, environment, **options)
 
     def knows(self, name):
@@ -463,136 +454,6 @@ def by_address_space(trial, name):
 
 
 # ---------------------------------------------------------------------------
-# First faults of program files and streams, judged by their fields in order
-
-
-class Fault(Exception):
-    pass
-
-
-class Fields:
-    def __init__(self, data):
-        self.data, self.at = data, 0
-
-    def number(self):
-        return int.from_bytes(self.bytes(4), "little")
-
-    def byte(self):
-        return self.bytes(1)[0]
-
-    def bytes(self, count):
-        if self.at + count > len(self.data):
-            raise Fault("short at %d" % len(self.data))
-        self.at += count
-        return self.data[self.at - count : self.at]
-
-    def owe(self, right, kind, width=4):
-        if not right:
-            raise Fault("%s at %d" % (kind, self.at - width))
-
-    def end(self):
-        if self.at < len(self.data):
-            raise Fault("after end at %d" % self.at)
-
-
-def program_fault(data):
-    """The first fault of a program file, or None."""
-    fields = Fields(data)
-    try:
-        form = fields.bytes(4)
-        fields.owe(form in (b"BRP1", b"BRP2", b"BRP3"), "magic")
-        spans = spans_fault(fields) if form == b"BRP3" else [span_fault(fields, 0, 0, 0)]
-        chunks = fields.number()
-        fields.owe(chunks <= 4096, "count")
-        all_pages, end, total = True, 0, 0
-        for _ in range(chunks):
-            end, total, page = chunk_fault(fields, form, spans, end, total)
-            all_pages = all_pages and page
-        fields.byte()
-        fields.owe(form != b"BRP2" or not all_pages, "pages", 1)
-        fields.end()
-    except Fault as fault:
-        return str(fault)
-    return None
-
-
-def span_fault(fields, least, first, before):
-    """A span's first byte and end: it has at least so many words, begins there or later, behind so many words."""
-    at = fields.number()
-    fields.owe(at % 4 == 0, "base")
-    fields.owe(at >= first, "order")
-    count = fields.number()
-    fields.owe(least <= count <= 1_048_576 - before and at + 4 * count <= 1 << 32, "count")
-    fields.bytes(4 * count)
-    return at, at + 4 * count
-
-
-def spans_fault(fields):
-    count = fields.number()
-    fields.owe(0 < count <= 4096, "count")
-    spans = []
-    for _ in range(count):
-        words = sum(end - at for at, end in spans) // 4
-        spans.append(span_fault(fields, 1, spans[-1][1] + 1 if spans else 0, words))
-    entry = fields.number()
-    is_word = entry % 4 == 0 and any(at <= entry < end for at, end in spans)
-    fields.owe(is_word and not (count == 1 and entry == spans[0][0]), "entry")
-    return spans
-
-
-def chunk_fault(fields, form, spans, end, total):
-    at, length = fields.number(), 4096
-    fields.owe(at % (4096 if form == b"BRP1" else 4) == 0, "page")
-    fields.owe(at >= end, "order")
-    if form != b"BRP1":
-        length = fields.number()
-        fields.owe(length and length % 4 == 0 and at + length <= 1 << 32 and total + length <= 16_777_216, "length")
-    fields.owe(all(max(at, first) >= min(at + length, last) for first, last in spans if first < last), "overlap")
-    return at + length, total + length, at % 4096 == 0 and length == 4096
-
-
-CONTROL = (4, 6, 12, 14)
-
-
-def stream_fault(data, chained):
-    """The first fault of a stream, or None."""
-    fields, turns = Fields(data), 0
-    try:
-        form = fields.bytes(4)
-        fields.owe(form in ((b"BFS3",) if chained else (b"BFS1", b"BFS2")), "magic")
-        while True:
-            tag = fields.byte()
-            fields.owe(tag < 8 or (tag == 8 and form != b"BFS1") or (tag == 9 and chained), "tag %02x" % tag, 1)
-            if tag == 0:
-                break
-            turns = record_fault(fields, tag, turns)
-        fields.end()
-    except Fault as fault:
-        return str(fault)
-    return None
-
-
-def record_fault(fields, tag, turns):
-    if tag in (5, 6):
-        number = fields.number()
-        turns += number if tag == 5 else 0
-        fields.owe(turns <= 1_073_741_824, "too many turns")
-        return turns
-    byte = fields.byte()
-    if tag < 4:
-        fields.owe(byte < 16 and byte not in CONTROL, "status %02x" % byte, 1)
-        fields.bytes(4)
-    elif tag == 9:
-        fields.owe(byte < 2, "slot %02x" % byte, 1)
-        buffer = fields.byte()
-        fields.owe(buffer in (0, 1, 255), "buffer %02x" % buffer, 1)
-    else:
-        right, kind = {4: (byte in CONTROL, "code"), 7: (byte < 4, "enable"), 8: (byte < 4, "trigger")}[tag]
-        fields.owe(right, "%s %02x" % (kind, byte), 1)
-    return turns
-
-
-# ---------------------------------------------------------------------------
 # Files cut at every length, and with every byte changed
 
 FORMS = [
@@ -620,7 +481,7 @@ FORMS = [
 
 
 def named(file, fault):
-    return None if fault is None else ("%s: %s\n" % (file, fault)).encode()
+    return None if fault is None else ("%s: %s at %d\n" % (file, *fault)).encode()
 
 
 def judge(trial, label, name, given, owed):
@@ -685,7 +546,7 @@ def odd_inputs(trial, name):
     words = [name, *command.words]
     for which in command.inputs:
         tool.clean()
-        tool.write({other: data for other, data in command.inputs.items() if other != which})
+        tool.put({other: data for other, data in command.inputs.items() if other != which})
         met(trial, "%s, %s is missing" % (name, which), tool.run(words, command.outputs), READ_FAULT, b"read fault\n")
         os.mkdir(os.path.join(tool.folder, which))
         answer = tool.run(words, command.outputs)
@@ -711,7 +572,7 @@ def piped(trial, name):
     tool, command = trial.tool, COMMANDS[name]
     for which, data in command.inputs.items():
         tool.clean()
-        tool.write({other: bytes_ for other, bytes_ in command.inputs.items() if other != which})
+        tool.put({other: bytes_ for other, bytes_ in command.inputs.items() if other != which})
         path = os.path.join(tool.folder, which)
         os.mkfifo(path)
         feeder = threading.Thread(target=feed, args=(path, data, 1), daemon=True)
@@ -731,7 +592,7 @@ def odd_outputs(trial, name):
         earlier = command.outputs[: command.outputs.index(which)]
         for label, target in ODD_OUTPUTS:
             tool.clean()
-            tool.write(command.inputs)
+            tool.put(command.inputs)
             words = [target if word == which else word for word in command.words]
             answer = tool.run([name, *words], command.outputs)
             met(trial, "%s, %s is %s" % (name, which, label), answer, WRITE_FAULT, b"")
@@ -765,7 +626,7 @@ def as_nobody(trial, name):
     options = {"user": 65534, "group": 65534, "extra_groups": []} if os.geteuid() == 0 else {}
     for which in [*command.inputs, *command.outputs]:
         tool.clean()
-        tool.write({**command.inputs, **({which: b"old"} if which in command.outputs else {})})
+        tool.put({**command.inputs, **({which: b"old"} if which in command.outputs else {})})
         os.chmod(tool.folder, 0o777)
         path = os.path.join(tool.folder, which)
         os.chmod(path, 0o444 if which in command.outputs else 0)
@@ -788,7 +649,7 @@ def systems(trial):
         odd_stdout(trial, name)
         as_nobody(trial, name)
     words = [os.fsencode(word) for word in ("list", "P")]
-    trial.tool.write({"P": PROGRAM})
+    trial.tool.put({"P": PROGRAM})
     met(trial, "a word that is no text", trial.tool.run([words[0], b"\xff\xfe"]), NO_TEXT, b"")
     met(trial, "an empty name", trial.tool.run(["list", ""]), READ_FAULT, b"read fault\n")
     met(trial, "a long name", trial.tool.run(["list", "n" * 100_000]), READ_FAULT, b"read fault\n")
@@ -908,15 +769,15 @@ def listing_storms():
     ]  # fmt: skip
 
 
-def longest_program(count, pages):
+def longest_program(count, page_count):
     """A program of so many words whose path goes through nearly all of them twice, and of so many pages."""
-    words = skipping(count).replace(le(0x20000), le(0x800000), 1)
-    return brp1(words, [0x800000 + 0x1000 * i for i in range(pages)])
+    first, _, *rest = skipping(count)
+    return one([first, 0x800000, *rest], pages(0x800000, page_count))
 
 
 def openings(count):
     """A program of so many openings of the top field, behind each of which comes a byte of queue 2."""
-    return brp1(numbers("80008004 0 80000006 0 a3000000 1") * count + numbers("70000000 00001000"), [])
+    return one(numbers("80008004 0 80000006 0 a3000000 1") * count + numbers("70000000 00001000"), [])
 
 
 def checked_storms():
@@ -989,7 +850,7 @@ def storms(trial):
 def sparse_stream(trial, name):
     """Files of the stream's limit, and one byte more, that are holes behind the first word."""
     for size in (STREAM_LIMIT, STREAM_LIMIT + 1):
-        trial.tool.write({**COMMANDS[name].inputs, "S": STREAMS[name]})
+        trial.tool.put({**COMMANDS[name].inputs, "S": STREAMS[name]})
         os.truncate(os.path.join(trial.tool.folder, "S"), size)
         answer = trial.tool.run([name, *COMMANDS[name].words], COMMANDS[name].outputs)
         table_line(trial, "sparse stream", name, size, answer, None)
@@ -1002,7 +863,7 @@ def longest_stream(trial, name, more):
     """A stream of exactly the limit, through a pipe: records of no turns and the end; and with so many bytes more."""
     tool, command = trial.tool, COMMANDS[name]
     tool.clean()
-    tool.write({which: data for which, data in command.inputs.items() if which != "S"})
+    tool.put({which: data for which, data in command.inputs.items() if which != "S"})
     path = os.path.join(tool.folder, "S")
     os.mkfifo(path)
     feeder = threading.Thread(target=feed_longest, args=(path, STREAMS[name], more), daemon=True)

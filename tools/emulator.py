@@ -6,10 +6,10 @@
 
 import sys
 
-import bttv
-from as_compiled import as_compiled
-from formats import EOL4, FM1, PXV, SOL, VRE, Stream, image, one_span, program
-from make_examples import BASE, HERE, write
+from bt878 import bttv
+from bt878.as_compiled import BASE, as_compiled
+from bt878.formats import EOL4, FM1, PXV, SOL, VRE, Stream, image, one_span, program
+from bt878.places import EXAMPLES, write
 
 STRAY = bytes.fromhex("ee ee ee ee")
 CHUNKS = [(0x20000, 12), (0x20010, 20)]  # those of two_lines.toml
@@ -59,7 +59,7 @@ def early_eol_image():
     return image({0x20000: first, 0x20010: bytes(4) + bytes(range(0xB0, 0xC0))})
 
 
-def main(folder=HERE):
+def main(folder=EXAMPLES):
     write(folder, "two_lines.brp", two_lines())
     for make in (overrun, early_eol, resync, stray):
         write(folder, make.__name__ + ".bfs", make())

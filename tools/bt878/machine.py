@@ -5,7 +5,7 @@ fuzz.py compares the two.
 
 import struct
 
-from formats import (
+from .formats import (
     ENDS, FM1, FM3, JUMP, LENGTHS, PXV, SKIP, SOL, SYNC, VRE, VRO, WRITE, WRITE1S23, WRITE123, WRITEC, SKIP123,
 )  # fmt: skip
 

@@ -1,9 +1,9 @@
 """Programs beside a description, drawn from its compiled program: the same instructions cut, joined, moved and changed.
 
-`fuzz.py` asks `bt878 check` what it says of each, and the plain model of check_model.py.
+tools/fuzz.py asks `bt878 check` what it says of each, and the plain model of check_model.py.
 """
 
-from formats import (
+from .formats import (
     IS_EOL, IS_IRQ, IS_SOL, JUMP, LENGTHS, RESYNC, SKIP, SKIP123, SYNC, WRITE, WRITE1S23, WRITE123, WRITEC, program,
     walk,
 )  # fmt: skip

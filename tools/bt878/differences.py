@@ -1,14 +1,13 @@
 """Programs beside descriptions, and what `check` must say of them: for each reason that it can give, small programs that
-differ so, told as listings are (docs/FORMATS.md, "Listings"). check.py tries them all.
+differ so, told as listings are (docs/FORMATS.md, "Listings"). tools/check.py tries them all.
 
 The words were found by reading docs/FORMATS.md; nothing here calls bt878.
 """
 
 from typing import NamedTuple
 
-from formats import one_span, program, words_of_line
-
-BASE = 0x1000
+from .as_compiled import BASE
+from .formats import one_span, program, words_of_line
 
 LINE = """format = "y8"
 width = 8

@@ -1,30 +1,22 @@
-#!/usr/bin/env python3
-"""The cases that the merge gate tries, and what must come of each: the files of this folder, every command.
+"""The cases that the merge gate tries, and what must come of each: the files of examples/, every command.
 
-    cases.py [FOLDER]
-
-writes into crates/bt878_examples its input (`stdin`), what it must print (`stdout`), and in `data` the files that are
-expected of `compile` and `make`. What is expected comes from the pages and from the scripts here; nothing here calls
-bt878.
+crates/bt878_examples has of them its input (`stdin`), what it must print (`stdout`), and in `data` the files that are
+expected of `compile` and `make`. What is expected comes from the pages and from the modules here.
 """
 
 import os
-import sys
 from typing import NamedTuple
 
-import broken
-import make_examples
-from as_compiled import as_compiled
-from bttv import packed
-from description import Description
-from formats import (
+from . import broken, examples
+from .as_compiled import BASE, as_compiled
+from .bttv import packed
+from .description import Description
+from .formats import (
     ENDS, FM1, FM3, IS_EOL, IS_IRQ, IS_SOL, JUMP, PXV, RESYNC, SKIP123, SOL, SYNC, VRE, VRO, WRITE123, Stream, image,
     listing, one_span, program, read_program,
 )  # fmt: skip
-from make_examples import BASE, HERE, write
-from paint import filled, paint
-
-CRATE = os.path.join(os.path.dirname(HERE), "crates/bt878_examples")
+from .paint import filled, paint
+from .places import EXAMPLES, read
 
 
 def report(turns, moved, overruns, status):
@@ -137,12 +129,12 @@ def ordinary_program():
 
 def compiled():
     """{name of a description: its program}, where that isn't the program of the same name."""
-    words = {case.name: as_compiled(BASE, case.fields()) for case in make_examples.cases()}
+    words = {case.name: as_compiled(BASE, case.fields()) for case in examples.cases()}
     words |= {"planar": planar_program(), "ordinary": ordinary_program()}
     for name in ("chain_first", "chain_second"):
-        lines = [packed(Description(f"{HERE}/{name}.toml").chunks, 0, 8, 8, 1)]
+        lines = [packed(Description(f"{EXAMPLES}/{name}.toml").chunks, 0, 8, 8, 1)]
         words[name] = as_compiled(BASE, [("top", lines)])
-    described = {name: Description(f"{HERE}/{name}.toml") for name in words}
+    described = {name: Description(f"{EXAMPLES}/{name}.toml") for name in words}
     return {name: program(BASE, one_span(BASE, words[name]), d.chunks, d.fill) for name, d in described.items()}
 
 
@@ -225,11 +217,6 @@ def size(data):
     return f"words {sum(len(words) for _, words in spans)} pages {len(chunks)}\n"
 
 
-def read(name):
-    with open(os.path.join(HERE, name), "rb") as file:
-        return file.read()
-
-
 def compiled_as(name):
     """The file that is expected of `compile NAME.toml`."""
     return name + ".brp" if name in ("one_line", "two_lines", "planar", "ordinary") else name + "_compiled.brp"
@@ -273,7 +260,7 @@ def generated():
 
 def said_of(description, verdicts):
     """What `check` says of each field of a description, and its status."""
-    fields = Description(f"{HERE}/{description}.toml").fields
+    fields = Description(f"{EXAMPLES}/{description}.toml").fields
     lines = [f"{field}: {verdict}\n" for field, verdict in zip(fields, verdicts, strict=True)]
     return "".join(lines), any(verdict.startswith("differs") for verdict in verdicts)
 
@@ -330,9 +317,9 @@ def files():
     """{name: bytes} of what is expected of `compile` and `make`, and of the capture of a stream that was made."""
     out = {compiled_as(name): data for name, data in compiled().items()}
     for name in MADE:
-        out[name + "_made.bfs"], picture = made(Description(f"{HERE}/{name}.toml"), 1)
+        out[name + "_made.bfs"], picture = made(Description(f"{EXAMPLES}/{name}.toml"), 1)
         if name == "planar":
-            description = Description(f"{HERE}/{name}.toml")
+            description = Description(f"{EXAMPLES}/{name}.toml")
             out["planar_made.bmi"] = image(paint(description, picture, filled(description)))
     return out
 
@@ -357,20 +344,11 @@ def streams():
     return {"stdin": "".join(map(given, cases())).encode(), "stdout": "".join(map(printed, cases())).encode()}
 
 
-def examples():
-    """The files of this folder, of which the crate has copies: the gate runs on what lies in crates/."""
-    names = [name for name in sorted(os.listdir(HERE)) if name.endswith((".brp", ".bfs", ".bmi", ".toml"))]
-    return {name: open(os.path.join(HERE, name), "rb").read() for name in names}
+def copied():
+    """The files of examples/, of which the crate has copies: the gate runs on what lies in crates/."""
+    names = [name for name in sorted(os.listdir(EXAMPLES)) if name.endswith((".brp", ".bfs", ".bmi", ".toml"))]
+    return {name: read(name) for name in names}
 
 
 def all_files():
-    return {"data/" + name: data for name, data in (examples() | files()).items()} | streams()
-
-
-def main(folder=CRATE):
-    for name, data in all_files().items():
-        write(folder, name, data)
-
-
-if __name__ == "__main__":
-    main(*sys.argv[1:2])
+    return {"data/" + name: data for name, data in (copied() | files()).items()} | streams()

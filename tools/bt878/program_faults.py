@@ -27,6 +27,13 @@ class Fields:
                 raise FileFault(kind, self.at - 4)
         return number
 
+    def byte(self, kind, has_it):
+        """A byte; the kind of its fault is told with it."""
+        (byte,) = self.take(1)
+        if has_it(byte):
+            raise FileFault(f"{kind} {byte:02x}", self.at - 1)
+        return byte
+
     def words(self, at, before, least):
         """How many words a span at an address has, and the words."""
         fault = "count", lambda n: n < least or before + n > MAX_WORDS or at + 4 * n > 1 << 32

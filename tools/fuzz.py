@@ -1,5 +1,5 @@
 #!/usr/bin/env python3
-"""Compares the program with the models of this folder on what is drawn.
+"""Compares the program with the models in bt878/ on what is drawn.
 
     fuzz.py --bin PATH [--count N] [--seed N]
 
@@ -17,23 +17,22 @@ import argparse
 import os
 import random
 import re
-import subprocess
 import sys
 import tempfile
 
-import cases
-import check_model
-import draw_checks
-from description import FORMATS, Description
-from formats import (
+from bt878 import cases, check_model, draw_checks
+from bt878.as_compiled import BASE
+from bt878.built import Built
+from bt878.description import FORMATS, Description
+from bt878.formats import (
     IS_EOL, IS_SOL, JUMP, PXV, SKIP, SKIP123, SYNC, WRITE, WRITE1S23, WRITE123, WRITEC, Stream, assembled, image,
     listing, memory_of, program, read_program,
 )  # fmt: skip
-from machine import CODES, Machine, Program
-from paint import filled, paint, paint_field
-from program_faults import program_fault
+from bt878.machine import CODES, Machine, Program
+from bt878.paint import filled, paint, paint_field
+from bt878.program_faults import program_fault
 
-BASE, FDSR = 0x1000, 1 << 14
+FDSR = 1 << 14
 MEMORIES = [[(0x20000, 4096)], [(0x20000, 64), (0x20040, 32)], [(0x20004, 8), (0x20010, 4)], [(0xFFFFF000, 4096)]]
 
 
@@ -134,45 +133,22 @@ def text_of(keys):
     return "".join(f"{key} = {value}\n" for key, value in keys.items())
 
 
-class Tool:
-    """The program, in a scratch folder."""
-
-    def __init__(self, binary, folder):
-        self.binary, self.folder = binary, folder
-
-    def run(self, words):
-        """The status, and what is said."""
-        done = subprocess.run([self.binary, *words.split()], cwd=self.folder, capture_output=True)
-        return done.returncode, done.stdout.decode()
-
-    def says(self, words):
-        return self.run(words)[1]
-
-    def write(self, name, data):
-        with open(os.path.join(self.folder, name), "wb") as file:
-            file.write(data)
-
-    def read(self, name):
-        with open(os.path.join(self.folder, name), "rb") as file:
-            return file.read()
-
-
 def compare(tool, drawn, draw):
     """Whether the program is accepted, and what was wanted where the answers differ."""
     parts = drawn.entry, drawn.spans, drawn.chunks, drawn.fill
     data, text, wanted = program(*parts), listing(*parts), drawn.verdict()
     tool.write("program", data)
     tool.write("text", text.encode())
-    differences = [] if tool.says("verify program") == wanted else [wanted]
-    differences += [] if tool.says("list program") == text else [text]
-    tool.run("assemble text again")
+    differences = [] if tool.says("verify", "program") == wanted else [wanted]
+    differences += [] if tool.says("list", "program") == text else [text]
+    tool.run("assemble", "text", "again")
     differences += [] if tool.read("again") == data else ["assembled " + text]
     for form in (b"BFS1", b"BFS2") if wanted == "accepted\n" else ():
         machine, stream = Machine(drawn), drawn_stream(draw, form)
         machine.play(stream)
         tool.write("stream", stream)
         tool.write("image", b"")
-        said = tool.says("run program stream image")
+        said = tool.says("run", "program", "stream", "image")
         if said != machine.report() or tool.read("image") != image(machine.memory):
             differences.append(machine.report())
     return wanted == "accepted\n", differences + compare_changed(tool, data, text, draw)
@@ -188,13 +164,13 @@ def compare_changed(tool, data, text, draw):
     tool.write("changed", changed)
     fault = program_fault(bytes(changed))
     wanted = f"program file: {fault[0]} at {fault[1]}\n" if fault else listing(*read_program(bytes(changed)))
-    differences = [] if tool.says("list changed") == wanted else [wanted]
+    differences = [] if tool.says("list", "changed") == wanted else [wanted]
     lines = text.splitlines(keepends=True)
     first, second = draw.randrange(len(lines)), draw.randrange(len(lines))
     lines[first : first + 1] = draw.choice([[], [lines[first]] * 2, [lines[second]]])
     tool.write("text", "".join(lines).encode())
     found = assembled("".join(lines))
-    status, said = tool.run("assemble text again")
+    status, said = tool.run("assemble", "text", "again")
     if (status == 0) != (found is not None) or (found and tool.read("again") != program(*found)):
         differences.append(f"assembled {found is not None}, said {said!r} of {''.join(lines)!r}")
     return differences
@@ -203,7 +179,7 @@ def compare_changed(tool, data, text, draw):
 def compare_description(tool, text):
     """A frame is made and captured."""
     tool.write("description", text.encode())
-    status, said = tool.run("compile description compiled")
+    status, said = tool.run("compile", "description", "compiled")
     if said.startswith("geometry: too few bytes"):
         return []
     if status:
@@ -212,8 +188,8 @@ def compare_description(tool, text):
     stream, picture = cases.made(description, 1)
     machine = Machine(Program(*read_program(tool.read("compiled"))))
     machine.play(stream)
-    tool.run("make description 1 1 stream")
-    report = tool.says("capture description stream program image")
+    tool.run("make", "description", "1", "1", "stream")
+    report = tool.says("capture", "description", "stream", "program", "image")
     answers = tool.read("stream") == stream, report == machine.report(), tool.read("program") == tool.read("compiled")
     shown = image(paint(description, picture, filled(description)))
     answers += tool.read("image") == shown, image(machine.memory) == shown
@@ -227,7 +203,7 @@ def compare_shown(tool, program_file, description, field, begin):
     stream = Stream()
     picture = cases.push_field(description, field, stream, cases.Drawn(1))
     tool.write("stream", stream.turns(5 * sum(len(words) for _, words in spans)).end())
-    report = tool.says("run opening stream image")
+    report = tool.says("run", "opening", "stream", "image")
     wanted = paint_field(description, picture, {at: bytearray([fill]) * length for at, length in chunks}, field)
     status = int(report.split()[-1], 16)
     right = memory_of(tool.read("image")) == wanted and "overruns 0 0 0 0" in report and not status & FDSR
@@ -238,8 +214,8 @@ def compare_check(tool, program_file, text):
     """Whether a program was judged by a description, whether it shows it, and what was wanted where the answers differ."""
     tool.write("program", program_file)
     tool.write("description", text.encode())
-    said, verdict = tool.run("check program description"), Program(*read_program(program_file)).verdict()
-    status, fault = tool.run("compile description out")
+    said, verdict = tool.run("check", "program", "description"), Program(*read_program(program_file)).verdict()
+    status, fault = tool.run("compile", "description", "out")
     if verdict != "accepted\n":
         wanted = 1, verdict
     elif status and "program" not in fault:
@@ -258,7 +234,7 @@ def compare_checks(tool, draw):
     """Programs drawn from the compiled one of a description, beside it and beside another: (judged, shown, differences)."""
     keys = drawn_keys(draw)
     tool.write("description", text_of(keys).encode())
-    if tool.run("compile description compiled")[0]:
+    if tool.run("compile", "description", "compiled")[0]:
         return 0, 0, []
     _, spans, _, _ = read_program(tool.read("compiled"))
     judged, showed, differences = 0, 0, []
@@ -276,7 +252,7 @@ def main():
     words.add_argument("--seed", type=int, default=1)
     given, accepted, differ, judged, showed = words.parse_args(), 0, 0, 0, 0
     with tempfile.TemporaryDirectory() as folder:
-        tool = Tool(os.path.abspath(given.bin), folder)
+        tool = Built(given.bin, folder)
         for number in range(given.count):
             draw = random.Random(given.seed + number)
             good, differences = compare(tool, drawn_program(draw), draw)

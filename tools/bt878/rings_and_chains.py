@@ -1,16 +1,11 @@
-#!/usr/bin/env python3
-"""A ring of blocks and a chain that is patched while it runs: their streams, and what must come of them.
-
-    rings_and_chains.py [FOLDER]
-"""
+"""A ring of blocks and a chain that is patched while it runs: their streams, and what must come of them."""
 
 import random
-import sys
 
-from formats import (
+from .as_compiled import BASE
+from .formats import (
     EOL4, FM1, IS_EOL, IS_IRQ, IS_SOL, JUMP, RESYNC, SOL, SYNC, VRE, WRITE, Stream, image, one_span, program,
 )  # fmt: skip
-from make_examples import BASE, HERE, write
 
 BLOCKS, LINES, BYTES, PAGES = 2, 2, 1500, [0x06000000, 0x06008000]  # those of ring.toml
 SENT = [random.Random(number).randbytes(BYTES) for number in range(6)]
@@ -75,12 +70,7 @@ def chain_image():
     return image({0x20000: bytes(range(0x10, 0x18)), 0x30000: bytes(range(0x20, 0x28))})
 
 
-def main(folder=HERE):
+def files():
+    """{name: bytes} of their files."""
     files = {"ring.brp": ring_program(), "ring.bfs": ring_stream(), "ring.bmi": ring_image()}
-    files |= {"chain.bfs": chain_stream(), "chain.bmi": chain_image()}
-    for name, data in files.items():
-        write(folder, name, data)
-
-
-if __name__ == "__main__":
-    main(*sys.argv[1:2])
+    return files | {"chain.bfs": chain_stream(), "chain.bmi": chain_image()}

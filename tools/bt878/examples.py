@@ -1,7 +1,4 @@
-#!/usr/bin/env python3
-"""Makes the driver's programs of this folder, a stream for each and the image that must come.
-
-    make_examples.py [FOLDER]
+"""The driver's programs of examples/, a stream for each and the image that must come.
 
 The programs are a main loop and lists as bttv makes them (bttv.py), in buffers of their own at bus addresses
 (lay_out.py); the pictures are drawn, sent (picture_stream.py) and painted by the rules alone (paint.py). Nothing
@@ -9,18 +6,16 @@ here calls bt878.
 """
 
 import os
-import sys
 
-import bttv
-from bttv import BOTTOM_FIELD, BOTTOM_VBI, CHROMA_FIRST, TOP_FIELD, TOP_VBI, VBI, VIDEO
-from description import Description
-from formats import Stream, bytes_of, image
-from lay_out import lay_out
-from paint import drawn, paint
-from picture_stream import send_field
+from . import bttv
+from .bttv import BOTTOM_FIELD, BOTTOM_VBI, CHROMA_FIRST, TOP_FIELD, TOP_VBI, VBI, VIDEO
+from .description import Description
+from .formats import Stream, bytes_of, image
+from .lay_out import lay_out
+from .paint import drawn, paint
+from .pictures import send_field
+from .places import EXAMPLES
 
-HERE = os.path.dirname(os.path.abspath(__file__))
-BASE = 0x1000  # of compiled programs
 LOOP, LISTS = 0x00A00000, [0x00A01000, 0x00A02000, 0x00A03000, 0x00A04000]  # where the driver's buffers lie
 
 
@@ -30,7 +25,7 @@ class Case:
     def __init__(self, name, hooks, grants):
         """`hooks` are (slot, list, status that its closing JUMP sets or 0), in the order of the buffers."""
         self.name, self.hooks, self.grants = name, hooks, grants
-        self.description = Description(os.path.join(HERE, name + ".toml"))
+        self.description = Description(os.path.join(EXAMPLES, name + ".toml"))
 
     def buffers(self):
         """(address, words) of the main loop and of each list, hooked."""
@@ -93,19 +88,12 @@ def cases():
     yield Case("overlay", [(TOP_FIELD, window, VIDEO)], [(0x040004A0 + 128 * row, 48) for row in range(6)])
 
 
-def write(folder, name, data):
-    os.makedirs(os.path.dirname(os.path.join(folder, name)), exist_ok=True)
-    with open(os.path.join(folder, name), "wb") as file:
-        file.write(data)
-
-
-def main(folder=HERE):
+def files():
+    """{name: bytes} of the files of all of them."""
+    out = {}
     for case in cases():
         for ending, data in ((".brp", case.program()), (".bfs", case.stream()), (".bmi", case.image())):
-            write(folder, case.name + ending, data)
+            out[case.name + ending] = data
         for number, (address, words) in enumerate(case.buffers()):
-            write(folder, f"dumps/{case.name}_{number}_{address:08x}.bin", bytes_of(words))
-
-
-if __name__ == "__main__":
-    main(*sys.argv[1:2])
+            out[f"dumps/{case.name}_{number}_{address:08x}.bin"] = bytes_of(words)
+    return out

@@ -1,11 +1,11 @@
 #!/usr/bin/env python3
-"""Tries the examples of this folder on the program; the gate tries fewer (cases.py).
+"""Tries the files of examples/ on the program; the gate tries fewer (bt878/cases.py).
 
     check.py --bin PATH
 
 Each file is made anew and must be as it stands; each program must be accepted and leave the image that was painted by
 the rules; the lists of the driver's programs must be the compiled ones of their descriptions; each planted bug must
-be told as broken.py says. And each command that README.md and docs/* show behind `$ ` must print what stands below it.
+be told as bt878/broken.py says. And each command that README.md and docs/* show behind `$ ` must print what stands below it.
 A command that the program doesn't know is skipped. A line is printed for each check that fails, and last `N passed,
 M failed`.
 """
@@ -19,21 +19,15 @@ import subprocess
 import sys
 import tempfile
 
-import broken
-import cases
-import check_model
-import descriptions
-import differences
-import emulator
-import lay_out
 import make_examples
-import rings_and_chains
-from as_compiled import as_compiled
-from cases import CHAINED, COMPILED_LINE, DAMAGED, IMAGES, REPORTS, RINGED, VERDICTS, report
-from description import Description
-from formats import JUMP, image, one_span, program, read_program
-from machine import Machine, Program
-from make_examples import BASE, HERE
+from bt878 import broken, cases, check_model, descriptions, differences, examples, lay_out
+from bt878.as_compiled import BASE, as_compiled
+from bt878.built import Built
+from bt878.cases import CHAINED, COMPILED_LINE, DAMAGED, IMAGES, REPORTS, RINGED, VERDICTS, report
+from bt878.description import Description
+from bt878.formats import JUMP, image, one_span, program, read_program
+from bt878.machine import Machine, Program
+from bt878.places import CRATE, EXAMPLES, TOP
 
 
 LATER = {  # commands that an older program doesn't know: words, what is said, and the outputs
@@ -44,22 +38,22 @@ LATER = {  # commands that an older program doesn't know: words, what is said, a
 }
 
 
-class Check:
+class Check(Built):
+    """The program, and how many checks passed."""
+
     def __init__(self, binary, folder):
-        self.binary, self.folder = os.path.abspath(binary), folder
+        super().__init__(binary, folder)
         self.passed, self.failed, self.skipped = 0, 0, 0
 
-    def answer(self, *words):
-        """What the command says, in the scratch folder, and its status; `@name` is a file of the examples."""
-        words = [os.path.join(HERE, word[1:]) if word.startswith("@") else word for word in words]
-        done = subprocess.run([self.binary, *words], cwd=self.folder, capture_output=True, timeout=100)
-        return done.stdout.decode(), done.returncode
-
     def run(self, *words):
-        return self.answer(*words)[0]
+        """The status, and what is printed; `@name` is a file of the examples."""
+        return super().run(*[os.path.join(EXAMPLES, word[1:]) if word.startswith("@") else word for word in words])
+
+    def answer(self, *words):
+        return self.run(*words)[::-1]
 
     def script(self, name, *words):
-        words = [sys.executable, os.path.join(HERE, name), *words]
+        words = [sys.executable, os.path.join(TOP, "tools", name), *words]
         subprocess.run(words, cwd=self.folder, check=True, stdout=subprocess.DEVNULL)
 
     def same(self, name, got, wanted, later=False):
@@ -71,43 +65,34 @@ class Check:
             self.failed += 1
             print(f"{name}: got {got!r:.200}, wanted {wanted!r:.200}")
 
-    def read(self, name):
-        with open(os.path.join(self.folder, name), "rb") as file:
-            return file.read()
-
-    def write(self, name, data):
-        with open(os.path.join(self.folder, name), "wb") as file:
-            file.write(data)
-
 
 def check_files(check):
-    """The files of the folder are those that the scripts make."""
+    """The files of examples/ and of the crate are those that the scripts make."""
     fresh = os.path.join(check.folder, "fresh")
-    for make in (make_examples.main, emulator.main, broken.main, rings_and_chains.main):
-        make(fresh)
+    make_examples.main(fresh)
     for folder, _, names in os.walk(fresh):
         for name in names:
             at = os.path.relpath(os.path.join(folder, name), fresh)
-            check.same(at, check.read(os.path.join("fresh", at)), check.read(os.path.join(HERE, at)))
+            check.same(at, check.read(os.path.join("fresh", at)), check.read(os.path.join(EXAMPLES, at)))
     for name, data in cases.all_files().items():
-        check.same(name, data, check.read(os.path.join(cases.CRATE, name)))
+        check.same(name, data, check.read(os.path.join(CRATE, name)))
 
 
 def check_runs(check):
     for (prog, stream), wanted in REPORTS.items():
         name = f"{prog} on {stream}"
-        check.same(name + ", verdict", check.run("verify", f"@{prog}.brp"), "accepted\n")
-        check.same(name, check.run("run", f"@{prog}.brp", f"@{stream}.bfs", "image"), report(*wanted))
-        check.same(name + ", image", check.read("image"), check.read(f"{HERE}/{IMAGES.get(stream, stream)}.bmi"))
+        check.same(name + ", verdict", check.says("verify", f"@{prog}.brp"), "accepted\n")
+        check.same(name, check.says("run", f"@{prog}.brp", f"@{stream}.bfs", "image"), report(*wanted))
+        check.same(name + ", image", check.read("image"), check.read(f"{EXAMPLES}/{IMAGES.get(stream, stream)}.bmi"))
     for name, verdict in VERDICTS.items():
-        check.same(name, check.run("verify", f"@{name}.brp"), verdict + "\n")
+        check.same(name, check.says("verify", f"@{name}.brp"), verdict + "\n")
 
 
 def check_machine(check):
     """What is expected of the programs here is also what machine.py makes of them."""
     for (prog, stream), wanted in REPORTS.items():
-        machine = Machine(Program(*read_program(check.read(f"{HERE}/{prog}.brp"))))
-        machine.play(check.read(f"{HERE}/{stream}.bfs"))
+        machine = Machine(Program(*read_program(check.read(f"{EXAMPLES}/{prog}.brp"))))
+        machine.play(check.read(f"{EXAMPLES}/{stream}.bfs"))
         check.same(f"machine.py, {prog} on {stream}", machine.report(), report(*wanted))
     for bug in broken.BUGS:
         machine = Machine(Program(*read_program(broken.laid_out(bug))))
@@ -121,12 +106,12 @@ def check_machine(check):
 def check_lay_out(check):
     """The dumps of each driver's program give it, and what can't be in a program file is told."""
     for name in ("main_loop", "scattered", "chroma", "overlay", "stale_jump", "page_end", "no_eol"):
-        entry, _, chunks, fill = read_program(check.read(f"{HERE}/{name}.brp"))
-        dumps = sorted(glob.glob(f"{HERE}/dumps/{name}_[0-9]_*.bin"))
+        entry, _, chunks, fill = read_program(check.read(f"{EXAMPLES}/{name}.brp"))
+        dumps = sorted(glob.glob(f"{EXAMPLES}/dumps/{name}_[0-9]_*.bin"))
         buffers = [f"0x{dump[-12:-4]}:{dump}" for dump in dumps]
         granted = ",".join(f"{address}+{length}" for address, length in chunks)
         check.script("lay_out.py", "laid_out", str(entry), str(fill), granted, *buffers)
-        check.same(name + ", laid out", check.read("laid_out"), check.read(f"{HERE}/{name}.brp"))
+        check.same(name + ", laid out", check.read("laid_out"), check.read(f"{EXAMPLES}/{name}.brp"))
     check.same("buffers that touch", lay_out.spans_of([(8, [3]), (0, [1, 2])]), [(0, [1, 2, 3])])
     check.same("chunks outward", lay_out.outward([(6, 4), (1, 4), (20, 4)]), [(0, 12), (20, 4)])
     told = [
@@ -143,34 +128,34 @@ def check_lay_out(check):
 
 def check_later(check):
     """Commands that are unknown to the program are skipped."""
-    check.same("ring, verdict", check.run("verify", "@ring.brp"), "accepted\n")
+    check.same("ring, verdict", check.says("verify", "@ring.brp"), "accepted\n")
     for command, (words, text, name) in LATER.items():
-        said = check.run(command, *words.split())
+        said = check.says(command, *words.split())
         check.same(command, said, text, later=True)
         if name and said == text:
-            check.same(command + ", image", check.read("image"), check.read(f"{HERE}/{name}.bmi"))
+            check.same(command + ", image", check.read("image"), check.read(f"{EXAMPLES}/{name}.bmi"))
     if os.path.exists(os.path.join(check.folder, "program")):
-        check.same("ring, program", check.read("program"), check.read(f"{HERE}/ring.brp"))
+        check.same("ring, program", check.read("program"), check.read(f"{EXAMPLES}/ring.brp"))
 
 
 def check_compiled(check):
     """The lists of each example are the compiled program of its description, and its listing is read back."""
-    for case in make_examples.cases():
+    for case in examples.cases():
         d = case.description
-        check.run("compile", f"@{case.name}.toml", "compiled")
+        check.says("compile", f"@{case.name}.toml", "compiled")
         lists = program(BASE, one_span(BASE, as_compiled(BASE, case.fields())), d.chunks, d.fill)
         check.same(case.name + ", compiled", check.read("compiled"), lists)
-        check.write("listing", check.run("list", f"@{case.name}.brp").encode())
-        check.run("assemble", "listing", "again")
+        check.write("listing", check.says("list", f"@{case.name}.brp").encode())
+        check.says("assemble", "listing", "again")
         check.same(case.name + ", assembled", check.read("again"), case.program())
-    check.run("compile", "@two_lines.toml", "compiled")
-    check.same("two_lines, compiled", check.read("compiled"), check.read(f"{HERE}/two_lines.brp"))
+    check.says("compile", "@two_lines.toml", "compiled")
+    check.same("two_lines, compiled", check.read("compiled"), check.read(f"{EXAMPLES}/two_lines.brp"))
 
 
 def check_descriptions(check):
     for text, wanted in descriptions.CASES:
         check.write("description", text)
-        check.same(f"description {text[-60:]!r}", check.run("compile", "description", "program"), wanted)
+        check.same(f"description {text[-60:]!r}", check.says("compile", "description", "program"), wanted)
 
 
 def check_differences(check):
@@ -190,11 +175,11 @@ def check_shown(check):
         wanted = cases.said_of(description, verdicts)
         said = check.answer("check", f"@{name}.brp", f"@{description}.toml")
         check.same(f"{name} checked against {description}", said, wanted)
-        said = check_model.check(f"{HERE}/{name}.brp", f"{HERE}/{description}.toml")
+        said = check_model.check(f"{EXAMPLES}/{name}.brp", f"{EXAMPLES}/{description}.toml")
         check.same(f"check_model.py, {name} against {description}", said, wanted)
     for name, verdicts in cases.CHECKED_COMPILED.items():
         description = name.removesuffix("_compiled")
-        check.run("compile", f"@{description}.toml", "compiled")
+        check.says("compile", f"@{description}.toml", "compiled")
         wanted = cases.said_of(description, verdicts)
         check.same(f"{name}, checked", check.answer("check", "compiled", f"@{description}.toml"), wanted)
     for bug in broken.BUGS:
@@ -204,20 +189,20 @@ def check_shown(check):
 
 
 def check_bugs(check):
-    check.run("compile", "@scattered.toml", "compiled")
-    right = check.run("list", "compiled").splitlines()
+    check.says("compile", "@scattered.toml", "compiled")
+    right = check.says("list", "compiled").splitlines()
     for bug in broken.BUGS:
         check.write("bug", broken.laid_out(bug))
-        check.same(bug.name, check.run("verify", "bug"), bug.verdict + "\n")
+        check.same(bug.name, check.says("verify", "bug"), bug.verdict + "\n")
         if bug.verdict == "accepted":
-            said = check.run("run", "bug", "@scattered.bfs", "image")
+            said = check.says("run", "bug", "@scattered.bfs", "image")
             check.same(bug.name + ", report", said, report(33664, bug.moved, 0, bug.status))
             check.same(bug.name + ", image", check.read("image") == broken.RIGHT.image(), bug.same_image)
         if bug.diff is not None:
             d = broken.RIGHT.description
             words = as_compiled(BASE, broken.lists_with(bug))
             check.write("lists", program(BASE, one_span(BASE, words), d.chunks, d.fill))
-            lines = difflib.unified_diff(right, check.run("list", "lists").splitlines(), n=0, lineterm="")
+            lines = difflib.unified_diff(right, check.says("list", "lists").splitlines(), n=0, lineterm="")
             changed = sum(line[:1] in "+-" and line[:3] not in ("+++", "---") for line in lines)
             check.same(bug.name + ", diff", changed, bug.diff)
 
@@ -225,12 +210,12 @@ def check_bugs(check):
 def check_pictures(check):
     """A raw picture goes by picture_stream.py and `capture` into an image, and comes out again."""
     for name in ("scattered", "chroma"):
-        d = Description(f"{HERE}/{name}.toml")
+        d = Description(f"{EXAMPLES}/{name}.toml")
         raw = bytes(n * 7 % 251 for n in range(sum(r * b for r, b in zip(d.rows, d.row_bytes, strict=True))))
         check.write("raw", raw)
-        check.script("picture_stream.py", f"{HERE}/{name}.toml", "raw", "stream")
-        check.run("capture", f"@{name}.toml", "stream", "program", "image")
-        check.script("image_picture.py", f"{HERE}/{name}.toml", "image", "out")
+        check.script("picture_stream.py", f"{EXAMPLES}/{name}.toml", "raw", "stream")
+        check.says("capture", f"@{name}.toml", "stream", "program", "image")
+        check.script("image_picture.py", f"{EXAMPLES}/{name}.toml", "image", "out")
         check.same(name + ", there and back", check.read("out"), raw)
 
 
@@ -245,17 +230,16 @@ def commands(page):
 
 
 def check_pages(check):
-    """The pages' commands, in the folder above this one, with the program first on the path; the manual's elsewhere."""
-    top = os.path.dirname(HERE)
+    """The pages' commands, at the top of the repository, with the program first on the path; the manual's elsewhere."""
     os.symlink(check.binary, os.path.join(check.folder, "bt878"))
     env = os.environ | {"PATH": check.folder + ":" + os.environ["PATH"]}
-    for page in [os.path.join(top, "README.md"), *sorted(glob.glob(os.path.join(top, "docs/*.md")))]:
+    for page in [os.path.join(TOP, "README.md"), *sorted(glob.glob(os.path.join(TOP, "docs/*.md")))]:
         for command, printed in commands(page):
-            done = subprocess.run(["bash", "-c", command], cwd=top, env=env, capture_output=True)
+            done = subprocess.run(["bash", "-c", command], cwd=TOP, env=env, capture_output=True)
             later = any(f"bt878 {word} " in command for word in LATER)
-            check.same(f"{os.path.relpath(page, top)}: {command}", done.stdout.decode(), printed, later)
-    check.write("line.toml", check.read(f"{HERE}/one_line.toml"))
-    for command, printed in commands(os.path.join(top, "docs/bt878.1")):
+            check.same(f"{os.path.relpath(page, TOP)}: {command}", done.stdout.decode(), printed, later)
+    check.write("line.toml", check.read(f"{EXAMPLES}/one_line.toml"))
+    for command, printed in commands(os.path.join(TOP, "docs/bt878.1")):
         done = subprocess.run(["bash", "-c", command], cwd=check.folder, env=env, capture_output=True)
         check.same(f"bt878.1: {command}", done.stdout.decode(), printed)
 

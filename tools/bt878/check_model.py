@@ -1,7 +1,6 @@
-#!/usr/bin/env python3
 """What `bt878 check` is to say of a program and a description, by plain lists of what each queue awaits, byte by byte.
 
-    check_model.py PROG DESC
+    python3 -m bt878.check_model PROG DESC      # in tools/
 
 prints it; the status is 1 where the program doesn't show each described field. It trusts both files: `bt878 verify` and
 `bt878 compile` tell what is wrong with them.
@@ -11,8 +10,8 @@ import sys
 from pathlib import Path
 from typing import NamedTuple
 
-from description import Description
-from formats import (
+from .description import Description
+from .formats import (
     CODES, FM1, FM3, IS_EOL, IS_IRQ, IS_SOL, JUMP, LENGTHS, RESYNC, SKIP, SKIP123, SYNC, VRE, VRO, WRITE, WRITE1S23,
     WRITE123, WRITEC, read_program,
 )  # fmt: skip

@@ -1,8 +1,8 @@
-"""The files of bt878, for the scripts of this folder: programs, streams, images (docs/FORMATS.md)."""
+"""The files of bt878, for the scripts of tools/: programs, streams, images (docs/FORMATS.md)."""
 
 import struct
 
-from program_faults import program_fault
+from .program_faults import program_fault
 
 VRE, FM1, VRO, FM3 = 4, 6, 12, 14  # control codes
 PXV, EOL4, SOL, EOL1, EOL2, EOL3 = 0, 1, 2, 5, 9, 13  # status codes
@@ -20,7 +20,7 @@ def words_of(dump):
 
 
 def bytes_of(words):
-    return b"".join(struct.pack("<I", word) for word in words)
+    return struct.pack(f"<{len(words)}I", *words)
 
 
 def walk(words):

@@ -1,19 +1,15 @@
-#!/usr/bin/env python3
 """Bugs that drivers have had, each planted in the program of scattered.brp, and what tells them.
 
-    broken.py [FOLDER]
-
-writes three of them to files. check.py tries them all against bt878.
+Three of them are files of examples/. tools/check.py tries them all against bt878.
 """
 
 import struct
-import sys
 from typing import NamedTuple
 
-import bttv
-from formats import FM3, IS_EOL, IS_IRQ, IS_SOL, RESYNC, SYNC, WRITE, bytes_of
-from lay_out import lay_out
-from make_examples import HERE, LOOP, cases, write
+from . import bttv
+from .examples import LOOP, cases
+from .formats import FM3, IS_EOL, IS_IRQ, IS_SOL, RESYNC, SYNC, WRITE, bytes_of
+from .lay_out import lay_out
 
 RIGHT = next(case for case in cases() if case.name == "scattered")
 FIRST, SECOND, THIRD = RIGHT.grants
@@ -144,12 +140,11 @@ def lists_with(bug):
     return [("top", [top]), ("bottom", [bottom])]
 
 
-def main(folder=HERE):
+def files():
+    """{name: bytes} of the three that are files."""
+    out = {}
     for name, number in FILES.items():
-        write(folder, name + ".brp", laid_out(BUGS[number]))
+        out[name + ".brp"] = laid_out(BUGS[number])
         for buffer, (address, words) in enumerate(buffers_with(BUGS[number])):
-            write(folder, f"dumps/{name}_{buffer}_{address:08x}.bin", bytes_of(words))
-
-
-if __name__ == "__main__":
-    main(*sys.argv[1:2])
+            out[f"dumps/{name}_{buffer}_{address:08x}.bin"] = bytes_of(words)
+    return out

@@ -8,7 +8,7 @@ field is a buffer of its own and a bottom field follows; VBI on the last VBI lis
 list of an interlaced frame or before a bottom VBI list.
 """
 
-from formats import (
+from .formats import (
     FM1, FM3, IS_EOL, IS_IRQ, IS_SOL, JUMP, RESYNC, SKIP, SYNC, VRE, VRO, WRITE, WRITE1S23, WRITE123,
 )  # fmt: skip
 

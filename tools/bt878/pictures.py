@@ -1,18 +1,10 @@
-#!/usr/bin/env python3
-"""A stream of a picture, as a recorder would have made it.
+"""A raw picture as a stream, as a recorder would have made it, and the picture out of memory again.
 
-    picture_stream.py DESC PICTURE OUT.bfs [top|bottom]
-
-PICTURE is raw: the rows of the picture from the first to the last; in a planar format then all rows of plane 2 and all
-of plane 3, one for each row whose chroma is kept (so a 4:2:0 file is I420). DESC says the format, the size and the
-fields; a fourth word sends one of them alone. VBI lines and skipped lines are sent as bytes 00. Before each field the
-host acknowledges RISCI, as an interrupt handler does, so that RISCI in the report is the last field's.
+A raw picture is its rows from the first to the last; in a planar format then all rows of plane 2 and all of plane 3, one
+for each row whose chroma is kept (so a 4:2:0 file is I420).
 """
 
-import sys
-
-from description import Description
-from formats import FM1, FM3, RISCI, VRE, VRO, Stream
+from .formats import FM1, FM3, RISCI, VRE, VRO
 
 
 def read_picture(description, data):
@@ -46,16 +38,27 @@ def send_field(stream, description, field, picture):
         stream.line(luma, chroma)
 
 
-def main(desc, name, out, alone=None):
-    description = Description(desc)
-    stream = Stream()
-    with open(name, "rb") as file:
-        picture = read_picture(description, file.read())
-    for field in [alone] if alone else description.fields:
-        send_field(stream, description, field, picture)
-    with open(out, "wb") as file:
-        file.write(stream.end())
+def byte_at(memory, address):
+    return next(data[address - first] for first, data in memory.items() if first <= address < first + len(data))
 
 
-if __name__ == "__main__":
-    main(*sys.argv[1:]) if len(sys.argv) in (4, 5) else sys.exit(__doc__)
+def planes(description, memory):
+    """The bytes of each plane, row by row."""
+    out = []
+    for plane in range(len(description.rows)):
+        rows = range(description.height)
+        if plane:
+            rows = sorted((r for r in rows if description.chroma_row(r) is not None), key=description.chroma_row)
+        places = [place for row in rows for place in description.row_places(plane, row)]
+        out.append(bytes(byte_at(memory, place) for place in places))
+    return out
+
+
+def portable(description, luma):
+    """A PPM or PGM file of the first plane."""
+    size = f"{description.width} {description.height} 255\n".encode()
+    step = description.row_bytes[0] // description.width
+    if description.format in ("rgb24", "rgb32"):
+        pixels = (luma[at : at + 3][::-1] for at in range(0, len(luma), step))
+        return b"P6 " + size + b"".join(pixels)
+    return b"P5 " + size + luma[:: 2 if description.format == "yuy2" else 1]

@@ -1,0 +1,31 @@
+#!/usr/bin/env python3
+"""Makes the files of examples/ that aren't made by hand, and those of the crate whose cases the merge gate tries.
+
+    make_examples.py [FOLDER]
+
+With FOLDER the former alone, into it. Nothing here calls bt878.
+"""
+
+import sys
+
+import emulator
+from bt878 import broken, cases, examples, rings_and_chains
+from bt878.places import CRATE, EXAMPLES, write
+
+
+def main(folder=EXAMPLES):
+    for part in (examples, broken, rings_and_chains):
+        for name, data in part.files().items():
+            write(folder, name, data)
+    emulator.main(folder)
+
+
+def main_of_crate():
+    for name, data in cases.all_files().items():
+        write(CRATE, name, data)
+
+
+if __name__ == "__main__":
+    main(*sys.argv[1:2])
+    if len(sys.argv) == 1:
+        main_of_crate()
