@@ -1,70 +1,41 @@
 #!/usr/bin/env python3
-"""Streams for who writes an emulator: docs/MACHINE.md derives their reports turn by turn.
+"""Compares the trace of another machine with that of bt878.
 
-    emulator.py [FOLDER]
+    emulator.py --bin PATH PROG STREAM TRACE
+
+TRACE is a file with what the other machine did, in the form that `bt878 trace` prints (docs/MACHINE.md, "What each step
+did"). The first step that differs is printed with the line before it, and the status is 1.
 """
 
+import argparse
+import subprocess
 import sys
 
-from bt878 import bttv
-from bt878.as_compiled import BASE, as_compiled
-from bt878.formats import EOL4, FM1, PXV, SOL, VRE, Stream, image, one_span, program
-from bt878.places import EXAMPLES, write
-
-STRAY = bytes.fromhex("ee ee ee ee")
-CHUNKS = [(0x20000, 12), (0x20010, 20)]  # those of two_lines.toml
+from bt878.trace import first_difference
 
 
-def two_lines():
-    """The program of two_lines.toml."""
-    lists = [("top", [bttv.packed(CHUNKS, 0, 16, 16, 2)])]
-    return program(BASE, one_span(BASE, as_compiled(BASE, lists)), CHUNKS, 0)
+def trace_of(binary, program, stream):
+    """The lines that bt878 prints."""
+    made = subprocess.run([binary, "trace", program, stream], capture_output=True, text=True)
+    if made.returncode:
+        sys.exit(f"bt878 trace: {made.stdout}".rstrip())
+    return made.stdout.splitlines()
 
 
-def short_line(stream):
-    return stream.push(1, SOL, bytes(range(0x10, 0x14))).push(1, EOL4, bytes(range(0x14, 0x18)))
-
-
-def overrun():
-    """A hundred DWORDs behind VRE and FM1, of which the queue holds 68, and only then turns. Then a whole field."""
-    stream = Stream(turns=0).control(VRE).control(FM1)
-    for _ in range(100):
-        stream.push(1, PXV, STRAY)
-    stream.turns(73).control(VRE).control(FM1)
-    return short_line(stream).turns(11).end()
-
-
-def early_eol():
-    """A line that ends after 7 of 16 bytes, then a whole one."""
-    stream = Stream(turns=0).control(VRE).control(FM1)
-    stream.line(bytes.fromhex("a0 a1 a2 a3 a4 a5 a6")).line(bytes(range(0xB0, 0xC0)))
-    return stream.turns(15).end()
-
-
-def resync():
-    """Entries of queues 1 and 2 and a control code, before the field for which the program waits with RESYNC."""
-    stream = Stream(turns=0).push(1, PXV, STRAY).push(2, PXV, STRAY).control(FM1)
-    return short_line(stream.control(VRE).control(FM1)).turns(12).end()
-
-
-def stray():
-    """The entry of queue 1 comes behind VRE, where the program waits for FM1 without RESYNC."""
-    stream = Stream(turns=0).control(VRE).push(1, PXV, STRAY).control(FM1)
-    return short_line(stream).turns(10).end()
-
-
-def early_eol_image():
-    """Seven bytes of the first line, and the second line in both chunks."""
-    first = bytes.fromhex("a0 a1 a2 a3 a4 a5 a6").ljust(12, b"\x00")
-    return image({0x20000: first, 0x20010: bytes(4) + bytes(range(0xB0, 0xC0))})
-
-
-def main(folder=EXAMPLES):
-    write(folder, "two_lines.brp", two_lines())
-    for make in (overrun, early_eol, resync, stray):
-        write(folder, make.__name__ + ".bfs", make())
-    write(folder, "early_eol.bmi", early_eol_image())
+def main():
+    parser = argparse.ArgumentParser(description=__doc__, formatter_class=argparse.RawDescriptionHelpFormatter)
+    parser.add_argument("--bin", required=True)
+    for name in ("program", "stream", "trace"):
+        parser.add_argument(name)
+    words = parser.parse_args()
+    ours = trace_of(words.bin, words.program, words.stream)
+    with open(words.trace) as file:
+        difference = first_difference(ours, file.read().splitlines())
+    if difference:
+        print(difference, end="")
+        sys.exit(1)
+    print(f"{len(ours)} lines, no difference")
 
 
 if __name__ == "__main__":
-    main(*sys.argv[1:2])
+    main()

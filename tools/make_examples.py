@@ -8,16 +8,14 @@ With FOLDER the former alone, into it. Nothing here calls bt878.
 
 import sys
 
-import emulator
-from bt878 import broken, cases, examples, rings_and_chains
+from bt878 import broken, cases, emulator_streams, examples, rings_and_chains
 from bt878.places import CRATE, EXAMPLES, write
 
 
 def main(folder=EXAMPLES):
-    for part in (examples, broken, rings_and_chains):
+    for part in (examples, broken, rings_and_chains, emulator_streams):
         for name, data in part.files().items():
             write(folder, name, data)
-    emulator.main(folder)
 
 
 def main_of_crate():

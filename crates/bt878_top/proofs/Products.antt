@@ -1,11 +1,12 @@
 -- What each command makes of the contents of its inputs.
-use Rattle.std.proofs.Common.{◌≡◌, ℕ, List, [], ◌∷◌, ◌++◌, Bool, true, flat_map, Option, Some, None, Ok, refl, sym, ap, subst, ◌∙◌}
+use Rattle.std.proofs.Common.{◌≡◌, ℕ, List, [], ◌∷◌, ◌++◌, Bool, false, true, arith, flat_map, Option, Some, None, Ok, refl, sym, ap, subst, ◌∙◌}
 use Rattle.capture_desk.specs.Desks.{Inputs, named}
 use Rattle.bt878_words.specs.declared.Task.TheVariants as command
 use Rattle.bt878_words.specs.Words.{Word}
 use Rattle.capture_file.specs.Images.{image_of}
 use Rattle.capture_file.specs.Programs.{program_of, spelled}
-use Rattle.capture_file.specs.Streams.{steps_run}
+use Rattle.capture_file.specs.declared.Step.{Step}
+use Rattle.capture_file.specs.Streams.{steps_of, steps_run}
 use Rattle.capture_desc.specs.declared.desc.Desc.{Desc}
 use Rattle.capture_desc.specs.declared.desc.Fields.{Fields}
 use Rattle.capture_desc.specs.declared.desc.Fields.TheVariants as fields
@@ -32,7 +33,7 @@ use Rattle.slot_chain.specs.States.{ChainState}
 use Rattle.double_buffer.specs.Promises.{IsPair}
 use Rattle.double_buffer.proofs.Promising.{plays_keep_promises}
 use Rattle.risc_listing.specs.Listings.{listing}
-use Rattle.command_texts.specs.Texts.{accepted_text, blocks_text, made_text, report_text}
+use Rattle.command_texts.specs.Texts.{accepted_text, blocks_text, help_text, made_text, report_text, version_text}
 use Rattle.command_steps.specs.Inputs.{OfFile, OfInput}
 use Rattle.command_steps.specs.Outputs.{Product}
 use Rattle.command_steps.proofs.Inputs.{OfInput-map}
@@ -42,11 +43,16 @@ use Rattle.command_inputs.specs.Listings.{GivesAssembled}
 use Rattle.command_inputs.specs.Checked.{FindsBy, FindsIn}
 use Rattle.command_inputs.specs.Rings.{GivesRing, GivesRingProgram, IsRingFile}
 use Rattle.command_inputs.specs.Chains.{IsFrameFile}
-use Rattle.stream_play.specs.Plays.{HasPlayed, HasPlayedWatched}
+use Rattle.kept_stream.specs.Kept.{HoldsKept}
+use Rattle.kept_stream.proofs.UpToLimit.{kept_by_more}
+use Rattle.stream_play.specs.Plays.{HasPlayed, HasPlayedWatched, longest_stream}
 use Rattle.stream_play.specs.Runs.{HasPlayedChain, HasPlayedRing, IsRun, LiveRan, Ran, first_of, last_of}
 use Rattle.stream_play.proofs.Fitting.{all_fit, steps_fit}
+use Rattle.trace_play.specs.Playing.{begun, text_left}
+use Rattle.trace_play.specs.Texts.{trace_text}
+use Rattle.trace_play.proofs.Texts.{whole_trace}
 use Rattle.bt878_contract.specs.Tasks as tasks
-use Rattle.bt878_contract.specs.Tasks.{ChainOf, DescMakes, IsListed, IsProduct, ListingMakes, MakesBy, Reports, ReportsBlocks, RunMakes, RunMeaning, RunOf, RunsProgram, TellsRows}
+use Rattle.bt878_contract.specs.Tasks.{ChainOf, DescMakes, IsListed, IsProduct, ListingMakes, MakesBy, Reports, ReportsBlocks, RunMakes, RunMeaning, RunOf, RunsProgram, TellsRows, Traces}
 use Rattle.bt878_contract.specs.Tasks.{blocks_of, compiled_text, image_file, image_of_run, input_of, no_file, program_and_image, program_file, program_text, rows_told}
 
 -- ---- two inputs
@@ -328,3 +334,45 @@ module _ (program desc : Word) (inputs : Option Inputs) (accepted : RiscProgram)
           tt,
         );
       }
+
+-- ---- a program and a stream that is kept
+
+-- the trace of a machine over the steps of a whole stream
+abbrev pub TracesAll : List ℕ → State → List ℕ → Type 0
+TracesAll bytes m text = (steps : List Step) × (steps_of longest_stream false bytes ≡ Ok steps) × (text ≡ trace_text m (steps_run steps))
+
+module _ (program stream : Word) (inputs : Option Inputs) (accepted : RiscProgram) (fill : ℕ) (text : List ℕ) where
+  pub trace_made : OfInput program.now inputs (λ bytes. Accepts (program_of bytes) accepted fill) → OfInput stream.now inputs (λ bytes. TracesAll bytes (first_state accepted fill) text) →
+      IsProduct (command.Trace program stream) inputs (record { files = []; text = text })
+  trace_made gives traces =
+      record {
+        names = refl;
+        made =
+            over_stream
+            (record { source = tasks.SoundProgram program.now; stream = tasks.KeptStream stream.now; Gives = GivesSound; files = no_file; Says = Traces }) inputs
+            (record { files = []; text = text })
+            (λ a. Accepts (program_of a) accepted fill) (λ b. TracesAll b (first_state accepted fill) text)
+            (λ a b g t.
+            let r : Ran = record { program = accepted; fill = fill; steps = t.0 } in
+            let is : IsRun GivesSound a b r = record { gives = g; reads = t.1 } in
+            (r, is, run_makes r g.sound GivesSound a b is [] [] refl (Traces a r) text t.2)) gives traces;
+      }
+
+-- a stream that is kept
+pub kept_traced : (name : List ℕ) (inputs : Option Inputs) (m : State) (bytes : List ℕ) → HoldsKept bytes → OfInput name inputs (λ content. content ≡ bytes) →
+    OfInput name inputs (λ content. TracesAll content m (text_left (begun m bytes)))
+kept_traced name inputs m bytes (steps, reads) is =
+    OfInput-map name inputs (λ content. content ≡ bytes) (λ content. TracesAll content m (text_left (begun m bytes)))
+    (λ content e. (
+      steps,
+      ap (steps_of longest_stream false) e ∙ kept_by_more longest_stream bytes steps (omega arith) reads,
+      whole_trace m bytes steps reads,
+    )) is
+
+-- ---- no input
+
+pub help_made : (inputs : Option Inputs) → IsProduct command.Help inputs (record { files = []; text = help_text })
+help_made inputs = record { names = refl; made = (tt, refl) }
+
+pub version_made : (inputs : Option Inputs) → IsProduct command.Version inputs (record { files = []; text = version_text })
+version_made inputs = record { names = refl; made = (tt, refl) }

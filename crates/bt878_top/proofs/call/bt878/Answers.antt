@@ -8,7 +8,7 @@ use Rattle.bt878_contract.proofs.Rings.{no_fault_in_rings, rings_shown}
 use Rattle.machine_model.specs.States.{first_state}
 use Rattle.chain_law.specs.Runs.{LiveRunShowsNoFault, LiveRunShowsPictures, LiveRunStaysInside}
 use Rattle.bt878_contract.proofs.Consequences.{bad_input_comes, bad_input_must, completes, done_assemble, done_capture, done_captured, done_chain, done_check, done_compile, done_counts, done_damage, done_inside}
-use Rattle.bt878_contract.proofs.Consequences.{done_list, done_live, done_make, done_ring, done_run, done_sound, done_verify, ends_at_fault, in_order, names_kept, others_untouched, read_fault_comes}
+use Rattle.bt878_contract.proofs.Consequences.{done_help, done_list, done_live, done_make, done_ring, done_run, done_sound, done_trace, done_verify, done_version, ends_at_fault, in_order, names_kept, others_untouched, read_fault_comes}
 use Rattle.bt878_contract.proofs.Consequences.{refused_only_says, usage_comes, write_fault_comes, write_fault_stands}
 use Rattle.bt878_top.proofs.call.bt878.Goals as goal
 
@@ -191,6 +191,21 @@ pub returns-clause-assembled : goal.returns-clause-assembled
 returns-clause-assembled g c =
     let see = g.D.Desk.seen in
     done_assemble c.args.words.now c.answer_words.result (see c.args.desk.now) (see c.answer_words.new.desk) c.answer_words.ensures
+
+pub returns-clause-traced : goal.returns-clause-traced
+returns-clause-traced g c =
+    let see = g.D.Desk.seen in
+    done_trace c.args.words.now c.answer_words.result (see c.args.desk.now) (see c.answer_words.new.desk) c.answer_words.ensures
+
+pub returns-clause-helped : goal.returns-clause-helped
+returns-clause-helped g c =
+    let see = g.D.Desk.seen in
+    done_help c.args.words.now c.answer_words.result (see c.args.desk.now) (see c.answer_words.new.desk) c.answer_words.ensures
+
+pub returns-clause-versioned : goal.returns-clause-versioned
+returns-clause-versioned g c =
+    let see = g.D.Desk.seen in
+    done_version c.args.words.now c.answer_words.result (see c.args.desk.now) (see c.answer_words.new.desk) c.answer_words.ensures
 
 pub returns-clause-last : goal.returns-clause-last
 returns-clause-last g c =
