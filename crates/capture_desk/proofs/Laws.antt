@@ -37,7 +37,7 @@ pub appended-appended : (name a b : List ℕ) (outputs : Outputs) → appended n
 appended-appended name a b [] = refl
 appended-appended name a b (file ∷ files) = join_cases (bytes_eq file.0 name) name a b file files refl (appended-appended name a b files)
 
-written_nil : (writing : Option (List ℕ)) (outputs : Option Outputs) → option_map (written writing []) outputs ≡ outputs
+pub written_nil : (writing : Option (List ℕ)) (outputs : Option Outputs) → option_map (written writing []) outputs ≡ outputs
 written_nil writing None = refl
 written_nil None (Some outputs) = refl
 written_nil (Some name) (Some outputs) = ap Some (appended-nil name outputs)

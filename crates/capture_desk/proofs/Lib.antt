@@ -1,3 +1,4 @@
+mod Hosts
 pub mod Laws
 pub mod Names
 mod Slots

@@ -3,4 +3,5 @@ pub mod Sinks
 pub mod Memory
 pub mod Bounds
 pub mod Inside
+pub mod Hosts
 pub mod System

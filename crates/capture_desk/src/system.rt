@@ -1,42 +1,40 @@
-//! The desk over the system's files and its standard output.
+//! The desk over a system's files and its standard output.
 ghost use Rattle.std.specs.Prelude.{false, true, ◌≡◌};
 ghost use Rattle.capture_desk.specs.Desks.{counted};
-ghost use Rattle.capture_desk.specs.System.{System, seen_of};
+ghost use Rattle.capture_desk.specs.System.{System, new_system, seen_of};
 
 use crate::desk::{Desk, Failed, OpenFault};
-use std::fs;
-use std::io::{Read, Write};
+use crate::host::Host;
 use std::marker::Model;
-use std::rt::Files;
 
-/// The desk over real files and the standard output. It tells no content, keeps no bytes and takes no
-/// memory of its own. Each error of the system raises a count.
+/// The desk over a host's files and its standard output. It tells all that the host tells, keeps no bytes
+/// and takes no memory of its own. Each error of the host raises a count.
 #[derive(Drop)]
-pub struct OsDesk<R: Files + Print + Drop> {
-    runtime: R,
-    input: Option<R::File>,
-    output: Option<R::File>,
+pub struct OsDesk<H: Host + Drop> {
+    host: H,
+    input: Option<H::Input>,
+    output: Option<H::Output>,
     read_faults: u64,
     write_faults: u64,
     failed: bool,
 }
 
-impl<R: Files + Print + Drop> Model for OsDesk<R> {
-    ghost use Rattle.std.specs.Prelude.{is_some};
+impl<H: Host + Drop> Model for OsDesk<H> {
+    ghost use Rattle.std.specs.Prelude.{option_map};
     ghost use Rattle.capture_desk.specs.System.{System};
 
     ghost Value = { System };
 
-    ghost view = { λ d. record { input_open = is_some d.input; output_open = is_some d.output; read_faults = d.read_faults; write_faults = d.write_faults; failed = d.failed } };
+    ghost view = { λ d. record { store = H.store d.host; input = option_map H.rest d.input; output = option_map H.label d.output; read_faults = d.read_faults; write_faults = d.write_faults; failed = d.failed } };
 }
 
-impl<R: Files + Print + Drop> OsDesk<R> {
-    /// A desk over the runtime's files and standard output, with nothing open.
-    pub fn new(runtime: R) -> OsDesk<R>
-        ensures { result ≡ record { input_open = false; output_open = false; read_faults = 0; write_faults = 0; failed = false } }
+impl<H: Host + Drop> OsDesk<H> {
+    /// A desk over the host's files and standard output, with nothing open.
+    pub fn new(host: H) -> OsDesk<H>
+        ensures { result ≡ new_system (H.store host) }
     {
         OsDesk {
-            runtime,
+            host,
             input: None,
             output: None,
             read_faults: 0,
@@ -62,11 +60,11 @@ impl<R: Files + Print + Drop> OsDesk<R> {
     }
 }
 
-impl<R: Files + Print + Drop> Desk for OsDesk<R> {
+impl<H: Host + Drop> Desk for OsDesk<H> {
     ghost seen = { seen_of };
 
     fn open_in(&mut self, name: &str) -> Result<(), OpenFault> {
-        match fs::open(&self.runtime, name) {
+        match self.host.open(name) {
             Ok(file) => {
                 self.input = Some(file);
                 self.failed = false;
@@ -83,17 +81,17 @@ impl<R: Files + Print + Drop> Desk for OsDesk<R> {
         let Some(file) = &mut self.input else {
             unreachable!()
         };
-        match file.read(buf) {
-            Ok(n) => {
+        match self.host.read(file, buf) {
+            Ok(count) => {
                 self.failed = false;
-                Ok(n)
+                Ok(count)
             }
             Err(_) => Err(self.read_fault()),
         }
     }
 
     fn create_out(&mut self, name: &str) -> Result<(), Failed> {
-        match fs::create(&self.runtime, name) {
+        match self.host.create(name) {
             Ok(file) => {
                 self.output = Some(file);
                 self.failed = false;
@@ -107,10 +105,10 @@ impl<R: Files + Print + Drop> Desk for OsDesk<R> {
         let Some(file) = &mut self.output else {
             unreachable!()
         };
-        match file.write(bytes) {
-            Ok(n) if n > 0 => {
+        match self.host.write(file, bytes) {
+            Ok(written) if written > 0 => {
                 self.failed = false;
-                Ok(n)
+                Ok(written)
             }
             _ => Err(self.write_fault()),
         }
@@ -120,7 +118,7 @@ impl<R: Files + Print + Drop> Desk for OsDesk<R> {
         let Some(file) = &mut self.output else {
             unreachable!()
         };
-        match file.flush() {
+        match self.host.flush(file) {
             Ok(()) => {
                 self.output = None;
                 self.failed = false;
@@ -131,10 +129,10 @@ impl<R: Files + Print + Drop> Desk for OsDesk<R> {
     }
 
     fn say(&mut self, bytes: &[u8]) -> Result<usize, Failed> {
-        match self.runtime.write_some(bytes) {
-            Ok(n) if n > 0 => {
+        match self.host.say(bytes) {
+            Ok(said) if said > 0 => {
                 self.failed = false;
-                Ok(n)
+                Ok(said)
             }
             _ => Err(self.write_fault()),
         }
