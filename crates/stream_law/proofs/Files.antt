@@ -56,7 +56,7 @@ ended_short limit chained bytes e = within_ended limit (length bytes) (judged ch
 -- ---- the first word
 
 -- a first word that names a form is the name's
-abbrev Names : Bool → ℕ → Option Form → Type 0
+abbrev pub Names : Bool → ℕ → Option Form → Type 0
 Names chained word None = Unit {0}
 Names chained word (Some form) = (is_chained form ≡ chained) × (word ≡ little_number 4 (form_name form))
 
@@ -65,13 +65,13 @@ named_if : (chained : Bool) (word : ℕ) (form : Form) (rest : Option Form) (tes
 named_if chained word form rest true at_true at_false = at_true refl
 named_if chained word form rest false at_true at_false = at_false
 
-word_names : (chained : Bool) (word : ℕ) → Names chained word (form_of chained word)
+pub word_names : (chained : Bool) (word : ℕ) → Names chained word (form_of chained word)
 word_names true word = named_if true word Bfs3 None (word == little_number 4 (codes "BFS3")) (λ e. (refl, eqb-true word (little_number 4 (codes "BFS3")) e)) tt
 word_names false word =
     named_if false word Bfs1 _ (word == little_number 4 (codes "BFS1")) (λ e. (refl, eqb-true word (little_number 4 (codes "BFS1")) e))
     (named_if false word Bfs2 None (word == little_number 4 (codes "BFS2")) (λ e. (refl, eqb-true word (little_number 4 (codes "BFS2")) e)) tt)
 
-name_back : (form : Form) → little_bytes 4 (little_number 4 (form_name form)) ≡ form_name form
+pub name_back : (form : Form) → little_bytes 4 (little_number 4 (form_name form)) ≡ form_name form
 name_back Bfs1 = refl
 name_back Bfs2 = refl
 name_back Bfs3 = refl

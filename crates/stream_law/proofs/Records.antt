@@ -33,7 +33,7 @@ use Rattle.stream_law.proofs.ReadBack.{turns_same}
 -- ---- the tag
 
 -- the tag of a kind of record
-abbrev IsTagged : Form → RecordKind → ℕ → Type 0
+abbrev pub IsTagged : Form → RecordKind → ℕ → Type 0
 IsTagged form kind.End tag = tag ≡ 0
 IsTagged form (kind.Push queue) tag = tag ≡ push_tag queue
 IsTagged form kind.Control tag = tag ≡ 4
@@ -59,7 +59,7 @@ tagged_patch Bfs1 tag is = tt
 tagged_patch Bfs2 tag is = tt
 tagged_patch Bfs3 tag is = (is, refl)
 
-tagged : (form : Form) (tag : ℕ) → IsTagged form (kind_of_tag form tag) tag
+pub tagged : (form : Form) (tag : ℕ) → IsTagged form (kind_of_tag form tag) tag
 tagged form tag =
     tagged_if form tag kind.End _ (tag == 0) (eqb-true tag 0)
     (tagged_if form tag (kind.Push One) _ (tag == 1) (eqb-true tag 1)
@@ -75,13 +75,13 @@ tagged form tag =
 -- ---- one record
 
 -- the record at the front of some bytes, which are its spelling and the bytes after it
-record IsFront (form : Form) (turns : ℕ) (bytes : List ℕ) (step : Step) (len : ℕ) : Type 0 where
-  parts : bytes ≡ record_bytes step ++ drop len bytes
-  is : IsRecord form step
-  few : turns + turns_of step ≤ most_turns
+pub record IsFront (form : Form) (turns : ℕ) (bytes : List ℕ) (step : Step) (len : ℕ) : Type 0 where
+  pub parts : bytes ≡ record_bytes step ++ drop len bytes
+  pub is : IsRecord form step
+  pub few : turns + turns_of step ≤ most_turns
 
 -- what a record that was found says of the bytes
-abbrev Fronts : Form → ℕ → List ℕ → Found → Type 0
+abbrev pub Fronts : Form → ℕ → List ℕ → Found → Type 0
 Fronts form turns bytes Cut = Unit {0}
 Fronts form turns bytes (Wrong from to fault) = Unit {0}
 Fronts form turns bytes Last = bytes ≡ 0 ∷ drop 1 bytes
@@ -237,7 +237,7 @@ kind_fronts form kind.Patch tag turns rest is fits =
     subst (λ (n : ℕ). Fronts form turns (n ∷ rest) (patch_at rest)) (sym is.0) (patch_fronts form turns rest is.1)
 kind_fronts form kind.Unknown tag turns rest is fits = tt
 
-record_fronts : (form : Form) (turns : ℕ) (bytes : List ℕ) → IsBytes bytes → Fronts form turns bytes (record_at form turns bytes)
+pub record_fronts : (form : Form) (turns : ℕ) (bytes : List ℕ) → IsBytes bytes → Fronts form turns bytes (record_at form turns bytes)
 record_fronts form turns [] fits = tt
 record_fronts form turns (tag ∷ rest) fits =
     kind_fronts form (kind_of_tag form tag) tag turns rest (tagged form tag) (IsBytes-drop 1 (tag ∷ rest) fits)
@@ -282,7 +282,7 @@ found_spells form turns place bytes (Whole step len) few fronts later ended =
     }
 
 -- a record that was found has a byte, and no more than there are
-whole_spans : (found : Found) (step : Step) (len count : ℕ) → found ≡ Whole step len → Spans found count → (0 < len) × (len ≤ count)
+pub whole_spans : (found : Found) (step : Step) (len count : ℕ) → found ≡ Whole step len → Spans found count → (0 < len) × (len ≤ count)
 whole_spans found step len count is spans =
     let P : Found → Type 0 = λ f. Spans f count in
     let h = subst P is spans in (h.0, h.1)

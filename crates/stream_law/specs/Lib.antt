@@ -1,1 +1,3 @@
 pub mod Spellings
+pub mod Beginnings
+pub mod Worked
