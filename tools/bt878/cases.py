@@ -15,8 +15,10 @@ from .formats import (
     ENDS, FM1, FM3, IS_EOL, IS_IRQ, IS_SOL, JUMP, PXV, RESYNC, SKIP123, SOL, SYNC, VRE, VRO, WRITE123, Stream, image,
     listing, one_span, program, read_program,
 )  # fmt: skip
+from .machine import Program
 from .paint import filled, paint
 from .places import EXAMPLES, read
+from .trace import trace
 
 
 def report(turns, moved, overruns, status):
@@ -34,8 +36,10 @@ REPORTS = {  # turns, moved, overruns, status
     ("one_line", "resync"): (12, 8, 0, "10000800"),
     ("one_line", "stray"): (10, 8, 0, "10004800"),
     ("no_eol", "scattered"): (33664, 8400, 0, "10000800"),
+    ("one_line", "restart"): (18, 12, 0, "10000800"),
+    ("one_line", "bursts"): (21, 16, 0, "10000800"),
 }
-IMAGES = {"overrun": "one_line", "resync": "one_line", "stray": "one_line"}  # where it isn't the stream's own name
+IMAGES = {"overrun": "one_line", "resync": "one_line", "stray": "one_line", "restart": "one_line", "bursts": "one_line"}  # where it isn't the stream's own name
 VERDICTS = {"into_operand": "rejected at 00001004, step 2: ungranted 70000000"}
 VERDICTS |= {name: broken.BUGS[number].verdict for name, number in broken.FILES.items()}
 PROGRAMS = ["main_loop", "scattered", "chroma", "overlay", "one_line", "two_lines", "ring", *VERDICTS]
@@ -96,6 +100,34 @@ CHECKED_COMPILED = {  # program beside the description that it is compiled of
     ],
     "chain_second_compiled": [COMPILED_LINE],
 }
+TRACED = [
+    ("one_line", "one_line"), ("two_lines", "early_eol"), ("one_line", "overrun"), ("one_line", "resync"),
+    ("one_line", "stray"), ("one_line", "restart"), ("one_line", "bursts"),
+]  # fmt: skip
+HELP = """\
+bt878 compiles, checks and runs RISC capture programs of the Bt878.
+
+  bt878 list PROG                         print a program's listing
+  bt878 assemble TEXT PROG                make the program of a listing
+  bt878 verify PROG                       check that a program is safe
+  bt878 check PROG DESC                   check a program against a description
+  bt878 compile DESC PROG                 make the program of a description
+  bt878 make DESC SEED FRAMES STREAM      make a stream for a description
+  bt878 run PROG STREAM IMAGE             run a program on a stream
+  bt878 trace PROG STREAM                 print what each step of a run did
+  bt878 capture DESC STREAM PROG IMAGE    compile a description and run it
+  bt878 damage DESC STREAM                print which rows came whole
+  bt878 ring RING STREAM PROG IMAGE       make and run a ring of blocks
+  bt878 chain DESC1 DESC2 STREAM IMAGE    run a loop with two buffers
+  bt878 --help                            print this
+  bt878 --version                         print the version
+
+Status: 0 done, 1 a program or a description has a fault or differs,
+2 wrong words, 3 a malformed file, 4 an input can't be read,
+5 an output can't be written, 6 out of memory, 8 a word that is no text.
+
+The manual is bt878(1).
+"""
 DAMAGED = {  # description, stream: what is said
     ("two_lines", "early_eol"): "top 1 of 2\nbad 0\n",
     ("scattered", "scattered"): "top 7 of 7\nbottom 7 of 7\n",
@@ -245,6 +277,22 @@ def ran():
     yield Case("what isn't sound doesn't run", words, VERDICTS["into_operand"] + "\n", 1, ("none",))
 
 
+def traced():
+    for name, stream in TRACED:
+        said = trace(Program(*read_program(read(name + ".brp"))), read(stream + ".bfs"))
+        yield Case(f"{name} is traced on {stream}", f"trace {name}.brp {stream}.bfs", said)
+    words = "trace into_operand.brp none.bfs"
+    yield Case("what isn't sound isn't traced", words, VERDICTS["into_operand"] + "\n", 1)
+    yield Case("a program is no stream to trace", "trace one_line.brp one_line.brp", "stream file: magic at 0\n", 3)
+
+
+def helped():
+    yield Case("the help", "--help", HELP)
+    yield Case("the version", "--version", "bt878 0.1.0\n")
+    yield Case("help of a command", "--help run", "usage: wrong number of words\n", 2)
+    yield Case("another word for help", "-h", "usage: unknown command\n", 2)
+
+
 def described(programs):
     for name in ("one_line", "two_lines", *compiled()):
         output = ("out.brp", compiled_as(name))
@@ -325,7 +373,7 @@ def files():
 
 
 def cases():
-    for part in (judged(), listed(), ran(), described(files()), checked(), generated(), captured(), told(), refused()):
+    for part in (helped(), judged(), listed(), ran(), traced(), described(files()), checked(), generated(), captured(), told(), refused()):
         yield from part
 
 

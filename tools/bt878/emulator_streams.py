@@ -46,6 +46,21 @@ def stray():
     return short_line(stream).turns(10).end()
 
 
+def restart():
+    """A line of which the host stops the machine after the first DWORD; RISC alone starts again, and then a whole field."""
+    stream = Stream(turns=0).control(VRE).control(FM1).push(1, SOL, bytes(range(0x10, 0x14))).turns(6)
+    stream.enable(1, 0).push(1, EOL4, STRAY).turns(2).enable(0, 0).push(1, EOL4, STRAY).control(VRE).turns(1)
+    stream.acknowledge(0x5800).enable(1, 1).control(VRE).control(FM1)
+    return short_line(stream).turns(9).end()
+
+
+def bursts():
+    """The line of one_line.bfs at trigger point 4, and then an entry that waits for others at trigger point 16."""
+    stream = Stream(turns=0, form=b"BFS2").control(VRE).control(FM1)
+    short_line(stream).turns(8).trigger(2).control(VRE).control(FM1).push(1, SOL, bytes(range(0x10, 0x14)))
+    return stream.turns(9).push(1, EOL4, bytes(range(0x14, 0x18))).turns(4).end()
+
+
 def early_eol_image():
     """Seven bytes of the first line, and the second line in both chunks."""
     first = bytes.fromhex("a0 a1 a2 a3 a4 a5 a6").ljust(12, b"\x00")
@@ -54,5 +69,5 @@ def early_eol_image():
 
 def files():
     """The files of examples/, by name."""
-    streams = {make.__name__ + ".bfs": make() for make in (overrun, early_eol, resync, stray)}
+    streams = {make.__name__ + ".bfs": make() for make in (overrun, early_eol, resync, stray, restart, bursts)}
     return {"two_lines.brp": two_lines(), "early_eol.bmi": early_eol_image()} | streams
