@@ -1,17 +1,22 @@
 -- The trace after steps, and turns of which nothing is seen.
-use Rattle.std.proofs.Common.{◌≡◌, ℕ, zero, suc, ◌+◌, ◌-◌, ◌<◌, ◌≤◌, ◌^◌, min, Bool, true, false, List, [], ◌∷◌, ◌++◌, replicate, refl, sym, ap, ap₂, ◌∙◌, arith, append_assoc}
+use Rattle.std.proofs.Common.{◌≡◌, ℕ, zero, suc, ◌+◌, ◌-◌, ◌<◌, ◌≤◌, ◌^◌, min, Bool, true, false, List, [], ◌∷◌, ◌++◌, Option, replicate, refl, sym, ap, ap₂, ◌∙◌, arith, append_assoc}
 use Rattle.std.proofs.lemmas.List.{append-nil, replicate-append-replicate}
+use Rattle.fifo_model.specs.declared.Queue.{Queue}
 use Rattle.fifo_model.specs.Queues.{more}
 use Rattle.machine_model.specs.declared.Did.{Did}
-use Rattle.machine_model.specs.declared.Did.TheVariants.{Still}
-use Rattle.machine_model.specs.Seen.{seen}
+use Rattle.machine_model.specs.declared.Did.TheVariants.{Still, Jumped, Synced, Passed, Begun, Dropped, Matched, Missed, Retired, Moved, GivenUp}
+use Rattle.machine_model.specs.declared.Seen.{Seen}
+use Rattle.machine_model.specs.Seen.{seen, taken}
 use Rattle.machine_model.specs.States.{State}
 use Rattle.machine_model.specs.Steps.{Step, Turn, run, step}
 use Rattle.machine_model.specs.Turns.{turn}
+use Rattle.dma_machine.specs.declared.Report.{Report}
+use Rattle.dma_machine.specs.Facts.{report_of}
+use Rattle.dma_machine.specs.Looks.{next_drop}
 use Rattle.dma_machine.specs.Stills.{is_still}
 use Rattle.dma_machine.proofs.Standing.{is_still-turns}
 use Rattle.dma_machine.proofs.StillSeen.{still_counts, still_seen}
-use Rattle.turn_trace.specs.Traces.{Tracing, after, after_all, is_quiet, is_still_did, line, lines, still_after, still_line, told_by, told_if, tracing}
+use Rattle.turn_trace.specs.Traces.{Tracing, after, after_all, is_quiet, is_still_did, line, lines, still_after, still_line, told_by, told_if, tracing, turn_words, words}
 
 pub after_all-run : (t : Tracing) (steps : List Step) → (after_all t steps).machine ≡ run t.machine steps
 after_all-run t [] = refl
@@ -62,9 +67,62 @@ still-after (suc count) m n still fits =
     ∙ still-after count (turn m) (more n 1) (still_stays m still) small
     ∙ ap (tracing (run (turn m) (replicate count Turn))) (more_more n count)
 
+-- one at least
+pub still-after-some : (count : ℕ) (t : Tracing) → 0 < count → is_still t.machine ≡ true →
+    after_all t (replicate count Turn) ≡ tracing (run t.machine (replicate count Turn)) (more t.still count)
+still-after-some zero t some still = absurd (omega (arith, some))
+still-after-some (suc count) t some still =
+    let small : more t.still 1 < 2 ^ 64 = omega arith in
+    ap (λ (did : Did). after_all (tracing (turn t.machine) (still_after (is_still_did did) t.still)) (replicate count Turn)) (still_seen t.machine still)
+    ∙ still-after count (turn t.machine) (more t.still 1) (still_stays t.machine still) small
+    ∙ ap (tracing (run (turn t.machine) (replicate count Turn))) (more_more t.still count)
+
+-- texts that are appended one after the other
+pub appended : (old middle new first later : List ℕ) → middle ≡ old ++ first → new ≡ middle ++ later → new ≡ old ++ (first ++ later)
+appended old middle new first later one two = two ∙ ap (λ (list : List ℕ). list ++ later) one ∙ append_assoc old first later
+
+-- what is seen of a turn that is told
+pub loud-did : (did : Did) → (did ≡ Still → ⊥) → is_still_did did ≡ false
+loud-did Still loud = absurd (loud refl)
+loud-did Jumped loud = refl
+loud-did Synced loud = refl
+loud-did Passed loud = refl
+loud-did Begun loud = refl
+loud-did Dropped loud = refl
+loud-did Matched loud = refl
+loud-did Missed loud = refl
+loud-did Retired loud = refl
+loud-did (Moved q) loud = refl
+loud-did (GivenUp q) loud = refl
+
+pub turned-words : (m : State) (r : Report) (s : Seen) (drops : Option Queue) (count : ℕ) → r ≡ report_of m → s ≡ seen m → drops ≡ next_drop m → count ≡ taken m →
+    turn_words r.turns s drops count ≡ words Turn m
+turned-words m r s drops count is saw drop took =
+    ap (λ (x : Report). turn_words x.turns s drops count) is
+    ∙ ap (λ (x : Seen). turn_words m.turns x drops count) saw
+    ∙ ap (λ (x : Option Queue). turn_words m.turns (seen m) x count) drop
+    ∙ ap (λ (x : ℕ). turn_words m.turns (seen m) (next_drop m) x) took
+
 -- turns that were taken of so many, and some more
-pub taken-more : (count left more_taken : ℕ) → more_taken ≤ left → left ≤ count →
-    replicate (count - left) Turn ++ replicate more_taken Turn ≡ replicate (count - (left - more_taken)) Turn
-taken-more count left more_taken some within =
-    let sum : count - left + more_taken ≡ count - (left - more_taken) = omega (arith, some, within) in
-    replicate-append-replicate (count - left) more_taken Turn ∙ ap (λ (n : ℕ). replicate n Turn) sum
+taken-more : (count before some after : ℕ) → before ≡ some + after → before ≤ count →
+    replicate (count - before) Turn ++ replicate some Turn ≡ replicate (count - after) Turn
+taken-more count before some after split within =
+    let sum : count - before + some ≡ count - after = omega (arith, split, within) in
+    replicate-append-replicate (count - before) some Turn ∙ ap (λ (n : ℕ). replicate n Turn) sum
+
+pub state-more : (t now new : Tracing) (count before some after : ℕ) → before ≡ some + after → before ≤ count →
+    now ≡ after_all t (replicate (count - before) Turn) → new ≡ after_all now (replicate some Turn) → new ≡ after_all t (replicate (count - after) Turn)
+state-more t now new count before some after split within first later =
+    later
+    ∙ ap (λ (x : Tracing). after_all x (replicate some Turn)) first
+    ∙ sym (after_all-append t (replicate (count - before) Turn) (replicate some Turn))
+    ∙ ap (after_all t) (taken-more count before some after split within)
+
+pub text-more : (t now : Tracing) (old middle new : List ℕ) (count before some after : ℕ) → before ≡ some + after → before ≤ count →
+    now ≡ after_all t (replicate (count - before) Turn) → middle ≡ old ++ lines t (replicate (count - before) Turn) → new ≡ middle ++ lines now (replicate some Turn) →
+    new ≡ old ++ lines t (replicate (count - after) Turn)
+text-more t now old middle new count before some after split within state first later =
+    appended old middle new (lines t (replicate (count - before) Turn)) (lines now (replicate some Turn)) first later
+    ∙ ap (λ (x : Tracing). old ++ (lines t (replicate (count - before) Turn) ++ lines x (replicate some Turn))) state
+    ∙ ap (λ (list : List ℕ). old ++ list) (sym (lines-append t (replicate (count - before) Turn) (replicate some Turn)))
+    ∙ ap (λ (steps : List Step). old ++ lines t steps) (taken-more count before some after split within)

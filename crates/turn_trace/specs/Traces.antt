@@ -91,21 +91,20 @@ did_words (Moved q) drops count = moved_words q count
 did_words (GivenUp q) drops count = given_up_words q count
 
 -- the words of the steps: those of a turn begin with the count of turns before it
-abbrev pub entry_words : Queue → Entry → Pushed → List ℕ
-entry_words q entry pushed =
-    codes "push " ++ (queue_name q ++ (codes " " ++ (status_name (kind_of entry.status) entry.status
-    ++ (at_text entry.dword ++ fate pushed))))
+abbrev pub entry_words : Queue → Entry → List ℕ
+entry_words q entry =
+    codes "push " ++ (queue_name q ++ (codes " " ++ (status_name (kind_of entry.status) entry.status ++ at_text entry.dword)))
 
-abbrev pub control_words : Code → Pushed → List ℕ
-control_words code pushed = codes "control " ++ (code_name code ++ fate pushed)
+abbrev pub control_words : Code → List ℕ
+control_words code = codes "control " ++ code_name code
 
 abbrev pub turn_words : ℕ → Seen → Option Queue → ℕ → List ℕ
 turn_words turns s drops count =
     codes "turn" ++ (count_text turns ++ (at_text s.at ++ (codes " " ++ did_words s.did drops count)))
 
 abbrev pub words : Step → State → List ℕ
-words (Push q entry) m = entry_words q entry (pushed_as q m)
-words (Control code) m = control_words code (control_pushed_as m)
+words (Push q entry) m = entry_words q entry ++ fate (pushed_as q m)
+words (Control code) m = control_words code ++ fate (control_pushed_as m)
 words (Host write) m = write_words write
 words Turn m = turn_words m.turns (seen m) (next_drop m) (taken m)
 

@@ -21,7 +21,7 @@ use risc_listing::{Lines, ROOM};
 use risc_word::Code;
 use std::marker::Model;
 use words::{
-    push_control_words, push_entry_words, push_numbers, push_still_line, push_turn_words,
+    fate, push_control_words, push_entry_words, push_numbers, push_still_line, push_turn_words,
     push_write_words,
 };
 
@@ -72,8 +72,9 @@ impl<R: Ram> Trace<R> {
         ensures long { array_string_len text.new ≤ array_string_len text.old + 157 }
     {
         self.end_still(text);
+        push_entry_words(text, queue, &entry);
         let pushed = self.machine.push(queue, entry);
-        push_entry_words(text, queue, entry, pushed);
+        text.push_str(fate(pushed));
         push_numbers(text, &self.machine);
     }
 
@@ -85,8 +86,9 @@ impl<R: Ram> Trace<R> {
         ensures long { array_string_len text.new ≤ array_string_len text.old + 157 }
     {
         self.end_still(text);
+        push_control_words(text, code);
         let pushed = self.machine.push_control(code);
-        push_control_words(text, code, pushed);
+        text.push_str(fate(pushed));
         push_numbers(text, &self.machine);
     }
 
@@ -127,7 +129,8 @@ impl<R: Ram> Trace<R> {
     /// Takes so many turns of a machine that stands still.
     #[inline]
     fn stand(&mut self, count: u32)
-        requires { is_still self.old.machine ≡ true }
+        requires still { is_still self.old.machine ≡ true }
+        requires some { 0 < count }
         ensures state { self.new ≡ after_all self.old (replicate count Turn) }
         ensures none { lines self.old (replicate count Turn) ≡ [] }
     {

@@ -48,8 +48,8 @@ fn push_status(text: &mut Lines, status: Status)
     }
 }
 
-// What became of a push.
-fn fate(pushed: Pushed) -> &'static str
+/// What became of a push.
+pub fn fate(pushed: Pushed) -> &'static str
     ensures name { result.now ≡ fate pushed }
     ensures long { length result.now ≤ 8 }
 {
@@ -62,29 +62,27 @@ fn fate(pushed: Pushed) -> &'static str
 
 /// Appends the words of a push of a data entry.
 #[inline(always)]
-pub fn push_entry_words(text: &mut Lines, queue: Queue, entry: Entry, pushed: Pushed)
-    requires { array_string_len text.old + 70 ≤ 65536 }
-    ensures bytes { text.new.bytes ≡ text.old.bytes ++ entry_words queue entry pushed }
-    ensures long { array_string_len text.new ≤ array_string_len text.old + 70 }
+pub fn push_entry_words(text: &mut Lines, queue: Queue, entry: &Entry)
+    requires { array_string_len text.old + 26 ≤ 65536 }
+    ensures bytes { text.new.bytes ≡ text.old.bytes ++ entry_words queue entry.now }
+    ensures long { array_string_len text.new ≤ array_string_len text.old + 26 }
 {
     text.push_str("push ");
     text.push_str(queue_name(queue));
     text.push_str(" ");
     push_status(text, entry.status);
     push_at(text, entry.dword);
-    text.push_str(fate(pushed));
 }
 
 /// Appends the words of a push of a control code.
 #[inline(always)]
-pub fn push_control_words(text: &mut Lines, code: Code, pushed: Pushed)
-    requires { array_string_len text.old + 70 ≤ 65536 }
-    ensures bytes { text.new.bytes ≡ text.old.bytes ++ control_words code pushed }
-    ensures long { array_string_len text.new ≤ array_string_len text.old + 70 }
+pub fn push_control_words(text: &mut Lines, code: Code)
+    requires { array_string_len text.old + 11 ≤ 65536 }
+    ensures bytes { text.new.bytes ≡ text.old.bytes ++ control_words code }
+    ensures long { array_string_len text.new ≤ array_string_len text.old + 11 }
 {
     text.push_str("control ");
     text.push_str(code_name(code));
-    text.push_str(fate(pushed));
 }
 
 fn bit_text(bit: bool) -> &'static str
@@ -92,6 +90,14 @@ fn bit_text(bit: bool) -> &'static str
     ensures long { length result.now ≡ 2 }
 {
     if bit { " 1" } else { " 0" }
+}
+
+// The trigger point of a packed number, in entries.
+fn trigger_point(number: u8) -> u16
+    requires { number < 4 }
+    ensures { result ≡ 4 * 2 ^ number }
+{
+    4 << number
 }
 
 /// Appends the words of a register write.
@@ -114,7 +120,7 @@ pub fn push_write_words(text: &mut Lines, write: HostWrite)
         }
         HostWrite::Trigger(number) => {
             text.push_str("trigger");
-            push_count(text, 4 << number);
+            push_count(text, trigger_point(number));
         }
     }
 }
