@@ -5,7 +5,7 @@ use Rattle.machine_model.specs.declared.Did.TheVariants.{Still, Jumped, Synced, 
 use Rattle.machine_model.specs.Seen.{seen}
 use Rattle.machine_model.specs.States.{State}
 use Rattle.machine_model.specs.Steps.{Step, Push, Control, Turn, Host, step}
-use Rattle.machine_model.specs.Turns.{counted, turn}
+use Rattle.machine_model.specs.Turns.{counted}
 use Rattle.dma_machine.specs.Counts.{with_turns}
 use Rattle.dma_machine.specs.Facts.{IsMachine}
 use Rattle.dma_machine.proofs.Counting.{turn-acted}

@@ -1,5 +1,5 @@
 -- The trace of a machine's steps: a line for each step, and one for turns of which nothing is seen.
-use Rattle.std.specs.Prelude.{ℕ, ◌+◌, ◌*◌, ◌^◌, Bool, true, false, List, [], ◌∷◌, ◌++◌, codes, length, Option, Some, None, if◌then◌else◌, ◌==◌}
+use Rattle.std.specs.Prelude.{ℕ, ◌*◌, ◌^◌, Bool, true, false, List, [], ◌∷◌, ◌++◌, codes, length, Option, Some, None, if◌then◌else◌, ◌==◌}
 use Rattle.std.specs.Fmt.{digits}
 use Rattle.risc_word.specs.declared.Code.{Code}
 use Rattle.sync_status.specs.declared.StatusKind.{StatusKind}

@@ -1,12 +1,11 @@
 use Rattle.std.proofs.Common.{◌≡◌, ℕ, false, List, ◌++◌, ap, sym, ◌∙◌, arith}
-use Rattle.machine_model.specs.declared.Did.TheVariants.{Still}
 use Rattle.machine_model.specs.declared.Seen.{Seen}
 use Rattle.machine_model.specs.Seen.{seen}
 use Rattle.machine_model.specs.States.{State}
 use Rattle.machine_model.specs.Steps.{Turn}
 use Rattle.machine_model.specs.Turns.{turn}
 use Rattle.risc_listing.specs.Lines.{line_end}
-use Rattle.turn_trace.specs.Traces.{Tracing, is_still_did, last_line, numbers, still_line, tracing, words}
+use Rattle.turn_trace.specs.Traces.{Tracing, is_still_did, numbers, still_line, tracing, words}
 use Rattle.turn_trace.proofs.Tracings.{appended, loud-did, told-after, told-one, turned-words}
 use Rattle.turn_trace.proofs.Trace.turn.Goals as goal
 
