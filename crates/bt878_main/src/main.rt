@@ -1,7 +1,7 @@
 //! bt878: compiles, lists, assembles, verifies and runs the RISC capture programs of the Bt878 on recorded streams.
 #![tactic(auto)]
 
-use bt878_top::bt878;
+use bt878_top::exit_status;
 use capture_desk::OsDesk;
 use std::process::ExitCode;
 use std::{env, io};
@@ -30,8 +30,7 @@ fn status(rt: &HostRuntime) -> Result<u8, u8> {
             return Err(NO_MEMORY);
         }
     }
-    let mut desk = OsDesk::new(rt);
-    Ok(bt878(rt.alloc(), &texts, &mut desk).status())
+    Ok(exit_status(rt.alloc(), &texts, &mut OsDesk::new(rt)))
 }
 
 fn main(rt: HostRuntime) -> ExitCode {

@@ -2,3 +2,4 @@ pub mod Ending
 pub mod Products
 pub mod Playing
 mod Saying
+mod Statuses

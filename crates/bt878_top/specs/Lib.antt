@@ -1,4 +1,5 @@
 pub mod Contents
 pub mod Rings
 pub mod Products
+pub mod Statuses
 pub mod Damage

@@ -9,7 +9,9 @@ mod machines;
 mod produced;
 mod programs;
 mod runs;
+mod status;
 mod traces;
 
 pub use call::bt878;
 pub use command_texts::Answer;
+pub use status::exit_status;
