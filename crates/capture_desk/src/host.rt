@@ -27,13 +27,15 @@ pub trait Host {
     ghost label: { Self.Output → Option (List ℕ) } = { λ _. None };
 
     /// Opens the file of this name at its beginning.
-    fn open(&self, name: &str) -> io::Result<Self::Input>
-        ensures opens { OpensFile name.now (store self.now) rest result };
+    fn open(&mut self, name: &str) -> io::Result<Self::Input>
+        ensures opens { OpensFile name.now (store self.old) rest result }
+        ensures keeps { store self.new ≡ store self.old };
 
     /// Moves the next bytes of a file into the front of `buf`, and answers how many. Zero is the end.
-    fn read(&self, file: &mut Self::Input, buf: &mut [u8]) -> io::Result<usize>
+    fn read(&mut self, file: &mut Self::Input, buf: &mut [u8]) -> io::Result<usize>
         requires room { 0 < length buf.old }
-        ensures reads { ReadsFile buf.old buf.new result (rest file.old) (rest file.new) };
+        ensures reads { ReadsFile buf.old buf.new result (rest file.old) (rest file.new) }
+        ensures keeps { store self.new ≡ store self.old };
 
     /// Makes an empty file of this name, in place of an old one.
     fn create(&mut self, name: &str) -> io::Result<Self::Output>
@@ -61,11 +63,11 @@ impl<R: Files + Print> Host for &R {
 
     type Output = R::File;
 
-    fn open(&self, name: &str) -> io::Result<R::File> {
+    fn open(&mut self, name: &str) -> io::Result<R::File> {
         fs::open(*self, name)
     }
 
-    fn read(&self, file: &mut R::File, buf: &mut [u8]) -> io::Result<usize>
+    fn read(&mut self, file: &mut R::File, buf: &mut [u8]) -> io::Result<usize>
         requires room { 0 < length buf.old }
         ensures reads { ReadsFile buf.old buf.new result None None }
         ensures consumes { ReadConsumes (R.File.remaining file.old) (R.File.remaining file.new) result buf.new }
