@@ -28,6 +28,7 @@ from bt878.description import Description
 from bt878.formats import JUMP, image, one_span, program, read_program
 from bt878.machine import Machine, Program
 from bt878.places import CRATE, EXAMPLES, TOP
+from bt878.trace import first_difference, trace
 
 
 LATER = {  # commands that an older program doesn't know: words, what is said, and the outputs
@@ -101,6 +102,34 @@ def check_machine(check):
             machine.play(broken.RIGHT.stream())
             check.same("machine.py, report, " + bug.name, machine.report(), report(33664, bug.moved, 0, bug.status))
             check.same("machine.py, image, " + bug.name, image(machine.memory) == broken.RIGHT.image(), bug.same_image)
+
+
+def check_traces(check):
+    """What `trace` prints is what the plain machine did: bursts, a host that stops, a ring, a loop of several spans."""
+    for name, stream in [*REPORTS, ("ring", "ring")]:
+        plain = Program(*read_program(check.read(f"{EXAMPLES}/{name}.brp")))
+        wanted = trace(plain, check.read(f"{EXAMPLES}/{stream}.bfs"))
+        check.same(f"trace of {name} on {stream}", check.says("trace", f"@{name}.brp", f"@{stream}.bfs"), wanted)
+    ours = wanted.splitlines()
+    theirs = [line.replace(" 00000000 ", " 00004000 ") if number == 9 else line for number, line in enumerate(ours)]
+    check.write("theirs", "\n".join(theirs).encode())
+    words = ["emulator.py", "--bin", check.binary, f"{EXAMPLES}/ring.brp", f"{EXAMPLES}/ring.bfs", "theirs"]
+    found = subprocess.run([sys.executable, os.path.join(TOP, "tools", words[0]), *words[1:]], cwd=check.folder, capture_output=True)
+    check.same("emulator.py, a bit too many", found.stdout.decode(), first_difference(ours, theirs))
+    check.same("emulator.py, its line", "line 10 differs\n" in found.stdout.decode(), True)
+    check.same("emulator.py, status", found.returncode, 1)
+
+
+def check_install(check):
+    """install.sh puts three files under a prefix, and takes them away."""
+    prefix, script = os.path.join(check.folder, "a prefix"), os.path.join(TOP, "tools", "install.sh")
+    subprocess.run([script, prefix, check.binary], check=True, capture_output=True)
+    installed = subprocess.run([os.path.join(prefix, "bin/bt878"), "--version"], capture_output=True)
+    check.same("installed program", installed.stdout.decode(), "bt878 0.1.0\n")
+    for name, source in (("share/man/man1/bt878.1", "docs/bt878.1"), ("share/bash-completion/completions/bt878", "tools/bt878.bash")):
+        check.same(name, check.read(os.path.join(prefix, name)), check.read(os.path.join(TOP, source)))
+    subprocess.run([script, "--uninstall", prefix], check=True, capture_output=True)
+    check.same("uninstalled", [names for _, _, names in os.walk(prefix) if names], [])
 
 
 def check_lay_out(check):
@@ -245,7 +274,7 @@ def check_pages(check):
 
 
 PARTS = [
-    check_files, check_runs, check_machine, check_lay_out, check_later, check_compiled, check_descriptions,
+    check_files, check_runs, check_machine, check_traces, check_install, check_lay_out, check_later, check_compiled, check_descriptions,
     check_differences, check_shown, check_bugs, check_pictures, check_pages,
 ]  # fmt: skip
 
