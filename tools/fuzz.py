@@ -29,6 +29,7 @@ from bt878.formats import (
     listing, memory_of, program, read_program,
 )  # fmt: skip
 from bt878.machine import CODES, Machine, Program
+from bt878.trace import Trace
 from bt878.paint import filled, paint, paint_field
 from bt878.program_faults import program_fault
 
@@ -144,13 +145,15 @@ def compare(tool, drawn, draw):
     tool.run("assemble", "text", "again")
     differences += [] if tool.read("again") == data else ["assembled " + text]
     for form in (b"BFS1", b"BFS2") if wanted == "accepted\n" else ():
-        machine, stream = Machine(drawn), drawn_stream(draw, form)
+        machine, stream = Trace(drawn), drawn_stream(draw, form)
         machine.play(stream)
         tool.write("stream", stream)
         tool.write("image", b"")
         said = tool.says("run", "program", "stream", "image")
         if said != machine.report() or tool.read("image") != image(machine.memory):
             differences.append(machine.report())
+        if tool.says("trace", "program", "stream") != machine.text():
+            differences.append(machine.text())
     return wanted == "accepted\n", differences + compare_changed(tool, data, text, draw)
 
 
