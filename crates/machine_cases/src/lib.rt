@@ -1,5 +1,5 @@
-//! Tests of the machine and of what it stands on, of machines that are watched, of chains of slots and of double buffers, called as
-//! their users call them: worked words, queues, memories, programs and streams.
+//! Tests of the machine and of what it stands on, of machines that are watched or traced, of chains of slots and of double
+//! buffers, called as their users call them: worked words, queues, memories, programs and streams.
 #![tactic(auto)]
 
 #[cfg(test)]
@@ -20,6 +20,8 @@ mod scatters;
 mod slots;
 #[cfg(test)]
 mod statuses;
+#[cfg(test)]
+mod traces;
 #[cfg(test)]
 mod watched;
 #[cfg(test)]
