@@ -1,12 +1,19 @@
 -- What a reader that used all bytes says of them is so of the stream.
-use Rattle.std.proofs.Common.{◌≡◌, ℕ, false, List, [], ◌++◌, length, Result, Ok, Err, refl, sym, ap, subst, ◌∙◌}
+use Rattle.std.proofs.Common.{◌≡◌, ℕ, ◌≤◌, false, List, [], ◌∷◌, ◌++◌, length, Result, Ok, Err, refl, sym, ap, subst, ◌∙◌, arith, append_assoc}
 use Rattle.std.specs.Prelude.{MatchResult}
-use Rattle.std.proofs.lemmas.List.{append-nil}
 use Rattle.capture_file.specs.declared.FileFault.{FileFault}
 use Rattle.capture_file.specs.declared.Step.{Step}
+use Rattle.capture_file.specs.declared.reader.Got.{Got}
+use Rattle.capture_file.specs.declared.reader.Got.TheVariants as got
 use Rattle.capture_file.specs.Streams.{Bad, Reading, reading, steps_of, stream_of, whole_file}
-use Rattle.capture_file.specs.Readers.{Closed, Failed, Opening, Phase, PlacedAt, Reader, Records, behind, closed_by, ending_in, resumed}
+use Rattle.capture_file.specs.Readers.{Closed, Failed, Opening, Phase, PlacedAt, Reader, Records, Uses, after_answer, behind, closed_by, ending_in, resumed}
 use Rattle.kept_stream.specs.Kept.{HoldsKept, longest_kept}
+
+pub uses_within : (found : Got) (used count : ℕ) → Uses found used count → used ≤ count
+uses_within (got.Step s) used count h = h.1
+uses_within got.End used count h = h.1
+uses_within got.More used count h = omega (arith, h)
+uses_within (got.Bad fault) used count h = h
 
 module _ (bytes : List ℕ) where
   abbrev whole : Reading
@@ -19,6 +26,17 @@ module _ (bytes : List ℕ) where
   pub met_fault : (fault : FileFault) (steps : List Step) (rest : Reading) → whole ≡ behind steps rest → rest ≡ reading [] (Bad fault) → steps_of longest_kept false bytes ≡ Err fault
   met_fault fault steps rest is ends =
       ap (λ (r : Reading). whole_file (length bytes) r.steps r.ending) (is ∙ ap (behind steps) ends)
+
+  -- an answer that isn't a fault
+  pub answered : (found : Got) (steps : List Step) (rest left : Reading) → whole ≡ behind steps rest → rest ≡ after_answer found left → ((fault : FileFault) → found ≡ got.Bad fault → ⊥) →
+      (later : List Step) × (whole ≡ behind later left)
+  answered (got.Step s) steps rest left is answers good = (
+    steps ++ s ∷ [],
+    is ∙ ap (behind steps) answers ∙ ap (λ list. reading list left.ending) (sym (append_assoc steps (s ∷ []) left.steps)),
+  )
+  answered got.End steps rest left is answers good = (steps, is ∙ ap (behind steps) answers)
+  answered got.More steps rest left is answers good = (steps, is ∙ ap (behind steps) answers)
+  answered (got.Bad fault) steps rest left is answers good = absurd (good fault refl)
 
   -- all bytes were used
   ended : (phase : Phase) (place : ℕ) (steps : List Step) → whole ≡ behind steps (reading [] (ending_in phase)) → PlacedAt phase place (length bytes) → IsAnswer (closed_by place (ending_in phase))
