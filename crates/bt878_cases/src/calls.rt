@@ -8,12 +8,16 @@ ghost use Rattle.capture_desk.specs.Memory.{all_told};
 
 use crate::desks::{Limits, desk_of};
 use crate::left::Left;
+use crate::runtime::{Disk, Runtime};
 use bt878_top::bt878;
-use capture_desk::{Desk, MemDesk};
+use capture_desk::{Desk, MemDesk, OsDesk};
 use std::alloc::{AllocError, Global};
 
 /// The most bytes that a call moves where that is not what is tested.
 pub const LONG: usize = 65536;
+
+/// No status of the program: the desk over a system did otherwise than that over memory.
+const UNLIKE: u8 = 255;
 
 /// The status with which the program ends.
 pub fn status_of<D: Desk>(alloc: Global, words: &[&str], desk: &mut D) -> u8
@@ -24,7 +28,14 @@ pub fn status_of<D: Desk>(alloc: Global, words: &[&str], desk: &mut D) -> u8
     bt878(alloc, words, desk).status()
 }
 
-/// What the program leaves of a desk with its inputs, of these contents, and its outputs.
+/// The status with which the program ends over a system in memory, by the desk that it ships with.
+fn repeated(alloc: Global, words: &[&str], disk: &Disk) -> u8 {
+    let runtime = Runtime::new(disk);
+    status_of(alloc, words, &mut OsDesk::new(&runtime))
+}
+
+/// What the program leaves of a desk with its inputs, of these contents, and its outputs. Over a system in
+/// memory it has to leave the same, unless the first call that fails is a late one.
 pub fn left_by(
     alloc: Global,
     words: &[&str],
@@ -38,6 +49,12 @@ pub fn left_by(
 {
     let mut desk = desk_of(alloc, inputs, contents, outputs, limits)?;
     let status = status_of(alloc, words, &mut desk);
+    let disk = Disk::new(alloc, inputs, contents, limits);
+    if limits.fail_early() {
+        let same = repeated(alloc, words, &disk) == status && disk.is_as(&desk, outputs);
+        let status = if same { status } else { UNLIKE };
+        return Ok(Left { status, desk });
+    }
     Ok(Left { status, desk })
 }
 

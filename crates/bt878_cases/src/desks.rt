@@ -1,5 +1,5 @@
 // Desks in memory with the files of a command.
-ghost use Rattle.std.specs.Prelude.{◌≡◌, [], ◌∷◌, ◌++◌, IfOk, Some};
+ghost use Rattle.std.specs.Prelude.{◌≡◌, ◌≤◌, [], ◌∷◌, ◌++◌, IfOk, Some};
 ghost use Rattle.bt878_words.specs.Words.{texts};
 ghost use Rattle.capture_desk.specs.Memory.{all_told};
 
@@ -71,6 +71,9 @@ fn files(
     Ok(files)
 }
 
+/// A call of a higher number than those of all commands whose calls move many bytes.
+const LATE: u64 = 100;
+
 /// The limits of a desk: its calls with the numbers in `failing` fail, a call moves at most
 /// `longest` bytes, and an output takes at most `room` bytes.
 #[derive(Clone, Copy)]
@@ -87,6 +90,28 @@ impl<'a> Limits<'a> {
             longest,
             room,
         }
+    }
+
+    /// Whether the first call that fails, if any, is an early one.
+    pub fn fail_early(&self) -> bool {
+        self.failing.first().is_none_or(|first| *first < LATE)
+    }
+
+    /// Whether the call of this number fails.
+    pub fn fails(&self, number: u64) -> bool {
+        self.failing.contains(&number)
+    }
+
+    /// The most bytes that a call moves.
+    pub fn longest(&self) -> usize
+        ensures { 1 ≤ result }
+    {
+        self.longest.max(1)
+    }
+
+    /// The most bytes that an output takes.
+    pub fn room(&self) -> usize {
+        self.room
     }
 }
 
@@ -107,7 +132,7 @@ pub fn desk_of(
     let opens = list_of(alloc, inputs)?;
     let creates = list_of(alloc, outputs)?;
     let failing = Vec::from_slice(alloc, limits.failing)?;
-    let longest = limits.longest.max(1);
+    let longest = limits.longest();
     MemDesk::new(alloc, files, opens, creates, failing, longest, limits.room)
 }
 

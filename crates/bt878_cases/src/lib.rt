@@ -24,6 +24,8 @@ mod order;
 #[cfg(test)]
 mod painting;
 #[cfg(test)]
+mod runtime;
+#[cfg(test)]
 mod shown;
 #[cfg(test)]
 mod tests;
