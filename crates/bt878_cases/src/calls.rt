@@ -35,7 +35,7 @@ fn repeated(alloc: Global, words: &[&str], disk: &Disk) -> u8 {
 }
 
 /// What the program leaves of a desk with its inputs, of these contents, and its outputs. Over a system in
-/// memory it has to leave the same, unless the first call that fails is a late one.
+/// memory it has to leave the same; that is tried where the calls are few.
 pub fn left_by(
     alloc: Global,
     words: &[&str],
@@ -48,12 +48,11 @@ pub fn left_by(
     requires creates { AreNames (names_written (task_of words.now)) (Some (texts outputs.now)) }
 {
     let mut desk = desk_of(alloc, inputs, contents, outputs, limits)?;
-    let status = status_of(alloc, words, &mut desk);
+    let mut status = status_of(alloc, words, &mut desk);
     let disk = Disk::new(alloc, inputs, contents, limits);
-    if limits.fail_early() {
+    if limits.are_brief() {
         let same = repeated(alloc, words, &disk) == status && disk.is_as(&desk, outputs);
-        let status = if same { status } else { UNLIKE };
-        return Ok(Left { status, desk });
+        status = if same { status } else { UNLIKE };
     }
     Ok(Left { status, desk })
 }

@@ -92,9 +92,9 @@ impl<'a> Limits<'a> {
         }
     }
 
-    /// Whether the first call that fails, if any, is an early one.
-    pub fn fail_early(&self) -> bool {
-        self.failing.first().is_none_or(|first| *first < LATE)
+    /// Whether a command makes few calls: they move many bytes, or an early one fails.
+    pub fn are_brief(&self) -> bool {
+        self.longest > 1 || self.failing.first().is_some_and(|first| *first < LATE)
     }
 
     /// Whether the call of this number fails.
