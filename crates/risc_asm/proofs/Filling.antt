@@ -2,7 +2,7 @@
 use Rattle.std.proofs.Common.{◌≡◌, ℕ, zero, suc, ◌+◌, ◌^◌, ◌<◌, ◌≤◌, Bool, true, false, List, [], ◌∷◌, ◌++◌, length, get_or, Option, Some, Ok, Err, refl, sym, ap, arith, lt-ltb, le-leb}
 use Rattle.std.specs.Prelude.{IfOk, Result, nat_le, nat_lt}
 use Rattle.std.proofs.lemmas.Bool.{lt-leb, le-ltb}
-use Rattle.machine_model.specs.Paths.{RiscProgram, Span, span}
+use Rattle.machine_model.specs.Paths.{Span, span}
 use Rattle.risc_verify.specs.Places.{with_word}
 use Rattle.risc_text.proofs.Spelling.{some_is}
 use Rattle.risc_text.specs.Assembly.{completed, filled, of_one_by, of_spans, other_word, some_words, with_entry}

@@ -10,7 +10,7 @@ use Rattle.machine_model.specs.Paths.{begins_at, begins_at_base, IsProgram, Risc
 use Rattle.risc_listing.specs.Listings.{fill_line, listing, span_lines}
 use Rattle.risc_text.specs.Drafts.{Draft, blank, draft_by, draft_of, drafted, gathered}
 use Rattle.risc_text.specs.Assembly.{BeginsListing, IsListed, IsListing, are_lines, completed, filled, of_one_by, with_entry}
-use Rattle.risc_text.proofs.Cutting.{Starts, begun_starts, listing_begins, starts_begun, trunk_and_last}
+use Rattle.risc_text.proofs.Cutting.{Starts, begun_starts, starts_begun, trunk_and_last}
 use Rattle.risc_text.proofs.Gathering.{draft_fill, listed_pairs, listing_is_read, spans_are_read, trunk_is_read}
 use Rattle.risc_text.proofs.Spelling.{some_is, none_some}
 use Rattle.risc_asm.specs.Programs.{meant}

@@ -7,6 +7,7 @@ pub mod Filling
 pub mod Judging
 pub mod Searching
 pub mod OneAnswer
+pub mod Lengths
 pub mod NoFields
 pub mod Agreeing
 pub mod DigitTable

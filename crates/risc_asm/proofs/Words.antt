@@ -1,8 +1,8 @@
 -- Words that go into the last span.
-use Rattle.std.proofs.Common.{◌≡◌, ℕ, suc, ◌<◌, List, [], ◌∷◌, ◌++◌, length, refl, ap, ◌∙◌, arith}
+use Rattle.std.proofs.Common.{◌≡◌, ℕ, List, [], ◌∷◌, refl, ap, ◌∙◌}
 use Rattle.machine_model.specs.Paths.{Span}
 use Rattle.risc_verify.specs.Places.{with_word}
-use Rattle.risc_text.specs.Drafts.{Draft, longer, with_words}
+use Rattle.risc_text.specs.Drafts.{longer}
 use Rattle.risc_text.proofs.Gathering.{longer-both}
 
 with_word-longer : (spans : List Span) (word : ℕ) → with_word spans word ≡ longer spans (word ∷ [])

@@ -1,7 +1,9 @@
 -- What `assemble` answers.
 use Rattle.std.specs.Prelude.{◌≡◌, ℕ, ◌+◌, ◌≤◌, ◌<◌, List, ◌++◌, length, take, Result, Ok, Err, true}
 use Rattle.capture_file.specs.declared.program.ProgramFile.{ProgramFile}
-use Rattle.risc_text.specs.Assembly.{Assembles, BeginsListing, EndsShort, IsWrongLine, LineAtFault, are_lines, line_count}
+use Rattle.machine_model.specs.Paths.{RiscProgram}
+use Rattle.risc_listing.specs.Listings.{listing}
+use Rattle.risc_text.specs.Assembly.{Assembles, BeginsListing, EndsShort, IsListed, IsWrongLine, LineAtFault, are_lines, line_count}
 use Rattle.risc_asm.specs.declared.AsmError.{AsmError}
 use Rattle.risc_asm.specs.declared.AsmError.TheVariants.{Bad, Memory}
 use Rattle.risc_asm.specs.declared.AsmFault.{AsmFault}
@@ -51,3 +53,12 @@ IsTold (Err Memory) = ⊥
 abbrev pub OneAnswerFits : Type 0
 OneAnswerFits = (text : List ℕ) (first second : Result ProgramFile AsmError) → Answers text first → Answers text second → IsTold first → IsTold second →
     first ≡ second
+
+-- no listing has more bytes than a text that is assembled
+abbrev pub ListingsAreShort : Type 0
+ListingsAreShort = (program : RiscProgram) (fill : ℕ) → IsListed program fill → length (listing program fill) ≤ most_bytes
+
+-- so a listing is assembled to the program and the fill that it is of
+abbrev pub ListingsAreAssembled : Type 0
+ListingsAreAssembled = (program : RiscProgram) (fill : ℕ) (answer : Result ProgramFile AsmError) → IsListed program fill → Answers (listing program fill) answer → IsTold answer →
+    answer ≡ Ok (record { program = program; fill = fill })

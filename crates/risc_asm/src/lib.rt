@@ -1,7 +1,7 @@
 //! The assembler: the text of a listing is read back to its program.
 #![tactic(auto)]
 
-ghost use Rattle.risc_asm.specs.Answers.{Answers, OneAnswerFits};
+ghost use Rattle.risc_asm.specs.Answers.{Answers, ListingsAreAssembled, ListingsAreShort, OneAnswerFits};
 ghost use Rattle.risc_asm.specs.declared.AsmError.TheVariants.{Memory};
 ghost use Rattle.std.specs.Prelude.{◌≡◌};
 
@@ -83,4 +83,11 @@ pub fn assemble(alloc: Global, text: &[u8]) -> Result<ProgramFile, AsmError>
 /// nothing; its contract is the law.
 pub fn one_answer_fits_a_text()
     ensures { OneAnswerFits }
+{}
+
+/// No listing has more bytes than a text that is assembled, so any answer for a listing but want of memory is the program
+/// and the fill that it is of. The function does nothing; its contract is the law.
+pub fn every_listing_is_assembled()
+    ensures short { ListingsAreShort }
+    ensures assembled { ListingsAreAssembled }
 {}
