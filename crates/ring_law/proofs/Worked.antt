@@ -12,7 +12,7 @@ use Rattle.fifo_model.specs.declared.Queue.TheVariants.{One, Three, Two}
 use Rattle.fifo_model.specs.declared.Queue.{Queue}
 use Rattle.machine_model.specs.Steps.{Turn}
 use Rattle.fifo_model.specs.Queues.{control_entry, queue_state}
-use Rattle.ring_law.specs.Worked.{early, run_steps, two_whole, waiting}
+use Rattle.ring_law.specs.Worked.{early, run_steps, three_early, three_steps, three_whole, two_whole, waiting}
 use Rattle.field_law.specs.Worked.{entry}
 use Rattle.ring_model.specs.Worked.{two_lines}
 use Rattle.ring_law.specs.RingRuns.{IsRingRun, IsUnfinished, left_on, tokens_on}
@@ -121,5 +121,86 @@ ends_second_block =
       later = omega arith;
       there = omega arith;
       runs = run_is;
+      ends = refl;
+    }
+
+-- ---- the first block is filled a second time
+
+abbrev three_entries : Queue → List Entry
+three_entries One = control_entry Fm1 ∷ entry 2 0x13121110 ∷ entry 1 0x17161514 ∷ entry 2 0x23222120 ∷ entry 1 0x27262524 ∷ entry 2 0x33323130 ∷ entry 1 0x37363534 ∷ []
+three_entries Two = control_entry Fm1 ∷ []
+three_entries Three = control_entry Fm1 ∷ []
+
+three_order : (q : Queue) → (queue_state q waiting.queues).entries ++ pushed_in (three_early ++ Turn ∷ []) q ≡ before q ++ (three_entries q ++ left_on [] q)
+three_order One = refl
+three_order Two = refl
+three_order Three = refl
+
+three_brings : (q : Queue) → Brings (tokens_on three_whole q) (three_entries q)
+three_brings One = (
+  control_entry Fm1,
+  entry 2 0x13121110 ∷ entry 1 0x17161514 ∷ entry 2 0x23222120 ∷ entry 1 0x27262524 ∷ entry 2 0x33323130 ∷ entry 1 0x37363534 ∷ [],
+  refl,
+  refl,
+  (
+    entry 2 0x13121110 ∷ entry 1 0x17161514 ∷ [],
+    entry 2 0x23222120 ∷ entry 1 0x27262524 ∷ entry 2 0x33323130 ∷ entry 1 0x37363534 ∷ [],
+    refl,
+    record { shape = refl; valid = refl },
+    (
+      entry 2 0x23222120 ∷ entry 1 0x27262524 ∷ [],
+      entry 2 0x33323130 ∷ entry 1 0x37363534 ∷ [],
+      refl,
+      record { shape = refl; valid = refl },
+      (entry 2 0x33323130 ∷ entry 1 0x37363534 ∷ [], [], refl, record { shape = refl; valid = refl }, refl),
+    ),
+  ),
+)
+three_brings Two = (control_entry Fm1, [], refl, refl, refl)
+three_brings Three = (control_entry Fm1, [], refl, refl, refl)
+
+nothing_unfinished : IsUnfinished 8 []
+nothing_unfinished =
+    record {
+      missing = entry 2 0x43424140 ∷ entry 1 0x47464544 ∷ [];
+      some = omega arith;
+      line = 0x40 ∷ 0x41 ∷ 0x42 ∷ 0x43 ∷ 0x44 ∷ 0x45 ∷ 0x46 ∷ 0x47 ∷ [];
+      is = record { shape = refl; valid = refl };
+      long = refl;
+    }
+
+three_kept : AreKept waiting (meeting waiting.program (three_early ++ Turn ∷ []))
+three_kept = (refl, (refl, (refl, (refl, (refl, (refl, (refl, (refl, (tt, (tt, (tt, (tt, (tt, (tt, (tt, (tt, (tt, (tt, (tt, (tt, (tt, (tt, (tt, tt)))))))))))))))))))))))
+
+three_run : IsRingRun two_lines three_whole waiting (three_early ++ Turn ∷ [])
+three_run =
+    record {
+      program = refl;
+      fifo_on = refl;
+      risc_on = refl;
+      waits = refl;
+      there = refl;
+      kept = three_kept;
+      before = before;
+      entries = three_entries;
+      unfinished = [];
+      order = three_order;
+      unmarked = unmarked;
+      brings = three_brings;
+      long = All-from_recursion IsLong three_whole (refl, (refl, (refl, tt)));
+      last = nothing_unfinished;
+    }
+
+three_made : All IsStep three_steps
+three_made = All-from_recursion IsStep three_steps (tt, (refl, (tt, (refl, (refl, (refl, (refl, (refl, (refl, (tt, (tt, (tt, (tt, (tt, (tt, (tt, (tt, (tt, (tt, (tt, (tt, (tt, (tt, (tt, tt))))))))))))))))))))))))
+
+pub ends_first_block_again : EndsBlockAt two_lines three_whole three_steps 1 23 0
+ends_first_block_again =
+    record {
+      ring = ring_is;
+      made = three_made;
+      later = omega arith;
+      there = omega arith;
+      runs = three_run;
       ends = refl;
     }

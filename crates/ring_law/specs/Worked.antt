@@ -1,4 +1,4 @@
--- A ring run of two block ends, whose third line is unfinished, behind an entry that comes before FM1.
+-- Ring runs behind an entry that comes before FM1: one of two block ends, whose third line is unfinished, and one of three.
 use Rattle.std.specs.Prelude.{List, [], replicate, ℕ, ◌++◌, ◌∷◌}
 use Rattle.machine_model.specs.Steps.{Control, Push, Step, Turn, run}
 use Rattle.risc_word.specs.declared.Code.TheVariants.{Fm1}
@@ -25,3 +25,13 @@ two_whole = (0x10 ∷ 0x11 ∷ 0x12 ∷ 0x13 ∷ 0x14 ∷ 0x15 ∷ 0x16 ∷ 0x17
 -- the run from the first state, of which this is the part from place 1 on
 abbrev pub run_steps : List Step
 run_steps = Turn ∷ early ++ Turn ∷ []
+
+-- the third line comes whole as well: after a turn for the JUMP its four turns fill the first block a second time
+abbrev pub three_early : List Step
+three_early = brought_steps ++ Push One (entry 1 0x37363534) ∷ replicate 14 Turn
+
+abbrev pub three_whole : List (List ℕ)
+three_whole = two_whole ++ (0x30 ∷ 0x31 ∷ 0x32 ∷ 0x33 ∷ 0x34 ∷ 0x35 ∷ 0x36 ∷ 0x37 ∷ []) ∷ []
+
+abbrev pub three_steps : List Step
+three_steps = Turn ∷ three_early ++ Turn ∷ []

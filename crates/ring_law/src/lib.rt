@@ -3,9 +3,11 @@
 //! are the laws.
 #![tactic(auto)]
 
+ghost use Rattle.std.specs.Prelude.{◌≡◌, ◌∷◌, [], Some};
 ghost use Rattle.ring_law.specs.Laws.{RingsShowTheirBlocks, RingsShowNoFault};
 ghost use Rattle.ring_law.specs.Runs.{EndsBlockAt, RunShowsBlocks, RunShowsNoFault, TurnsSeenEndBlocks, BlocksSeenAreEnded};
-ghost use Rattle.ring_law.specs.Worked.{two_whole, run_steps};
+ghost use Rattle.ring_law.specs.RingRuns.{held};
+ghost use Rattle.ring_law.specs.Worked.{run_steps, three_steps, three_whole, two_whole};
 ghost use Rattle.ring_model.specs.Worked.{two_lines};
 
 /// After each block end of a ring run RISCI is set and the RISC status is the block's number, which is the number of the
@@ -34,7 +36,10 @@ pub fn block_ends_are_seen()
 {}
 
 /// The premises of these laws can be met: a run of two block ends does, behind an entry that comes before FM1, with a third
-/// line of which the end is still to come.
+/// line of which the end is still to come. With that end it goes on to a third block end: the first block is filled a
+/// second time, and holds the third line.
 pub fn worked_ring_run_ends_its_blocks()
-    ensures { EndsBlockAt two_lines two_whole run_steps 1 17 1 }
+    ensures twice { EndsBlockAt two_lines two_whole run_steps 1 17 1 }
+    ensures again { EndsBlockAt two_lines three_whole three_steps 1 23 0 }
+    ensures filled { held two_lines three_whole 0 3 ≡ Some (0x30 ∷ 0x31 ∷ 0x32 ∷ 0x33 ∷ 0x34 ∷ 0x35 ∷ 0x36 ∷ 0x37 ∷ []) }
 {}

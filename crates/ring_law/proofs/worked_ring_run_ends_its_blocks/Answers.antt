@@ -1,5 +1,12 @@
-use Rattle.ring_law.proofs.Worked.{ends_second_block}
+use Rattle.std.proofs.Common.{refl}
+use Rattle.ring_law.proofs.Worked.{ends_first_block_again, ends_second_block}
 use Rattle.ring_law.proofs.worked_ring_run_ends_its_blocks.Goals as goal
 
-pub returns : goal.returns
-returns c = ends_second_block
+pub returns-clause-twice : goal.returns-clause-twice
+returns-clause-twice c = ends_second_block
+
+pub returns-clause-again : goal.returns-clause-again
+returns-clause-again c = ends_first_block_again
+
+pub returns-clause-filled : goal.returns-clause-filled
+returns-clause-filled c = refl
