@@ -8,3 +8,5 @@ pub mod StoredTakes
 pub mod LineBytes
 pub mod PlacedTakes
 pub mod Pieces
+pub mod EnteredRows
+mod Worked

@@ -500,7 +500,12 @@ pub takes_in_order : TakesInOrder
 takes_in_order q m steps orderly are_steps =
     from_weaker (stream q m steps) 0 0 0 (queue_state q m.queues).taken (takings q 0 m steps) (omega arith, λ same. omega arith) (in_order (stream q m steps) q steps m 0 orderly are_steps refl)
 
+-- so are those of some instructions
+pub some_in_order : (q : Queue) (m : State) (steps : List Step) (addresses : List ℕ) → IsOrderly m → All IsStep steps → AreInOrder (entry_at (stream q m steps)) 0 0 (takings_at addresses q m steps)
+some_in_order q m steps addresses orderly are_steps =
+    filtered (stream q m steps) (λ t. is_among addresses t.at) (takings q 0 m steps) 0 0 (takes_in_order q m steps orderly are_steps)
+
 pub lines_are_whole : LinesAreWhole
 lines_are_whole q m steps addresses orderly are_steps =
-    let order = filtered (stream q m steps) (λ t. is_among addresses t.at) (takings q 0 m steps) 0 0 (takes_in_order q m steps orderly are_steps) in
+    let order = some_in_order q m steps addresses orderly are_steps in
     (line-whole (entry_at (stream q m steps)) (takings_at addresses q m steps) order, whole-line (entry_at (stream q m steps)) (takings_at addresses q m steps) order)

@@ -334,6 +334,14 @@ module _ (entry_at : ℕ → Entry) where
         line = subst (λ (es : List Entry). is_line es ≡ true) r.entries shape;
       }
 
+  -- the entries of a line follow one another
+  pub line-entered : (ts : List Taking) → AreInOrder entry_at 0 0 ts → are_line ts ≡ true → (from : ℕ) × (count : ℕ) × (entries_taken ts ≡ entries_from entry_at from count)
+  line-entered [] order is = absurd (false≢true is)
+  line-entered (t ∷ rest) order is =
+      let (on, shape) = and_parts (follow_on (t ∷ rest)) (is_line (entries_taken (t ∷ rest))) is in
+      let (end, r) = go_on-reaches 0 0 t.place 0 (t ∷ rest) order on in
+      (t.place, end - t.place, r.entries)
+
   follows_on : (from : ℕ) (ts : List Taking) → go_on from 0 ts ≡ true → follow_on ts ≡ true
   follows_on from [] on = refl
   follows_on from (t ∷ rest) on =

@@ -4,7 +4,7 @@ use Rattle.fifo_model.specs.declared.Entry.{Entry}
 use Rattle.fifo_model.specs.declared.Queue.{Queue}
 use Rattle.page_table.specs.Blocks.{byte_at}
 use Rattle.pixel_layout.specs.declared.Parity.{Parity}
-use Rattle.machine_model.specs.Safety.{IsStep}
+use Rattle.machine_model.specs.Safety.{IsOrderly, IsStep}
 use Rattle.machine_model.specs.States.{State, first_state}
 use Rattle.machine_model.specs.Steps.{Step}
 use Rattle.capture_desc.specs.declared.desc.Desc.{Desc}
@@ -15,8 +15,9 @@ use Rattle.field_law.specs.Fields.{carried, is_line}
 use Rattle.picture_law.specs.Pictures.{of_row, IsKeptAt}
 use Rattle.picture_law.specs.Runs.{between, signals_at, state_of}
 use Rattle.picture_law.specs.Sections.{section_of}
-use Rattle.damage_law.specs.Lines.{entries_taken}
+use Rattle.damage_law.specs.Lines.{entries_from, entries_taken}
 use Rattle.damage_law.specs.Marks.{is_opening, last_step, marks, row_addresses, takings_at}
+use Rattle.damage_law.specs.Orders.{entry_at, stream}
 
 -- the entries of which the instructions of a row take a byte, over steps from a state
 abbrev pub row_entries : Desc → Parity → ℕ → Queue → State → List Step → List Entry
@@ -44,3 +45,12 @@ abbrev pub WholeRowsStand : Type 0
 WholeRowsStand = (d : Desc) (field : Parity) (fill : ℕ) (steps : List Step) (j k : ℕ) → IsSignalSince d field fill steps j k → (q : Queue) (number x address : ℕ) →
     slice_index_or (marks d field (state_of d fill steps j) (between j k steps)) number false ≡ true → IsKeptAt d field (of_row q number x) address →
     StandsAt (row_entries d field number q (state_of d fill steps j) (between j k steps)) x address (state_of d fill steps (k + 1))
+
+-- entries that entered a queue one after another: some of those that it holds and that enter it over steps
+abbrev pub HaveEntered : List Entry → Queue → State → List Step → Type 0
+HaveEntered entries q m steps = (from : ℕ) × (count : ℕ) × (entries ≡ entries_from (entry_at (stream q m steps)) from count)
+
+-- the entries of which the instructions of a whole row take a byte did
+abbrev pub WholeRowsEntered : Type 0
+WholeRowsEntered = (d : Desc) (field : Parity) (m : State) (steps : List Step) → IsOrderly m → All IsStep steps → (q : Queue) (number : ℕ) →
+    slice_index_or (marks d field m steps) number false ≡ true → HaveEntered (row_entries d field number q m steps) q m steps

@@ -1,5 +1,5 @@
 -- Worked fields of small descriptions, in the top field.
-use Rattle.std.specs.Prelude.{ℕ, Bool, true, false, List, [], ◌∷◌, ◌++◌, map, replicate, take, Option, option_and_then, option_map}
+use Rattle.std.specs.Prelude.{ℕ, Bool, true, false, List, [], ◌∷◌, ◌++◌, ◌≡◌, map, replicate, take, Option, option_and_then, option_map, slice_index_or}
 use Rattle.risc_word.specs.declared.Code.TheVariants.{Vre, Fm1, Fm3}
 use Rattle.fifo_model.specs.declared.Entry.{Entry}
 use Rattle.fifo_model.specs.declared.Queue.{Queue}
@@ -15,10 +15,11 @@ use Rattle.picture_model.specs.Worked.{smallest}
 use Rattle.field_law.specs.Arrivals.{is_signal}
 use Rattle.field_law.specs.Fields.{carried}
 use Rattle.field_law.specs.Worked.{entry}
-use Rattle.picture_law.specs.Runs.{between}
+use Rattle.picture_law.specs.Pictures.{IsKeptAt, of_row}
+use Rattle.picture_law.specs.Runs.{between, state_of}
 use Rattle.picture_law.specs.Sections.{section_of}
-use Rattle.damage_law.specs.Marks.{answer, is_opening, last_step}
-use Rattle.damage_law.specs.Standing.{row_entries}
+use Rattle.damage_law.specs.Marks.{answer, is_opening, last_step, marks}
+use Rattle.damage_law.specs.Standing.{IsSignalSince, row_entries}
 
 -- what is said of the rows of the top field after steps from the first state
 abbrev pub marks_of : Desc → List Step → Option (List Bool)
@@ -129,3 +130,9 @@ abbrev pub restarted : List Step
 restarted =
     announced ++ pushed (entry 2 0x13121110 ∷ []) ++ turns 6 ++ Host (Enable true false) ∷ Host (Enable true true)
     ∷ pushed (entry 1 0x17161514 ∷ []) ++ announced ++ pushed (eight 0x23222120 0x27262524) ++ turns 12
+
+-- the premises of the law of whole rows: a row of the top field is whole at a signal, and a byte of it is kept at an address
+pub record IsWholeRow (d : Desc) (steps : List Step) (j k : ℕ) (q : Queue) (number x address : ℕ) : Type 0 where
+  pub signal : IsSignalSince d Top d.fill steps j k
+  pub whole : slice_index_or (marks d Top (state_of d d.fill steps j) (between j k steps)) number false ≡ true
+  pub kept : IsKeptAt d Top (of_row q number x) address

@@ -7,12 +7,22 @@ ghost use Rattle.fifo_model.specs.Queues.{queue_state};
 ghost use Rattle.machine_model.specs.States.{State};
 ghost use Rattle.machine_model.specs.Turns.{turn};
 ghost use Rattle.fifo_model.specs.declared.Entry.{Entry};
+ghost use Rattle.fifo_model.specs.declared.Queue.TheVariants.{One};
+ghost use Rattle.pixel_layout.specs.declared.Parity.TheVariants.{Top};
+ghost use Rattle.machine_model.specs.States.{first_state};
+ghost use Rattle.picture_model.specs.Programs.{compiled};
 ghost use Rattle.picture_model.specs.Worked.{smallest};
+ghost use Rattle.field_law.specs.Arrivals.{is_signal};
+ghost use Rattle.picture_law.specs.Runs.{IsSignalled};
+ghost use Rattle.picture_law.specs.Sections.{section_of};
+ghost use Rattle.picture_law.specs.Worked.{picture, steps};
 ghost use Rattle.damage_law.specs.Takings.{Taking, left};
 ghost use Rattle.damage_law.specs.Lines.{AreInOrder, IsWholeLine, are_line};
 ghost use Rattle.damage_law.specs.LastSignals.{AnswersStay};
 ghost use Rattle.damage_law.specs.Orders.{LinesAreWhole, TakesInOrder};
-ghost use Rattle.damage_law.specs.Worked.{chroma_long, chroma_short, clipped, cut_short, emptied_empty, emptied_full, interrupted, marks_of, planar_rows, reserved, restarted, taken_by, too_long, two_rows, unkept_short};
+ghost use Rattle.damage_law.specs.Marks.{last_step};
+ghost use Rattle.damage_law.specs.Standing.{WholeRowsEntered};
+ghost use Rattle.damage_law.specs.Worked.{IsWholeRow, chroma_long, chroma_short, clipped, cut_short, emptied_empty, emptied_full, interrupted, marks_of, planar_rows, reserved, restarted, taken_by, too_long, two_rows, unkept_short};
 
 /// Takings in their order make a line by their places exactly where the entries of which a byte is taken follow one
 /// another among those that enter the queue, each is taken whole, and they are a line.
@@ -58,4 +68,18 @@ pub fn worked_fields_are_marked()
     ensures chroma_not_kept { marks_of planar_rows unkept_short ≡ Some (true ∷ false ∷ []) }
     ensures opened_again { marks_of smallest restarted ≡ Some (true ∷ []) }
     ensures line_of_a_row { taken_by clipped 1 cut_short ≡ Some (range_with_len 0xb0 16) }
+{}
+
+/// What the instructions of a whole row take of a queue is what entered it one after another, in that order, since some
+/// entry that the queue held already or that came later.
+pub fn whole_rows_took_what_entered()
+    ensures { WholeRowsEntered }
+{}
+
+/// The premises of the laws of whole rows and of arrived rows (laws of damage_map) can be met: by a byte of a whole row
+/// behind one that isn't whole, and by the worked picture of one line, whose signal is the last.
+pub fn worked_fields_meet_the_laws()
+    ensures whole { IsWholeRow clipped cut_short 8 28 One 1 0 0x20010 }
+    ensures arrived { IsSignalled smallest Top picture 0 steps 2 14 }
+    ensures last { last_step (is_signal (section_of smallest Top)) (first_state (compiled smallest) 0) steps ≡ Some 14 }
 {}
