@@ -5,3 +5,4 @@ pub mod Meets
 pub mod Shown
 pub mod Worked
 pub mod Promises
+pub mod Behind

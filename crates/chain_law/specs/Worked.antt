@@ -45,3 +45,9 @@ pushes =
 abbrev pub steps : List LiveStep
 steps =
     Patch 0 (Some 0) ∷ (pushes ++ (turns 6 ++ (Patch 0 (Some 1) ∷ (turns 3 ++ (pushes ++ turns 13)))))
+
+-- a field that is broken off within its line, after the slot was patched to the other fragment
+abbrev pub broken_steps : List LiveStep
+broken_steps =
+    Patch 0 (Some 0) ∷ Plain (Control Vre) ∷ Plain (Control Fm1) ∷ Plain (Push One (entry 2 0x13121110))
+    ∷ (turns 6 ++ (Patch 0 (Some 1) ∷ Plain (Control Vre) ∷ turns 8))

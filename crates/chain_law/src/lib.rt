@@ -2,14 +2,16 @@
 //! functions do nothing; their contracts are the laws.
 #![tactic(auto)]
 
+ghost use Rattle.std.specs.Prelude.{◌≡◌};
 ghost use Rattle.pixel_layout.specs.declared.Parity.TheVariants.{Top};
 ghost use Rattle.picture_model.specs.Worked.{smallest};
 ghost use Rattle.picture_law.specs.Worked.{picture};
 ghost use Rattle.chain_model.specs.Chains.{IsChain, IsSoundChain};
 ghost use Rattle.chain_law.specs.Fragments.{FragmentIsSound, FragmentsAreSound};
-ghost use Rattle.chain_law.specs.Pictures.{IsSignalled, LiveShowsNoFault, LiveShowsPicture, LiveTellsField};
+ghost use Rattle.chain_law.specs.Behind.{AreBehind, LivePartsAreFinished};
+ghost use Rattle.chain_law.specs.Pictures.{IsSignalled, LiveShowsNoFault, LiveShowsPicture, LiveTellsField, between, live_of};
 ghost use Rattle.chain_law.specs.Runs.{LiveRunsKeepPromises};
-ghost use Rattle.chain_law.specs.Worked.{other, steps, two_slots};
+ghost use Rattle.chain_law.specs.Worked.{broken_steps, other, steps, two_slots};
 
 /// A part that is the fragment of a description whose memory the chain may write is sound alone, whatever the other parts
 /// are; so a chain of such parts is sound.
@@ -32,6 +34,15 @@ pub fn live_pictures_are_shown()
 /// each field that arrives at a part that is a fragment is shown, and no turn from its arrival to its signal sets FDSR.
 pub fn live_runs_keep_promises()
     ensures { LiveRunsKeepPromises }
+{}
+
+/// As long as the machine reads no slot it goes on as if the part in which it is were patched in, also where the host
+/// patches it out: the part is finished, whatever comes, also where its field is broken off. A worked field that is broken off
+/// is finished so: the machine comes to the next slot.
+pub fn live_parts_are_finished()
+    ensures finished { LivePartsAreFinished }
+    ensures behind { AreBehind two_slots (live_of two_slots 0 broken_steps 5) (between 5 15 broken_steps) }
+    ensures next { (live_of two_slots 0 broken_steps 15).machine.pc ≡ 0x1008 }
 {}
 
 /// The premises of these laws can be met: a chain of two slots whose parts are the fragments of two descriptions is sound.
