@@ -12,3 +12,4 @@ pub mod WorkedPlanar
 pub mod Between
 pub mod Ends
 pub mod Places
+pub mod WorkedBottom

@@ -3,12 +3,14 @@ use Rattle.std.proofs.Common.{◌≡◌, ℕ, zero, suc, ◌+◌, ◌^◌, ◌<�
 use Rattle.std.specs.Prelude.{nat_lt}
 use Rattle.std.proofs.lemmas.Bool.{and_parts, ltb-true}
 use Rattle.std.proofs.lemmas.List.Elements.{All-nil, All-cons, All-append, All-from_recursion}
+use Rattle.risc_word.specs.declared.Code.{Code}
 use Rattle.risc_word.specs.declared.Code.TheVariants.{Vre, Fm1, Fm3}
 use Rattle.fifo_model.specs.declared.Entry.{Entry}
 use Rattle.fifo_model.specs.declared.Queue.{Queue}
 use Rattle.fifo_model.specs.declared.Queue.TheVariants.{One, Two, Three}
 use Rattle.fifo_model.specs.Queues.{queue_state, control_entry}
 use Rattle.pixel_layout.specs.declared.Parity.TheVariants.{Top}
+use Rattle.machine_model.specs.Paths.{RiscProgram}
 use Rattle.machine_model.specs.States.{State, first_state}
 use Rattle.machine_model.specs.Steps.{Turn, step, with_program}
 use Rattle.machine_model.specs.Safety.{IsStep}
@@ -45,29 +47,29 @@ described =
 
 -- ---- the picture
 
-abbrev IsByte : ℕ → Type 0
+abbrev pub IsByte : ℕ → Type 0
 IsByte byte = byte < 256
 
 abbrev are_bytes : List ℕ → Bool
 are_bytes [] = true
 are_bytes (byte ∷ bytes) = nat_lt byte 256 && are_bytes bytes
 
-bytes_hold : (bytes : List ℕ) → are_bytes bytes ≡ true → All IsByte bytes
+pub bytes_hold : (bytes : List ℕ) → are_bytes bytes ≡ true → All IsByte bytes
 bytes_hold [] h = All-nil IsByte
 bytes_hold (byte ∷ bytes) h =
     let parts = and_parts (nat_lt byte 256) (are_bytes bytes) h in
     All-cons IsByte byte bytes (ltb-true byte 256 parts.0) (bytes_hold bytes parts.1)
 
-abbrev HoldsBytes : List ℕ → Type 0
+abbrev pub HoldsBytes : List ℕ → Type 0
 HoldsBytes line = All IsByte line
 
-two_hold : (first second : List ℕ) → are_bytes first ≡ true → are_bytes second ≡ true → HoldBytes (first ∷ second ∷ [])
+pub two_hold : (first second : List ℕ) → are_bytes first ≡ true → are_bytes second ≡ true → HoldBytes (first ∷ second ∷ [])
 two_hold first second one two = All-from_recursion HoldsBytes (first ∷ second ∷ []) (bytes_hold first one, (bytes_hold second two, tt))
 
-one_long : (bytes : ℕ) (line : List ℕ) → length line ≡ bytes → AreLines 1 bytes (line ∷ [])
+pub one_long : (bytes : ℕ) (line : List ℕ) → length line ≡ bytes → AreLines 1 bytes (line ∷ [])
 one_long bytes line long = record { many = refl; long = All-from_recursion (λ line. length line ≡ bytes) (line ∷ []) (long, tt) }
 
-two_long : (bytes : ℕ) (first second : List ℕ) → length first ≡ bytes → length second ≡ bytes → AreLines 2 bytes (first ∷ second ∷ [])
+pub two_long : (bytes : ℕ) (first second : List ℕ) → length first ≡ bytes → length second ≡ bytes → AreLines 2 bytes (first ∷ second ∷ [])
 two_long bytes first second one two =
     record { many = refl; long = All-from_recursion (λ line. length line ≡ bytes) (first ∷ second ∷ []) (one, (two, tt)) }
 
@@ -92,7 +94,7 @@ pictured =
 
 -- ---- what each queue brings
 
-abbrev skipped_rows : Queue → List (List ℕ)
+abbrev pub skipped_rows : Queue → List (List ℕ)
 skipped_rows One = ten 112 ∷ []
 skipped_rows Two = five 128 ∷ []
 skipped_rows Three = five 144 ∷ []
@@ -109,7 +111,7 @@ skips : AreSkipped planar Top skipped
 skips = record { vbi = one_long 5 (five 160) refl; rows = rows_skipped }
 
 -- three lines, as each queue brings them
-abbrev three_rows : List ℕ → List ℕ → List ℕ → List Token
+abbrev pub three_rows : List ℕ → List ℕ → List ℕ → List Token
 three_rows first second third = Row first ∷ Row second ∷ Row third ∷ []
 
 abbrev three_lines : List Entry → List Entry → List Entry → List Entry
@@ -120,10 +122,10 @@ lines_bring a b c first second third one two three =
     row_brings a first (Row b ∷ Row c ∷ []) (second ++ (third ++ [])) one
     (row_brings b second (Row c ∷ []) (third ++ []) two (row_brings c third [] [] three refl))
 
-abbrev luma_lines : List Entry
+abbrev pub luma_lines : List Entry
 luma_lines = three_lines (ten_entries 112) (ten_entries 16) (ten_entries 32)
 
-abbrev chroma_lines : Queue → List Entry
+abbrev pub chroma_lines : Queue → List Entry
 chroma_lines One = []
 chroma_lines Two = three_lines (five_entries 128) (five_entries 48) (five_entries 64)
 chroma_lines Three = three_lines (five_entries 144) (five_entries 80) (five_entries 96)
@@ -133,15 +135,25 @@ entries One = control_entry Vre ∷ control_entry Fm1 ∷ (five_entries 160 ++ (
 entries Two = control_entry Vre ∷ control_entry Fm1 ∷ control_entry Fm3 ∷ chroma_lines Two
 entries Three = control_entry Vre ∷ control_entry Fm1 ∷ control_entry Fm3 ∷ chroma_lines Three
 
-luma_brings : Brings (three_rows (ten 112) (ten 16) (ten 32)) luma_lines
+pub luma_brings : Brings (three_rows (ten 112) (ten 16) (ten 32)) luma_lines
 luma_brings =
     lines_bring (ten 112) (ten 16) (ten 32) (ten_entries 112) (ten_entries 16) (ten_entries 32)
     (record { shape = refl; valid = refl }) (record { shape = refl; valid = refl }) (record { shape = refl; valid = refl })
 
-chroma_brings : (tokens : List Token) (entries : List Entry) → Brings tokens entries →
-    Brings (Mark Vre ∷ Mark Fm1 ∷ Mark Fm3 ∷ tokens) (control_entry Vre ∷ control_entry Fm1 ∷ control_entry Fm3 ∷ entries)
-chroma_brings tokens entries here =
-    mark_brings Vre (Mark Fm1 ∷ Mark Fm3 ∷ tokens) (control_entry Fm1 ∷ control_entry Fm3 ∷ entries)
+pub two_brings : Brings (three_rows (five 128) (five 48) (five 64)) (chroma_lines Two)
+two_brings =
+    lines_bring (five 128) (five 48) (five 64) (five_entries 128) (five_entries 48) (five_entries 64)
+    (record { shape = refl; valid = refl }) (record { shape = refl; valid = refl }) (record { shape = refl; valid = refl })
+
+pub three_brings : Brings (three_rows (five 144) (five 80) (five 96)) (chroma_lines Three)
+three_brings =
+    lines_bring (five 144) (five 80) (five 96) (five_entries 144) (five_entries 80) (five_entries 96)
+    (record { shape = refl; valid = refl }) (record { shape = refl; valid = refl }) (record { shape = refl; valid = refl })
+
+pub chroma_brings : (code : Code) (tokens : List Token) (entries : List Entry) → Brings tokens entries →
+    Brings (Mark code ∷ Mark Fm1 ∷ Mark Fm3 ∷ tokens) (control_entry code ∷ control_entry Fm1 ∷ control_entry Fm3 ∷ entries)
+chroma_brings code tokens entries here =
+    mark_brings code (Mark Fm1 ∷ Mark Fm3 ∷ tokens) (control_entry Fm1 ∷ control_entry Fm3 ∷ entries)
     (mark_brings Fm1 (Mark Fm3 ∷ tokens) (control_entry Fm3 ∷ entries) (mark_brings Fm3 tokens entries here))
 
 brings : (q : Queue) → Brings (Mark Vre ∷ field_tokens planar planar_picture skipped q) (entries q)
@@ -153,29 +165,23 @@ brings One =
     (row_brings (five 160) (five_entries 160) (Row (five 1) ∷ Mark Fm3 ∷ rows) later (record { shape = refl; valid = refl })
     (row_brings (five 1) (five_entries 1) (Mark Fm3 ∷ rows) (control_entry Fm3 ∷ luma_lines) (record { shape = refl; valid = refl })
     (mark_brings Fm3 rows luma_lines luma_brings))))
-brings Two =
-    chroma_brings (three_rows (five 128) (five 48) (five 64)) (chroma_lines Two)
-    (lines_bring (five 128) (five 48) (five 64) (five_entries 128) (five_entries 48) (five_entries 64)
-    (record { shape = refl; valid = refl }) (record { shape = refl; valid = refl }) (record { shape = refl; valid = refl }))
-brings Three =
-    chroma_brings (three_rows (five 144) (five 80) (five 96)) (chroma_lines Three)
-    (lines_bring (five 144) (five 80) (five 96) (five_entries 144) (five_entries 80) (five_entries 96)
-    (record { shape = refl; valid = refl }) (record { shape = refl; valid = refl }) (record { shape = refl; valid = refl }))
+brings Two = chroma_brings Vre (three_rows (five 128) (five 48) (five 64)) (chroma_lines Two) two_brings
+brings Three = chroma_brings Vre (three_rows (five 144) (five 80) (five 96)) (chroma_lines Three) three_brings
 
 brought : IsField planar Top planar_picture entries
 brought = record { skipped = skipped; lines = skips; brings = brings }
 
 -- ---- the steps
 
-turns_kept : (m : State) (count : ℕ) → AreKept m (meeting (compiled planar) (replicate count Turn))
-turns_kept m zero = tt
-turns_kept m (suc count) = (tt, turns_kept (step Turn (with_program (compiled planar) m)) count)
+pub turns_kept : (program : RiscProgram) (m : State) (count : ℕ) → AreKept m (meeting program (replicate count Turn))
+turns_kept program m zero = tt
+turns_kept program m (suc count) = (tt, turns_kept program (step Turn (with_program program m)) count)
 
 abbrev machine : State
 machine = state_of planar 0 planar_steps 2
 
 pushes_kept : (count : ℕ) → AreKept machine (meeting (compiled planar) (planar_pushes ++ replicate count Turn))
-pushes_kept count = (refl, (refl, (refl, (refl, (refl, (refl, (refl, (refl, (refl, (refl, (refl, (refl, (refl, (refl, (refl, (refl, (refl, (refl, (refl, (refl, (refl, (refl, (refl, (refl, (refl, (refl, (refl, (refl, turns_kept _ count))))))))))))))))))))))))))))
+pushes_kept count = (refl, (refl, (refl, (refl, (refl, (refl, (refl, (refl, (refl, (refl, (refl, (refl, (refl, (refl, (refl, (refl, (refl, (refl, (refl, (refl, (refl, (refl, (refl, (refl, (refl, (refl, (refl, (refl, turns_kept (compiled planar) _ count))))))))))))))))))))))))))))
 
 abbrev order_of : ℕ → Queue → Type 0
 order_of count q =
@@ -197,11 +203,11 @@ arrives_over count order =
       brought = brought;
     }
 
-turns_made : (count : ℕ) → All IsStep (replicate count Turn)
+pub turns_made : (count : ℕ) → All IsStep (replicate count Turn)
 turns_made zero = All-nil IsStep
 turns_made (suc count) = All-cons IsStep Turn (replicate count Turn) tt (turns_made count)
 
-pushes_made : All IsStep planar_pushes
+pub pushes_made : All IsStep planar_pushes
 pushes_made = All-from_recursion IsStep planar_pushes (tt, (tt, (refl, (refl, (refl, (refl, (tt, (refl, (refl, (refl, (refl, (refl, (refl, (refl, (refl, (refl, (refl, (refl, (refl, (refl, (refl, (refl, (refl, (refl, (refl, (refl, (refl, (refl, tt))))))))))))))))))))))))))))
 
 capture : IsCapture planar Top planar_picture planar_steps

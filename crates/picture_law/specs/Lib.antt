@@ -4,3 +4,4 @@ pub mod Laws
 pub mod Worked
 pub mod Runs
 pub mod WorkedPlanar
+pub mod WorkedBottom

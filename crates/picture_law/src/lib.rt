@@ -4,7 +4,7 @@
 #![tactic(auto)]
 
 ghost use Rattle.std.specs.Prelude.{◌≡◌, true, false, [], ◌∷◌, ◌++◌};
-ghost use Rattle.pixel_layout.specs.declared.Parity.TheVariants.{Top};
+ghost use Rattle.pixel_layout.specs.declared.Parity.TheVariants.{Bottom, Top};
 ghost use Rattle.machine_model.specs.Steps.{Turn, run};
 ghost use Rattle.picture_model.specs.Programs.{compiled};
 ghost use Rattle.field_law.specs.Worked.{moves};
@@ -12,6 +12,9 @@ ghost use Rattle.field_law.specs.Arrivals.{meeting, has_signal, is_signal};
 ghost use Rattle.picture_law.specs.Sections.{section_of};
 ghost use Rattle.picture_law.specs.Runs.{CapturesOf, CompiledIsMet, RunsAreMet, IsSignalled, RunShowsPicture, RunShowsNoFault, RunTellsField, RunSignalsInTime};
 ghost use Rattle.picture_law.specs.Worked.{machine, picture, steps};
+ghost use Rattle.fifo_model.specs.declared.Queue.TheVariants.{One};
+ghost use Rattle.picture_law.specs.Pictures.{IsKeptAt, of_row};
+ghost use Rattle.picture_law.specs.WorkedBottom.{bottom_steps, spread};
 ghost use Rattle.picture_law.specs.WorkedPlanar.{planar, planar_picture, planar_steps, MeetsBound};
 ghost use Rattle.picture_model.specs.Worked.{smallest};
 ghost use Rattle.picture_law.specs.Laws.{EndsSection, GrantsPlaces, HoldsSection, UsesPicture, PaintsPicture, ShowsPicture, ShowsNoFault, SignalsField, SignalsInTime};
@@ -77,4 +80,12 @@ pub fn worked_picture_arrives()
 pub fn worked_planar_picture_arrives()
     ensures signalled { IsSignalled planar Top planar_picture 0 planar_steps 2 82 }
     ensures in_time { MeetsBound 2 30 130 }
+{}
+
+/// And with all that says where bytes lie: steps from row to row, offsets of the planes and of the VBI lines, and pages out
+/// of order, of which one ends within a row. The bottom field of such a description arrives behind the top field.
+pub fn worked_bottom_picture_arrives()
+    ensures signalled { IsSignalled spread Bottom planar_picture 0 bottom_steps 90 156 }
+    ensures before_the_page_end { IsKeptAt spread Bottom (of_row One 0 3) 0x30fff }
+    ensures behind_the_page_end { IsKeptAt spread Bottom (of_row One 0 4) 0x20000 }
 {}
