@@ -14,10 +14,17 @@ FORMATS = {
 UNITS = {"yuy2": 2, "btyuv": 8, "yuv422p": 2, "yuv411p": 4, "yuv420p": 2, "yuv410p": 4}
 
 
+class NoPlace(Exception):
+    """A byte has no place: its offset lies behind all memory, or its address in none that is granted."""
+
+
 class Description:
-    def __init__(self, name):
-        with open(name, "rb") as file:
-            keys = tomllib.load(file)
+    def __init__(self, name=None, text=None):
+        """Of a file, or of a text."""
+        if text is None:
+            with open(name, encoding="utf-8") as file:
+                text = file.read()
+        keys = tomllib.loads(text)
         self.width, self.height, self.format = keys["width"], keys["height"], keys["format"]
         in_eight, self.chroma = FORMATS[self.format]
         self.unit = UNITS.get(self.format, 1)
@@ -70,6 +77,7 @@ class Description:
             if offset < length:
                 return address + offset
             offset -= length
+        raise NoPlace("a byte lies behind all memory")
 
     def row_places(self, plane, row):
         """The addresses of the bytes of picture row `row` on a plane, or None where its chroma isn't kept."""

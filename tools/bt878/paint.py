@@ -6,6 +6,8 @@ No program, queue or turn is looked at.
 
 import random
 
+from .description import NoPlace
+
 
 def drawn(description, seed):
     """A picture of bytes that are drawn."""
@@ -25,7 +27,9 @@ def filled(description):
 
 
 def store(memory, address, byte):
-    chunk = next(first for first in memory if first <= address < first + len(memory[first]))
+    chunk = next((first for first in memory if first <= address < first + len(memory[first])), None)
+    if chunk is None:
+        raise NoPlace(f"{address:08x} isn't granted")
     memory[chunk][address - chunk] = byte
 
 
