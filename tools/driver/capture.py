@@ -336,15 +336,19 @@ class Capture:
         return image(memory)
 
 
+def memory_key(chunks):
+    """The key of a description for its memory."""
+    if all(at % 4096 == 0 and length == 4096 for at, length in chunks):
+        return f"pages = [{', '.join(f'{at:#010x}' for at, _ in chunks)}]"
+    return f"chunks = [{', '.join(f'[{at:#010x}, {length}]' for at, length in chunks)}]"
+
+
 def text_of(keys):
     """A description's text."""
-
-    def value(given):
-        if isinstance(given, str):
-            return f'"{given}"'
-        return str([list(part) if isinstance(part, tuple) else part for part in given]) if isinstance(given, list) else str(given)
-
-    return "".join(f"{key} = {value(given)}\n" for key, given in keys.items())
+    lines = []
+    for key, given in keys.items():
+        lines.append(memory_key(given) if key == "chunks" else f'{key} = "{given}"' if isinstance(given, str) else f"{key} = {given}")
+    return "\n".join(lines) + "\n"
 
 
 def write(folder, name, data):
