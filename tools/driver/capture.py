@@ -22,7 +22,7 @@ import sys
 import tempfile
 from typing import NamedTuple
 
-import harness  # first: it tells where the package bt878 lies
+import harness  # first: it finds the package bt878
 from bt878.description import Description, NoPlace
 from bt878.formats import FM1, FM3, VRE, VRO, Stream, bytes_of, image
 from bt878.lay_out import lay_out, outward
@@ -372,6 +372,8 @@ def say(capture, grants):
     for made in capture.dump["lists"]:
         beyond = f", {made['beyond']} bytes are written behind its {made['size']}" if made["beyond"] else ""
         print(f"{made['name']}: {made['address']:08x}, {len(made['words'])} words{beyond}")
+    if capture.dump["warnings"]:
+        print("driver: a warning (WARN)")
     if capture.death:
         print("driver: " + capture.death)
     else:

@@ -14,7 +14,7 @@ import re
 import sys
 import tempfile
 
-import harness  # first: it tells where the package bt878 lies
+import harness  # first: it finds the package bt878
 from bt878.pages import commands, needs_tree, what_is_printed
 from bt878.places import TOP
 
@@ -51,7 +51,7 @@ def try_commands(trials, binary, page):
 def try_sources(trials):
     """`FUNCTION` in `FILE`, with ` of 6.1` behind it where it is of that tree."""
     with open(os.path.join(TOP, "docs/FOUND.md")) as file:
-        named = re.findall(r"`(\w+)` in\s`([\w.-]+\.[ch])`( of\s6\.1)?", file.read())
+        named = re.findall(r"`(\w+)` in\s`([\w.-]+\.[ch])`(\sof\s6\.1)?", file.read())
     for function, name, old in named:
         tree = trials.trees["TREE61" if old else "TREE"]
         if not tree:

@@ -1,6 +1,6 @@
 """Bugs planted in the lists of a capture: each must be rejected, or reported by `check`."""
 
-import harness  # noqa: F401  (first: it tells where the package bt878 lies)
+import harness  # noqa: F401  (first: it finds the package bt878)
 from bt878.formats import IS_EOL, IS_SOL, JUMP, LENGTHS, WRITE, WRITE1S23, WRITE123, walk
 
 SLOTS = [(6, 12), (4, 10)]  # of the main loop, of the top and of the bottom field: for the picture, for VBI lines
