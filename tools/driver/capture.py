@@ -403,4 +403,7 @@ def main(tree, folder, *words):
 
 
 if __name__ == "__main__":
-    main(*sys.argv[1:]) if len(sys.argv) > 5 or sys.argv[1:2] == ["-h"] else sys.exit(__doc__)
+    if len(sys.argv) < 6:
+        print(__doc__)
+        parser().parse_args(["-h"])
+    main(*sys.argv[1:])

@@ -24,10 +24,6 @@ WITHIN = {  # what each command stands for
 }  # fmt: skip
 
 
-class NoTree(Exception):
-    """What is missing."""
-
-
 def source(tree, name):
     with open(os.path.join(tree, BT8XX, name), encoding="utf-8", errors="replace") as file:
         return file.read()
@@ -61,7 +57,7 @@ def is_old(tree):
 def build(tree, folder, compiler="cc"):
     """The program of commands.c and the driver of a tree."""
     if not os.path.exists(os.path.join(tree, BT8XX, "bttv-risc.c")):
-        raise NoTree(f"no {BT8XX}/bttv-risc.c in {tree}")
+        sys.exit(f"no {BT8XX}/bttv-risc.c in {tree}")
     make_headers(tree, folder)
     kind = []
     if is_old(tree):
