@@ -13,8 +13,8 @@ BT8XX = "drivers/media/pci/bt8xx"
 SYSTEM = {"linux/types.h", "linux/videodev2.h", "linux/errno.h", "asm/byteorder.h"}  # headers that the system has itself
 TABLES = (  # of bttv-driver.c, for trees whose bttv-driver.c isn't compiled: from the line that matches to one that does
     (r"#define CROPCAP", r".*[^\\]$"),
-    (r"const struct bttv_tvnorm bttv_tvnorms\[\]", r"};"),
-    (r"static const struct bttv_format formats\[\]", r"};"),
+    (r"[^;]*\bbttv_tvnorms\[\]", r"};"),
+    (r"[^;]*\bformats\[\]", r"};"),
 )
 
 
@@ -54,8 +54,8 @@ def is_old(tree):
     return "bttv_risc_overlay" in source(tree, "bttv-risc.c")
 
 
-def build(tree, folder, compiler="cc"):
-    """The program of commands.c and the driver of a tree."""
+def build(tree, folder):
+    """The program of commands.c and the driver of a tree, by the C compiler that CC names."""
     if not os.path.exists(os.path.join(tree, BT8XX, "bttv-risc.c")):
         sys.exit(f"no {BT8XX}/bttv-risc.c in {tree}")
     make_headers(tree, folder)
@@ -70,7 +70,7 @@ def build(tree, folder, compiler="cc"):
     paths = [f"-I{path}" for path in (folder, HERE, driver)]
     units = [os.path.join(HERE, "commands.c"), os.path.join(driver, "btcx-risc.c")]
     link = ["-static", "-Wl,--unresolved-symbols=ignore-all"]  # what the rest of the kernel would have
-    subprocess.run([compiler, *flags, *paths, *units, "-o", out, *link], check=True)
+    subprocess.run([os.environ.get("CC", "cc"), *flags, *paths, *units, "-o", out, *link], check=True)
     return out
 
 
