@@ -1,6 +1,7 @@
 -- What a reader that used all bytes says of them is so of the stream.
-use Rattle.std.proofs.Common.{◌≡◌, ℕ, ◌≤◌, false, List, [], ◌∷◌, ◌++◌, length, Result, Ok, Err, refl, sym, ap, subst, ◌∙◌, arith, append_assoc}
+use Rattle.std.proofs.Common.{◌≡◌, ℕ, ◌≤◌, false, ◌+◌, ◌-◌, List, [], ◌∷◌, ◌++◌, length, take, drop, Result, Ok, Err, refl, sym, ap, subst, ◌∙◌, arith, append_assoc}
 use Rattle.std.specs.Prelude.{MatchResult}
+use Rattle.std.proofs.lemmas.List.{append-nil, drop-drop, take_rest}
 use Rattle.capture_file.specs.declared.FileFault.{FileFault}
 use Rattle.capture_file.specs.declared.Step.{Step}
 use Rattle.capture_file.specs.declared.reader.Got.{Got}
@@ -8,6 +9,19 @@ use Rattle.capture_file.specs.declared.reader.Got.TheVariants as got
 use Rattle.capture_file.specs.Streams.{Bad, Reading, reading, steps_of, stream_of, whole_file}
 use Rattle.capture_file.specs.Readers.{Closed, Failed, Opening, Phase, PlacedAt, Reader, Records, Uses, after_answer, behind, closed_by, ending_in, resumed}
 use Rattle.kept_stream.specs.Kept.{HoldsKept, longest_kept}
+
+-- what an answer says of the bytes behind the first ones
+pub front_used : (reader after : Reader) (found : Got) (at used : ℕ) (stream bytes : List ℕ) → bytes ≡ stream →
+    ((more : List ℕ) → resumed reader (take (length bytes - at) (drop at bytes) ++ more) ≡ after_answer found (resumed after (drop used (take (length bytes - at) (drop at bytes)) ++ more))) →
+    resumed reader (drop at stream) ≡ after_answer found (resumed after (drop (at + used) stream))
+front_used reader after found at used stream bytes is whole =
+    let piece : List ℕ = take (length bytes - at) (drop at bytes) in
+    let all : piece ≡ drop at bytes = take_rest bytes at in
+    let rest : drop used piece ++ [] ≡ drop (at + used) bytes = append-nil (drop used piece) ∙ ap (drop used) all ∙ drop-drop used at bytes in
+    ap (λ (x : List ℕ). resumed reader (drop at x)) (sym is)
+    ∙ ap (resumed reader) (sym (append-nil piece ∙ all))
+    ∙ whole []
+    ∙ ap (λ (x : List ℕ). after_answer found (resumed after x)) (rest ∙ ap (drop (at + used)) is)
 
 pub uses_within : (found : Got) (used count : ℕ) → Uses found used count → used ≤ count
 uses_within (got.Step s) used count h = h.1

@@ -1,16 +1,49 @@
--- Records that are taken off the front of a stream.
-use Rattle.std.proofs.Common.{◌≡◌, ℕ, List, [], ◌∷◌, ◌++◌, replicate, refl, sym, ap, ap₂, ◌∙◌, append_assoc}
-use Rattle.std.specs.List.{flat_map}
+-- Records that are taken off the front of a stream, and turns of the last one.
+use Rattle.std.proofs.Common.{◌≡◌, ℕ, ◌+◌, ◌-◌, ◌≤◌, List, [], ◌∷◌, ◌++◌, replicate, refl, sym, ap, ◌∙◌, arith, append_assoc}
+use Rattle.std.proofs.lemmas.List.{replicate-append-replicate}
 use Rattle.machine_model.specs.Steps as machine
+use Rattle.capture_file.specs.declared.FileFault.{FileFault}
 use Rattle.capture_file.specs.declared.Step.{Step}
-use Rattle.capture_file.specs.Streams.{Reading, atomic, steps_run, with_step}
-use Rattle.turn_trace.specs.Traces.{Tracing}
+use Rattle.capture_file.specs.Readers.{resumed}
+use Rattle.capture_file.specs.Streams.{Bad, Reading, atomic, reading, steps_run, with_step}
+use Rattle.turn_trace.specs.Traces.{Tracing, after_all, lines}
 use Rattle.trace_play.specs.Playing.{Playing, coming, text_left}
 use Rattle.trace_play.specs.Texts.{rest_text}
+use Rattle.trace_play.proofs.Texts.{goes_on}
 
--- the first step of what is left was taken
-pub step_taken : (step : Step) (whole left : Reading) (t now : Tracing) (turns : ℕ) (old new : List ℕ) → whole ≡ with_step step left →
-    ((later : List machine.Step) → new ++ rest_text now (replicate turns machine.Turn ++ later) ≡ old ++ rest_text t (atomic step ++ later)) →
-    new ++ rest_text now (replicate turns machine.Turn ++ steps_run left.steps) ≡ old ++ rest_text t (steps_run whole.steps)
-step_taken step whole left t now turns old new is taken =
-    taken (steps_run left.steps) ∙ ap (λ (r : Reading). old ++ rest_text t (steps_run r.steps)) (sym is)
+module _ (before after : Playing) (old new : List ℕ) where
+  -- a step was taken of it
+  pub record_taken : (step : Step) → before.turns ≡ 0 → resumed before.reader before.bytes ≡ with_step step (resumed after.reader after.bytes) →
+      ((later : List machine.Step) → new ++ rest_text after.tracing (replicate after.turns machine.Turn ++ later) ≡ old ++ rest_text before.tracing (atomic step ++ later)) →
+      new ++ text_left after ≡ old ++ text_left before
+  record_taken step none is taken =
+      taken (steps_run (resumed after.reader after.bytes).steps)
+      ∙ ap (λ (r : Reading). old ++ rest_text before.tracing (steps_run r.steps)) (sym is)
+      ∙ ap (λ (n : ℕ). old ++ rest_text before.tracing (replicate n machine.Turn ++ steps_run (resumed before.reader before.bytes).steps)) (sym none)
+
+  -- only bytes were passed over
+  pub passed : after.tracing ≡ before.tracing → after.turns ≡ before.turns → resumed before.reader before.bytes ≡ resumed after.reader after.bytes → new ≡ old →
+      new ++ text_left after ≡ old ++ text_left before
+  passed same turns is text =
+      ap (λ (x : List ℕ). x ++ text_left after) text
+      ∙ ap (λ (t : Tracing). old ++ rest_text t (coming after)) same
+      ∙ ap (λ (n : ℕ). old ++ rest_text before.tracing (replicate n machine.Turn ++ steps_run (resumed after.reader after.bytes).steps)) turns
+      ∙ ap (λ (r : Reading). old ++ rest_text before.tracing (replicate before.turns machine.Turn ++ steps_run r.steps)) (sym is)
+
+-- turns of the record that was read last were taken
+pub turns_taken : (t now : Tracing) (old new : List ℕ) (count left : ℕ) (later : List machine.Step) → left ≤ count → now ≡ after_all t (replicate (count - left) machine.Turn) →
+    new ≡ old ++ lines t (replicate (count - left) machine.Turn) →
+    new ++ rest_text now (replicate left machine.Turn ++ later) ≡ old ++ rest_text t (replicate count machine.Turn ++ later)
+turns_taken t now old new count left later within is text =
+    let sum : count - left + left ≡ count = omega (arith, within) in
+    let both : replicate (count - left) machine.Turn ++ (replicate left machine.Turn ++ later) ≡ replicate count machine.Turn ++ later =
+    sym (append_assoc (replicate (count - left) machine.Turn) (replicate left machine.Turn) later)
+    ∙ ap (λ (list : List machine.Step). list ++ later) (replicate-append-replicate (count - left) left machine.Turn ∙ ap (λ (n : ℕ). replicate n machine.Turn) sum) in
+    goes_on t now old new (replicate (count - left) machine.Turn) (replicate left machine.Turn ++ later) is text
+    ∙ ap (λ (list : List machine.Step). old ++ rest_text t list) both
+
+-- no step is left behind a fault
+pub none_left : (p : Playing) (fault : FileFault) → p.turns ≡ 0 → resumed p.reader p.bytes ≡ reading [] (Bad fault) → coming p ≡ []
+none_left p fault none is =
+    ap (λ (n : ℕ). replicate n machine.Turn ++ steps_run (resumed p.reader p.bytes).steps) none
+    ∙ ap (λ (r : Reading). steps_run r.steps) is
