@@ -1,5 +1,5 @@
 -- Records that are taken off the front of a stream, and turns of the last one.
-use Rattle.std.proofs.Common.{◌≡◌, ℕ, ◌+◌, ◌-◌, ◌≤◌, List, [], ◌∷◌, ◌++◌, replicate, refl, sym, ap, ◌∙◌, arith, append_assoc}
+use Rattle.std.proofs.Common.{◌≡◌, ℕ, ◌+◌, ◌-◌, ◌^◌, ◌<◌, ◌≤◌, ◌⊎◌, inl, inr, List, [], ◌∷◌, ◌++◌, length, replicate, refl, sym, ap, ◌∙◌, arith, append_assoc}
 use Rattle.std.proofs.lemmas.List.{replicate-append-replicate}
 use Rattle.machine_model.specs.Steps as machine
 use Rattle.capture_file.specs.declared.FileFault.{FileFault}
@@ -7,7 +7,7 @@ use Rattle.capture_file.specs.declared.Step.{Step}
 use Rattle.capture_file.specs.Readers.{resumed}
 use Rattle.capture_file.specs.Streams.{Bad, Reading, atomic, reading, steps_run, with_step}
 use Rattle.turn_trace.specs.Traces.{Tracing, after_all, lines}
-use Rattle.trace_play.specs.Playing.{Playing, coming, text_left}
+use Rattle.trace_play.specs.Playing.{Playing, coming, text_left, weight}
 use Rattle.trace_play.specs.Texts.{rest_text}
 use Rattle.trace_play.proofs.Texts.{goes_on}
 
@@ -47,3 +47,14 @@ pub none_left : (p : Playing) (fault : FileFault) → p.turns ≡ 0 → resumed 
 none_left p fault none is =
     ap (λ (n : ℕ). replicate n machine.Turn ++ steps_run (resumed p.reader p.bytes).steps) none
     ∙ ap (λ (r : Reading). steps_run r.steps) is
+
+-- ---- what is left gets less
+
+-- where a record was taken
+pub lighter : (p now : Playing) → length now.bytes < length p.bytes → now.turns < 2 ^ 32 → weight now < weight p
+lighter p now fewer small = omega (arith, fewer, small)
+
+-- no more than at first
+pub at_most : {A : Type 0} (p first : Playing) → (A × (p ≡ first)) ⊎ (weight p < weight first) → weight p ≤ weight first
+at_most p first (inl (same, is)) = let e = ap weight is in omega (arith, e)
+at_most p first (inr less) = omega (arith, less)

@@ -6,7 +6,7 @@ ghost use Rattle.capture_file.specs.Records.{StepFits};
 ghost use Rattle.capture_file.specs.Streams.{atomic};
 ghost use Rattle.command_texts.specs.Texts.{lost_words, report_text};
 ghost use Rattle.machine_model.specs.Steps.{Step as MachineStep, Turn};
-ghost use Rattle.std.specs.Prelude.{◌≡◌, ◌+◌, ◌<◌, ◌≤◌, ◌++◌, [], List, codes, false, length, replicate, true};
+ghost use Rattle.std.specs.Prelude.{◌≡◌, ◌+◌, ◌^◌, ◌<◌, ◌≤◌, ◌++◌, [], List, codes, false, length, replicate, true};
 ghost use Rattle.std.specs.Fmt.{decimal};
 ghost use Rattle.trace_play.specs.Playing.{begun, coming, text_left, weight};
 ghost use Rattle.trace_play.specs.Texts.{rest_text};
@@ -104,6 +104,7 @@ impl<R: Ram> StreamTrace<R> {
         ensures text { (later : List MachineStep) → text.new.bytes ++ rest_text self.new.tracing (replicate self.new.turns Turn ++ later) ≡ text.old.bytes ++ rest_text self.old.tracing (atomic step ++ later) }
         ensures reader { self.new.reader ≡ self.old.reader }
         ensures bytes { self.new.bytes ≡ self.old.bytes }
+        ensures few { self.new.turns < 2 ^ 32 }
     {
         match step {
             Step::Push(queue, entry) => self.trace.push(queue, entry, text),
@@ -120,6 +121,7 @@ impl<R: Ram> StreamTrace<R> {
         requires room { array_string_len text.old + 400 ≤ 65536 }
         ensures text { text.new.bytes ++ text_left self.new ≡ text.old.bytes ++ text_left self.old }
         ensures less { result ≡ true → length self.new.bytes < length self.old.bytes }
+        ensures few { self.new.turns < 2 ^ 32 }
         ensures none { result ≡ false → coming self.new ≡ [] }
         ensures room { result ≡ false → text.new ≡ text.old }
     {
@@ -147,6 +149,7 @@ impl<R: Ram> StreamTrace<R> {
         requires room { array_string_len text.old + 400 ≤ 65536 }
         ensures text { text.new.bytes ++ text_left self.new ≡ text.old.bytes ++ text_left self.old }
         ensures less { result ≡ true → length self.new.bytes < length self.old.bytes }
+        ensures few { self.new.turns < 2 ^ 32 }
         ensures none { result ≡ false → coming self.new ≡ [] }
         ensures room { result ≡ false → text.new ≡ text.old }
     {

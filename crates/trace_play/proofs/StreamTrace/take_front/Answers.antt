@@ -24,8 +24,7 @@ returns-in-Some-take_turns-clause-text g c =
     let before : Playing = record { tracing = t.trace; turns = t.turns; reader = t.reader; bytes = drop t.at t.stream } in
     let step = Turns c.in-Some-take_turns.count in
     let taken = c.take_step-in-Some-take_turns in
-    let same = c.in_default.ensures.none in
-    let whole = front_used t.reader c.take_turns.new.self (got.Step step) t.at 5 t.stream c.as_bytes.result.now c.as_bytes.ensures.bytes (subst (λ r. Takes step 5 r _ c.take_turns.new.self) same c.in-Some-take_turns.ensures.some).whole in
+    let whole = front_used c.take_push.new.self c.take_turns.new.self (got.Step step) t.at 5 t.stream c.as_bytes.result.now c.as_bytes.ensures.bytes c.in-Some-take_turns.ensures.some.whole in
     record_taken before taken.new.self c.args.text.now.bytes taken.new.text.bytes step (ap (λ (p : Playing). p.turns) c.self.view_is ∙ c.requires.none)
-    (whole ∙ sym (ap₂ (λ r b. with_step step (resumed r b)) taken.ensures.reader taken.ensures.bytes)) taken.ensures.text
+    (ap (λ r. resumed r (drop t.at t.stream)) (sym c.in_default.ensures.none) ∙ whole ∙ sym (ap₂ (λ r b. with_step step (resumed r b)) taken.ensures.reader taken.ensures.bytes)) taken.ensures.text
     ∙ ap (λ (p : Playing). c.args.text.now.bytes ++ text_left p) c.self.view_is
