@@ -18,6 +18,7 @@ import subprocess
 import sys
 import tempfile
 
+import crates
 import make_examples
 from bt878 import broken, cases, check_model, descriptions, differences, examples, lay_out
 from bt878.as_compiled import BASE, as_compiled
@@ -248,6 +249,12 @@ def check_pictures(check):
         check.same(name + ", there and back", check.read("out"), raw)
 
 
+def check_crates(check):
+    """The table of crates is what crates.py makes; each crate stands behind those that it stands on."""
+    check.same("docs/ARCHITECTURE.md, table of crates (tools/crates.py --write)", crates.parts_of_page()[1], crates.table())
+    check.same("crates.txt, out of order", crates.out_of_order(check.read(os.path.join(TOP, "crates.txt")).decode()), [])
+
+
 def check_pages(check):
     """The pages' commands, at the top of the repository, with the program first on the path; the manual's elsewhere."""
     binary = os.path.join(check.folder, "bt878")
@@ -266,7 +273,7 @@ def check_pages(check):
 
 PARTS = [
     check_files, check_runs, check_machine, check_traces, check_install, check_lay_out, check_later, check_compiled, check_descriptions,
-    check_differences, check_shown, check_bugs, check_pictures, check_pages,
+    check_differences, check_shown, check_bugs, check_pictures, check_crates, check_pages,
 ]  # fmt: skip
 
 
