@@ -28,9 +28,11 @@ import time
 
 from bt878.as_compiled import BASE
 from bt878.built import Built
-from bt878.formats import one_span, program
+from bt878.formats import one_span, program, read_program
+from bt878.machine import Program
 from bt878.program_faults import program_fault
 from bt878.stream_faults import stream_fault
+from bt878.trace import trace
 
 DONE, REFUSED, USAGE, MALFORMED, READ_FAULT, WRITE_FAULT, NO_MEMORY, NO_TEXT = 0, 1, 2, 3, 4, 5, 6, 8
 STREAM_LIMIT = 4_294_967_295
@@ -162,7 +164,11 @@ COMMANDS = {
     "check": Command("P D", {"P": PROGRAM, "D": DESC}, "", SHOWN, {
         "P": one(ONE_LINE + skipping(20_000), pages(0x20000, 1)),
         "D": description([0x20000 + 0x1000 * i for i in range(1024)])}),
+    "trace": Command("P S", {"P": PROGRAM, "S": STREAM}, "", trace(Program(*read_program(PROGRAM)), STREAM).encode(), {
+        "P": one(ONE_LINE, pages(0x20000, 4096)), "S": long_stream(b"BFS1")}),
 }  # fmt: skip
+
+KEPT_LIMIT = 67_108_864  # the most bytes of a stream of `trace`
 
 # the stream that each command with one reads, and the input that holds it
 STREAMS = {"run": b"BFS1", "capture": b"BFS1", "damage": b"BFS1", "ring": b"BFS1", "chain": b"BFS3"}
@@ -775,6 +781,11 @@ def longest_program(count, page_count):
     return one([first, 0x800000, *rest], pages(0x800000, page_count))
 
 
+def jumps(count):
+    """A JUMP to itself and so many turns: each turn has a line."""
+    return {"P": one(numbers("70000000 00001000"), []), "S": b"BFS1\x05" + count.to_bytes(4, "little") + b"\0"}
+
+
 def openings(count):
     """A program of so many openings of the top field, behind each of which comes a byte of queue 2."""
     return one(numbers("80008004 0 80000006 0 a3000000 1") * count + numbers("70000000 00001000"), [])
@@ -808,6 +819,9 @@ def storm_list():
     storms.append(Storm("the largest program", "run", {"P": longest, **empty}, DONE, None, {"P": half, **empty}))
     storms.append(Storm("program: one byte too long", "list", {"P": longest + b"\0"}, MALFORMED,
                         b"program file: after end at %d\n" % len(longest)))  # fmt: skip
+    storms.append(Storm("a text of many pieces", "trace", jumps(1_000_000), DONE, None, jumps(500_000)))
+    stream, half = pushes(100_000)[0], pushes(50_000)[0]
+    storms.append(Storm("many pushes to full queues", "trace", {"S": stream}, DONE, None, {"S": half}))
     return storms + description_storms() + listing_storms() + checked_storms()
 
 
@@ -838,6 +852,8 @@ def storms(trial):
                         "at most 4 times the %.2f s of half the input, and 0.5 s" % half.seconds)  # fmt: skip
             trial.check(label + ": memory", answer.kilobytes <= 3 * half.kilobytes + 4096, "%d KiB" % answer.kilobytes,
                         "at most 3 times the %d KiB of half the input, and 4 MiB" % half.kilobytes)  # fmt: skip
+    if "trace" in trial.commands:
+        kept_streams(trial)
     for name in trial.commands:
         if name in STREAMS:
             sparse_stream(trial, name)
@@ -845,6 +861,24 @@ def storms(trial):
                 longest_stream(trial, name, 0)
                 longest_stream(trial, name, 1)
     trial.tool.launcher = None
+
+
+def kept_streams(trial):
+    """Streams of exactly the limit of `trace`, and of a byte more: the memory is that of the stream. And a text of 45 megabytes
+    of a stream of ten bytes takes no more memory than a text of none."""
+    records = (KEPT_LIMIT - 5) // 5
+    longest = b"BFS1" + b"\x05\0\0\0\0" * records + b"\x07\x03" * ((KEPT_LIMIT - 5) % 5 // 2)
+    longest += b"\0" * (KEPT_LIMIT - len(longest))
+    for name, inputs, most in (
+        ("the longest stream", {"S": longest}, KEPT_LIMIT // 1024 + 4096),
+        ("a byte more", {"S": longest + b"\0"}, KEPT_LIMIT // 1024 + 4096),
+        ("a text of 45 megabytes", jumps(1_000_000), 4096),
+    ):
+        answer = trial.tool.command("trace", inputs)
+        table_line(trial, name, "trace", max(map(len, inputs.values())), answer, None)
+        if name == "a byte more":
+            met(trial, "trace, " + name, answer, MALFORMED, b"stream file: too long at %d\n" % KEPT_LIMIT)
+        trial.check("trace, %s: memory" % name, answer.kilobytes <= most, "%d KiB" % answer.kilobytes, "%d KiB" % most)
 
 
 def sparse_stream(trial, name):

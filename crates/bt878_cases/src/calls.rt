@@ -119,6 +119,19 @@ pub fn played(
     left_by(alloc, &words, &words[1..3], &files, &words[3..], limits)
 }
 
+pub fn traced(
+    alloc: Global,
+    program: &[u8],
+    stream: &[u8],
+    failing: &[u64],
+    longest: usize,
+) -> Result<Left, AllocError> {
+    let words = ["trace", "program", "stream"];
+    let files = [program, stream];
+    let limits = Limits::new(failing, longest, 5000);
+    left_by(alloc, &words, &words[1..], &files, &[], limits)
+}
+
 pub fn compiled(
     alloc: Global,
     description: &[u8],

@@ -3,7 +3,7 @@
 use crate::buffers::{CHAIN_STREAM, FIRST, RING, RING_STREAM, SECOND};
 use crate::calls::{
     LONG, assembled, captured, chained, checked, compiled, damaged, judged, listed, made, played,
-    ringed,
+    ringed, traced,
 };
 use crate::cases::{ONE_LINE, ONE_LINE_LISTING, ONE_LINE_STREAM};
 use crate::left::Left;
@@ -25,13 +25,14 @@ enum Command {
     Compile,
     Make,
     Run,
+    Trace,
     Capture,
     Damage,
     Chain,
     Ring,
 }
 
-static COMMANDS: [Command; 11] = [
+static COMMANDS: [Command; 12] = [
     Command::List,
     Command::Verify,
     Command::Check,
@@ -39,6 +40,7 @@ static COMMANDS: [Command; 11] = [
     Command::Compile,
     Command::Make,
     Command::Run,
+    Command::Trace,
     Command::Capture,
     Command::Damage,
     Command::Chain,
@@ -56,6 +58,7 @@ impl Command {
             Command::Compile => compiled(alloc, FIRST, failing, longest, 5000),
             Command::Make => made(alloc, FIRST, failing, longest, 5000),
             Command::Run => played(alloc, ONE_LINE, ONE_LINE_STREAM, failing, longest),
+            Command::Trace => traced(alloc, ONE_LINE, ONE_LINE_STREAM, failing, longest),
             Command::Capture => captured(alloc, FIRST, STILL_STREAM, failing, longest, 5000),
             Command::Damage => damaged(alloc, FIRST, STILL_STREAM, failing, longest),
             Command::Chain => chained(alloc, FIRST, SECOND, CHAIN_STREAM, failing, longest),
@@ -70,7 +73,7 @@ impl Command {
             Command::Check => &[ONE_LINE, FIRST],
             Command::Assemble => &[ONE_LINE_LISTING],
             Command::Compile | Command::Make => &[FIRST],
-            Command::Run => &[ONE_LINE, ONE_LINE_STREAM],
+            Command::Run | Command::Trace => &[ONE_LINE, ONE_LINE_STREAM],
             Command::Capture | Command::Damage => &[FIRST, STILL_STREAM],
             Command::Chain => &[FIRST, SECOND, CHAIN_STREAM],
             Command::Ring => &[RING, RING_STREAM],
@@ -80,7 +83,8 @@ impl Command {
     /// How many outputs the command writes.
     fn outputs(self) -> u64 {
         match self {
-            Command::List | Command::Verify | Command::Check | Command::Damage => 0,
+            Command::List | Command::Verify | Command::Check => 0,
+            Command::Trace | Command::Damage => 0,
             Command::Capture | Command::Ring => 2,
             _ => 1,
         }

@@ -30,4 +30,6 @@ mod shown;
 #[cfg(test)]
 mod tests;
 #[cfg(test)]
+mod tracing;
+#[cfg(test)]
 mod words;

@@ -25,6 +25,13 @@ fn words_are_judged_in_order(rt: HostRuntime) {
     assert!(rt; reads(&["check", "a", "a"], Command::Check));
     assert!(rt; is_refused(&["check", "p"], UsageFault::WordCount));
     assert!(rt; is_refused(&["check", "p", "d", "e"], UsageFault::WordCount));
+    assert!(rt; reads(&["trace", "p", "s"], Command::Trace));
+    assert!(rt; is_refused(&["trace", "p"], UsageFault::WordCount));
+    assert!(rt; is_refused(&["trace", "p", "s", "i"], UsageFault::WordCount));
+    assert!(rt; reads(&["--help"], Command::Help));
+    assert!(rt; reads(&["--version"], Command::Version));
+    assert!(rt; is_refused(&["--help", "run"], UsageFault::WordCount));
+    assert!(rt; is_refused(&["-h"], UsageFault::UnknownCommand));
     assert!(rt; reads(&["compile", "d", "p"], Command::Compile));
     assert!(rt; reads(&["assemble", "t", "p"], Command::Assemble));
     assert!(rt; reads(&["chain", "d", "e", "s", "i"], Command::Chain));
