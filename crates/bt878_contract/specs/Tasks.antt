@@ -302,7 +302,6 @@ meaning (command.Ring ring stream program image) =
 meaning (command.Assemble text program) = made_of (Listing text.now) (AssembledOf program.now)
 meaning (command.Check program desc) =
     MakesOther (record { sources = SoundProgram program.now ∷ ShownDescription program.now desc.now ∷ []; makes = CheckOf; text = None })
-
 meaning (command.Trace program stream) =
     RunsProgram (record { source = SoundProgram program.now; stream = KeptStream stream.now; Gives = GivesSound; files = no_file; Says = Traces })
 meaning command.Help = prints_alone help_text

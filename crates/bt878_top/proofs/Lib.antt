@@ -2,4 +2,5 @@ pub mod Ending
 pub mod Products
 pub mod Playing
 mod Saying
+mod Tracing
 mod Statuses

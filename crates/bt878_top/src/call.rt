@@ -95,7 +95,7 @@ fn answer_task<D: Desk>(alloc: Global, task: Task<'_>, desk: &mut D) -> Answer
     ensures { Ends task.entry result (D.seen desk.old) (D.seen desk.new) }
 {
     match produce(alloc, task, desk) {
-        Ok(mut produced) => produced.deliver(desk),
+        Ok(produced) => produced.deliver(desk),
         Err(refusal) => refuse(alloc, refusal, desk),
     }
 }

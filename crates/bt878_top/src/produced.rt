@@ -124,16 +124,16 @@ impl Outputs<'_> {
 impl Produced<'_> {
     /// Writes the outputs of a command, one after the other, says its text, and answers `Done`; `WriteFault` up to
     /// the first call that fails, after which none follows.
-    pub fn deliver<D: Desk>(&mut self, desk: &mut D) -> Answer
-        requires { AreAllowed (names_of (product_of self.old).files) (D.seen desk.old).told.may_create }
-        ensures { Finishes (product_of self.old).files (product_of self.old).text result (D.seen desk.old) (D.seen desk.new) }
+    pub fn deliver<D: Desk>(self, desk: &mut D) -> Answer
+        requires { AreAllowed (names_of (product_of self).files) (D.seen desk.old).told.may_create }
+        ensures { Finishes (product_of self.entry).files (product_of self.entry).text result (D.seen desk.old) (D.seen desk.new) }
     {
         match self {
-            Produced::Ready(text) => say_alone(*text, desk),
+            Produced::Ready(text) => say_alone(text, desk),
             Produced::Checked(text) => say_alone(text.as_str(), desk),
-            Produced::Listing(listed) => say_whole(listed, desk),
-            Produced::Traced(trace) => say_trace(trace, desk),
-            Produced::Files { outputs, text } => outputs.deliver(text, desk),
+            Produced::Listing(listed) => say_whole(&listed, desk),
+            Produced::Traced(mut trace) => say_trace(&mut trace, desk),
+            Produced::Files { outputs, text } => outputs.deliver(&text, desk),
         }
     }
 }

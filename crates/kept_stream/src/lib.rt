@@ -64,11 +64,7 @@ fn judge(bytes: &[u8]) -> Result<(), FileFault>
 
 /// Reads a whole stream file, of BFS1 or BFS2. It is refused as `Malformed` at its first fault; it is too long where a byte
 /// stands at 67,108,864 and no fault stands lower (this project's own rule).
-pub fn keep_stream<D: Desk>(
-    alloc: Global,
-    name: &str,
-    desk: &mut D,
-) -> Result<KeptStream, Refusal>
+pub fn keep_stream<D: Desk>(alloc: Global, name: &str, desk: &mut D) -> Result<KeptStream, Refusal>
     requires { IsAllowed name.now (D.seen desk.old).told.may_open }
     ensures kept { IfOk result (λ stream. OfInput name.now (D.seen desk.old).told.inputs (λ content. content ≡ stream)) }
     ensures whole { IfOk result HoldsKept }

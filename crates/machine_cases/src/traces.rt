@@ -170,7 +170,7 @@ fn turns_without_a_line_are_counted(rt: HostRuntime) -> Result<(), Fail> {
 }
 
 #[test]
-fn nothing_is_said_at_the_end_behind_a_line(rt: HostRuntime) -> Result<(), Fail> {
+fn nothing_is_printed_at_the_end_behind_a_line(rt: HostRuntime) -> Result<(), Fail> {
     let mut t = traced(rt.alloc(), &ONE_LINE)?;
     let mut text = Lines::new();
     t.push_last(&mut text);
@@ -185,8 +185,8 @@ fn nothing_is_said_at_the_end_behind_a_line(rt: HostRuntime) -> Result<(), Fail>
 // A text that has no room for another step.
 fn is_full(t: &mut Trace<MapRam>) -> bool {
     let mut text = Lines::new();
-    while text.len() <= ROOM - LONGEST_STEP {
-        text.push_str("x");
+    for _line in 0..ROOM / 16 {
+        let _ = text.try_push_str("0123456789abcdef");
     }
     t.turns(7, &mut text) == 7 && t.machine().report().turns == 0
 }
