@@ -1,13 +1,12 @@
 -- The text of a trace over its first steps and the later ones, and that of a whole stream.
-use Rattle.std.proofs.Common.{◌≡◌, ℕ, false, List, [], ◌∷◌, ◌++◌, length, Ok, Err, refl, sym, ap, ap₂, ◌∙◌, append_assoc}
+use Rattle.std.proofs.Common.{◌≡◌, ℕ, false, List, ◌++◌, length, Ok, sym, ap, ap₂, ◌∙◌, append_assoc}
 use Rattle.machine_model.specs.States.{State}
 use Rattle.machine_model.specs.Steps as machine
-use Rattle.capture_file.specs.declared.FileFault.{FileFault}
 use Rattle.capture_file.specs.declared.Step.{Step}
-use Rattle.capture_file.specs.Readers.{fresh, resumed}
+use Rattle.capture_file.specs.Readers.{resumed}
 use Rattle.capture_file.specs.Streams.{Ending, Unfinished, Ended, Bad, steps_of, steps_run, stream_of, whole_file}
 use Rattle.kept_stream.specs.Kept.{longest_kept}
-use Rattle.turn_trace.specs.Traces.{Tracing, after_all, lines, tracing}
+use Rattle.turn_trace.specs.Traces.{Tracing, after_all, lines}
 use Rattle.turn_trace.proofs.Tracings.{after_all-append, lines-append}
 use Rattle.trace_play.specs.Playing.{begun, text_left}
 use Rattle.trace_play.specs.Texts.{end_text, rest_text, trace_text}

@@ -1,4 +1,3 @@
-use Rattle.std.proofs.Common.{sym, subst}
 use Rattle.bt878_top.proofs.Products.{help_made}
 use Rattle.bt878_top.proofs.call.produce.Goals as goal
 

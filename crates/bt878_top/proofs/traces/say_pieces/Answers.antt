@@ -1,7 +1,7 @@
-use Rattle.std.proofs.Common.{◌≡◌, ◌++◌, List, ℕ, [], Bool, subst}
+use Rattle.std.proofs.Common.{◌≡◌, ◌++◌, Bool, subst}
 use Rattle.std.proofs.lemmas.Result.{err_from_is_err_and}
 use Rattle.trace_play.specs.Playing.{text_left}
-use Rattle.bt878_top.proofs.Saying.{fault_later, piece_breaks_off, piece_said, said_both}
+use Rattle.bt878_top.proofs.Saying.{piece_breaks_off, piece_said, said_both}
 use Rattle.bt878_top.proofs.Tracing.{piece_made, still_to_say}
 use Rattle.bt878_top.proofs.traces.say_pieces.Goals as goal
 

@@ -1,6 +1,6 @@
-use Rattle.std.proofs.Common.{◌≡◌, ℕ, List, [], sym, ap, subst}
+use Rattle.std.proofs.Common.{◌≡◌, ℕ, List, [], sym, subst}
 use Rattle.bt878_words.specs.declared.Task.TheVariants.{Trace}
-use Rattle.machine_model.specs.States.{State, first_state}
+use Rattle.machine_model.specs.States.{State}
 use Rattle.command_inputs.specs.Programs.{a_sound_program}
 use Rattle.command_steps.specs.Inputs.{OfInput}
 use Rattle.kept_stream.specs.Kept.{a_kept_stream}

@@ -1,4 +1,4 @@
-use Rattle.std.proofs.Common.{◌≡◌, ◌<◌, ◌++◌, drop, refl, ap, ◌∙◌, arith, inr}
+use Rattle.std.proofs.Common.{◌++◌, drop, refl, ap, ◌∙◌, arith, inr}
 use Rattle.capture_file.specs.Readers.{resumed}
 use Rattle.capture_file.specs.Streams.{steps_run}
 use Rattle.trace_play.specs.Playing.{Playing, text_left, weight}

@@ -1,4 +1,4 @@
-use Rattle.std.proofs.Common.{◌≡◌, drop, sym, ap, ap₂, ◌∙◌, ◌++◌}
+use Rattle.std.proofs.Common.{drop, sym, ap, ap₂, ◌∙◌, ◌++◌}
 use Rattle.capture_file.specs.declared.Step.TheVariants.{Push, Turns}
 use Rattle.capture_file.specs.declared.reader.Got.TheVariants as got
 use Rattle.capture_file.specs.Readers.{resumed}

@@ -1,4 +1,4 @@
-use Rattle.std.proofs.Common.{◌≡◌, ◌+◌, drop, refl, sym, ap, ap₂, ◌∙◌, ◌++◌}
+use Rattle.std.proofs.Common.{◌+◌, drop, refl, sym, ap, ap₂, ◌∙◌, ◌++◌}
 use Rattle.capture_file.specs.Readers.{resumed}
 use Rattle.capture_file.specs.Streams.{with_step}
 use Rattle.capture_file.proofs.Answered.{failed-ends}
