@@ -5,7 +5,7 @@ use Rattle.std.proofs.Math.Nat.{mul_comm}
 use Rattle.std.proofs.Math.Pow.{mod-mod-pow}
 use Rattle.bit_field.specs.Bits.{IsApart, bits, with_bits}
 
--- what stands above the field, and the new number
+-- what is above the field, and the new number
 abbrev pub upper : ℕ → ℕ → ℕ → ℕ → ℕ
 upper low width word value = word / 2 ^ (low + width) * 2 ^ width + value
 
@@ -37,7 +37,7 @@ replaced_value low width word value fits =
     rw (replaced_parts low width word value, shr_high (upper low width word value) low (word % 2 ^ low) (mod_below word (2 ^ low) (pow_pos low)))
     (mod_low (word / 2 ^ (low + width)) width value fits)
 
--- what stands below the field, and what stands above it, are as they were
+-- what is below the field, and what is above it, are as they were
 pub replaced_low : (low width word value : ℕ) → with_bits low width word value % 2 ^ low ≡ word % 2 ^ low
 replaced_low low width word value =
     rw (replaced_parts low width word value) (mod_low (upper low width word value) low (word % 2 ^ low) (mod_below word (2 ^ low) (pow_pos low)))

@@ -23,7 +23,7 @@ abbrev pub queues_of : List QueueState → ℕ → Queues
 queues_of states lost =
     record { one = queue_at states 0; two = queue_at states 1; three = queue_at states 2; control_overruns = lost }
 
--- what holds of the fields of a `Ring`, beside what its queue's value says
+-- what holds of the fields of a `Ring`, beside its queue's value
 pub record IsRing (entries : List Entry) (capacity wakers : ℕ) : Type 0 where
   pub most : capacity ≤ max_capacity
   pub within : length entries ≤ capacity

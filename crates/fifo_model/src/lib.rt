@@ -36,7 +36,7 @@ pub enum Queue {
 /// An entry of a queue: a DWORD with its status. Lane k of the DWORD is bits 8k + 7 to 8k.
 #[derive(Clone, Copy, Debug, PartialEq, Eq)]
 pub struct Entry {
-    /// It says how many lanes hold bytes, from lane 0 on.
+    /// Which lanes hold bytes: so many, from lane 0 on.
     pub status: Status,
     /// Lane 0, its lowest bits, is the first byte.
     pub dword: u32,
@@ -45,7 +45,7 @@ pub struct Entry {
 /// What became of a push.
 #[derive(Clone, Copy, Debug, PartialEq, Eq)]
 pub enum Pushed {
-    /// It stands in its queue.
+    /// It is in its queue.
     Held,
     /// It was lost: a queue was full.
     Overrun,
@@ -169,7 +169,7 @@ impl Fifo {
         self.rings[q.place()].taken()
     }
 
-    /// Takes the next `n` bytes of a queue's front: they stand in the front of `out`, and the rest of
+    /// Takes the next `n` bytes of a queue's front: they come into the front of `out`, and the rest of
     /// `out` stays. It answers how many bytes were taken before. The front leaves the queue with its
     /// last valid byte.
     #[inline]

@@ -167,7 +167,7 @@ other_raised register flags i h = omega (arith, h, bit_at_or register flags i)
 pub fdsr-raised_ocerr : (register : ℕ) → has fdsr (raised register ocerr) ≡ has fdsr register
 fdsr-raised_ocerr register = ap (λ x. x == 1) (other_raised register ocerr 14 refl)
 
--- a raised flag stands
+-- a raised flag is set
 pub fdsr-raised_fdsr : (register : ℕ) → has fdsr (raised register fdsr) ≡ true
 fdsr-raised_fdsr register =
     let there : bit_at fdsr 14 ≡ 1 = refl in

@@ -25,7 +25,7 @@ has_ocerr register = has ocerr register
 abbrev pub interrupts : ℕ
 interrupts = risci + fbus + fdsr + ocerr
 
--- the RISC status, four bits, and what stands below it
+-- the RISC status, four bits, and what is below it
 abbrev pub risc_status : ℕ → ℕ
 risc_status register = register / 2 ^ 28
 

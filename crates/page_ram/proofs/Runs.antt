@@ -1,4 +1,4 @@
--- Bytes that stand one behind the other in one chunk.
+-- Bytes that are one behind the other in one chunk.
 use Rattle.std.proofs.Common.{◌≡◌, ℕ, suc, ◌+◌, ◌≤◌, ◌<◌, List, [], ◌∷◌, length, get_or, refl, ap, ◌∙◌, arith}
 use Rattle.std.proofs.Math.ListN.{get_or-map, set}
 use Rattle.std.proofs.lemmas.List.{length-map}
@@ -22,7 +22,7 @@ first_stands extents place address count index run =
       run.indexed,
     )
 
--- such bytes are written where they stand
+-- such bytes are written where they are
 pub record IsWritten (block : List ℕ) (extents : List Extent) (address index : ℕ) (bytes : List ℕ) : Type 0 where
   pub inside : index + length bytes ≤ length block
   pub memory : stored_run (laid block extents) address bytes ≡ laid (set_run block index bytes) extents

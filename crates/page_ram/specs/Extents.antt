@@ -32,13 +32,13 @@ pub record AreCut (bytes : List ℕ) (extents : List Extent) : Type 0 where
 abbrev pub extent_at : List Extent → ℕ → Extent
 extent_at extents place = slice_index_or extents place (record { at = 0; len = 0; from = 0 })
 
--- the byte at an address stands in the chunk at the place, and at the index of the block
+-- the byte at an address is in the chunk at the place, and at the index of the block
 abbrev pub StandsAt : List Extent → ℕ → ℕ → ℕ → Type 0
 StandsAt extents address place index =
     let extent = extent_at extents place in
     HasAddress (extent_chunks extents) place address × (index ≡ extent.from + (address - extent.at))
 
--- bytes at addresses from one on stand in the chunk at the place, and from the index of the block on
+-- bytes at addresses from one on are in the chunk at the place, and from the index of the block on
 pub record StandsRun (extents : List Extent) (place address count index : ℕ) : Type 0 where
   pub there : place < length extents
   pub begins : (extent_at extents place).at ≤ address

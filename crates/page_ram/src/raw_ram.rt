@@ -42,7 +42,7 @@ fn guess_of(addr: u32) -> usize
     (addr / PAGE_SIZE) as usize % GUESSES
 }
 
-// Where the byte at an address stands: the place of its chunk, looked for first at the place `near`, and its
+// Where the byte at an address is: the place of its chunk, looked for first at the place `near`, and its
 // index in the block.
 fn locate(extents: &[Extent], near: usize, addr: u32) -> (usize, usize)
     requires grants { AreGrants (extent_chunks extents.now) }
@@ -55,7 +55,7 @@ fn locate(extents: &[Extent], near: usize, addr: u32) -> (usize, usize)
     (place, extent.from + (addr - extent.at) as usize)
 }
 
-// The index in the block from which so many bytes at addresses from `addr` on stand, where the chunk at the
+// The index in the block from which on so many bytes at addresses from `addr` on are, where the chunk at the
 // place has them all.
 #[inline]
 fn run_in(extents: &[Extent], place: usize, addr: u32, count: usize) -> Option<usize>
@@ -96,7 +96,7 @@ fn lay_out(alloc: Global, grants: &PageSet) -> Result<(Vec<Extent>, usize), Allo
     Ok((extents, from))
 }
 
-/// The fast memory: the bytes of all chunks stand one behind the other in one raw block, which is taken
+/// The fast memory: the bytes of all chunks are one behind the other in one raw block, which is taken
 /// in `new` and freed once, when the memory is dropped. Only `new` takes memory.
 #[derive(Drop)]
 pub struct PageRam {

@@ -80,7 +80,7 @@ one_more_pair entries pairs i aligned within so_far apart =
     let done = one_more (listed entries) (listed (take i pairs)) (listed (drop (i + 1) pairs)) (listed pairs) (pair_chunk pair) here good apart in
     rw (placing, before) done
 
--- chunks that rise as they stand are in order, and share no byte
+-- chunks that rise as they are are in order, and share no byte
 
 -- those before them end where they begin, or earlier
 abbrev pub EndBy : ℕ → List Chunk → Type 0

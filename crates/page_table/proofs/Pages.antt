@@ -27,7 +27,7 @@ pub pages_aligned : (pages : List ℕ) → ((k : ℕ) → k < length pages → g
 pages_aligned pages fit none = All-map (λ c. is_aligned c ≡ true) page_at pages
     (λ k d within. page_aligned (get_or pages k d) (subst (λ page. page < 2 ^ 32) (get_or_default pages k 0 d within) (fit k within)) (none_found is_page_address pages none k d within))
 
--- what is left to say of a list of pages with no fault but that some may share a byte
+-- what is left to decide of a list of pages with no fault but that some may share a byte
 pub taken_pages-aligned : (pages : List ℕ) → length pages ≤ 4096 → position (λ page. not (is_page_address page)) pages ≡ None → taken_pages pages ≡ unless_shared (first_shared [] (map page_at pages)) (map page_at pages)
 taken_pages-aligned pages few aligned =
     cond-false (nat_lt 4096 (length pages)) _ _ (le-ltb 4096 (length pages) few)

@@ -7,7 +7,7 @@ use Rattle.std.specs.Prelude.{nat_lt}
 use Rattle.page_table.specs.Grants.{Chunk, IsChunk, AreRising, total}
 use Rattle.page_table.specs.Taken.{shares, placed}
 
--- chunks that share no byte stand apart
+-- of chunks that share no byte one ends before the other begins
 pub stand_apart : (c d : Chunk) → shares c d ≡ false → (d.at + d.len ≤ c.at) ⊎ (c.at + c.len ≤ d.at)
 stand_apart c d apart =
     ⊎_elim (λ e. inl (ltb-false _ _ e)) (λ e. inr (ltb-false _ _ e)) (and_cases _ _ apart)

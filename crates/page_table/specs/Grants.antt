@@ -53,7 +53,7 @@ pub record IsChunk (c : Chunk) : Type 0 where
   pub some : 4 ≤ c.len
   pub ends : c.at + c.len ≤ 2 ^ 32
 
--- chunks that stand in rising order from an address on and share no byte
+-- chunks in rising order from an address on and share no byte
 abbrev pub AreRising : ℕ → List Chunk → Type 0
 AreRising from [] = Unit {0}
 AreRising from (c ∷ rest) = (from ≤ c.at) × IsChunk c × AreRising (c.at + c.len) rest

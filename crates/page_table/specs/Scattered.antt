@@ -60,7 +60,7 @@ scattered_pages pages len =
 abbrev pub scattered_chunks : List Chunk → ℕ → Result ScatterList ScatterFault
 scattered_chunks chunks len = if_enough len (total chunks) (scatter_list chunks len)
 
--- a call answers this; only want of memory is free
+-- a call answers this, or that it is out of memory
 abbrev pub Scatters : Result ScatterList ScatterFault → Result ScatterList ScatterFault → Type 0
 Scatters wanted (Ok s) = wanted ≡ Ok s
 Scatters wanted (Err Memory) = ⊤

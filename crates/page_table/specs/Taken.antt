@@ -27,7 +27,7 @@ is_page_address address = address % page_size == 0
 abbrev pub shares : Chunk → Chunk → Bool
 shares c d = nat_lt c.at (d.at + d.len) && nat_lt d.at (c.at + c.len)
 
--- the place of the first chunk that shares a byte with an earlier one; some earlier chunks stand before the list
+-- the place of the first chunk that shares a byte with an earlier one; some earlier chunks are before the list
 abbrev pub first_shared : List Chunk → List Chunk → Option ℕ
 first_shared earlier [] = None
 first_shared earlier (c ∷ rest) =
@@ -74,7 +74,7 @@ taken_chunks pairs =
     unless_many (nat_lt max_chunks (length pairs) || nat_lt max_bytes (total (listed pairs)))
     (position (λ pair. not (is_aligned (pair_chunk pair))) pairs) (listed pairs)
 
--- a call answers this; only want of memory is free
+-- a call answers this, or that it is out of memory
 abbrev pub Answers : Taking → Taking → Type 0
 Answers wanted (Ok grants) = wanted ≡ Ok grants
 Answers wanted (Err Memory) = ⊤

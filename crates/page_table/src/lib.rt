@@ -39,7 +39,7 @@ pub enum PageFault {
     Unaligned(u32),
     /// An entry shares a byte with one before it.
     Twice(u32),
-    /// Want of memory.
+    /// Out of memory.
     Memory,
 }
 
@@ -126,14 +126,14 @@ fn first_off_page(pages: &[u32]) -> Option<usize>
 }
 
 /// The pages at some addresses as chunks, an address and a length in bytes each, in the order of the list. The
-/// error is want of memory.
+/// error is out of memory.
 pub fn whole_pages(alloc: Global, pages: &[u32]) -> Result<Vec<(u32, u32)>, AllocError>
     ensures { IfOk result (λ chunks. chunks.items ≡ map (λ page. (page, page_size)) pages.now) }
 {
     pages.iter().map(|page| (*page, PAGE_SIZE)).collect(alloc)
 }
 
-// Whether a chunk shares a byte with one of the set: the last that begins before its end tells.
+// Whether a chunk shares a byte with one of the set: the last that begins before its end decides.
 fn shares_byte(set: &BTreeMap<u32, u32>, at: u32, len: u32) -> bool
     requires chunk { IsChunk (chunk at len) }
     requires rising { AreRising 0 (listed set.now.entries) }
@@ -145,7 +145,7 @@ fn shares_byte(set: &BTreeMap<u32, u32>, at: u32, len: u32) -> bool
     }
 }
 
-// Whether chunks rise as they stand, and share no byte.
+// Whether chunks rise as they are, and share no byte.
 fn are_rising(chunks: &[(u32, u32)]) -> bool
     requires { All (λ c. is_aligned c ≡ true) (listed chunks.now) }
     ensures { IsTrue result ↔ AreRising 0 (listed chunks.now) }
@@ -180,7 +180,7 @@ fn sorted(alloc: Global, chunks: &[(u32, u32)]) -> Result<PageSet, PageFault>
 }
 
 // Puts aligned chunks into rising order, unless one shares a byte with one before it. Those of a
-// program file rise already, and are taken as they stand.
+// program file rise already, and are taken as they are.
 fn gathered(alloc: Global, chunks: &[(u32, u32)]) -> Result<PageSet, PageFault>
     requires few { length (listed chunks.now) ≤ max_chunks }
     requires small { total (listed chunks.now) ≤ max_bytes }
@@ -246,7 +246,7 @@ impl<T: Drop> From<AllocFailed<T>> for PageFault {
 }
 
 impl PageSet {
-    /// The pages of 4,096 bytes at these addresses, which may stand in any order. Of several faults
+    /// The pages of 4,096 bytes at these addresses, in any order. Of several faults
     /// the answer is the first in the order of `PageFault`, at the first place that has it.
     pub fn from_list(alloc: Global, pages: &[u32]) -> Result<PageSet, PageFault>
         ensures answer { Answers (taken_pages pages.now) result }
@@ -262,7 +262,7 @@ impl PageSet {
         gathered(alloc, &chunks)
     }
 
-    /// The chunks with these addresses and lengths in bytes, in any order. Faults are told as by
+    /// The chunks with these addresses and lengths in bytes, in any order. Faults are answered as by
     /// `from_list`.
     pub fn from_chunks(alloc: Global, chunks: &[(u32, u32)]) -> Result<PageSet, PageFault>
         ensures answer { Answers (taken_chunks chunks.now) result }

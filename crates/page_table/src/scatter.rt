@@ -17,7 +17,7 @@ use std::marker::Model;
 pub enum ScatterFault {
     /// More pages are needed than there are; of chunks both numbers are bytes.
     TooFew { need: u64, have: u64 },
-    /// Want of memory.
+    /// Out of memory.
     Memory,
 }
 

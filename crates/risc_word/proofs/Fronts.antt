@@ -1,4 +1,4 @@
--- An instruction is read from as many words as its opcode says.
+-- An instruction is read from as many words as its opcode asks for.
 use Rattle.std.proofs.Common.{◌≡◌, ℕ, zero, suc, ◌+◌, ◌-◌, ◌<◌, max, Bool, true, false, List, [], ◌∷◌, length, drop, take, refl, sym, ap, subst, ◌∙◌, arith, if◌then◌else◌, ◌==◌, slice_index, eqb-true, length-drop, add-zero}
 use Rattle.std.proofs.lemmas.List.{get_or-drop}
 use Rattle.bit_field.specs.Bits.{bits}
@@ -57,7 +57,7 @@ by_opcode-front opcode word rest =
     (chosen opcode 10 _ _ _ _ (λ e. subst (λ o. skip_123_at word rest ≡ skip_123_at word (after_first o rest)) (sym e) (skip_123_front word rest))
     (chosen opcode 11 _ _ _ _ (λ e. subst (λ o. write_1_s_23_at word rest ≡ write_1_s_23_at word (after_first o rest)) (sym e) (write_1_s_23_front word rest)) refl)))))))
 
--- how many words are read: one, or as many as the opcode says
+-- how many words are read: one, or as many as the opcode asks for
 first_instr-front : (words : List ℕ) → first_instr words ≡ first_instr (take (max 1 (opcode_length (bits 28 4 (slice_index words 0)))) words)
 first_instr-front [] = refl
 first_instr-front (word ∷ rest) =

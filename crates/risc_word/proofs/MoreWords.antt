@@ -1,4 +1,4 @@
--- What words stand for doesn't change where more words stand behind them, but for an instruction that they cut.
+-- What words stand for doesn't change where more words are behind them, but for an instruction that they cut.
 use Rattle.std.proofs.Common.{◌≡◌, ℕ, List, [], ◌∷◌, ◌++◌, Bool, true, false, Err, refl, inl, inr}
 use Rattle.std.specs.Prelude.{◌==◌, if◌then◌else◌, ◌⊎◌}
 use Rattle.bit_field.specs.Bits.{bits}

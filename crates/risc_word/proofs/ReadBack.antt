@@ -1,4 +1,4 @@
--- An instruction is read where its words stand.
+-- An instruction is read where its words are.
 use Rattle.std.proofs.Common.{ℕ, ◌≡◌, ◌<◌, Bool, true, List, [], ◌∷◌, ◌++◌, length, Some, Ok, refl, arith, append_assoc}
 use Rattle.std.specs.Prelude.{IsTrue, nat_lt, ◌&&◌}
 use Rattle.std.proofs.lemmas.Bool.{and_parts, ltb-true}

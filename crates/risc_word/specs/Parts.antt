@@ -16,11 +16,11 @@ instr_ctl (Write123 ctl ends off counts addrs) = ctl
 instr_ctl (Skip123 ctl ends counts) = ctl
 instr_ctl (Write1S23 ctl ends off counts addr) = ctl
 
--- the marks of an instruction that stands in no line
+-- the marks of an instruction that is in no line
 abbrev pub no_ends : Ends
 no_ends = record { sol = false; eol = false }
 
--- where it stands in its line
+-- where it is in its line
 abbrev pub instr_ends : Instr → Ends
 instr_ends (Write ctl ends off count addr) = ends
 instr_ends (Skip ctl ends count) = ends

@@ -1,4 +1,4 @@
--- Which instruction stands at a word of a program, and the words that stand for an instruction.
+-- Which instruction is at a word of a program, and the words that stand for an instruction.
 use Rattle.std.specs.Prelude.{◌≡◌, IsTrue, length, ◌++◌, ℕ, ◌+◌, ◌*◌, ◌^◌, Bool, true, false, ◌&&◌, List, [], ◌∷◌, drop, Option, Some, None, Result, Ok, Err, if◌then◌else◌, ◌==◌, nat_lt}
 use Rattle.std.specs.List.{list_all}
 use Rattle.bit_field.specs.Bits.{bits}
@@ -48,7 +48,7 @@ three_counts word counts = first_count word ∷ bits 0 12 counts ∷ bits 16 12 
 abbrev pub Reading : Type 0
 Reading = Result (Instr × ℕ) WordFault
 
--- what stands at a first word of each opcode, by the words after it
+-- what is at a first word of each opcode, by the words after it
 abbrev pub write_at : ℕ → List ℕ → Reading
 write_at word (address ∷ _) =
     Ok (Write (control_bits word) (line_ends word) (lanes_off word) (first_count word) address, 2)
@@ -158,7 +158,7 @@ planar_words opcode ctl ends off (first ∷ second ∷ third ∷ []) addresses =
     data_word opcode ctl ends off first ∷ counts_word second third ∷ addresses
 planar_words opcode ctl ends off _ addresses = []
 
--- the one spelling of an instruction: every bit that no field names is 0
+-- the canonical encoding of an instruction: every bit that no field names is 0
 abbrev pub encoded : Instr → List ℕ
 encoded (Write ctl ends off count addr) = data_word 1 ctl ends off count ∷ addr ∷ []
 encoded (Skip ctl ends count) = data_word 2 ctl ends 0 count ∷ []
@@ -197,7 +197,7 @@ HasThree _ = Unit {0}
 abbrev pub IsInstr : Instr → Type 0
 IsInstr instr = IsTrue (fits instr) × HasThree instr
 
--- an instruction is read where its words stand, whatever stands before and after them
+-- an instruction is read where its words are, whatever is before and after them
 abbrev pub IsReadBack : Instr → Type 0
 IsReadBack instr =
     (before after : List ℕ) → instr_at (before ++ encoded instr ++ after) (length before) ≡ Ok (instr, length (encoded instr))

@@ -74,7 +74,7 @@ impl Ctl {
     }
 }
 
-/// Where a data instruction stands in its line.
+/// Where a data instruction is in its line.
 #[derive(Clone, Copy, Debug, PartialEq, Eq)]
 pub struct Ends {
     /// The first instruction of the line.
@@ -210,7 +210,7 @@ impl Instr {
         }
     }
 
-    /// Where the instruction stands in its line. A JUMP and a SYNC stand in none: neither first nor last.
+    /// Where the instruction is in its line. A JUMP and a SYNC are in none: neither first nor last.
     #[inline]
     pub fn ends(&self) -> Ends
         ensures { result ≡ instr_ends self.now }
@@ -248,7 +248,7 @@ fn counts_fit(counts: &[u16; 3]) -> bool
     counts.iter().all(|count| *count < 4096)
 }
 
-/// Why no instruction stands at a word.
+/// Why no instruction is at a word.
 #[derive(Clone, Copy, Debug, PartialEq, Eq)]
 pub enum WordFault {
     /// The opcode is reserved.

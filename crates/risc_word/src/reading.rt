@@ -1,4 +1,4 @@
-//! The instruction that stands at a word of a program.
+//! The instruction at a word of a program.
 
 ghost use Rattle.bit_field.specs.Bits.{bits};
 ghost use Rattle.risc_word.specs.Words.{IsInstr, by_opcode, control_bits, instr_at, jump_at, line_ends, opcode_length, skip_123_at, skip_at, sync_at, three_counts, write_123_at, write_1_s_23_at, write_at, write_c_at};
@@ -228,7 +228,7 @@ fn reading_at(words: &[u32], at: usize) -> Reading
 
 /// The instruction at word `at`, counted from 0, and its length in words (Bt878 data sheet, "RISC
 /// instructions"). Bits that no field names are ignored, and so is the second word of a SYNC. The fault
-/// is the first that holds of these: no word stands there, the opcode is reserved, a further word is
+/// is the first that holds of these: no word is there, the opcode is reserved, a further word is
 /// missing, a SYNC names no control code.
 #[inline(always)]
 pub fn decode(words: &[u32], at: usize) -> Result<(Instr, u8), WordFault>

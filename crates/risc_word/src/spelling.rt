@@ -130,7 +130,7 @@ pub fn encode(instr: &Instr, out: &mut [u32; 5]) -> u8
     }
 }
 
-/// An instruction that was encoded is read back where its words stand, whatever stands around them. The
+/// An instruction that was encoded is read back where its words are, whatever is around them. The
 /// function does nothing; its contract is the law.
 pub fn encoding_is_read_back()
     ensures { (instr : Instr) → IsInstr instr → IsReadBack instr }

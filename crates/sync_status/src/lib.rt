@@ -24,7 +24,7 @@ impl Model for Status {
     ghost inverse = { λ n. record { nibble = n } };
 }
 
-/// What a status code says of its entry.
+/// What a status code means for its entry.
 #[derive(Clone, Copy, Debug, PartialEq, Eq)]
 pub enum StatusKind {
     /// A control code, without data.
@@ -46,7 +46,7 @@ pub enum Verdict {
     Take(u8),
     /// Drop it and go on.
     Discard,
-    /// A control code stands in the line.
+    /// A control code is in the line.
     Broken,
     /// The line's rest never came: the next line begins.
     Missing,
@@ -72,7 +72,7 @@ impl Status {
     }
 }
 
-/// What the status says of its entry (Bt878 data sheet, "FIFO interface"). The kind of a code that
+/// What the status means for its entry (Bt878 data sheet, "FIFO interface"). The kind of a code that
 /// the chip does not use is Reserved.
 #[inline]
 pub fn kind(s: Status) -> StatusKind
