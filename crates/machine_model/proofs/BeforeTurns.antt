@@ -94,7 +94,7 @@ count_by (Some word) rest = refl
 pub words_read-is : (program : RiscProgram) (pc : ℕ) → words_read program pc ≡ max 1 (opcode_length (bits 28 4 (slice_index (words_from 5 program pc) 0)))
 words_read-is program pc = count_by (word_at program pc) (words_from 4 program (pc + 4))
 
--- all the words of an instruction are words of the program, as many as its opcode says
+-- all the words of an instruction are words of the program, as many as its opcode asks for
 pub fetch-KnownAt : (program : RiscProgram) (pc : ℕ) (instr : Instr) (count : ℕ) → fetch program pc ≡ Ok (instr, count) →
     KnownAt (words_from 5 program pc) 0 instr count
 fetch-KnownAt program pc instr count h = known_at (words_from 5 program pc) 0 instr count h
@@ -174,7 +174,7 @@ module _ (m : State) (sound : IsSound m.program) (safe : IsSafe m) where
   pub pc-is_word : is_word m.program m.pc ≡ true
   pc-is_word = pc_at m.job refl
 
-  -- idle, an instruction stands at pc
+  -- idle, an instruction is at pc
   abbrev pub place : Place
   place = path m.program number
 

@@ -13,7 +13,7 @@ use Rattle.machine_model.specs.Accesses.{word_addresses, words_read, fetched_by,
 use Rattle.machine_model.proofs.BeforeTurns.{word_read, words_read-is}
 use Rattle.machine_model.proofs.SameTurn.{IsReadAlike, turn-with_program}
 
--- as many words are read, where words stand at the same addresses
+-- as many words are read, where words are at the same addresses
 long_by : (first second : Option ℕ) (a b : List ℕ) → is_there first ≡ is_there second → length a ≡ length b →
     length (elim first as (λ _. List ℕ) [ None ↦ [] | Some word ↦ word ∷ a ]) ≡ length (elim second as (λ _. List ℕ) [ None ↦ [] | Some word ↦ word ∷ b ])
 long_by None None a b e h = refl

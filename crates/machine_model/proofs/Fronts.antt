@@ -52,7 +52,7 @@ front-stray One queues h = front_stray (front queues.one) (first_of_three _ _ _ 
 front-stray Two queues h = front_stray (front queues.two) (first_of_three _ _ _ Two h)
 front-stray Three queues h = front_stray (front queues.three) (first_of_three _ _ _ Three h)
 
--- a common code stands at each front
+-- a common code is at each front
 pub codes_there : (one two three : Option Code) (seen : Code) → code_if one two three ≡ Some seen → IsSome one × IsSome two × IsSome three
 codes_there (Some a) (Some b) (Some c) seen h = (refl, refl, refl)
 codes_there (Some a) (Some b) None seen h = cc

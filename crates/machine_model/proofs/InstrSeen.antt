@@ -1,4 +1,4 @@
--- A running instruction stands at the address that is seen.
+-- A running instruction is at the address that is seen.
 use Rattle.std.proofs.Common.{◌≡◌, ℕ, Bool, true, false, Option, Some, None, Ok, refl, sym, ap, subst, ◌∙◌, arith}
 use Rattle.risc_word.specs.declared.Instr.{Instr}
 use Rattle.fifo_model.specs.declared.Queue.{Queue}
@@ -20,7 +20,7 @@ at-running true at ds m = refl
 at-running false at ds m = at-served (lowest_served ds m) at m
 
 module _ (m : State) (instr : Instr) (ds : Demands) (sound : IsSound m.program) (safe : IsSafe m) (runs : m.job ≡ Running instr ds) where
-  -- the address before a running instruction is that at which it stands
+  -- the address before a running instruction is its own
   pub running-StandsAt : StandsAt m instr (address_before m.pc instr)
   running-StandsAt =
       let there = running-RunsAt m sound safe instr ds runs in

@@ -1,4 +1,4 @@
--- A program of one span is its base and its words: what stands at an address, what is fetched there, and that it can be made.
+-- A program of one span is its base and its words: what is at an address, what is fetched there, and that it can be made.
 use Rattle.std.proofs.Common.{◌≡◌, ℕ, zero, suc, ◌+◌, ◌-◌, ◌*◌, ◌/◌, ◌%◌, ◌^◌, ◌<◌, ◌≤◌, ⊎_elim, max, min, Bool, true, false, ◌&&◌, ◌||◌, List, [], ◌∷◌, length, take, drop, All, Some, None, refl, sym, ap, ◌∙◌, arith}
 use Rattle.std.proofs.Common.{if◌then◌else◌, ◌==◌, nat_lt, nat_le, slice_index, append-nil, lt-ltb, le-leb, eq-eqb, leb-true, eqb-true, ltb-true}
 use Rattle.std.specs.List.{list_any}
@@ -46,7 +46,7 @@ module _ (base : ℕ) where
       sym (never (nat_le base address) ((address - base) % 4 == 0) _ (ge-ltb ((address - base) / 4) 0 (omega arith)))
   is_word-one_span (word ∷ words) grants address = if_there (stands_in (span base (word ∷ words)) address) _
 
-  -- the word of a number stands four bytes behind the one before
+  -- the word of a number is four bytes behind the one before
   pub word_at-one_span : (n : ℕ) (words : List ℕ) (grants : List Chunk) → n < length words →
       word_at (one_span base words grants) (base + 4 * n) ≡ Some (slice_index words n)
   word_at-one_span n [] grants h = absurd (omega arith)
@@ -59,7 +59,7 @@ module _ (base : ℕ) where
       ap (λ stands. if stands then Some (slice_index (word ∷ words) ((base + 4 * n - base) / 4)) else None) stands
       ∙ ap (λ k. Some (slice_index (word ∷ words) k)) number
 
-  -- behind the last word none stands
+  -- behind the last word there is none
   pub word_at-behind : (n : ℕ) (words : List ℕ) (grants : List Chunk) → length words ≤ n →
       word_at (one_span base words grants) (base + 4 * n) ≡ None
   word_at-behind n [] grants h = refl
@@ -141,11 +141,11 @@ one_span-made base words grants aligned low few ends fit made apart =
       apart = apart;
     }
 
--- a program whose words stand one after another from its base on is the one of these words
+-- a program whose words are one after another from its base on is the one of these words
 spans_alike : (program : RiscProgram) (words : List ℕ) → program.spans ≡ spans_of program.base words → program ≡ one_span program.base words program.grants
 spans_alike program words spelled = ap (λ (spans : List Span). record program { spans = spans }) spelled
 
--- each of them stands where its number says
+-- each of them is where its number puts it
 pub word_there : (program : RiscProgram) (words : List ℕ) (n : ℕ) → program.spans ≡ spans_of program.base words → n < length words →
     is_word program (program.base + 4 * n) ≡ true
 word_there program words n spelled inside =

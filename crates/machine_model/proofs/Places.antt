@@ -1,4 +1,4 @@
--- The places of a sound program's path: an instruction stands at each, and the next place is the one after it.
+-- The places of a sound program's path: an instruction is at each, and the next place is the one after it.
 use Rattle.std.proofs.Common.{◌≡◌, ℕ, suc, ◌+◌, ◌*◌, Bool, true, false, Option, Some, None, Ok, Err, IsTrue, refl, sym, ap, ◌∙◌, if◌then◌else◌}
 use Rattle.risc_word.specs.declared.Ctl.{Ctl}
 use Rattle.risc_word.specs.declared.Instr.{Instr}
@@ -8,7 +8,7 @@ use Rattle.machine_model.specs.declared.Cause.{Cause}
 use Rattle.machine_model.specs.declared.Cause.TheVariants.{JumpOut}
 use Rattle.machine_model.specs.Paths.{RiscProgram, Place, is_word, fetch, is_data, instr_cause, data_cause, first_cause, target_before, target_after, reading_cause, place_after, place_read, next_by, path, IsSound}
 
--- an instruction that stands somewhere and is fine with this target
+-- an instruction that is somewhere and is fine with this target
 pub record IsFine (program : RiscProgram) (target : Option ℕ) (reading : Reading) : Type 0 where
   pub instr : Instr
   pub length_in_words : ℕ

@@ -1,11 +1,11 @@
--- Spans that stand apart: the word at an address is that of the one span that has it.
+-- Spans that are apart: the word at an address is that of the one span that has it.
 use Rattle.std.proofs.Common.{◌≡◌, ℕ, ◌+◌, ◌-◌, ◌*◌, ◌/◌, ◌%◌, ◌<◌, ◌≤◌, true, false, List, [], ◌∷◌, ◌++◌, length, Some, ap, ◌∙◌, arith}
 use Rattle.std.proofs.Common.{if◌then◌else◌, ◌==◌, nat_lt, nat_le, slice_index, leb-true, lt-ltb, le-leb, eq-eqb}
 use Rattle.machine_model.specs.Paths.{Span, AreApart, end_of, stands_in, word_among}
 use Rattle.machine_model.proofs.BeforeTurns.{three_parts, three_from}
 use Rattle.machine_model.proofs.OneSpan.{never, ge-ltb}
 
--- a span stands behind all that stand before it
+-- a span is behind all that come before it
 pub stands_behind : (before after : List Span) (from : ℕ) (s : Span) → AreApart from (before ++ s ∷ after) → from ≤ s.at
 stands_behind [] after from s apart = apart.0
 stands_behind (b ∷ before) after from s apart =

@@ -70,7 +70,7 @@ abbrev pub word_addresses : ℕ → ℕ → List ℕ
 word_addresses address zero = []
 word_addresses address (suc count) = address ∷ word_addresses (address + 4) count
 
--- how many words are read at an address: one, or as many as the opcode there says
+-- how many words are read at an address: one, or as many as the opcode there asks for
 abbrev pub words_read : RiscProgram → ℕ → ℕ
 words_read program pc =
     elim (word_at program pc) [ None ↦ 1 | Some word ↦ max 1 (opcode_length (bits 28 4 word)) ]

@@ -14,7 +14,7 @@ use Rattle.machine_model.specs.declared.Cause.TheVariants.{Cut, Reserved, SyncCo
 use Rattle.machine_model.specs.declared.Demand.{Demand}
 use Rattle.machine_model.specs.declared.Demands.{Demands}
 
--- words that stand one after another from an address on
+-- words one after another from an address on
 pub record Span : Type 0 where
   pub at : ℕ
   pub words : List ℕ
@@ -70,14 +70,14 @@ max_words = 1048576
 abbrev pub max_spans : ℕ
 max_spans = 4096
 
--- a span that can stand on the bus: it has a word
+-- a span that can be on the bus: it has a word
 pub record IsSpan (s : Span) : Type 0 where
   pub aligned : s.at % 4 ≡ 0
   pub some : 0 < length s.words
   pub ends : end_of s ≤ 2 ^ 32
   pub fit : All (λ word. word < 2 ^ 32) s.words
 
--- spans that stand in rising order from an address on and don't touch
+-- spans in rising order from an address on that don't touch
 abbrev pub AreApart : ℕ → List Span → Type 0
 AreApart from [] = Unit {0}
 AreApart from (s ∷ rest) = (from ≤ s.at) × IsSpan s × AreApart (end_of s + 1) rest
@@ -98,7 +98,7 @@ pub record IsProgram (program : RiscProgram) : Type 0 where
   pub grants : AreGrants program.grants
   pub apart : All (λ c. shares_byte program c ≡ false) program.grants
 
--- the program whose words stand one after another from its base on
+-- the program whose words are one after another from its base on
 abbrev pub spans_of : ℕ → List ℕ → List Span
 spans_of base [] = []
 spans_of base (word ∷ words) = span base (word ∷ words) ∷ []
@@ -106,7 +106,7 @@ spans_of base (word ∷ words) = span base (word ∷ words) ∷ []
 abbrev pub one_span : ℕ → List ℕ → List Chunk → RiscProgram
 one_span base words grants = record { base = base; spans = spans_of base words; grants = grants }
 
--- whether all words stand one after another from the address on at which the path begins
+-- whether all words are one after another from the address on at which the path begins
 abbrev pub begins_at : ℕ → List Span → Bool
 begins_at entry [] = true
 begins_at entry (s ∷ []) = s.at == entry
@@ -115,7 +115,7 @@ begins_at entry (s ∷ other ∷ rest) = false
 abbrev pub begins_at_base : RiscProgram → Bool
 begins_at_base program = begins_at program.base program.spans
 
--- a state of a path: where the next instruction stands, and where a WRITEC would go on
+-- a state of a path: where the next instruction is, and where a WRITEC would go on
 pub record Place : Type 0 where
   pub pc : ℕ
   pub target : Option ℕ

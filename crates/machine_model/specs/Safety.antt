@@ -1,4 +1,4 @@
--- What stands between any two steps of a machine, and what more where its program is sound.
+-- What holds between any two steps of a machine, and what more where its program is sound.
 use Rattle.std.specs.Prelude.{◌≡◌, ℕ, ◌+◌, ◌*◌, ◌<◌, false, IsTrue, All, Option, None, Ok}
 use Rattle.risc_word.specs.declared.Instr.{Instr}
 use Rattle.sync_status.specs.Statuses.{kind_of, is_control}

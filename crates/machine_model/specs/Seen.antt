@@ -96,7 +96,7 @@ applications zero q m = []
 applications (suc count) q m =
     application q m ++ (elim (apply q m) [ None ↦ [] | Some after ↦ applications count q after ])
 
--- where the instruction stands that waits or runs: pc is the address after its words
+-- where the instruction is that waits or runs: pc is the address after its words
 abbrev pub address_before : ℕ → Instr → ℕ
 address_before pc instr = pc - 4 * length (encoded instr)
 
@@ -104,7 +104,7 @@ address_before pc instr = pc - 4 * length (encoded instr)
 abbrev pub seen_alone : Did → ℕ → Seen
 seen_alone did at = record { did = did; at = at; took = false; ended = false; reserved = false }
 
--- Fetching. A sound program has no fault, so what stands for one is never seen
+-- Fetching. A sound program has no fault, so the answer for one is never seen
 abbrev pub data_did : Skipping → Did
 data_did Nothing = Begun
 data_did _ = Passed
@@ -180,7 +180,7 @@ taken_if true m = taken_in m.job m
 abbrev pub taken : State → ℕ
 taken m = taken_if m.risc_on m
 
--- a data instruction that runs stands at this address, and pc is the address after it
+-- a data instruction that runs is at this address, and pc is the address after it
 pub record StandsAt (m : State) (instr : Instr) (at : ℕ) : Type 0 where
   pub stands : fetch m.program at ≡ Ok (instr, length (encoded instr))
   pub after : m.pc ≡ at + 4 * length (encoded instr)

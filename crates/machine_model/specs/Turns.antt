@@ -110,7 +110,7 @@ abbrev pub fetched : Reading → State → State
 fetched (Err fault) m = halted m
 fetched (Ok (instr, count)) m = instr_fetched instr count m
 
--- Waiting. Whether a front entry that is no control code stands in a queue, and the lowest such queue
+-- Waiting. Whether a front entry that is no control code is in a queue, and the lowest such queue
 abbrev pub no_code : Option Entry → Bool
 no_code None = false
 no_code (Some entry) = not (is_control (kind_of entry.status))
@@ -125,7 +125,7 @@ lowest_stray queues =
     else (if is_stray queues.three then Some Three
     else None))
 
--- the code of queue 1 where a control code stands at the front of each queue
+-- the code of queue 1 where a control code is at the front of each queue
 abbrev pub code_if : Option Code → Option Code → Option Code → Option Code
 code_if (Some one) (Some two) (Some three) = Some one
 code_if _ _ _ = None
@@ -296,7 +296,7 @@ turn_if true m = worked m.job m
 abbrev pub turn : State → State
 turn m = turn_if m.risc_on (counted m)
 
--- The turn at a state sets FDSR where the same turn leaves it set though no bit of INT_STAT stood before. What a turn
+-- The turn at a state sets FDSR where the same turn leaves it set though no bit of INT_STAT was set before. What a turn
 -- does never depends on these bits (law `interrupts_change_no_turn`)
 abbrev pub with_interrupts : ℕ → State → State
 with_interrupts register m = record m { interrupts = register }

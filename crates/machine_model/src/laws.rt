@@ -16,7 +16,7 @@ ghost use Rattle.machine_model.specs.Steps.{Step, with_program, run_in, state_at
 ghost use Rattle.machine_model.specs.Accesses.{stores, writes, fetches, AgreeAt, AreFetchedAlike};
 ghost use Rattle.machine_model.specs.Safety.{IsInside, IsOrderly, IsSafe, IsStep};
 
-/// Spans that stand apart hide no word of each other: at the address of each word of each span that word stands.
+/// Spans that are apart hide no word of each other: at the address of each word of each span is that word.
 pub fn each_span_has_its_words()
     ensures { (before after : List Span) (from : ℕ) (s : Span) (k : ℕ) → AreApart from (before ++ s ∷ after) → k < length s.words →
         word_among (before ++ s ∷ after) (s.at + 4 * k) ≡ Some (slice_index s.words k) }
@@ -75,7 +75,7 @@ pub fn turns_read_what_is_listed()
 {}
 
 /// What a turn does never depends on INT_STAT: from another register all but the register is the same. So a turn sets
-/// FDSR from one register where it sets it from every other, and FDSR stands after it where it stood or was set.
+/// FDSR from one register where it sets it from every other, and after it FDSR is set where it was set before or is set by it.
 pub fn interrupts_change_no_turn()
     ensures same { (m : State) (register : ℕ) → turn (with_interrupts register m) ≡ with_interrupts (turn (with_interrupts register m)).interrupts (turn m) }
     ensures fdsr { (m : State) → has fdsr (turn m).interrupts ≡ (has fdsr m.interrupts || sets_fdsr m) }

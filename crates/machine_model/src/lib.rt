@@ -1,5 +1,5 @@
 //! What a RISC program does, apart from any code: its path, when it is sound, the machine and its steps.
-//! The types that the definitions and the code share stand here; the definitions stand in `specs/`.
+//! The types that the definitions and the code share are here; the definitions are in `specs/`.
 #![tactic(auto)]
 
 pub mod laws;
@@ -13,13 +13,13 @@ pub const MAX_WORDS: u32 = 1_048_576;
 /// Why a place of a program's path isn't fine.
 #[derive(Clone, Copy, Debug, PartialEq, Eq)]
 pub enum Cause {
-    /// No word, or not all words of the instruction, stand there.
+    /// No word, or not all words of the instruction, are there.
     Cut,
     /// The opcode is reserved.
     Reserved(u8),
     /// A SYNC names no control code.
     SyncCode(u8),
-    /// A JUMP leads to that address, where no word of the program stands.
+    /// A JUMP leads to that address, where the program has no word.
     JumpOut(u32),
     /// A WRITEC has no write to go on from.
     NoTarget,

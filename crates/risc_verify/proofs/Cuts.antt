@@ -108,14 +108,14 @@ only_span entry [] at one is = absurd (omega arith)
 only_span entry (s ∷ []) at one is = ap (λ (n : ℕ). n == entry) (is s)
 only_span entry (s ∷ other ∷ rest) at one is = absurd (omega arith)
 
--- Spans that stand apart.
+-- Spans that are apart.
 
 -- before its beginning no word is a span's own
 pub before-none : (s : Span) (address : ℕ) → address < s.at → stands_in s address ≡ false
 before-none s address h =
     ap (λ test. test && (address - s.at) % 4 == 0 && nat_lt ((address - s.at) / 4) (length s.words)) (lt-leb s.at address h)
 
--- no word stands before the first span
+-- no word is before the first span
 pub none-before : (before from : ℕ) (spans : List Span) (address : ℕ) → AreApart from spans → address < from → number_from before spans address ≡ None
 none-before before from [] address apart h = refl
 none-before before from (s ∷ rest) address apart h =
@@ -177,7 +177,7 @@ missed before from words (p ∷ ps) last address cut apart misses =
           ∙ none-before next (end_of (span_at words p) + 1) (spans_at words all) address apart.2 (omega arith)
     ]
 
--- One of the spans stands at a place, where so many words stand before them.
+-- One of the spans is at a place, where so many words are before them.
 abbrev pub StandsFrom : ℕ → List Span → SpanPlace → Type 0
 StandsFrom before [] p = ⊥
 StandsFrom before (s ∷ rest) p = (p ≡ place s.at before (length s.words)) ⊎ StandsFrom (before + length s.words) rest p

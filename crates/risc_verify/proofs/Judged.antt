@@ -14,7 +14,7 @@ module _ (program : RiscProgram) (place : Place) (x : Instr) (count : ℕ) (read
   next-is after fine after-is =
       ap (λ (c : Option Cause). next_by c program place) (cause-is ∙ fine) ∙ ap (λ (r : Reading). place_read r place) read ∙ after-is
 
-  -- what is said of the instruction that is read is said of the place
+  -- what holds of the instruction that is read holds of the place
   pub judged : (result : Result Place Cause) →
       MatchResult result (λ after. (instr_cause program x place.target ≡ None) × (place_after x count place ≡ after)) (λ cause. instr_cause program x place.target ≡ Some cause) →
       MatchResult result (λ next. (cause_at program place ≡ None) × (next_place program place ≡ next)) (λ cause. cause_at program place ≡ Some cause)

@@ -15,7 +15,7 @@ use Rattle.risc_verify.specs.Places.{has_address, number_in, stands_from, IsNear
 use Rattle.machine_model.proofs.Spans.{not_in}
 use Rattle.risc_verify.proofs.Cuts.{StandsFrom, stands-there, before-none}
 
--- A word has a number where it stands.
+-- A word has a number where it is.
 
 there-if : (test : Bool) (a b : ℕ) (x y : Option ℕ) → is_there x ≡ is_some y → is_there (if test then Some a else x) ≡ is_some (if test then Some b else y)
 there-if true a b x y same = refl
@@ -26,7 +26,7 @@ is_there-number before [] address = refl
 is_there-number before (s ∷ rest) address =
     there-if (stands_in s address) _ _ _ _ (is_there-number (before + length s.words) rest address)
 
--- a place stands behind the spans before it
+-- a place is behind the spans before it
 behind : (before from : ℕ) (spans : List Span) (p : SpanPlace) → AreApart from spans → StandsFrom before spans p → from ≤ p.at
 behind before from [] p apart stands = absurd stands
 behind before from (s ∷ rest) p apart (inl is) =
@@ -41,7 +41,7 @@ behind before from (s ∷ rest) p apart (inr later) =
 has-from : (p : SpanPlace) (address : ℕ) → has_address p address ≡ true → p.at ≤ address
 has-from p address has = leb-true p.at address (three_parts (nat_le p.at address) ((address - p.at) % 4 == 0) (nat_lt ((address - p.at) / 4) p.count) has).0
 
--- where the span at a place has an address, its word has the number that the place tells
+-- where the span at a place has an address, its word has the number that the place gives it
 pub number-at : (before from : ℕ) (spans : List Span) (p : SpanPlace) (address : ℕ) → AreApart from spans → StandsFrom before spans p → has_address p address ≡ true →
     number_from before spans address ≡ Some (p.first + (address - p.at) / 4)
 number-at before from [] p address apart stands has = absurd stands
@@ -70,7 +70,7 @@ stands-within before (s ∷ rest) p (inr later) =
     let long = length-append s.words (words_of rest) in
     (omega arith, omega arith)
 
--- What the span at a place has: its words stand in all words, and at its addresses and its end it might stand alone.
+-- What the span at a place has: its words are among all words, and at its addresses and its end it might be alone.
 record Seen (before : ℕ) (spans : List Span) (p : SpanPlace) : Type 0 where
   words : List ℕ
   count : length words ≡ p.count
@@ -227,7 +227,7 @@ module _ (program : RiscProgram) (made : IsProgram program) (p : SpanPlace) (nea
         ∙ ap (λ ws. first_instr (drop k ws)) (view.part ∙ ap (λ n. take p.count (drop n (all_words program))) from-zero ∙ sym (drop-take p.first p.count (all_words program)))
         ∙ ap first_instr (drop-drop k p.first (take (p.first + p.count) (all_words program)))
 
--- where no word has a number none stands, and no instruction is read
+-- where no word has a number there is none, and no instruction is read
 pub none-there : (program : RiscProgram) (address : ℕ) → word_of program address ≡ None → is_word program address ≡ false
 none-there program address none = is_there-number 0 program.spans address ∙ ap is_some none
 
@@ -239,7 +239,7 @@ pub none-fetched : (program : RiscProgram) (address : ℕ) → word_of program a
 none-fetched program address none =
     ap (λ word. first_instr (elim word as (λ _. List ℕ) [ None ↦ [] | Some word ↦ word ∷ words_from 4 program (address + 4) ])) (no-word (word_at program address) (none-there program address none))
 
--- What a number found by a place tells.
+-- What follows from a number found by a place.
 module _ (program : RiscProgram) (made : IsProgram program) (p : SpanPlace) (near : IsNear program p) (address word : ℕ) (there : number_in p address ≡ Some word) where
   told : (has_address p address ≡ true) × (p.first + (address - p.at) / 4 ≡ word)
   told = number-parts (has_address p address) (p.first + (address - p.at) / 4) word there

@@ -12,7 +12,7 @@ pub record Repeats (f : ℕ → ℕ) (count : ℕ) : Type 0 where
   pub within : second < count
   pub same : f first ≡ f second
 
--- a value stands among the first so many
+-- a value is among the first so many
 record Stands (f : ℕ → ℕ) (count value : ℕ) : Type 0 where
   at : ℕ
   below : at < count

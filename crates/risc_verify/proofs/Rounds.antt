@@ -74,7 +74,7 @@ first-takes (w ∷ rest) = opcode-takes (w / 2 ^ 28 % 2 ^ 4) w rest
 fetch-takes : (program : RiscProgram) (pc : ℕ) → TakesWords (fetch program pc)
 fetch-takes program pc = first-takes (words_from 5 program pc)
 
--- A fine place: an instruction stands there.
+-- A fine place: an instruction is there.
 
 record Reads (program : RiscProgram) (pc : ℕ) : Type 0 where
   instr : Instr
@@ -190,7 +190,7 @@ step-goes program place fine =
       | inr grows ↦ inr (omega (arith, next-pc program place r fine))
     ]
 
--- among so many places from one on a JUMP stands
+-- among so many places from one on there is a JUMP
 record Jumps (program : RiscProgram) (first count : ℕ) : Type 0 where
   after : ℕ
   below : after < count

@@ -1,4 +1,4 @@
--- What stands at each step of the walk along a path.
+-- What holds at each step of the walk along a path.
 use Rattle.std.proofs.Common.{◌≡◌, ℕ, zero, suc, ◌+◌, ◌<◌, ◌⊎◌, inl, inr, Bool, false, IsTrue, List, replicate, None, refl, ap, sym, subst, ◌∙◌, arith, add-one, below_more}
 use Rattle.machine_model.specs.Paths.{RiscProgram, Place, cause_at, next_place, path, IsSound}
 use Rattle.risc_verify.specs.Rounds.{AreFine}

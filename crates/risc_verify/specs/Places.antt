@@ -1,4 +1,4 @@
--- Spans that share one list of words, and where each of them stands in it.
+-- Spans that share one list of words, and where each of them is in it.
 use Rattle.std.specs.Prelude.{◌≡◌, ℕ, ◌+◌, ◌-◌, ◌*◌, ◌/◌, ◌%◌, Bool, true, false, ◌&&◌, ◌||◌, List, [], ◌∷◌, ◌++◌, length, take, drop, map, Option, Some, None, if◌then◌else◌, ◌==◌, nat_lt, nat_le}
 use Rattle.machine_model.specs.Paths.{RiscProgram, Span, span}
 use Rattle.risc_verify.specs.declared.spans.SpanPlace.{SpanPlace}
@@ -35,12 +35,12 @@ number_in p address = if has_address p address then Some (p.first + (address - p
 abbrev pub place_end : SpanPlace → ℕ
 place_end p = p.at + 4 * p.count
 
--- whether one of the spans stands at a place, where so many words stand before them
+-- whether one of the spans is at a place, where so many words are before them
 abbrev pub stands_from : ℕ → List Span → SpanPlace → Bool
 stands_from before [] p = false
 stands_from before (s ∷ rest) p =
     p.at == s.at && p.first == before && p.count == length s.words || stands_from (before + length s.words) rest p
 
--- a place where a span of the program stands, or none
+-- a place where a span of the program is, or none
 abbrev pub IsNear : RiscProgram → SpanPlace → Type 0
 IsNear program p = (p.count == 0 || stands_from 0 program.spans p) ≡ true

@@ -1,4 +1,4 @@
--- What a refusal says. Only want of memory is free.
+-- What a refusal names; out of memory names nothing.
 use Rattle.std.specs.Prelude.{◌≡◌, ℕ, ◌+◌, ⊤}
 use Rattle.machine_model.specs.Paths.{RiscProgram, IsFirstBad}
 use Rattle.risc_verify.specs.declared.walk.Why.{Why}

@@ -13,7 +13,7 @@ use page_table::{ADDRESSES, PageSet};
 use risc_word::{Instr, WordFault, decode};
 use std::marker::Model;
 
-/// A place of a path: where the next instruction stands, and where a WRITEC would go on.
+/// A place of a path: where the next instruction is, and where a WRITEC would go on.
 #[derive(Drop)]
 pub(crate) struct PathPlace {
     pc: u64,
@@ -42,7 +42,7 @@ impl PathPlace {
         }
     }
 
-    // Where the next instruction stands.
+    // Where the next instruction is.
     #[inline]
     pub(crate) fn pc(&self) -> u64
         ensures { result ≡ self.now.pc }
@@ -195,7 +195,7 @@ fn fault_cause(fault: WordFault) -> Cause
     }
 }
 
-// The place after this one, whose word is known and stands in the span at the place `near`, or why this one isn't fine.
+// The place after this one, whose word is known and is in the span at the place `near`, or why this one isn't fine.
 #[inline]
 pub(crate) fn step(
     program: &Program,

@@ -54,7 +54,7 @@ impl ChunkMemo {
         is_within(grants, usize::from(place), addr, len)
     }
 
-    /// Whether a range of so many bytes is granted, as `PageSet::covers` tells it.
+    /// Whether a range of so many bytes is granted, and else the address that `PageSet::covers` answers.
     #[inline]
     pub(crate) fn covers(&mut self, grants: &PageSet, addr: u32, len: u32) -> Result<(), u32>
         requires { addr + len ≤ 2 ^ 32 }

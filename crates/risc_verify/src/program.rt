@@ -40,7 +40,7 @@ impl Program {
         requires apart { All (λ c. shares_byte (one_span base words.items grants) c ≡ false) grants }
         ensures { result ≡ one_span base words.items grants }
     {
-        // the call tells what each set of grants keeps
+        // the call brings in what each set of grants keeps
         let _chunks = grants.len();
         Program {
             base,
@@ -59,7 +59,7 @@ impl Program {
         requires apart { All (λ c. shares_byte (record { base = entry; spans = spans; grants = grants }) c ≡ false) grants }
         ensures { result ≡ record { base = entry; spans = spans; grants = grants } }
     {
-        // the call tells what each set of grants keeps
+        // the call brings in what each set of grants keeps
         let _chunks = grants.len();
         Program {
             base: entry,
@@ -94,7 +94,7 @@ impl Program {
         &self.spans
     }
 
-    /// Whether all words stand one after another from the base on.
+    /// Whether all words are one after another from the base on.
     pub fn begins_at_base(&self) -> bool
         ensures { result ≡ begins_at_base self.now }
     {
@@ -116,12 +116,12 @@ impl Program {
         ensures value { result ≡ number_in near address }
         ensures known { IfSome result (λ word. (word_of self.now address ≡ Some word) × (is_word self.now address ≡ true) × (address < 2 ^ 32) × (word < length (all_words self.now))) }
     {
-        // the call tells what each program keeps
+        // the call brings in what each program keeps
         let _base = self.base();
         near.number(address)
     }
 
-    // The number of the word at an address, counted over all spans. Where one stands there, `near` is the place of its
+    // The number of the word at an address, counted over all spans. Where there is one, `near` is the place of its
     // span after it. A path seldom goes from span to span.
     #[cold]
     #[inline(never)]
@@ -136,7 +136,7 @@ impl Program {
         self.word_in(*near, address)
     }
 
-    /// The number of the word that stands at an address, counted over all spans. The span at the place `near` is
+    /// The number of the word at an address, counted over all spans. The span at the place `near` is
     /// looked at first; after it `near` is the place of the span where the word was found.
     #[inline]
     pub fn word_near(&self, near: &mut SpanPlace, address: u64) -> Option<usize>
@@ -152,7 +152,7 @@ impl Program {
         self.word_elsewhere(near, address)
     }
 
-    /// The number of the word that stands at an address, counted over all spans.
+    /// The number of the word at an address, counted over all spans.
     #[inline]
     pub fn word_at(&self, address: u64) -> Option<usize>
         ensures value { result ≡ word_of self.now address }
@@ -172,7 +172,7 @@ impl Program {
         ensures value { instr_at result.now word ≡ fetch self.now address }
         ensures inside { address < 2 ^ 32 }
     {
-        // the call tells what each program keeps
+        // the call brings in what each program keeps
         let _base = self.base();
         &self.words()[..near.end()]
     }

@@ -13,7 +13,7 @@ ghost use Rattle.std.specs.Prelude.{if◌then◌else◌, ◌≡◌, ℕ, ◌+◌
 use std::alloc::{AllocError, Global};
 use std::marker::Model;
 
-/// Where a span stands: its address, the number of its first word, counted over all spans, and how many words it has.
+/// Where a span is: its address, the number of its first word, counted over all spans, and how many words it has.
 #[derive(Clone, Copy)]
 pub struct SpanPlace {
     at: u32,
@@ -22,7 +22,7 @@ pub struct SpanPlace {
 }
 
 impl SpanPlace {
-    /// The place of no span: no word stands there.
+    /// The place of no span: no word is there.
     pub fn none() -> SpanPlace
         ensures { (program : RiscProgram) → IsNear program result }
     {
@@ -69,7 +69,7 @@ impl SpanPlace {
     }
 }
 
-/// Spans, one after another. Contracts see them as a list; the words of all of them stand in a row.
+/// Spans, one after another. Contracts see them as a list; the words of all of them are in a row.
 #[derive(Drop)]
 pub struct Spans {
     words: Vec<u32>,
@@ -236,7 +236,7 @@ impl Spans {
         part(&self.words, place_of(&self.before, self.last, number))
     }
 
-    /// Whether there is no span, or one alone, which begins at an address. A program that begins its path there is told by
+    /// Whether there is no span, or one alone, which begins at an address. A program that begins its path there is named by
     /// this address and its words; any other span by span.
     pub fn begins_at(&self, entry: u32) -> bool
         ensures { result ≡ begins_at entry self.now }

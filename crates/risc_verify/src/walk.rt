@@ -19,10 +19,10 @@ use std::sync::ledger::Ledger;
 /// Why a program was not accepted.
 #[derive(Clone, Copy)]
 pub enum Why {
-    /// The first place of the path that isn't fine: the address where its instruction stands, its number
+    /// The first place of the path that isn't fine: the address of its instruction, its number
     /// on the path, counted from 0, and its first fault.
     Bad { at: u64, nth: u64, cause: Cause },
-    /// Want of memory.
+    /// Out of memory.
     Memory,
 }
 
@@ -66,7 +66,7 @@ impl Marks {
         })
     }
 
-    // Whether the path was at this place before, whose word is known, as far as the marks tell. Marks it.
+    // Whether the path was at this place before, whose word is known, as far as the marks show. Marks it.
     #[inline]
     fn meet(&mut self, place: &PathPlace, word: Option<usize>) -> bool
         requires { IfSome word (λ number. number < length self.old) }
@@ -122,8 +122,8 @@ fn walk<L: Ledger>(alloc: Global, program: &Program, steps: &mut Steps<L>) -> Re
 }
 
 /// Accepts the program exactly where it is sound: no place of its path has a fault. A refusal gives the
-/// program back and names the first place that isn't fine. One step is counted for each place that is
-/// judged. What a fault is, and their order, is this project's own rule.
+/// program back and names the first place that isn't fine. One step is counted for each place that was
+/// looked at. What a fault is, and their order, is this project's own rule.
 pub fn verify<L: Ledger>(
     alloc: Global,
     program: Program,
