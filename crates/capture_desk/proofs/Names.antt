@@ -1,4 +1,4 @@
--- Files by name: the first file of a name, and what stands under it.
+-- Files by name: the first file of a name, and what is under it.
 use Rattle.std.proofs.Common.{ℕ, suc, zero, ◌+◌, ◌<◌, List, [], ◌∷◌, ◌++◌, map, set, get_or, length, Option, Some, None, is_some, option_map, Bool, true, false, ◌||◌, if◌then◌else◌, ◌≡◌, refl, sym, ap, ◌∙◌, arith, below_more}
 use Rattle.std.specs.Str.{bytes_eq}
 use Rattle.capture_desk.specs.Desks.{Outputs, appended, created, is_among, named}

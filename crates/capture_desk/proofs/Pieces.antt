@@ -1,4 +1,4 @@
--- Pieces that are put one after the other are one piece: so it is with writes, and so with what is said.
+-- Pieces that are put one after the other are one piece: so it is with writes, and so with what is printed.
 use Rattle.std.proofs.Common.{◌≡◌, ℕ, ◌+◌, ◌<◌, List, ◌++◌, length, take, Result, Ok, Err, sym, ap, ◌∙◌, arith, length-append}
 use Rattle.std.proofs.lemmas.List.{take-append-le}
 use Rattle.std.proofs.Math.Seq.{take-append-add}

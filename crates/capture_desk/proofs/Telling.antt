@@ -1,4 +1,4 @@
--- The calls that are told: those of steps that follow one another, and runs of what is said.
+-- The calls that a desk tells: those of steps that follow one another, and runs of what is printed.
 use Rattle.std.proofs.Common.{◌≡◌, ℕ, ◌<◌, inl, inr, List, [], ◌∷◌, ◌++◌, length, Option, Some, None, refl, sym, ap, ◌∙◌, arith}
 use Rattle.capture_desk.specs.declared.calls.Call.{Call}
 use Rattle.capture_desk.specs.declared.calls.Call.TheVariants.{OpenIn, Read, CreateOut, Finish, Say}
@@ -25,12 +25,12 @@ pub tells_both : (first later : List Call) (old mid new : Option (List Call)) �
 tells_both first later old mid new h (inl f) = inl f
 tells_both first later old mid new h (inr f) = tells_later first later old mid new h f
 
--- a step that is not told
+-- a step that the desk doesn't tell
 pub tells_same_after : (made : List Call) (old mid new : Option (List Call)) → Tells made old mid → new ≡ mid → Tells made old new
 tells_same_after made old mid new (inl e) f = inl (f ∙ e)
 tells_same_after made old mid new (inr e) f = inr (f ∙ e)
 
--- ---- runs of what is said
+-- ---- runs of what is printed
 
 joined_twice : (before : List Call) → joined Say (joined Say before) ≡ joined Say before
 joined_twice [] = refl
@@ -44,7 +44,7 @@ recorded_twice : (calls : Option (List Call)) → recorded Say (recorded Say cal
 recorded_twice None = refl
 recorded_twice (Some before) = ap Some (joined_twice before)
 
--- a run goes on: what is told of two runs that follow one another is one
+-- a run goes on: two runs that follow one another are told as one
 same_run : (old mid new : Option (List Call)) → mid ≡ recorded Say old → new ≡ recorded Say mid → new ≡ recorded Say old
 same_run old mid new e f = f ∙ ap (recorded Say) e ∙ recorded_twice old
 
@@ -53,14 +53,14 @@ one_run old mid new h (inl f) = inl f
 one_run old mid new (inl e) (inr f) = inl (f ∙ ap (recorded Say) e)
 one_run old mid new (inr e) (inr f) = inr (same_run old mid new e f)
 
--- a text, and then a call that says
+-- a text, and then a call of `say`
 pub say_more : (text : List ℕ) (old mid new : Option (List Call)) → Tells (said_by text) old mid → Tells (Say ∷ []) mid new → Tells (Say ∷ []) old new
 say_more [] old mid new h (inl f) = inl f
 say_more [] old mid new (inl e) (inr f) = inl (f ∙ ap (recorded Say) e)
 say_more [] old mid new (inr e) (inr f) = inr (f ∙ ap (recorded Say) e)
 say_more (x ∷ text) old mid new h f = one_run old mid new h f
 
--- a text that isn't empty is said by one run
+-- a text that isn't empty is printed by one run
 pub some_said : (text : List ℕ) (old new : Option (List Call)) → 0 < length text → Tells (Say ∷ []) old new → Tells (said_by text) old new
 some_said [] old new few h = absurd (omega (arith, few))
 some_said (x ∷ text) old new few h = h

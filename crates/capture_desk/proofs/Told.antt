@@ -1,4 +1,4 @@
--- What the desk over memory tells after a call is what the call's clauses of the trait say.
+-- What the desk over memory tells after a call is what the call's clauses of the trait state.
 use Rattle.std.proofs.Common.{ℕ, ◌<◌, ◌≤◌, List, [], ◌∷◌, ◌++◌, take, length, Option, Some, None, option_map, Bool, true, false, ◌||◌, Result, Ok, Err, if◌then◌else◌, ◌≡◌, refl, sym, ap, subst, IfOk}
 use Rattle.std.specs.Str.{bytes_eq}
 use Rattle.capture_desk.specs.declared.desk.Failed.{Failed}

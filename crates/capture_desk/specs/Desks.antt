@@ -11,7 +11,7 @@ use Rattle.capture_desk.specs.declared.desk.OpenFault.TheVariants.{Missing, Fail
 abbrev pub Inputs : Type 0
 Inputs = List (List ℕ × List ℕ)
 
--- the output files by name, in some order of the desk; a name of which there is no output yet may stand here too
+-- the output files by name, in some order of the desk; a name of which there is no output yet may be here too
 abbrev pub Outputs : Type 0
 Outputs = List (List ℕ × Option (List ℕ))
 
@@ -39,7 +39,7 @@ pub record Seen : Type 0 where
 
 -- ---- files by name
 
--- what stands first under a name
+-- what is first under a name
 abbrev pub named : {V : Type 0} → List ℕ → List (List ℕ × V) → Option V
 named name [] = None
 named name (file ∷ files) = if bytes_eq file.0 name then Some file.1 else named name files
@@ -102,7 +102,7 @@ after_say bytes t = record t { said = option_map (λ text. text ++ bytes) t.said
 
 -- ---- conditions and answers
 
--- a name may be used, where the names are told
+-- a name may be used, where the desk tells the names
 abbrev pub IsAllowed : List ℕ → Option (List (List ℕ)) → Type 0
 IsAllowed name names = MatchOption names ⊤ (λ known. IsTrue (is_among name known))
 
@@ -111,13 +111,13 @@ abbrev pub is_missing : List ℕ → Option Inputs → Bool
 is_missing name None = false
 is_missing name (Some inputs) = elim (named name inputs) [ None ↦ true | Some _ ↦ false ]
 
--- what each answer says of the desk before and after
+-- what each answer states of the desk before and after
 abbrev pub Opens : {A : Type 0} → List ℕ → Result A OpenFault → Told → Told → Type 0
 Opens name (Ok _) old new = (is_missing name old.inputs ≡ false) × (new ≡ after_open name old)
 Opens name (Err Missing) old new = (is_missing name old.inputs ≡ true) × (new ≡ old)
 Opens name (Err Failed) old new = new ≡ old
 
--- the first n bytes of the rest, where it is told, stand at the front of a buffer; none exactly at the end
+-- the first n bytes of the rest, where the desk tells it, are at the front of a buffer; none exactly at the end
 abbrev pub Takes : ℕ → List ℕ → List ℕ → List ℕ → Type 0
 Takes n rest buf new_buf = (n ≤ length rest) × (n ≡ 0 → rest ≡ []) × (new_buf ≡ take n rest ++ drop n buf)
 
@@ -130,7 +130,7 @@ abbrev pub Makes : {A E : Type 0} → Result A E → Told → Told → Told → 
 Makes (Ok _) made old new = new ≡ made
 Makes (Err _) made old new = new ≡ old
 
--- one byte at least of a piece was appended, as `after` says
+-- one byte at least of a piece was appended, as by `after`
 abbrev pub Appends : {E : Type 0} → List ℕ → Result ℕ E → (List ℕ → Told → Told) → Told → Told → Type 0
 Appends bytes (Ok n) after old new = (0 < n) × (n ≤ length bytes) × (new ≡ after (take n bytes) old)
 Appends bytes (Err _) after old new = new ≡ old
@@ -146,16 +146,16 @@ Puts bytes (Err _) after old new = (n : ℕ) × (n < length bytes) × (new ≡ a
 abbrev pub counted : ℕ → ℕ
 counted n = min (n + 1) (2 ^ 64 - 1)
 
--- a count rose; one that stands at its greatest value counts as risen
+-- a count rose; one at its greatest value counts as risen
 abbrev pub HasRisen : ℕ → ℕ → Type 0
 HasRisen old new = counted old ≤ new
 
--- one more call, before which others were made: calls that say one after the other are one run
+-- one more call, before which others were made: calls of `say` one after the other are one run
 abbrev pub joined : Call → List Call → List Call
 joined Say (Say ∷ before) = Say ∷ before
 joined call before = call ∷ before
 
--- it is told, where calls are told
+-- the desk tells it, where it tells calls
 abbrev pub recorded : Call → Option (List Call) → Option (List Call)
 recorded call calls = option_map (joined call) calls
 
@@ -164,11 +164,11 @@ abbrev pub all_recorded : List Call → Option (List Call) → Option (List Call
 all_recorded [] calls = calls
 all_recorded (call ∷ later) calls = all_recorded later (recorded call calls)
 
--- these calls were made, in their order, where calls are told; a desk may cease to tell them
+-- these calls were made, in their order, where the desk tells calls; it may cease to tell them
 abbrev pub Tells : List Call → Option (List Call) → Option (List Call) → Type 0
 Tells made old new = (new ≡ None) ⊎ (new ≡ all_recorded made old)
 
--- the calls that say a text: none where there is nothing to say
+-- the calls that print a text: none where it is empty
 abbrev pub said_by : List ℕ → List Call
 said_by [] = []
 said_by (_ ∷ _) = Say ∷ []
@@ -206,11 +206,11 @@ abbrev pub WriteCounts : {A E : Type 0} → Result A E → Seen → Seen → Typ
 WriteCounts (Ok _) old new = OnlyWrites old new
 WriteCounts (Err _) old new = IsWriteFault old new × (new.calls ≡ old.calls)
 
--- no count rose, and nothing was done but that these bytes were said
+-- no count rose, and nothing was done but that these bytes were printed
 abbrev pub OnlySaid : List ℕ → Seen → Seen → Type 0
 OnlySaid bytes old new = (new.reads ≡ old.reads) × (new.writes ≡ old.writes) × Tells (said_by bytes) old.calls new.calls
 
--- what is left by calls that say these bytes, one after the other up to the first that fails
+-- what is left by calls that print these bytes, one after the other up to the first that fails
 abbrev pub SayCounts : {A E : Type 0} → List ℕ → Result A E → Seen → Seen → Type 0
 SayCounts bytes (Ok _) old new = OnlySaid bytes old new
 SayCounts bytes (Err _) old new = IsWriteFault old new × Tells (Say ∷ []) old.calls new.calls

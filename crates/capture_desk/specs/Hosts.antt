@@ -16,7 +16,7 @@ abbrev pub OpensFile : {F E : Type 0} → List ℕ → Store → (F → Option (
 OpensFile name s rest (Ok file) = (is_missing name s.inputs ≡ false) × (rest file ≡ first_rest name s.inputs)
 OpensFile name s rest (Err _) = ⊤
 
--- the next bytes of the rest, where it is told, moved into the front of a buffer and nothing else there changed
+-- the next bytes of the rest, where the host tells it, moved into the front of a buffer and nothing else there changed
 abbrev pub ReadsFile : {E : Type 0} → List ℕ → List ℕ → Result ℕ E → Option (List ℕ) → Option (List ℕ) → Type 0
 ReadsFile buf new_buf (Ok n) old new =
     (n ≤ length buf) × MatchOption old ⊤ (λ rest. Takes n rest buf new_buf) × (new ≡ option_map (λ rest. drop n rest) old)

@@ -46,7 +46,7 @@ memory_of d =
       failed = d.failed;
     }
 
--- the first file of a name stands at i
+-- the first file of a name is at i
 pub record IsFirst {V : Type 0} (name : List ℕ) (files : List (List ℕ × V)) (none : List ℕ × V) (i : ℕ) : Type 0 where
   pub within : i < length files
   pub same : bytes_eq (slice_index_or files i none).0 name ≡ true

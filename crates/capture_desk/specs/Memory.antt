@@ -10,7 +10,7 @@ pub record Memory : Type 0 where
   pub inputs : Inputs
   pub opens : List (List ℕ)  -- the names that may be opened
   pub outputs : Outputs  -- an entry for each name that may be created
-  pub text : List ℕ  -- what was said
+  pub text : List ℕ  -- what was printed
   pub failing : List ℕ  -- the numbers of the calls that fail
   pub longest : ℕ  -- what a call moves at most
   pub room : ℕ  -- what an output or the text holds at most
@@ -24,7 +24,7 @@ pub record Memory : Type 0 where
 abbrev pub names_of : {V : Type 0} → List (List ℕ × V) → List (List ℕ)
 names_of files = map (λ file. file.0) files
 
--- everything is told
+-- it tells everything
 abbrev pub all_told : Memory → Told
 all_told m =
     record {

@@ -14,7 +14,7 @@ abbrev pub after_append : Sink → List ℕ → Told → Told
 after_append Output = after_write
 after_append Text = after_say
 
--- the calls behind one that appends: a write is not told
+-- the calls behind one that appends: no desk tells a write
 abbrev pub AppendCalls : Sink → Option (List Call) → Option (List Call) → Type 0
 AppendCalls Output old new = new ≡ old
 AppendCalls Text old new = Tells (Say ∷ []) old new

@@ -1,4 +1,4 @@
--- The desk over a host: what of it is told.
+-- The desk over a host: what it tells.
 use Rattle.std.specs.Prelude.{ℕ, Bool, false, List, Option, None, Some, is_some}
 use Rattle.capture_desk.specs.Desks.{Seen, Told}
 use Rattle.capture_desk.specs.Hosts.{Store}

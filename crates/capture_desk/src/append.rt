@@ -1,4 +1,4 @@
-//! Whole pieces, written to the open output or said.
+//! Whole pieces, written to the open output or printed.
 ghost use Rattle.std.specs.Prelude.{◌≡◌, ◌<◌, length, IsTrue};
 ghost use Rattle.capture_desk.specs.Desks.{Appends, CallCounts, Puts, SayCounts, WriteCounts, after_say, after_write};
 ghost use Rattle.capture_desk.specs.Sinks.{AppendCalls, AppendCounts, IsReady, after_append};
@@ -49,7 +49,7 @@ pub fn put<D: Desk>(desk: &mut D, bytes: &[u8]) -> Result<(), Failed>
     append_all(Sink::Output, desk, bytes)
 }
 
-/// Says a whole text. Where a `say` fails, it is the last call, and the bytes before it were said.
+/// Prints a whole text. Where a `say` fails, it is the last call, and the bytes before it were printed.
 pub fn say_all<D: Desk>(desk: &mut D, text: &[u8]) -> Result<(), Failed>
     ensures says { Puts text.now result after_say (D.seen desk.old).told (D.seen desk.new).told }
     ensures counts { SayCounts text.now result (D.seen desk.old) (D.seen desk.new) }

@@ -1,9 +1,9 @@
-//! What is told of a call.
+//! What a desk tells of a call.
 
 use crate::octets::Octets;
 
-/// A call of a desk that opens an input, reads, creates an output or finishes one, or a run of calls that
-/// say. Writes are not told: they fall between the creation of an output and its finish (this project's own
+/// A call of a desk that opens an input, reads, creates an output or finishes one, or a run of calls of
+/// `say`. No desk tells writes: they fall between the creation of an output and its finish (this project's own
 /// rules).
 #[derive(Drop)]
 pub enum Call {
@@ -15,6 +15,6 @@ pub enum Call {
     CreateOut(Octets, bool),
     /// The open output was to be closed; whether it was.
     Finish(bool),
-    /// Something was to be said, by one call or more.
+    /// Something was to be printed, by one call or more.
     Say,
 }

@@ -17,7 +17,7 @@ pub trait Host {
     /// A file that was created.
     type Output: Drop;
 
-    // What is told of the files and of the text on the standard output.
+    // What the host tells of the files and of the text on the standard output.
     ghost store: { Self → Store } = { λ _. nothing_told };
 
     // The unread rest of an input.
@@ -56,8 +56,8 @@ pub trait Host {
         ensures says { AppendsFirst bytes.now result with_said (store self.old) (store self.new) };
 }
 
-/// The system that the program runs on. It tells nothing, since no contract of the standard library says
-/// what stands under a name. Each call is one of the library's, and its clauses say what they can of it.
+/// The system that the program runs on. It tells nothing, since no contract of the standard library states
+/// what is under a name. Each call is one of the library's, and its clauses state what they can of it.
 impl<R: Files + Print> Host for &R {
     type Input = R::File;
 

@@ -9,7 +9,7 @@ use std::alloc::{AllocError, Global};
 use std::collections::VecDeque;
 use std::marker::Model;
 
-/// Puts a call before those that were made before it; calls that say one after the other are one run.
+/// Puts a call before those that were made before it; calls of `say` one after the other are one run.
 fn keep(calls: &mut VecDeque<Call>, call: Call) -> Result<(), AllocError>
     ensures { IfOk result (λ _. calls.new.items ≡ joined call calls.old.items) }
 {
@@ -22,7 +22,7 @@ fn keep(calls: &mut VecDeque<Call>, call: Call) -> Result<(), AllocError>
     }
 }
 
-// The calls of a desk, the last one first. For want of memory all are let go, and none is kept from then on.
+// The calls of a desk, the last one first. Out of memory all are let go, and none is kept from then on.
 #[derive(Drop)]
 struct CallLog {
     calls: Option<VecDeque<Call>>,

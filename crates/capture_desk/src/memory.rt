@@ -137,9 +137,9 @@ fn copy_front(buf: &mut [u8], bytes: &[u8], n: usize)
 
 impl MemDesk {
     /// A desk with these inputs, each its name and its bytes, and with the names that may be opened and
-    /// created; of equal names the first counts. The calls whose numbers, counted from 1, stand in
+    /// created; of equal names the first counts. The calls whose numbers, counted from 1, are in
     /// `failing` fail, and a call moves at most `longest` bytes, which is 1 at least. All its memory is
-    /// taken here: `room` bytes for each name that may be created and for the text. The error is want
+    /// taken here: `room` bytes for each name that may be created and for the text. The error is out
     /// of memory.
     pub fn new(
         alloc: Global,
@@ -181,7 +181,7 @@ impl MemDesk {
         }
     }
 
-    /// The text that was said.
+    /// The text that was printed.
     pub fn said(&self) -> &[u8]
         ensures { result.now ≡ self.now.text }
     {

@@ -202,7 +202,7 @@ chunks_read layout size program (suc count) from sum bytes x fits e =
       fits = rest.fits;
     })
 
--- ---- chunks that rise are taken as they stand
+-- ---- chunks that rise are taken as they are
 
 -- all of these end at an address or before it, and have a byte
 abbrev EndBy : ℕ → List Chunk → Type 0

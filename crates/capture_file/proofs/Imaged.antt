@@ -32,7 +32,7 @@ bytes_same (x ∷ xs) (y ∷ ys) rest others len e =
     let tails = bytes_same xs ys rest others (omega arith) both.1 in
     (ap (λ (z : ℕ). z ∷ xs) both.0 ∙ ap (λ (zs : List ℕ). y ∷ zs) tails.0, tails.1)
 
--- what the form tells of a block
+-- a block fits into the fields of a layout
 abbrev Fits : Layout → Block → Type 0
 Fits Paged block = (block.at < 2 ^ 32) × (length block.bytes ≡ 4096)
 Fits Chunked block = (block.at < 2 ^ 32) × (length block.bytes < 2 ^ 32)

@@ -69,7 +69,7 @@ module _ (form : Form) (limit : ℕ) (chained : Bool) (place turns : ℕ) (held 
       ap (λ (zs : List ℕ). held ++ zs) (take_both (limit - place) piece more)
       ∙ sym (append_assoc held (take (limit - place) piece) (take (limit - place - length piece) more))
 
-  -- what was found in the piece stands at the front of the whole
+  -- what was found in the piece is at the front of the whole
   fronted : (found : Found) → record_at form turns ((held ++ take (limit - place) piece) ++ take (limit - place - length piece) more) ≡ found →
       records form turns (place - length held) 0 (held ++ take (limit - place) (piece ++ more)) ≡ front_of found form turns (place - length held) (held ++ take (limit - place) (piece ++ more))
   fronted found is =

@@ -143,7 +143,7 @@ regroup : (front : List Span) (s : Span) (read : Field (List Span)) → with_fir
 regroup front s (Ok x) = ap (λ (ss : List Span). Ok (ss, x.1)) (sym (append_assoc front (s ∷ []) x.0))
 regroup front s (Err f) = refl
 
--- what a span that was passed tells
+-- what follows from a span that was passed
 pub record HasPassed (spans : List Span) (from sum : ℕ) (read : Field Span) (x : ((ℕ × ℕ) × List Span) × List ℕ) : Type 0 where
   pub s : Span
   pub is : read ≡ Ok (s, x.1)
@@ -258,7 +258,7 @@ program_made form start count fill one two three four spans chunks grants bytes 
     let made = file_read bytes file fits read in
     subst (λ (cs : List Chunk). IsProgram (with_grants placed cs)) (sym same) made.made
 
--- an answer of want of memory where something holds anyway
+-- an answer of out of memory where something holds anyway
 pub whatever_fails : {X E : Type 0} (P : E → Type 0) (r : Result X E) → ((e : E) → P e) → IfErr r P
 whatever_fails P (Ok x) holds = tt
 whatever_fails P (Err e) holds = holds e

@@ -1,4 +1,4 @@
--- A program's spelling is read as that program.
+-- A program's canonical encoding is read as that program.
 use Rattle.std.proofs.Common.{◌≡◌, ℕ, ◌+◌, ◌*◌, ◌%◌, ◌^◌, ◌<◌, ◌≤◌, Bool, true, false, cond, List, [], ◌∷◌, ◌++◌, length, Option, None, Result, Ok, refl, sym, ap, subst, ◌∙◌, arith, append_assoc, length-append}
 use Rattle.std.specs.Prelude.{◌==◌}
 use Rattle.std.specs.List.{All, flat_map, list_all}
@@ -161,7 +161,7 @@ pub entry_again : (size : ℕ) (spans : List Span) (entry : ℕ) (rest : List �
 unfolding entry_field
 entry_again size spans entry rest low there alone = judged_again (entry_fault spans) size entry rest low (entry_right spans entry there alone)
 
--- ---- the words where they stand
+-- ---- the words where they are
 
 -- a program in its form
 abbrev pub IsPlacedIn : ProgramForm → RiscProgram → Type 0
@@ -315,7 +315,7 @@ fill_again : (form : ProgramForm) (size fill : ℕ) (chunks : List Chunk) → fi
 unfolding fill_field
 fill_again form size fill chunks e = ap (λ (k : Option FileKind). judged k size (fill ∷ []) >>= λ _. Ok fill) e
 
--- the chunks stand in the layout that is theirs
+-- the chunks are in the layout that is theirs
 abbrev pub AreFor : Layout → List Chunk → Type 0
 AreFor Paged chunks = list_all is_page chunks ≡ true
 AreFor Chunked chunks = list_all is_page chunks ≡ false
@@ -327,7 +327,7 @@ are_for chunks =
       | false ↦ λ e. e
     ] refl
 
--- a program stands in the form that is its own
+-- a program is in the form that is its own
 abbrev pub IsFor : ProgramForm → RiscProgram → Type 0
 IsFor (Based layout) program = (begins_at program.base program.spans ≡ true) × AreFor layout program.grants
 IsFor Spanned program = begins_at program.base program.spans ≡ false
@@ -353,7 +353,7 @@ all_fit (Based Paged) program h small = h.1
 all_fit (Based Chunked) program h small = omega arith
 all_fit Spanned program h small = omega arith
 
--- the spelling from left to right
+-- the canonical encoding from left to right
 abbrev pub tail_of : Layout → List Chunk → ℕ → List ℕ
 tail_of layout chunks fill = little_bytes 4 (length chunks) ++ (flat_map (chunk_in layout) chunks ++ fill ∷ [])
 

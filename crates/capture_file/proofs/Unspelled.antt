@@ -1,4 +1,4 @@
--- A file that is read is the spelling of what was read.
+-- A file that is read is the canonical encoding of what was read.
 use Rattle.std.proofs.Common.{◌≡◌, ℕ, zero, suc, ◌+◌, ◌*◌, ◌%◌, ◌^◌, ◌<◌, ◌≤◌, Bool, true, false, cond, not, ◌&&◌, List, [], ◌∷◌, ◌++◌, length, drop, Option, Some, None, Ok, Err, refl}
 use Rattle.std.proofs.Common.{sym, ap, subst, ◌∙◌, ◌-◌, ◌/◌, max, arith, append_assoc, eq-eqb, length-append}
 use Rattle.std.specs.Prelude.{nat_lt, nat_le, slice_index, ◌==◌, codes}
@@ -93,7 +93,7 @@ not-true false e = refl
 
 -- ---- base and counts
 
--- a number that was judged
+-- a number that was checked
 pub judged_number : (fault : ℕ → Option FileKind) (size : ℕ) (bytes : List ℕ) (x : ℕ × List ℕ) →
     (number_field size bytes >>= λ y. judged (fault y.0) size bytes >>= λ _. Ok y) ≡ Ok x → (number_field size bytes ≡ Ok x) × (fault x.0 ≡ None)
 judged_number fault size bytes x e =
@@ -284,9 +284,9 @@ entry_takes size spans bytes x fits e =
     let right = and_parts (is_there (word_among spans x.0)) (not (begins_at x.0 spans)) (some_fault (is_there (word_among spans x.0) && not (begins_at x.0 spans)) fault.Entry a.1) in
     (n.0, n.1, right.0, not-true (begins_at x.0 spans) right.1)
 
--- ---- the words where they stand
+-- ---- the words where they are
 
--- words that were read where they stand: of a program that can be made, but for its grants
+-- words that were read where they are: of a program that can be made, but for its grants
 record PlacedRead (form : ProgramForm) (bytes : List ℕ) (program : RiscProgram) (rest : List ℕ) : Type 0 where
   takes : Takes bytes (placed_spelled form program) rest
   bare : program.grants ≡ []
@@ -501,7 +501,7 @@ still_spelled : (form : ProgramForm) (placed : RiscProgram) (grants : List Chunk
 still_spelled (Based layout) placed grants = refl
 still_spelled Spanned placed grants = refl
 
--- what stands behind the number of the chunks
+-- what is behind the number of the chunks
 record ReadRest (form : ProgramForm) (placed : RiscProgram) (count : ℕ) (bytes : List ℕ) (file : ProgramFile) : Type 0 where
   parts : bytes ≡ flat_map (chunk_in (layout_of form)) file.program.grants ++ file.fill ∷ []
   is : file.program ≡ with_grants placed file.program.grants

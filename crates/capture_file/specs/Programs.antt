@@ -1,4 +1,4 @@
--- What the bytes of a program file stand for, and the one spelling of a program.
+-- What the bytes of a program file stand for, and the canonical encoding of a program.
 use Rattle.std.specs.Prelude.{◌≡◌, ℕ, zero, suc, ◌+◌, ◌-◌, ◌*◌, ◌%◌, ◌^◌, ◌<◌, Bool, true, false, not, ◌&&◌, List, [], ◌∷◌, ◌++◌, length, drop, Option, Some, None, Result, Ok, Err, IsOk, if◌then◌else◌, ◌==◌, nat_lt, nat_le, codes}
 use Rattle.std.specs.List.{flat_map, list_all}
 use Rattle.byteorder.specs.Endian.{little_number, little_bytes}
@@ -62,7 +62,7 @@ form_field size bytes = do
   word ← number_field size bytes
   form_or_magic size bytes (form_of word.0) word.1
 
--- base and number of words, where they stand one after another
+-- base and number of words, where they are one after another
 abbrev pub base_fault : ℕ → Option FileKind
 base_fault base = if base % 4 == 0 then None else Some fault.Base
 
@@ -303,7 +303,7 @@ abbrev pub Reads : {X Y : Type 0} → (X → Y) → Result X FileFault → Resul
 Reads view (Ok x) wanted = wanted ≡ Ok (view x)
 Reads view (Err fault) wanted = wanted ≡ Err fault
 
--- a call answers this; only want of memory is free
+-- a call answers this, or that it is out of memory
 abbrev pub Fails : {Y : Type 0} → ProgramError → Result Y FileFault → Type 0
 Fails errors.Memory wanted = Unit {0}
 Fails (errors.File fault) wanted = wanted ≡ Err fault
@@ -312,7 +312,7 @@ abbrev pub Gives : {X Y : Type 0} → (X → Y) → Result X ProgramError → Re
 Gives view (Ok x) wanted = wanted ≡ Ok (view x)
 Gives view (Err e) wanted = Fails e wanted
 
--- The one spelling: BRP1 or BRP2 where the words stand one after another from the entry on, or where there
+-- The canonical encoding: BRP1 or BRP2 where the words are one after another from the entry on, or where there
 -- are none, by whether all chunks are pages; else BRP3.
 
 abbrev pub numbers_spelled : List ℕ → List ℕ
@@ -341,7 +341,7 @@ name_of Spanned = codes "BRP3"
 abbrev pub grants_spelled : Layout → List Chunk → List ℕ
 grants_spelled layout chunks = little_bytes 4 (length chunks) ++ flat_map (chunk_in layout) chunks
 
--- a span, and the spans and the entry; words that stand one after another from the entry on are one span
+-- a span, and the spans and the entry; words one after another from the entry on are one span
 abbrev pub span_spelled : Span → List ℕ
 span_spelled s = little_bytes 4 s.at ++ little_bytes 4 (length s.words) ++ numbers_spelled s.words
 
@@ -365,7 +365,7 @@ form_for program = if begins_at program.base program.spans then Based (layout_fo
 unfoldable pub spelled : RiscProgram → ℕ → List ℕ
 spelled program fill = spelled_as (form_for program) program fill
 
--- bytes that are the one spelling of a program that can be made, and of a fill
+-- bytes that are the canonical encoding of a program that can be made, and of a fill
 pub record IsFile (bytes : List ℕ) (file : ProgramFile) : Type 0 where
   pub parts : bytes ≡ spelled file.program file.fill
   pub made : IsProgram file.program

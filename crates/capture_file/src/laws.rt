@@ -8,8 +8,8 @@ ghost use Rattle.machine_model.specs.Paths.{IsProgram, RiscProgram};
 ghost use Rattle.page_table.specs.Blocks.{AreBlocks, Block};
 ghost use Rattle.std.specs.Prelude.{◌≡◌, ◌⊎◌, ◌++◌, ◌<◌, Bool, IsErr, IsOk, List, ℕ, Ok, slice_index};
 
-/// Each program, with a fill, has exactly one file: its spelling is read as it, and bytes that are read
-/// as it are its spelling. What is read is a program that can be made.
+/// Each program, with a fill, has exactly one file, its canonical encoding: the file is read as the program, and bytes
+/// that are read as it are the file. What is read is a program that can be made.
 pub fn one_spelling()
     ensures read { (program : RiscProgram) (fill : ℕ) → IsProgram program
         → program_of (spelled program fill) ≡ Ok (record { program = program; fill = fill }) }
@@ -20,7 +20,7 @@ pub fn one_spelling()
 {}
 
 /// A file has a value or a first fault, and never both. Bytes that have no fault as a program file are
-/// the spelling of a program.
+/// the canonical encoding of a program.
 pub fn value_or_fault()
     ensures program { (bytes : List ℕ) → ((i : ℕ) → slice_index bytes i < 256) → HasProgram bytes ⊎ HasFault bytes }
     ensures no_program_at_fault { (bytes : List ℕ) → HasProgram bytes → HasFault bytes → ⊥ }

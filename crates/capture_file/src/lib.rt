@@ -49,7 +49,7 @@ pub enum FileKind {
     Base,
     /// An address is no multiple of 4,096, or of 4 for a chunk.
     Page,
-    /// A page or chunk doesn't stand above the one before it, or a span touches the one before it or stands below.
+    /// A page or chunk isn't above the one before it, or a span touches the one before it or is below.
     Order,
     /// A page or chunk shares a byte with the program.
     Overlap,
@@ -61,9 +61,9 @@ pub enum FileKind {
     Code(u8),
     /// Enables above 3.
     Enable(u8),
-    /// A byte stands after the last field.
+    /// A byte is after the last field.
     AfterEnd,
-    /// A byte stands where the length of the file is limited.
+    /// A byte is where the length of the file is limited.
     TooLong,
     /// The counts of turns so far sum to more than 1,073,741,824.
     TooManyTurns,

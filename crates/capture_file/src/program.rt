@@ -63,7 +63,7 @@ impl From<AllocError> for ProgramError {
     }
 }
 
-/// How a program file and an image say their chunks.
+/// How a program file and an image have their chunks.
 #[derive(Clone, Copy)]
 pub enum Layout {
     /// By their addresses, since all of them are pages.
@@ -75,7 +75,7 @@ pub enum Layout {
 /// The three forms of a program file.
 #[derive(Clone, Copy)]
 pub enum ProgramForm {
-    /// The words stand one after another from the entry on, or there are none: `BRP1` where all chunks are pages,
+    /// The words are one after another from the entry on, or there are none: `BRP1` where all chunks are pages,
     /// else `BRP2`.
     Based(Layout),
     /// Any other program, by its spans: `BRP3`.
@@ -507,7 +507,7 @@ impl<'a> Rest<'a> {
         Ok((words, self.after(long as usize)))
     }
 
-    // The base and the words that stand one after another from it on.
+    // The base and the words one after another from it on.
     #[tactic(auto, unfolding(crate::specs::Programs::based_field))]
     fn based(self, alloc: Global) -> Result<(Placed, Rest<'a>), ProgramError>
         requires { length self.bytes.now ≤ self.size }
@@ -782,7 +782,7 @@ fn grants_of(alloc: Global, chunks: &[(u32, u32)]) -> Result<PageSet, ProgramErr
 }
 
 /// The program that a file holds, or the first field of the file that is cut or at fault (this project's own formats).
-/// A file begins with `BRP1` or `BRP2` where the words stand one after another from the entry on, or where there are
+/// A file begins with `BRP1` or `BRP2` where the words are one after another from the entry on, or where there are
 /// none: `BRP1` where all chunks are pages. The fields are then the base, the number of words and the words, the number
 /// of pages or chunks and these in rising order, and the fill. Any other begins with `BRP3`; in place of base and words
 /// it has the number of spans, these in rising order, each its address, its number of words and its words, and the

@@ -23,7 +23,7 @@ const MANY: usize = 65_536;
 // How many chunks are put at once.
 const CHUNKS: usize = 512;
 
-// Puts a number into a buffer, four bytes with the lowest first, behind the bytes that stand there.
+// Puts a number into a buffer, four bytes with the lowest first, behind the bytes that are there.
 #[inline]
 pub fn spell_one(number: u32, out: &mut [u8], at: usize)
     requires { at + 4 ≤ length out.old }
@@ -85,7 +85,7 @@ fn name(form: ProgramForm) -> [u8; 4]
     }
 }
 
-// How a program's file says its chunks: whether all are pages.
+// How a program's file has its chunks: whether all are pages.
 fn layout_of_grants(grants: &PageSet) -> Layout
     ensures { result ≡ layout_for grants.now }
 {
@@ -185,7 +185,7 @@ fn form_of_program(program: &Program) -> ProgramForm
     }
 }
 
-// Appends an address, the number of the words that stand there, and the words.
+// Appends an address, the number of the words there, and the words.
 fn put_span<D: Desk>(desk: &mut D, at: u32, words: &[u32]) -> Result<(), Failed>
     requires open { IsTrue (D.seen desk.old).told.output_open }
     requires few { length words.now ≤ max_words }
@@ -222,7 +222,7 @@ fn put_spanned<D: Desk>(desk: &mut D, entry: u32, spans: &Spans) -> Result<(), F
     put_numbers(desk, &[entry])
 }
 
-// Appends the words of a program where they stand, and its entry.
+// Appends the words of a program where they are, and its entry.
 fn put_placed<D: Desk>(desk: &mut D, form: ProgramForm, program: &Program) -> Result<(), Failed>
     requires open { IsTrue (D.seen desk.old).told.output_open }
     ensures puts { Puts (placed_spelled form program.now) result after_write (D.seen desk.old).told (D.seen desk.new).told }
@@ -251,7 +251,7 @@ fn put_as<D: Desk>(
     put(desk, &[fill])
 }
 
-/// Appends the one file of a program and a fill to the open output: `BRP1` or `BRP2` where the words stand one after
+/// Appends the one file of a program and a fill to the open output: `BRP1` or `BRP2` where the words are one after
 /// another from the entry on, or where there are none, by whether all chunks are pages; else `BRP3`. Where a write
 /// fails, a front of the file was appended.
 #[tactic(auto, unfolding(crate::specs::Programs::spelled))]

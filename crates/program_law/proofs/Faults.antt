@@ -26,7 +26,7 @@ IsBytes-take (suc n) [] fits i = omega arith
 IsBytes-take (suc n) (byte ∷ rest) fits zero = fits 0
 IsBytes-take (suc n) (byte ∷ rest) fits (suc i) = IsBytes-take n rest (λ k. fits (suc k)) i
 
--- ---- where a fault stands
+-- ---- where a fault is
 
 abbrev Held : List ℕ → FileFault → Type 0
 Held bytes found = FaultAt ProgramFile file_of (EndsWell false ProgramFile file_of) (length bytes) bytes found
@@ -115,7 +115,7 @@ whole_before bytes found fits late e =
     let low : IsBytes at.before = subst IsBytes (before_is bytes found at) (IsBytes-take found.at bytes fits) in
     subst HasProgram (sym (before_is bytes found at)) (read_to_file at.before done.0 low done.1)
 
--- the field at fault stands behind the beginning of a good file
+-- the field at fault is behind the beginning of a good file
 begins_at : (based : Bool) (bytes : List ℕ) (found : FileFault) (at : FaultAt ProgramFile file_of (EndsWell based ProgramFile file_of) (length bytes) bytes found) → IsBytes bytes → before_field found bytes ≡ at.before →
     has_good_beginning based at.kind ≡ true → BeginsFile (before_field found bytes)
 begins_at based bytes found at fits same sure =
@@ -124,7 +124,7 @@ begins_at based bytes found at fits same sure =
     let all : List ℕ = at.before ++ can.more in
     subst BeginsFile (sym same) (can.more, read_to_file all (can.ends (length all)).0 (IsBytes-append at.before can.more low can.fits) (can.ends (length all)).1)
 
--- where it stands
+-- where it is
 before_at : (based : Bool) (bytes : List ℕ) (found : FileFault) (at : FaultAt ProgramFile file_of (EndsWell based ProgramFile file_of) (length bytes) bytes found) → before_field found bytes ≡ at.before
 before_at based bytes found at =
     let parts : length bytes ≡ length at.before + length (at.field ++ at.rest) = ap length at.parts ∙ length-append at.before (at.field ++ at.rest) in

@@ -1,4 +1,4 @@
--- The fields of a program file, each with what it tells where it is right.
+-- The fields of a program file, each with what it gives where it is right.
 use Rattle.std.proofs.Common.{◌≡◌, ℕ, zero, suc, ◌+◌, ◌*◌, ◌%◌, ◌^◌, ◌<◌, ◌≤◌, inl, inr, Bool, true, false, cond, List, [], ◌∷◌, ◌++◌, length, take, drop, Option, Some, None, Ok, Err, refl, sym, ap, subst, ◌∙◌, arith, length-append}
 use Rattle.std.specs.Prelude.{nat_le, nat_lt, not, ◌&&◌, ◌==◌}
 use Rattle.std.proofs.lemmas.Bool.{leb-true, le-leb}
@@ -19,7 +19,7 @@ use Rattle.capture_file.proofs.FourBytes.{number_low}
 use Rattle.program_law.specs.Beginnings.{IsWhole, field_width, has_good_beginning}
 use Rattle.program_law.proofs.Judging.{Reader, FieldGoes, Inside, IsField, field_then}
 
--- ---- a number that is judged by its value
+-- ---- a number that is checked by its value
 
 -- the kind of fault that a number may have
 pub record IsOfNumber (kind : FileKind) : Type 0 where

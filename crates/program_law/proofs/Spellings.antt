@@ -1,4 +1,4 @@
--- A program file without a fault is the spelling of one program in one form.
+-- A program file without a fault is the encoding of one program in one form.
 use Rattle.std.proofs.Common.{◌≡◌, ℕ, true, false, List, length, Ok, refl, sym, ap, subst, ◌∙◌}
 use Rattle.machine_model.specs.Paths.{RiscProgram}
 use Rattle.capture_file.specs.declared.program.Layout.TheVariants.{Paged, Chunked}

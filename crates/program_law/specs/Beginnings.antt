@@ -12,7 +12,7 @@ use Rattle.capture_file.specs.Streams.{number_at}
 abbrev pub BeginsFile : List ℕ → Type 0
 BeginsFile bytes = (more : List ℕ) × HasProgram (bytes ++ more)
 
--- a fault at a field that stands whole in the file, with the bytes of that field: the fill and a byte
+-- a fault at a field that is whole in the file, with the bytes of that field: the fill and a byte
 -- after it are one, every other field is a number of four
 abbrev pub IsWhole : FileKind → Type 0
 IsWhole kind = kind ≡ fault.Short → ⊥
@@ -29,7 +29,7 @@ before_field found bytes = take found.at bytes
 abbrev pub with_field : FileFault → List ℕ → List ℕ
 with_field found bytes = take (found.at + field_width found.kind) bytes
 
--- the form that the first word of a file names, if any, and whether its words stand one after another from a base on
+-- the form that the first word of a file names, if any, and whether its words are one after another from a base on
 abbrev pub form_named : List ℕ → Option ProgramForm
 form_named bytes = elim (number_at bytes) [ None ↦ None | Some word ↦ form_of word ]
 
@@ -39,9 +39,9 @@ is_based (Some (Based layout)) = true
 is_based (Some Spanned) = false
 
 -- Faults before whose field there is always a good file's beginning, in files with a base and in all others. Of the
--- others, Short stands at the end of the file and at no field, since a field that is cut isn't judged; Pages is found at
--- the fill, though the chunks before it decide it; and a chunk, a span or an entry can be at fault where what is counted
--- finds no room any more, whatever stands there (`beginnings_with_room_go_on` and `spans_with_room_go_on` say where they
+-- others, Short is at the end of the file and at no field, since a field that is cut isn't checked. Pages is found at
+-- the fill, though the chunks before it decide it. A chunk, a span or an entry can be at fault where what is counted
+-- finds no room any more, whatever is there (`beginnings_with_room_go_on` and `spans_with_room_go_on` state where they
 -- do). The other kinds are those of streams.
 abbrev pub has_good_beginning : Bool → FileKind → Bool
 has_good_beginning based fault.Magic = true

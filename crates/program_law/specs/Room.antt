@@ -29,13 +29,13 @@ abbrev pub least_length : Layout → ℕ
 least_length Paged = page_size
 least_length Chunked = 4
 
--- a program can stand in a form; where it has spans these stand in the lower half of the addresses
+-- a program can be in a form; where it has spans these are in the lower half of the addresses
 abbrev pub StandIn : ProgramForm → RiscProgram → Type 0
 StandIn (Based Paged) program = (begins_at program.base program.spans ≡ true) × (list_all is_page program.grants ≡ true)
 StandIn (Based Chunked) program = begins_at program.base program.spans ≡ true
 StandIn Spanned program = (begins_at program.base program.spans ≡ false) × (spans_end 0 program.spans ≤ 2 ^ 31)
 
--- more chunks are counted than there are, and the others find room: the last stands in the lower half of the
+-- more chunks are counted than there are, and the others find room: the last is in the lower half of the
 -- addresses, and the shortest chunks in place of the others stay within the bytes that may be granted
 pub record HasRoom (form : ProgramForm) (program : RiscProgram) (count : ℕ) : Type 0 where
   pub made : IsProgram program
@@ -49,7 +49,7 @@ pub record HasRoom (form : ProgramForm) (program : RiscProgram) (count : ℕ) : 
 abbrev pub span_beginning : ℕ → List Span → List ℕ
 span_beginning count spans = name_of Spanned ++ little_bytes 4 count ++ flat_map span_spelled spans
 
--- spans that can stand at the front of those that are counted, and the others find room: the last stands in the lower
+-- spans that can be at the front of those that are counted, and the others find room: the last is in the lower
 -- half of the addresses, and two words for each of the others are not too many; the only span isn't one word alone
 pub record HasSpanRoom (count : ℕ) (spans : List Span) : Type 0 where
   pub apart : AreApart 0 spans

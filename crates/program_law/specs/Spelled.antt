@@ -1,4 +1,4 @@
--- The spelling of a program file in each form.
+-- The encoding of a program file in each form.
 use Rattle.std.specs.Prelude.{◌≡◌, ℕ, ◌<◌, Bool, true, false, List}
 use Rattle.std.specs.List.{list_all}
 use Rattle.page_table.specs.Grants.{is_page}
@@ -10,7 +10,7 @@ use Rattle.capture_file.specs.declared.program.ProgramForm.TheVariants.{Based, S
 use Rattle.capture_file.specs.declared.program.ProgramFile.{ProgramFile}
 use Rattle.capture_file.specs.Programs.{spelled_as}
 
--- BRP1 says chunks all of which are pages, also none; BRP2 says any others
+-- the chunks of BRP1 are all pages, or there are none; BRP2 has any others
 abbrev pub only_pages : Layout → Bool
 only_pages Paged = true
 only_pages Chunked = false

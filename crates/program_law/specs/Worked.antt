@@ -11,15 +11,15 @@ IsAtFault bytes place kind = program_of bytes ≡ Err (fault_at place kind)
 abbrev pub line_words : List ℕ
 line_words = 2147516420 ∷ 0 ∷ 2147483654 ∷ 0 ∷ 469762056 ∷ 131072 ∷ 1910571008 ∷ 4096 ∷ []
 
--- a file of these words at a base, with a number of words, and with what stands behind the words
+-- a file of these words at a base, with a number of words, and with what is behind the words
 abbrev pub line_file : ℕ → ℕ → List ℕ → List ℕ
 line_file base count memory = codes "BRP1" ++ (numbers_spelled (base ∷ count ∷ line_words ++ memory) ++ 0 ∷ [])
 
--- at 1000 hexadecimal, with one page at 20000: 53 bytes, of which the number of pages stands at 44 and the fill at 52
+-- at 1000 hexadecimal, with one page at 20000: 53 bytes, of which the number of pages is at 44 and the fill at 52
 abbrev pub one_line : List ℕ
 one_line = line_file 4096 8 (1 ∷ 131072 ∷ [])
 
--- the same in the other form, with what stands behind the words
+-- the same in the other form, with what is behind the words
 abbrev pub chunk_file : List ℕ → List ℕ
 chunk_file memory = codes "BRP2" ++ (numbers_spelled (4096 ∷ 8 ∷ line_words ++ memory) ++ 0 ∷ [])
 
@@ -31,7 +31,7 @@ abbrev pub highest_first : List ℕ
 highest_first = codes "BRP1" ++ numbers_spelled (0 ∷ 0 ∷ 2 ∷ 4294963200 ∷ [])
 
 -- two spans, the first at 1000 hexadecimal and the second at an address, each a JUMP to the other, with an entry: 49
--- bytes, of which the second address stands at 24, the entry at 40 and the fill at 48
+-- bytes, of which the second address is at 24, the entry at 40 and the fill at 48
 abbrev pub two_spans : ℕ → ℕ → List ℕ
 two_spans at entry =
     codes "BRP3" ++ (numbers_spelled (2 ∷ 4096 ∷ 2 ∷ 1879048192 ∷ 8192 ∷ at ∷ 2 ∷ 1879048192 ∷ 4096 ∷ entry ∷ 0 ∷ []) ++ 0 ∷ [])
@@ -43,6 +43,6 @@ lone_span entry = codes "BRP3" ++ (numbers_spelled (1 ∷ 4096 ∷ 2 ∷ 1879048
 abbrev pub one_word_alone : List ℕ
 one_word_alone = codes "BRP3" ++ numbers_spelled (1 ∷ 4096 ∷ 1 ∷ 0 ∷ [])
 
--- a file with spans in which one number stands for another: by which it is counted from the first word on
+-- a file with spans with another number at a place; places are counted in numbers from the first word on
 abbrev pub with_number : ℕ → ℕ → List ℕ → List ℕ
 with_number place number bytes = take (4 * place) bytes ++ (numbers_spelled (number ∷ []) ++ drop (4 * place + 4) bytes)

@@ -1,4 +1,4 @@
-//! The spelling of program files, and where a file is at fault: that the reader's definition of a program has nothing
+//! The canonical encoding of program files, and where a file is at fault: that the reader's definition of a program has nothing
 //! else in it, and that each fault is decided by its field. The functions do nothing; their contracts are the laws.
 #![tactic(auto)]
 
@@ -30,7 +30,7 @@ pub fn program_files_have_one_spelling()
         IsSpelledIn other another → bytes_in form file ≡ bytes_in other another → (form ≡ other) × (file ≡ another) }
 {}
 
-/// A fault of a field that stands whole in the file is decided by the bytes up to and with this field: whatever
+/// A fault of a field that is whole in the file is decided by the bytes up to and with this field: whatever
 /// follows them, the file has this fault, and no good file begins with them.
 pub fn faults_are_decided_by_their_fields()
     ensures decided { (bytes more : List ℕ) (found : FileFault) → ((i : ℕ) → slice_index bytes i < 256) →
@@ -63,7 +63,7 @@ pub fn short_files_have_short_beginnings()
 {}
 
 /// Where there is room for the chunks that are counted but not there yet, some good file begins with the bytes up to
-/// these chunks, whatever fault stands behind them.
+/// these chunks, whatever fault is behind them.
 pub fn beginnings_with_room_go_on()
     ensures { (form : ProgramForm) (program : RiscProgram) (count : ℕ) → HasRoom form program count →
         BeginsFile (beginning form program count) }

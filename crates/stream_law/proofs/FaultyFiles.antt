@@ -24,7 +24,7 @@ use Rattle.stream_law.proofs.ReadBack.{spelled_back, stream_back}
 
 -- ---- a file without a limit
 
--- the field at fault stands whole in it and decides the fault, and a good file begins with the bytes before it
+-- the field at fault is whole in it and decides the fault, and a good file begins with the bytes before it
 record IsFileFault (chained : Bool) (bytes : List ℕ) (found : FileFault) : Type 0 where
   reach : found.at + field_width found.kind ≤ length bytes
   decided : (judged chained (take (found.at + field_width found.kind) bytes)).ending ≡ Bad found
@@ -118,7 +118,7 @@ IsBytes-take (suc n) [] fits i = omega arith
 IsBytes-take (suc n) (byte ∷ rest) fits zero = fits 0
 IsBytes-take (suc n) (byte ∷ rest) fits (suc i) = IsBytes-take n rest (λ k. fits (suc k)) i
 
--- a byte stands at the limit, and no field below it is at fault
+-- a byte is at the limit, and no field below it is at fault
 record IsTooLong (limit : ℕ) (chained : Bool) (bytes : List ℕ) (found : FileFault) : Type 0 where
   over : limit < length bytes
   is : found ≡ fault_at limit fault.TooLong

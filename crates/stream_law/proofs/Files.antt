@@ -137,9 +137,9 @@ has_spelling limit chained bytes read fits e =
       },
     )
 
--- ---- one spelling
+-- ---- one encoding
 
--- the fourth byte tells the form
+-- the fourth byte, by which the forms differ
 abbrev fourth : List ℕ → ℕ
 fourth bytes = slice_index bytes 3
 

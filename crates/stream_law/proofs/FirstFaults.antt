@@ -34,7 +34,7 @@ use Rattle.stream_law.proofs.Records.{AreSpelled, Fronts, IsTagged, record_front
 
 -- ---- the bytes of a record before the field at fault
 
--- the field's first byte stands there, and its last before the next; some records begin with the bytes before it
+-- the field's first byte is there, and its last before the next; some records begin with the bytes before it
 record IsBegun (form : Form) (turns : ℕ) (bytes : List ℕ) (from to : ℕ) (found : FileKind) : Type 0 where
   width : to ≡ from + field_width found
   more : List ℕ
@@ -167,7 +167,7 @@ found_in form turns count bytes found is within enough =
 
 -- ---- all records
 
--- the field at fault stands `n` bytes on; it is decided by the bytes up to and with it, and some records begin with those before it
+-- the field at fault is `n` bytes on; it is decided by the bytes up to and with it, and some records begin with those before it
 pub record IsFirstFault (form : Form) (turns place : ℕ) (bytes : List ℕ) (found : FileFault) : Type 0 where
   pub n : ℕ
   pub at : found.at ≡ place + n

@@ -74,13 +74,13 @@ tagged form tag =
 
 -- ---- one record
 
--- the record at the front of some bytes, which are its spelling and the bytes after it
+-- the record at the front of some bytes, which are its encoding and the bytes after it
 pub record IsFront (form : Form) (turns : ℕ) (bytes : List ℕ) (step : Step) (len : ℕ) : Type 0 where
   pub parts : bytes ≡ record_bytes step ++ drop len bytes
   pub is : IsRecord form step
   pub few : turns + turns_of step ≤ most_turns
 
--- what a record that was found says of the bytes
+-- what follows for the bytes from a record that was found
 abbrev pub Fronts : Form → ℕ → List ℕ → Found → Type 0
 Fronts form turns bytes Cut = Unit {0}
 Fronts form turns bytes (Wrong from to fault) = Unit {0}

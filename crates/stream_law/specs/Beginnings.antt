@@ -13,7 +13,7 @@ BeginsStream limit chained bytes = (more : List ℕ) × IsOk (steps_of limit cha
 abbrev pub BeginsSome : Bool → List ℕ → Type 0
 BeginsSome chained bytes = (limit : ℕ) × BeginsStream limit chained bytes
 
--- a fault at a field that stands whole in the file, with the bytes of that field: the first word and a count of turns
+-- a fault at a field that is whole in the file, with the bytes of that field: the first word and a count of turns
 -- are numbers of four, every other field is one byte
 abbrev pub IsWhole : FileKind → Type 0
 IsWhole kind = kind ≡ fault.Short → ⊥
@@ -30,7 +30,7 @@ before_field found bytes = take found.at bytes
 abbrev pub with_field : FileFault → List ℕ → List ℕ
 with_field found bytes = take (found.at + field_width found.kind) bytes
 
--- Faults before whose field there is always a good file's beginning. Of the others, Short stands at the end of the file
+-- Faults before whose field there is always a good file's beginning. Of the others, Short is at the end of the file
 -- and TooLong at the limit, and at no field: of a count of turns that is cut there the bytes so far can be too many,
 -- whatever follows them.
 abbrev pub has_good_beginning : FileKind → Bool

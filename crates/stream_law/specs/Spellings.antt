@@ -1,4 +1,4 @@
--- The spelling of a stream file: the form's name, the records one after another, and the end record.
+-- The canonical encoding of a stream file: the form's name, the records one after another, and the end record.
 use Rattle.std.specs.Prelude.{◌≡◌, ℕ, ◌+◌, ◌^◌, ◌<◌, ◌≤◌, ◌⊎◌, Bool, true, false, All, List, [], ◌∷◌, ◌++◌, length, if◌then◌else◌, codes}
 use Rattle.std.specs.List.{flat_map}
 use Rattle.byteorder.specs.Endian.{little_bytes}

@@ -1,4 +1,4 @@
-//! The spelling of stream files, and where a file is at fault: which bytes spell which records, that the reader's
+//! The canonical encoding of stream files, and where a file is at fault: which bytes spell which records, that the reader's
 //! definition of a stream has nothing else in it, and that each fault is decided by its field. The functions do nothing;
 //! their contracts are the laws.
 #![tactic(auto)]
@@ -28,7 +28,7 @@ pub fn streams_have_one_spelling()
         spelled form steps ≡ spelled other others → (form ≡ other) × (steps ≡ others) }
 {}
 
-/// A fault of a field that stands whole in the file is decided by the bytes up to and with this field: whatever
+/// A fault of a field that is whole in the file is decided by the bytes up to and with this field: whatever
 /// follows them, the file has this fault, and no good file begins with them.
 pub fn faults_are_decided_by_their_fields()
     ensures decided { (limit : ℕ) (chained : Bool) (bytes more : List ℕ) (found : FileFault) → ((i : ℕ) → slice_index bytes i < 256) →

@@ -16,7 +16,7 @@ next_piece sink bytes at n t u v e f =
     f ∙ ap (λ x. after_append sink (take n x) u) (take_rest bytes at) ∙ ap (after_append sink (take n (drop at bytes))) e
     ∙ append-append sink (take at bytes) (take n (drop at bytes)) t ∙ ap (λ x. after_append sink x t) (sym (take-add at n bytes))
 
--- what is counted and told
+-- what is counted, and what the desk tells
 nothing_yet : (sink : Sink) (s : Seen) → OnlyAppended sink [] s s
 nothing_yet Output s = (refl, refl, refl)
 nothing_yet Text s = (refl, refl, inr refl)
