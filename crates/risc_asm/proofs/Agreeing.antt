@@ -11,7 +11,7 @@ use Rattle.risc_asm.specs.Verdicts.{Differs, IsAlike, WithoutLines}
 abbrev pub is_front : List ℕ → List ℕ → Bool
 is_front piece text = pointwise (λ one other. one == other) (take (length piece) text) piece
 
--- the bytes at one place differ, so neither text stands in front of the other
+-- the bytes at one place differ, so neither text is in front of the other
 differ_at : (k : ℕ) (a b x y : List ℕ) → k < length a → k < length b → slice_index a k ≢ slice_index b k → a ++ x ≡ b ++ y → ⊥
 differ_at k a b x y within also other same =
     other (sym (get_or_append_left a x 0 k within) ∙ ap (λ (list : List ℕ). slice_index list k) same ∙ get_or_append_left b y 0 k also)

@@ -1,4 +1,4 @@
--- What is told of a text follows from what was read of it and listed again.
+-- What is found of a text follows from what was read of it and listed again.
 use Rattle.std.proofs.Common.{◌≡◌, ℕ, ◌+◌, ◌^◌, ◌<◌, Bool, true, false, List, [], ◌∷◌, ◌++◌, length, take, Option, Some, None, refl, sym, ap, subst, ◌∙◌, arith, inl, inr}
 use Rattle.std.specs.Prelude.{IsTrue, nat_le, nat_lt, Result, Ok, Err}
 use Rattle.std.specs.Option.{unwrap_or}
@@ -16,7 +16,7 @@ use Rattle.risc_text.proofs.Spelling.{some_is, none_some}
 use Rattle.risc_asm.specs.Programs.{meant}
 use Rattle.risc_asm.specs.Verdicts.{IsAlike, IsBegun, IsDraftOfBase, IsDraftOfSpans, IsToldBy}
 
--- a program that is told by spans has some
+-- a program that is given by spans has some
 some_spans : (entry : ℕ) (spans : List Span) → begins_at entry spans ≡ false → length spans ≡ 0 → ⊥
 some_spans entry [] is none = absurd cc
 some_spans entry (s ∷ rest) is none = absurd (omega arith)
@@ -25,13 +25,13 @@ no_text : (spans : List Span) → length spans ≡ 0 → 0 < length (flat_map sp
 no_text [] none some = absurd (omega arith)
 no_text (s ∷ rest) none some = absurd (omega arith)
 
--- what lines tell, in parts
+-- what lines give, in parts
 abbrev told : Option ℕ → List ℕ → List Span → Option ℕ → List (ℕ × ℕ) → Option ℕ → Draft
 told base words spans entry chunks fill = record { base = base; words = words; spans = spans; entry = entry; chunks = chunks; fill = fill }
 
 -- ---- the program that a text begins with
 
--- a listing begins with the text, and this is what the text tells of it
+-- a listing begins with the text, and this is what the text gives of it
 pub record StartOf (text : List ℕ) (d : Draft) : Type 0 where
   pub program : RiscProgram
   pub made : IsProgram program
@@ -125,7 +125,7 @@ undrafted text is some whole begun = by (begun_starts text begun whole)
     by (inr (inr (inl are))) = none_some (record blank { spans = are.spans }) (sym is ∙ ap drafted are.is ∙ spans_are_read are.spans are.apart)
     by (inr (inr (inr (program, fill, (listed_is, same))))) = none_some (draft_of program (Some fill)) (sym is ∙ ap drafted (sym same) ∙ listing_is_read program fill listed_is)
 
--- ---- the program that is made of what lines tell
+-- ---- the program that is made of what lines give
 
 pub told_by_start : (text : List ℕ) (d : Draft) (program : RiscProgram) → drafted text ≡ Some d → 0 < length text → ((start : StartOf text d) → start.program ≡ program) → IsToldBy text program (unwrap_or d.fill 0)
 told_by_start text d program is some same = record {

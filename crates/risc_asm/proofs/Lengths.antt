@@ -261,7 +261,7 @@ listing_short program fill is =
 abbrev answered : ProgramFile → Result ProgramFile AsmError
 answered file = Ok file
 
--- the one answer for a listing but want of memory
+-- the one answer for a listing but out of memory
 pub listing_assembled : (program : RiscProgram) (fill : ℕ) (answer : Result ProgramFile AsmError) → IsListed program fill → Answers (listing program fill) answer → IsTold answer →
     answer ≡ Ok (record { program = program; fill = fill })
 listing_assembled program fill answer is fits told =

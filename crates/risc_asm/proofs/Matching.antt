@@ -14,7 +14,7 @@ use Rattle.risc_asm.proofs.Agreeing.{first_differs, piece_found, then_differs, t
 pub found : (rest piece : List ℕ) → pointwise (λ one other. one == other) (take (length piece) rest) piece ≡ true → rest ≡ piece ++ drop (length piece) rest
 found rest piece is = piece_found rest piece (drop (length piece) rest) is refl
 
--- lines up to some stand at the front of a text, and these are left
+-- lines up to some are at the front of a text, and these are left
 pub record Matched (lines left text rest : List ℕ) : Type 0 where
   pub shown : List ℕ
   pub text_is : text ≡ shown ++ rest

@@ -1,4 +1,4 @@
--- No two answers but want of memory fit one text.
+-- No two answers but out of memory fit one text.
 use Rattle.std.proofs.Common.{◌≡◌, ℕ, ◌+◌, ◌≤◌, ◌⊎◌, inl, inr, Bool, true, false, not, ◌&&◌, List, [], ◌∷◌, ◌++◌, length, Result, Ok, Err, refl, sym, ap, subst, ◌∙◌, arith}
 use Rattle.std.specs.Prelude.{◌==◌, if◌then◌else◌}
 use Rattle.std.proofs.lemmas.Bool.{and_parts, eqb-true}
@@ -128,7 +128,7 @@ line_is (byte ∷ second ∷ rest) whole one =
 
 -- ---- the lines of a text
 
--- the whole lines of a text, and what stands after the last newline
+-- the whole lines of a text, and what is after the last newline
 record SameLines (lines other rest left : List ℕ) : Type 0 where
   lines_same : lines ≡ other
   rest_same : rest ≡ left
@@ -203,7 +203,7 @@ answered file = Ok file
 abbrev refused : AsmFault → Result ProgramFile AsmError
 refused fault = Err (Bad fault)
 
--- where a rest is at fault, nothing stands after it
+-- where a rest is at fault, nothing is after it
 rest_at : {text : List ℕ} {k : ℕ} (fault : LineAtFault text k) → fault.after ≡ [] → text ≡ fault.before ++ fault.line
 rest_at fault none =
     fault.parts ∙ ap (λ (list : List ℕ). fault.before ++ (fault.line ++ list)) none ∙ ap (λ (list : List ℕ). fault.before ++ list) (append-nil fault.line)

@@ -126,7 +126,7 @@ line_between lines low high k between none number =
       };
     }
 
--- what a verdict tells
+-- what follows from a verdict
 pub begins_whole : (text : List ℕ) (verdict : Verdict) (file : ProgramFile) → verdict ≡ Whole file → Judges text verdict → BeginsListing text
 begins_whole text verdict file is told = listing_begins text (file.program, file.fill, rw is at told)
 

@@ -1,4 +1,4 @@
--- Lines that are told again, one piece after the other.
+-- Lines that are listed again, one piece after the other.
 use Rattle.std.proofs.Common.{◌≡◌, ℕ, ◌+◌, ◌-◌, ◌≤◌, List, ◌++◌, length, length-append, take, sym, ap, ◌∙◌, arith, append_assoc}
 use Rattle.risc_asm.specs.Texts.{IsSettled, TellsMore, told}
 use Rattle.risc_asm.proofs.Telling.{settled_on}

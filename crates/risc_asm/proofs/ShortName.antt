@@ -1,4 +1,4 @@
--- Where a space stands after `write`, the name ends.
+-- Where a space is after `write`, the name ends.
 use Rattle.std.proofs.Common.{◌≡◌, ℕ, ◌≤◌, List, [], ◌∷◌, length, Some, refl, arith}
 use Rattle.std.specs.Prelude.{slice_index}
 use Rattle.risc_text.specs.declared.Name.TheVariants as names

@@ -1,4 +1,4 @@
--- A text is kept as the words of its lines: what is read and told again stands for the same bytes.
+-- A text is kept as the words of its lines: what is read and listed again is the same bytes.
 use Rattle.std.proofs.Common.{◌≡◌, ℕ, ◌+◌, ◌-◌, ◌*◌, ◌^◌, ◌<◌, ◌≤◌, Bool, true, List, [], ◌∷◌, ◌++◌, length, length-append, take, drop, Some, None, refl, sym, ap, subst, ◌∙◌, arith, append_assoc}
 use Rattle.std.specs.Prelude.{◌==◌}
 use Rattle.std.specs.Cmp.Lexicographic.{pointwise}
@@ -38,7 +38,7 @@ told_all base words = ap (told base) (append-nil words)
 front_long : (base : ℕ) (words : List ℕ) (number front : ℕ) → IsSettled base words number front → length (take front (told base words)) ≡ front
 front_long base words number front is = length-take-le front (told base words) is.long
 
--- the same first bytes stand in front of more
+-- the same first bytes are in front of more
 same_front : (front : ℕ) (first rest text : List ℕ) → length first ≡ front → first ++ rest ≡ text → take front text ≡ first
 same_front front first rest text long is = sym (ap (take front) is) ∙ ap (λ (n : ℕ). take n (first ++ rest)) (sym long) ∙ take-append_seam first rest
 
@@ -46,7 +46,7 @@ within_front : (front : ℕ) (first rest text : List ℕ) → length first ≡ f
 within_front front first rest text long is =
     let all : length first + length rest ≡ length text = sym (length-append first rest) ∙ ap length is in omega arith
 
--- ---- more lines are told again
+-- ---- more lines are listed again
 
 pub record Goes (base : ℕ) (words : List ℕ) (next front : ℕ) (first shown : List ℕ) : Type 0 where
   pub settled : IsSettled base words next front

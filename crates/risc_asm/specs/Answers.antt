@@ -17,7 +17,7 @@ IsFault text (Line k) = (length text ≤ most_bytes) × LineAtFault text k
 IsFault text (Short k) = (length text ≤ most_bytes) × EndsShort text k
 IsFault text TooLong = most_bytes < length text
 
--- only want of memory is free
+-- out of memory alone is left open
 abbrev pub Answers : List ℕ → Result ProgramFile AsmError → Type 0
 Answers text (Ok file) = (length text ≤ most_bytes) × Assembles text file.program file.fill
 Answers text (Err (Bad fault)) = IsFault text fault
@@ -33,7 +33,7 @@ pub record HasWrongLine (lines : List ℕ) (k : ℕ) : Type 0 where
   pub number : k ≡ line_count before + 1
   pub wrong : IsWrongLine before line
 
--- The first line at fault stands between two places of whole lines: the lines up to the first begin a
+-- The first line at fault is between two places of whole lines: the lines up to the first begin a
 -- listing, those up to the second don't.
 pub record IsBetween (lines : List ℕ) (low high : ℕ) : Type 0 where
   pub order : low < high
@@ -43,7 +43,7 @@ pub record IsBetween (lines : List ℕ) (low high : ℕ) : Type 0 where
   pub begun : BeginsListing (take low lines)
   pub wrong : BeginsListing (take high lines) → ⊥
 
--- what a text alone tells: any answer but want of memory
+-- what depends on the text alone: any answer but out of memory
 abbrev pub IsTold : Result ProgramFile AsmError → Type 0
 IsTold (Ok file) = Unit {0}
 IsTold (Err (Bad fault)) = Unit {0}

@@ -1,4 +1,4 @@
--- What the lines of a text tell, as the code keeps it.
+-- What the lines of a text give, as the code keeps it.
 use Rattle.std.specs.Prelude.{◌≡◌, ℕ, ◌≤◌, ◌<◌, List, length, Option, Some, None, IfSome, IsTrue}
 use Rattle.risc_word.specs.Words.{fits}
 use Rattle.risc_text.specs.declared.Line.{Line}

@@ -1,9 +1,9 @@
--- As much of what lines tell as a program can have.
+-- As much of what lines give as a program can have.
 use Rattle.std.specs.Prelude.{◌≡◌, ℕ, suc, ◌+◌, ◌*◌, ◌-◌, ◌/◌, ◌^◌, Bool, ◌&&◌, ◌||◌, List, [], ◌∷◌, length, take, min, nat_le, nat_lt, if◌then◌else◌}
 use Rattle.page_table.specs.Grants.{max_chunks}
 use Rattle.machine_model.specs.Paths.{max_words}
 
--- a chunk that stands at `from` or after it, apart from the words, which stand from the base on up to `end`
+-- a chunk at `from` or after it, apart from the words, which are from the base on up to `end`
 abbrev pub follows : ℕ × ℕ → ℕ → ℕ → ℕ → Bool
 follows chunk from base end =
     nat_le from chunk.0 && nat_lt chunk.0 (chunk.0 + chunk.1)

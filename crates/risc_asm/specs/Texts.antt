@@ -1,4 +1,4 @@
--- A text that is kept as the words of its lines, as far as they tell it.
+-- A text that is kept as the words of its lines, as far as they give it back.
 use Rattle.std.specs.Prelude.{◌≡◌, ℕ, ◌+◌, ◌*◌, ◌^◌, ◌≤◌, List, [], ◌++◌, length, take, drop}
 use Rattle.risc_listing.specs.Listings.{base_line, word_lines}
 use Rattle.risc_asm.specs.declared.text.Settled.{Settled}
@@ -9,7 +9,7 @@ use Rattle.risc_asm.specs.declared.text.State.TheVariants.{New, Plain, Told}
 abbrev pub told : ℕ → List ℕ → List ℕ
 told base words = base_line base ++ word_lines base 0 words
 
--- so many bytes of that tell so many of the words, whatever words follow
+-- so many bytes of that are the lines of so many of the words, whatever words follow
 pub record IsSettled (base : ℕ) (words : List ℕ) (number front : ℕ) : Type 0 where
   pub within : number ≤ length words
   pub ends : base + 4 * length words ≤ 2 ^ 32
@@ -37,7 +37,7 @@ IsKept (Told s) = Holds s
 abbrev pub IsGrown : List ℕ → List ℕ → Type 0
 IsGrown old new = (more : List ℕ) × (new ≡ old ++ more)
 
--- the lines of words from one to another stand at the front of a text, whatever words follow
+-- the lines of words from one to another are at the front of a text, whatever words follow
 pub record TellsMore (base : ℕ) (words : List ℕ) (number next : ℕ) (text rest : List ℕ) : Type 0 where
   pub within : next ≤ length words
   pub more : number ≤ next

@@ -1,4 +1,4 @@
--- What is told of a text.
+-- What is found of a text.
 use Rattle.std.specs.Prelude.{◌≡◌, ℕ, ◌≤◌, ◌<◌, List, [], ◌++◌, length, take, Option, Some, Result, Ok, Err, IsTrue}
 use Rattle.std.specs.Borrow.{Bor}
 use Rattle.machine_model.specs.Paths.{RiscProgram, Span}
@@ -10,7 +10,7 @@ use Rattle.risc_asm.specs.declared.compare.Agreement.TheVariants as agreement
 use Rattle.risc_asm.specs.declared.judge.Verdict.{Verdict}
 use Rattle.risc_asm.specs.declared.judge.Verdict.TheVariants.{Wrong, Begun, Whole}
 
--- the first so many bytes of a text stand in front of lines
+-- the first so many bytes of a text are in front of lines
 pub record StartsAs (n : ℕ) (text lines : List ℕ) : Type 0 where
   pub within : n ≤ length text
   pub more : List ℕ
@@ -26,7 +26,7 @@ pub record Differs (lines text left : List ℕ) : Type 0 where
   pub not_in_front : (rest : List ℕ) → text ≡ lines ++ rest → ⊥
   pub apart : 0 < length left → (rest later : List ℕ) → lines ++ rest ≡ text ++ later → ⊥
 
--- what stands after lines, where the text begins with them, and else what differs
+-- what is after lines, where the text begins with them, and else what differs
 abbrev pub WithoutLines : List ℕ → List ℕ → Result (Bor (List ℕ)) (Bor (List ℕ)) → Type 0
 WithoutLines lines text (Ok rest) = text ≡ lines ++ rest.now
 WithoutLines lines text (Err left) = Differs lines text left.now
@@ -54,7 +54,7 @@ pub record IsToldBy (text : List ℕ) (program : RiscProgram) (fill : ℕ) : Typ
   pub front : IsTrue (are_lines text) → BeginsListing text → (rest : List ℕ) × (listing program fill ≡ text ++ rest)
   pub whole : IsListing text → listing program fill ≡ text
 
--- what the lines of a text tell, by a base or by spans
+-- what the lines of a text give, by a base or by spans
 abbrev pub IsDraftOfBase : List ℕ → ℕ → List ℕ → List (ℕ × ℕ) → Option ℕ → Type 0
 IsDraftOfBase text base words chunks fill =
     (entry : Option ℕ) × (drafted text ≡ Some (record { base = Some base; words = words; spans = []; entry = entry; chunks = chunks; fill = fill }))

@@ -19,7 +19,7 @@ pub enum Agreement {
     Whole,
 }
 
-// How many bytes of a text stand in front of another.
+// How many bytes of a text are in front of another.
 fn alike(text: &[u8], other: &[u8]) -> usize
     ensures within { (result ≤ length text.now) × (result ≤ length other.now) }
     ensures same { take result text.now ≡ take result other.now }
@@ -43,7 +43,7 @@ fn after_piece<'a>(text: &'a [u8], piece: &[u8]) -> Result<&'a [u8], &'a [u8]>
     }
 }
 
-/// The same of the lines of words that stand from `base` on, from the word numbered `from` on.
+/// The same of the lines of words from `base` on, from the word numbered `from` on.
 pub fn after_words<'a>(
     text: &'a [u8],
     base: u32,

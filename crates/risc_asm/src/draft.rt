@@ -1,4 +1,4 @@
-//! What the lines of a text tell together.
+//! What the lines of a text give together.
 
 ghost use Rattle.risc_asm.specs.Drafts.{IsReadUpTo, Leaves, LineFits, ReadsInstr, Takes, instr_to_end, seen, to_end};
 ghost use Rattle.risc_text.specs.Drafts.{blank, longer, taken, with_words};
@@ -17,7 +17,7 @@ use risc_verify::Spans;
 use risc_word::{Instr, encode};
 use std::alloc::{AllocError, AllocFailed, Global};
 
-/// What the lines of a text tell: a program, as far as its lines were read.
+/// What the lines of a text give: a program, as far as its lines were read.
 #[derive(Drop)]
 pub struct Draft {
     pub base: Option<u32>,
@@ -177,8 +177,8 @@ impl Draft {
         Ok(Some(rest))
     }
 
-    // The line at the front of a text; the text after it. A space after eight bytes tells an address, which
-    // the lines before tell too.
+    // The line at the front of a text; the text after it. A space after eight bytes shows that they are an address, which
+    // follows from the lines before too.
     #[inline(always)]
     #[tactic(auto, unfolding(risc_text::specs::Readers::line_at, risc_text::specs::Readers::any_line))]
     fn take_line<'a>(&mut self, text: &'a [u8]) -> Result<Option<&'a [u8]>, AllocError>
@@ -192,8 +192,8 @@ impl Draft {
     }
 }
 
-/// What the lines of a text tell, up to the first that can't be read, and that line with those after it.
-/// The error is want of memory.
+/// What the lines of a text give, up to the first that can't be read, and that line with those after it.
+/// The error is out of memory.
 pub fn read_draft(alloc: Global, text: &[u8]) -> Result<(Draft, &[u8]), AllocError>
     ensures { IfOk result (λ read. IsReadUpTo (seen read.0) read.1.now text.now) }
 {

@@ -1,4 +1,4 @@
-//! Why a text is not assembled in words, as `AsmFault` says it.
+//! Why a text is not assembled: `AsmFault` in words.
 
 ghost use Rattle.std.specs.Prelude.{Some};
 ghost use Rattle.risc_asm.specs.Words.{listing_words};

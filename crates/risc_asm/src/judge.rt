@@ -39,7 +39,7 @@ fn begun(alloc: Global, text: &[u8], program: &Program) -> Result<usize, AllocEr
     })
 }
 
-// Whether a chunk can stand after others that end before `from`, and apart from words up to `end`.
+// Whether a chunk can come after others that end before `from`, and apart from words up to `end`.
 fn follows(chunk: (u32, u32), from: u64, base: u32, end: u64) -> bool
     ensures { result ≡ follows chunk from base end }
 {
@@ -80,7 +80,7 @@ fn within_limits(base: u32, words: Vec<u32>, chunks: Vec<(u32, u32)>) -> (Vec<u3
     (words, chunks)
 }
 
-// The same of what lines tell by a base.
+// The same of what lines with a base give.
 fn begun_by_base(
     alloc: Global,
     text: &[u8],
@@ -97,7 +97,7 @@ fn begun_by_base(
     }
 }
 
-// How many bytes of a text surely begin a listing, by what its first lines tell.
+// How many bytes of a text surely begin a listing, by what its first lines give.
 fn begun_by(alloc: Global, text: &[u8], draft: Draft) -> Result<usize, AllocError>
     ensures { IfOk result (λ number. IsBegun text.now number) }
 {
@@ -113,7 +113,7 @@ fn begun_by(alloc: Global, text: &[u8], draft: Draft) -> Result<usize, AllocErro
     }
 }
 
-// Judges a text by the program that its lines tell.
+// Checks a text by the program that its lines give.
 fn judge_program(
     alloc: Global,
     text: &[u8],
@@ -136,7 +136,7 @@ fn judge_program(
     })
 }
 
-// Judges a text whose lines tell spans.
+// Checks a text whose lines give spans.
 fn judge_spans(
     alloc: Global,
     text: &[u8],
@@ -156,7 +156,7 @@ fn judge_spans(
     }
 }
 
-// Judges a text whose lines tell a base.
+// Checks a text whose lines give a base.
 fn judge_base(
     alloc: Global,
     text: &[u8],
@@ -178,7 +178,7 @@ fn judge_base(
     }
 }
 
-// Judges a text by what its lines tell.
+// Checks a text by what its lines give.
 fn judge_draft(alloc: Global, text: &[u8], draft: Draft) -> Result<Verdict, AllocError>
     requires drafted { drafted text.now ≡ Some (seen draft) }
     requires some { 0 < length text.now }
@@ -201,7 +201,7 @@ fn judge_draft(alloc: Global, text: &[u8], draft: Draft) -> Result<Verdict, Allo
     }
 }
 
-/// Whether a text begins a listing, or is one. The error is want of memory.
+/// Whether a text begins a listing, or is one. The error is out of memory.
 pub fn judge(alloc: Global, text: &[u8]) -> Result<Verdict, AllocError>
     ensures { IfOk result (λ verdict. Judges text.now verdict) }
 {

@@ -27,7 +27,7 @@ pub const MOST_BYTES: usize = 67_108_864;
 /// Why a text is not assembled. Lines end with their newline and are counted from 1.
 #[derive(Clone, Copy, Debug, PartialEq)]
 pub enum AsmFault {
-    /// The lines before this one begin a listing, and with it they begin none. What stands after the
+    /// The lines before this one begin a listing, and with it they begin none. What is after the
     /// last newline is a line only where the lines before it are a listing; then it is at fault.
     Line(u64),
     /// The text has so many lines and none is at fault, but it is no listing: lines are missing.
@@ -79,13 +79,13 @@ pub fn assemble(alloc: Global, text: &[u8]) -> Result<ProgramFile, AsmError>
     Err(AsmError::Bad(fault))
 }
 
-/// At most one answer but want of memory fits a text, so each of them comes exactly where its rule says. The function does
+/// At most one answer but out of memory fits a text, so each of them comes exactly where its rule says. The function does
 /// nothing; its contract is the law.
 pub fn one_answer_fits_a_text()
     ensures { OneAnswerFits }
 {}
 
-/// No listing has more bytes than a text that is assembled, so any answer for a listing but want of memory is the program
+/// No listing has more bytes than a text that is assembled, so any answer for a listing but out of memory is the program
 /// and the fill that it is of. The function does nothing; its contract is the law.
 pub fn every_listing_is_assembled()
     ensures short { ListingsAreShort }

@@ -1,4 +1,4 @@
-//! Programs of what lines tell, where there are any.
+//! Programs of what lines give, where there are any.
 
 ghost use Rattle.machine_model.specs.Paths.{begins_at_base, AreApart, IsProgram, IsSpan, RiscProgram, all_words, max_words, one_span, shares_byte, span, stands_in, word_among, is_there};
 ghost use Rattle.page_table.specs.Grants.{AreGrants, Chunk};
@@ -44,7 +44,7 @@ fn grants_of(alloc: Global, chunks: &[(u32, u32)]) -> Result<Option<PageSet>, Al
     }
 }
 
-/// The program of words that stand one after another from its base on, where there is one, and else the words.
+/// The program of words one after another from its base on, where there is one, and else the words.
 pub fn program_of(
     alloc: Global,
     base: u32,
@@ -211,7 +211,7 @@ fn completed(spans: Spans) -> Result<Option<(u32, Spans)>, AllocError>
     Ok(Some((spans.at(0), spans)))
 }
 
-/// The program that spans and an entry tell, where there is one. Where no entry is told, it goes on from the spans with as
+/// The program of spans and an entry, where there is one. Where no entry is given, it goes on from the spans with as
 /// few words and spans as can be.
 pub fn program_meant(
     alloc: Global,

@@ -1,5 +1,5 @@
-//! What is read from the front of a line. A reader asks only for what tells lines apart: whether a text is
-//! a listing is told by listing again what was read.
+//! What is read from the front of a line. A reader asks only for what distinguishes lines: whether a text is
+//! a listing shows when what was read is listed again.
 
 ghost use Rattle.risc_asm.specs.Fields.{control_and_off};
 ghost use Rattle.risc_text.specs.Readers.{Reads, address, after, base_line, chunk_line, code, control, count, data_fields, decimal_digit, decimal_digits, digit, fields_of, fill_line, flag, hex_digit};
@@ -20,7 +20,7 @@ pub fn after<'a>(text: &'a [u8], name: &[u8]) -> Option<&'a [u8]>
     text.strip_prefix(name)
 }
 
-// The text after the end of a line, where one stands here.
+// The text after the end of a line, where one is here.
 #[inline(always)]
 pub fn next_line(text: &[u8]) -> Option<&[u8]>
     ensures value { Reads (λ x. x.now) result (after (codes "\n") text.now) }
@@ -101,7 +101,7 @@ fn read_eight_digits(text: &[u8]) -> Option<(u32, &[u8])>
     }
 }
 
-// A number with a decimal digit more, where one stands here.
+// A number with a decimal digit more, where one is here.
 #[inline(always)]
 fn push_decimal(n: u32, text: &[u8]) -> (u32, &[u8])
     requires { n < 10000000 }
@@ -192,7 +192,7 @@ fn read_addresses(text: &[u8]) -> Option<([u32; 3], &[u8])>
     Some(([first, second, third], text))
 }
 
-// Whether a word that may be missing stands here.
+// Whether a word that may be missing is here.
 #[inline(always)]
 #[tactic(auto, unfolding(risc_text::specs::Readers::flag))]
 fn flag<'a>(text: &'a [u8], name: &[u8]) -> (bool, &'a [u8])

@@ -8,7 +8,7 @@ ghost use Rattle.std.specs.Prelude.{◌≡◌, ◌≢◌, ◌+◌, ◌-◌, ◌/
 use super::judge::{Verdict, judge};
 use std::alloc::{AllocError, Global};
 
-// So many lines after the place of a difference may still begin a listing: words that are told one by one
+// So many lines after the place of a difference may still begin a listing: words that are listed one by one
 // may become an instruction of five.
 const NEAR: u8 = 5;
 
@@ -85,7 +85,7 @@ fn line_end_between(text: &[u8], low: usize, high: usize, near: usize) -> Option
     }
 }
 
-// The places of whole lines nearer to each other, with one between them that was judged.
+// The places of whole lines nearer to each other, with one between them that was checked.
 fn narrow(
     alloc: Global,
     lines: &[u8],
@@ -119,7 +119,7 @@ fn probe(low: usize, high: usize, near: u8) -> usize
     }
 }
 
-// Where the last line begins of which a byte stands before a place.
+// Where the last line begins that has a byte before a place.
 fn line_begin(text: &[u8], at: usize) -> usize
     requires { at ≤ length text.now }
     ensures within { result ≤ at }
@@ -132,7 +132,7 @@ fn line_begin(text: &[u8], at: usize) -> usize
 }
 
 /// The number of the first line with which lines begin no listing, counted from 1, where their first
-/// `begun` bytes begin one. Lines near that place are tried first. The error is want of memory.
+/// `begun` bytes begin one. Lines near that place are tried first. The error is out of memory.
 pub fn first_wrong(alloc: Global, lines: &[u8], begun: usize) -> Result<u64, AllocError>
     requires whole { are_lines lines.now ≡ true }
     requires begun { IsBegun lines.now begun }

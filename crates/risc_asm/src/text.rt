@@ -25,13 +25,13 @@ use std::marker::Model;
 // A listing has fewer bytes after the lines of its words, with a piece before that.
 const LONGEST_TAIL: usize = 1_048_576;
 
-// Lines that were read and told again.
+// Lines that were read and listed again.
 #[derive(Drop)]
 struct Settled {
     base: u32,
     // The words that were read.
     draft: Draft,
-    // So many of them tell their lines again, whatever follows.
+    // So many of them give their lines again, whatever follows.
     number: usize,
     // The bytes of these lines and of the first.
     front: usize,
@@ -141,8 +141,8 @@ fn read_on(settled: Settled, tail: &[u8]) -> Result<Result<Settled, Settled>, Al
     Ok(Err(settled))
 }
 
-// Tells lines of words from one on again, and answers the number of the first word that has none yet and what
-// stands behind them, where they are at the front of a text.
+// Lists words from one on again, and answers the number of the first word that has no line yet and what
+// is behind the lines, where they are at the front of a text.
 fn told_again<'a>(
     base: u32,
     words: &[u32],
@@ -162,7 +162,7 @@ fn told_again<'a>(
     Some((next, rest))
 }
 
-// Tells all lines again that stay what they are, and answers how many bytes they have.
+// Lists again all lines that stay what they are, and answers how many bytes they have.
 fn settle(settled: Settled, tail: &[u8]) -> (Settled, usize)
     requires { Holds settled }
     ensures holds { Holds result.0 }
@@ -238,7 +238,7 @@ fn plain(alloc: Global, settled: Settled, tail: &[u8]) -> Result<Text, AllocErro
     })
 }
 
-// Reads what a text has after its lines, and keeps of it what is told again as words.
+// Reads what a text has after its lines, and keeps as words what is listed again.
 fn advance(alloc: Global, settled: Settled, tail: Vec<u8>) -> Result<Text, AllocError>
     requires { Holds settled }
     ensures { IfOk result (λ text. text ≡ front_of settled ++ tail.items) }
@@ -323,7 +323,7 @@ impl Text {
         }
     }
 
-    /// The text with a piece behind it. The error is want of memory.
+    /// The text with a piece behind it. The error is out of memory.
     pub fn append(self, alloc: Global, piece: &[u8]) -> Result<Text, AllocError>
         ensures { IfOk result (λ text. text ≡ self ++ piece.now) }
     {

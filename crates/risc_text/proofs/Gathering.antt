@@ -94,7 +94,7 @@ pub drop_one_less : (number word : ℕ) (rest : List ℕ) → 1 ≤ number → d
 drop_one_less zero word rest some = absurd (omega arith)
 drop_one_less (suc number) word rest some = ap (λ (n : ℕ). drop n rest) (let e : suc number - 1 ≡ number = omega arith in e)
 
--- the words after the one spelling of an instruction
+-- the words after the canonical encoding of an instruction
 pub rest_is : (word : ℕ) (rest : List ℕ) (instr : Instr) (number : ℕ) → IsSpelled (word ∷ rest) instr number → encoded instr ++ drop (number - 1) rest ≡ word ∷ rest
 rest_is word rest instr number known =
     ap (λ (list : List ℕ). encoded instr ++ list) (
@@ -298,7 +298,7 @@ listing_is_read program fill listed =
     drafted_by (listing program fill) (draft_of program (Some fill))
     (goes_on blank (draft_of program None) (draft_of program (Some fill)) (listing program fill) (fill_line fill) [] (goes_trunk program (fill_line fill) listed.made) last)
 
--- what lines of spans tell, of which the last may have no word yet
+-- what lines of spans give, of which the last may have no word yet
 pub spans_are_read : (spans : List Span) → AreApart 0 (filled spans) → drafted (flat_map span_lines spans) ≡ Some (record blank { spans = spans })
 spans_are_read spans apart =
     drafted_by (flat_map span_lines spans) (record blank { spans = spans })

@@ -1,4 +1,4 @@
--- Which words are exactly the one spelling of an instruction.
+-- Which words are exactly the canonical encoding of an instruction.
 use Rattle.std.proofs.Common.{◌≡◌, ℕ, ◌+◌, ◌^◌, ◌<◌, ◌≤◌, Bool, true, false, List, [], ◌∷◌, ◌++◌, ◌-◌, length, take, drop, append_assoc, Option, Some, None, Ok, Err, refl, subst, sym, ap, ◌∙◌, arith}
 use Rattle.std.specs.Prelude.{◌==◌, if◌then◌else◌, slice_index}
 use Rattle.std.specs.List.{starts_with}
@@ -13,7 +13,7 @@ use Rattle.risc_word.proofs.ReadBack.{begins, three_of}
 use Rattle.risc_listing.specs.Listings.{if_spelled, spelled}
 use Rattle.risc_text.proofs.Lines.{AddressesFit}
 
--- words that begin with the one spelling of an instruction
+-- words that begin with the canonical encoding of an instruction
 pub record IsSpelled (words : List ℕ) (instr : Instr) (number : ℕ) : Type 0 where
   pub rest : List ℕ
   pub words_are : words ≡ encoded instr ++ rest
@@ -58,7 +58,7 @@ spelled_by words (Ok found) instr number read is =
 pub spelled_is : (words : List ℕ) (instr : Instr) (number : ℕ) → spelled words ≡ Some (instr, number) → IsSpelled words instr number
 spelled_is words instr number is = spelled_by words (first_instr words) instr number refl is
 
--- and the one spelling is told so
+-- and the canonical encoding is found so
 starts_itself : (needle rest : List ℕ) → starts_with (λ one other. one == other) (needle ++ rest) needle ≡ true
 starts_itself needle rest = (bytes_decides needle (take (length needle) (needle ++ rest))).1 (sym (take-append_seam needle rest))
 

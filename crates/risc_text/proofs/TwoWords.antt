@@ -103,7 +103,7 @@ differ at word second left free same = by (spelled (word ∷ [])) refl
         let size : 1 ≡ length (encoded instr) + length known.rest = ap length known.words_are ∙ length-append (encoded instr) known.rest in
         omega arith
 
--- where some word may stand behind a word whose line is as it is, the other word may
+-- where some word may follow a word whose line is as it is, the other word may
 pub other_behind : (at word second : ℕ) (left : List ℕ) → word_lines at 0 (word ∷ second ∷ []) ≡ word_lines at 0 (word ∷ []) ++ left →
     (more : List ℕ) × (word_lines at 0 (word ∷ other_word ∷ []) ≡ word_lines at 0 (word ∷ []) ++ more)
 other_behind at word second left same = by (spelled (word ∷ other_word ∷ [])) refl

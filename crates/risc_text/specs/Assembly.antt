@@ -83,7 +83,7 @@ has_no_newline text = list_all (λ byte. not (byte == 10)) text
 abbrev pub line_count : List ℕ → ℕ
 line_count text = count_by (λ byte. byte == 10) text
 
--- The lines of a text are its parts up to and with each newline, counted from 1. A line that stands
+-- The lines of a text are its parts up to and with each newline, counted from 1. A line that comes
 -- after these lines is at fault where they begin a listing and with it begin none.
 pub record IsWrongLine (before line : List ℕ) : Type 0 where
   pub whole : are_lines line ≡ true
@@ -91,7 +91,7 @@ pub record IsWrongLine (before line : List ℕ) : Type 0 where
   pub so_far : BeginsListing before
   pub no_more : BeginsListing (before ++ line) → ⊥
 
--- What stands after the last newline is a line, and at fault, where the lines before it are a listing.
+-- What is after the last newline is a line, and at fault, where the lines before it are a listing.
 pub record IsRestAtFault (before rest : List ℕ) : Type 0 where
   pub some : 1 ≤ length rest
   pub plain : has_no_newline rest ≡ true

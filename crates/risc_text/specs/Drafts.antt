@@ -1,4 +1,4 @@
--- What the lines of a text tell together.
+-- What the lines of a text give together.
 use Rattle.std.specs.Prelude.{ℕ, zero, suc, Bool, true, false, List, [], ◌∷◌, ◌++◌, length, map, Option, Some, None}
 use Rattle.risc_word.specs.Words.{encoded}
 use Rattle.page_table.specs.Grants as grants
@@ -26,7 +26,7 @@ longer [] more = []
 longer (s ∷ []) more = paths.span s.at (s.words ++ more) ∷ []
 longer (s ∷ other ∷ rest) more = s ∷ longer (other ∷ rest) more
 
--- the words that stand before all spans, where there is none as yet
+-- the words before all spans, where there is none as yet
 abbrev pub more_words : List paths.Span → List ℕ → List ℕ → List ℕ
 more_words [] words more = words ++ more
 more_words (s ∷ rest) words more = words
@@ -53,11 +53,11 @@ gathered (suc most) d (byte ∷ rest) = do
   read ← line_at (byte ∷ rest)
   gathered most (taken d read.0) read.1
 
--- what a text tells; each line has a byte at least
+-- what a text gives; each line has a byte at least
 abbrev pub drafted : List ℕ → Option Draft
 drafted text = gathered (length text) blank text
 
--- what the lines of a program tell, with its fill or without
+-- what the lines of a program give, with its fill or without
 abbrev pub pair_of : grants.Chunk → ℕ × ℕ
 pair_of c = (c.at, c.len)
 

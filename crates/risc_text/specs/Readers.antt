@@ -1,5 +1,5 @@
--- What is read from the front of a line of a listing. A reader asks only for what tells lines apart:
--- whether a text is a listing is told by listing again what was read.
+-- What is read from the front of a line of a listing. A reader asks only for what distinguishes lines:
+-- whether a text is a listing shows when what was read is listed again.
 use Rattle.std.specs.Prelude.{◌≡◌, ℕ, zero, suc, ◌+◌, ◌-◌, ◌*◌, ◌/◌, ◌%◌, Bool, true, false, ◌&&◌, List, [], ◌∷◌, length, take, drop, Option, Some, None, if◌then◌else◌, ◌==◌, nat_lt, nat_le, codes, slice_index}
 use Rattle.std.specs.Cmp.Lexicographic.{pointwise}
 use Rattle.risc_word.specs.declared.Code.{Code}
@@ -35,7 +35,7 @@ begins name text = pointwise (λ one other. one == other) (take (length name) te
 abbrev pub after : List ℕ → List ℕ → Option (List ℕ)
 after name text = if begins name text then Some (drop (length name) text) else None
 
--- the number of a hexadecimal digit in lower case; what another byte gives tells nothing
+-- the number of a hexadecimal digit in lower case; what another byte gives is of no use
 abbrev pub digit : ℕ → ℕ
 digit byte = (byte % 16 + byte / 64 * 9) % 16
 
@@ -50,7 +50,7 @@ hex_digits (suc k) n text = do
   read ← hex_digit n text
   hex_digits k read.0 read.1
 
--- a decimal digit more, where one stands there, and so many at most
+-- a decimal digit more, where one is there, and so many at most
 abbrev pub is_decimal : ℕ → Bool
 is_decimal byte = nat_le 48 byte && nat_lt byte 58
 
@@ -130,7 +130,7 @@ unfoldable pub code : List ℕ → Read Code
 code text =
     one_of Vre (codes "vre") (one_of Vro (codes "vro") (one_of Fm1 (codes "fm1") (one_of Fm3 (codes "fm3") None text) text) text) text
 
--- what stands after `write` and after `skip`
+-- what is after `write` and after `skip`
 unfoldable pub write_name : List ℕ → Read Name
 write_name text =
     one_of names.Write123 (codes "123")
@@ -269,7 +269,7 @@ named_line text =
     else (if begins (codes "entry") text then entry_line (drop 5 text)
     else None)))))
 
--- a line without its end. A space after eight bytes tells an address, which is passed over
+-- a line without its end. A space after eight bytes shows that they are an address, which is passed over
 unfoldable pub any_line : List ℕ → Read Line
 any_line text = if slice_index text 8 == 32 then words_line (drop 9 text) else named_line text
 

@@ -9,7 +9,7 @@ ghost use Rattle.std.specs.Prelude.{◌≡◌, ◌↔◌, IsTrue, List, Some, �
 
 use risc_word::Instr;
 
-/// The name that stands after the address of a line.
+/// The name after the address of a line.
 #[derive(Clone, Copy, Debug, PartialEq, Eq)]
 pub enum Name {
     Write,
@@ -24,7 +24,7 @@ pub enum Name {
     Word,
 }
 
-/// What a line of a listing tells.
+/// What a line of a listing has.
 #[derive(Clone, Copy, Debug, PartialEq, Eq)]
 pub enum Line {
     /// The address of the first word.
