@@ -1,4 +1,4 @@
--- A description that is read has what its keys say, and so it meets what every description meets.
+-- A description that is read has the values of its keys, and so it meets what every description meets.
 use Rattle.std.proofs.Common.{◌≡◌, Ok}
 use Rattle.toml.specs.Data.{Members}
 use Rattle.pixel_layout.specs.Layouts.{format_named}

@@ -1,4 +1,4 @@
--- What a fault of the keys says of the table.
+-- What a fault of the keys shows of the table.
 use Rattle.std.proofs.Common.{◌≡◌, ℕ, Bool, true, false, List, [], Option, Some, None, Result, Ok, Err, length, nat_le, ◌==◌, refl, sym}
 use Rattle.std.specs.Prelude.{IfErr}
 use Rattle.toml.specs.Data.{Members, as_str}
@@ -26,7 +26,7 @@ use Rattle.capture_desc.specs.Description.{Answers, chroma_first, values, vbi_li
 use Rattle.capture_desc.specs.Faults.{Explains, Shows}
 
 module _ (ms : Members) where
-  -- a fault of a reading says this
+  -- a fault of a reading shows this
   abbrev pub Says : {A : Type 0} → Reading A → Type 0
   Says reading = IfErr reading (Shows (Some ms))
 

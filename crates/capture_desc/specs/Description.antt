@@ -73,7 +73,7 @@ pages members =
     (pages_beside (is_there (name_of key.Chunks) members)
     (list is_integer u32_of (λ ns. nat_le (length ns) max_chunks) (name_of key.Pages) members))
 
--- chunks stand in place of pages, and have at most 16 MiB together
+-- chunks come in place of pages, and have at most 16 MiB together
 abbrev pub chunks_fit : Bool → List (ℕ × ℕ) → Bool
 chunks_fit pages chunks =
     nat_le (length chunks) max_chunks && nat_le (total (listed chunks)) max_bytes && not pages
@@ -133,12 +133,12 @@ described_in (Some members) = unless_unknown (least (unknown_names is_known memb
 abbrev pub described : List ℕ → Reading Desc
 described text = described_in (document_of text)
 
--- an error is the fault, or want of memory
+-- an error is the fault, or out of memory
 abbrev pub Refuses : {A : Type 0} → Reading A → DescError → Type 0
 Refuses reading (Bad fault) = reading ≡ Err fault
 Refuses reading Memory = ⊤
 
--- an answer is the reading's, or want of memory
+-- an answer is the reading's, or out of memory
 abbrev pub Answers : {A : Type 0} → Reading A → Result A DescError → Type 0
 Answers reading (Ok value) = reading ≡ Ok value
 Answers reading (Err error) = Refuses reading error

@@ -1,4 +1,4 @@
--- What a fault says of the document that a text is.
+-- What a fault shows of the document that a text is.
 use Rattle.std.specs.Prelude.{◌≡◌, true, false, Option, None, IsSomeAnd, ⊤}
 use Rattle.toml.specs.Data.{Members}
 use Rattle.toml_keys.specs.Keys.{IsLeastUnknown, is_there}
@@ -15,7 +15,7 @@ Shows document (Missing key) = IsSomeAnd document (λ members. is_there (name_of
 Shows document (WrongKind key) = IsSomeAnd document (λ members. is_there (name_of key) members ≡ true)
 Shows document (OutOfRange key) = IsSomeAnd document (λ members. is_there (name_of key) members ≡ true)
 
--- want of memory says nothing of it
+-- out of memory shows nothing of it
 abbrev pub Explains : Option Members → DescError → Type 0
 Explains document (Bad fault) = Shows document fault
 Explains document Memory = ⊤

@@ -1,4 +1,4 @@
--- What stands at the keys of a description, or the fault of a key.
+-- What is at the keys of a description, or the fault of a key.
 use Rattle.std.specs.Prelude.{ℕ, List, Option, Result}
 use Rattle.toml.specs.Data.{Members}
 use Rattle.toml_keys.specs.declared.KeyFault.{KeyFault}

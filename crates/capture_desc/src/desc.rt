@@ -30,7 +30,7 @@ impl Fields {
 }
 
 /// The values of a description, with None for a key that is absent and has no value of its own then.
-/// Places and lengths are bytes among the picture's bytes, which stand on the pages or chunks in their
+/// Places and lengths are bytes among the picture's bytes, which are on the pages or chunks in their
 /// order. Planes are counted from 1 in the order of the lists.
 #[derive(Drop)]
 pub struct Desc {

@@ -20,7 +20,7 @@ pub enum Key {
     Fields,
     /// `stride`: for each plane the bytes from a row to the next.
     Stride,
-    /// `offset`: for each plane where its first byte stands among the picture's bytes.
+    /// `offset`: for each plane the place of its first byte among the picture's bytes.
     Offset,
     /// `chroma_first`: for each described field the row of it whose chroma is the first that is kept.
     ChromaFirst,
@@ -30,7 +30,7 @@ pub enum Key {
     VbiLines,
     /// `vbi_bytes`: the bytes of such a line.
     VbiBytes,
-    /// `vbi_offset`: where the first of these bytes stands among the picture's bytes.
+    /// `vbi_offset`: the place of the first of these bytes among the picture's bytes.
     VbiOffset,
     /// `vbi_skip`: for each described field the lines that are passed over before its first such line.
     VbiSkip,
@@ -112,7 +112,7 @@ pub enum DescFault {
 pub enum DescError {
     /// The text is none.
     Bad(DescFault),
-    /// Want of memory.
+    /// Out of memory.
     Memory,
 }
 

@@ -136,7 +136,7 @@ fn bytes_of_chunks(chunks: &[(u32, u32)]) -> u64
     chunks.iter().map(|chunk| u64::from(chunk.1)).sum()
 }
 
-// Chunks stand in place of pages.
+// Chunks come in place of pages.
 fn chunks(alloc: Global, table: &Table) -> Result<Option<ChunkList>, DescError>
     ensures { Answers (chunks (table_view table.now)) result }
 {
@@ -163,7 +163,7 @@ fn chroma_first(
     field_numbers(alloc, table, Key::ChromaFirst, fields, last)
 }
 
-// What a description says of the lines of the vertical blanking interval.
+// What a description has of the lines of the vertical blanking interval.
 #[derive(Drop)]
 struct VbiLines {
     lines: u32,
@@ -249,7 +249,7 @@ fn read_text(alloc: Global, text: &[u8]) -> Result<Desc, DescError>
 }
 
 /// Reads a description: a TOML table with these keys and no other (this project's own form). A number
-/// is a whole number from 0 to 4,294,967,295 unless other bounds stand here.
+/// is a whole number from 0 to 4,294,967,295 unless other bounds are given here.
 ///
 /// - `format`: the name of a pixel format. Required.
 /// - `width`, `height`: numbers. Required.
@@ -267,7 +267,7 @@ fn read_text(alloc: Global, text: &[u8]) -> Result<Desc, DescError>
 /// - `base`: a number, by default 4,096.
 /// - `pages`: an array of at most 4,096 numbers. Required where `chunks` is absent.
 /// - `chunks`: an array of at most 4,096 arrays `[address, length]` of numbers, of which the lengths
-///   make at most 16,777,216 bytes. It may not stand beside `pages`. Optional.
+///   make at most 16,777,216 bytes. It excludes `pages`. Optional.
 /// - `fill`: 0 to 255, by default 0.
 ///
 /// A refusal is the first fault: first NotToml, where the text is not UTF-8 or no document by the crate
@@ -281,7 +281,7 @@ pub fn read_desc(alloc: Global, text: &[u8]) -> Result<Desc, DescError>
     read_text(alloc, text)
 }
 
-/// What is read is well formed, and a fault shows in the document: NotToml says that there is none,
+/// What is read is well formed, and a fault shows in the document: NotToml means that there is none,
 /// Unknown names its least key that no description has, Missing an absent key, and the others one that
 /// is there. The function does nothing; its contract is the law.
 pub fn what_a_text_describes()

@@ -1,4 +1,4 @@
-//! What stands at the keys of a description, or the fault of a key.
+//! What is at the keys of a description, or the fault of a key.
 ghost use Rattle.std.specs.Prelude.{◌≡◌, ◌≤◌, Ok, Option, option_map, IfOk, IfErr};
 ghost use Rattle.pixel_layout.specs.Layouts.{format_named};
 ghost use Rattle.toml.specs.View.{table_view};

@@ -53,11 +53,11 @@ like_itself (ask ∷ more) rest = cond-true (same_ask ask ask) _ _ (same_ask_ref
 
 -- ---- instructions as they are awaited
 
--- EOL says whether the line ends, where bytes are asked of a queue
+-- an instruction has EOL exactly where the line ends, where it asks bytes of a queue
 abbrev pub EndsRight : Queue → Instr → List Ask → Type 0
 EndsRight q instr later = (is_data instr && not (is_none (instr_asks q instr))) ≡ true → (instr_ends instr).eol ≡ not (goes_on later)
 
--- the instruction is no beginning of a field, asks something of queue 1, and ends its line where it says
+-- the instruction is no beginning of a field, asks something of queue 1, and ends its line where its mark does
 pub record IsNext (instr : Instr) (later : Queue → List Ask) : Type 0 where
   pub inner : begins_field instr ≡ false
   pub plain : IsPlain instr
@@ -85,7 +85,7 @@ if_either : (b : Bool) (one other : Option Why) → one ≡ None → other ≡ N
 if_either true one other first later = first
 if_either false one other first later = later
 
--- EOL and whether the line goes on are judged only where bytes are asked, and there they are right
+-- EOL and whether the line goes on are checked only where bytes are asked, and there they are right
 right_end : (moves eol goes : Bool) (judged : Bool → Bool → Option Why) → judged true false ≡ None → judged false true ≡ None → (moves ≡ true → eol ≡ not goes) →
     (if moves then judged eol goes else None) ≡ None
 right_end false eol goes judged ends inner right = refl

@@ -117,7 +117,7 @@ module _ (d : Desc) (right : IsRight d) where
   body_next : (field : Parity) → describes d.fields field ≡ true → AreNext (body d field)
   body_next field described = (vbi_Lines d.vbi_lines field described).next
 
--- ---- where it stands, and that the path comes there
+-- ---- where it is, and that the path comes there
 
 few_words : (program : RiscProgram) (instrs : List Instr) → Each (IsGoodInstr program) instrs → length instrs ≤ length (words_of instrs)
 few_words program [] good = omega arith

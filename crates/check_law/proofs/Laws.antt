@@ -121,7 +121,7 @@ module _ (program : RiscProgram) (d : Desc) (field : Parity) (f : Found) (pictur
         };
       }
 
--- what stands at the end is the closing
+-- the closing is at the end
 closing_is : (program : RiscProgram) (end : ℕ) (body : List Instr) (at : ℕ) (closing instr : Instr) (count : ℕ) → LeadsFrom program end at body closing → fetch program end ≡ Ok (instr, count) → closing ≡ instr
 closing_is program end [] at closing instr count leads is =
     let both : Ok (closing, length (encoded closing)) ≡ Ok (instr, count) = sym leads.1 ∙ ap (fetch program) leads.0 ∙ is in

@@ -1,4 +1,4 @@
--- A field that is said to be shown is found so, and a field that is found on the first places of the path is said to be shown.
+-- A field that is reported as shown is found so, and a field that is found on the first places of the path is reported as shown.
 use Rattle.std.proofs.Common.{◌≡◌, ℕ, zero, suc, ◌+◌, ◌<◌, ◌≤◌, Bool, true, false, not, ◌&&◌, ◌||◌, ◌==◌, if◌then◌else◌, List, [], ◌∷◌, map, Option, Some, Ok, Err, refl, sym, ap, subst, ◌∙◌, arith, eqb-true, eq-eqb, ⊎_elim}
 use Rattle.std.specs.Prelude.{filter, find, unwrap_or, slice_index_or}
 use Rattle.std.specs.List.{list_all, list_any, range_with_len}
@@ -140,7 +140,7 @@ pub said_is_checked : SaidIsChecked
 said_is_checked program d field begin end count ends sound description frame described is =
     subst (IsFound program d field sound description frame described) is (verdict_found program d field sound description frame described)
 
--- ---- what is said of a compiled program
+-- ---- what is reported of a compiled program
 
 shown_if : (shown : Bool) (first other : Verdict) (found : Option Verdict) (more : Bool) → is_shown first ≡ shown → (shown || more) ≡ true →
     (more ≡ true → is_shown (unwrap_or found other) ≡ true) → is_shown (unwrap_or (if shown then Some first else found) other) ≡ true

@@ -180,7 +180,7 @@ seen_behind : (reading : Reading) (instr : Instr) (count at : ℕ) (more : ℕ �
 seen_behind reading instr count at more e h =
     sym (ap (λ (reading : Reading). elim reading as (λ _. Option (ℕ × Why)) [ Err fault ↦ Some (at, Unread) | Ok read ↦ behind_at read.0 at more ]) e) ∙ h
 
--- instructions that stand where only JUMPs lead to the next field ask nothing
+-- instructions where only JUMPs lead to the next field ask nothing
 module _ (program : RiscProgram) where
   quiet : (body : List Instr) (at fuel : ℕ) → FetchedFrom program at body → NoneBegins body → behind fuel program at ≡ None → (q : Queue) → by_bytes (asks q body) ≡ []
   quiet [] at fuel fetched none h q = refl

@@ -23,7 +23,7 @@ use Rattle.picture_law.specs.Pictures.{Picture, After, IsField, IsPicture}
 use Rattle.check_model.specs.Checks.{checked}
 
 -- where a field is found: the address and the control bits of its opening, the address at which it ends, and how many
--- instructions stand between
+-- instructions are between
 pub record Found : Type 0 where
   pub begin : ℕ
   pub opening : Ctl
@@ -61,13 +61,13 @@ ShowsPicture = (program : RiscProgram) (d : Desc) (field : Parity) (f : Found) (
     Captures program d field f picture m (early ++ (program, Turn) ∷ late) → has_end f.end m early ≡ false →
     is_end f.end (run_in m early) Turn ≡ true → After d field picture m.memory (run_in m (early ++ (program, Turn) ∷ [])).memory
 
--- no turn up to it sets FDSR, whether or not the bit stands
+-- no turn up to it sets FDSR, whether or not the bit is set already
 abbrev pub ShowsNoFault : Type 0
 ShowsNoFault = (program : RiscProgram) (d : Desc) (field : Parity) (f : Found) (picture : Picture) (m : State) (early late : List Met) →
     Captures program d field f picture m (early ++ (program, Turn) ∷ late) → has_end f.end m early ≡ false →
     sets_fdsr (with_program program (run_in m early)) ≡ false
 
--- at it the control bits of the JUMP that stands there are applied
+-- at it the control bits of the JUMP there are applied
 abbrev pub EndsWithClosing : Type 0
 EndsWithClosing = (program : RiscProgram) (d : Desc) (field : Parity) (f : Found) (picture : Picture) (m : State) (early late : List Met) →
     Captures program d field f picture m (early ++ (program, Turn) ∷ late) → has_end f.end m early ≡ false →

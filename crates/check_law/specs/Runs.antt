@@ -41,7 +41,7 @@ RunShowsPicture = (program : RiscProgram) (d : Desc) (field : Parity) (f : Found
     IsEnded program d field f picture fill steps j k →
     After d field picture (state_of program fill steps j).memory (state_of program fill steps (k + 1)).memory
 
--- no turn from j to k sets FDSR, whether or not the bit stands
+-- no turn from j to k sets FDSR, whether or not the bit is set already
 abbrev pub RunShowsNoFault : Type 0
 RunShowsNoFault = (program : RiscProgram) (d : Desc) (field : Parity) (f : Found) (picture : Picture) (fill : ℕ) (steps : List Step) (j k i : ℕ) →
     IsEnded program d field f picture fill steps j k → j ≤ i → i ≤ k → step_at steps i ≡ Turn → sets_fdsr (state_of program fill steps i) ≡ false

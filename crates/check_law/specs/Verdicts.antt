@@ -1,4 +1,4 @@
--- What is said of a field, and what it means: a field that is said to be shown is found so.
+-- What is reported of a field, and what it means: a field that is reported as shown is found so.
 use Rattle.std.specs.Prelude.{◌≡◌, ℕ, true}
 use Rattle.risc_word.specs.declared.Ctl.{Ctl}
 use Rattle.pixel_layout.specs.declared.Parity.{Parity}

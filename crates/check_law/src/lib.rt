@@ -47,12 +47,12 @@ pub fn nothing_is_stored_between_fields()
     ensures both { RunShowsBoth }
 {}
 
-/// A field of which the check says that it is shown is found so, from the opening that it names on.
+/// A field that the check reports as shown is found so, from the opening that it names on.
 pub fn shown_fields_are_found()
     ensures { SaidIsChecked }
 {}
 
-/// The compiled program of every valid description is found to show each field that it describes, and the check says so.
+/// The compiled program of every valid description is found to show each field that it describes, and the check reports it.
 pub fn compiled_programs_are_found()
     ensures found { CompiledIsChecked }
     ensures shown { CompiledIsShown }

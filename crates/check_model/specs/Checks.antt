@@ -121,7 +121,7 @@ abbrev pub goes_on : List Ask → Bool
 goes_on (GoOn count address ∷ rest) = true
 goes_on _ = false
 
--- EOL is missing at a line's last byte, or stands before
+-- EOL is missing at a line's last byte, or comes before it
 abbrev pub eol_by : Bool → Bool → Spot → Queue → Desc → Option Why
 eol_by true true spot q d = Some (why.EarlyEol spot.line q spot.number (line_bytes q d spot.line))
 eol_by true false spot q d = None
@@ -155,7 +155,7 @@ abbrev pub begins_field : Instr → Bool
 begins_field (Sync ctl resync code) = is_vertical code
 begins_field _ = false
 
--- it comes while something is awaited, of which the lowest queue is said
+-- it comes while something is awaited; the lowest queue that awaits something is reported
 abbrev pub lowest_left : Awaited → Queue
 lowest_left left = if not (is_none (left One)) then One else (if not (is_none (left Two)) then Two else Three)
 
@@ -164,7 +164,7 @@ short_why d field left = let q = lowest_left left in unlike_why d field q (Await
 
 -- ---- the walk along the path
 
--- Behind a field's end only JUMPs stand up to the next field's SYNC; else the first place where that isn't so. The next
+-- Behind a field's end are only JUMPs up to the next field's SYNC; else the first place where that isn't so. The next
 -- place is searched by `more`
 abbrev pub behind_at : Instr → ℕ → (ℕ → Option (ℕ × Why)) → Option (ℕ × Why)
 behind_at (Jump ctl target) at more = more target

@@ -1,4 +1,4 @@
--- What is said of the fields of a description, in words. Numbers are decimal, addresses have eight hexadecimal digits.
+-- What is reported of the fields of a description, in words. Numbers are decimal, addresses have eight hexadecimal digits.
 use Rattle.std.specs.Prelude.{ℕ, List, ◌++◌, codes}
 use Rattle.std.specs.List.{flat_map}
 use Rattle.std.specs.Fmt.{decimal}

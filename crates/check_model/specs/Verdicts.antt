@@ -1,4 +1,4 @@
--- What is said of a field of a description: where a program shows it, or where and why it doesn't.
+-- What is reported of a field of a description: where a program shows it, or where and why it doesn't.
 use Rattle.std.specs.Prelude.{ℕ, Bool, true, false, List, map, filter, find, length, unwrap_or, slice_index_or, Ok, Err, ◌==◌}
 use Rattle.std.specs.List.{list_all, range_with_len}
 use Rattle.risc_word.specs.declared.Instr.{Instr}
@@ -39,7 +39,7 @@ closing_of _ = closing.Sync
 abbrev pub closing_from : RiscProgram → ℕ → Closing
 closing_from program at = elim (fetch program at) [ Err fault ↦ closing.Sync | Ok read ↦ closing_of read.0 ]
 
--- what is said of one opening
+-- what is reported of one opening
 abbrev pub said : RiscProgram → Desc → Parity → ℕ → Verdict
 said program d field begin =
     elim (checked program d field begin) [

@@ -1,4 +1,4 @@
--- Programs beside two small descriptions, each with one thing of its own, and what is said of each.
+-- Programs beside two small descriptions, each with one thing of its own, and what is reported of each.
 use Rattle.std.specs.Prelude.{ℕ, Bool, true, false, List, [], ◌∷◌, ◌++◌, Some}
 use Rattle.risc_word.specs.declared.Code.TheVariants.{Vre, Fm1, Fm3}
 use Rattle.risc_word.specs.declared.Ends.{Ends}
@@ -33,21 +33,21 @@ planar =
 abbrev pub standing : List Instr → RiscProgram
 standing instrs = one_span 0x1000 (words_of instrs) (chunk 0x20000 4096 ∷ [])
 
--- what is said of the top field
+-- what is reported of the top field
 abbrev pub of_smallest : List Instr → List ℕ
 of_smallest instrs = verdict_words (verdict (standing instrs) smallest Top)
 
 abbrev pub of_planar : List Instr → List ℕ
 of_planar instrs = verdict_words (verdict (standing instrs) planar Top)
 
--- two rows of eight pixels, one in each field, and what is said of the bottom one
+-- two rows of eight pixels, one in each field, and what is reported of the bottom one
 abbrev pub interlaced : Desc
 interlaced = record smallest { height = 2; fields = fields.Both }
 
 abbrev pub of_bottom : List Instr → List ℕ
 of_bottom instrs = verdict_words (verdict (standing instrs) interlaced Bottom)
 
--- how an instruction stands in its line
+-- the marks of an instruction in its line
 abbrev pub whole : Ends
 whole = record { sol = true; eol = true }
 

@@ -1,4 +1,4 @@
-//! Worked programs, and what is said of them. The functions do nothing; their contracts are the laws.
+//! Worked programs, and what is reported of them. The functions do nothing; their contracts are the laws.
 
 ghost use Rattle.std.specs.Prelude.{◌≡◌, ◌∷◌, ◌++◌, [], codes, false, true};
 ghost use Rattle.risc_word.specs.declared.Code.TheVariants.{Fm1, Fm3, Vre, Vro};
@@ -27,7 +27,7 @@ pub fn worked_programs_are_shown()
         codes "shown from 00001008 to 00001020, 2 instructions, jump irq set=1 reset=e" }
 {}
 
-/// What is said of an opening that is missing or wrong, and of a field that doesn't end.
+/// What is reported of an opening that is missing or wrong, and of a field that doesn't end.
 pub fn worked_openings_and_ends_differ()
     ensures none { of_smallest (sync true Vro ∷ sync false Fm1 ∷ write whole 8 0x20000 ∷ closing Top 0x1000 ∷ []) ≡ codes "differs at 00001000: no sync vre" }
     ensures no_resync { of_smallest (opened_to false (sync false Fm1 ∷ write whole 8 0x20000 ∷ []) (jump 0x1000)) ≡ codes "differs at 00001000: no resync" }
@@ -38,7 +38,7 @@ pub fn worked_openings_and_ends_differ()
     ensures short { of_smallest (line (write first 3 0x20000 ∷ [])) ≡ codes "differs at 00001000: row 0, queue 1: byte 3 awaited" }
 {}
 
-/// What is said of an instruction that asks for something else than the line.
+/// What is reported of an instruction that asks for something else than the line.
 pub fn worked_lines_differ()
     ensures write_c { of_smallest (line (write first 3 0x20000 ∷ WriteC no_control last 0 5 ∷ [])) ≡ codes "differs at 00001018: writec" }
     ensures lanes { of_smallest (line (Write no_control whole 1 8 0x20000 ∷ [])) ≡ codes "differs at 00001010: lanes off" }
@@ -55,7 +55,7 @@ pub fn worked_lines_differ()
     ensures early { of_smallest (line (write whole 3 0x20000 ∷ write last 5 0x20003 ∷ [])) ≡ codes "differs at 00001010: row 0, queue 1: eol at byte 2 of 8" }
 {}
 
-/// What is said of the lines of the vertical blanking interval, of skipped lines and of queues 2 and 3.
+/// What is reported of the lines of the vertical blanking interval, of skipped lines and of queues 2 and 3.
 pub fn worked_planar_lines_differ()
     ensures vbi { of_planar (line (skip whole 5 ∷ write whole 5 0x2001f ∷ [])) ≡ codes "differs at 00001014: vbi 0, queue 1: byte 0 at 0002001e awaited" }
     ensures skipped_vbi { of_planar (line (write whole 5 0x2001e ∷ [])) ≡

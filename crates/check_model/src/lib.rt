@@ -1,5 +1,5 @@
 //! Whether a program shows the fields of a description, apart from any code: what is found of each field, and what is
-//! said of it. The types stand here; the definitions stand in `specs/`.
+//! reported of it. The types are here; the definitions are in `specs/`.
 #![tactic(auto)]
 
 pub mod laws;
@@ -30,11 +30,11 @@ pub struct Spot {
     pub number: u64,
 }
 
-/// Why a program doesn't show a field, in the order in which it is judged at an instruction (this project's own rules). The
+/// Why a program doesn't show a field, in the order in which it is checked at an instruction (this project's own rules). The
 /// bytes of a line are counted from 0 on each queue.
 #[derive(Clone, Copy, Debug, PartialEq, Eq)]
 pub enum Why {
-    /// No SYNC for the field's vertical code stands on the path.
+    /// No SYNC for the field's vertical code is on the path.
     NoSync(Code),
     /// The SYNC that opens the field has no RESYNC.
     NoResync,
@@ -65,7 +65,7 @@ pub enum Why {
         queue: Queue,
         byte: u64,
     },
-    /// SOL stands within a line.
+    /// SOL is within a line.
     NoSolAwaited {
         line: Line,
         queue: Queue,
@@ -83,16 +83,16 @@ pub enum Why {
         line: Line,
         queue: Queue,
     },
-    /// EOL stands within a line: the last byte that the instruction takes, and the bytes that the queue brings of the line.
+    /// EOL is within a line: the last byte that the instruction takes, and the bytes that the queue brings of the line.
     EarlyEol {
         line: Line,
         queue: Queue,
         byte: u64,
         bytes: u64,
     },
-    /// Behind the field's end something stands before the next field.
+    /// Behind the field's end something comes before the next field.
     NothingAwaited,
-    /// No instruction stands there. This never holds of a sound program.
+    /// No instruction is there. This never holds of a sound program.
     Unread,
 }
 
@@ -114,7 +114,7 @@ pub enum Verdict {
         begin: u64,
         /// The address of what ends it.
         end: u64,
-        /// The instructions that stand between.
+        /// The instructions between.
         count: u64,
         /// What ends it.
         closing: Closing,

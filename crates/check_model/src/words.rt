@@ -1,4 +1,4 @@
-//! What is said of a field, in words. Numbers are decimal, addresses have eight hexadecimal digits (this project's own form).
+//! What is reported of a field, in words. Numbers are decimal, addresses have eight hexadecimal digits (this project's own form).
 
 ghost use Rattle.std.specs.Prelude.{◌≡◌, Some};
 ghost use Rattle.risc_listing.specs.Lines.{code_name, control_text, flag_text, nibble_text};

@@ -19,7 +19,7 @@ none_before width low x (part ∷ rest) order before =
     (none_before width part.from x rest order.2 (omega arith))
 
 -- the spans so far, where those from `start` on are not out yet, the pixels from `start` up to `done` are inside,
--- and the parts that are left tell of the pixels from `done` on
+-- and the parts that are left hold of the pixels from `done` on
 pub record IsMerged (test : ℕ → Bool) (width start done : ℕ) (out : List Span) (left : List Part) : Type 0 where
   pub begun : start ≤ done
   pub within : done ≤ width

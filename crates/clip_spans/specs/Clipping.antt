@@ -43,6 +43,6 @@ some_from test x (suc count) = test x || some_from test (x + 1) count
 abbrev pub unit_clipped : List Rect → ℕ → ℕ → ℕ → Bool
 unit_clipped rects row pixels number = some_from (pixel_clipped rects row) (number * pixels) pixels
 
--- pixel x stands in a unit that is clipped
+-- pixel x is in a unit that is clipped
 abbrev pub clipped_at : List Rect → ℕ → ℕ → ℕ → Bool
 clipped_at rects row pixels x = unit_clipped rects row pixels (x / pixels)

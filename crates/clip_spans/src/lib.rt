@@ -49,7 +49,7 @@ pub struct Span {
 pub enum ClipFault {
     /// More than 64 rectangles (this project's own limit).
     TooMany,
-    /// Want of memory.
+    /// Out of memory.
     Memory,
 }
 

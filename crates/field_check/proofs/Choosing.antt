@@ -31,7 +31,7 @@ next_pc (Skip123 ctl ends counts) count place e = ap (λ (count : ℕ). place.pc
 next_pc (Write1S23 ctl ends off counts addr) count place e = ap (λ (count : ℕ). place.pc + 4 * count) e
 
 module _ (program : RiscProgram) (sound : IsSound program) (k at : ℕ) (here : at ≡ (path program k).pc) where
-  -- an instruction stands there
+  -- an instruction is there
   pub readable : (fault : WordFault) → fetch program at ≡ Err fault → ⊥
   readable fault is = let fine = place-IsFine program k sound in let both = sym is ∙ ap (fetch program) here ∙ fine.stands in cc
 

@@ -275,7 +275,7 @@ module _ (d n : Demand) (k : ℕ) (left rest : List Ask) (sol : n.needs_sol ≡ 
   dropped : drop k left ≡ later_n ++ rest
   dropped = ap (drop k) split_n ∙ ap (λ (k : ℕ). drop k (part ++ (later_n ++ rest))) (sym long) ∙ drop-append_seam part (later_n ++ rest)
 
-  -- the part that goes stands before what is left then
+  -- the part that goes is before what is left then
   pub gone : left ≡ part ++ drop k left
   gone = split_n ∙ ap (λ (rest : List Ask). part ++ rest) (sym dropped)
 

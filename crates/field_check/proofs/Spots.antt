@@ -1,4 +1,4 @@
--- What is said at a place of a field.
+-- What is reported at a place of a field.
 use Rattle.std.proofs.Common.{◌≡◌, ℕ, ◌+◌, ◌-◌, Bool, true, false, List, ◌∷◌, ◌++◌, length, take, Option, Some, None, refl, sym, ap, ◌∙◌, arith, length-append, not}
 use mathlib.Core.Bool.{beq}
 use Rattle.std.proofs.Math.Seq.{take-append_seam}

@@ -1,4 +1,4 @@
--- Instructions whose words stand in a program are asked one after another.
+-- Instructions whose words are in a program are asked one after another.
 use Rattle.std.proofs.Common.{◌≡◌, ℕ, zero, suc, ◌+◌, ◌*◌, ◌<◌, ◌≤◌, true, List, [], ◌∷◌, ◌++◌, length, length-append, append_assoc, Ok, Err, refl, sym, ap, ◌∙◌, arith}
 use Rattle.std.proofs.lemmas.List.{append-nil}
 use Rattle.std.proofs.lemmas.Grind.{flat_map-append}
@@ -31,7 +31,7 @@ use Rattle.check_model.specs.ByBytes.{by_bytes, bytes_asked}
 use Rattle.field_check.specs.Cursors.{asks_from}
 use Rattle.field_check.specs.Plans.{IsPlan}
 
--- an instruction is read where its words stand
+-- an instruction is read where its words are
 fetched_at : (program : RiscProgram) (before after : List ℕ) (i : Instr) (address : ℕ) → program.spans ≡ spans_of program.base (before ++ (encoded i ++ after)) →
     address ≡ program.base + 4 * length before → IsInstr i → fetch program address ≡ Ok (i, length (encoded i))
 fetched_at program before after i address words at is =

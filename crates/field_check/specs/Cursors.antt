@@ -1,4 +1,4 @@
--- What instructions that stand one after another still ask of a queue.
+-- What instructions that are one after another still ask of a queue.
 use Rattle.std.specs.Prelude.{◌≡◌, ℕ, zero, suc, ◌+◌, ◌*◌, ◌<◌, ◌≤◌, ◌^◌, List, [], ◌∷◌, ◌++◌, length, drop, ◌-◌, ◌&&◌, ◌==◌, Option, Some, None, option_map, Ok, Err}
 use Rattle.fifo_model.specs.declared.Queue.{Queue}
 use Rattle.machine_model.specs.declared.Demand.{Demand}
@@ -59,7 +59,7 @@ IsHere (Some next) done asks = ((more : List Ask) → IsNext next (drop done (as
 abbrev pub reach_of : Track → Reach
 reach_of t = record { lines = t.lines; bytes = t.bytes }
 
--- a track stands in what a queue awaits from the beginning: what is taken is counted, and the rest is left
+-- a track is within what a queue awaits from the beginning: what is taken is counted, and the rest is left
 pub record IsAt (full : List Ask) (plan : RiscProgram) (q : Queue) (t : Track) : Type 0 where
   pub fits : Fits plan q t.cursor
   pub taken : List Ask

@@ -1,4 +1,4 @@
--- A field's section as words that stand nowhere.
+-- A field's section as words that are nowhere.
 use Rattle.std.specs.Prelude.{◌≡◌, length}
 use Rattle.fifo_model.specs.declared.Queue.{Queue}
 use Rattle.pixel_layout.specs.declared.Parity.{Parity}

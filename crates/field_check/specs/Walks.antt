@@ -13,7 +13,7 @@ use Rattle.risc_word.specs.declared.Instr.{Instr}
 use Rattle.risc_word.specs.declared.Instr.TheVariants.{Sync}
 use Rattle.check_model.specs.Checks.{Answer}
 
--- so many instructions more stand before the end
+-- so many instructions more are before the end
 abbrev pub plus : ℕ → Answer → Answer
 plus count (Ok found) = Ok (found.0, count + found.1)
 plus count (Err fault) = Err fault
@@ -23,7 +23,7 @@ abbrev pub resyncs : Instr → Bool
 resyncs (Sync ctl resync code) = resync
 resyncs _ = false
 
--- what is said of the openings among so many places of the path, from one on
+-- what is reported of the openings among so many places of the path, from one on
 abbrev pub said_from : RiscProgram → Desc → Parity → ℕ → ℕ → List Verdict
 said_from program d field from count =
     map (said program d field) (filter (opens_at program field) (map (λ number. (path program number).pc) (range_with_len from count)))

@@ -14,7 +14,7 @@ use machine_model::Demand;
 use risc_verify::Program;
 use risc_word::{Code, Instr};
 
-/// A place among instructions that stand one after another, as one queue sees them.
+/// A place among instructions that are one after another, as one queue sees them.
 #[derive(Clone, Copy)]
 pub struct Cursor {
     /// The address of the instruction there.
@@ -113,7 +113,7 @@ fn count_bytes(track: &mut Track, begins: bool, count: u16)
 }
 
 /// Takes of a queue what is asked of it as long as it awaits the same. Where something differs, what is asked from there on is
-/// answered, and the cursor stands there.
+/// answered, and the cursor is there.
 pub fn takes(plan: &Program, q: Queue, track: &mut Track, asked: Demand) -> Option<Demand>
     requires fits { Fits plan.now q track.old.cursor }
     requires some { IsTrue asked.needs_sol → 0 < asked.rest }

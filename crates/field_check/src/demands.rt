@@ -40,7 +40,7 @@ fn first_demand(q: Queue, sol: bool, rest: u16, address: Option<u64>) -> Demand
     }
 }
 
-// What an instruction asks of a queue. Where a WRITEC writes isn't told.
+// What an instruction asks of a queue. Where a WRITEC writes isn't answered.
 pub(crate) fn demand_of(instr: &Instr, q: Queue) -> Demand
     ensures value { result ≡ demand_on q (demands_of instr.now None) }
     ensures some { IsTrue result.needs_sol → 0 < result.rest }

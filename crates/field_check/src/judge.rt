@@ -32,7 +32,7 @@ pub struct Tracks {
     pub three: Track,
 }
 
-// Takes of a queue the bytes that a data instruction asks of it, or says why it doesn't await them.
+// Takes of a queue the bytes that a data instruction asks of it, or answers why it doesn't await them.
 fn take_of(
     frame: &Frame,
     field: Parity,
@@ -157,7 +157,7 @@ fn awaits_nothing(plan: &Program, q: Queue, cursor: &mut Cursor) -> bool
     matches!(look(plan, q, cursor), Next::Nothing)
 }
 
-// Takes a code of a queue that awaits something, or says why it doesn't await the code.
+// Takes a code of a queue that awaits something, or answers why it doesn't await the code.
 fn take_awaited(
     frame: &Frame,
     field: Parity,
@@ -281,7 +281,7 @@ pub(crate) fn none_left(plan: &Program, tracks: &mut Tracks) -> bool
     awaits_nothing(plan, Queue::Three, &mut tracks.three.cursor)
 }
 
-/// Why the next field may not begin, where something is awaited: the lowest queue is said.
+/// Why the next field may not begin, where something is awaited: the answer is that of the lowest queue.
 pub(crate) fn short_why(frame: &Frame, field: Parity, plan: &Program, tracks: &mut Tracks) -> Why
     requires at { AreIn frame.now field plan.now tracks.old }
     requires few { CountUpTo tracks.old (2 ^ 60) }

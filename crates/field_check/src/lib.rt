@@ -1,4 +1,4 @@
-//! Whether a program shows the fields of a description, and what is said of them.
+//! Whether a program shows the fields of a description, and what is reported of them.
 #![tactic(auto)]
 
 mod cursors;

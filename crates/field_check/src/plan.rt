@@ -1,4 +1,4 @@
-//! What a field's section asks, as words that stand nowhere.
+//! What a field's section asks, as words that are nowhere.
 
 ghost use Rattle.std.specs.Prelude.{◌≡◌, IfOk, true, []};
 ghost use Rattle.machine_model.specs.Paths.{one_span};

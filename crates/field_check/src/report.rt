@@ -1,4 +1,4 @@
-//! What is said of a description's fields.
+//! What is reported of a description's fields.
 
 ghost use Rattle.std.specs.Prelude.{◌≡◌, ◌++◌, IfOk, string_bytes, true};
 ghost use Rattle.check_model.specs.Texts.{check_text, verdict_line};
@@ -17,7 +17,7 @@ use std::alloc::{AllocError, Global};
 use std::fmt::Write;
 
 /// What is found of a described field: where a sound program shows it, or where and why it doesn't (this project's own rules).
-/// The error is want of memory.
+/// The error is out of memory.
 pub fn verdict(
     alloc: Global,
     program: &Accepted,
@@ -49,7 +49,7 @@ fn push_field(
     Ok(is_shown(&found))
 }
 
-/// What `check` says, and whether each described field is shown.
+/// What `check` prints, and whether each described field is shown.
 #[derive(Drop)]
 pub struct CheckReport {
     /// A line for each described field, top first.
@@ -58,7 +58,7 @@ pub struct CheckReport {
     pub shows: bool,
 }
 
-/// What is said of the fields of a description beside a sound program. The error is want of memory.
+/// What is reported of the fields of a description beside a sound program. The error is out of memory.
 pub fn check_report(
     alloc: Global,
     program: &Accepted,

@@ -76,7 +76,7 @@ fn closing_from(program: &Program, at: u64) -> Closing
     }
 }
 
-// What is said of the opening at an address.
+// What is reported of the opening at an address.
 fn said(
     frame: &Frame,
     field: Parity,
@@ -117,7 +117,7 @@ fn kept(first: Option<Verdict>, found: Verdict) -> Option<Verdict>
     }
 }
 
-/// What is said of a field, of which the plan tells what is awaited.
+/// What is reported of a field, whose plan has what is awaited.
 pub(crate) fn verdict_by(
     accepted: &Accepted,
     frame: &Frame,

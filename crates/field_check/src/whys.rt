@@ -79,7 +79,7 @@ pub(crate) fn unlike_why(
     }
 }
 
-/// Takes of a queue the bytes that are asked of it, or says why it doesn't await them.
+/// Takes of a queue the bytes that are asked of it, or answers why it doesn't await them.
 pub(crate) fn take_bytes(
     frame: &Frame,
     field: Parity,
@@ -102,7 +102,7 @@ pub(crate) fn take_bytes(
     Some(unlike_why(frame, field, plan, q, track, Some(more)))
 }
 
-/// Takes a code of a queue, or says why the queue doesn't await it.
+/// Takes a code of a queue, or answers why the queue doesn't await it.
 pub(crate) fn take_code(
     frame: &Frame,
     field: Parity,

@@ -17,7 +17,7 @@ begins_then old words new first then =
       split = then.split ∙ ap (λ (w : List ℕ). w ++ then.added) first.split ∙ append_assoc old first.added then.added;
     }
 
--- old words still stand, and with the words of the instructions that are left all are there
+-- old words are still there, and with the words of the instructions that are left all are there
 pub record IsLeft (old out : List ℕ) (rest all : List Instr) : Type 0 where
   pub kept : BeginsWith old out
   pub whole : out ++ words_of rest ≡ old ++ words_of all

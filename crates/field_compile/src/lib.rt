@@ -88,8 +88,8 @@ fn push_rows(
 }
 
 /// Appends the picture part of a field's section: SYNC on FM1 for packed and FM3 for planar formats, the
-/// skipped lines, and the field's rows in order. After a refusal, which want of memory alone brings, the
-/// old words still stand before what was added.
+/// skipped lines, and the field's rows in order. After a refusal, which is always out of memory, the
+/// old words still precede what was added.
 pub fn compile_field(
     alloc: Global,
     frame: &Frame,

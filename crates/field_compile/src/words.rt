@@ -1,4 +1,4 @@
-//! The words of instructions and of the pieces of a line, at the end of those that stand already.
+//! The words of instructions and of the pieces of a line, at the end of those that are there already.
 
 ghost use Rattle.std.specs.Prelude.{◌≡◌, ◌+◌, ◌++◌, ◌≤◌, drop, length, take, true, false, map, IsTrue, OnOk};
 ghost use Rattle.std.specs.List.{All, flat_map};
@@ -33,7 +33,7 @@ pub fn sync(resync: bool, code: Code) -> Instr
     }
 }
 
-/// Appends the words of an instruction. A refusal, which want of memory alone brings, leaves `out` as it
+/// Appends the words of an instruction. A refusal, which is always out of memory, leaves `out` as it
 /// was.
 #[inline(always)]
 pub fn push_instr(instr: &Instr, out: &mut Vec<u32>) -> Result<(), AllocError>
@@ -125,7 +125,7 @@ fn encode_piece(planar: bool, piece: &Piece, words: &mut [u32; 5]) -> u8
     }
 }
 
-// Writes the words of a piece into a buffer, behind those that stand there, and answers where they end. The
+// Writes the words of a piece into a buffer, behind those that are there, and answers where they end. The
 // places behind them may change too.
 #[inline(always)]
 fn add_piece(planar: bool, piece: &Piece, words: &mut [u32], at: usize) -> usize
@@ -155,7 +155,7 @@ fn spell_pieces(planar: bool, pieces: &[Piece], words: &mut [u32; 5 * GROUP]) ->
 }
 
 /// Appends the words of the pieces of a line, in a planar line or in a packed one. After a refusal, which
-/// want of memory alone brings, the old words still stand before what was added.
+/// is always out of memory, the old words still precede what was added.
 pub fn push_pieces(planar: bool, pieces: &[Piece], out: &mut Vec<u32>) -> Result<(), AllocError>
     requires { All CountsFit pieces.now }
     ensures words { OnOk result (out.new.items ≡ out.old.items ++ words_of (map (instr_of planar) pieces.now)) }

@@ -65,7 +65,7 @@ each_served P Three held d stores left queues ds all_stores all_left all one One
 each_served P Three held d stores left queues ds all_stores all_left all one Two = all Two
 each_served P Three held d stores left queues ds all_stores all_left all one Three = one
 
--- a queue changes with something else that is said of it
+-- a queue changes, and with it something else that belongs to it
 pub each_queue : {A : Type 0} (P : Queue → QueueState → A → Type 0) (q : Queue) (held : QueueState) (new : A) (queues : Queues) (old : Queue → A) →
     ((p : Queue) → P p (queue_state p queues) (old p)) → P q held new → (p : Queue) → P p (queue_state p (with_queue_state q held queues)) (changed q new old p)
 each_queue P One held new queues old all one One = one

@@ -108,7 +108,7 @@ module _ (Ends : List ℕ → List Token → Type 0) (Rests : List Entry → Typ
           quiet = refl;
         }
 
-  -- one that plainly follows the one before it; where the machine stands behind it is for the user to say
+  -- one that plainly follows the one before it; its user states where the machine is behind it
   pub executes-Turned : (Stands' : ℕ → List Instr → Type 0) (bound : ℕ) (instr : Instr) (rest : List Instr) (m : State) → Fetches bound (instr ∷ rest) m → Stands' (m.pc + 4 * length (encoded instr)) rest →
       IsPlain instr → demands_cause m.program.grants (demands_of instr None) ≡ None →
       Turned Ends Rests Stands' Comes later bound m.interrupts (instr_fetched instr (length (encoded instr)) m)

@@ -1,4 +1,4 @@
--- Sections as one use of trails: each instruction stands behind the one before it.
+-- Sections as one use of trails: each instruction is behind the one before it.
 use Rattle.std.proofs.Common.{◌≡◌, ℕ, ◌+◌, ◌*◌, List, [], ◌∷◌, length, None, Ok, refl, sym, ap, subst, ◌∙◌, arith}
 use Rattle.risc_word.specs.declared.Ctl.{Ctl}
 use Rattle.risc_word.specs.declared.Instr.{Instr}
@@ -40,7 +40,7 @@ plain_on_trail program (Write123 ctl ends off counts addrs) plain fine = (plain,
 plain_on_trail program (Skip123 ctl ends counts) plain fine = (plain, fine)
 plain_on_trail program (Write1S23 ctl ends off counts addr) plain fine = (plain, fine)
 
--- the closing stands behind the body, and no instruction of the body does
+-- the closing is behind the body, and no instruction of the body is
 holds_closing : (program : RiscProgram) (at : ℕ) (body : List Instr) (closing : Ctl) (target : ℕ) → HoldsFrom program at body closing target →
     fetch program (at + 4 * words_in body) ≡ Ok (Jump closing target, 2)
 holds_closing program at [] closing target h = let same : at + 4 * 0 ≡ at = omega arith in ap (fetch program) same ∙ h.0

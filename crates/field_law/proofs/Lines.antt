@@ -54,7 +54,7 @@ abbrev pub Follows : Bool → List ℕ → List Entry → Type 0
 Follows true more rest = (more ≡ []) × (rest ≡ [])
 Follows false more rest = (is_ending rest ≡ true) × (carried rest ≡ more)
 
--- the entry that stands at the front of a line's rest, and what follows it
+-- the entry at the front of a line's rest, and what follows it
 pub record Part (taken : ℕ) (line : List ℕ) (entry : Entry) (rest : List Entry) : Type 0 where
   pub some : taken < valid_bytes entry.status
   pub more : List ℕ

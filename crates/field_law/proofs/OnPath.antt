@@ -1,4 +1,4 @@
--- A sound program holds each section that stands on its path.
+-- A sound program holds each section that is on its path.
 use Rattle.std.proofs.Common.{◌≡◌, ℕ, suc, ◌+◌, ◌*◌, List, [], ◌∷◌, length, Option, None, Ok, refl, sym, ap, ◌∙◌, arith}
 use Rattle.risc_word.specs.declared.Ctl.{Ctl}
 use Rattle.risc_word.specs.declared.Instr.{Instr}
@@ -57,9 +57,9 @@ module _ (program : RiscProgram) (sound : IsSound program) where
 pub sound_holds : (s : Section) (program : RiscProgram) (number : ℕ) → IsSound program → (path program number).pc ≡ s.at → Stands s program → Holds s program
 sound_holds s program number sound here stands = holds_from program sound s.body s.at s.closing s.target number here stands
 
--- ---- the path walks through a section that stands on it
+-- ---- the path walks through a section that is on it
 
--- a place of the path stands at an address
+-- a place of the path is at an address
 abbrev pub ComesTo : RiscProgram → ℕ → Type 0
 ComesTo program address = (number : ℕ) × ((path program number).pc ≡ address)
 
@@ -70,7 +70,7 @@ module _ (program : RiscProgram) (sound : IsSound program) where
       ap (λ (p : Place). p.pc) (path-suc program number i count sound (ap (fetch program) here ∙ read)) ∙ pc_after i count (path program number) plain
       ∙ ap (λ (pc : ℕ). pc + 4 * count) here
 
-  -- so many places later it stands where the closing leads
+  -- so many places later it is where the closing leads
   pub place_behind : (instrs : List Instr) (number address : ℕ) (ctl : Ctl) (target : ℕ) → StandsFrom program address instrs ctl target → (path program number).pc ≡ address →
       (path program (suc (length instrs + number))).pc ≡ target
   place_behind [] number address ctl target stands here =

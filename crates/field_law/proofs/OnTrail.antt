@@ -28,8 +28,8 @@ use Rattle.field_law.proofs.Within.{IsPlainJob, IsWithin, job_asks, job_turns}
 use Rattle.field_law.proofs.Running.{Turned, serves-Turned, retires-Turned}
 use Rattle.field_law.proofs.Fetching.{Fetches, executes-Turned, idle-Fetches}
 
--- Where the machine stands, in programs of which something is known: behind the opening of a trail, and then along it up
--- to the closing, whatever else its user says of the place
+-- Where the machine is, in programs of which something is known: behind the opening of a trail, and then along it up
+-- to the closing, whatever else its user states of the place
 pub record IsAlong (t : Trail) (IsHeld : RiscProgram → Type 0) (Stands : ℕ → List Instr → Type 0) : Type 0 where
   pub begins : Stands t.at t.body
   pub leads : (program : RiscProgram) → IsHeld program → (at : ℕ) (body : List Instr) → Stands at body → LeadsFrom program t.end at body t.closing

@@ -1,5 +1,5 @@
--- Turns of the machine while an opening waits for its field. Where the machine stands behind the opening, what its stores
--- must come to and what may come after the field are for the user to say.
+-- Turns of the machine while an opening waits for its field. Their user states where the machine is behind the opening,
+-- what its stores must come to and what may come after the field.
 use Rattle.std.proofs.Common.{◌≡◌, ℕ, suc, ◌+◌, ◌*◌, ◌<◌, ◌≤◌, Bool, true, false, ◌==◌, List, [], ◌∷◌, ◌++◌, length, Option, Some, None, refl, sym, ap, subst, ◌∙◌, arith, ◌⊎◌, inl, inr, eqb-true, length-append}
 use Rattle.std.proofs.lemmas.Bool.{eqb-false}
 use Rattle.risc_word.specs.declared.Code.{Code}

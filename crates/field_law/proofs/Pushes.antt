@@ -101,7 +101,7 @@ push_control-is code m h =
 
 -- ---- a step that is no turn
 
--- what it says of the machine holds after such a step, where it holds with the entries added
+-- what holds of the machine holds after such a step, where it holds with the entries added
 module _ (P : Bool → ℕ → Skipping → Job → Queues → List Block → Type 0) where
   abbrev pub IsSaid : State → Type 0
   IsSaid m = P m.risc_on m.pc m.skipping m.job m.queues m.memory

@@ -213,7 +213,7 @@ module _ (Ends : List ℕ → List Token → Type 0) (Rests : List Entry → Typ
       pub serves-GoesOn : (found : Option Queue) → lowest_served ds m ≡ found → is_done ds ≡ false → GoesOn m.job (burst_of found m).job
       serves-GoesOn found e d = (serves found e d).1
 
--- an instruction retires; where the machine stands then is for the user to say
+-- an instruction retires; its user states where the machine is then
 module _ (Ends : List ℕ → List Token → Type 0) (Rests : List Entry → Type 0) (Stands Stands' : ℕ → List Instr → Type 0) (Comes : List Block → (Queue → List Store) → Type 0) (later : Queue → List Entry) (bound : ℕ)
     (instr : Instr) (ds : Demands) (m : State) (j : m.job ≡ Running instr ds) (h : IsWithin Ends Rests Stands Comes later bound m)
     (stands : (body : List Instr) → Stands m.pc body → Stands' m.pc body) (done : is_done ds ≡ true) where

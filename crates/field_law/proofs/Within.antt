@@ -1,6 +1,6 @@
--- The machine half way through instructions: what is still to come, never what was done. What is left of each queue at
--- the end, what may come after that, where the machine stands in its instructions, and what its stores must come to are
--- for the user of the relation to say.
+-- The machine half way through instructions: what is still to come, never what was done. The user of the relation states
+-- what is left of each queue at the end, what may come after that, where the machine is in its instructions, and what its
+-- stores must come to.
 use Rattle.std.proofs.Common.{◌≡◌, ℕ, suc, ◌+◌, ◌*◌, ◌<◌, ◌≤◌, Bool, true, List, [], ◌∷◌, ◌++◌, length, Some, min, refl, sym, ap, subst, ◌∙◌, arith}
 use Rattle.risc_word.specs.declared.Instr.{Instr}
 use Rattle.sync_status.specs.declared.Verdict.{Verdict}

@@ -29,7 +29,7 @@ ShowsPicture = (s : Section) (field : Queue → List Token) (final : ℕ → ℕ
     Receives s field m (early ++ (program, Turn) ∷ late) → Paints s field m.memory final → has_signal s m early ≡ false →
     is_signal s (run_in m early) Turn ≡ true → (address : ℕ) → byte_at (run_in m (early ++ (program, Turn) ∷ [])).memory address ≡ final address
 
--- no turn up to it sets FDSR, whether or not the bit stands
+-- no turn up to it sets FDSR, whether or not the bit is set already
 abbrev pub ShowsNoFault : Type 0
 ShowsNoFault = (s : Section) (field : Queue → List Token) (m : State) (early late : List Met) (program : RiscProgram) →
     Receives s field m (early ++ (program, Turn) ∷ late) → has_signal s m early ≡ false →

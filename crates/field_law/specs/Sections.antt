@@ -43,8 +43,8 @@ IsPlain (WriteC ctl ends off count) = ⊥
 IsPlain (Jump ctl addr) = ⊥
 IsPlain _ = Unit {0}
 
--- a program holds a section: its instructions stand from `at` on, the ranges that they write are granted, and a word
--- stands at the target
+-- a program holds a section: its instructions are there from `at` on, the ranges that they write are granted, and a word
+-- is at the target
 abbrev pub HoldsFrom : RiscProgram → ℕ → List Instr → Ctl → ℕ → Type 0
 HoldsFrom program at [] closing target =
     (fetch program at ≡ Ok (Jump closing target, 2)) × (is_word program target ≡ true)
@@ -56,7 +56,7 @@ HoldsFrom program at (instr ∷ rest) closing target =
 abbrev pub Holds : Section → RiscProgram → Type 0
 Holds s program = HoldsFrom program s.at s.body s.closing s.target
 
--- its instructions stand there, whether or not the program grants what they write
+-- its instructions are there, whether or not the program grants what they write
 abbrev pub StandsFrom : RiscProgram → ℕ → List Instr → Ctl → ℕ → Type 0
 StandsFrom program at [] closing target = fetch program at ≡ Ok (Jump closing target, 2)
 StandsFrom program at (instr ∷ rest) closing target =

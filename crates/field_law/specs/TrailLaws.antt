@@ -28,7 +28,7 @@ TrailShowsPicture = (t : Trail) (field : Queue → List Token) (final : ℕ → 
     TrailReceives t field m (early ++ (program, Turn) ∷ late) → PaintsField t.body field m.memory final → has_end t.end m early ≡ false →
     is_end t.end (run_in m early) Turn ≡ true → (address : ℕ) → byte_at (run_in m (early ++ (program, Turn) ∷ [])).memory address ≡ final address
 
--- no turn up to it sets FDSR, whether or not the bit stands
+-- no turn up to it sets FDSR, whether or not the bit is set already
 abbrev pub TrailShowsNoFault : Type 0
 TrailShowsNoFault = (t : Trail) (field : Queue → List Token) (m : State) (early late : List Met) (program : RiscProgram) →
     TrailReceives t field m (early ++ (program, Turn) ∷ late) → has_end t.end m early ≡ false →

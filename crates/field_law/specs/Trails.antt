@@ -49,7 +49,7 @@ LeadsFrom program end at (instr ∷ rest) closing =
 abbrev pub Leads : Trail → RiscProgram → Type 0
 Leads t program = LeadsFrom program t.end t.at t.body t.closing
 
--- a section is a trail of which each instruction stands behind the one before it
+-- a section is a trail of which each instruction is behind the one before it
 abbrev pub trail_of : Section → Trail
 trail_of s =
     record {

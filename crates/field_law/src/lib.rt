@@ -1,5 +1,5 @@
 //! The law of the picture: what a trail of a RISC program, from its opening SYNC along a path to what ends the field,
-//! does with a field that arrives at it, and so a section, whose instructions stand one behind the other up to its
+//! does with a field that arrives at it, and so a section, whose instructions are one behind the other up to its
 //! closing JUMP. The functions do nothing; their contracts are the laws, over the machine's definitions alone: a trail
 //! from any word on, another program at every step as long as each leads along this trail, and pushes, turns and
 //! register writes in any order.
@@ -48,7 +48,7 @@ pub fn signal_shows_the_picture()
     ensures { ShowsPicture }
 {}
 
-/// No turn up to the signal sets FDSR, also where the bit stands already, and the signal applies the control bits of the closing.
+/// No turn up to the signal sets FDSR, also where the bit is set already, and the signal applies the control bits of the closing.
 pub fn field_shows_no_fault()
     ensures quiet { ShowsNoFault }
     ensures signalled { SignalsClosing }
@@ -65,7 +65,7 @@ pub fn run_meets_its_program()
     ensures { (m : State) (steps : List Step) → run m steps ≡ run_in m (meeting m.program steps) }
 {}
 
-/// A sound program on whose path the instructions of a section stand holds the section.
+/// A sound program holds each section whose instructions are on its path.
 pub fn section_on_the_path_is_held()
     ensures { (s : Section) (program : RiscProgram) (number : ℕ) → IsSound program → (path program number).pc ≡ s.at → Stands s program → Holds s program }
 {}

@@ -1,4 +1,4 @@
--- What the geometry of a frame says of the sizes of its picture and its VBI lines.
+-- What follows from the geometry of a frame for the sizes of its picture and its VBI lines.
 use Rattle.std.proofs.Common.{◌≡◌, ℕ, zero, suc, ◌/◌, ◌≤◌, ◌<◌, Bool, true, false, if◌then◌else◌, List, [], ◌∷◌, Option, Some, None, refl, arith}
 use Rattle.pixel_layout.specs.declared.Parity.{Parity}
 use Rattle.capture_desc.specs.declared.desc.Desc.{Desc}

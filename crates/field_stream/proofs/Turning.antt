@@ -1,4 +1,4 @@
--- The generator comes round: after 65,536 bytes it stands at its first number again.
+-- The generator comes round: after 65,536 bytes it is at its first number again.
 use Rattle.std.proofs.Common.{◌≡◌, ℕ, zero, suc, ◌+◌, ◌*◌, ◌%◌, ◌^◌, ◌<◌, List, sym, ap, ◌∙◌, arith, zero-add, suc-add, ⊎_elim, ◌≤◌}
 use Rattle.std.specs.Prelude.{length, slice_index}
 use Rattle.std.proofs.lemmas.Bool.{cases_lt}

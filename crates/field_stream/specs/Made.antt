@@ -20,7 +20,7 @@ abbrev pub push_record : ℕ → Push → List ℕ
 push_record number (Mark code) = 4 ∷ code_number code ∷ []
 push_record number (Fill queue status) = tag_of queue ∷ status ∷ lanes number (valid_bytes status)
 
--- the record of 16 turns that stands after it
+-- the record of 16 turns after it
 abbrev pub turns_record : List ℕ
 turns_record = 5 ∷ 16 ∷ 0 ∷ 0 ∷ 0 ∷ []
 

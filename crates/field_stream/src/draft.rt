@@ -120,7 +120,7 @@ impl Draft {
         ]);
     }
 
-    // A line of a packed format. Its last entry stands apart, so that those in the loop are known to be full.
+    // A line of a packed format. Its last entry is apart, so that those in the loop are known to be full.
     fn packed_line(&mut self, bytes: u32)
         requires bytes { 5 ≤ bytes }
         requires room { length self.old.bytes + 11 * line_entries bytes ≤ 32768 }

@@ -10,14 +10,14 @@ const MODULUS: u32 = 65_537;
 // What the lanes that aren't valid hold.
 const FREE: u8 = 0xff;
 
-// After so many bytes the generator stands at its first number again.
+// After so many bytes the generator is at its first number again.
 const TURN: usize = 65_536;
 
 // The bytes of a turn, and of the lanes that begin in it and end in the next.
 const BYTES: usize = 65_540;
 
 // The bytes that are drawn from a first number on, and how many of a turn were drawn. Contracts see the
-// number that the generator stands at.
+// number that the generator is at.
 #[derive(Drop)]
 pub(crate) struct Generator {
     bytes: [u8; BYTES],
@@ -51,7 +51,7 @@ fn bytes_from(first: u32) -> [u8; BYTES]
 }
 
 impl Generator {
-    // Stands at the first number of a seed.
+    // The generator at the first number of a seed.
     pub(crate) fn new(seed: u64) -> Generator
         ensures { result ≡ first_number seed }
     {

@@ -116,7 +116,7 @@ pub length-no_vbi : (count : ℕ) → length (bytes_in (vbi_tokens count [] []))
 length-no_vbi zero = refl
 length-no_vbi (suc more) = refl
 
--- behind the skipped lines stand the VBI lines
+-- behind the skipped lines are the VBI lines
 pub cut-vbi : (count skip long : ℕ) (skipped rows : List (List ℕ)) (more : List ℕ) → AreLines skip long skipped → AreLines count long rows →
     cut count long (drop (skip * long) (bytes_in (vbi_tokens count skipped rows) ++ more)) ≡ rows
 cut-vbi zero skip long skipped rows more passed are = sym (nil_from_length rows are.many)

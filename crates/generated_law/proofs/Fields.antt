@@ -34,7 +34,7 @@ record AreVbi (lines skip bytes number : ℕ) : Type 0 where
   hold : HoldBytes rows
   brings : Brings (vbi_tokens lines skipped rows) (pushed_in (drawn_steps number (vbi_pushes lines skip bytes)) One)
 
--- lines of which nothing is said
+-- lines of which nothing is known
 any_lines : (count bytes : ℕ) → AreLines count bytes (replicate count (replicate bytes 0))
 any_lines count bytes =
     record {

@@ -33,7 +33,7 @@ use Rattle.field_stream.proofs.Moving.{repeated_split}
 use Rattle.generated_law.proofs.Fields.{brings_picture, draws_picture}
 use Rattle.generated_law.proofs.Steps.{steps_made, stream_data}
 
--- ---- where a field stands in a stream
+-- ---- where a field is in a stream
 
 record IsAmong (which : Fields) (field : Parity) : Type 0 where
   later : List Parity
@@ -146,7 +146,7 @@ module _ (d : Desc) (seed frames frame : ℕ) (field : Parity) (has : HasField d
     rest : List Entry
     same : pushed_in (between (place_of d frame field) l (stream_steps d seed frames)) q ≡ drawn_entries d field number q ++ rest
 
-  -- from the place of the field on stand its steps and those behind it
+  -- from the place of the field on are its steps and those behind it
   from_here : (l : ℕ) → between (place_of d frame field) l (stream_steps d seed frames) ≡ take (l - place_of d frame field) (steps_of ++ steps_behind)
   from_here l =
       let place = place_of d frame field in

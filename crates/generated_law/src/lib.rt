@@ -17,7 +17,7 @@ pub fn drawn_fields()
     ensures drawn { CarriesDrawn }
 {}
 
-/// Each field of a stream stands at its place among the steps. It arrives, with its picture, at a machine that waits for it
+/// Each field of a stream is at its place among the steps. It arrives, with its picture, at a machine that waits for it
 /// while its pushes come, where no push is lost. In a run of the compiled program that signals it, its picture is shown.
 pub fn generated_fields_arrive()
     ensures stand { FieldsStand }
@@ -27,7 +27,7 @@ pub fn generated_fields_arrive()
 {}
 
 /// The bytes of a generated stream of at most 16 frames are those of a stream file without a fault, of allowed length, and
-/// stand for the steps of which these laws speak: each push, and 16 turns after it.
+/// stand for the steps of these laws: each push, and 16 turns after it.
 pub fn generated_streams_are_read_back()
     ensures read { AreReadBack }
     ensures short { AreShort }

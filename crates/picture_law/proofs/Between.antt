@@ -12,7 +12,7 @@ use Rattle.field_law.specs.Sections.{Section, closing_at}
 use Rattle.field_law.specs.Arrivals.{meeting, has_end, has_signal, is_end, is_signal}
 use Rattle.picture_law.specs.Runs.{IsFirstEnd, between, ends_at, signals_at, step_at}
 
--- ---- what stands from a place up to another
+-- ---- what is from a place up to another
 
 pub range_split : {A : Type 0} (j i l : ℕ) (xs : List A) → j ≤ i → i ≤ l → take (l - j) (drop j xs) ≡ take (i - j) (drop j xs) ++ take (l - i) (drop i xs)
 range_split {A} j i l xs first later =

@@ -251,7 +251,7 @@ module _ (d : Desc) (right : IsRight d) (field : Parity) (described : describes 
       serves_both q (vbi_instrs d field) (field_instrs d field) (vbi_tokens d.vbi_lines (skipped_vbi_on skipped q) (vbi_on picture q)) (picture_tokens (layout_of d).planar (skipped.rows q) (rows_on picture q))
       (vbi_stores q) (skipped_stores q ++ row_stores q) (vbi_serves q d.vbi_lines refl) (picture_serves q)
 
-  -- wherever the section stands, and its closing leads
+  -- wherever the section is, and its closing leads
   pub section_uses : (begin target : ℕ) → Uses (section_at d field begin target) (field_tokens d picture skipped)
   section_uses begin target q = serves_used q (body d field) (field_tokens d picture skipped q) (field_stores q) (body_serves q)
 

@@ -34,7 +34,7 @@ pub some_factor : (a b : ℕ) → 0 < a * b → 0 < b
 some_factor a zero some = absurd (omega arith)
 some_factor a (suc b) some = omega arith
 
--- the address of a cut that is not clipped, by what the cut says of places
+-- the address of a cut that is not clipped, by what holds of the places of the cut
 shown_by : (memory : List Chunk) (clipped answer : Bool) (start : Option ℕ) (size at x : ℕ) → answer ≡ clipped →
     ((a : ℕ) → clipped ≡ false → option_map (address_at memory) (option_map (λ from. from + x) start) ≡ Some a → a ≡ address_of memory clipped size start at + (x - at * size)) →
     option_map (λ a. a + (x - at * size)) (cut_address memory clipped (track size start) at)

@@ -47,7 +47,7 @@ module _ (d : Desc) (field : Parity) (picture : Picture) (fill : ℕ) (steps : L
       })
       (runs_compiled d fill (take j steps) (All-take IsStep j steps c.made)) arrives
 
-  -- a signal stands before l
+  -- a signal is before l
   in_time : (early late mets : List Met) → early ++ late ≡ mets → (c : Captures d field begin target picture m mets) →
       ((q : Queue) → entries_of c.arrives.before c.arrives.entries q ≤ length (queue_state q m.queues).entries + length (coming early q)) →
       5 * size d field + over_queues (entries_of c.arrives.before c.arrives.entries) ≤ turns_in late → has_signal (section_of d field) m mets ≡ true

@@ -1,4 +1,4 @@
--- The section of a field stands in the program of its description.
+-- The section of a field is in the program of its description.
 use Rattle.std.proofs.Common.{◌≡◌, ℕ, zero, suc, ◌+◌, ◌*◌, ◌<◌, Bool, true, false, List, [], ◌∷◌, ◌++◌, length, length-append, append_assoc, map, None, Ok, refl, sym, ap, ◌∙◌, subst, arith}
 use Rattle.std.proofs.lemmas.List.{append-nil}
 use Rattle.risc_word.specs.declared.Ctl.{Ctl}
@@ -56,9 +56,9 @@ pub body_plain : (d : Desc) (field : Parity) → Each IsPlain (body d field)
 body_plain d field =
     each_append IsPlain (vbi_instrs d field) (field_instrs d field) (vbi_plain d field d.vbi_lines) (tt, lines_plain d (picture_strips d field))
 
--- ---- where they stand
+-- ---- where they are
 
--- an instruction is read where its words stand
+-- an instruction is read where its words are
 pub fetched_at : (program : RiscProgram) (before after : List ℕ) (i : Instr) (address : ℕ) → program.spans ≡ spans_of program.base (before ++ (encoded i ++ after)) →
     address ≡ program.base + 4 * length before → IsInstr i → fetch program address ≡ Ok (i, length (encoded i))
 fetched_at program before after i address words at is =
@@ -67,7 +67,7 @@ fetched_at program before after i address words at is =
     ∙ ap (λ (words : List ℕ). instr_at words (length before)) (sym (append_assoc before (encoded i) after))
     ∙ reads_back i is before after
 
--- instructions that are good for any program stand where their words do
+-- instructions that are good for any program are where their words are
 module _ (program other : RiscProgram) (ctl : Ctl) (target : ℕ) (spelled : IsInstr (instr.Jump ctl target)) (after : List ℕ) where
   pub stands_from : (instrs : List Instr) (before : List ℕ) (address : ℕ) →
       program.spans ≡ spans_of program.base (before ++ (words_of instrs ++ (encoded (instr.Jump ctl target) ++ after))) →
@@ -149,7 +149,7 @@ words_in-words_of [] = refl
 words_in-words_of (i ∷ rest) =
     ap (λ (n : ℕ). length (encoded i) + n) (words_in-words_of rest) ∙ sym (length-append (encoded i) (words_of rest))
 
--- its closing stands where the description has it
+-- its closing is where the description has it
 pub closing_there : (d : Desc) (field : Parity) → closing_at (section_of d field) ≡ closing_begin d d.base field
 closing_there d field =
     let instrs = body d field in

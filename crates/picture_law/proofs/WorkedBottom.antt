@@ -1,4 +1,4 @@
--- The worked bottom field, of a description that says where its bytes lie, meets the premises of the laws.
+-- The worked bottom field, of a description with all keys for where its bytes lie, meets the premises of the laws.
 use Rattle.std.proofs.Common.{◌≡◌, ℕ, ◌^◌, ◌<◌, ◌≤◌, All, List, [], ◌∷◌, ◌++◌, length, replicate, refl, arith}
 use Rattle.std.proofs.lemmas.List.Elements.{All-nil, All-append, All-from_recursion}
 use Rattle.risc_word.specs.declared.Code.TheVariants.{Vro, Fm1, Fm3}
@@ -156,6 +156,6 @@ bottom_signalled =
       arrives = arrives;
     }
 
--- a byte of the first row stands behind the end of the first page
+-- a byte of the first row is behind the end of the first page
 pub across_pages : IsKeptAt spread Bottom (of_row One 0 3) 0x30fff × IsKeptAt spread Bottom (of_row One 0 4) 0x20000
 across_pages = (((refl, omega arith, omega arith, refl), refl), ((refl, omega arith, omega arith, refl), refl))

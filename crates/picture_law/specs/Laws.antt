@@ -1,5 +1,5 @@
 -- The law of the picture: what holds of a picture of a field that arrives at a section of the field, wherever the section
--- stands and its closing leads, and whichever programs that hold it the steps meet.
+-- is and its closing leads, and whichever programs that hold it the steps meet.
 use Rattle.std.specs.Prelude.{◌≡◌, ℕ, ◌+◌, ◌*◌, ◌≤◌, true, false, All, List, [], ◌∷◌, ◌++◌, length}
 use Rattle.fifo_model.specs.declared.Queue.{Queue}
 use Rattle.fifo_model.specs.Queues.{queue_state}
@@ -45,13 +45,13 @@ ShowsPicture = (d : Desc) (field : Parity) (begin target : ℕ) (picture : Pictu
     is_signal (section_at d field begin target) (run_in m early) Turn ≡ true →
     After d field picture m.memory (run_in m (early ++ (program, Turn) ∷ [])).memory
 
--- no turn up to it sets FDSR, whether or not the bit stands
+-- no turn up to it sets FDSR, whether or not the bit is set already
 abbrev pub ShowsNoFault : Type 0
 ShowsNoFault = (d : Desc) (field : Parity) (begin target : ℕ) (picture : Picture) (m : State) (early late : List Met) (program : RiscProgram) →
     Captures d field begin target picture m (early ++ (program, Turn) ∷ late) → has_signal (section_at d field begin target) m early ≡ false →
     sets_fdsr (with_program program (run_in m early)) ≡ false
 
--- after it RISCI is set, and the RISC status tells which field it was
+-- after it RISCI is set, and the RISC status is that of the field
 abbrev pub status_of : Parity → ℕ
 status_of Top = 1
 status_of Bottom = 2
@@ -76,7 +76,7 @@ SignalsInTime = (d : Desc) (field : Parity) (begin target : ℕ) (picture : Pict
     has_signal (section_at d field begin target) m (early ++ late) ≡ true
 
 -- The premises that the law of a section asks for: the program of a description holds the section of each field; wherever
--- a section of a field stands, it uses up what each queue brings for a picture, what it stores paints any memory that
+-- a section of a field is, it uses up what each queue brings for a picture, what it stores paints any memory that
 -- shows the picture, and a program that holds it grants the picture's places
 abbrev pub HoldsSection : Type 0
 HoldsSection = (d : Desc) (field : Parity) → IsDescription d → IsFrame d → describes d.fields field ≡ true → Holds (section_of d field) (compiled d)

@@ -134,7 +134,7 @@ IsKeptAt d field byte address = IsUnclipped d field byte × (byte_place d (byte_
 abbrev pub HasPlaces : Desc → Parity → List Chunk → Type 0
 HasPlaces d field chunks = (byte : FieldByte) (address : ℕ) → IsKeptAt d field byte address → granted chunks address ≡ true
 
--- memory after a picture of a field: each byte that is kept stands at its place, and at every other address is what
+-- memory after a picture of a field: each byte that is kept is at its place, and at every other address is what
 -- was there before
 pub record After (d : Desc) (field : Parity) (picture : Picture) (before now : List Block) : Type 0 where
   pub keys : chunks_of now ≡ chunks_of before

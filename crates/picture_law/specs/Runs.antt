@@ -88,18 +88,18 @@ abbrev pub RunShowsPicture : Type 0
 RunShowsPicture = (d : Desc) (field : Parity) (picture : Picture) (fill : ℕ) (steps : List Step) (j k : ℕ) → IsSignalled d field picture fill steps j k →
     After d field picture (state_of d fill steps j).memory (state_of d fill steps (k + 1)).memory
 
--- no turn from j to k sets FDSR, whether or not the bit stands
+-- no turn from j to k sets FDSR, whether or not the bit is set already
 abbrev pub RunShowsNoFault : Type 0
 RunShowsNoFault = (d : Desc) (field : Parity) (picture : Picture) (fill : ℕ) (steps : List Step) (j k i : ℕ) → IsSignalled d field picture fill steps j k →
     j ≤ i → i ≤ k → step_at steps i ≡ Turn → sets_fdsr (state_of d fill steps i) ≡ false
 
--- after step k RISCI is set, and the RISC status tells which field it was
+-- after step k RISCI is set, and the RISC status is that of the field
 abbrev pub RunTellsField : Type 0
 RunTellsField = (d : Desc) (field : Parity) (picture : Picture) (fill : ℕ) (steps : List Step) (j k : ℕ) → IsSignalled d field picture fill steps j k →
     TellsField field (state_of d fill steps (k + 1))
 
 -- where the picture arrives at place j over the steps up to place l, and at place i all entries up to the field's last
--- were pushed, the first signal stands before l once there are so many turns from i to l
+-- were pushed, the first signal is before l once there are so many turns from i to l
 abbrev pub RunSignalsInTime : Type 0
 RunSignalsInTime = (d : Desc) (field : Parity) (picture : Picture) (fill : ℕ) (steps : List Step) (j i l : ℕ) → IsCapture d field picture steps →
     j ≤ i → i ≤ l → l ≤ length steps → (arrives : ArrivesAt d field picture (state_of d fill steps j) (between j l steps)) →

@@ -1,4 +1,4 @@
--- A worked description with all that says where its bytes lie: steps from row to row, offsets of the planes and of the VBI
+-- A worked description with all keys for where its bytes lie: steps from row to row, offsets of the planes and of the VBI
 -- lines, and pages that aren't in the order of their addresses, of which the first ends within a row of the bottom field.
 -- Both fields are described, and the bottom field arrives behind the top field.
 use Rattle.std.specs.Prelude.{List, [], ◌∷◌, ◌++◌, replicate, Some, None}

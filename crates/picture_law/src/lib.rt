@@ -1,5 +1,5 @@
 //! The law of the picture: whatever the schedule and the history, a field of a description that arrives at its section
-//! is shown at its places. The section stands anywhere, its closing leads anywhere, and each step meets a program of its
+//! is shown at its places. The section is anywhere, its closing leads anywhere, and each step meets a program of its
 //! own that holds it; compiled programs are one use. The functions do nothing; their contracts are the laws.
 #![tactic(auto)]
 
@@ -19,14 +19,14 @@ ghost use Rattle.picture_law.specs.WorkedPlanar.{planar, planar_picture, planar_
 ghost use Rattle.picture_model.specs.Worked.{smallest};
 ghost use Rattle.picture_law.specs.Laws.{EndsSection, GrantsPlaces, HoldsSection, UsesPicture, PaintsPicture, ShowsPicture, ShowsNoFault, SignalsField, SignalsInTime};
 
-/// After the first signal of a field that arrives, each of its bytes that is not clipped stands at its place where it
+/// After the first signal of a field that arrives, each of its bytes that is not clipped is at its place where it
 /// has one, and every other byte of memory is as it was when the machine waited in the field's opening.
 pub fn pictures_are_shown()
     ensures { ShowsPicture }
 {}
 
-/// No turn up to the signal sets FDSR, also where the bit stands already. After it RISCI is set, and the RISC status is 1 for the top field and 2 for
-/// the bottom field.
+/// No turn up to the signal sets FDSR, also where the bit is set already. After it RISCI is set, and the RISC status is 1
+/// for the top field and 2 for the bottom field.
 pub fn fields_show_no_fault()
     ensures quiet { ShowsNoFault }
     ensures signalled { SignalsField }
@@ -55,7 +55,7 @@ pub fn compiled_programs_are_met()
 {}
 
 /// The section of a field meets the premises of the law of a section, also where the program as a whole has no room: it
-/// stands in the compiled program, with its closing where the description has it. Wherever it stands it uses up a picture
+/// is in the compiled program, with its closing where the description has it. Wherever it is it uses up a picture
 /// of the field and paints what shows the picture, and a program that holds it grants the picture's places.
 pub fn sections_meet_their_law()
     ensures holds { HoldsSection }
@@ -82,7 +82,7 @@ pub fn worked_planar_picture_arrives()
     ensures in_time { MeetsBound 2 30 130 }
 {}
 
-/// And with all that says where bytes lie: steps from row to row, offsets of the planes and of the VBI lines, and pages out
+/// And with all keys for where bytes lie: steps from row to row, offsets of the planes and of the VBI lines, and pages out
 /// of order, of which one ends within a row. The bottom field of such a description arrives behind the top field.
 pub fn worked_bottom_picture_arrives()
     ensures signalled { IsSignalled spread Bottom planar_picture 0 bottom_steps 90 156 }

@@ -15,7 +15,7 @@ pub record IsFineInstr (program : RiscProgram) (i : Instr) : Type 0 where
   pub some : 0 < length (encoded i)
   pub fine : (target : Option ℕ) → instr_cause program i target ≡ None
 
--- an instruction of a list stands at an address
+-- an instruction of a list is at an address
 pub record IsAt (base : ℕ) (instrs : List Instr) (address : ℕ) : Type 0 where
   pub before : List Instr
   pub instr : Instr
@@ -75,7 +75,7 @@ pub lead_at : (There : ℕ → Type 0) (before : List Instr) (i : Instr) (after 
 lead_at There [] i after leads = leads.0
 lead_at There (b ∷ before) i after leads = lead_at There before i after leads.1
 
--- where an instruction stands, its words are
+-- where an instruction is, its words are
 
 pub words_split : (before : List Instr) (i : Instr) (after : List Instr) → words_of (before ++ i ∷ after) ≡ words_of before ++ (encoded i ++ words_of after)
 words_split before i after = flat_map-append encoded before (i ∷ after)
@@ -136,7 +136,7 @@ module _ (program : RiscProgram) (instrs : List Instr) (spelled : program.spans 
         at = omega arith;
       }
 
-  -- the instruction after one that stands at an address
+  -- the instruction after one at an address
   one_on : (place : Place) (at : IsAt program.base instrs place.pc) → IsSome at.after → IsAt program.base instrs (place.pc + 4 * length (encoded at.instr))
   one_on place at some = following at.before at.instr at.after place.pc at.split at.at some
 

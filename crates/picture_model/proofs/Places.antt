@@ -68,7 +68,7 @@ byte_within d (vbi_byte field line x) o right is at =
     let e : vbi_line_offset d field line + x ≡ o = cc in
     let inside = is.2 in omega arith
 
--- the byte of a VBI line stands in its field's area
+-- the byte of a VBI line is in its field's area
 in_area : (d : Desc) (field : Parity) (line x : ℕ) → line < d.vbi_lines → x < d.vbi_bytes → (vbi_offset d field ≤ vbi_line_offset d field line + x) × (vbi_line_offset d field line + x < vbi_offset d field + vbi_size d)
 in_area d field line x below inside =
     let within = line_within d.vbi_lines (vbi_stride d) d.vbi_bytes line below in (omega arith, omega arith)

@@ -42,7 +42,7 @@ module _ (memory : List Chunk) (strip : Strip) (test : ℕ → Bool) where
       let later = line_answers end s.to rest are.1 runs.2 are.4 in
       subst (Each (Answers test)) (sym are.2) (each_append (Answers test) are.0 are.1 first later)
 
--- what a cut writes stands at its bytes' places
+-- what a cut writes is at its bytes' places
 
 written_at : (memory : List Chunk) (from at n size j : ℕ) → IsWritten memory (from + at * size) (n * size) → j < n * size → address_at memory (from + (at * size + j)) ≡ address_at memory (from + at * size) + j
 written_at memory from at n size j is inside =

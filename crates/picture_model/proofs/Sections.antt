@@ -105,7 +105,7 @@ section_long d field target = with_closing target ∙ sym (with_closing 0)
         ap length (words_split (opening field ∷ body d field) (closing field at) [])
         ∙ split_length (words_of (opening field ∷ body d field)) (encoded (closing field at)) []
 
--- nor does it depend on where the sections stand
+-- nor does it depend on where the sections are
 abbrev long_by : Fields → Desc → ℕ
 long_by fields.Top d = section_length d Top
 long_by fields.Bottom d = section_length d Bottom
@@ -196,7 +196,7 @@ sound_by fields.Both d program good words = two_sections d program (good Top ref
 pub compiled_sound : (d : Desc) → IsRight d → IsSound (compiled d)
 compiled_sound d right = sound_by d.fields d (compiled d) (good_body d right (compiled d) refl) refl
 
--- each section stands where it is said to, with its closing at its end
+-- each section is where it should be, with its closing at its end
 
 stands_by : (which : Fields) (d : Desc) (from last : ℕ) (field : Parity) → describes which field ≡ true →
     Stands (words_of (sections_by which d from last)) from (words_of (section d field (next_by which d from last field))) (begin_by which d from field)

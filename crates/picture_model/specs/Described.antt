@@ -116,7 +116,7 @@ abbrev pub plane_rows : Desc → ℕ → ℕ
 plane_rows d plane =
     if plane == 1 then d.height else chroma_height d
 
--- from one row of a plane to the next; by default rows stand close
+-- from one row of a plane to the next; by default rows are close together
 abbrev pub stride : Desc → ℕ → ℕ
 stride d plane = given_or d.stride plane (plane_row_bytes d plane)
 
@@ -163,7 +163,7 @@ extents d = map (extent d) (planes d)
 abbrev pub vbi_skip : Desc → Parity → ℕ
 vbi_skip d field = field_number d.vbi_skip d.fields field
 
--- from one VBI line to the next; by default a field's VBI lines stand close
+-- from one VBI line to the next; by default a field's VBI lines are close together
 abbrev pub vbi_stride : Desc → ℕ
 vbi_stride d = unwrap_or d.vbi_stride d.vbi_bytes
 

@@ -140,7 +140,7 @@ pub record FitsTrack (memory : List Chunk) (clipped : Bool) (at n : ℕ) (t : Tr
   pub few : n * t.size ≤ max_piece
   pub whole : IsInOneChunk memory clipped t.size t.start at n
 
--- n grains stand within their span and keep the limits of each track
+-- n grains are within their span and keep the limits of each track
 pub record Fits (memory : List Chunk) (strip : Strip) (s : Span) (at n : ℕ) : Type 0 where
   pub within : at + n ≤ s.to
   pub one : FitsTrack memory s.clipped at n strip.one
@@ -293,8 +293,8 @@ skipped_vbi_plan d = plan (memory_of d) (skipped_vbi_strip d)
 abbrev pub vbi_plan : Desc → Parity → ℕ → List Piece
 vbi_plan d field line = plan (memory_of d) (vbi_strip d field line)
 
--- a cut of a row: its grains are clipped, or not, as it says, and where it isn't clipped, what it writes on
--- a plane stands at the places of its bytes
+-- a cut of a row: its grains are clipped exactly where it is, and where it isn't clipped, what it writes on
+-- a plane is at the places of its bytes
 pub record IsRowCut (d : Desc) (row : ℕ) (k : Cut) : Type 0 where
   pub answer : (grain : ℕ) → k.at ≤ grain → grain < k.at + k.n → grain_clipped d row grain ≡ k.clipped
   pub places : (plane j address : ℕ) → HasPlane d plane → k.clipped ≡ false → j < k.n * grain_bytes (layout_of d) plane →

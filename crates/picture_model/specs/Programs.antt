@@ -116,7 +116,7 @@ field_words d field = words_of (field_instrs d field)
 abbrev pub section_length : Desc → Parity → ℕ
 section_length d field = length (words_of (section d field 0))
 
--- where a section begins, where the sections of a description stand from an address on: with both fields
+-- where a section begins, where the sections of a description are from an address on: with both fields
 -- the bottom section follows the top one
 abbrev pub begin_by : Fields → Desc → ℕ → Parity → ℕ
 begin_by fields.Both d from Bottom = from + 4 * section_length d Top
@@ -125,7 +125,7 @@ begin_by _ d from field = from
 abbrev pub section_begin : Desc → ℕ → Parity → ℕ
 section_begin d from field = begin_by d.fields d from field
 
--- where a section's closing stands: it is the section's last instruction
+-- where a section's closing is: it is the section's last instruction
 abbrev pub closing_begin : Desc → ℕ → Parity → ℕ
 closing_begin d from field = section_begin d from field + 4 * (section_length d field - 2)
 
@@ -137,7 +137,7 @@ next_by _ d from last field = last
 abbrev pub section_next : Desc → ℕ → ℕ → Parity → ℕ
 section_next d from last field = next_by d.fields d from last field
 
--- the sections of the described fields, which stand from an address on
+-- the sections of the described fields, from an address on
 abbrev pub sections_by : Fields → Desc → ℕ → ℕ → List Instr
 sections_by fields.Top d from last = section d Top last
 sections_by fields.Bottom d from last = section d Bottom last
@@ -146,7 +146,7 @@ sections_by fields.Both d from last = section d Top (from + 4 * section_length d
 abbrev pub sections : Desc → ℕ → ℕ → List Instr
 sections d from last = sections_by d.fields d from last
 
--- the words of the sections as they stand at an address, of which the last leads back to another
+-- the words of the sections from an address on, of which the last leads back to another
 abbrev pub sections_words : Desc → ℕ → ℕ → List ℕ
 sections_words d at back = words_of (sections d at back)
 
@@ -154,11 +154,11 @@ sections_words d at back = words_of (sections d at back)
 abbrev pub compiled_words : Desc → List ℕ
 compiled_words d = sections_words d d.base d.base
 
--- the program: its words stand one after another from its base on, and it may write the description's pages or chunks
+-- the program: its words are one after another from its base on, and it may write the description's pages or chunks
 abbrev pub compiled : Desc → RiscProgram
 compiled d = one_span d.base (compiled_words d) (in_order (memory_of d))
 
--- a part of some words stands at an address, where the words begin at another
+-- a part of some words is at an address, where the words begin at another
 pub record Stands (words : List ℕ) (from : ℕ) (part : List ℕ) (address : ℕ) : Type 0 where
   pub before : List ℕ
   pub after : List ℕ

@@ -1,4 +1,4 @@
-//! The faults of a geometry in words, as `BuildFault` says them.
+//! The faults of a geometry: `BuildFault` in words.
 
 ghost use Rattle.std.specs.Prelude.{Some};
 ghost use Rattle.picture_model.specs.Words.{geometry_words, need_words};

@@ -55,8 +55,8 @@ pub fn cuts_cover_their_lines()
         CoverSafely (memory_of d) (vbi_strip d field line) (cuts_of (memory_of d) (vbi_strip d field line) (vbi_strip d field line).spans) }
 {}
 
-/// The cuts of a row tell of its grains whether they are clipped, and what an unclipped cut writes stands
-/// at the places of its bytes. So do the cuts of a VBI line, of which none is clipped.
+/// The grains of a cut of a row are clipped exactly where the cut is, and what an unclipped cut writes is
+/// at the places of its bytes. The same holds of the cuts of a VBI line, of which none is clipped.
 pub fn cuts_write_the_picture()
     ensures row { (d : Desc) (row : ℕ) → IsDescription d → IsFrame d → row < d.height →
         All (IsRowCut d row) (cuts_of (memory_of d) (row_strip d row) (row_strip d row).spans) }
@@ -82,7 +82,7 @@ pub fn places_are_granted_and_differ()
         byte_place d byte ≡ Some address → byte_place d other ≡ Some address → byte ≡ other }
 {}
 
-/// The sections of the described fields, set up from an address on, stand where they are said to begin,
+/// The sections of the described fields, set up from an address on, are where `section_begin` has them,
 /// each with its closing at its end. The words of a section are those of its opening, its VBI part, its
 /// picture part and its closing.
 pub fn sections_stand_in_their_program()
@@ -94,7 +94,7 @@ pub fn sections_stand_in_their_program()
         Stands (words_of (sections d from last)) from (encoded (closing field (section_next d from last field))) (closing_begin d from field) }
 {}
 
-/// The sections have as many words wherever they stand and wherever the last leads back: fewer than
+/// The sections have as many words wherever they are and wherever the last leads back: fewer than
 /// 500,000 where the frame is right.
 pub fn sections_are_as_long_anywhere()
     ensures few { (d : Desc) (at back : ℕ) → IsDescription d → IsFrame d → length (sections_words d at back) < 500000 }

@@ -1,6 +1,6 @@
 //! The picture that a description asks for, apart from any code: its places in memory, its geometry, the
-//! plans of its lines and its program. The types that the definitions and the code share stand here, with
-//! the rows and the control codes of a field; the definitions stand in `specs/`.
+//! plans of its lines and its program. The types that the definitions and the code share are here, with
+//! the rows and the control codes of a field; the definitions are in `specs/`.
 #![tactic(auto)]
 
 mod codes;
@@ -29,7 +29,7 @@ pub const MIN_LINE_BYTES: u32 = 5;
 /// project's own limit).
 pub const MAX_PIECE: u32 = 4092;
 
-/// Why a description has no program: the faults of its geometry, in the order in which they are judged
+/// Why a description has no program: the faults of its geometry, in the order in which they are checked
 /// (this project's own rules). Places in the list of pages or chunks are counted from 0.
 #[derive(Clone, Copy, Debug, PartialEq, Eq)]
 pub enum BuildFault {

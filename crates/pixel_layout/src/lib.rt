@@ -6,7 +6,7 @@ ghost use Rattle.pixel_layout.specs.Layouts.{chroma_row, chroma_row_from, format
 ghost use Rattle.pixel_layout.specs.Lines.{IsSmall, line_of};
 
 /// How the bytes of a picture lie in memory: the formats of Linux bttv (`bttv-driver.c`). In a packed
-/// format all bytes of a row stand on plane 1; in a planar one plane 1 has the luma and planes 2 and 3
+/// format all bytes of a row are on plane 1; in a planar one plane 1 has the luma and planes 2 and 3
 /// the chroma.
 #[derive(Clone, Copy, Debug, PartialEq, Eq)]
 pub enum Format {
@@ -46,7 +46,7 @@ pub enum Parity {
     Bottom,
 }
 
-// What the table of formats says of one of them.
+// A line of the table of formats.
 #[derive(Clone, Copy)]
 struct Line {
     pixels: u32,
@@ -168,7 +168,7 @@ impl Format {
     }
 
     /// The row of planes 2 and 3 that takes the chroma of a picture row, or None where there is no
-    /// chroma or that row's is dropped. `both` says that the picture has two fields, whose rows
+    /// chroma or that row's is dropped. Where `both`, the picture has two fields, whose rows
     /// alternate; the chroma rows of the two fields alternate too. `first` is the row of its field
     /// whose chroma is the first that is kept (this project's own numbering).
     #[tactic(auto, using(crate::proofs::Sizes::place_fits))]

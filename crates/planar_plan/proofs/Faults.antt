@@ -24,7 +24,7 @@ first_after-append None [] more d = refl
 first_after-append None (check ∷ rest) more d = first_after-append (check d) rest more d
 
 module _ (checks more : List Check) (d : Desc) where
-  -- a fault among the front ones is the first, and where there is none the others tell
+  -- a fault among the front ones is the first, and where there is none the others decide
   pub some_front : (fault : BuildFault) → first_after None checks d ≡ Some fault → first_after None (checks ++ more) d ≡ Some fault
   some_front fault is = first_after-append None checks more d ∙ ap (λ (o : Option BuildFault). first_after o more d) is
 
@@ -38,7 +38,7 @@ last_alone None d = refl
 pub one_alone : (check : Check) (d : Desc) → first_after None (check ∷ []) d ≡ check d
 one_alone check d = last_alone (check d) d
 
--- the faults of a frame, as they are judged: in groups
+-- the faults of a frame, as they are checked: in groups
 
 module _ (d : Desc) where
   pub at_sizes : (fault : BuildFault) → first_after None size_faults d ≡ Some fault → first_after None picture_faults d ≡ Some fault
@@ -132,7 +132,7 @@ module _ (chunks : List Chunk) where
   taken_many None is = shared_many (first_shared [] chunks) is
   taken_many (Some place) is = cc
 
--- what a call judged, said of another fault that stands for it
+-- what a call found, with another fault in place of the one that it found
 
 pub judges_err : (A B : Type 0) (found other : Option BuildFault) (error : BuildError) → ((fault : BuildFault) → found ≡ Some fault → other ≡ Some fault) → Judges {T = A} found (Err error) → Judges {T = B} other (Err error)
 judges_err A B found other (Bad fault) stands judged = stands fault judged

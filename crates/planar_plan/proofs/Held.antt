@@ -114,7 +114,7 @@ pub again_right : (d e : Desc) → d ≡ e → IsFramed d → IsDescription e �
 again_right d e same framed is =
     subst IsRight same (is_right d framed (subst IsDescription (sym same) is).clips)
 
--- spans that follow each other up to an end stand within it
+-- spans that follow each other up to an end are within it
 pub runs_within : (test : ℕ → Bool) (end bound x : ℕ) (spans : List Span) → end ≤ bound → AreRunsFrom test end x spans → AreWithin bound spans
 runs_within test end bound x [] low runs = tt
 runs_within test end bound x (s ∷ rest) low runs =

@@ -11,7 +11,7 @@ use Rattle.picture_model.specs.Geometry.{IsFrame}
 use Rattle.planar_plan.specs.declared.judge.BuildError.{BuildError}
 use Rattle.planar_plan.specs.declared.judge.BuildError.TheVariants.{Bad, Memory}
 
--- a call refuses exactly with the fault that was found; only want of memory is free
+-- a call refuses exactly with the fault that was found; it may be out of memory at any description
 abbrev pub Judges : {T : Type 0} → Option BuildFault → Result T BuildError → Type 0
 Judges found (Ok _) = found ≡ None
 Judges found (Err (Bad fault)) = found ≡ Some fault

@@ -26,7 +26,7 @@ StandsAt memory grains size None w = (w.address ≡ 0) × (w.step ≡ 0)
 StandsAt memory grains size (Some start) w =
     (1 ≤ size) × (grains * size ≤ room_at memory start) × (w.address ≡ address_at memory start) × (w.step ≡ size)
 
--- where the bytes of a track of so many grains stand
+-- where the bytes of a track of so many grains are
 pub record IsStretch (memory : List Chunk) (grains : ℕ) (t : Track) (w : Stretch) : Type 0 where
   pub some : 1 ≤ grains
   pub fit : IsFit grains t.size w

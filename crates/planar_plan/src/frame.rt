@@ -44,7 +44,7 @@ impl Model for Frame {
     ghost invariant = { λ frame. HasScatter frame.desc frame.scatter };
 }
 
-// Judges the picture and its VBI lines, and answers their highest end.
+// Checks the picture and its VBI lines, and answers their highest end.
 fn end_of(alloc: Global, desc: &Desc) -> Result<u64, BuildError>
     requires { IsWellFormed desc.now }
     ensures answer { Judges (first_after None picture_faults desc.now) result }
@@ -57,7 +57,7 @@ fn end_of(alloc: Global, desc: &Desc) -> Result<u64, BuildError>
     Ok(highest_end(&taken) as u64)
 }
 
-// Judges the geometry of a description, and scatters the bytes that its picture takes.
+// Checks the geometry of a description, and scatters the bytes that its picture takes.
 fn scatter_of(alloc: Global, desc: &Desc) -> Result<Scatter, BuildError>
     requires { IsWellFormed desc.now }
     ensures answer { Judges (frame_fault desc.now) result }
@@ -71,8 +71,8 @@ fn scatter_of(alloc: Global, desc: &Desc) -> Result<Scatter, BuildError>
 }
 
 impl Frame {
-    /// Judges the geometry of a description and keeps it. `Bad` holds the first fault in the order of
-    /// `BuildFault`, of those up to `TooFewBytes`; `Memory` is want of memory.
+    /// Checks the geometry of a description and keeps it. `Bad` holds the first fault in the order of
+    /// `BuildFault`, of those up to `TooFewBytes`; `Memory` is out of memory.
     pub fn new(alloc: Global, desc: Desc) -> Result<Frame, BuildError>
         requires { IsWellFormed desc }
         ensures answer { Judges (frame_fault desc) result }

@@ -23,7 +23,7 @@ use std::alloc::{AllocError, AllocFailed};
 pub enum BuildError {
     /// The description has this fault, and none of those before it.
     Bad(BuildFault),
-    /// Want of memory.
+    /// Out of memory.
     Memory,
 }
 
@@ -142,7 +142,7 @@ fn off_unit(desc: &Desc) -> Result<(), BuildFault>
     refuse(desc.format.is_planar() && !on_units, BuildFault::OffUnit)
 }
 
-// Judges the sizes of the picture and of its planes.
+// Checks the sizes of the picture and of its planes.
 pub(crate) fn size_faults(desc: &Desc) -> Result<(), BuildFault>
     requires { IsWellFormed desc.now }
     ensures fault { result_err result ≡ first_after None size_faults desc.now }

@@ -1,7 +1,7 @@
 //! The frame of a picture: a description whose geometry is right, and the plans of its lines.
 //!
 //! A line is cut into pieces, each of which one instruction moves. The rules by which a description is
-//! judged and a line is cut are this project's own.
+//! checked and a line is cut are this project's own.
 #![tactic(auto)]
 
 mod cut;

@@ -30,7 +30,7 @@ fn taken_memory(
     }
 }
 
-// Judges the pages or chunks each for itself and against those before it.
+// Checks the pages or chunks each for itself and against those before it.
 pub(crate) fn page_faults(alloc: Global, desc: &Desc) -> Result<(), BuildError>
     requires { IsWellFormed desc.now }
     ensures answer { Judges (first_after None page_faults desc.now) result }

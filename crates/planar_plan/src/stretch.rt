@@ -16,7 +16,7 @@ use risc_word::Ends;
 use std::alloc::AllocError;
 use std::marker::Model;
 
-// Where the bytes of a track stand, which lie in one chunk and are no more than a piece may have: the
+// Where the bytes of a track are, which lie in one chunk and are no more than a piece may have: the
 // address of the first, and the bytes from grain to grain. Both are 0 where the track isn't written.
 #[derive(Clone, Copy)]
 pub(crate) struct Stretch {
@@ -32,7 +32,7 @@ pub(crate) struct Stretches {
     pub(crate) three: Stretch,
 }
 
-/// A row each span of which is one piece. Contracts see the row and where its bytes stand.
+/// A row each span of which is one piece. Contracts see the row and where its bytes are.
 #[derive(Drop)]
 pub struct WholeRow {
     line: Line,

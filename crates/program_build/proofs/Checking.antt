@@ -42,12 +42,12 @@ same_program base words grants d one two three =
     ∙ ap (λ (w : List ℕ). one_span d.base w grants) two
     ∙ ap (one_span d.base (compiled_words d)) three
 
--- after a frame's faults the program's tell
+-- after a frame's faults the program's decide
 pub then_program : (d e : Desc) (found : Option BuildFault) → frame_fault d ≡ None → e ≡ d → first_after None program_faults e ≡ found → first_fault d ≡ found
 then_program d e found none same is =
     none_front frame_faults program_faults d none ∙ ap (first_after None program_faults) (sym same) ∙ is
 
--- where a program's base and end are right, whether it shares a byte with its pages tells
+-- where a program's base and end are right, whether it shares a byte with its pages decides
 pub on_page : (d e : Desc) (end : ℕ) (found : Option BuildFault) → e ≡ d → end ≡ d.base + 4 * length (compiled_words d) → None ≡ when (not (is_multiple 4 e.base && nat_le end (2 ^ 32))) ProgramBase →
     found ≡ when (list_any (is_met e.base end) (memory_of e)) ProgramOnPage → first_after None program_faults d ≡ found
 on_page d e end found same ends right shared =

@@ -69,7 +69,7 @@ impl Checked {
     }
 }
 
-/// Judges the geometry of a description and the place of its program: `Bad` holds the first fault of all,
+/// Checks the geometry of a description and the place of its program: `Bad` holds the first fault of all,
 /// in the order of `BuildFault` (this project's own rule).
 pub fn check(alloc: Global, desc: Desc) -> Result<Checked, BuildError>
     requires { IsWellFormed desc }

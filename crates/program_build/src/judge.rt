@@ -16,7 +16,7 @@ use picture_model::BuildFault;
 use planar_plan::{BuildError, Frame};
 use std::alloc::Global;
 
-// Judges where a program begins and ends.
+// Checks where a program begins and ends.
 fn program_base(base: u32, end: u64) -> Result<(), BuildFault>
     ensures { result_err result ≡ when (not (is_multiple 4 base && nat_le end (2 ^ 32))) BuildFault.ProgramBase }
 {
@@ -37,7 +37,7 @@ fn meets_memory(base: u32, end: u64, desc: &Desc) -> bool
     }
 }
 
-// Judges a program against the pages or chunks.
+// Checks a program against the pages or chunks.
 fn program_on_page(base: u32, end: u64, desc: &Desc) -> Result<(), BuildFault>
     ensures { result_err result ≡ when (list_any (is_met base end) (memory_of desc.now)) BuildFault.ProgramOnPage }
 {

@@ -106,8 +106,8 @@ fn both_sections(alloc: Global, frame: &Frame, at: u32, back: u32) -> Result<Vec
     Ok(words)
 }
 
-/// The words of a frame's sections, one for each described field, the top one first, as they stand at the
-/// address `at`. A section has SYNC on the field's vertical code with RESYNC, the VBI part, the picture
+/// The words of a frame's sections from the address `at` on, one section for each described field, the top one
+/// first. A section has SYNC on the field's vertical code with RESYNC, the VBI part, the picture
 /// part, and a JUMP that interrupts and leads to the next section, or from the last to the address `back`
 /// (this project's own rule). Where the sections would end beyond 2^32, the answer has as many words as they
 /// have.

@@ -14,7 +14,7 @@ pub chain : {A B F : Type 0} (P : F → Type 0) (r : Result A F) (next : A → R
 chain P (Ok a) next has then = then a refl
 chain P (Err fault) next has then = has
 
--- what is told of a key was read there
+-- a value with its key's fault is the value that was read there
 pub told-ok : {A F : Type 0} (fault_of : KeyFault → F) (r : Reading A) (value : A) → told fault_of r ≡ Ok value → r ≡ Ok value
 told-ok fault_of (Ok found) value is = cc
 told-ok fault_of (Err fault) value is = absurd (cc)

@@ -1,4 +1,4 @@
--- The document that a text is, by what `toml` says of it.
+-- The document that a text is, by the contracts of `toml`.
 use Rattle.std.proofs.Common.{◌≡◌, ℕ, Bool, false, List, Some, None, inl, inr, sym, ◌∙◌}
 use Rattle.std.specs.Prelude.{IsUtf8, IsTrue, ◌↔◌}
 use Rattle.std.specs.Str.{is_utf8}

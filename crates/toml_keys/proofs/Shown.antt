@@ -1,4 +1,4 @@
--- What a fault of a key says of the table: Missing that it does not have the key, the others that it has it.
+-- What follows for the table from a fault of a key: from Missing that it does not have the key, from the others that it has it.
 use Rattle.std.proofs.Common.{◌≡◌, ℕ, Bool, true, false, List, Option, Some, None, is_some, Ok, inl, inr, refl, ap, sym, ◌∙◌}
 use Rattle.std.specs.Prelude.{IfErr, ok_or}
 use Rattle.std.proofs.lemmas.Bool.{cases_Bool}
@@ -15,7 +15,7 @@ Shows name ms WrongKind = is_there name ms ≡ true
 Shows name ms OutOfRange = is_there name ms ≡ true
 
 module _ (name : List ℕ) (ms : Members) where
-  -- a fault of a reading says this
+  -- a fault of a reading shows this
   abbrev pub Says : {A : Type 0} → Reading A → Type 0
   Says reading = IfErr reading (Shows name ms)
 
@@ -27,7 +27,7 @@ module _ (name : List ℕ) (ms : Members) where
   ok_or_says None fault shows = shows
 
   module _ {A B : Type 0} (typed : Data → Option A) (ranged : A → Option B) where
-    -- what is absent has no fault, and the faults of what is there say so
+    -- what is absent has no fault, and the faults of what is there show it
     judged_says : (found : Option Data) → found ≡ get_member name ms → Says (judged typed ranged found)
     judged_says None is = tt
     judged_says (Some d) is =

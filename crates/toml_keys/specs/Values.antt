@@ -116,12 +116,12 @@ four_in _ = None
 abbrev pub four_of : Data → Option (ℕ × ℕ × ℕ × ℕ)
 four_of d = option_and_then four_in (as_list d)
 
--- a fault of a form says at which of its keys it is
+-- a fault of a form names its key
 abbrev pub told : {A F : Type 0} → (KeyFault → F) → Reading A → Result A F
 told fault_of (Ok value) = Ok value
 told fault_of (Err fault) = Err (fault_of fault)
 
--- an error is the fault, or want of memory
+-- an error is the fault, or out of memory
 abbrev pub Refuses : {A : Type 0} → Reading A → KeyError → Type 0
 Refuses reading (Bad fault) = reading ≡ Err fault
 Refuses reading Memory = ⊤

@@ -1,5 +1,5 @@
-//! Readers of the keys of a TOML table whose form is fixed: what stands at a key, or why it is at fault. A caller says
-//! of which key a fault is.
+//! Readers of the keys of a TOML table whose form is fixed: what is at a key, or why it is at fault. A caller names
+//! the key of a fault.
 #![tactic(auto)]
 
 mod table;
@@ -12,7 +12,7 @@ use std::alloc::AllocError;
 pub use table::{KnownKeys, TableError, read_table, unknown_key};
 pub use values::{Member, Words, list, number, number_or, required_number, value_at, word};
 
-/// Why a key is at fault (this project's own rules), in the order in which it is judged.
+/// Why a key is at fault (this project's own rules), in the order in which it is checked.
 #[derive(Clone, Copy, Debug, PartialEq, Eq)]
 pub enum KeyFault {
     /// A key that has to be there is not.
@@ -28,7 +28,7 @@ pub enum KeyFault {
 pub enum KeyError {
     /// The key is at fault.
     Bad(KeyFault),
-    /// Want of memory.
+    /// Out of memory.
     Memory,
 }
 

@@ -12,7 +12,7 @@ use toml::Table;
 pub enum TableError {
     /// It is not UTF-8, or no document by the crate `toml`.
     NotToml,
-    /// Want of memory.
+    /// Out of memory.
     Memory,
 }
 

@@ -56,7 +56,7 @@ fn push_lines(
 }
 
 /// Appends the VBI part of a field's section: SYNC on FM1, the lines that are skipped and the field's VBI lines, or
-/// nothing where there are no VBI lines. After a refusal, which want of memory alone brings, the old words still stand before
+/// nothing where there are no VBI lines. After a refusal, which is always out of memory, the old words still precede
 /// what was added.
 pub fn compile_vbi(
     alloc: Global,

@@ -2,7 +2,7 @@ use Rattle.std.proofs.Common.{◌≡◌, ◌*◌, ◌≤◌, map, take}
 use Rattle.picture_model.specs.Programs.{instr_of, words_of}
 use Rattle.field_compile.proofs.words.spell_pieces.Given as goal
 
--- the words of the pieces done stand in front
+-- the words of the pieces done are in front
 abbrev pub invariant-loop-piece : goal.invariant-loop-piece
 invariant-loop-piece l =
     record {

@@ -4,7 +4,7 @@ use Rattle.picture_model.specs.Programs.{instr_of, words_of}
 use Rattle.planar_plan.specs.Stretches.{pieces_in}
 use Rattle.field_compile.proofs.words.spell_spans.Given as goal
 
--- the words of the pieces of the spans done stand in front
+-- the words of the pieces of the spans done are in front
 abbrev pub invariant-loop-span : goal.invariant-loop-span
 invariant-loop-span l =
     record {
