@@ -1,4 +1,4 @@
--- What a judged ring meets.
+-- What a ring without a fault meets.
 use Rattle.std.proofs.Common.{◌≡◌, ℕ, ◌+◌, ◌*◌, ◌%◌, ◌^◌, ◌<◌, ◌≤◌, Bool, true, false, nat_le, Ok, Err, List, [], ◌∷◌, ◌++◌, Some, None, Result, length, map, get_or, refl, subst, sym, ap, ◌∙◌, arith, Fits, w32}
 use Rattle.std.specs.Prelude.{IfOk}
 use Rattle.std.specs.List.{All, list_any, range_with_len}

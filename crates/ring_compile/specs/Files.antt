@@ -118,7 +118,7 @@ described_in (Some members) =
 abbrev pub described : List ℕ → Reading Ring
 described text = described_in (document_of text)
 
--- an answer is the reading's, or want of memory
+-- an answer is the reading's, or out of memory
 abbrev pub Refuses : {A : Type 0} → Reading A → RingError → Type 0
 Refuses reading (Bad fault) = reading ≡ Err fault
 Refuses reading Memory = ⊤
@@ -127,7 +127,7 @@ abbrev pub Answers : {A : Type 0} → Reading A → Result A RingError → Type 
 Answers reading (Ok value) = reading ≡ Ok value
 Answers reading (Err error) = Refuses reading error
 
--- what was judged has no fault, or it is the first; want of memory is free
+-- what was checked has no fault, or it is the first; it may be out of memory at any fault, and at none
 abbrev pub Judges : {A : Type 0} → Option RingFault → Result A RingError → Type 0
 Judges fault (Ok value) = fault ≡ None
 Judges fault (Err (Bad found)) = fault ≡ Some found

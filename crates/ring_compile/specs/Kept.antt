@@ -1,4 +1,4 @@
--- What is kept of a ring, and what its reading tells before its place is judged.
+-- What is kept of a ring, and what its reading brings before its place is checked.
 use Rattle.std.specs.Prelude.{◌≡◌, ℕ, ◌≤◌, List, length, map, ◌∷◌}
 use Rattle.std.specs.List.{range_with_len}
 use Rattle.ring_model.specs.Rings.{IsPlaced, IsRing, Ring, last_write, opening, ring_words, round}

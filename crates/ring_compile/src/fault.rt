@@ -7,7 +7,7 @@ use capture_desc::KeyText;
 use std::alloc::AllocError;
 use toml_keys::KnownKeys;
 
-/// A key of a ring file (this project's own form), in the order in which the keys are judged.
+/// A key of a ring file (this project's own form), in the order in which the keys are checked.
 #[derive(Clone, Copy, Debug, PartialEq, Eq)]
 pub enum RingKey {
     /// `blocks`: the blocks of the ring, 2 to 16. Required.
@@ -51,7 +51,7 @@ impl KnownKeys for RingKey {
     }
 }
 
-/// Why a text is no ring file, in the order in which the faults are judged (this project's own rules). Places in the
+/// Why a text is no ring file, in the order in which the faults are checked (this project's own rules). Places in the
 /// list of pages are counted from 0.
 #[derive(Debug, Drop)]
 pub enum RingFault {
@@ -67,7 +67,7 @@ pub enum RingFault {
     OutOfRange(RingKey),
     /// The first page that is no multiple of 4,096.
     PageUnaligned(u32),
-    /// The first page that stands in the list before.
+    /// The first page that is in the list before.
     PageTwice(u32),
     /// The lines need so many pages, and so many are there.
     TooFewPages { need: u64, have: u64 },
@@ -82,7 +82,7 @@ pub enum RingFault {
 pub enum RingError {
     /// The text is no ring file.
     Bad(RingFault),
-    /// Want of memory.
+    /// Out of memory.
     Memory,
 }
 

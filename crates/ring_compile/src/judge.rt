@@ -26,7 +26,7 @@ fn taken(alloc: Global, pages: &[u32]) -> Result<PageSet, PageFault>
     PageSet::from_list(alloc, pages)
 }
 
-/// The pages as grants, each judged for itself and against those before it.
+/// The pages as grants, each checked for itself and against those before it.
 pub(crate) fn page_grants(alloc: Global, values: &Values) -> Result<PageSet, RingError>
     requires { length values.now.pages ≤ max_chunks }
     ensures answer { Judges (page_unaligned values.now or page_twice values.now) result }
@@ -61,7 +61,7 @@ fn stretch(alloc: Global, values: &Values) -> Result<Scatter, RingError>
     }
 }
 
-// Judges the pages.
+// Checks the pages.
 fn judged_pages(alloc: Global, values: &Values) -> Result<Scatter, RingError>
     requires { IsInBounds values.now }
     ensures answer { Judges (page_fault values.now) result }
@@ -80,7 +80,7 @@ fn program_end(values: &Values, words: &[u32]) -> u64
     u64::from(values.base) + 4 * (words.len() as u64 + 2)
 }
 
-// Judges where a program begins and ends.
+// Checks where a program begins and ends.
 fn judged_base(values: &Values, end: u64) -> Result<(), RingFault>
     requires { end ≡ program_end values.now }
     ensures { result_err result ≡ program_base values.now }
@@ -92,7 +92,7 @@ fn judged_base(values: &Values, end: u64) -> Result<(), RingFault>
     }
 }
 
-// Judges a program against the pages.
+// Checks a program against the pages.
 fn judged_against_pages(values: &Values, end: u64) -> Result<(), RingFault>
     requires { end ≡ program_end values.now }
     ensures { result_err result ≡ program_on_page values.now }

@@ -64,7 +64,7 @@ fn place_of(addresses: &[u64], at: u32) -> Option<usize>
 }
 
 impl Ring {
-    /// The block whose last WRITE stands at an address, counted from 0. None where no block's does.
+    /// The block whose last WRITE is at an address, counted from 0. None where no block's is there.
     pub fn ends(&self, at: u32) -> Option<u8>
         ensures value { result ≡ ends self.now at }
         ensures judged { IsJudged self.now }

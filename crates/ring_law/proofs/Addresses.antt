@@ -1,4 +1,4 @@
--- Where the blocks of a ring stand in its program, and which addresses end them.
+-- Where the blocks of a ring are in its program, and which addresses end them.
 use Rattle.std.proofs.Common.{Bool, List, None, Some, [], append-nil, arith, eq-eqb, false, length, length-append, ne_eqb, suc, sym, zero, ℕ, ◌*◌, ◌++◌, ◌+◌, ◌-◌, ◌<◌, ◌==◌, ◌∙◌, ◌∷◌, ◌≡◌, ◌≤◌, map, ap, ⊎_elim, refl}
 use Rattle.std.proofs.lemmas.Bool.{cases_lt, cond-false, cond-true, cases_Bool, eqb-true}
 use Rattle.std.specs.List.{flat_map, position, position_from, range_with_len}
@@ -68,7 +68,7 @@ module _ (f : ℕ → ℕ) (value : ℕ) where
       let below = there.0 in
       (omega arith, there.1)
 
--- ---- where blocks stand
+-- ---- where blocks are
 
 range_append : (from a b : ℕ) → range_with_len from (a + b) ≡ range_with_len from a ++ range_with_len (from + a) b
 range_append from zero b = let none : from + 0 ≡ from = omega arith in let all : zero + b ≡ b = omega arith in ap (range_with_len from) all ∙ ap (λ (first : ℕ). range_with_len first b) (sym none)
@@ -140,7 +140,7 @@ module _ (r : Ring) (is : IsRing r) where
       let same = ap (block_begin r) there in
       omega arith
 
-  -- the last WRITE stands two words before the next block
+  -- the last WRITE is two words before the next block
   pub last_there : (block : ℕ) → last_write r block + 8 ≡ block_begin r (block + 1)
   last_there block =
       let next : suc block ≡ block + 1 = omega arith in

@@ -18,7 +18,7 @@ use Rattle.field_law.proofs.OnPath.{granted_demands}
 use Rattle.ring_model.proofs.Writes.{line_writes, IsWrite}
 use Rattle.picture_model.specs.Programs.{words_of}
 
--- how many blocks of the round stand before the block of a block end; all of them where a round begins anew
+-- how many blocks of the round are before the block of a block end; all of them where a round begins anew
 abbrev pub round_before : Ring → ℕ → ℕ
 round_before r zero = 0
 round_before r (suc number) = number % r.blocks + 1
@@ -67,7 +67,7 @@ module _ (r : Ring) (is : IsRing r) where
       let below = mod-lt number some_blocks in
       sym (next_number number r.blocks some_blocks (⊎_elim (λ less. less) (λ more. absurd (other (omega arith))) (cases_lt (number % r.blocks + 1) r.blocks)))
 
-  -- ---- they stand one after another
+  -- ---- they are one after another
 
   abbrev program : RiscProgram
   program = ring_program r

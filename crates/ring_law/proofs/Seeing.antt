@@ -58,7 +58,7 @@ only_write instr other count count' reading is_write one two =
     subst IsWrite (sym same) is_write
 
 module _ (r : Ring) (is : IsRing r) where
-  -- a WRITE stands where a block ends
+  -- a WRITE is where a block ends
   write_at_end : (block : ℕ) → block < r.blocks → (write : Instr) × IsWrite write × (fetch (ring_program r) (last_write r block) ≡ Ok (write, length (encoded write)))
   write_at_end block below =
       let writes = block_instrs r block in
@@ -85,7 +85,7 @@ module _ (r : Ring) (is : IsRing r) where
       each_front [] ys each = tt
       each_front (x ∷ xs) ys each = (each.0, each_front xs ys each.1)
 
-  -- so what stands there is one
+  -- so what is there is one
   is_write_there : (instr : Instr) (at block : ℕ) → ends r at ≡ Some block → fetch (ring_program r) at ≡ Ok (instr, length (encoded instr)) → IsWrite instr
   is_write_there instr at block ends_block stands =
       let found = position_found (last_write r) at r.blocks block ends_block in

@@ -1,4 +1,4 @@
--- What the law says of a ring run, whether its last lines came whole or not.
+-- What the law states of a ring run, whether its last lines came whole or not.
 use Rattle.std.proofs.Common.{All, List, Option, Some, [], append-nil, append_assoc, arith, drop, false, if◌then◌else◌, length, length-append, length-take, refl, subst, suc, take, take-take, zero, ℕ}
 use Rattle.std.proofs.Common.{◌%◌, ◌*◌, ◌++◌, ◌+◌, ◌-◌, ◌<◌, ◌==◌, ◌∙◌, ◌∷◌, ◌≡◌, ◌≤◌, ap, ⊎_elim, sym}
 use Rattle.std.proofs.lemmas.List.Elements.{All-take}

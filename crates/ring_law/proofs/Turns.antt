@@ -197,7 +197,7 @@ module _ (program : RiscProgram) (block_at : BlockAt) (Rests : List Entry → Ty
 
   -- ---- a turn
 
-  -- a machine at rest stands where an idle one does
+  -- a machine at rest is where an idle one is
   pub resting : (left : List ℕ) (bound : ℕ) (m : State) → IsAtRest m.job → IsWithin IsUsedUp Rests (StandsFor program block_at Idle left) (Makes final) later bound m → InRing left bound m
   resting left bound m rests h =
       record {

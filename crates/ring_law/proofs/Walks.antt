@@ -43,7 +43,7 @@ ends_at block_at _ at = []
 abbrev pub IsMarked : BlockAt → Instr → ℕ → Type 0
 IsMarked block_at instr at = (block : ℕ) → ends_at block_at instr at ≡ block ∷ [] → instr_ctl instr ≡ mark block
 
--- the instructions stand one after another from an address on; the last of them ends the last block that is left
+-- the instructions are one after another from an address on; the last of them ends the last block that is left
 abbrev pub Walks : RiscProgram → BlockAt → ℕ → List Instr → List ℕ → Type 0
 Walks program block_at pc [] left = left ≡ []
 Walks program block_at pc (instr ∷ rest) left =
@@ -54,7 +54,7 @@ Walks program block_at pc (instr ∷ rest) left =
 abbrev pub left_behind : BlockAt → Instr → ℕ → List ℕ → List ℕ
 left_behind block_at instr at left = drop (length (ends_at block_at instr at)) left
 
--- where the machine stands, by its job; a WRITE that runs stands two words before what comes next
+-- where the machine is, by its job; a WRITE that runs is two words before what comes next
 abbrev pub StandsFor : RiscProgram → BlockAt → Job → List ℕ → ℕ → List Instr → Type 0
 StandsFor program block_at (Running instr ds) left pc body =
     (left ≡ ends_at block_at instr (pc - 8) ++ left_behind block_at instr (pc - 8) left) × IsMarked block_at instr (pc - 8)

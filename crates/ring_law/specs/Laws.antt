@@ -20,8 +20,8 @@ pub record EndsBlock (r : Ring) (lines : List (List ℕ)) (m : State) (early : L
   pub runs : IsRingRun r lines m (early ++ Turn ∷ [])
   pub ends : block_end (ends r) (run m early) Turn ≡ Some block
 
--- block ends come in the order of the blocks, round after round; after each the lines stand in its block, and RISCI and
--- the RISC status tell of it
+-- block ends come in the order of the blocks, round after round; after each the lines are in its block, RISCI is set,
+-- and the RISC status is the number of the block
 abbrev pub RingsShowTheirBlocks : Type 0
 RingsShowTheirBlocks = (r : Ring) (lines : List (List ℕ)) (m : State) (early : List Step) (block : ℕ) → EndsBlock r lines m early block →
     (block ≡ block_ends (ends r) m early % r.blocks) × ShowsBlocks r lines (block_ends (ends r) m early) m (run m (early ++ Turn ∷ []))

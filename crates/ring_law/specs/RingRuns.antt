@@ -33,7 +33,7 @@ tokens_on lines One = Mark Fm1 ∷ map Row lines
 tokens_on lines Two = Mark Fm1 ∷ []
 tokens_on lines Three = Mark Fm1 ∷ []
 
--- the entries of a line that is unfinished stand on queue 1
+-- the entries of a line that is unfinished are on queue 1
 abbrev pub left_on : List Entry → Queue → List Entry
 left_on entries One = entries
 left_on entries Two = []

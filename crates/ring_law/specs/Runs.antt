@@ -28,12 +28,12 @@ pub record EndsBlockAt (r : Ring) (lines : List (List ℕ)) (steps : List Step) 
 abbrev pub ends_between : Ring → List Step → ℕ → ℕ → ℕ
 ends_between r steps j k = block_ends (ends r) (state_of r steps j) (between j k steps)
 
--- step k ends the block whose turn it is, and after it the lines stand in the blocks, against memory at place j
+-- step k ends the block whose turn it is, and after it the lines are in the blocks, against memory at place j
 abbrev pub RunShowsBlocks : Type 0
 RunShowsBlocks = (r : Ring) (lines : List (List ℕ)) (steps : List Step) (j k block : ℕ) → EndsBlockAt r lines steps j k block →
     (block ≡ ends_between r steps j k % r.blocks) × ShowsBlocks r lines (ends_between r steps j k) (state_of r steps j) (state_of r steps (k + 1))
 
--- no turn from place j up to step k sets FDSR, whether or not the bit stands
+-- no turn from place j up to step k sets FDSR, whether or not the bit is set already
 abbrev pub RunShowsNoFault : Type 0
 RunShowsNoFault = (r : Ring) (lines : List (List ℕ)) (steps : List Step) (j k block i : ℕ) → EndsBlockAt r lines steps j k block →
     j ≤ i → i ≤ k → step_at steps i ≡ Turn → sets_fdsr (state_of r steps i) ≡ false

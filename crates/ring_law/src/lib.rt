@@ -1,5 +1,5 @@
 //! The law of block rings: whatever the schedule and the history, at each block end of a ring run the block holds its
-//! lines, and the RISC status tells which block it is (this project's own form). The functions do nothing; their contracts
+//! lines, and the RISC status is the number of the block (this project's own form). The functions do nothing; their contracts
 //! are the laws.
 #![tactic(auto)]
 
@@ -17,7 +17,7 @@ pub fn rings_show_their_blocks()
     ensures { RingsShowTheirBlocks }
 {}
 
-/// No turn up to a block end sets FDSR, also where the bit stands already.
+/// No turn up to a block end sets FDSR, also where the bit is set already.
 pub fn rings_show_no_fault()
     ensures { RingsShowNoFault }
 {}

@@ -37,7 +37,7 @@ impl BlockCount {
         ensures none { result ≡ record { ring = ring; blocks = 0 } }
         ensures ring { IsRing ring }
     {
-        // the call tells that the ring has no fault
+        // the call brings in that the ring has no fault
         let _fill = ring.fill();
         BlockCount { ring, blocks: 0 }
     }
@@ -84,7 +84,7 @@ impl Watch for BlockCount {
 
     fn emptied(&mut self, _one: bool, _two: bool, _three: bool) {}
 
-    // Of a turn nothing but a retirement is asked, which is told without looking at what a burst meets.
+    // Of a turn nothing but a retirement is asked, which is known without looking at what a burst meets.
     #[inline]
     fn turn<R: Ram>(&mut self, machine: &mut Machine<R>) {
         if let Some(at) = machine.next_retirement() {

@@ -105,7 +105,7 @@ ring_program r = one_span r.base (ring_words r) (in_order (memory_of r))
 abbrev pub last_write : Ring → ℕ → ℕ
 last_write r block = r.base + 4 * (length (words_of (opening ∷ blocks_instrs r 0 (suc block))) - 2)
 
--- the block whose last WRITE stands at an address
+-- the block whose last WRITE is at an address
 abbrev pub ends : Ring → ℕ → Option ℕ
 ends r address = position (λ end. end == address) (map (last_write r) (range_with_len 0 r.blocks))
 

@@ -13,11 +13,11 @@ use Rattle.machine_model.specs.Turns.{is_done}
 
 -- block ends
 
--- the block whose last WRITE stands at an address, if any
+-- the block whose last WRITE is at an address, if any
 abbrev pub BlockAt : Type 0
 BlockAt = ℕ → Option ℕ
 
--- a WRITE that has all its bytes retires; it stands two words before the instruction that comes next
+-- a WRITE that has all its bytes retires; it is two words before the instruction that comes next
 abbrev pub ended_by : BlockAt → Job → ℕ → Option ℕ
 ended_by block_at (Running (Write ctl line_ends off count address) demands) pc =
     if is_done demands then block_at (pc - 8) else None
