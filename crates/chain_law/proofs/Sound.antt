@@ -29,7 +29,7 @@ use Rattle.chain_model.proofs.Words.{back_read, slot_read}
 use Rattle.chain_law.specs.Fragments.{FragmentIsSound, FragmentsAreSound, IsFragment}
 use Rattle.chain_law.proofs.Splits.{fetch_there, fine_there, following, head_there, part_split, word_at_there, words_after, words_before}
 
--- ---- the sections of a description, as they stand at an address
+-- ---- the sections of a description, as they are at an address
 
 module _ (d : Desc) (at back : ℕ) where
   abbrev pub middle : ℕ

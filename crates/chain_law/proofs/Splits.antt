@@ -1,4 +1,4 @@
--- Where a part stands in the words of a chain, and which instruction is fetched there.
+-- Where a part is in the words of a chain, and which instruction is fetched there.
 use Rattle.std.proofs.Common.{◌≡◌, ℕ, zero, suc, ◌+◌, ◌*◌, ◌<◌, true, List, [], ◌∷◌, ◌++◌, length, take, drop, length-append, append_assoc, Ok, refl, sym, ap, ◌∙◌, subst, arith}
 use Rattle.std.specs.Prelude.{slice_index_or}
 use Rattle.risc_word.specs.declared.Instr.{Instr}
@@ -39,7 +39,7 @@ module _ (chain : Chain) (patching : Patching) (part : ℕ) where
       let both = length-append (loop_words chain 0 patching) (words_of_parts (take part chain.parts)) in
       omega arith
 
--- ---- instructions that stand somewhere in a program
+-- ---- instructions that are somewhere in a program
 
 module _ (program : RiscProgram) (before after : List ℕ) (instrs : List Instr) (begin : ℕ)
     (split : program.spans ≡ spans_of program.base (before ++ (words_of instrs ++ after)))
@@ -76,7 +76,7 @@ module _ (program : RiscProgram) (before after : List ℕ) (instrs : List Instr)
       let some = (fine_there address at).some in
       ap (is_word program) (address_there address at) ∙ word_there program words (length front) (words_there address at) (omega arith)
 
-  -- the instruction after one that stands at an address
+  -- the instruction after one at an address
   pub following : (address : ℕ) (at : IsAt begin instrs address) (next : Instr) (rest : List Instr) → at.after ≡ next ∷ rest →
       IsAt begin instrs (address + 4 * length (encoded at.instr))
   following address at next rest more =

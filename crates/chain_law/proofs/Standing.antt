@@ -1,4 +1,4 @@
--- The section of a field stands in its fragment, and every patching holds it.
+-- The section of a field is in its fragment, and every patching holds it.
 use Rattle.std.proofs.Common.{◌≡◌, ℕ, suc, ◌+◌, ◌*◌, ◌<◌, ◌≤◌, true, List, [], ◌∷◌, ◌++◌, length, length-append, append_assoc, Some, None, Ok, refl, sym, ap, ◌∙◌, subst, arith}
 use Rattle.std.proofs.lemmas.List.{append-nil}
 use Rattle.risc_word.specs.declared.Ctl.{Ctl}

@@ -1,4 +1,4 @@
--- Parts that are fragments of descriptions: their sections, as they stand in the chain.
+-- Parts that are fragments of descriptions: their sections, as they are in the chain.
 use Rattle.std.specs.Prelude.{◌≡◌, ℕ, ◌<◌, length, Some}
 use Rattle.page_table.specs.Taken.{in_order}
 use Rattle.machine_model.specs.Paths.{AreWithin, IsSound}
@@ -8,7 +8,7 @@ use Rattle.picture_model.specs.Geometry.{IsFrame}
 use Rattle.picture_model.specs.Programs.{sections_words}
 use Rattle.chain_model.specs.Chains.{Chain, IsChain, IsSoundChain, alone, head, next, part_of}
 
--- a part's words are those of a description's sections at its head, of which the last leads to what stands after its
+-- a part's words are those of a description's sections at its head, of which the last leads to what is after its
 -- slot
 pub record IsFragment (chain : Chain) (part : ℕ) (d : Desc) : Type 0 where
   pub description : IsDescription d

@@ -1,4 +1,4 @@
--- The law of the picture over a live run: the section of a field stands in a part that is a fragment, and the host may
+-- The law of the picture over a live run: the section of a field is in a part that is a fragment, and the host may
 -- patch any slot while the field comes. Arrival, signal and turns are those of steps that each meet a program.
 use Rattle.std.specs.Prelude.{◌≡◌, ℕ, ◌+◌, ◌-◌, ◌<◌, ◌≤◌, true, false, All, List, length, take, drop, slice_index_or}
 use Rattle.pixel_layout.specs.declared.Parity.{Parity}
@@ -68,13 +68,13 @@ LiveShowsPicture = (chain : Chain) (part : ℕ) (d : Desc) (field : Parity) (pic
     IsSignalled chain part d field picture fill steps j k →
     After d field picture (live_of chain fill steps j).machine.memory (live_of chain fill steps (k + 1)).machine.memory
 
--- no turn from j to k sets FDSR, whether or not the bit stands
+-- no turn from j to k sets FDSR, whether or not the bit is set already
 abbrev pub LiveShowsNoFault : Type 0
 LiveShowsNoFault = (chain : Chain) (part : ℕ) (d : Desc) (field : Parity) (picture : Picture) (fill : ℕ) (steps : List LiveStep) (j k i : ℕ) →
     IsSignalled chain part d field picture fill steps j k → j ≤ i → i ≤ k → step_at steps i ≡ Plain Turn →
     sets_fdsr (live_of chain fill steps i).machine ≡ false
 
--- after step k RISCI is set, and the RISC status tells which field it was
+-- after step k RISCI is set, and the RISC status is that of the field
 abbrev pub LiveTellsField : Type 0
 LiveTellsField = (chain : Chain) (part : ℕ) (d : Desc) (field : Parity) (picture : Picture) (fill : ℕ) (steps : List LiveStep) (j k : ℕ) →
     IsSignalled chain part d field picture fill steps j k → TellsField field (live_of chain fill steps (k + 1)).machine

@@ -29,7 +29,7 @@ pub record ArrivesUpTo (chain : Chain) (part : ℕ) (d : Desc) (field : Parity) 
 abbrev pub LiveRunStaysInside : Chain → ℕ → List LiveStep → Type 0
 LiveRunStaysInside chain fill steps = (place : ℕ) → LiveInside chain (live_of chain fill steps place)
 
--- memory is that of before with the picture, RISCI is set, and the RISC status tells the field
+-- memory is that of before with the picture, RISCI is set, and the RISC status is that of the field
 pub record IsLiveShown (d : Desc) (field : Parity) (picture : Picture) (before now : Live) : Type 0 where
   pub memory : After d field picture before.machine.memory now.machine.memory
   pub told : TellsField field now.machine
@@ -41,7 +41,7 @@ LiveRunShowsPictures chain fill steps =
     ArrivesUpTo chain part d field picture fill steps j k →
     IsLiveShown d field picture (live_of chain fill steps j) (live_of chain fill steps (k + 1))
 
--- no turn from j to k sets FDSR, whether or not the bit stands
+-- no turn from j to k sets FDSR, whether or not the bit is set already
 abbrev pub LiveRunShowsNoFault : Chain → ℕ → List LiveStep → Type 0
 LiveRunShowsNoFault chain fill steps =
     (part : ℕ) (d : Desc) (field : Parity) (picture : Picture) (j k i : ℕ) → IsPartPicture chain part d field picture →

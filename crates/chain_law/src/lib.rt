@@ -21,7 +21,7 @@ pub fn fragments_are_sound()
 {}
 
 /// Whatever the host patches, and also where it patches out the part itself: after the first signal of a field that arrives
-/// at its section of a fragment, each of its bytes that is not clipped stands at its place where it has one, and every
+/// at its section of a fragment, each of its bytes that is not clipped is at its place where it has one, and every
 /// other byte of memory is as it was when the machine waited in the field's opening. No turn up to the signal sets FDSR.
 /// After it RISCI is set, and the RISC status is 1 for the top field and 2 for the bottom field.
 pub fn live_pictures_are_shown()

@@ -210,7 +210,7 @@ module _ (chain : Chain) (is : IsChain chain) (sound : IsSoundChain chain) where
   read_once (Ok other) instr fault one two = cc
   read_once (Err other) instr fault one two = cc
 
-  -- ---- where an instruction of the family stands: at a slot, or behind the slots
+  -- ---- where an instruction of the family is: at a slot, or behind the slots
 
   abbrev pub Stands : ℕ → Type 0
   Stands address = ((slot : ℕ) × (slot < chain.slots) × (address ≡ slot_at chain slot)) ⊎ (slot_at chain chain.slots ≤ address)

@@ -10,7 +10,7 @@ use Rattle.machine_model.specs.Accesses.{AreFetchedAlike}
 use Rattle.machine_model.proofs.OneSpan.{fetch_there, is_word-there, stands_among}
 use Rattle.chain_model.specs.Chains.{Chain, Patching, chain_limit, jump_word, loop_words, part_at, patched, patched_words, slot_at, target, words_of_parts}
 
--- nothing is fetched where no word stands
+-- nothing is fetched where no word is
 without : (program : RiscProgram) (pc : ℕ) (word : Option ℕ) → word_at program pc ≡ word → is_there word ≡ false → fetch program pc ≡ Err Cut
 without program pc None e lacks =
     ap (λ (word : Option ℕ). first_instr (elim word as (λ _. List ℕ) [ None ↦ [] | Some word ↦ word ∷ words_from 4 program (pc + 4) ])) e
@@ -65,7 +65,7 @@ module _ (chain : Chain) where
     pub read_there : (n : ℕ) → fetch program (chain.base + 4 * n) ≡ instr_at (patched_words chain patching) n
     read_there n = fetch_there program (patched_words chain patching) n refl
 
-    -- a slot is a JUMP to where the patching says
+    -- a slot is a JUMP to where the patching has it
     pub slot_read : (slot : ℕ) → slot < chain.slots →
         fetch program (slot_at chain slot) ≡ Ok (Jump (control_bits jump_word) (target chain slot (part_at patching slot)), 2)
     slot_read slot lt =
@@ -73,7 +73,7 @@ module _ (chain : Chain) where
         let words = slot_drop 0 patching (words_of_parts chain.parts) slot (2 * slot) slot (omega arith) refl (omega arith) in
         ap (fetch program) here ∙ read_there (2 * slot) ∙ ap first_instr words.1
 
-    -- behind the slots stands the JUMP to the base
+    -- behind the slots is the JUMP to the base
     pub back_read : fetch program (slot_at chain chain.slots) ≡ Ok (Jump (control_bits jump_word) chain.base, 2)
     back_read =
         let here : slot_at chain chain.slots ≡ chain.base + 4 * (2 * chain.slots) = omega arith in

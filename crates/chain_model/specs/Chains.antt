@@ -28,14 +28,14 @@ part_at patching slot = slice_index_or patching slot None
 abbrev pub words_of_parts : List PartWords → List ℕ
 words_of_parts parts = flat_map (λ part. part.words) parts
 
--- a slot is a JUMP, of two words; behind the slots stands the JUMP to the base, and behind this the parts in their order
+-- a slot is a JUMP, of two words; behind the slots is the JUMP to the base, and behind this the parts in their order
 abbrev pub slot_at : Chain → ℕ → ℕ
 slot_at chain slot = chain.base + 8 * slot
 
 abbrev pub head : Chain → ℕ → ℕ
 head chain part = slot_at chain (chain.slots + 1) + 4 * length (words_of_parts (take part chain.parts))
 
--- what stands after a slot: the next one, or behind the last the JUMP to the base
+-- what is after a slot: the next one, or behind the last the JUMP to the base
 abbrev pub next : Chain → ℕ → ℕ
 next chain slot = slot_at chain (slot + 1)
 
@@ -55,7 +55,7 @@ abbrev pub loop_words : Chain → ℕ → Patching → List ℕ
 loop_words chain slot [] = jump_word ∷ chain.base ∷ []
 loop_words chain slot (part ∷ rest) = jump_word ∷ target chain slot part ∷ loop_words chain (suc slot) rest
 
--- the words in which each slot leads where a patching says, and the program that they are
+-- the words in which each slot leads where a patching has it, and the program that they are
 abbrev pub patched_words : Chain → Patching → List ℕ
 patched_words chain patching = loop_words chain 0 patching ++ words_of_parts chain.parts
 

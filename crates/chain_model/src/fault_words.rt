@@ -1,4 +1,4 @@
-//! What two descriptions lack for a chain in words, as `ChainFault` says it.
+//! What two descriptions lack for a chain: `ChainFault` in words.
 
 ghost use Rattle.std.specs.Prelude.{Some};
 ghost use Rattle.chain_model.specs.Words.{chain_words};

@@ -1,6 +1,6 @@
 //! Chains, apart from any code: a standing loop of slots that the host patches between any two steps, each slot to a part
 //! of its own or on to the next slot (this project's own form). The types of a part and of what two descriptions lack for a
-//! chain stand here; the definitions stand in `specs/`.
+//! chain are here; the definitions are in `specs/`.
 #![tactic(auto)]
 
 mod fault_words;
@@ -21,7 +21,7 @@ pub struct PartWords {
     pub words: Numbers,
 }
 
-/// Why two descriptions make no chain, in the order in which it is judged (this project's own rule).
+/// Why two descriptions make no chain, in the order in which it is checked (this project's own rule).
 #[derive(Clone, Copy, Debug, PartialEq, Eq)]
 pub enum ChainFault {
     /// The base of the first description is no multiple of 4.

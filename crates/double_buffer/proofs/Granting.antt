@@ -32,7 +32,7 @@ apart_beside others earlier (c ∷ rest) apart none =
     ∙ ap (λ (cs : List Chunk). first_shared cs rest) (append_assoc others earlier (c ∷ []))
     ∙ apart_beside others (earlier ++ c ∷ []) rest (All-tail (λ c. list_any (shares c) others ≡ false) c rest apart) parts.1
 
--- ---- tests of chunks that are told by their addresses and lengths
+-- ---- tests of chunks that are given by their addresses and lengths
 
 position-map : {A B : Type 0} (p : B → Bool) (f : A → B) (xs : List A) → position_or_len p (map f xs) ≡ position_or_len (λ x. p (f x)) xs
 position-map p f [] = refl
@@ -50,7 +50,7 @@ position-alike p q same (x ∷ xs) =
     ap (λ (b : Bool). cond (not b) (1 + position_or_len p xs) 0) (same x)
     ∙ ap (λ (n : ℕ). cond (not (q x)) (1 + n) 0) (position-alike p q same xs)
 
--- the first chunk that shares a byte with another, where both are told by their addresses and lengths
+-- the first chunk that shares a byte with another, where both are given by their addresses and lengths
 pub shared-listed : (one two : List (ℕ × ℕ)) →
     position (λ c. list_any (shares c) (listed one)) (listed two) ≡ position (λ pair. list_any (λ other. shares (pair_chunk pair) (pair_chunk other)) one) two
 shared-listed one two =

@@ -1,4 +1,4 @@
--- What there is where two descriptions have no fault, and what a chain that isn't made says of them.
+-- What there is where two descriptions have no fault, and what follows for them from a chain that isn't made.
 use Rattle.std.proofs.Common.{◌≡◌, ℕ, zero, suc, ◌+◌, ◌*◌, ◌%◌, ◌<◌, ◌≤◌, Bool, true, false, ◌||◌, List, [], ◌++◌, length, Option, Some, None, IsTrue, refl, sym, ap, ◌∙◌, subst, arith, if◌then◌else◌, ◌==◌}
 use Rattle.std.specs.Prelude.{nat_lt}
 use Rattle.std.proofs.lemmas.Bool.{eq-eqb, eqb-true, le-ltb, lt-ltb, or_from, or_right, or_left}
@@ -33,7 +33,7 @@ use Rattle.double_buffer.specs.Promises.{IsPair, ShowsDescription}
 use Rattle.double_buffer.proofs.Reasons.{fault_by, fault_is}
 use Rattle.double_buffer.proofs.Standing.{is_fragment}
 
--- ---- what a chain that isn't made says
+-- ---- what follows from a chain that isn't made
 
 module _ (first second : Desc) where
   abbrev whole : Chain

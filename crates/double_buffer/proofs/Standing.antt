@@ -1,4 +1,4 @@
--- Where the fragments of two descriptions stand in their chain.
+-- Where the fragments of two descriptions are in their chain.
 use Rattle.std.proofs.Common.{◌≡◌, ℕ, zero, suc, ◌+◌, ◌*◌, ◌<◌, [], ◌∷◌, length, length-append, refl, ap, arith}
 use Rattle.capture_desc.specs.declared.desc.Desc.{Desc}
 use Rattle.picture_model.specs.Described.{IsDescription}

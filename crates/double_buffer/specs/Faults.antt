@@ -40,7 +40,7 @@ memory_fault first second =
 abbrev pub chain_fault : Desc → Desc → Option ChainFault
 chain_fault first second = if first.base % 4 == 0 then memory_fault first second else Some Base
 
--- a refusal is the first fault; only want of memory is free
+-- a refusal is the first fault; it may be out of memory at any two descriptions
 abbrev pub Refuses : Option ChainFault → DoubleBufferError → Type 0
 Refuses found (Fault fault) = found ≡ Some fault
 Refuses found Memory = ⊤

@@ -8,7 +8,7 @@ use Rattle.double_buffer.specs.declared.faults.DoubleBufferError.{DoubleBufferEr
 use Rattle.double_buffer.specs.declared.faults.DoubleBufferError.TheVariants.{Fault, Memory}
 use Rattle.double_buffer.specs.Pairs.{chain_of_two}
 
--- the address at which one was to stand is beyond the end of every chain
+-- the address at which one was to be is beyond the end of every chain
 abbrev pub IsBeyond : ℕ → DoubleBufferError → Type 0
 IsBeyond at (Fault TooLong) = chain_limit < at
 IsBeyond at (Fault _) = ⊥

@@ -1,4 +1,4 @@
--- What is told where a chain isn't made.
+-- What is reported where a chain isn't made.
 use Rattle.std.specs.Prelude.{⊤}
 use Rattle.slot_chain.specs.declared.making.ChainError.{ChainError}
 use Rattle.slot_chain.specs.declared.making.ChainError.TheVariants as chain

@@ -13,15 +13,15 @@ use Rattle.slot_chain.specs.States.{ChainState, chain_of}
 abbrev pub slot_count : ℕ
 slot_count = 2
 
--- what stands after a slot of a chain with this base
+-- what is after a slot of a chain with this base
 abbrev pub after_slot : ℕ → ℕ → ℕ
 after_slot base slot = base + 8 * (slot + 1)
 
--- the fragment of a description for a slot, as it stands at an address
+-- the fragment of a description for a slot, as it is at an address
 abbrev pub fragment_of : ℕ → ℕ → ℕ → Desc → PartWords
 fragment_of base at slot d = record { slot = slot; words = sections_words d at (after_slot base slot) }
 
--- fragments for slots, which stand one after the other from an address on
+-- fragments for slots, which are one after the other from an address on
 abbrev pub fragments_from : ℕ → ℕ → List (ℕ × Desc) → List PartWords
 fragments_from base at [] = []
 fragments_from base at ((slot, d) ∷ rest) =
@@ -31,7 +31,7 @@ fragments_from base at ((slot, d) ∷ rest) =
 abbrev pub owners : Desc → Desc → List (ℕ × Desc)
 owners first second = (0, first) ∷ (0, second) ∷ (1, first) ∷ (1, second) ∷ []
 
--- the fragments stand behind the two slots and the JUMP to the base
+-- the fragments are behind the two slots and the JUMP to the base
 abbrev pub fragments_of_two : Desc → Desc → List PartWords
 fragments_of_two first second =
     fragments_from first.base (after_slot first.base slot_count) (owners first second)

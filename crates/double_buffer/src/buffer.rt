@@ -44,7 +44,7 @@ impl<R: Ram> Model for DoubleBuffer<R> {
     ghost invariant = { λ buffer. HasBuffers buffer.running.chain };
 }
 
-/// What is told of a chain that isn't made. The chain of two descriptions is sound, since fragments are.
+/// What is reported of a chain that isn't made. The chain of two descriptions is sound, since fragments are.
 fn told(error: ChainError) -> DoubleBufferError
     requires { IsOfFragments error }
     ensures { result ≡ told error }
@@ -99,9 +99,9 @@ fn made_over<L: Ledger>(
 }
 
 impl DoubleBuffer<PageRam> {
-    /// The chain of two descriptions before its first step: two slots, of which none shows a buffer. It stands at the base
+    /// The chain of two descriptions before its first step: two slots, of which none shows a buffer. It is at the base
     /// of the first description, whose fill is every byte of its memory, and may write the pages or chunks of both. Errors:
-    /// the first fault of the two in the order of `ChainFault`, or want of memory (this project's own rule).
+    /// the first fault of the two in the order of `ChainFault`, or out of memory (this project's own rule).
     pub fn new(
         alloc: Global,
         first: &Frame,

@@ -11,7 +11,7 @@ use std::alloc::{AllocError, AllocFailed};
 pub enum DoubleBufferError {
     /// The first fault of the two descriptions.
     Fault(ChainFault),
-    /// Want of memory.
+    /// Out of memory.
     Memory,
 }
 

@@ -1,4 +1,4 @@
-//! The fragments of two descriptions, as they stand in their chain.
+//! The fragments of two descriptions, as they are in their chain.
 
 ghost use Rattle.std.specs.Prelude.{◌≡◌, ◌+◌, ◌*◌, ◌%◌, ◌<◌, ◌≤◌, true, IfErr, IfOk, OnOk, length};
 ghost use Rattle.chain_model.specs.Chains.{chain_limit};
@@ -40,7 +40,7 @@ fn fragment_at(
     Ok(PartWords { slot, words })
 }
 
-/// The address behind a part that stands at an address.
+/// The address behind a part that is at an address.
 fn behind(at: u64, part: &PartWords) -> u64
     requires low { at ≤ chain_limit }
     requires few { length part.now.words < 500000 }

@@ -17,7 +17,7 @@ pub fn plays_are_live_runs()
 
 /// Whatever a double buffer plays, patches among it: at every place what a turn writes is granted, what it fetches is a
 /// word of the chain, and OCERR is 0. After the first signal of a field that arrives at the fragment of a description its
-/// picture is shown, RISCI is set and the RISC status tells the field; and no turn up to that signal sets FDSR.
+/// picture is shown, RISCI is set and the RISC status is that of the field; and no turn up to that signal sets FDSR.
 pub fn plays_keep_promises()
     ensures { PlaysKeepPromises }
 {}

@@ -38,7 +38,7 @@ module _ (chain : Chain) (slots : (1 ≤ chain.slots) × (chain.slots ≤ max_sl
         kept = λ part lt. ap (slice_index_or programs part) is ∙ are.each part lt;
       }
 
--- from what the code is told of its parts
+-- from what the code has of its parts
 module _ (base slots : ℕ) (parts judged : List PartWords) (grants : List Chunk) (running : RiscProgram) (programs : List RiscProgram) (patching : List (Option ℕ)) (same : judged ≡ parts)
     (some : (1 ≤ slots) × (slots ≤ max_slots)) (few : length parts ≤ max_parts) (belong : All (λ part. part.slot < slots) parts)
     (none : place_fault (chain_of base slots judged grants) ≡ None) (are : AreAlone (chain_of base slots judged grants) programs)

@@ -1,4 +1,4 @@
--- The place of a chain, judged.
+-- The place of a chain, checked.
 use Rattle.std.proofs.Common.{◌≡◌, ◌||◌, [], ◌∷◌, ℕ, ◌+◌, ◌*◌, ◌%◌, ◌<◌, ◌≤◌, Bool, true, false, List, length, Option, Some, None, Ok, Err, refl, sym, ap, ◌∙◌, subst, arith, if◌then◌else◌, ◌==◌, nat_lt, nat_le}
 use Rattle.std.specs.List.{list_any}
 use Rattle.std.proofs.lemmas.Bool.{eq-eqb, eqb-true, leb-false, leb-true, le-ltb, lt-ltb, ltb-false, or_from, or_parts, or_right, or_left}
@@ -99,7 +99,7 @@ module _ (chain : Chain) (aligned : chain.base % 4 ≡ 0) where
     pub well_placed : chain.base + 4 * count ≤ chain_limit → list_any (is_met chain.base (chain.base + 4 * count)) chain.grants ≡ false → None ≡ place_fault chain
     well_placed low met = sym (fault_is chain true false false no_rest (not_long low) (on_page_is ∙ met))
 
--- ---- what no fault says
+-- ---- what follows from no fault
 
 module _ (chain : Chain) (none : place_fault chain ≡ None) where
   parts_by : (aligned long page : Bool) → fault_by aligned long page ≡ None → (aligned ≡ true) × (long ≡ false) × (page ≡ false)

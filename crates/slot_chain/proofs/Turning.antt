@@ -110,7 +110,7 @@ module _ (base slots : ℕ) (parts : List PartWords) (patching : Patching) (m : 
     enters_at None e = wheel
     enters_at (Some address) e = enters_by (is_slot base slots address) address refl (sym e)
 
-    -- told of the slot and the patching that the code has
+    -- for the slot and the patching that the code has
     pub can_enter : (next slot : Option ℕ) (list : Patching) → next ≡ next_fetch m → slot ≡ slot_of base slots next → list ≡ patching → EntersAt chain slot list m programs current
     can_enter next slot list fetched is same =
         subst (λ (s : Option ℕ). EntersAt chain s list m programs current) (sym is)

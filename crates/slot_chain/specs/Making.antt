@@ -1,4 +1,4 @@
--- When a chain can be made, and what is told where it can't.
+-- When a chain can be made, and what is reported where it can't.
 use Rattle.std.specs.Prelude.{◌≡◌, ℕ, ⊤, ◌+◌, ◌*◌, ◌%◌, ◌<◌, ◌≤◌, ◌||◌, ◌==◌, Bool, false, List, length, Option, Some, None, if◌then◌else◌, nat_lt, slice_index_or}
 use Rattle.std.specs.List.{list_any}
 use Rattle.machine_model.specs.Paths.{IsFirstBad, IsSound, RiscProgram, max_words, shares_byte}
@@ -45,7 +45,7 @@ pub record AreAlone (chain : Chain) (programs : List RiscProgram) : Type 0 where
   pub each : (part : ℕ) → part < length chain.parts → slice_index_or programs part (alone chain None) ≡ alone chain (Some part)
   pub sound : AreSound chain (length chain.parts)
 
--- what is told of a part whose program isn't accepted
+-- what is reported of a part whose program isn't accepted
 abbrev pub refusal : ℕ → Why → ChainError
 refusal part (why.Bad address number cause) = Bad part address number cause
 refusal part why.Memory = Memory
@@ -61,8 +61,8 @@ RefusesPart chain (Bad part address number cause) = IsFirstUnsound chain part ad
 RefusesPart chain Memory = ⊤
 RefusesPart chain _ = ⊥
 
--- what a refusal says: the first fault of the chain's place, or the first part whose program isn't sound; only want of
--- memory is free
+-- what a refusal is: the first fault of the chain's place, or the first part whose program isn't sound; it may be out of
+-- memory at any chain
 abbrev pub Refuses : Chain → ChainError → Type 0
 Refuses chain (Bad part address number cause) =
     (place_fault chain ≡ None) × IsFirstUnsound chain part address number cause

@@ -33,7 +33,7 @@ pub record Entered (chain : Chain) (part : Option ℕ) (before m : State) (progr
   pub current_is : current ≡ part
   pub machine : m ≡ with_program (alone chain part) before
 
--- the slot at an address, if one stands there
+-- the slot at an address, if one is there
 abbrev pub slot_of : ℕ → ℕ → Option ℕ → Option ℕ
 slot_of base slots None = None
 slot_of base slots (Some address) =

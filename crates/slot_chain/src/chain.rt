@@ -53,7 +53,7 @@ impl<R: Ram + Drop> Chain<R> {
     ghost use Rattle.slot_chain.specs.Making.{Refuses, word_count};
     ghost use Rattle.slot_chain.specs.States.{chain_of, first_chain};
 
-    /// A chain of these slots and parts, which stands at the base and may write these grants. No slot leads to a part, and
+    /// A chain of these slots and parts, which is at the base and may write these grants. No slot leads to a part, and
     /// its machine is at the base. The verifier's steps are counted.
     pub fn new<L: Ledger>(
         alloc: Global,
@@ -163,7 +163,7 @@ impl<R: Ram> Chain<R> {
         }
     }
 
-    /// The same turns of a machine that may move, up to where it stands still. It stands out of line, so that a machine that
+    /// The same turns of a machine that may move, up to where it stands still. The function is out of line, so that a machine that
     /// stands still saves no registers.
     #[cold]
     #[inline(never)]

@@ -10,7 +10,7 @@ use planar_plan::Frame;
 use program_build::sections_words;
 use std::alloc::{AllocError, Global};
 
-/// The words of a frame's sections as they stand at the address `at`, of which the last leads back to the address `back`:
+/// The words of a frame's sections from the address `at` on, of which the last leads back to the address `back`:
 /// one section for each described field, the top one first (this project's own rule). How many words they have depends on
 /// the frame alone.
 pub fn fragment(alloc: Global, frame: &Frame, at: u32, back: u32) -> Result<Numbers, AllocError>
@@ -20,7 +20,7 @@ pub fn fragment(alloc: Global, frame: &Frame, at: u32, back: u32) -> Result<Numb
     ensures few { IfOk result (λ words. length words < 500000) }
     ensures description { OnOk result (IsDescription frame.now) }
 {
-    // the call tells what each frame keeps
+    // the call brings in what each frame keeps
     let _desc = frame.desc();
     let words = sections_words(alloc, frame, at, back)?;
     Ok(Numbers::from_vec(words))

@@ -18,7 +18,7 @@ use risc_verify::{Accepted, Program, Steps, Why, verify};
 use std::alloc::{AllocError, Global};
 use std::sync::ledger::Ledger;
 
-/// Why no chain is made, in the order in which it is judged (this project's own rule).
+/// Why no chain is made, in the order in which it is checked (this project's own rule).
 #[derive(Clone, Copy, Debug, PartialEq)]
 pub enum ChainError {
     /// The base is no multiple of 4.
@@ -35,7 +35,7 @@ pub enum ChainError {
         nth: u64,
         cause: Cause,
     },
-    /// Want of memory.
+    /// Out of memory.
     Memory,
 }
 
@@ -108,7 +108,7 @@ fn meets_chunks(base: u32, count: u32, grants: &PageSet) -> bool
     grants.meets(base, u64::from(base) + 4 * u64::from(count))
 }
 
-/// Judges where a chain stands.
+/// Checks where a chain is.
 fn judge_place(
     base: u32,
     slots: u32,
@@ -163,7 +163,7 @@ fn copy_of(alloc: Global, grants: &PageSet) -> Result<PageSet, AllocError>
     }
 }
 
-/// Judges the program of some words.
+/// Checks the program of some words.
 fn accept<L: Ledger>(
     alloc: Global,
     base: u32,
@@ -185,7 +185,7 @@ fn accept<L: Ledger>(
     }
 }
 
-/// Judges the program in which a slot leads to a target.
+/// Checks the program in which a slot leads to a target.
 fn accept_part<L: Ledger>(
     alloc: Global,
     base: u32,
@@ -207,7 +207,7 @@ fn accept_part<L: Ledger>(
     accept(alloc, base, own, grants, steps)
 }
 
-/// What is told of a part whose program isn't accepted.
+/// What is reported of a part whose program isn't accepted.
 fn refusal(part: u32, why: Why) -> ChainError
     ensures { result ≡ refusal part why }
 {
@@ -266,7 +266,7 @@ pub(crate) struct Programs {
     pub with_part: Vec<Accepted>,
 }
 
-/// Judges a chain: its place, and then the program of each part. The verifier's steps are counted.
+/// Checks a chain: its place, and then the program of each part. The verifier's steps are counted.
 pub(crate) fn judge_chain<L: Ledger>(
     alloc: Global,
     base: u32,
