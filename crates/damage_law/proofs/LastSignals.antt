@@ -41,7 +41,7 @@ next_stays here later taken k stays (inr next) =
     ap (later_or here) (stays (next.1 ∙ ap (λ (n : ℕ). Some n) same))
 
 module _ (test : State → Step → Bool) where
-  -- it stands among the steps
+  -- it is among the steps
   last_below : (m : State) (steps : List Step) (k : ℕ) → last_step test m steps ≡ Some k → k < length steps
   last_below m [] k e = absurd cc
   last_below m (s ∷ steps) k e =
@@ -56,7 +56,7 @@ module _ (test : State → Step → Bool) where
       let later : Option ℕ = last_step test (step s m) steps in
       next_stays (test m s) later (last_step test (step s m) (take (suc k) steps)) k (last_stays (step s m) steps k) (later_is (test m s) later (suc k) e)
 
--- ---- what is said of a signal depends on the steps up to it
+-- ---- the marks at a signal depend on the steps up to it
 
 take_none : (none : List Step) (n : ℕ) → none ≡ [] → take n none ≡ []
 take_none [] zero e = refl

@@ -247,7 +247,7 @@ module _ (d : Desc) (right : IsRight d) (field : Parity) (described : describes 
       let known = unless_clipped (byte_clipped d (plane_of q) number x) (place d (plane_of q) number x) address (sym (queue_row_goes d right q number x has (row_below d field row below) all) ∙ goes) in
       ((has, below, all, known.0), known.1)
 
-  -- ---- where an instruction stands
+  -- ---- where an instruction is
 
   module _ (begin_of : Kind → ℕ) (words_before : Kind → List Cut → ℕ) where
     abbrev pub IsPlace : Kind → ℕ → List Cut → Type 0

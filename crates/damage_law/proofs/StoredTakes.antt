@@ -38,7 +38,7 @@ taken_bytes-append (t ∷ rest) more =
     ap (λ (bytes : List ℕ). bytes_taken t.entry t.taken t.count ++ bytes) (taken_bytes-append rest more)
     ∙ sym (append_assoc (bytes_taken t.entry t.taken t.count) (taken_bytes rest) (taken_bytes more))
 
--- as many as are said to be taken, and no more than are asked for
+-- as many as the verdict takes, and no more than are asked for
 bytes_long : (entry : Entry) (sol : Bool) (taken rest count : ℕ) → verdict_on (kind_of entry.status) sol taken rest ≡ Take count →
     (length (bytes_taken entry taken count) ≡ count) × (count ≤ rest)
 bytes_long entry sol taken rest count is =

@@ -56,7 +56,7 @@ module _ (entry_at : ℕ → Entry) where
   from_part : (place x count other y : ℕ) → IsFrom place (x + count) other y → IsFrom place x other y
   from_part place x count other y from = (from.0, λ same. let later = from.1 same in omega arith)
 
-  -- what takings in order take stands from where they begin
+  -- what takings in order take is from where they begin on
   taken_from : (place x other y : ℕ) (ts : List Taking) → AreInOrder entry_at place x ts → IsTaken ts other y → IsFrom place x other y
   taken_from place x other y [] order taken = absurd taken
   taken_from place x other y (t ∷ rest) order (inl here) =

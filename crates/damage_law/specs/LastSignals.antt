@@ -1,4 +1,4 @@
--- What is said of a field is said at its last signal.
+-- The marks of a field's rows are those at its last signal.
 use Rattle.std.specs.Prelude.{◌≡◌, ℕ, ◌+◌, List, take, Some}
 use Rattle.pixel_layout.specs.declared.Parity.{Parity}
 use Rattle.machine_model.specs.States.{State}

@@ -64,7 +64,7 @@ pub record IsWholeLine (entry_at : ℕ → Entry) (ts : List Taking) : Type 0 wh
 abbrev pub IsFrom : ℕ → ℕ → ℕ → ℕ → Type 0
 IsFrom place x other y = (place ≤ other) × (other ≡ place → x ≤ y)
 
--- takings of a queue, whose entries stand at their places, in order: from a byte on, each takes some valid bytes of one
+-- takings of a queue, whose entries are at their places, in order: from a byte on, each takes some valid bytes of one
 -- entry, none of which was taken before
 
 abbrev pub AreInOrder : (ℕ → Entry) → ℕ → ℕ → List Taking → Type 0

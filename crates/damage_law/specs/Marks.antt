@@ -24,7 +24,7 @@ use Rattle.damage_law.specs.Lines.{make_line}
 
 -- the rows of a field
 
--- the addresses of instructions that stand one after the other
+-- the addresses of instructions one after the other
 abbrev pub addresses_from : ℕ → List Instr → List ℕ
 addresses_from at [] = []
 addresses_from at (instr ∷ rest) = at ∷ addresses_from (at + 4 * length (encoded instr)) rest
@@ -34,7 +34,7 @@ abbrev pub lines_from : ℕ → List (List Instr) → List (List ℕ)
 lines_from at [] = []
 lines_from at (line ∷ rest) = addresses_from at line ∷ lines_from (at + 4 * words_in line) rest
 
--- what stands in a section before its rows
+-- what is in a section before its rows
 abbrev pub before_rows : Desc → Parity → List Instr
 before_rows d field =
     opening field ∷ vbi_instrs d field

@@ -32,7 +32,7 @@ entering_over q m (s ∷ steps) = entering q m s ++ entering_over q (step s m) s
 abbrev pub stream : Queue → State → List Step → List Entry
 stream q m steps = (queue_state q m.queues).entries ++ entering_over q m steps
 
--- behind the last of them stands one of a reserved status, of which nothing is taken and which no line has
+-- behind the last of them is one of a reserved status, of which nothing is taken and which no line has
 abbrev pub no_entry : Entry
 no_entry = record { status = 3; dword = 0 }
 

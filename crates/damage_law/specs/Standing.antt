@@ -1,4 +1,4 @@
--- The bytes of whole rows stand in memory.
+-- The bytes of whole rows are in memory.
 use Rattle.std.specs.Prelude.{◌≡◌, ℕ, ◌+◌, ◌<◌, true, false, All, List, [], length, take, Some, slice_index, slice_index_or}
 use Rattle.fifo_model.specs.declared.Entry.{Entry}
 use Rattle.fifo_model.specs.declared.Queue.{Queue}
@@ -34,13 +34,13 @@ pub record IsSignalSince (d : Desc) (field : Parity) (fill : ℕ) (steps : List 
   pub signal : signals_at (section_of d field) (first_state (compiled d) fill) steps k ≡ true
   pub opened : last_step (is_opening d field) (first_state (compiled d) fill) (take k steps) ≡ Some j
 
--- byte x of the line that entries make stands at an address
+-- byte x of the line that entries make is at an address
 pub record StandsAt (entries : List Entry) (x address : ℕ) (m : State) : Type 0 where
   pub line : is_line entries ≡ true
   pub inside : x < length (carried entries)
   pub byte : byte_at m.memory address ≡ slice_index (carried entries) x
 
--- right after the signal each byte of a row that is whole and isn't clipped stands at its place, where it has one
+-- right after the signal each byte of a row that is whole and isn't clipped is at its place, where it has one
 abbrev pub WholeRowsStand : Type 0
 WholeRowsStand = (d : Desc) (field : Parity) (fill : ℕ) (steps : List Step) (j k : ℕ) → IsSignalSince d field fill steps j k → (q : Queue) (number x address : ℕ) →
     slice_index_or (marks d field (state_of d fill steps j) (between j k steps)) number false ≡ true → IsKeptAt d field (of_row q number x) address →

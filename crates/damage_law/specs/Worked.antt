@@ -21,7 +21,7 @@ use Rattle.picture_law.specs.Sections.{section_of}
 use Rattle.damage_law.specs.Marks.{answer, is_opening, last_step, marks}
 use Rattle.damage_law.specs.Standing.{IsSignalSince, row_entries}
 
--- what is said of the rows of the top field after steps from the first state
+-- the marks of the rows of the top field after steps from the first state
 abbrev pub marks_of : Desc → List Step → Option (List Bool)
 marks_of d steps = answer d Top (first_state (compiled d) d.fill) steps
 
@@ -74,7 +74,7 @@ interrupted =
     announced ++ pushed (eight 0x23222120 0x27262524) ++ announced
     ++ pushed (eight 0x33323130 0x37363534 ++ eight 0x43424140 0x47464544) ++ turns 24
 
--- one row of eight pixels; an entry of a reserved status stands within the line
+-- one row of eight pixels; an entry of a reserved status is within the line
 abbrev pub reserved : List Step
 reserved = announced ++ pushed (entry 2 0x13121110 ∷ entry 3 0 ∷ entry 1 0x17161514 ∷ []) ++ turns 10
 

@@ -45,16 +45,16 @@ pub fn entries_leave_at_the_front()
     ensures { (q : Queue) (m : State) → (queue_state q (turn m).queues).entries ≡ drop (left q m (turn m)) (queue_state q m.queues).entries }
 {}
 
-/// What is said of a field after all steps is what is said right after its last signal.
+/// The marks of a field's rows after all steps are those right after its last signal.
 pub fn answers_stay_after_the_last_signal()
     ensures { AnswersStay }
 {}
 
-/// Worked fields of small descriptions, and which of their rows are whole: a row whose line is too short isn't, nor is one
-/// whose line is too long; a field that is broken off says nothing of the next; no field was signalled; an entry of a
-/// reserved status within a line is one too many, and so is one that the host's emptying of the queues takes from it; a row
-/// whose chroma is a byte too short or too long isn't whole, also where its chroma isn't kept; a field that is opened again
-/// within a row is told from there on. The instructions of a whole row took the bytes of its line.
+/// Worked fields of small descriptions, and which of their rows are whole. A row whose line is too short isn't, nor is one
+/// whose line is too long. A field that is broken off has no effect on the next. No field was signalled. An entry of a
+/// reserved status within a line is one too many, and so is one that the host's emptying of the queues takes from it. A row
+/// whose chroma is a byte too short or too long isn't whole, also where its chroma isn't kept. The marks of a field that is
+/// opened again within a row begin there. The instructions of a whole row took the bytes of its line.
 pub fn worked_fields_are_marked()
     ensures too_short { marks_of clipped cut_short ≡ Some (false ∷ true ∷ []) }
     ensures too_long { marks_of two_rows too_long ≡ Some (false ∷ true ∷ []) }

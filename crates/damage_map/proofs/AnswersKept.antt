@@ -1,4 +1,4 @@
--- What a track keeps over a run is what the definition says of the fields at their last signals.
+-- What a track keeps over a run are the marks that the definition states of the fields at their last signals.
 use Rattle.std.proofs.Common.{◌≡◌, ℕ, ◌+◌, ◌*◌, ◌≤◌, ◌⊎◌, inl, inr, Bool, true, false, ◌&&◌, ◌==◌, All, List, [], ◌∷◌, ◌++◌, append_assoc, drop, length, map, Option, Some, None, Ok, Err, refl, sym}
 use Rattle.std.proofs.Common.{ap, ap₂, ◌∙◌, subst, arith, option_map, if◌then◌else◌, eqb-true, eq-eqb}
 use Rattle.std.specs.Prelude.{is_some, option_and_then}
@@ -157,7 +157,7 @@ written_calm (Enable true risc) m t g = refl
 written_calm (Enable false risc) m t Top = refl
 written_calm (Enable false risc) m t Bottom = refl
 
--- ---- how many lines stand before the rows
+-- ---- how many lines are before the rows
 
 through_before : (ends : Bool) (t : FieldTrack) → (through ends t).before ≡ t.before
 through_before true t = refl
@@ -465,7 +465,7 @@ module _ (d : Desc) (right : IsRight d) (skips : SkipsFew d) where
           bytes = subst (KeepsBytes d right i.field i.described after) (sym past_there) bytes;
         }
 
-    -- where memory stays, and the machine stands where it stood
+    -- where memory stays, and the machine is where it was
     bytes_still : (i : Inside m t opens_since) (after : State) → after.memory ≡ m.memory → after.job ≡ m.job → after.pc ≡ m.pc →
         past_next (past_of i.first i.done) (gone_of i.first i.done) m s ≡ past_of i.first i.done → KeepsBytes d right i.field i.described after (past_next (past_of i.first i.done) (gone_of i.first i.done) m s)
     bytes_still i after memory job pc same =
@@ -800,7 +800,7 @@ module _ (d : Desc) (right : IsRight d) (skips : SkipsFew d) where
         place = inl (record { field = first.0; described = first.1; idle = refl; there = sym first.2 });
       }
 
--- ---- nothing is told exactly before the first signal
+-- ---- no marks exactly before the first signal
 
 pub pc_at : (on : Bool) (job : Job) (pc c : ℕ) → (on && is_idle job && pc == c) ≡ true → (on ≡ true) × (job ≡ Idle) × (pc ≡ c)
 pc_at true Idle pc c is = (refl, refl, eqb-true pc c is)
@@ -882,7 +882,7 @@ before_is : (d : Desc) (field : Parity) → before_of field (before_rows d) ≡ 
 before_is d Top = refl
 before_is d Bottom = refl
 
--- so many lines as stand before its rows are dropped of a field's
+-- so many lines as are before its rows are dropped of a field's
 pub rows_behind : (d : Desc) (field : Parity) (fill : ℕ) (steps : List Step) →
     rows_of field (map_after d fill steps) ≡ option_map (drop (lines_before d field)) (lines_at_signal field (tracked (first_state (compiled d) fill) steps (untold d)))
 rows_behind d field fill steps =

@@ -153,7 +153,7 @@ module _ (d : Desc) (right : IsRight d) (skips : SkipsFew d) where
         ap (λ (x : Seen). turned m.program x.did x t) seen_is ∙ ap (λ (r : Reading). signalled (signals r) t) read in
         ap (lines_at_signal field) track_is ∙ told_here field t
 
--- ---- how many rows are told of
+-- ---- how many rows have marks
 
 answer_long : (d : Desc) (field : Parity) (m : State) (steps : List Step) (rows : List Bool) → answer d field m steps ≡ Some rows → length rows ≡ field_height d field
 answer_long d field m steps rows is = by_last (last_step (is_signal (section_of d field)) m steps) is

@@ -23,7 +23,7 @@ use Rattle.damage_map.proofs.AnswersKept.{same_read}
 use Rattle.damage_map.proofs.Sections.{AreParts, GoesIn, LineGoes, Part, Await, Cut, instrs_of, is_none}
 use Rattle.damage_map.proofs.Visits.{fresh_on}
 
--- ---- one list of instructions stands from an address on up to a JUMP
+-- ---- one list of instructions is there from an address on up to a JUMP
 
 pub plain_jump : (i : Instr) (ctl : Ctl) (to : ℕ) → IsPlain i → i ≡ Jump ctl to → ⊥
 plain_jump i ctl to plain is = subst IsPlain is plain

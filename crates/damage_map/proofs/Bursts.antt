@@ -85,7 +85,7 @@ one_less : (entries : List Entry) (entry : Entry) → first entries ≡ Some ent
 one_less [] entry there = cc
 one_less (e ∷ rest) entry there = refl
 
--- ---- what a verdict to take says
+-- ---- what follows from a verdict to take
 
 lanes_moving : (kind : StatusKind) (x rest count : ℕ) → Takes kind x rest count → has_lanes kind ≡ true
 lanes_moving Start x rest count h = refl

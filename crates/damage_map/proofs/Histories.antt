@@ -1,4 +1,4 @@
--- What is said of a field after a run, kept step by step: the steps since its opening, and the answer at its last signal.
+-- The marks of a field after a run, kept step by step: the steps since its opening, and the answer at its last signal.
 use Rattle.std.proofs.Common.{◌≡◌, ℕ, suc, ◌-◌, Bool, true, false, List, [], ◌∷◌, ◌++◌, append_assoc, take, drop, Option, Some, None, refl, sym, ap, ◌∙◌, arith, option_map}
 use Rattle.std.specs.Prelude.{option_and_then}
 use Rattle.std.proofs.lemmas.List.{append-nil}

@@ -1,4 +1,4 @@
--- What a queue's mark tells of the line under way, and how applications to the queue's front keep it true.
+-- What a queue's mark means for the line under way, and how applications to the queue's front keep it true.
 use Rattle.std.proofs.Common.{◌≡◌, ℕ, zero, suc, ◌+◌, ◌<◌, ◌≤◌, Bool, true, false, ◌&&◌, ◌||◌, ◌==◌, List, [], ◌∷◌, ◌++◌, append_assoc, Option, Some, None, if◌then◌else◌, refl, sym, ap, ap₂, ◌∙◌, subst, arith}
 use Rattle.std.proofs.Math.Bool.{and-false, and-true}
 use Rattle.std.proofs.lemmas.Bool.{and_left, and_right, cond-true, cond-false, eq-eqb, ne_eqb}
@@ -37,7 +37,7 @@ goes_on place held more = go_on place held.taken more && shape_from held.taken (
 abbrev pub AllFrom : ℕ → List Taking → Type 0
 AllFrom place more = Each (λ t. place ≤ t.place) more
 
--- what a mark says of the takings of a line, where so many entries left the queue
+-- what a mark means for the takings of a line, where so many entries left the queue
 abbrev pub Tells : ℕ → QueueState → List Taking → LineMark → Type 0
 Tells place held ts Fresh = ts ≡ []
 Tells place held ts Within = (more : List Taking) → make_line (ts ++ more) ≡ goes_on place held more
@@ -206,7 +206,7 @@ module _ (at place : ℕ) (held : QueueState) (entry : Entry) (count : ℕ) (the
   after_from true more all = from_later place (place + 1) more (omega arith) all
   after_from false more all = all
 
-  -- what is taken of a front is told by the mark that follows
+  -- the mark that follows is true of what is taken of a front
   pub taken-tells : (whole : Bool) (ts : List Taking) (mark : LineMark) → (held.taken + count == valid_bytes entry.status) ≡ whole → has_lanes (kind_of entry.status) ≡ true →
       (mark ≡ Fresh → (held.taken ≡ 0) × (kind_of entry.status ≡ Start)) → ((mark ≡ Fresh → ⊥) → held.taken ≡ 0 → kind_of entry.status ≡ Start → ⊥) → Tells place held ts mark →
       Tells (place_after whole) (held_after whole) (ts ++ taking ∷ []) (taken_mark (is_end (kind_of entry.status) && whole) mark)

@@ -1,4 +1,4 @@
--- Where the lines of a field stand in its section.
+-- Where the lines of a field are in its section.
 use Rattle.std.proofs.Common.{◌≡◌, ℕ, zero, suc, ◌+◌, ◌*◌, ◌<◌, ◌⊎◌, inl, inr, List, [], ◌∷◌, ◌++◌, append_assoc, length, map, replicate, true, false, Ok, Err, refl, sym, ap, ap₂, ◌∙◌, subst, arith}
 use Rattle.std.specs.List.{flat_map, range_with_len}
 use Rattle.std.proofs.lemmas.Grind.{flat_map-append}
@@ -74,7 +74,7 @@ module _ (d : Desc) (right : IsRight d) (field : Parity) (described : describes 
   abbrev pub rows_begin : ℕ
   rows_begin = section_begin d d.base field + 4 * words_in (before_rows d field)
 
-  -- the VBI lines stand behind those that are skipped
+  -- the VBI lines are behind those that are skipped
   abbrev pub skipped_vbi_instrs : List Instr
   skipped_vbi_instrs = lines_instrs d (replicate (vbi_skip d field) (skipped_vbi_strip d))
 
@@ -244,7 +244,7 @@ module _ (d : Desc) (right : IsRight d) (field : Parity) (described : describes 
       map-map (λ row. line_instrs d (row_strip d row)) (picture_row (both d) field) (range_with_len 0 (field_height d field))
       ∙ sym (map-map (line_of d right field described) OfRow (range_with_len 0 (field_height d field)))
 
-  -- what stands behind the opening
+  -- what is behind the opening
   body_split : body d field ≡ (vbi_instrs d field ++ code_sync ∷ lines_instrs d (replicate d.skip_lines (skipped_strip d))) ++ lines_of d right field described row_kinds
   body_split =
       ap (λ (is : List Instr). vbi_instrs d field ++ code_sync ∷ is) (flat_map-append (line_instrs d) (replicate d.skip_lines (skipped_strip d)) (map (row_strip d) (rows_of d field)))

@@ -1,4 +1,4 @@
--- The bytes that the instructions of a row took stand at the row's places.
+-- The bytes that the instructions of a row took are at the row's places.
 use Rattle.std.proofs.Common.{◌≡◌, ℕ, ◌+◌, ◌-◌, ◌*◌, ◌<◌, ◌≤◌, ◌⊎◌, inl, inr, Bool, true, false, ◌||◌, ◌==◌, List, [], ◌∷◌, ◌++◌, append_assoc, length, length-append, map, Option, Some, None}
 use Rattle.std.proofs.Common.{option_map, refl, sym, ap, ap₂, ◌∙◌, subst, arith, eqb-true}
 use Rattle.std.specs.Prelude.{slice_index}
@@ -86,7 +86,7 @@ module _ (d : Desc) (right : IsRight d) (field : Parity) (described : describes 
   abbrev instrs_of_cuts : List Cut → List Instr
   instrs_of_cuts cuts = map (instr_of (strip_of d right field described kind).planar) (map (piece_of (memory_of d) (strip_of d right field described kind)) cuts)
 
-  -- each stands in the section
+  -- each is in the section
   abbrev pub AllIn : ℕ → List Cut → Type 0
   AllIn a [] = Unit {0}
   AllIn a (c ∷ cuts) = IsIn d right field described a (instr_on d right field described kind c) × AllIn (a + 4 * length (encoded (instr_on d right field described kind c))) cuts
@@ -159,7 +159,7 @@ module _ (d : Desc) (right : IsRight d) (field : Parity) (described : describes 
             (sym (address_behind (line_part_of (memory_of d) t c) (line_parts_of (memory_of d) t cuts) z high) ∙ goes))
       ]
 
-  -- a line's instructions stand in it
+  -- a line's instructions are in it
   pub all_in : (x : ℕ) (tail : List Instr) (ctl : Ctl) (to : ℕ) → IsOne d right field described kind → IsBegin d right field described kind x → HoldsFrom (compiled d) x (line_of d right field described kind ++ tail) ctl to →
       (done : List ℕ) (cuts : List Cut) (a : ℕ) → addresses_from x (line_of d right field described kind) ≡ done ++ addresses_from a (instrs_of_cuts cuts) → HoldsFrom (compiled d) a (instrs_of_cuts cuts ++ tail) ctl to → AllIn a cuts
   all_in x tail ctl to within begins holds done [] a is here = tt

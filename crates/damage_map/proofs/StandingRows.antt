@@ -1,4 +1,4 @@
--- The bytes of whole rows stand in memory right after a signal of their field.
+-- The bytes of whole rows are in memory right after a signal of their field.
 use Rattle.std.proofs.Common.{◌≡◌, ℕ, zero, suc, ◌+◌, ◌-◌, ◌*◌, ◌<◌, inl, inr, Bool, true, false, ◌&&◌, if◌then◌else◌, nat_le, All, List, [], ◌∷◌, ◌++◌, append_assoc, drop, length, length-take}
 use Rattle.std.proofs.Common.{map, take, take-take, Option, Some, None, Ok, option_map, refl, sym, ap, ap₂, ◌∙◌, subst, arith, slice_index_or}
 use Rattle.std.specs.Prelude.{slice_index}

@@ -42,7 +42,7 @@ pub record Through (past : Past) (lines_whole : List Bool) (lines : List (List �
   pub taken : (q : Queue) → TakenBelow limit (past.takes q)
   pub retired : AreBelow here past.retired
 
--- the line under way: an instruction of it was lost, or the marks tell of its queues
+-- the line under way: an instruction of it was lost, or the marks are true of its queues
 abbrev pub IsTold : Bool → Past → (Queue → ℕ) → Queues → LineMarks → List ℕ → List ℕ → Type 0
 IsTold true past gone queues marks done line = list_all (is_among past.retired) done ≡ false
 IsTold false past gone queues marks done line =

@@ -1,4 +1,4 @@
--- The lines of a field that stand before its rows.
+-- The lines of a field before its rows.
 use Rattle.std.specs.Prelude.{ℕ, zero, suc, ◌+◌}
 use Rattle.pixel_layout.specs.declared.Parity.{Parity}
 use Rattle.pixel_layout.specs.declared.Parity.TheVariants.{Top, Bottom}

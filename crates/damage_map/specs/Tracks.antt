@@ -23,7 +23,7 @@ use Rattle.damage_map.specs.declared.mark.LineMark.TheVariants.{Fresh, Within, D
 use Rattle.damage_map.specs.declared.mark.LineMarks.{LineMarks}
 
 -- the line under way on each queue, whether an instruction of it was passed over or given up, the lines of the field
--- before it, each whole or not, the lines of each field at its last signal, and how many of them stand before the rows
+-- before it, each whole or not, the lines of each field at its last signal, and how many of them are before the rows
 pub record FieldTrack : Type 0 where
   pub marks : LineMarks
   pub lost : Bool
@@ -57,7 +57,7 @@ abbrev pub left_mark : LineMark → LineMark
 left_mark Within = Spoilt
 left_mark mark = mark
 
--- where both happen in one turn, the entry stood within the line
+-- where both happen in one turn, the entry was within the line
 abbrev pub met_mark : Bool → Bool → Bool → LineMark → LineMark
 met_mark true true ended mark = Spoilt
 met_mark true false ended mark = taken_mark ended mark
@@ -113,7 +113,7 @@ signalled (Some Top) t = record t { top = Some t.lines; lines = [] }
 signalled (Some Bottom) t = record t { bottom = Some t.lines; lines = [] }
 signalled None t = t
 
--- what the instruction at an address tells
+-- what the instruction at an address means for a field
 abbrev pub opens : Reading → Bool
 opens (Ok (Sync ctl resync code, count)) = resync
 opens _ = false

@@ -1,4 +1,4 @@
-//! How many lines of a field stand before its rows.
+//! How many lines of a field are before its rows.
 ghost use Rattle.std.specs.Prelude.{◌≡◌};
 ghost use Rattle.capture_desc.specs.WellFormed.{IsWellFormed};
 ghost use Rattle.damage_map.specs.Before.{before_rows, lines_before};
@@ -7,7 +7,7 @@ use capture_desc::Desc;
 use picture_model::vbi_skip;
 use pixel_layout::Parity;
 
-/// How many lines stand before the rows of each field: its VBI lines with those that are skipped before them, and the
+/// How many lines are before the rows of each field: its VBI lines with those that are skipped before them, and the
 /// skipped lines.
 #[derive(Clone, Copy)]
 pub struct LinesBefore {

@@ -9,8 +9,8 @@ ghost use Rattle.damage_map.specs.Laws.{KeepsAnswers, TellsSignals};
 ghost use Rattle.damage_map.specs.Worked.{kept_of};
 
 /// Over every list of steps from the first state of a valid description's program, whatever was pushed and however decoder,
-/// DMA controller and host interleave: what is kept of a described field tells of its rows what the definition says at the
-/// field's last signal, and nothing exactly before its first.
+/// DMA controller and host interleave: what is kept of a described field's rows is what the definition states at the
+/// field's last signal, and nothing is kept exactly before its first.
 pub fn tracks_tell_whole_rows()
     ensures rows { KeepsAnswers }
     ensures none { TellsSignals }
@@ -22,12 +22,12 @@ pub fn arrived_rows_are_whole()
 {}
 
 /// Over every list of steps from the first state, right after a signal of a field: each byte of a row that is whole and isn't
-/// clipped stands at its place, where it has one, and is that byte of the line that the row's instructions took from the plane's queue.
+/// clipped is at its place, where it has one, and is that byte of the line that the row's instructions took from the plane's queue.
 pub fn whole_rows_stand()
     ensures { WholeRowsStand }
 {}
 
-/// Over the worked fields of damage_law a track keeps what the definition says of their rows (its law
+/// Over the worked fields of damage_law a track keeps the marks of their rows by the definition (its law
 /// `worked_fields_are_marked`).
 pub fn worked_fields_are_tracked()
     ensures too_short { kept_of clipped cut_short ≡ Some (false ∷ true ∷ []) }

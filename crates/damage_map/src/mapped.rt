@@ -1,4 +1,4 @@
-//! A machine that tells which rows of its fields are whole lines.
+//! A machine that marks which rows of its fields are whole lines.
 
 ghost use Rattle.std.specs.Prelude.{◌≡◌, ◌∷◌, [], IfOk, false, option_map, replicate};
 ghost use Rattle.damage_map.specs.Maps.{rows_of};

@@ -1,4 +1,4 @@
-//! What the instruction at an address tells.
+//! What the instruction at an address means for a field.
 ghost use Rattle.std.specs.Prelude.{◌≡◌, ℕ, Ok};
 ghost use Rattle.machine_model.specs.Paths.{fetch};
 ghost use Rattle.damage_map.specs.Tracks.{ends_line, field_of, opens, signals};
@@ -17,7 +17,7 @@ fn resyncs(instr: &Instr) -> bool
     }
 }
 
-/// Whether a SYNC with RESYNC stands there, which opens a field.
+/// Whether a SYNC with RESYNC is there, which opens a field.
 pub(crate) fn opens(program: &Program, at: u32) -> bool
     ensures { result ≡ opens (fetch program.now at) }
 {

@@ -88,7 +88,7 @@ impl LineMarks {
 
 /// What is kept of a field under way, and of both fields at their last signals (this project's own rules). Contracts see
 /// a record of the line under way on each queue, whether an instruction of that line was lost, which lines of the field
-/// before it are whole, which lines of each field were so at its last signal, and how many of them stand before the rows.
+/// before it are whole, which lines of each field were so at its last signal, and how many of them are before the rows.
 #[derive(Drop)]
 pub struct Track {
     marks: LineMarks,

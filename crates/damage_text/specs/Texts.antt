@@ -1,4 +1,4 @@
--- What is said of the rows of a capture: of each described field how many of its rows are whole lines, and which
+-- What is printed of the rows of a capture: of each described field how many of its rows are whole lines, and which
 -- picture rows are not. Numbers are decimal, and rows are counted from 0.
 use Rattle.std.specs.Prelude.{ℕ, Bool, true, false, List, [], ◌∷◌, ◌++◌, Option, Some, None, codes, count_by, length}
 use Rattle.std.specs.List.{flat_map}
@@ -12,7 +12,7 @@ abbrev pub field_name : Parity → List ℕ
 field_name Top = codes "top"
 field_name Bottom = codes "bottom"
 
--- the rows whose mark says that they are not whole; the shorter list ends them
+-- the rows whose mark is that they are not whole; the shorter list ends them
 abbrev pub bad_rows : List ℕ → List Bool → List ℕ
 bad_rows (row ∷ rows) (true ∷ marks) = bad_rows rows marks
 bad_rows (row ∷ rows) (false ∷ marks) = row ∷ bad_rows rows marks

@@ -1,4 +1,4 @@
-//! What the command `damage` says: which rows of a capture's fields are whole lines. The form of the text is this
+//! What the command `damage` prints: which rows of a capture's fields are whole lines. The form of the text is this
 //! project's own rule.
 #![tactic(auto)]
 
@@ -48,7 +48,7 @@ fn count_whole(marks: &[bool]) -> usize
     marks.iter().filter(|is_whole| **is_whole).count()
 }
 
-// Appends the line that tells how many rows of a field are whole.
+// Appends the line with how many rows of a field are whole.
 fn push_counts(text: &mut String, field: Parity, marks: &[bool]) -> Result<(), AllocError>
     ensures { IfOk result (λ _. string_bytes text.new ≡ string_bytes text.old ++ (field_name field ++ (codes " " ++ (whole_text marks.now ++ codes "\n")))) }
 {
@@ -58,7 +58,7 @@ fn push_counts(text: &mut String, field: Parity, marks: &[bool]) -> Result<(), A
     writeln!(text, "{name} {whole} of {rows}")
 }
 
-// Appends what is said of a field that had a signal.
+// Appends what is printed of a field that had a signal.
 fn push_marks(
     text: &mut String,
     desc: &Desc,
@@ -72,7 +72,7 @@ fn push_marks(
     push_bad_rows(text, desc, field, &marks[..shown])
 }
 
-// Appends what is said of a field.
+// Appends what is printed of a field.
 fn push_field(
     text: &mut String,
     desc: &Desc,
@@ -90,11 +90,11 @@ fn push_field(
     }
 }
 
-/// What `damage` says of a capture (this project's own rule), from the marks of the rows of its fields, which tell
-/// whether a row is a whole line: None for a field that had no signal. Of each described field, top first, it has a
+/// What `damage` prints of a capture (this project's own rule), from the marks of the rows of its fields, each whether
+/// a row is a whole line: None for a field that had no signal. Of each described field, top first, it has a
 /// line `top none` without a signal, else a line `top M of N`, where M of N marked rows are whole, and a line `bad R`
 /// for each other picture row R, counted from 0, in rising order. The bottom field has lines `bottom` in the same
-/// way. Of two fields the top one has the picture rows of even number. The error is want of memory.
+/// way. Of two fields the top one has the picture rows of even number. The error is out of memory.
 pub fn damage_text(
     alloc: Global,
     desc: &Desc,

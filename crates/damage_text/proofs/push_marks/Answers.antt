@@ -7,7 +7,7 @@ use Rattle.damage_text.specs.Texts.{bad_line, bad_rows, field_name, whole_text}
 use Rattle.damage_text.proofs.MarkByMark.{marks_of_rows}
 use Rattle.damage_text.proofs.push_marks.Goals as goal
 
--- the line of the counts stands before the lines of the rows
+-- the line of the counts is before the lines of the rows
 one_text : (before name counts lines : List ℕ) →
     (before ++ (name ++ (codes " " ++ (counts ++ codes "\n")))) ++ lines
     ≡ before ++ (name ++ (codes " " ++ (counts ++ (codes "\n" ++ lines))))
