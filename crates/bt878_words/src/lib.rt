@@ -55,7 +55,7 @@ pub enum Command {
 /// What the program is asked to do, with the names of files and the numbers.
 #[derive(Clone, Copy, Debug)]
 pub enum Task<'a> {
-    /// Says the listing of a program.
+    /// Prints the listing of a program.
     List {
         program: &'a str,
     },
@@ -95,7 +95,7 @@ pub enum Task<'a> {
         stream: &'a str,
         image: &'a str,
     },
-    /// Tells which rows of a description came whole in a stream.
+    /// Prints which rows of a description came whole in a stream.
     Damage {
         desc: &'a str,
         stream: &'a str,

@@ -1,4 +1,4 @@
--- What is said: the text of each answer, and the report. Numbers and places are decimal; bytes have two hexadecimal
+-- What is printed: the text of each answer, and the report. Numbers and places are decimal; bytes have two hexadecimal
 -- digits, nibbles one and addresses eight, or nine for 2^32.
 use Rattle.std.specs.Prelude.{ℕ, false, List, [], ◌∷◌, ◌++◌, codes, slice_index}
 use Rattle.std.specs.List.{flat_map}
@@ -81,7 +81,7 @@ cause_words NoTarget = codes "no target"
 cause_words Wrap = codes "wrap"
 cause_words (Ungranted address) = codes "ungranted " ++ address_text address
 
--- a fault of a file of keys, which is named first; a key is said as it stands in the file
+-- a fault of a file of keys, which is named first; a key is printed as it is in the file
 abbrev pub key_text : List ℕ → List ℕ → List ℕ → List ℕ
 key_text file fault key = file ++ (codes ": " ++ (fault ++ (codes " key " ++ (key ++ line_end))))
 
@@ -118,7 +118,7 @@ ring_text (ring.TooFewPages need have) = ring_place_text (geometry.TooFewPages n
 ring_text ring.ProgramBase = ring_place_text geometry.ProgramBase
 ring_text ring.ProgramOnPage = ring_place_text geometry.ProgramOnPage
 
--- what an answer says; Done has its command's text, and at WriteFault nothing more is said
+-- what an answer prints; Done has its command's text, and at WriteFault nothing more is printed
 abbrev pub answer_text : Answer → List ℕ
 answer_text Done = []
 answer_text (Usage fault) = codes "usage: " ++ (usage_words fault ++ line_end)
@@ -137,7 +137,7 @@ answer_text (Rejected at nth cause) =
 answer_text (Differs text) = text
 answer_text NoMemory = codes "no memory\n"
 
--- the bytes of a text that stands ready, or of one that was made
+-- the bytes of a text that is ready, or of one that was made
 abbrev pub refusal_bytes : RefusalText → List ℕ
 refusal_bytes (Ready text) = text.now
 refusal_bytes (Made text) = text.items
@@ -153,15 +153,15 @@ report_text r =
     codes "turns " ++ (decimal r.turns ++ (codes "\nmoved " ++ (decimal r.moved
     ++ (codes "\noverruns " ++ (lost_words r.overruns ++ (codes "\nstatus " ++ (hex 8 r.int_stat ++ line_end)))))))
 
--- what `ring` says: the number of block ends, and then the report
+-- what `ring` prints: the number of block ends, and then the report
 abbrev pub blocks_text : ℕ → Report → List ℕ
 blocks_text blocks r = codes "blocks " ++ (decimal blocks ++ (line_end ++ report_text r))
 
--- what `verify` says of a sound program
+-- what `verify` prints of a sound program
 abbrev pub accepted_text : List ℕ
 accepted_text = codes "accepted\n"
 
--- what `compile` and `assemble` say: the words of the program and its chunks, and what `make` says
+-- what `compile` and `assemble` print: the words of the program and its chunks, and what `make` prints
 abbrev pub built_text : ℕ → ℕ → List ℕ
 built_text words pages = codes "words " ++ (decimal words ++ (codes " pages " ++ (decimal pages ++ line_end)))
 

@@ -16,13 +16,13 @@ use risc_asm::AsmFault;
 /// What a call of the program comes to (the statuses and texts are this project's own rules).
 #[derive(Debug, Drop)]
 pub enum Answer {
-    /// The outputs are written and the text is said.
+    /// The outputs are written and the text is printed.
     Done,
     /// The words are at fault.
     Usage(UsageFault),
     /// The desk could not read an input, or tells that there is none of that name.
     ReadFault,
-    /// The desk could not write an output or say the text of Done.
+    /// The desk could not write an output or print the text of Done.
     WriteFault,
     /// A file is at fault.
     Malformed(Input, FileFault),
@@ -41,7 +41,7 @@ pub enum Answer {
     Rejected { at: u64, nth: u64, cause: Cause },
     /// A program doesn't show each field of a description: a line for each described field.
     Differs(CheckText),
-    /// Want of memory.
+    /// Out of memory.
     NoMemory,
 }
 

@@ -1,9 +1,9 @@
-//! What is said of the fields of a description.
+//! What is printed of the fields of a description.
 ghost use Rattle.std.specs.Prelude.{◌≡◌, string_bytes};
 
 use std::marker::Model;
 
-/// What `check` says of a program and a description: a line for each field that is described, top first. Contracts see its
+/// What `check` prints of a program and a description: a line for each field that is described, top first. Contracts see its
 /// bytes.
 #[derive(Debug, Drop)]
 pub struct CheckText {

@@ -1,4 +1,4 @@
-//! What a call of the program comes to, why a command is refused, and all texts that are said.
+//! What a call of the program comes to, why a command is refused, and all texts that are printed.
 #![tactic(auto)]
 
 mod answer;

@@ -37,7 +37,7 @@ pub enum Refusal {
     Rejected { at: u64, nth: u64, cause: Cause },
     /// A program doesn't show each field of a description: a line for each described field.
     Differs(CheckText),
-    /// Want of memory.
+    /// Out of memory.
     NoMemory,
 }
 

@@ -1,4 +1,4 @@
-//! The texts that are said.
+//! The texts that are printed.
 
 ghost use Rattle.std.specs.Prelude.{◌≡◌, IfOk, Some, codes, string_bytes};
 ghost use Rattle.command_texts.specs.Answers.{answer_of};
@@ -18,13 +18,13 @@ use risc_asm::AsmFault;
 use std::alloc::{AllocError, Global};
 use std::fmt;
 
-/// What is said where an input could not be read.
+/// What is reported where an input could not be read.
 const READ_FAULT: &str = "read fault\n";
 
-/// What is said for want of memory.
+/// What is reported out of memory.
 pub const NO_MEMORY: &str = "no memory\n";
 
-/// What `verify` says of a sound program.
+/// What `verify` prints of a sound program.
 pub const ACCEPTED: &str = "accepted\n";
 
 /// What `--help` prints.
@@ -151,7 +151,7 @@ fn not_toml_text(alloc: Global, file: &str) -> Result<Vec<u8>, AllocError>
     Ok(text.into_bytes())
 }
 
-/// The text of a key that no such file has. The key is said as it stands in the file.
+/// The text of a key that no such file has. The key is printed as it is in the file.
 fn unknown_text(alloc: Global, file: &str, key: &[u8]) -> Result<Vec<u8>, AllocError>
     ensures { IfOk result (λ text. text.items ≡ key_text file.now (codes "unknown") key.now) }
 {
@@ -184,7 +184,7 @@ fn desc_text(alloc: Global, fault: &DescFault) -> Result<Vec<u8>, AllocError>
     }
 }
 
-/// The text of a fault of a ring's place in memory, which is said as one of a geometry.
+/// The text of a fault of a ring's place in memory, which is reported as one of a geometry.
 fn ring_place_text(alloc: Global, fault: BuildFault) -> Result<Vec<u8>, AllocError>
     ensures { IfOk result (λ text. text.items ≡ ring_place_text fault) }
 {
@@ -231,7 +231,7 @@ fn chain_text(alloc: Global, fault: ChainFault) -> Result<Vec<u8>, AllocError>
     Ok(text.into_bytes())
 }
 
-/// What is said of a text that is no listing of a program.
+/// What is reported of a text that is no listing of a program.
 fn listing_text(alloc: Global, fault: AsmFault) -> Result<Vec<u8>, AllocError>
     ensures { IfOk result (λ text. text.items ≡ answer_text (Answer.BadText fault)) }
 {
@@ -253,7 +253,7 @@ fn malformed_text(alloc: Global, input: Input, fault: FileFault) -> Result<Vec<u
 /// The text of a refusal.
 #[derive(Drop)]
 pub enum RefusalText<'a> {
-    /// It stands ready, so that it can be said where no memory is left.
+    /// It is ready, so that it can be printed where no memory is left.
     Ready(&'a str),
     /// It was made.
     Made(Vec<u8>),
@@ -271,8 +271,8 @@ impl RefusalText<'_> {
     }
 }
 
-/// The text of a refusal: that of the answer that it becomes. The error is want of memory; the texts of `ReadFault` and of
-/// `NoMemory` take none, and that of `Differs` was made before.
+/// The text of a refusal: that of the answer that it becomes. The error is out of memory; the texts of `ReadFault` and of
+/// `NoMemory` take no memory, and that of `Differs` was made before.
 pub fn refusal_text(alloc: Global, refusal: &Refusal) -> Result<RefusalText<'_>, AllocError>
     ensures { IfOk result (λ text. refusal_bytes text ≡ answer_text (answer_of refusal.now)) }
 {
@@ -323,7 +323,7 @@ impl fmt::Display for ReportWords {
     }
 }
 
-/// The report of a machine. The error is want of memory.
+/// The report of a machine. The error is out of memory.
 pub fn report_text(alloc: Global, report: &Report) -> Result<String, AllocError>
     ensures { IfOk result (λ text. string_bytes text ≡ report_text report.now) }
 {
@@ -331,7 +331,7 @@ pub fn report_text(alloc: Global, report: &Report) -> Result<String, AllocError>
     format!(in alloc; "{report}")
 }
 
-/// What `ring` says: the number of block ends, and then the report of the machine. The error is want of memory.
+/// What `ring` prints: the number of block ends, and then the report of the machine. The error is out of memory.
 pub fn blocks_text(alloc: Global, blocks: u64, report: &Report) -> Result<String, AllocError>
     ensures { IfOk result (λ text. string_bytes text ≡ blocks_text blocks report.now) }
 {
@@ -339,14 +339,14 @@ pub fn blocks_text(alloc: Global, blocks: u64, report: &Report) -> Result<String
     format!(in alloc; "blocks {blocks}\n{report}")
 }
 
-/// What `compile` and `assemble` say of a program of so many words and chunks. The error is want of memory.
+/// What `compile` and `assemble` print of a program of so many words and chunks. The error is out of memory.
 pub fn built_text(alloc: Global, words: usize, pages: usize) -> Result<String, AllocError>
     ensures { IfOk result (λ text. string_bytes text ≡ built_text words pages) }
 {
     format!(in alloc; "words {words} pages {pages}\n")
 }
 
-/// What `make` says of a stream of so many fields and data entries. The error is want of memory.
+/// What `make` prints of a stream of so many fields and data entries. The error is out of memory.
 pub fn made_text(alloc: Global, fields: u32, entries: u64) -> Result<String, AllocError>
     ensures { IfOk result (λ text. string_bytes text ≡ made_text fields entries) }
 {
