@@ -107,7 +107,7 @@ fn on_pages(alloc: Global, count: u32, first: u32) -> Result<String, AllocError>
     Ok(text)
 }
 
-/// Whether `ring` answers and says this on a ring file and a stream, and writes this program and
+/// Whether `ring` answers and prints this on a ring file and a stream, and writes this program and
 /// this image; none where they are empty.
 fn rings(
     alloc: Global,
@@ -121,7 +121,7 @@ fn rings(
     Ok(left.has(answer.0, answer.1, image) && left.has_parts("program", program))
 }
 
-/// Whether `chain` answers and says this on two descriptions and a stream, and writes this image;
+/// Whether `chain` answers and prints this on two descriptions and a stream, and writes this image;
 /// none where it is empty.
 fn chains(
     alloc: Global,
@@ -134,7 +134,7 @@ fn chains(
     Ok(left.has(answer.0, answer.1, image))
 }
 
-/// Whether `damage` says this of `FIRST` and a stream.
+/// Whether `damage` prints this of `FIRST` and a stream.
 fn tells_rows(alloc: Global, stream: &[u8], said: &[u8]) -> Result<bool, AllocError> {
     let left = damaged(alloc, FIRST, stream, &[], LONG)?;
     Ok(left.says(0, said))

@@ -3,7 +3,7 @@
 /// Bytes in parts: each so many times.
 pub type Parts = &'static [(usize, &'static [u8])];
 
-/// A program file, and what is said of it.
+/// A program file, and what is reported of it.
 pub struct Judged {
     pub program: &'static [u8],
     pub status: u8,
@@ -34,7 +34,7 @@ pub const ONE_LINE: &[u8] =
 pub const ONE_LINE_STREAM: &[u8] =
     b"BFS1\x04\x04\x04\x06\x01\x02\x10\x11\x12\x13\x01\x01\x14\x15\x16\x17\x05\x09\x00\x00\x00\x00";
 
-/// What `run` says of it.
+/// What `run` prints of it.
 pub const ONE_LINE_REPORT: &[u8] = b"turns 9\nmoved 8\noverruns 0 0 0 0\nstatus 10000800\n";
 
 /// The page that it leaves.
@@ -46,7 +46,7 @@ pub const ONE_LINE_IMAGE: Parts = &[
     (4088, b"\x00"),
 ];
 
-/// What `list` says of it.
+/// What `list` prints of it.
 pub const ONE_LINE_LISTING: &[u8] =
     b"base 00001000\n00001000 sync vre resync\n00001008 sync fm1\n00001010 write sol eol 8 00020000\n00001018 jump irq set=1 reset=e 00001000\npage 00020000\nfill 00\n";
 
@@ -54,7 +54,7 @@ pub const ONE_LINE_LISTING: &[u8] =
 pub const NO_WORDS: &[u8] =
     b"BRP1\x00\x10\x00\x00\x00\x00\x00\x00\x01\x00\x00\x00\x00\x00\x02\x00\x00";
 
-/// What `list` says.
+/// What `list` prints.
 pub static LISTED: [Judged; 6] = [
     // instructions with the fields that aren't 0
     Judged {
@@ -62,7 +62,7 @@ pub static LISTED: [Judged; 6] = [
         status: 0,
         said: ONE_LINE_LISTING,
     },
-    // a program that isn't sound, with words that are no spelling
+    // a program that isn't sound, with words that are no canonical encoding
     Judged {
         program: b"BRP1\x00\x10\x00\x00\x04\x00\x00\x00\x04\x80\x00\x80\x04\x00\x00\x10\x00\x00\x00p\x04\x10\x00\x00\x01\x00\x00\x00\x00\x00\x02\x00\x00",
         status: 0,
@@ -74,7 +74,7 @@ pub static LISTED: [Judged; 6] = [
         status: 0,
         said: b"base 00001000\n00001000 sync vre resync\n00001008 sync fm1\n00001010 write sol eol 8 00020004\n00001018 jump irq set=1 reset=e 00001000\nchunk 00020004 8\nfill 00\n",
     },
-    // a program of two spans is told span by span
+    // a program of two spans is listed span by span
     Judged {
         program: b"BRP3\x02\x00\x00\x00\x00\x10\x00\x00\x02\x00\x00\x00\x00\x00\x00p\x00\x20\x00\x00\x00\x20\x00\x00\x02\x00\x00\x00\x00\x00\x00p\x00\x10\x00\x00\x00\x20\x00\x00\x01\x00\x00\x00\x00\x00\x02\x00\x00\x10\x00\x00\x00",
         status: 0,
@@ -94,7 +94,7 @@ pub static LISTED: [Judged; 6] = [
     },
 ];
 
-/// Texts that are no listings, and what `assemble` says of them.
+/// Texts that are no listings, and what `assemble` reports of them.
 pub static UNASSEMBLED: [(&[u8], &[u8]); 5] = [
     // the fields of a JUMP in another order
     (
@@ -117,7 +117,7 @@ pub static UNASSEMBLED: [(&[u8], &[u8]); 5] = [
     (b"", b"listing: short at 0\n"),
 ];
 
-/// What `verify` says.
+/// What `verify` prints.
 pub static JUDGED: [Judged; 18] = [
     // a JUMP into an operand is followed
     Judged {
@@ -197,13 +197,13 @@ pub static JUDGED: [Judged; 18] = [
         status: 1,
         said: b"rejected at 00001010, step 2: ungranted 00020008\n",
     },
-    // a driver's loop and its four lists stand in buffers of their own
+    // a driver's loop and its four lists are in buffers of their own
     Judged {
         program: b"BRP3\x05\x00\x00\x00\x00\x00\xa0\x00\x10\x00\x00\x00\x04\x80\x00\x80\x00\x00\x00\x00\x00\x00\x00p\x00\x10\xa0\x00\x00\x00\x00p\x00\x20\xa0\x00\x00\x00\x00p\x20\x00\xa0\x00\x0c\x80\x00\x80\x00\x00\x00\x00\x00\x00\x00p\x000\xa0\x00\x00\x00\x00p\x00@\xa0\x00\x00\x00\x00p\x00\x00\xa0\x00\x00\x10\xa0\x00\x06\x00\x00\x00\x06\x00\x00\x80\x00\x00\x00\x00\x08\x00\x00\x1c\x00\x00\x02\x00\x00\x00\x00p\x10\x00\xa0\x00\x00\x20\xa0\x00\x06\x00\x00\x00\x06\x00\x00\x80\x00\x00\x00\x00\x08\x00\x00\x1c\x00\x00\x02\x00\x00\x00\x00p\x18\x00\xa0\x00\x000\xa0\x00\x06\x00\x00\x00\x06\x00\x00\x80\x00\x00\x00\x00\x08\x00\x00\x1c\x00\x00\x02\x00\x00\x00\x00p0\x00\xa0\x00\x00@\xa0\x00\x06\x00\x00\x00\x06\x00\x00\x80\x00\x00\x00\x00\x08\x00\x00\x1c\x00\x00\x02\x00\x00\x00\x00p8\x00\xa0\x00\x00\x00\xa0\x00\x01\x00\x00\x00\x00\x00\x02\x00\x00\x10\x00\x00\x00",
         status: 0,
         said: b"accepted\n",
     },
-    // a slot still leads where a list stood
+    // a slot still leads where a list was
     Judged {
         program: b"BRP3\x05\x00\x00\x00\x00\x00\xa0\x00\x10\x00\x00\x00\x04\x80\x00\x80\x00\x00\x00\x00\x00\x00\x00p\x00\x10\xa0\x00\x00\x00\x00p\x00\x20\xa0\x00\x00\x00\x00p\x20\x00\xa0\x00\x0c\x80\x00\x80\x00\x00\x00\x00\x00\x00\x00p\x000\xa0\x00\x00\x00\x00p\x00P\xa0\x00\x00\x00\x00p\x00\x00\xa0\x00\x00\x10\xa0\x00\x06\x00\x00\x00\x06\x00\x00\x80\x00\x00\x00\x00\x08\x00\x00\x1c\x00\x00\x02\x00\x00\x00\x00p\x10\x00\xa0\x00\x00\x20\xa0\x00\x06\x00\x00\x00\x06\x00\x00\x80\x00\x00\x00\x00\x08\x00\x00\x1c\x00\x00\x02\x00\x00\x00\x00p\x18\x00\xa0\x00\x000\xa0\x00\x06\x00\x00\x00\x06\x00\x00\x80\x00\x00\x00\x00\x08\x00\x00\x1c\x00\x00\x02\x00\x00\x00\x00p0\x00\xa0\x00\x00@\xa0\x00\x06\x00\x00\x00\x06\x00\x00\x80\x00\x00\x00\x00\x08\x00\x00\x1c\x00\x00\x02\x00\x00\x00\x00p8\x00\xa0\x00\x00\x00\xa0\x00\x01\x00\x00\x00\x00\x00\x02\x00\x00\x10\x00\x00\x00",
         status: 1,
@@ -229,7 +229,7 @@ pub static JUDGED: [Judged; 18] = [
     },
 ];
 
-/// What `run` says and writes.
+/// What `run` prints and writes.
 static PLAYED: [Played; 12] = [
     // a line is stored and signalled
     Played {
@@ -238,7 +238,7 @@ static PLAYED: [Played; 12] = [
         said: ONE_LINE_REPORT,
         image: ONE_LINE_IMAGE,
     },
-    // a line is stored by a list that stands in a buffer of its own
+    // a line is stored by a list that is in a buffer of its own
     Played {
         program: b"BRP3\x02\x00\x00\x00\x00\x10\x00\x00\x04\x00\x00\x00\x04\x80\x00\x80\x00\x00\x00\x00\x00\x00\x00p\x00\x20\x00\x00\x00\x20\x00\x00\x06\x00\x00\x00\x06\x00\x00\x80\x00\x00\x00\x00\x08\x00\x00\x1c\x00\x00\x02\x00\x00\x00\xe1q\x00\x10\x00\x00\x00\x10\x00\x00\x01\x00\x00\x00\x00\x00\x02\x00\x00\x10\x00\x00\x00",
         stream: &[(
@@ -380,7 +380,7 @@ static PLAYED: [Played; 12] = [
     },
 ];
 
-/// What `run` says of files that are at fault.
+/// What `run` reports of files that are at fault.
 static UNPLAYED: [Unplayed; 20] = [
     // an unsound program does not run
     Unplayed {
@@ -538,7 +538,7 @@ static UNPLAYED: [Unplayed; 20] = [
         status: 3,
         said: b"stream file: tag 08 at 4\n",
     },
-    // pages have one spelling
+    // pages have one encoding
     Unplayed {
         program: b"BRP2\x00\x10\x00\x00\x08\x00\x00\x00\x04\x80\x00\x80\x00\x00\x00\x00\x06\x00\x00\x80\x00\x00\x00\x00\x08\x00\x00\x1c\x00\x00\x02\x00\x00\x00\xe1q\x00\x10\x00\x00\x01\x00\x00\x00\x00\x00\x02\x00\x00\x10\x00\x00\x00",
         stream: &[(

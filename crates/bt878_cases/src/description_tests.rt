@@ -1,6 +1,6 @@
 // Worked cases of the commands over descriptions.
 //
-// No contract says when memory is short, so a body that always answers want of it meets each of them, and no
+// No contract states when memory is short, so a body that always answers that it is short meets each of them, and no
 // edit of a body can show that it is wrong. These tests refuse it: they have ample memory, and each command
 // must give another answer.
 ghost use Rattle.std.specs.Prelude.{◌≡◌, ◌<◌, [], Some};
@@ -18,7 +18,7 @@ use capture_desk::MemDesk;
 use std::alloc::{AllocError, Global};
 use std::test::Fail;
 
-/// Whether `compile` left the program of a case and what is said of it.
+/// Whether `compile` left the program of a case and what is printed of it.
 fn is_compiled(left: &Left, alloc: Global, case: &Compiled) -> Result<bool, AllocError> {
     let said = format!(in alloc; "words {} pages {}\n", case.words.len(), case.grants())?;
     let program = program_file(alloc, case)?;
@@ -62,7 +62,7 @@ fn refuses(alloc: Global, case: &Refused, longest: usize) -> Result<bool, AllocE
     refuse(alloc, &description, case, longest)
 }
 
-/// Whether `compile` says this of a text that is no description.
+/// Whether `compile` reports this of a text that is no description.
 fn is_no_description(alloc: Global, text: &[u8], said: &[u8]) -> Result<bool, AllocError> {
     let left = compiled(alloc, text, &[], LONG, 5000)?;
     Ok(left.says_only(3, said))
@@ -106,7 +106,7 @@ fn fields_are_captured(rt: HostRuntime) -> Result<(), Fail> {
     Ok(())
 }
 
-/// Whether `capture` says this on a stream.
+/// Whether `capture` prints this on a stream.
 fn capture_says(
     alloc: Global,
     description: &[u8],
@@ -226,7 +226,7 @@ fn ordinary(alloc: Global) -> Result<Vec<u8>, AllocError> {
     Ok(text)
 }
 
-/// Whether `make` says this and writes a stream of this length, and `capture` says that of it.
+/// Whether `make` prints this and writes a stream of this length, and `capture` prints that of it.
 fn makes_and_captures(
     alloc: Global,
     description: &[u8],

@@ -26,14 +26,14 @@ impl Compiled {
     }
 }
 
-/// Changes to the plain description, and what is said of their fault.
+/// Changes to the plain description, and what is reported of their fault.
 pub struct Refused {
     pub changes: Keys,
     pub status: u8,
     pub said: &'static [u8],
 }
 
-/// Changes to the plain description, and what `capture` says and writes on a stream.
+/// Changes to the plain description, and what `capture` prints and writes on a stream.
 pub struct Captured {
     pub changes: Keys,
     pub stream: Parts,
@@ -42,7 +42,7 @@ pub struct Captured {
 }
 
 /// Changes to the plain description, the length of the stream of one frame that `make` writes, what it
-/// says, and what `capture` says on that stream.
+/// prints, and what `capture` prints on that stream.
 pub struct Made {
     pub changes: Keys,
     pub length: usize,
@@ -74,7 +74,7 @@ pub const CHUNKED_STREAM: &[u8] =
 pub const CHUNKED_IMAGE: &[u8] =
     b"BMI2\x02\x00\x00\x00\x04\x00\x02\x00\x04\x00\x00\x00\x10\x11\x12\x13\x00\x00\x03\x00\x04\x00\x00\x00\x14\x15\x16\x17";
 
-/// What is said of it.
+/// What is printed of it.
 pub const CHUNKED_REPORT: &[u8] = b"turns 11\nmoved 8\noverruns 0 0 0 0\nstatus 10000800\n";
 
 /// The stream of one frame of the plain description that seed 1 gives.
@@ -247,7 +247,7 @@ pub static COMPILED: [Compiled; 12] = [
     },
 ];
 
-/// What is said of descriptions with a fault.
+/// What is reported of descriptions with a fault.
 pub static REFUSED: [Refused; 26] = [
     Refused {
         changes: &[("offset", "[8185]"), ("pages", "[0x20000, 0x30000]")],
@@ -396,7 +396,7 @@ pub static REFUSED: [Refused; 26] = [
     },
 ];
 
-/// What `capture` says and writes.
+/// What `capture` prints and writes.
 pub static CAPTURED: [Captured; 10] = [
     // a generated field
     Captured {
@@ -554,7 +554,7 @@ pub static CAPTURED: [Captured; 10] = [
     },
 ];
 
-/// What `make` says with seed 1, and `capture` of its stream.
+/// What `make` prints with seed 1, and `capture` of its stream.
 pub static MADE: [Made; 3] = [
     Made {
         changes: &[],

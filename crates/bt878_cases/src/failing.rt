@@ -101,7 +101,7 @@ impl Command {
     }
 
     /// How many calls the command makes at least: after those that read, each output is created,
-    /// written and finished, and a text is said.
+    /// written and finished, and a text is printed.
     fn calls(self) -> u64 {
         let writes = self.outputs().saturating_mul(3).saturating_add(1);
         self.reading_calls(LONG).saturating_add(writes)
@@ -113,7 +113,7 @@ fn began(left: &Left, whole: &Left, name: &str) -> bool {
     left.began(name, whole.desk.output(name).unwrap_or_default())
 }
 
-/// Whether a fault of writing was answered: nothing is written but beginnings of what the command writes and says.
+/// Whether a fault of writing was answered: nothing is written but beginnings of what the command writes and prints.
 fn ended_writing(left: &Left, whole: &Left) -> bool {
     left.status == 5
         && began(left, whole, "out")
@@ -150,7 +150,7 @@ fn fails_reading(
     Ok(left.says_only(4, b"read fault\n") && left.has_faults(1, 0))
 }
 
-/// Whether each call that reads, failing alone, is a fault of reading that is said, and nothing
+/// Whether each call that reads, failing alone, is a fault of reading that is reported, and nothing
 /// else.
 fn each_reading_call_fails(
     alloc: Global,
@@ -194,7 +194,7 @@ fn writing_end(alloc: Global, command: Command, whole: &Left) -> Result<u64, All
 }
 
 /// Whether each call that writes fails alone, up to the last: each output is created, written and
-/// finished, and a text is said.
+/// finished, and a text is printed.
 fn each_writing_call_fails(alloc: Global, command: Command) -> Result<bool, AllocError> {
     let whole = command.tried(alloc, &[], LONG)?;
     let end = writing_end(alloc, command, &whole)?;
@@ -217,7 +217,7 @@ fn ends_from(
     }
 }
 
-/// Whether a command ends as it should where all calls fail from one on: no text can be said of a
+/// Whether a command ends as it should where all calls fail from one on: no text can be printed of a
 /// fault of reading.
 fn all_calls_fail(alloc: Global, command: Command) -> Result<bool, AllocError> {
     let whole = command.tried(alloc, &[], LONG)?;
@@ -229,7 +229,7 @@ fn all_calls_fail(alloc: Global, command: Command) -> Result<bool, AllocError> {
     Ok(true)
 }
 
-/// Whether the same is written and said where each call moves a byte.
+/// Whether the same is written and printed where each call moves a byte.
 fn works_byte_by_byte(alloc: Global, command: Command) -> Result<bool, AllocError> {
     let whole = command.tried(alloc, &[], LONG)?;
     let left = command.tried(alloc, &[], 1)?;
@@ -253,7 +253,7 @@ fn all_calls_of_each_command_fail(rt: HostRuntime) -> Result<(), Fail> {
     Ok(())
 }
 
-/// Where each call moves a byte, the same is written and said, and each call that reads can fail.
+/// Where each call moves a byte, the same is written and printed, and each call that reads can fail.
 #[test]
 fn each_command_works_byte_by_byte(rt: HostRuntime) -> Result<(), Fail> {
     for command in &COMMANDS {
@@ -263,7 +263,7 @@ fn each_command_works_byte_by_byte(rt: HostRuntime) -> Result<(), Fail> {
     Ok(())
 }
 
-/// A program that differs from a description is told as a refusal is: a fault of saying it changes nothing.
+/// A program that differs from a description is reported as a refusal is: a fault of printing it changes nothing.
 #[test]
 fn a_difference_stays_where_it_cannot_be_said(rt: HostRuntime) -> Result<(), Fail> {
     let reads = Command::Check.reading_calls(LONG);

@@ -12,7 +12,7 @@ pub struct Left {
 }
 
 impl Left {
-    /// Whether it answered and said this.
+    /// Whether it answered and printed this.
     pub fn says(&self, status: u8, said: &[u8]) -> bool {
         self.status == status && self.desk.said() == said
     }
@@ -27,7 +27,7 @@ impl Left {
         self.desk.output(name).is_none()
     }
 
-    /// Whether it answered and said this, and no command's output is there.
+    /// Whether it answered and printed this, and no command's output is there.
     pub fn says_only(&self, status: u8, said: &[u8]) -> bool {
         self.says(status, said) && self.lacks("out") && self.lacks("program") && self.lacks("image")
     }
@@ -58,7 +58,7 @@ impl Left {
         }
     }
 
-    /// Whether it answered and said this, and left an image of these bytes, or none where they are empty.
+    /// Whether it answered and printed this, and left an image of these bytes, or none where they are empty.
     pub fn has(&self, status: u8, said: &[u8], image: Parts) -> bool {
         self.says(status, said) && self.has_parts("image", image)
     }

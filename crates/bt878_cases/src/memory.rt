@@ -5,7 +5,7 @@ use page_ram::{MapRam, PageRam, Ram};
 use page_table::PageSet;
 use std::test::Fail;
 
-/// Writes the first byte of a chunk and tells whether it reads back.
+/// Writes the first byte of a chunk; whether it reads back.
 fn exchange<R: Ram>(ram: &mut R, chunk: usize, byte: u8) -> bool
     requires { chunk < length (R.memory ram.old) }
     ensures { length (R.memory ram.new) ≡ length (R.memory ram.old) }

@@ -111,7 +111,7 @@ fn checks_in_calls(
 }
 
 /// Each input is opened and read to its end before the next is opened; then the output is made, and the
-/// report is said.
+/// report is printed.
 #[test]
 fn a_run_works_in_order(rt: HostRuntime) -> Result<(), Fail> {
     let wanted =
@@ -120,7 +120,7 @@ fn a_run_works_in_order(rt: HostRuntime) -> Result<(), Fail> {
     Ok(())
 }
 
-/// A program that is no program file is told before the stream is opened.
+/// A program that is no program file is reported before the stream is opened.
 #[test]
 fn a_bad_program_is_told_first(rt: HostRuntime) -> Result<(), Fail> {
     let wanted = b"say\nread 65536: 0\nread 65536: 4\nopen program\n";
@@ -128,7 +128,7 @@ fn a_bad_program_is_told_first(rt: HostRuntime) -> Result<(), Fail> {
     Ok(())
 }
 
-/// A fault in the first piece of a stream is told before the next is read.
+/// A fault in the first piece of a stream is reported before the next is read.
 #[test]
 fn a_bad_piece_is_told_at_once(rt: HostRuntime) -> Result<(), Fail> {
     let wanted = b"say\nread 65536: 5\nopen stream\nread 65536: 0\nread 65536: 53\nopen program\n";
@@ -145,7 +145,7 @@ fn a_failed_creation_is_the_last_call(rt: HostRuntime) -> Result<(), Fail> {
     Ok(())
 }
 
-/// The program is read through and judged before the description is opened; then the verdict is said.
+/// The program is read through and checked before the description is opened; then the verdict is printed.
 #[test]
 fn a_check_works_in_order(rt: HostRuntime) -> Result<(), Fail> {
     let wanted =
@@ -155,7 +155,7 @@ fn a_check_works_in_order(rt: HostRuntime) -> Result<(), Fail> {
     Ok(())
 }
 
-/// A program that isn't sound is told before the description is opened.
+/// A program that isn't sound is reported before the description is opened.
 #[test]
 fn an_unsound_program_is_told_first(rt: HostRuntime) -> Result<(), Fail> {
     let wanted = b"say\nread 65536: 0\nread 65536: 21\nopen program\n";

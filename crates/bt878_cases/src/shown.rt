@@ -12,7 +12,7 @@ use capture_desk::MemDesk;
 use std::alloc::{AllocError, Global};
 use std::test::Fail;
 
-/// A program file, changes to the plain description, and what is said of them.
+/// A program file, changes to the plain description, and what is reported of them.
 struct Checked {
     program: &'static [u8],
     changes: Keys,
@@ -40,7 +40,7 @@ static CHECKED: [Checked; 29] = [
         status: 0,
         said: b"top: shown from 00001000 to 00001018, 2 instructions, jump irq set=1 reset=e\n",
     },
-    // the program of the description would stand on its page: that is no fault here
+    // the program of the description would be on its page: that is no fault here
     Checked {
         program: ONE_LINE,
         changes: &[("pages", "[0x1000]")],
@@ -235,7 +235,7 @@ static CHECKED: [Checked; 29] = [
     },
 ];
 
-/// Whether `check` says this, and creates nothing.
+/// Whether `check` prints this, and creates nothing.
 fn checks(alloc: Global, case: &Checked, longest: usize) -> Result<bool, AllocError> {
     let description = described(alloc, case.changes)?;
     let left = checked(alloc, case.program, &description, &[], longest)?;
@@ -263,7 +263,7 @@ fn refuses(
     Ok(left.says_only(status, said) && left.has_faults(0, 0))
 }
 
-/// The program is judged first, then the description, by its text and its geometry.
+/// The program is checked first, then the description, by its text and its geometry.
 #[test]
 fn checks_are_refused(rt: HostRuntime) -> Result<(), Fail> {
     let said = b"program file: magic at 0\n";
@@ -280,7 +280,7 @@ fn checks_are_refused(rt: HostRuntime) -> Result<(), Fail> {
     Ok(())
 }
 
-/// Whether `check` reads what there is of these contents, says this and has this status.
+/// Whether `check` reads what there is of these contents, prints this and has this status.
 fn check_on_says(
     alloc: Global,
     contents: &[&[u8]],
@@ -293,7 +293,7 @@ fn check_on_says(
     Ok(left.says(status, said) && left.has_faults(0, 0))
 }
 
-/// A program is judged where its description is missing.
+/// A program is checked where its description is missing.
 #[test]
 fn an_input_of_a_check_is_missing(rt: HostRuntime) -> Result<(), Fail> {
     assert!(rt; check_on_says(rt.alloc(), &[], 4, b"read fault\n")?);

@@ -53,7 +53,7 @@ fn programs_are_listed(rt: HostRuntime) -> Result<(), Fail> {
     Ok(())
 }
 
-/// What `list` says is assembled to the program that it was said of.
+/// What `list` prints of a program is assembled to this program.
 #[test]
 fn listings_are_assembled(rt: HostRuntime) -> Result<(), Fail> {
     let words: [&[u8]; 4] = [
@@ -106,20 +106,20 @@ fn streams_are_played_byte_by_byte(rt: HostRuntime) -> Result<(), Fail> {
     Ok(())
 }
 
-/// Whether a run says that one of its files is short there.
+/// Whether a run reports that one of its files is short there.
 fn is_short(left: &Left, alloc: Global, file: &str, len: usize) -> Result<bool, AllocError> {
     let said = format!(in alloc; "{file} file: short at {len}\n")?;
     Ok(left.has(3, said.as_bytes(), &[]))
 }
 
-/// Whether the program of a line, cut to this length, is told to be short.
+/// Whether the program of a line, cut to this length, is reported as short.
 fn cut_program_is_short(alloc: Global, len: usize) -> Result<bool, AllocError> {
     let program = ONE_LINE.get(..len).unwrap_or_default();
     let left = played(alloc, program, ONE_LINE_STREAM, &[], LONG)?;
     is_short(&left, alloc, "program", len)
 }
 
-/// Whether its stream, cut to this length, is told to be short.
+/// Whether its stream, cut to this length, is reported as short.
 fn cut_stream_is_short(alloc: Global, len: usize) -> Result<bool, AllocError> {
     let stream = ONE_LINE_STREAM.get(..len).unwrap_or_default();
     let left = played(alloc, ONE_LINE, stream, &[], LONG)?;
@@ -196,7 +196,7 @@ fn one_call_fails_byte_by_byte(rt: HostRuntime) -> Result<(), Fail> {
     Ok(())
 }
 
-/// Whether `run a a b` says this of a file that is both inputs.
+/// Whether `run a a b` prints this of a file that is both inputs.
 fn run_twice_says(alloc: Global, file: &[u8], said: &[u8]) -> Result<bool, AllocError> {
     let words = ["run", "a", "a", "b"];
     let limits = Limits::new(&[], LONG, 100);
@@ -204,7 +204,7 @@ fn run_twice_says(alloc: Global, file: &[u8], said: &[u8]) -> Result<bool, Alloc
     Ok(left.says(3, said))
 }
 
-/// Whether `run` says this where its inputs are missing.
+/// Whether `run` prints this where its inputs are missing.
 fn run_on_nothing_says(alloc: Global, said: &[u8]) -> Result<bool, AllocError> {
     let words = ["run", "program", "stream", "image"];
     let limits = Limits::new(&[], LONG, 100);

@@ -1,8 +1,8 @@
-//! Tries the commands that its input names on the files that lie beside it, and says what came of each.
+//! Tries the commands that its input names on the files that lie beside it, and prints what came of each.
 //!
 //! A line of the input is a case, of parts with `: ` between: its name; the words of a command; and for each output its
 //! name and that of the file that it must be equal to, or its name alone where it must not be there. The words
-//! `keep PROG TEXT` put what `list PROG` says into the file TEXT.
+//! `keep PROG TEXT` put what `list PROG` prints into the file TEXT.
 #![tactic(auto)]
 
 ghost use Rattle.std.specs.Prelude.{◌≡◌, [], ◌∷◌, IfOk, Some, codes};
@@ -13,7 +13,7 @@ use capture_desk::{MemDesk, Octets, OsDesk};
 use std::alloc::{AllocError, Global};
 use std::{fs, io};
 
-/// The most bytes that a listing is said in at once.
+/// The most bytes that a listing is printed in at once.
 const LONGEST: usize = 65536;
 
 /// The most bytes of a listing that is kept.
@@ -42,7 +42,7 @@ fn listing_desk(alloc: Global, program: &[u8]) -> Result<MemDesk, AllocError>
     )
 }
 
-/// Puts what `list` says of a program into a file, and answers the status.
+/// Puts what `list` prints of a program into a file, and answers the status.
 fn keep(rt: &HostRuntime, program: &str, text: &str) -> io::Result<u8> {
     let program = fs::read(rt, program)?;
     let mut desk = listing_desk(rt.alloc(), &program)?;
@@ -69,7 +69,7 @@ fn comparison(rt: &HostRuntime, output: &str, expected: &str) -> &'static str {
     if written == wanted { "is" } else { "isn't" }
 }
 
-/// Says of each output how it is to the file that is expected, or whether it is there.
+/// Prints of each output how it is to the file that is expected, or whether it is there.
 fn compare(rt: &HostRuntime, outputs: &str) -> io::Result<()> {
     for output in outputs.split(": ").filter(|output| !output.is_empty()) {
         match output.split_once(' ') {
@@ -84,7 +84,7 @@ fn compare(rt: &HostRuntime, outputs: &str) -> io::Result<()> {
     Ok(())
 }
 
-/// Tries a case: its name and words, what the command says, its status, and how its outputs are.
+/// Tries a case: its name and words, what the command prints, its status, and how its outputs are.
 fn attempt(rt: &HostRuntime, case: &str) -> io::Result<()> {
     let (name, rest) = case.split_once(": ").unwrap_or((case, ""));
     let (words, outputs) = rest.split_once(": ").unwrap_or((rest, ""));

@@ -1,4 +1,4 @@
-//! Tests of damage maps: worked streams, and drawn ones, told against a plain reading of which rows are whole.
+//! Tests of damage maps: worked streams, and drawn ones, compared with a plain reading of which rows are whole.
 #![tactic(auto)]
 
 #[cfg(test)]

@@ -63,7 +63,7 @@ fn parts_of(alloc: Global, log: &Log, row: Row, queue: usize) -> Result<Vec<Part
     Ok(parts)
 }
 
-/// Whether they stand one behind the other among those that entered.
+/// Whether they are one behind the other among those that entered.
 fn are_consecutive(parts: &[Part]) -> bool {
     parts
         .iter()

@@ -84,7 +84,7 @@ impl Pair {
         }
     }
 
-    /// Whether both tell the same of both fields.
+    /// Whether both have the same of both fields.
     fn compare(&mut self) {
         let agrees = is_told(self.mapped.rows(Parity::Top), self.plain.top.told)
             && is_told(self.mapped.rows(Parity::Bottom), self.plain.bottom.told);

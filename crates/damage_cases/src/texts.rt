@@ -14,7 +14,7 @@ const LOWER_FIELD: &str =
 const BOTH_FIELDS: &str =
     "format = \"y8\"\nwidth = 8\nheight = 8\nfields = \"both\"\npages = [0x20000]\n";
 
-// Whether this is told of the rows of both fields.
+// Whether this is printed of the rows of both fields.
 fn tells(
     alloc: Global,
     desc: &Desc,

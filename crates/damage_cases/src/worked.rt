@@ -99,7 +99,7 @@ fn take_an_emptied_line(m: &mut Mapped<MapRam>, loses: bool) {
     turns(m, 3);
 }
 
-// Whether the row is told whole, or not, behind such a line.
+// Whether the row is marked whole, or not, behind such a line.
 fn emptied_tells(alloc: Global, loses: bool, whole: bool) -> Result<bool, Fail> {
     let mut m = mapped(alloc, ONE_ROW)?;
     take_an_emptied_line(&mut m, loses);

@@ -227,7 +227,7 @@ static REQUIRED_KEYS: [(&str, &str, &str); 19] = [
     ),
 ];
 
-// The required keys one after the other, each with its faults; whatever is said of later keys is not told.
+// The required keys one after the other, each with its faults; faults of later keys are not reported.
 #[test]
 fn required_keys_are_judged_in_order(rt: HostRuntime) -> Result<(), Fail> {
     for &(text, kind, key) in &REQUIRED_KEYS {
@@ -431,7 +431,7 @@ fn is_too_long(
     Ok(is_refused(alloc, text.as_bytes(), "out of range", key))
 }
 
-// What stands before a list, a member, the most members and one more, and the key.
+// What is before a list, a member, the most members and one more, and the key.
 static LONGEST: [(&str, &str, usize, usize, &str); 3] = [
     ("chunks = []\nclip", "[0, 0, 8, 1],", 64, 65, "clip"),
     ("pages", "0x20000,", 4096, 4097, "pages"),

@@ -24,7 +24,7 @@ fn compiles_text(alloc: Global, text: &str, count: usize, last: &[u32]) -> Resul
     compiles(alloc, &frame, count, last)
 }
 
-// What stood before, a SYNC, the skipped line and the row.
+// What was there before, a SYNC, the skipped line and the row.
 const SKIPPED: [u32; 6] = [7, 0x8000_0006, 0, 0x2c00_0008, 0x1c00_0008, 0x20000];
 
 #[test]
@@ -61,7 +61,7 @@ fn clipped_row(alloc: Global, clip: &str) -> Result<String, AllocError> {
     )
 }
 
-// It has 64 pieces, behind the two words of a SYNC, and the word that stood before.
+// It has 64 pieces, behind the two words of a SYNC, and the word that was there before.
 #[test]
 fn a_row_of_many_pieces(rt: HostRuntime) -> Result<(), Fail> {
     let clip = clipped_units(rt.alloc())?;

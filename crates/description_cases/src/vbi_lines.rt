@@ -8,7 +8,7 @@ use std::alloc::Global;
 use std::test::Fail;
 use vbi_compile::compile_vbi;
 
-// What stood before, a SYNC and two lines behind the eight bytes of the picture.
+// What was there before, a SYNC and two lines behind the eight bytes of the picture.
 const WORDS: [u32; 7] = [
     7,
     0x8000_0006,

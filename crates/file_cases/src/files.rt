@@ -118,7 +118,7 @@ fn cut_programs_are_short(rt: HostRuntime) {
     }
 }
 
-// What a reader says of a whole piece behind its steps.
+// What a reader answers on a whole piece behind its steps.
 fn ends(mut reader: StepReader, piece: &[u8]) -> Got {
     let mut rest = piece;
     for _ in 0..piece.len() {

@@ -1,4 +1,5 @@
-//! Tests of the files, of listings and the assembler, and of the desks that files come from, called as their users call them: worked programs, streams and listings.
+//! Tests of the files, of listings and the assembler, and of the desks that files come from, called as their users call
+//! them: worked programs, streams and listings.
 #![tactic(auto)]
 
 #[cfg(test)]

@@ -49,7 +49,7 @@ fn pieces_of_listings_are_assembled(rt: HostRuntime) -> Result<(), Fail> {
     Ok(())
 }
 
-// The fields of the fourth line stand in another order.
+// The fields of the fourth line are in another order.
 const WRONG: &[u8] = b"base 00001000\n\
     00001000 sync vre resync\n\
     00001008 sync fm1\n\

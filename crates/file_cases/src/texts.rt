@@ -139,7 +139,7 @@ fn chunks_rise_apart_from_the_words(rt: HostRuntime) {
     }
 }
 
-// Five words told one by one that are an instruction: the line of the fifth is at fault.
+// Five words listed one by one that are an instruction: the line of the fifth is at fault.
 #[test]
 fn an_instruction_of_five_words_is_told(rt: HostRuntime) {
     let write = b"base 00001000\n\
@@ -173,7 +173,7 @@ fn is_judged_on_pages(
     Ok(is_judged(alloc, text.as_bytes(), want))
 }
 
-// A contract lets each text be told want of memory, so a page too many is tried.
+// By the contract any text may be out of memory, so a page too many is tried.
 #[test]
 fn a_page_too_many_is_at_fault(rt: HostRuntime) -> Result<(), Fail> {
     assert!(rt; is_judged_on_pages(rt.alloc(), 4096, None)?);
@@ -217,12 +217,12 @@ fn lines_that_are_near_a_listing_are_refused(rt: HostRuntime) -> Result<(), Fail
 // A listing of 42 bytes: each byte, and which others of `OTHERS` make another listing in its place.
 const SMALL: &[u8] = b"base 00001000\n00001000 skip 4\nfill 00\n";
 
-// Ten bytes that stand in the place of each.
+// Ten bytes in the place of each.
 const OTHERS: [u8; 10] = *b"0158af xe\n";
 
 // The answer by the rule, where the byte at a place is another. The digits of the fill are free, and the
-// count may be any digit; every other byte is told by the form, or by the base, and stands in the line
-// that is at fault. A newline makes a line of what stands before it; without its newline the last line is
+// count may be any digit. Every other byte is given by the form, or by the base, and is in the line
+// that is at fault. A newline makes a line of what is before it; without its newline the last line is
 // none.
 fn wanted(at: usize, byte: u8) -> Option<AsmFault> {
     if SMALL.get(at) == Some(&byte) {

@@ -56,7 +56,7 @@ fn an_input_is_read_through(rt: HostRuntime) {
 }
 
 /// An input is opened and read three times; an output is created, written to three times and finished; a
-/// text is said in two calls.
+/// text is printed in two calls.
 #[test]
 fn each_call_may_fail(rt: HostRuntime) {
     for left in 0..8u64 {

@@ -495,7 +495,7 @@ fn sees_a_line(m: &mut Machine<MapRam>) -> bool {
         && fetches(m, Some(0x1000))
 }
 
-// The controller is off: it stands for a turn, and then for a hundred.
+// The controller is off: it stands still for a turn, and then for a hundred.
 fn stands_when_off(m: &mut Machine<MapRam>) -> bool {
     let off = Host(HostWrite::Enable {
         fifo: true,

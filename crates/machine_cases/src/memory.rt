@@ -27,7 +27,7 @@ fn write_run<R: Ram>(ram: &mut R, addr: u32, bytes: &[u8])
     ram.store_run(addr, bytes);
 }
 
-// Writes a list of bytes, each read back at once, and tells whether each was read as it was written.
+// Writes a list of bytes, each read back at once; whether each was read as it was written.
 fn exchange_all<R: Ram>(ram: &mut R, stores: &[(u32, u8)]) -> bool
     requires { All (λ store. IsTrue (granted (chunks_of (R.memory ram.old)) store.0)) stores.now }
     ensures kept { chunks_of (R.memory ram.new) ≡ chunks_of (R.memory ram.old) }

@@ -33,7 +33,7 @@ fn told(why: &Why) -> Said {
     }
 }
 
-// What the verifier says of words from 0x1000 on that may write one page.
+// What the verifier answers on words from 0x1000 on that may write one page.
 fn said<L: Ledger>(alloc: Global, words: &[u32], page: u32, blank: Blank) -> Result<Said, Fail>
     requires name { blank.name ≡ L.name }
     requires parts { blank.parts ≡ L.parts }
@@ -53,7 +53,7 @@ fn said<L: Ledger>(alloc: Global, words: &[u32], page: u32, blank: Blank) -> Res
     }
 }
 
-// Words, the page that they may write, and what is said.
+// Words, the page that they may write, and what is answered.
 static PATHS: [(&[u32], u32, Said); 11] = [
     (
         &[0x8000_8004, 0x1000_0004, 0x7000_0000, 0x1004],

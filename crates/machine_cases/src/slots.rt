@@ -32,7 +32,7 @@ fn frame_of(alloc: Global, text: &str) -> Result<Frame, Fail> {
     Ok(Frame::new(alloc, desc)?)
 }
 
-// The part of a description that stands at an address and leads back to another.
+// The part of a description at an address that leads back to another.
 fn part_of(alloc: Global, text: &str, slot: u32, at: u32, back: u32) -> Result<PartWords, Fail>
     ensures { IfOk result (λ part. part.slot ≡ slot) }
 {
@@ -134,7 +134,7 @@ fn a_part_that_is_patched_out_is_finished(rt: HostRuntime) -> Result<(), Fail> {
     Ok(())
 }
 
-// What is said of a chain of one slot with one part.
+// What is reported of a chain of one slot with one part.
 fn said<L: Ledger>(alloc: Global, words: &[u32], blank: Blank) -> Result<Option<ChainError>, Fail>
     requires name { blank.name ≡ L.name }
     requires parts { blank.parts ≡ L.parts }

@@ -311,7 +311,7 @@ fn short_lines_are_given_up(rt: HostRuntime) -> Result<(), Fail> {
     Ok(())
 }
 
-// Bytes that are skipped count as taken and not as stored, and an entry of which some are taken stands in its queue.
+// Bytes that are skipped count as taken and not as stored, and an entry of which some are taken is in its queue.
 #[test]
 fn skipped_bytes_are_taken(rt: HostRuntime) -> Result<(), Fail> {
     let steps = [Push(One, 0, 9), Push(One, 2, 1), Push(One, 13, 2), Turns(8)];
