@@ -22,6 +22,9 @@ pub(crate) const ROOM: usize = 32_768;
 // How many bytes the records of a line have at most.
 pub(crate) const LINE: usize = 11_264;
 
+// The turns behind each push.
+const TURNS: u32 = 16;
+
 // The bytes that are not put yet, and the generator.
 #[derive(Drop)]
 pub(crate) struct Draft {
@@ -93,7 +96,8 @@ impl Draft {
         requires { length self.old.bytes + 7 ≤ 32768 }
         ensures { self.new ≡ pushed (Mark code) self.old }
     {
-        self.append(&[tags::CONTROL, code.nibble(), tags::TURNS, 16, 0, 0, 0]);
+        let [one, two, three, four] = TURNS.to_le_bytes();
+        self.append(&[tags::CONTROL, code.nibble(), tags::TURNS, one, two, three, four]);
     }
 
     // An entry with drawn bytes, and 16 turns.
@@ -105,6 +109,7 @@ impl Draft {
         ensures length { length self.new.bytes ≡ length self.old.bytes + 11 }
     {
         let [a, b, c, d] = self.generator.draw(valid(status));
+        let [one, two, three, four] = TURNS.to_le_bytes();
         self.append(&[
             tag(queue),
             status.nibble(),
@@ -113,10 +118,10 @@ impl Draft {
             c,
             d,
             tags::TURNS,
-            16,
-            0,
-            0,
-            0,
+            one,
+            two,
+            three,
+            four,
         ]);
     }
 

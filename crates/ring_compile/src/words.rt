@@ -7,6 +7,7 @@ ghost use Rattle.ring_compile.specs.Kept.{IsFront};
 ghost use Rattle.ring_compile.specs.Writes.{control_at, run_length, scattered, write_at};
 
 use crate::ring::Values;
+use bit_field::marks;
 use field_compile::{push_instr, sync};
 use page_table::Scatter;
 use risc_word::{Code, Ctl, Ends, Instr, NO_CONTROL};
@@ -18,10 +19,11 @@ fn mark(block: u8) -> Ctl
     ensures value { result ≡ mark block }
     ensures fits { IsTrue (control_fits result) }
 {
+    let (set, reset) = marks(block);
     Ctl {
         irq: true,
-        set: block,
-        reset: 15 - block,
+        set,
+        reset,
     }
 }
 

@@ -72,29 +72,39 @@ impl Status {
     }
 }
 
+/// A column of the table of the sixteen codes: the kind of an entry with each, and how many of its lanes are valid.
+macro_rules! by_code {
+    ($nibble:expr, kind) => {
+        by_code!(@ $nibble, 0)
+    };
+    ($nibble:expr, lanes) => {
+        by_code!(@ $nibble, 1)
+    };
+    (@ $nibble:expr, $column:tt) => {
+        match $nibble {
+            0 => (StatusKind::Pixels, 4).$column,
+            1 => (StatusKind::End(4), 4).$column,
+            2 => (StatusKind::Start, 4).$column,
+            4 => (StatusKind::Control(Code::Vre), 0).$column,
+            5 => (StatusKind::End(1), 1).$column,
+            6 => (StatusKind::Control(Code::Fm1), 0).$column,
+            9 => (StatusKind::End(2), 2).$column,
+            12 => (StatusKind::Control(Code::Vro), 0).$column,
+            13 => (StatusKind::End(3), 3).$column,
+            14 => (StatusKind::Control(Code::Fm3), 0).$column,
+            _ => (StatusKind::Reserved, 0).$column,
+        }
+    };
+}
+
 /// What the status means for its entry (Bt878 data sheet, "FIFO interface"). The kind of a code that
 /// the chip does not use is Reserved.
 #[inline]
 pub fn kind(s: Status) -> StatusKind
     ensures { result ≡ kind_of s }
 {
-    match s.nibble {
-        0 => StatusKind::Pixels,
-        1 => StatusKind::End(4),
-        2 => StatusKind::Start,
-        4 => StatusKind::Control(Code::Vre),
-        5 => StatusKind::End(1),
-        6 => StatusKind::Control(Code::Fm1),
-        9 => StatusKind::End(2),
-        12 => StatusKind::Control(Code::Vro),
-        13 => StatusKind::End(3),
-        14 => StatusKind::Control(Code::Fm3),
-        _ => StatusKind::Reserved,
-    }
+    by_code!(s.nibble, kind)
 }
-
-/// The valid lanes of each code.
-const LANES: [u8; 16] = [4, 4, 4, 0, 0, 1, 0, 0, 0, 2, 0, 0, 0, 3, 0, 0];
 
 /// How many lanes of the entry hold bytes of the line, from lane 0 on.
 #[inline]
@@ -102,7 +112,7 @@ pub fn valid(s: Status) -> u8
     ensures bytes { result ≡ valid_bytes s }
     ensures lanes { result ≤ 4 }
 {
-    LANES[usize::from(s.nibble)]
+    by_code!(s.nibble, lanes)
 }
 
 /// What a line under way does with the entry at its queue's front, of which `part` bytes were taken
