@@ -1,17 +1,20 @@
 -- Every run shows the pictures that it captures, by the law of the picture; all their rows are whole, and the bytes of whole
 -- rows stand in memory.
-use Rattle.std.proofs.Common.{◌≡◌, ℕ, ◌+◌, true, false, List, replicate, slice_index_or, Some, All, sym, ◌∙◌, subst}
+use Rattle.std.proofs.Common.{◌≡◌, ℕ, ◌+◌, ◌-◌, true, false, List, drop, replicate, slice_index_or, take, Some, All, sym, ◌∙◌, subst}
 use Rattle.fifo_model.specs.declared.Queue.{Queue}
 use Rattle.pixel_layout.specs.declared.Parity.{Parity}
 use Rattle.machine_model.specs.Paths.{RiscProgram}
 use Rattle.machine_model.specs.States.{first_state}
 use Rattle.machine_model.specs.Steps.{Step, state_at}
 use Rattle.machine_model.specs.Safety.{IsStep}
+use Rattle.machine_model.proofs.Orderly.{IsOrderly-first_state}
+use Rattle.machine_model.proofs.Runs.{IsOrderly-run}
+use Rattle.std.proofs.lemmas.List.Elements.{All-drop, All-take}
 use Rattle.capture_desc.specs.declared.desc.Desc.{Desc}
 use Rattle.picture_model.specs.Described.{field_height}
 use Rattle.picture_model.specs.Programs.{compiled}
 use Rattle.field_law.specs.Arrivals.{is_signal}
-use Rattle.picture_law.specs.Pictures.{IsKeptAt, Picture, of_row}
+use Rattle.picture_law.specs.Pictures.{Picture}
 use Rattle.picture_law.specs.Sections.{section_of}
 use Rattle.picture_law.specs.Runs.{IsCapture, IsSignalled, between}
 use Rattle.picture_law.proofs.Places.{run_shows_picture, run_tells_field}
@@ -19,8 +22,9 @@ use Rattle.damage_law.specs.Marks.{answer, last_step, marks}
 use Rattle.damage_law.proofs.LastSignals.{answers_stay}
 use Rattle.damage_map.proofs.ArrivedFields.{arrived_rows_are_whole}
 use Rattle.damage_map.proofs.StandingRows.{whole_rows_stand}
-use Rattle.damage_law.specs.Standing.{StandsAt, row_entries}
-use Rattle.bt878_contract.specs.Rows.{HasArrivedRows, HoldsWholeRows, IsSignalFrom}
+use Rattle.damage_law.proofs.EnteredRows.{whole_rows_entered}
+use Rattle.damage_law.specs.Standing.{HaveEntered, row_entries}
+use Rattle.bt878_contract.specs.Rows.{HasArrivedRows, HoldsRow, HoldsWholeRows, IsSignalFrom}
 use Rattle.check_law.specs.Laws.{Found}
 use Rattle.check_law.specs.Runs.{IsCapture as FoundCapture, IsEnded}
 use Rattle.check_law.proofs.Places.{run_shows_picture as found_shows_picture, run_shows_no_fault as found_shows_no_fault, run_ends_with_closing as found_ends_with_closing, run_ends_in_time as found_ends_in_time}
@@ -86,21 +90,33 @@ module _ (program : RiscProgram) (fill : ℕ) (steps : List Step) (made : All Is
       answers_stay d field (first_state (compiled d) fill) steps k last
       ∙ arrived_rows_are_whole d field picture fill steps j k (signalled d field picture j k c a))
 
+  row_entered : (d : Desc) (field : Parity) (q : Queue) (number j k : ℕ) → let m = state_at (first_state (compiled d) fill) steps j in
+      slice_index_or (marks d field m (between j k steps)) number false ≡ true →
+      HaveEntered (row_entries d field number q m (between j k steps)) q m (between j k steps)
+  row_entered d field q number j k =
+      let start = first_state (compiled d) fill in
+      whole_rows_entered d field (state_at start steps j) (between j k steps)
+      (IsOrderly-run start (take j steps) (All-take IsStep j steps made) (IsOrderly-first_state (compiled d) fill))
+      (All-take IsStep (k - j) (drop j steps) (All-drop IsStep j steps made)) q number
+
   pub whole_rows_held : HoldsWholeRows (first_state program fill) steps
   whole_rows_held d field j k c =
       subst
       (λ (p : RiscProgram).
-      IsSignalFrom d field (first_state p fill) steps j k → (q : Queue) (number x address : ℕ) →
-      slice_index_or (marks d field (state_at (first_state p fill) steps j) (between j k steps)) number false ≡ true → IsKeptAt d field (of_row q number x) address →
-      StandsAt (row_entries d field number q (state_at (first_state p fill) steps j) (between j k steps)) x address (state_at (first_state p fill) steps (k + 1)))
-      (sym c.same) (λ s.
-      whole_rows_stand d field fill steps j k
-      (record {
-        description = c.description;
-        valid = c.valid;
-        described = c.described;
-        made = made;
-        there = s.there;
-        signal = s.signal;
-        opened = s.opened;
-      }))
+      IsSignalFrom d field (first_state p fill) steps j k → (q : Queue) (number : ℕ) →
+      slice_index_or (marks d field (state_at (first_state p fill) steps j) (between j k steps)) number false ≡ true →
+      HoldsRow d field q number (first_state p fill) steps j k)
+      (sym c.same) (λ s q number whole.
+      record {
+        entered = row_entered d field q number j k whole;
+        kept = λ x address. whole_rows_stand d field fill steps j k
+        (record {
+          description = c.description;
+          valid = c.valid;
+          described = c.described;
+          made = made;
+          there = s.there;
+          signal = s.signal;
+          opened = s.opened;
+        }) q number x address whole;
+      })

@@ -1,6 +1,6 @@
 -- The law of rings over the places of a run.
 use Rattle.std.proofs.lemmas.List.Elements.{All-drop, All-take}
-use Rattle.std.proofs.Common.{List, Some, [], ap, arith, drop, false, refl, subst, sym, take, ℕ, ◌%◌, ◌++◌, ◌+◌, ◌-◌, ◌∙◌, ◌∷◌, ◌≡◌, ◌≤◌}
+use Rattle.std.proofs.Common.{All, List, Some, [], ap, arith, drop, false, refl, subst, sym, take, ℕ, ◌%◌, ◌++◌, ◌+◌, ◌-◌, ◌∙◌, ◌∷◌, ◌≡◌, ◌≤◌}
 use Rattle.machine_model.specs.Steps.{Control, Host, Push, Step, Turn, run}
 use Rattle.ring_law.specs.Laws.{EndsBlock}
 use Rattle.ring_law.specs.Runs.{EndsBlockAt, RunShowsBlocks, ends_between, state_of, RunShowsNoFault}
@@ -18,7 +18,7 @@ use Rattle.machine_model.specs.Turns.{sets_fdsr}
 use Rattle.ring_law.proofs.Shown.{shows_blocks, shows_no_fault}
 use Rattle.ring_law.specs.RingRuns.{IsRingRun, ShowsBlocks}
 
-module _ (r : Ring) (lines : List (List ℕ)) (steps : List Step) (j k block : ℕ) (e : EndsBlockAt r lines steps j k block) where
+module _ (r : Ring) (lines : List (List ℕ)) (steps : List Step) (j k block : ℕ) (made : All IsStep steps) (e : EndsBlockAt r lines steps j k block) where
   abbrev start : State
   start = first_state (ring_program r) r.fill
 
@@ -52,10 +52,10 @@ module _ (r : Ring) (lines : List (List ℕ)) (steps : List Step) (j k block : �
       let program = program-run start (take j steps) in
       record {
         ring = e.ring;
-        orderly = IsOrderly-run start (take j steps) (All-take IsStep j steps e.made) (IsOrderly-first_state (ring_program r) r.fill);
+        orderly = IsOrderly-run start (take j steps) (All-take IsStep j steps made) (IsOrderly-first_state (ring_program r) r.fill);
         chunks =
             chunks-run start (take j steps) ∙ chunks_of-filled r.fill (ring_program r).grants ∙ ap (λ (program : RiscProgram). program.grants) (sym program);
-        made = All-take IsStep (k - j) (drop j steps) (All-drop IsStep j steps e.made);
+        made = All-take IsStep (k - j) (drop j steps) (All-drop IsStep j steps made);
         runs = subst (IsRingRun r lines m) all_steps e.runs;
         ends = ap (λ (now : State). block_end (ends r) now Turn) reached ∙ ap (block_end (ends r) (state_of r steps k)) (sym last_turn) ∙ e.ends;
       }
@@ -76,4 +76,4 @@ pub run_shows_blocks : RunShowsBlocks
 run_shows_blocks = shows_blocks_at
 
 pub run_shows_no_fault : RunShowsNoFault
-run_shows_no_fault r lines steps j k block i e = quiet_at_place r lines steps j k block e i
+run_shows_no_fault r lines steps j k block i made e = quiet_at_place r lines steps j k block made e i

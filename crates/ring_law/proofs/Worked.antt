@@ -110,14 +110,13 @@ ring_is =
       enough = omega arith;
     }
 
-made : All IsStep run_steps
-made = All-from_recursion IsStep run_steps (tt, (refl, (tt, (refl, (refl, (refl, (refl, (refl, (tt, (tt, (tt, (tt, (tt, (tt, (tt, (tt, (tt, (tt, tt))))))))))))))))))
+pub two_made : All IsStep run_steps
+two_made = All-from_recursion IsStep run_steps (tt, (refl, (tt, (refl, (refl, (refl, (refl, (refl, (tt, (tt, (tt, (tt, (tt, (tt, (tt, (tt, (tt, (tt, tt))))))))))))))))))
 
 pub ends_second_block : EndsBlockAt two_lines two_whole run_steps 1 17 1
 ends_second_block =
     record {
       ring = ring_is;
-      made = made;
       later = omega arith;
       there = omega arith;
       runs = run_is;
@@ -191,14 +190,13 @@ three_run =
       last = nothing_unfinished;
     }
 
-three_made : All IsStep three_steps
+pub three_made : All IsStep three_steps
 three_made = All-from_recursion IsStep three_steps (tt, (refl, (tt, (refl, (refl, (refl, (refl, (refl, (refl, (tt, (tt, (tt, (tt, (tt, (tt, (tt, (tt, (tt, (tt, (tt, (tt, (tt, (tt, (tt, tt))))))))))))))))))))))))
 
 pub ends_first_block_again : EndsBlockAt two_lines three_whole three_steps 1 23 0
 ends_first_block_again =
     record {
       ring = ring_is;
-      made = three_made;
       later = omega arith;
       there = omega arith;
       runs = three_run;

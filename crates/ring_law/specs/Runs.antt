@@ -18,7 +18,6 @@ state_of r steps place = state_at (first_state (ring_program r) r.fill) steps pl
 -- a ring run goes from place j up to and with step k, which ends a block
 pub record EndsBlockAt (r : Ring) (lines : List (List ℕ)) (steps : List Step) (j k block : ℕ) : Type 0 where
   pub ring : IsRing r
-  pub made : All IsStep steps
   pub later : j ≤ k
   pub there : k < length steps
   pub runs : IsRingRun r lines (state_of r steps j) (between j (k + 1) steps)
@@ -30,12 +29,12 @@ ends_between r steps j k = block_ends (ends r) (state_of r steps j) (between j k
 
 -- step k ends the block whose turn it is, and after it the lines are in the blocks, against memory at place j
 abbrev pub RunShowsBlocks : Type 0
-RunShowsBlocks = (r : Ring) (lines : List (List ℕ)) (steps : List Step) (j k block : ℕ) → EndsBlockAt r lines steps j k block →
+RunShowsBlocks = (r : Ring) (lines : List (List ℕ)) (steps : List Step) (j k block : ℕ) → All IsStep steps → EndsBlockAt r lines steps j k block →
     (block ≡ ends_between r steps j k % r.blocks) × ShowsBlocks r lines (ends_between r steps j k) (state_of r steps j) (state_of r steps (k + 1))
 
 -- no turn from place j up to step k sets FDSR, whether or not the bit is set already
 abbrev pub RunShowsNoFault : Type 0
-RunShowsNoFault = (r : Ring) (lines : List (List ℕ)) (steps : List Step) (j k block i : ℕ) → EndsBlockAt r lines steps j k block →
+RunShowsNoFault = (r : Ring) (lines : List (List ℕ)) (steps : List Step) (j k block i : ℕ) → All IsStep steps → EndsBlockAt r lines steps j k block →
     j ≤ i → i ≤ k → step_at steps i ≡ Turn → sets_fdsr (state_of r steps i) ≡ false
 
 -- the block ends that are seen of the turns are the block ends, at each safe state of a ring's program and over steps

@@ -3,7 +3,8 @@
 //! are the laws.
 #![tactic(auto)]
 
-ghost use Rattle.std.specs.Prelude.{◌≡◌, ◌∷◌, [], Some};
+ghost use Rattle.machine_model.specs.Safety.{IsStep};
+ghost use Rattle.std.specs.Prelude.{All, ◌≡◌, ◌∷◌, [], Some};
 ghost use Rattle.ring_law.specs.Laws.{RingsShowTheirBlocks, RingsShowNoFault};
 ghost use Rattle.ring_law.specs.Runs.{EndsBlockAt, RunShowsBlocks, RunShowsNoFault, TurnsSeenEndBlocks, BlocksSeenAreEnded};
 ghost use Rattle.ring_law.specs.RingRuns.{held};
@@ -41,5 +42,6 @@ pub fn block_ends_are_seen()
 pub fn worked_ring_run_ends_its_blocks()
     ensures twice { EndsBlockAt two_lines two_whole run_steps 1 17 1 }
     ensures again { EndsBlockAt two_lines three_whole three_steps 1 23 0 }
+    ensures steps { (All IsStep run_steps) × (All IsStep three_steps) }
     ensures filled { held two_lines three_whole 0 3 ≡ Some (0x30 ∷ 0x31 ∷ 0x32 ∷ 0x33 ∷ 0x34 ∷ 0x35 ∷ 0x36 ∷ 0x37 ∷ []) }
 {}

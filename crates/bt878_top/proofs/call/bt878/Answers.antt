@@ -60,13 +60,13 @@ returns-clause-whole_rows g c =
 pub returns-clause-blocks : goal.returns-clause-blocks
 returns-clause-blocks g c =
     let see = g.D.Desk.seen in
-    done_captured ShowsRings (λ program fill steps made. rings_shown (first_state program fill) steps) (task_of c.args.words.now) c.answer_words.result (see c.args.desk.now)
+    done_captured ShowsRings (λ program fill steps. rings_shown (first_state program fill) steps) (task_of c.args.words.now) c.answer_words.result (see c.args.desk.now)
     (see c.answer_words.new.desk) c.answer_words.ensures
 
 pub returns-clause-no_fault_in_rings : goal.returns-clause-no_fault_in_rings
 returns-clause-no_fault_in_rings g c =
     let see = g.D.Desk.seen in
-    done_captured RingsShowNoFault (λ program fill steps made. no_fault_in_rings (first_state program fill) steps) (task_of c.args.words.now) c.answer_words.result (see c.args.desk.now)
+    done_captured RingsShowNoFault (λ program fill steps. no_fault_in_rings (first_state program fill) steps) (task_of c.args.words.now) c.answer_words.result (see c.args.desk.now)
     (see c.answer_words.new.desk) c.answer_words.ensures
 
 pub returns-clause-live_inside : goal.returns-clause-live_inside
