@@ -9,7 +9,7 @@ use std::{env, io};
 /// The status where a word of the command line is no text.
 const NO_TEXT: u8 = 8;
 
-/// The status where taking the words finds no memory.
+/// The status where there is no memory for the words.
 const NO_MEMORY: u8 = 6;
 
 /// The words after the program's name.

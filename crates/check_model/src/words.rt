@@ -10,7 +10,7 @@ use pixel_layout::Parity;
 use risc_word::{Code, Ctl};
 use std::fmt;
 
-/// The name of a field.
+/// The word for a field in descriptions and in texts.
 pub fn field_name(field: Parity) -> &'static str
     ensures { result.now ≡ field_name field }
 {

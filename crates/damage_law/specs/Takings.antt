@@ -39,7 +39,7 @@ taking_by _ at place a = []
 abbrev pub takings_of : ℕ → ℕ → List Application → List Taking
 takings_of at place made = flat_map (λ a. taking_by (verdict_of a) at place a) made
 
--- the takings of a burst
+-- what a burst takes of a queue, application by application
 abbrev pub burst_takings : ℕ → Queue → ℕ → ℕ → State → List Taking
 burst_takings zero q at place m = []
 burst_takings (suc count) q at place m =

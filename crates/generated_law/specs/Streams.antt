@@ -23,7 +23,7 @@ use Rattle.picture_law.specs.Sections.{section_of}
 use Rattle.picture_law.specs.Runs.{ArrivesAt, IsFirstSignal, IsSignalled, between, state_of}
 use Rattle.generated_law.specs.Drawn.{drawn_picture, drawn_steps, number_behind}
 
--- the steps of a stream
+-- the steps of the stream of so many frames of a description, from a seed
 abbrev pub stream_steps : Desc → ℕ → ℕ → List Step
 stream_steps d seed frames = drawn_steps (first_number seed) (stream_pushes d frames)
 

@@ -46,7 +46,7 @@ fn chroma_height(desc: &Desc) -> u32
     rows
 }
 
-// The rows of a plane.
+// How many rows a plane has: those of the picture, or those of its chroma.
 fn plane_rows(desc: &Desc, plane: u32) -> u32
     requires { IsSized desc.now }
     ensures value { result ≡ plane_rows desc.now plane }

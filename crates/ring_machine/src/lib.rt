@@ -52,7 +52,7 @@ impl BlockCount {
         }
     }
 
-    /// The ring.
+    /// The ring whose blocks are counted.
     pub fn ring(&self) -> &Ring
         ensures { result.now ≡ self.now.ring }
     {
