@@ -31,7 +31,7 @@ use Rattle.bt878_contract.specs.Tasks.{IsListed}
 use Rattle.chain_model.specs.Chains.{Chain}
 use Rattle.chain_model.specs.Live.{LiveStep}
 use Rattle.chain_law.specs.Runs.{KeepsLivePromises}
-use Rattle.stream_play.specs.Runs.{IsRun, LiveRan, OfRun, Ran}
+use Rattle.stream_play.specs.Runs.{IsRun, LiveRan, OfRun, Ran, chain_ran, live_steps_of}
 use Rattle.stream_play.proofs.Fitting.{steps_fit}
 use Rattle.command_steps.proofs.Inputs.{OfInput-map}
 use Rattle.command_inputs.specs.Descriptions.{GivesCompiled, GivesDescribed}
@@ -42,6 +42,8 @@ use Rattle.ring_model.specs.Rings.{Ring}
 use Rattle.bt878_contract.specs.Tasks.{Answers, ChainOf, DescMakes, Ends, IsDone, IsLiveRun, IsPartDone, IsRefused, ListingMakes, MakesBy, Meaning, MakesOther, Reports, ReportsBlocks, RunsChain, RunsProgram}
 use Rattle.bt878_contract.specs.Tasks.{RunMakes, RunOf, TellsRows, Traces, compiled_text, image_of_run, input_of, inputs_of, meaning, names_read, names_written, no_file, program_and_image, program_file, program_text, sources}
 use Rattle.bt878_contract.specs.Clauses.{AreTold, CreatesNone, IsAssembled, IsBadInput, IsCompiled, IsCut, IsInOrder, IsGenerated, IsGood, IsOutput, IsRefusal, IsUnreadOf, IsUsage, OfDesc, OfDescRun}
+use Rattle.double_buffer.proofs.Pairs.{shows}
+use Rattle.bt878_contract.specs.Chains.{HasFragments}
 use Rattle.bt878_contract.specs.Clauses.{OfLive, OfLiveBy, OfLiveRun, OfLiveSteps, OfRan, OfRanBy, OfRingRun, OfSteps, OnlyOutputs, OnlySays, SameNames, SameOutput, SaysAccepted, SaysAll, SaysAlone, SaysBlocks, SaysChecked, SaysDamage, SaysTrace}
 use Rattle.bt878_contract.specs.Clauses.{SaysListing, ShowsImage, ShowsLast, ShowsLastLive, ShowsProgram, StandsAt, StaysInside, TellsInput, UnlessCut}
 use Rattle.bt878_contract.proofs.Words.{outputs_apart}
@@ -99,18 +101,27 @@ module _ (P : State → List machine.Step → Type 0) (always : (program : RiscP
 pub done_sound : (r : Result Task UsageFault) (answer : Answer) (old new : Seen) → Answers r answer old new → answer ≡ Done → OfRan r old.told.inputs (λ ran. IsSound ran.program)
 done_sound = done_ran (λ ran. IsSound ran.program) (λ files Says product ran m. m.sound)
 
--- what is so of every live run of a chain that `chain` ran
-module _ (P : Chain → ℕ → List LiveStep → Type 0) (promised : (chain : Chain) (fill : ℕ) (steps : List LiveStep) → KeepsLivePromises chain fill steps → P chain fill steps) where
-  live_of : (m : Meaning) (inputs : Option Inputs) (product : Product) → MakesBy m inputs product → OfLiveBy m inputs (OfLiveSteps P)
+-- what is so of every live run that `chain` makes
+module _ (P : LiveRan → Type 0) (always : (a b c : List ℕ) (r : LiveRan) → IsLiveRun a b c r → KeepsLivePromises (chain_ran r) r.first.fill (live_steps_of r) → P r) where
+  live_of : (m : Meaning) (inputs : Option Inputs) (product : Product) → MakesBy m inputs product → OfLiveBy m inputs P
   live_of (RunsProgram r) inputs product h = tt
   live_of (RunsChain chain) inputs product h =
-      three-map chain.one chain.two chain.stream inputs (λ a b c. ChainOf chain.image (a ∷ b ∷ c ∷ []) product) (λ a b c. (r : LiveRan) × IsLiveRun a b c r × OfLiveSteps P r)
-      (λ a b c m. (m.0, m.1, promised _ _ _ m.2.promises)) h.0
+      three-map chain.one chain.two chain.stream inputs (λ a b c. ChainOf chain.image (a ∷ b ∷ c ∷ []) product) (λ a b c. (r : LiveRan) × IsLiveRun a b c r × P r)
+      (λ a b c m. (m.0, m.1, always a b c m.0 m.1 m.2.promises)) h.0
   live_of (MakesOther o) inputs product h = tt
 
+  live_by : (r : Result Task UsageFault) (answer : Answer) (old new : Seen) → Answers r answer old new → answer ≡ Done → OfLive r old.told.inputs P
+  live_by (Ok task) answer old new h e = let d = done_by task answer old new h e in live_of (meaning task) old.told.inputs d.product d.made.made
+  live_by (Err fault) answer old new h e = tt
+
+-- what follows of its promises alone
+module _ (P : Chain → ℕ → List LiveStep → Type 0) (promised : (chain : Chain) (fill : ℕ) (steps : List LiveStep) → KeepsLivePromises chain fill steps → P chain fill steps) where
   pub done_live : (r : Result Task UsageFault) (answer : Answer) (old new : Seen) → Answers r answer old new → answer ≡ Done → OfLive r old.told.inputs (OfLiveSteps P)
-  done_live (Ok task) answer old new h e = let d = done_by task answer old new h e in live_of (meaning task) old.told.inputs d.product d.made.made
-  done_live (Err fault) answer old new h e = tt
+  done_live = live_by (OfLiveSteps P) (λ a b c r is kept. promised (chain_ran r) r.first.fill (live_steps_of r) kept)
+
+-- its parts are the fragments of its descriptions
+pub done_fragments : (r : Result Task UsageFault) (answer : Answer) (old new : Seen) → Answers r answer old new → answer ≡ Done → OfLive r old.told.inputs HasFragments
+done_fragments = live_by HasFragments (λ a b c r is kept slot buffer. shows r.first r.second is.gives.pair slot buffer)
 
 -- its files and its text are there, and nothing else is created
 module _ (task : Task) (old new : Seen) (d : IsDone task old new) where

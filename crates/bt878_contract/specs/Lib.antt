@@ -3,3 +3,4 @@ pub mod Clauses
 pub mod Pictures
 pub mod Rows
 pub mod Rings
+pub mod Chains

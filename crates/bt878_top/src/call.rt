@@ -10,7 +10,8 @@ ghost use Rattle.bt878_contract.specs.Rows.{HasArrivedRows, HoldsWholeRows};
 ghost use Rattle.bt878_contract.specs.Rings.{RingsShowNoFault, ShowsRings};
 ghost use Rattle.bt878_contract.specs.Tasks.{Answers, AreAllowed, AreNames, Ends, IsProduct, inputs_of, names_read, names_written, reads};
 ghost use Rattle.bt878_top.specs.Products.{product_of};
-ghost use Rattle.chain_law.specs.Runs.{LiveRunShowsNoFault, LiveRunShowsPictures, LiveRunStaysInside};
+ghost use Rattle.bt878_contract.specs.Chains.{HasFragments};
+ghost use Rattle.chain_law.specs.Runs.{LiveRunShowsNoFault, LiveRunShowsPictures, LiveRunSignalsInTime, LiveRunStaysInside};
 ghost use Rattle.command_texts.specs.declared.refusal.Refusal.{Refusal};
 ghost use Rattle.command_texts.specs.Answers.{answer_of};
 ghost use Rattle.command_steps.specs.Outputs.{EndsAtFault};
@@ -225,14 +226,18 @@ pub fn bt878<D: Desk>(alloc: Global, words: &[&str], desk: &mut D) -> Answer
     // chain, and OCERR is 0. For every part that is the fragment of a description, every field of it, every
     // picture and all places: after the first signal of a field that arrived in order and lost nothing, memory
     // shows the picture and is as it was everywhere else, RISCI is set and the RISC status tells the field, and
-    // no turn up to the signal sets FDSR. (Which part is whose fragment is the law `pairs_make_sound_chains` of
-    // double_buffer.)
+    // no turn up to the signal sets FDSR; and once all entries were pushed the signal comes within a bound of turns. The
+    // part of a slot for a buffer is the fragment of the first description for buffer 0, and of the second for buffer 1.
+    ensures live_fragments { (result ≡ Answer.Done) →
+        OfLive (task_of words.now) (D.seen desk.old).told.inputs HasFragments }
     ensures live_inside { (result ≡ Answer.Done) →
         OfLive (task_of words.now) (D.seen desk.old).told.inputs (OfLiveSteps LiveRunStaysInside) }
     ensures live_pictures { (result ≡ Answer.Done) →
         OfLive (task_of words.now) (D.seen desk.old).told.inputs (OfLiveSteps LiveRunShowsPictures) }
     ensures live_no_fault { (result ≡ Answer.Done) →
         OfLive (task_of words.now) (D.seen desk.old).told.inputs (OfLiveSteps LiveRunShowsNoFault) }
+    ensures live_in_time { (result ≡ Answer.Done) →
+        OfLive (task_of words.now) (D.seen desk.old).told.inputs (OfLiveSteps LiveRunSignalsInTime) }
 
     // At Done of the other commands: what was written and said.
     ensures accepted { (result ≡ Answer.Done) → (program : Word) →

@@ -2,7 +2,9 @@ pub mod Splits
 pub mod Sound
 pub mod Standing
 pub mod Meets
+pub mod Captured
 pub mod Shown
+pub mod InTime
 pub mod Worked
 pub mod Promises
 pub mod Behind

@@ -17,6 +17,9 @@ use Rattle.chain_model.specs.Live.{IsLiveStep, Live, LiveStep, Patch, Plain, liv
 use Rattle.chain_model.proofs.Live.{IsPatching-patch}
 use Rattle.chain_law.specs.Pictures.{between, step_at}
 
+pub own : (m : State) (program : RiscProgram) → m.program ≡ program → m ≡ with_program program m
+own m program e = ap (λ (p : RiscProgram). with_program p m) e
+
 module _ (chain : Chain) where
   pub live_run-append : (live : Live) (first second : List LiveStep) → live_run chain live (first ++ second) ≡ live_run chain (live_run chain live first) second
   live_run-append live [] second = refl
@@ -39,9 +42,6 @@ module _ (chain : Chain) where
   mets-append live (Plain s ∷ first) second =
       ap (λ (rest : List Met). (patched chain live.patching, s) ∷ rest) (mets-append (live_step chain (Plain s) live) first second)
   mets-append live (Patch slot part ∷ first) second = mets-append (live_step chain (Patch slot part) live) first second
-
-  own : (m : State) (program : RiscProgram) → m.program ≡ program → m ≡ with_program program m
-  own m program e = ap (λ (p : RiscProgram). with_program p m) e
 
   -- a live run over the steps that meet programs
   pub live_run-mets : (live : Live) (steps : List LiveStep) (m : State) → live.machine ≡ with_program (patched chain live.patching) m →

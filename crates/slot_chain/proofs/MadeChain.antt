@@ -3,10 +3,12 @@ use Rattle.std.proofs.Common.{◌≡◌, ℕ, ◌<◌, ◌≤◌, All, List, len
 use Rattle.std.specs.Prelude.{replicate, slice_index_or}
 use Rattle.page_table.proofs.Listed.{none_passes}
 use Rattle.page_table.specs.Grants.{Chunk}
-use Rattle.machine_model.specs.Paths.{RiscProgram, shares_byte}
+use Rattle.machine_model.specs.Paths.{IsFirstBad, RiscProgram, shares_byte}
+use Rattle.machine_model.specs.declared.Cause.{Cause}
 use Rattle.chain_model.specs.declared.PartWords.{PartWords}
 use Rattle.chain_model.specs.Chains.{Chain, IsChain, IsPatching, IsSoundChain, alone, max_parts, max_slots}
 use Rattle.chain_model.proofs.Live.{IsPatching-unpatched}
+use Rattle.chain_model.proofs.Slots.{empty_sound}
 use Rattle.slot_chain.specs.Making.{AreAlone, place_fault}
 use Rattle.slot_chain.specs.States.{chain_of}
 use Rattle.slot_chain.specs.Wheels.{IsWheel}
@@ -37,6 +39,10 @@ module _ (chain : Chain) (slots : (1 ≤ chain.slots) × (chain.slots ≤ max_sl
         count = are.count;
         kept = λ part lt. ap (slice_index_or programs part) is ∙ are.each part lt;
       }
+
+-- without parts a chain's program is never refused
+pub never_bad : (chain : Chain) (at nth : ℕ) (cause : Cause) → IsFirstBad (alone chain None) at nth cause → ⊥
+never_bad chain at nth cause bad = let fine = empty_sound chain nth in let other = bad.bad in absurd (cc)
 
 -- from what the code has of its parts
 module _ (base slots : ℕ) (parts judged : List PartWords) (grants : List Chunk) (running : RiscProgram) (programs : List RiscProgram) (patching : List (Option ℕ)) (same : judged ≡ parts)

@@ -267,6 +267,7 @@ pub(crate) struct Programs {
 }
 
 /// Checks a chain: its place, and then the program of each part. The verifier's steps are counted.
+#[tactic(auto, using(crate::proofs::MadeChain::never_bad))]
 pub(crate) fn judge_chain<L: Ledger>(
     alloc: Global,
     base: u32,
@@ -289,6 +290,8 @@ pub(crate) fn judge_chain<L: Ledger>(
     let with_part = accept_parts(alloc, base, slots, &words, parts, grants, steps)?;
     match accept(alloc, base, words, grants, steps) {
         Ok(empty) => Ok(Programs { empty, with_part }),
-        Err(_) => Err(ChainError::Memory),
+        Err(Why::Memory) => Err(ChainError::Memory),
+        // without parts the slots lead on and round, so their program is sound
+        Err(Why::Bad { .. }) => unreachable!(),
     }
 }

@@ -6,9 +6,9 @@ use Rattle.bt878_contract.proofs.Pictures.{fields_end_in_time, fields_shown, no_
 use Rattle.bt878_contract.specs.Rings.{RingsShowNoFault, ShowsRings}
 use Rattle.bt878_contract.proofs.Rings.{no_fault_in_rings, rings_shown}
 use Rattle.machine_model.specs.States.{first_state}
-use Rattle.chain_law.specs.Runs.{LiveRunShowsNoFault, LiveRunShowsPictures, LiveRunStaysInside}
+use Rattle.chain_law.specs.Runs.{LiveRunShowsNoFault, LiveRunShowsPictures, LiveRunSignalsInTime, LiveRunStaysInside}
 use Rattle.bt878_contract.proofs.Consequences.{bad_input_comes, bad_input_must, completes, done_assemble, done_capture, done_captured, done_chain, done_check, done_compile, done_counts, done_damage, done_inside}
-use Rattle.bt878_contract.proofs.Consequences.{done_help, done_list, done_live, done_make, done_ring, done_run, done_sound, done_trace, done_verify, done_version, ends_at_fault, in_order, names_kept, others_untouched, read_fault_comes}
+use Rattle.bt878_contract.proofs.Consequences.{done_fragments, done_help, done_list, done_live, done_make, done_ring, done_run, done_sound, done_trace, done_verify, done_version, ends_at_fault, in_order, names_kept, others_untouched, read_fault_comes}
 use Rattle.bt878_contract.proofs.Consequences.{refused_only_says, usage_comes, write_fault_comes, write_fault_stands}
 use Rattle.bt878_top.proofs.call.bt878.Goals as goal
 
@@ -86,6 +86,17 @@ returns-clause-live_no_fault g c =
     let see = g.D.Desk.seen in
     done_live LiveRunShowsNoFault (λ chain fill steps kept. kept.quiet) (task_of c.args.words.now) c.answer_words.result (see c.args.desk.now) (see c.answer_words.new.desk)
     c.answer_words.ensures
+
+pub returns-clause-live_in_time : goal.returns-clause-live_in_time
+returns-clause-live_in_time g c =
+    let see = g.D.Desk.seen in
+    done_live LiveRunSignalsInTime (λ chain fill steps kept. kept.in_time) (task_of c.args.words.now) c.answer_words.result (see c.args.desk.now) (see c.answer_words.new.desk)
+    c.answer_words.ensures
+
+pub returns-clause-live_fragments : goal.returns-clause-live_fragments
+returns-clause-live_fragments g c =
+    let see = g.D.Desk.seen in
+    done_fragments (task_of c.args.words.now) c.answer_words.result (see c.args.desk.now) (see c.answer_words.new.desk) c.answer_words.ensures
 
 pub returns-clause-chained : goal.returns-clause-chained
 returns-clause-chained g c =
