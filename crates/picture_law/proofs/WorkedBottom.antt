@@ -17,13 +17,13 @@ use Rattle.field_law.proofs.Bringing.{mark_brings, row_brings}
 use Rattle.field_law.specs.Arrivals.{AreKept, HasCode, coming, meeting}
 use Rattle.field_law.specs.Worked.{begun}
 use Rattle.field_law.proofs.Worked.{begun_made}
-use Rattle.picture_law.specs.Pictures.{AreRows, AreSkipped, HoldBytes, IsKeptAt, IsPicture, SkippedLines, field_tokens, of_row, rows_on}
+use Rattle.picture_law.specs.Pictures.{AreRows, AreSkipped, IsKeptAt, IsPicture, SkippedLines, field_tokens, of_row, rows_on}
 use Rattle.picture_law.specs.Sections.{section_of}
 use Rattle.picture_law.specs.Runs.{ArrivesAt, IsCapture, IsSignalled, state_of}
 use Rattle.picture_law.specs.WorkedPlanar.{five, five_entries, planar_picture, planar_pushes, ten}
 use Rattle.picture_law.specs.WorkedBottom.{bottom_pushes, bottom_steps, spread, top_comes}
 use Rattle.picture_law.proofs.Between.{silent_at}
-use Rattle.picture_law.proofs.WorkedPlanar.{HoldsBytes, bytes_hold, chroma_brings, chroma_lines, luma_brings, luma_lines, one_long, pushes_made, skipped_rows, three_brings, three_rows, turns_kept, turns_made, two_brings, two_hold, two_long}
+use Rattle.picture_law.proofs.WorkedPlanar.{HoldsBytes, bytes_hold, chroma_brings, chroma_lines, luma_brings, luma_lines, one_long, pushes_made, row_bytes, skipped_rows, three_brings, three_rows, turns_kept, turns_made, two_brings, two_long}
 
 described : IsDescription spread
 described =
@@ -49,11 +49,6 @@ rows : (q : Queue) → AreRows spread q (field_height spread Bottom) (rows_on pl
 rows One = two_long 10 (ten 16) (ten 32) refl refl
 rows Two = two_long 5 (five 48) (five 64) refl refl
 rows Three = two_long 5 (five 80) (five 96) refl refl
-
-row_bytes : (q : Queue) → HoldBytes (rows_on planar_picture q)
-row_bytes One = two_hold (ten 16) (ten 32) refl refl
-row_bytes Two = two_hold (five 48) (five 64) refl refl
-row_bytes Three = two_hold (five 80) (five 96) refl refl
 
 pictured : IsPicture spread Bottom planar_picture
 pictured =

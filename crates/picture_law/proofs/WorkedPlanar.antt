@@ -63,7 +63,7 @@ bytes_hold (byte ∷ bytes) h =
 abbrev pub HoldsBytes : List ℕ → Type 0
 HoldsBytes line = All IsByte line
 
-pub two_hold : (first second : List ℕ) → are_bytes first ≡ true → are_bytes second ≡ true → HoldBytes (first ∷ second ∷ [])
+two_hold : (first second : List ℕ) → are_bytes first ≡ true → are_bytes second ≡ true → HoldBytes (first ∷ second ∷ [])
 two_hold first second one two = All-from_recursion HoldsBytes (first ∷ second ∷ []) (bytes_hold first one, (bytes_hold second two, tt))
 
 pub one_long : (bytes : ℕ) (line : List ℕ) → length line ≡ bytes → AreLines 1 bytes (line ∷ [])
@@ -78,7 +78,7 @@ rows One = two_long 10 (ten 16) (ten 32) refl refl
 rows Two = two_long 5 (five 48) (five 64) refl refl
 rows Three = two_long 5 (five 80) (five 96) refl refl
 
-row_bytes : (q : Queue) → HoldBytes (rows_on planar_picture q)
+pub row_bytes : (q : Queue) → HoldBytes (rows_on planar_picture q)
 row_bytes One = two_hold (ten 16) (ten 32) refl refl
 row_bytes Two = two_hold (five 48) (five 64) refl refl
 row_bytes Three = two_hold (five 80) (five 96) refl refl
