@@ -1,11 +1,27 @@
 -- The digits of a number of few decimal places.
-use Rattle.std.proofs.Common.{append_assoc, length, ◌≡◌, ℕ, ◌+◌, ◌/◌, ◌%◌, ◌^◌, ◌<◌, ◌≤◌, List, [], ◌∷◌, ◌++◌, ap, ◌∙◌, arith}
+use Rattle.std.proofs.Common.{append_assoc, length, ◌≡◌, ℕ, ◌+◌, ◌*◌, ◌/◌, ◌%◌, ◌^◌, ◌<◌, ◌≤◌, Bool, true, List, [], ◌∷◌, ◌++◌, refl, ap, ◌∙◌, arith}
+use Rattle.std.specs.Prelude.{◌==◌, codes, slice_index_or}
 use Rattle.std.specs.Fmt.{decimal}
 use Rattle.std.specs.Str.{IsUtf8}
+use Rattle.std.proofs.lemmas.Bool.{agree_below_at, eqb-true}
 use Rattle.std.proofs.lemmas.Fmt.{length-decimal-le, decimal_digit, decimal_step, IsAscii-decimal}
 use Rattle.std.proofs.lemmas.Str.{IsUtf8-from_ascii}
 use Rattle.std.proofs.lemmas.Str.Ascii.{IsAscii-cons, IsAscii-nil}
 use Rattle.risc_listing.specs.Lines.{count_text, last_four}
+
+-- the table of pairs of digits
+abbrev pairs : List ℕ
+pairs = codes "00010203040506070809101112131415161718192021222324252627282930313233343536373839404142434445464748495051525354555657585960616263646566676869707172737475767778798081828384858687888990919293949596979899"
+
+pub ten_in_table : (n place : ℕ) → n < 100 → place ≡ 2 * n → slice_index_or pairs place 0 ≡ 48 + n / 10
+ten_in_table n place small is =
+    ap (λ (at : ℕ). slice_index_or pairs at 0) is
+    ∙ eqb-true _ _ (agree_below_at (λ k. slice_index_or pairs (2 * k) 0 == 48 + k / 10) (λ _. true) 100 n refl small)
+
+pub unit_in_table : (n place : ℕ) → n < 100 → place ≡ 2 * n + 1 → slice_index_or pairs place 0 ≡ 48 + n % 10
+unit_in_table n place small is =
+    ap (λ (at : ℕ). slice_index_or pairs at 0) is
+    ∙ eqb-true _ _ (agree_below_at (λ k. slice_index_or pairs (2 * k + 1) 0 == 48 + k % 10) (λ _. true) 100 n refl small)
 
 pub two_digits : (n : ℕ) → 10 ≤ n → n < 100 → decimal n ≡ (48 + n / 10) ∷ (48 + n % 10) ∷ []
 two_digits n low high =

@@ -99,12 +99,32 @@ pub fn two_digits(n: u8) -> [u8; 2]
     [last_but_one(u32::from(n)), last_digit(u32::from(n))]
 }
 
-// The last decimal digit of a number.
+// The numbers below 100 in two decimal digits each.
+const DECIMAL_PAIRS: [u8; 200] = *b"\
+    0001020304050607080910111213141516171819\
+    2021222324252627282930313233343536373839\
+    4041424344454647484950515253545556575859\
+    6061626364656667686970717273747576777879\
+    8081828384858687888990919293949596979899";
+
+// The last decimal digit of a number below 100.
 #[inline(always)]
+#[tactic(auto, using(crate::proofs::Decimal::unit_in_table))]
 fn unit(n: u16) -> u8
+    requires { n < 100 }
     ensures { result ≡ 48 + n % 10 }
 {
-    b'0' + (n % 10) as u8
+    DECIMAL_PAIRS[2 * n as usize + 1]
+}
+
+// The digit before it.
+#[inline(always)]
+#[tactic(auto, using(crate::proofs::Decimal::ten_in_table))]
+fn ten(n: u16) -> u8
+    requires { n < 100 }
+    ensures { result ≡ 48 + n / 10 }
+{
+    DECIMAL_PAIRS[2 * n as usize]
 }
 
 // A space and a number of one digit, and of two, three and four.
@@ -124,7 +144,7 @@ pub fn two_places(n: u16) -> [u8; 3]
     ensures digits { result ≡ count_text n }
     ensures text { IsUtf8 result }
 {
-    [b' ', b'0' + (n / 10) as u8, unit(n)]
+    [b' ', ten(n), unit(n)]
 }
 
 #[inline(always)]
@@ -134,7 +154,8 @@ pub fn three_places(n: u16) -> [u8; 4]
     ensures digits { result ≡ count_text n }
     ensures text { IsUtf8 result }
 {
-    [b' ', b'0' + (n / 100) as u8, unit(n / 10), unit(n)]
+    let (front, back) = (n / 100, n % 100);
+    [b' ', b'0' + front as u8, ten(back), unit(back)]
 }
 
 #[inline(always)]
@@ -144,13 +165,8 @@ pub fn four_places(n: u16) -> [u8; 5]
     ensures digits { result ≡ count_text n }
     ensures text { IsUtf8 result }
 {
-    [
-        b' ',
-        b'0' + (n / 1000) as u8,
-        unit(n / 100),
-        unit(n / 10),
-        unit(n),
-    ]
+    let (front, back) = (n / 100, n % 100);
+    [b' ', ten(front), unit(front), ten(back), unit(back)]
 }
 
 #[inline(always)]
@@ -159,13 +175,14 @@ pub fn five_places(n: u16) -> [u8; 6]
     ensures digits { result ≡ count_text n }
     ensures text { IsUtf8 result }
 {
+    let (front, back) = (n / 100 % 100, n % 100);
     [
         b' ',
         b'0' + (n / 10000) as u8,
-        unit(n / 1000),
-        unit(n / 100),
-        unit(n / 10),
-        unit(n),
+        ten(front),
+        unit(front),
+        ten(back),
+        unit(back),
     ]
 }
 
@@ -176,10 +193,6 @@ pub fn last_four(n: u16) -> [u8; 4]
     ensures digits { result ≡ last_four n }
     ensures text { IsUtf8 result }
 {
-    [
-        b'0' + (n / 1000) as u8,
-        unit(n / 100),
-        unit(n / 10),
-        unit(n),
-    ]
+    let (front, back) = (n / 100, n % 100);
+    [ten(front), unit(front), ten(back), unit(back)]
 }

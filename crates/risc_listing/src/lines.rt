@@ -121,8 +121,9 @@ fn push_last_four(text: &mut Lines, n: u16)
     text.push_str(unsafe { str::from_utf8_unchecked(&digits) });
 }
 
-/// Appends a space and a number, which may have up to twenty decimal digits.
-pub fn push_number(text: &mut Lines, n: u64)
+// Appends a space and a number of any length.
+#[inline(never)]
+fn push_long_number(text: &mut Lines, n: u64)
     requires { array_string_len text.old + 21 ≤ 65536 }
     ensures bytes { text.new.bytes ≡ text.old.bytes ++ count_text n }
     ensures long { array_string_len text.new ≤ array_string_len text.old + 21 }
@@ -130,8 +131,26 @@ pub fn push_number(text: &mut Lines, n: u64)
     if n < 10_000 {
         push_count(text, n as u16);
     } else {
-        push_number(text, n / 10_000);
+        push_long_number(text, n / 10_000);
         push_last_four(text, (n % 10_000) as u16);
+    }
+}
+
+/// Appends a space and a number, which may have up to twenty decimal digits.
+#[inline(always)]
+pub fn push_number(text: &mut Lines, n: u64)
+    requires { array_string_len text.old + 21 ≤ 65536 }
+    ensures bytes { text.new.bytes ≡ text.old.bytes ++ count_text n }
+    ensures long { array_string_len text.new ≤ array_string_len text.old + 21 }
+{
+    if n < 10_000 {
+        push_count(text, n as u16);
+    } else if n < 100_000_000 {
+        let short = n as u32;
+        push_count(text, (short / 10_000) as u16);
+        push_last_four(text, (short % 10_000) as u16);
+    } else {
+        push_long_number(text, n);
     }
 }
 
