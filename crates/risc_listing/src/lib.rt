@@ -14,6 +14,7 @@ mod lines;
 mod unnamed;
 
 use arrayvec::ArrayString;
+pub use digits::space_and_address;
 pub use lines::{InstrLine, code_name, push_at, push_count, push_digit, push_number};
 use lines::{LONGEST_LINE, push_instr_line, push_word_line};
 use page_table::{PageSet, is_page};
