@@ -34,10 +34,10 @@ use Rattle.dma_machine.proofs.WholeTakes.{IsWhole, plain_whole}
 
 -- ---- an empty queue
 
-record IsEmpty (held : QueueState) : Type 0 where
-  entries : held.entries ≡ []
-  taken : held.taken ≡ 0
-  room : is_full held ≡ false
+pub record IsEmpty (held : QueueState) : Type 0 where
+  pub entries : held.entries ≡ []
+  pub taken : held.taken ≡ 0
+  pub room : is_full held ≡ false
 
 no_front : (entries : List Entry) → is_none (first entries) ≡ true → entries ≡ []
 no_front [] e = refl
@@ -50,7 +50,7 @@ none_taken held none (inr less) = omega (arith, none, less)
 unequal : (a b : ℕ) → a < b → (a == b) ≡ false
 unequal a b less = grind (arith, less)
 
-empty_queue : (held : QueueState) → IsQueue held → is_none (front held) ≡ true → IsEmpty held
+pub empty_queue : (held : QueueState) → IsQueue held → is_none (front held) ≡ true → IsEmpty held
 empty_queue held is none =
     let entries : held.entries ≡ [] = no_front held.entries none in
     let count : length held.entries ≡ 0 = ap length entries in
@@ -108,13 +108,13 @@ abbrev others_after : Queue → Option State → List Application
 others_after q after = elim after as (λ _. List Application) [ None ↦ [] | Some next ↦ applications 0 q next ]
 
 -- what is asked before it, one by one
-record Falls (q : Queue) (entry : Entry) (m : State) (ds : Demands) : Type 0 where
-  on : m.fifo_on ≡ true
-  runs : m.risc_on ≡ true
-  one : m.trigger ≡ 1
-  none : is_none (front (queue_state q m.queues)) ≡ true
-  takes : takes_whole (kind_of entry.status) (demand_on q ds).needs_sol 0 (demand_on q ds).rest ≡ true
-  before : none_before q ds m ≡ true
+pub record Falls (q : Queue) (entry : Entry) (m : State) (ds : Demands) : Type 0 where
+  pub on : m.fifo_on ≡ true
+  pub runs : m.risc_on ≡ true
+  pub one : m.trigger ≡ 1
+  pub none : is_none (front (queue_state q m.queues)) ≡ true
+  pub takes : takes_whole (kind_of entry.status) (demand_on q ds).needs_sol 0 (demand_on q ds).rest ≡ true
+  pub before : none_before q ds m ≡ true
 
 module _ (q : Queue) (entry : Entry) (m : State) (instr : Instr) (ds : Demands) (fifo : IsFifo m.queues) (running : m.job ≡ Running instr ds) (falls : Falls q entry m ds) where
   abbrev held : QueueState
@@ -133,7 +133,7 @@ module _ (q : Queue) (entry : Entry) (m : State) (instr : Instr) (ds : Demands) 
   abbrev came : State
   came = record m { queues = with_queue_state q (entered entry held) m.queues }
 
-  entry_came : push q entry m ≡ came
+  pub entry_came : push q entry m ≡ came
   entry_came =
       ap (λ is_on. push_if is_on q entry m) falls.on
       ∙ ap (λ full. record (with_fbus_if full m) { queues = if full then (with_queue_state q (overrun held) m.queues) else (with_queue_state q (entered entry held) m.queues) }) empty.room
@@ -190,7 +190,7 @@ module _ (q : Queue) (entry : Entry) (m : State) (instr : Instr) (ds : Demands) 
   lowest_is : lowest_served ds came ≡ Some q
   lowest_is = lowest q ds m (entered entry held) falls.before ready
 
-  entry_falls : acted (push q entry m) ≡ fallen_through q instr ds entry m
+  pub entry_falls : acted (push q entry m) ≡ fallen_through q instr ds entry m
   entry_falls =
       ap acted entry_came
       ∙ ap (λ is_on. turn_if is_on came) falls.runs
@@ -234,7 +234,7 @@ module _ (q : Queue) (entry : Entry) (m : State) (instr : Instr) (ds : Demands) 
       ∙ sym (all_noted-seen_burst q at (whole_take ∷ []))
       ∙ sym (whole_noted q whole_take (seen_alone (Moved q) at) takes_it)
 
-  entry_seen : MovesWhole q (seen (push q entry m))
+  pub entry_seen : MovesWhole q (seen (push q entry m))
   entry_seen =
       let is : seen (push q entry m) ≡ moved_whole q at = ap seen entry_came ∙ came_seen in
       is ∙ ap (moved_whole q) (sym (ap (λ (s : Seen). s.at) is))

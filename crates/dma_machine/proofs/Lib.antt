@@ -12,3 +12,4 @@ pub mod Spelled
 pub mod Noting
 pub mod Retiring
 pub mod StillSeen
+pub mod PlainRuns

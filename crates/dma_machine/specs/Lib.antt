@@ -7,3 +7,4 @@ pub mod Views
 pub mod Counts
 pub mod Noted
 pub mod Looks
+pub mod Plain

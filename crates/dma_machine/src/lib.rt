@@ -6,6 +6,7 @@ ghost use Rattle.dma_machine.specs.Counts.{acted, acted_times, with_turns};
 ghost use Rattle.dma_machine.specs.FallThrough.{MovesWhole, falls_through};
 ghost use Rattle.dma_machine.specs.Facts.{IsMachine, report_of};
 ghost use Rattle.dma_machine.specs.Looks.{CanGoOn, RetiresAt, holds, next_drop, next_fetch, next_retirement};
+ghost use Rattle.dma_machine.specs.Plain.{ArePlain, AreTaken, plain_room, plain_steps};
 ghost use Rattle.dma_machine.specs.Stills.{is_still};
 ghost use Rattle.fifo_model.specs.Queues.{empty_queues, max_capacity, more, empty_fifo, queue_state};
 ghost use Rattle.irq_status.specs.Register.{has_ocerr};
@@ -17,13 +18,14 @@ ghost use Rattle.machine_model.specs.States.{started};
 ghost use Rattle.machine_model.specs.Steps.{Turn, control_pushed_as, host, push, push_control, pushed_as, run, with_program};
 ghost use Rattle.machine_model.specs.Turns.{counted, turn};
 ghost use Rattle.page_table.specs.Blocks.{chunks_of};
-ghost use Rattle.std.specs.Prelude.{◌≡◌, ◌<◌, ◌≤◌, ◌^◌, false, length, replicate, true};
+ghost use Rattle.std.specs.Prelude.{◌≡◌, ◌*◌, ◌<◌, ◌≤◌, ◌^◌, List, false, length, replicate, true, ℕ};
 ghost use Rattle.sync_status.specs.Statuses.{is_control, kind_of};
 
 mod engine;
 mod fetching;
 mod host;
 mod parts;
+mod plain;
 mod running;
 mod seeing;
 mod stores;
@@ -295,6 +297,32 @@ impl<R: Ram> Machine<R> {
             Queue::Two => self.push_and_take_on(Queue::Two, e),
             Queue::Three => self.push_and_take_on(Queue::Three, e),
         }
+    }
+
+    /// How many plain entries of a queue, data entries with the status PixelsValid, `push_plain` may push: where each of them has
+    /// a turn behind it, this turn takes it whole, and then the machine stands still. None where the FIFO or RISC is disabled, no
+    /// data instruction runs, the trigger point is not 1, the line has not begun, a lane is off, or an entry waits.
+    #[inline]
+    pub fn plain_room(&self, q: Queue) -> u32
+        ensures room { result ≡ plain_room q self.now }
+        ensures facts { IsMachine self.now }
+    {
+        self.engine.plain_room(q)
+    }
+
+    /// Pushes of plain entries to a queue, one or more, and turns behind each: the bytes are their DWORDs, four for each entry, the
+    /// lowest first, and `turns` the sum of their turns, at least one behind each. However the turns are shared out, the machine is as
+    /// after all these pushes and turns, one after the other. The bytes are stored at once.
+    #[inline]
+    pub fn push_plain(&mut self, q: Queue, dwords: &[u8], turns: u32)
+        requires some { 0 < length dwords.now }
+        requires room { length dwords.now ≤ 4 * plain_room q self.old }
+        requires plain { (entries : List (ℕ × ℕ)) × ArePlain dwords.now turns entries }
+        ensures state { (entries : List (ℕ × ℕ)) → ArePlain dwords.now turns entries → self.new ≡ run self.old (plain_steps q entries) }
+        ensures taken { (entries : List (ℕ × ℕ)) → ArePlain dwords.now turns entries → AreTaken q entries self.old }
+        ensures facts { IsMachine self.new }
+    {
+        self.engine.push_plain(q, dwords, turns);
     }
 
     /// So many turns of a machine that stands still: beside being counted they do nothing.

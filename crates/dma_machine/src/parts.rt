@@ -3,6 +3,7 @@
 ghost use Rattle.dma_machine.specs.Needs.{IsAddress};
 ghost use Rattle.machine_model.specs.Paths.{demand, demands_of, first_demand, no_demand, target_after, target_before, target_moved, three_demands};
 ghost use Rattle.machine_model.specs.Turns.{demand_less, demand_on, is_cut_short, is_done, rest_of_line, skipping_after, with_demand};
+ghost use Rattle.dma_machine.specs.Plain.{whole_entries};
 ghost use Rattle.dma_machine.specs.WholeTakes.{takes_whole};
 ghost use Rattle.risc_word.specs.Words.{encoded};
 ghost use Rattle.std.specs.Prelude.{◌≡◌, ◌+◌, ◌≤◌, length};
@@ -209,12 +210,12 @@ pub fn demand_on(demands: &Demands, q: Queue) -> Demand
 
 /// Takes so many bytes off what is asked of a queue.
 #[inline(always)]
-fn lessen_one(demand: &mut Demand, count: u8)
+fn lessen_one(demand: &mut Demand, count: u16)
     requires asked { count ≤ demand.old.rest }
     requires address { IsAddress demand.old.address }
     ensures { demand.new ≡ demand_less count demand.old }
 {
-    demand.rest -= u16::from(count);
+    demand.rest -= count;
     if let Some(at) = demand.address {
         demand.address = Some(at + u64::from(count));
     }
@@ -223,7 +224,7 @@ fn lessen_one(demand: &mut Demand, count: u8)
 
 /// What is still asked after some bytes of a queue were taken.
 #[inline(always)]
-pub fn lessen(demands: &mut Demands, q: Queue, count: u8)
+pub fn lessen(demands: &mut Demands, q: Queue, count: u16)
     requires asked { count ≤ (demand_on q demands.old).rest }
     requires address { IsAddress (demand_on q demands.old).address }
     ensures { demands.new ≡ with_demand q (demand_less count (demand_on q demands.old)) demands.old }
@@ -241,6 +242,18 @@ pub fn is_done(demands: &Demands) -> bool
     ensures { result ≡ is_done demands.now }
 {
     demands.one.rest == 0 && demands.two.rest == 0 && demands.three.rest == 0
+}
+
+/// How many plain entries of a queue are taken whole before nothing more is asked of any.
+pub fn whole_entries(demands: &Demands, q: Queue) -> u32
+    ensures { result ≡ whole_entries q demands.now }
+{
+    let rest = u32::from(demand_on(demands, q).rest);
+    let one = demand_on(demands, Queue::One).rest;
+    let two = demand_on(demands, Queue::Two).rest;
+    let three = demand_on(demands, Queue::Three).rest;
+    let all = u32::from(one) + u32::from(two) + u32::from(three);
+    (rest / 4).min(all.saturating_sub(1) / 4)
 }
 
 /// Whether a line ends with the bytes that are taken of its entry, and more were asked for.

@@ -39,7 +39,7 @@ impl<R: Ram> Engine<R> {
         let demand = demand_on(&self.demands, q);
         let stored = store_at(&mut self.ram, demand.address, self.off, lane, bytes);
         self.moved = self.moved.saturating_add(stored);
-        lessen(&mut self.demands, q, count);
+        lessen(&mut self.demands, q, u16::from(count));
     }
 
     /// Takes bytes of a queue's front and stores those whose lane is on; whether the line ends before the

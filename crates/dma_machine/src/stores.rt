@@ -66,3 +66,16 @@ pub fn store_at<R: Ram>(ram: &mut R, address: Option<u64>, off: u8, lane: u8, by
         None => 0,
     }
 }
+
+/// Stores bytes one behind the other from an address on, or none where there is no address.
+#[inline(always)]
+pub fn store_run_at<R: Ram>(ram: &mut R, address: Option<u64>, bytes: &[u8]) -> u64
+    requires { range_cause (chunks_of (R.memory ram.old)) address (length bytes.now) ≡ None }
+    ensures memory { R.memory ram.new ≡ stored_all (R.memory ram.old) (stores_at address 0 0 bytes.now) }
+    ensures stored { result ≡ length (stores_at address 0 0 bytes.now) }
+{
+    match address {
+        Some(address) => store_all(ram, 0, address, bytes),
+        None => 0,
+    }
+}

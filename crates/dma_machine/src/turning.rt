@@ -8,7 +8,7 @@ use page_ram::Ram;
 impl<R: Ram> Engine<R> {
     ghost use Rattle.dma_machine.specs.Counts.{acted, with_turns};
     ghost use Rattle.dma_machine.specs.Needs.{CanWork};
-    ghost use Rattle.dma_machine.specs.Stills.{StillIf, is_still, runs_still, waits_still};
+    ghost use Rattle.dma_machine.specs.Stills.{StillIf, is_still, none_served, runs_still, waits_still};
     ghost use Rattle.dma_machine.specs.Views.{state_of};
     ghost use Rattle.fifo_model.specs.Queues.{more};
     ghost use Rattle.machine_model.specs.Turns.{worked};
@@ -47,8 +47,15 @@ impl<R: Ram> Engine<R> {
     pub fn runs_still(&self) -> bool
         ensures { result ≡ runs_still self.now.demands (state_of R.memory self.now) }
     {
-        !is_done(&self.demands)
-            && !self.is_served(Queue::One)
+        !is_done(&self.demands) && self.none_served()
+    }
+
+    /// Whether the instruction asks for bytes of no queue that is ready.
+    #[inline]
+    pub fn none_served(&self) -> bool
+        ensures { result ≡ none_served self.now.demands (state_of R.memory self.now) }
+    {
+        !self.is_served(Queue::One)
             && !self.is_served(Queue::Two)
             && !self.is_served(Queue::Three)
     }

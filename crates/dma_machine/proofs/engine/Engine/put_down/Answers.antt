@@ -14,4 +14,4 @@ pub returns-clause-within : goal.returns-clause-within
 returns-clause-within g c =
     ap (demands_cause (chunks_of (g.R.Ram.memory c.store_at-stored.new.ram))) c.lessen.ensures
     ∙ rest-granted _ _ (stores_at c.demand_on-demand.result.address c.args.self.now.off c.args.lane c.args.bytes.now)
-    c.args.q c.args.self.now.demands c.args.count c.store_at-stored.ensures.memory c.requires.asked c.requires.within
+    c.args.q c.args.self.now.demands c.from.result c.store_at-stored.ensures.memory (omega (arith, c.from.ensures, c.requires.asked)) c.requires.within
