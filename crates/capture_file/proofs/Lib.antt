@@ -5,6 +5,7 @@ pub mod Across
 pub mod Answered
 mod Wanting
 pub mod Fronts
+pub mod PairRuns
 pub mod Programs
 pub mod Chunks
 pub mod FourBytes

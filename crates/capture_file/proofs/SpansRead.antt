@@ -2,11 +2,11 @@
 use Rattle.std.proofs.Common.{◌≡◌, ℕ, zero, suc, ◌+◌, ◌-◌, ◌*◌, ◌/◌, ◌<◌, ◌≤◌, ◌⊎◌, inl, inr, Bool, true, false, cond, ◌||◌, List, [], ◌∷◌, ◌++◌, length, drop, get_or, Some, Result, Ok, Err, refl, sym, ap, subst, ◌∙◌, arith, append_assoc, length-append}
 use Rattle.std.proofs.lemmas.Bool.{le-leb}
 use Rattle.std.proofs.lemmas.List.{append-nil, drop-drop, drop_more}
-use Rattle.std.specs.Prelude.{IfErr, IsOk, nat_le, slice_index, ◌==◌}
+use Rattle.std.specs.Prelude.{IfErr, IsOk, nat_le, slice_index}
 use Rattle.std.specs.List.{list_any}
 use Rattle.byteorder.specs.Endian.{little_number}
 use Rattle.page_table.specs.Grants.{Chunk}
-use Rattle.machine_model.specs.Paths.{begins_at, IsProgram, RiscProgram, Span, end_of, is_there, span, stands_in, word_among, words_of}
+use Rattle.machine_model.specs.Paths.{IsProgram, RiscProgram, Span, end_of, is_there, span, stands_in, word_among, words_of}
 use Rattle.risc_verify.specs.Places.{with_word}
 use Rattle.risc_verify.proofs.Cuts.{with_word-last}
 use Rattle.capture_file.specs.declared.FileFault.{FileFault}

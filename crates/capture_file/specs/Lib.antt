@@ -1,5 +1,6 @@
 pub mod Streams
 pub mod Records
 pub mod Readers
+pub mod Pairs
 pub mod Programs
 pub mod Images

@@ -7,6 +7,7 @@ use risc_word::Code;
 
 mod image;
 mod laws;
+mod pairs;
 mod pieces;
 mod program;
 mod reader;

@@ -2,13 +2,15 @@
 
 ghost use Rattle.capture_file.specs.Readers.{AnswerFits, Closed, Failed, Opening, Records, Counts, IsReader, PlacedAt, Stays, Uses, after_answer, behind_word, closed_by, closed_taken, ending_in};
 ghost use Rattle.capture_file.specs.Readers.{fresh, record_taken, resumed, room, taken, taking, word_taken, Takes, front_record};
+ghost use Rattle.capture_file.specs.Pairs.{TakesPairs};
 ghost use Rattle.capture_file.specs.Records.{FoundFits, HasFour, Passes, Spans, StepFits, Sums, push_in, turns_in};
 ghost use Rattle.capture_file.specs.declared.FileFault.{FileFault};
 ghost use Rattle.capture_file.specs.declared.records.Found.TheVariants.{Cut};
 ghost use Rattle.capture_file.specs.Streams.{Bad, fault_at, most_turns, number_at, reading, record_at, stream_of, turns_of};
-ghost use Rattle.std.specs.Prelude.{◌≡◌, ◌≤◌, ◌<◌, ◌+◌, ◌-◌, ◌^◌, ◌++◌, List, ℕ, [], None, IfSome, IfNone, take, drop, length, true, false};
+ghost use Rattle.std.specs.Prelude.{◌≡◌, ◌≤◌, ◌<◌, ◌+◌, ◌-◌, ◌*◌, ◌^◌, ◌++◌, List, ℕ, [], None, IfSome, IfNone, take, drop, length, true, false};
 
-use super::records::{Form, Found, find, find_push, find_turns, form_named, number};
+use super::pairs::copy_pairs;
+use super::records::{Form, Found, MOST_TURNS, find, find_push, find_turns, form_named, number};
 use super::{FileFault, FileKind, Step};
 use fifo_model::{Entry, Queue};
 use irq_status::HostWrite;
@@ -444,6 +446,26 @@ impl StepReader {
         ensures none { IfNone result (self.new ≡ self.old) }
     {
         self.turns_front(piece)
+    }
+
+    /// Takes pairs of records, a data push to the queue with the status PixelsValid and one turn or more behind it, that lie whole at
+    /// the front of the piece, and copies their DWORDs, four bytes for each, one behind the other: how many pairs, of 11 bytes each, and
+    /// the sum of their turns. It may take fewer than stand there, and takes no more than there is room for. There are none where
+    /// `take_push` has none.
+    #[inline]
+    pub fn take_pairs(&mut self, queue: Queue, piece: &[u8], dwords: &mut [u8]) -> (usize, u32)
+        ensures taken { (pairs : List (ℕ × ℕ)) × TakesPairs queue result.0 result.1 dwords.new self.old piece.now self.new pairs }
+        ensures room { 4 * result.0 ≤ length dwords.new }
+    {
+        if let State::Between(_) = self.state
+            && piece.len() as u64 <= self.room
+        {
+            let (count, turns) = copy_pairs(queue, MOST_TURNS - self.turns, piece, dwords);
+            self.room -= 11 * count as u64;
+            self.turns += turns;
+            return (count, turns);
+        }
+        (0, 0)
     }
 
     fn closing(&self) -> Result<(), FileFault>
