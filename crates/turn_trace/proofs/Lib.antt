@@ -1,2 +1,3 @@
 pub mod Tracings
 pub mod Lines
+mod KeptWords

@@ -21,8 +21,8 @@ use risc_listing::{Lines, ROOM};
 use risc_word::Code;
 use std::marker::Model;
 use words::{
-    fate, push_control_words, push_entry_words, push_numbers, push_still_line, push_turn_words,
-    push_write_words,
+    Kept, push_control_words, push_entry_words, push_fate, push_numbers, push_still_line,
+    push_turn_words, push_write_words,
 };
 
 /// No step has a text of more bytes: the line of the turns before it of which nothing was seen, and its own.
@@ -33,6 +33,7 @@ pub const LONGEST_STEP: usize = 157;
 pub struct Trace<R: Ram> {
     machine: Machine<R>,
     still: u64,
+    kept: Kept,
 }
 
 impl<R: Ram> Model for Trace<R> {
@@ -48,7 +49,11 @@ impl<R: Ram> Trace<R> {
     pub fn new(machine: Machine<R>) -> Trace<R>
         ensures { result ≡ tracing machine 0 }
     {
-        Trace { machine, still: 0 }
+        Trace {
+            machine,
+            still: 0,
+            kept: Kept::new(0, 0),
+        }
     }
 
     /// Ends the turns of which nothing was seen: their line is appended.
@@ -74,8 +79,8 @@ impl<R: Ram> Trace<R> {
         self.end_still(text);
         push_entry_words(text, queue, &entry);
         let pushed = self.machine.push(queue, entry);
-        text.push_str(fate(pushed));
-        push_numbers(text, &self.machine);
+        push_fate(text, pushed);
+        push_numbers(text, &self.machine, &mut self.kept);
     }
 
     /// A push of a control code into the three queues, and its line.
@@ -88,8 +93,8 @@ impl<R: Ram> Trace<R> {
         self.end_still(text);
         push_control_words(text, code);
         let pushed = self.machine.push_control(code);
-        text.push_str(fate(pushed));
-        push_numbers(text, &self.machine);
+        push_fate(text, pushed);
+        push_numbers(text, &self.machine, &mut self.kept);
     }
 
     /// A register write of the host, and its line.
@@ -103,7 +108,7 @@ impl<R: Ram> Trace<R> {
         self.end_still(text);
         push_write_words(text, write);
         self.machine.host(write);
-        push_numbers(text, &self.machine);
+        push_numbers(text, &self.machine, &mut self.kept);
     }
 
     /// A turn, and its line if anything is seen of it.
@@ -123,7 +128,7 @@ impl<R: Ram> Trace<R> {
         }
         self.end_still(text);
         push_turn_words(text, turns, drops, told);
-        push_numbers(text, &self.machine);
+        push_numbers(text, &self.machine, &mut self.kept);
     }
 
     /// Takes so many turns of a machine that stands still.

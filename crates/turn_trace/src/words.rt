@@ -5,14 +5,19 @@ ghost use Rattle.irq_status.specs.Writes.{IsWrite};
 ghost use Rattle.risc_listing.specs.Lines.{at_text, code_name, count_text, line_end};
 ghost use Rattle.std.specs.Prelude.{◌≡◌, ◌+◌, ◌*◌, ◌^◌, ◌<◌, ◌≤◌, ◌++◌, codes, length};
 ghost use Rattle.sync_status.specs.Statuses.{kind_of};
+ghost use Rattle.turn_trace.specs.Kept.{kept_words};
 ghost use Rattle.turn_trace.specs.Traces.{bit_text, control_words, did_words, dropped_words, entry_words, fate, given_up_words, level_text, moved_words, numbers, queue_name, status_name, still_line, turn_words, write_words};
 
 use dma_machine::{Did, Machine, Told};
 use fifo_model::{Entry, Pushed, Queue};
 use irq_status::HostWrite;
 use page_ram::Ram;
-use risc_listing::{Lines, code_name, push_at, push_count, push_digit, push_number};
+use risc_listing::{
+    Lines, code_name, push_at, push_count, push_digit, push_number, space_and_address,
+};
 use risc_word::Code;
+use std::marker::Model;
+use std::str;
 use sync_status::{Status, StatusKind, kind, valid};
 
 fn queue_name(queue: Queue) -> &'static str
@@ -48,15 +53,17 @@ fn push_status(text: &mut Lines, status: Status)
     }
 }
 
-/// What became of a push.
-pub fn fate(pushed: Pushed) -> &'static str
-    ensures name { result.now ≡ fate pushed }
-    ensures long { length result.now ≤ 8 }
+/// Appends what became of a push.
+#[inline(always)]
+pub fn push_fate(text: &mut Lines, pushed: Pushed)
+    requires { array_string_len text.old + 8 ≤ 65536 }
+    ensures bytes { text.new.bytes ≡ text.old.bytes ++ fate pushed }
+    ensures long { array_string_len text.new ≤ array_string_len text.old + 8 }
 {
     match pushed {
-        Pushed::Held => "",
-        Pushed::Overrun => " lost",
-        Pushed::Off => " ignored",
+        Pushed::Held => {}
+        Pushed::Overrun => text.push_str(" lost"),
+        Pushed::Off => text.push_str(" ignored"),
     }
 }
 
@@ -215,17 +222,74 @@ fn push_level<R: Ram>(text: &mut Lines, machine: &Machine<R>, queue: Queue)
     push_count(text, machine.level(queue) as u16);
 }
 
+/// The words of a pc and an INT_STAT, kept with what they are of: in most lines they are those of the line before.
+#[derive(Drop)]
+pub struct Kept {
+    pc: u32,
+    int_stat: u32,
+    words: [u8; 20],
+}
+
+impl Model for Kept {
+    ghost use Rattle.std.specs.Prelude.{◌≡◌, ℕ};
+    ghost use Rattle.std.specs.Str.{IsUtf8};
+    ghost use Rattle.turn_trace.specs.Kept.{kept_words};
+
+    ghost Value = { ℕ × ℕ };
+
+    ghost view = { λ k. (k.pc, k.int_stat) };
+
+    ghost invariant = { λ k. (k.words ≡ kept_words k.pc k.int_stat) × IsUtf8 k.words };
+}
+
+impl Kept {
+    /// The words of a pc and an INT_STAT.
+    pub fn new(pc: u32, int_stat: u32) -> Kept
+        ensures { result ≡ (pc, int_stat) }
+    {
+        let at = space_and_address(pc);
+        let bits = space_and_address(int_stat);
+        Kept {
+            pc,
+            int_stat,
+            words: [
+                b' ', b'|', at[0], at[1], at[2], at[3], at[4], at[5], at[6], at[7], at[8], bits[0],
+                bits[1], bits[2], bits[3], bits[4], bits[5], bits[6], bits[7], bits[8],
+            ],
+        }
+    }
+
+    /// Keeps those of a pc and an INT_STAT.
+    #[inline(always)]
+    fn keep(&mut self, pc: u32, int_stat: u32)
+        ensures { self.new ≡ (pc, int_stat) }
+    {
+        if self.pc != pc || self.int_stat != int_stat {
+            *self = Kept::new(pc, int_stat);
+        }
+    }
+
+    /// Appends the words that are kept.
+    #[inline(always)]
+    fn append(&self, text: &mut Lines)
+        requires { array_string_len text.old + 20 ≤ 65536 }
+        ensures bytes { text.new.bytes ≡ text.old.bytes ++ kept_words self.now.0 self.now.1 }
+        ensures long { array_string_len text.new ≤ array_string_len text.old + 20 }
+    {
+        text.push_str(unsafe { str::from_utf8_unchecked(&self.words) });
+    }
+}
+
 /// Appends the numbers of a machine, which end a line.
 #[inline(always)]
-pub fn push_numbers<R: Ram>(text: &mut Lines, machine: &Machine<R>)
+pub fn push_numbers<R: Ram>(text: &mut Lines, machine: &Machine<R>, kept: &mut Kept)
     requires { array_string_len text.old + 60 ≤ 65536 }
     ensures bytes { text.new.bytes ≡ text.old.bytes ++ (numbers machine.now ++ line_end) }
     ensures long { array_string_len text.new ≤ array_string_len text.old + 60 }
 {
     let report = machine.report();
-    text.push_str(" |");
-    push_at(text, machine.pc());
-    push_at(text, report.int_stat);
+    kept.keep(machine.pc(), report.int_stat);
+    kept.append(text);
     push_level(text, machine, Queue::One);
     push_level(text, machine, Queue::Two);
     push_level(text, machine, Queue::Three);

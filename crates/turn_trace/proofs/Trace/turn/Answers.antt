@@ -31,7 +31,7 @@ returns g c =
     c.push_numbers.ensures.bytes
     ∙ ap (λ (x : Tracing). c.push_turn_words.new.text.bytes ++ (numbers x.machine ++ line_end)) (c.self-2.view_is ∙ state) in
     record {
-      state = state ∙ sym (told-after t Turn loud);
+      state = c.self-2.view_is ∙ state ∙ sym (told-after t Turn loud);
       text =
           appended old c.end_still.new.text.bytes c.push_numbers.new.text.bytes (still_line t.still) (words Turn t.machine ++ (numbers (turn t.machine) ++ line_end)) still
           (appended c.end_still.new.text.bytes c.push_turn_words.new.text.bytes c.push_numbers.new.text.bytes (words Turn t.machine) (numbers (turn t.machine) ++ line_end) said numbered)
