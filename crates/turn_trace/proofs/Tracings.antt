@@ -32,7 +32,7 @@ lines-append t (s ∷ first) later =
     ap (λ (list : List ℕ). told_by t s ++ list) (lines-append (after t s) first later)
     ∙ sym (append_assoc (told_by t s) (lines (after t s) first) (lines (after_all (after t s) first) later))
 
--- a step that is told
+-- a step that has a line
 pub told-one : (t : Tracing) (s : Step) → is_quiet s t.machine ≡ false → lines t (s ∷ []) ≡ still_line t.still ++ line s t.machine
 told-one t s loud = ap (λ (list : List ℕ). list ++ []) (ap (λ (quiet : Bool). told_if quiet t s) loud) ∙ append-nil _
 
@@ -81,7 +81,7 @@ still-after-some (suc count) t some still =
 pub appended : (old middle new first later : List ℕ) → middle ≡ old ++ first → new ≡ middle ++ later → new ≡ old ++ (first ++ later)
 appended old middle new first later one two = two ∙ ap (λ (list : List ℕ). list ++ later) one ∙ append_assoc old first later
 
--- what is seen of a turn that is told
+-- what is seen of a turn that has a line
 pub loud-did : (did : Did) → (did ≡ Still → ⊥) → is_still_did did ≡ false
 loud-did Still loud = absurd (loud refl)
 loud-did Jumped loud = refl

@@ -1,5 +1,5 @@
-//! The trace of a machine: a line for each step, for those who compare another machine with this one. The form of the lines is
-//! this project's own rule.
+//! The trace of a machine: a line for each step, for emulator authors who compare their machine with this one. The form of the
+//! lines is this project's own rule.
 #![tactic(auto)]
 
 ghost use Rattle.arrayvec.specs.ArrayString.{array_string_len};
