@@ -57,7 +57,7 @@ module _ {K : Type 0} (notes : Notes K) where
 
   -- nothing is kept of a turn that does nothing
   module _ (still_tells_nothing : (program : RiscProgram) (s : Seen) (k : K) → s.did ≡ Still → notes.saw program s k ≡ k) where
-    still_keeps : (count : ℕ) (m : State) (k : K) → is_still m ≡ true → kept_after notes m (replicate count Turn) k ≡ k
+    pub still_keeps : (count : ℕ) (m : State) (k : K) → is_still m ≡ true → kept_after notes m (replicate count Turn) k ≡ k
     still_keeps zero m k still = refl
     still_keeps (suc count) m k still =
         ap (λ (x : K). kept_after notes (turn m) (replicate count Turn) x) (still_tells_nothing m.program (seen m) k (still_seen m still))

@@ -1,14 +1,21 @@
 -- What is kept of a machine's steps beside the machine.
-use Rattle.std.specs.Prelude.{Bool, false, List, [], ◌∷◌}
+use Rattle.std.specs.Prelude.{◌≡◌, ℕ, Bool, true, false, List, [], ◌∷◌, if◌then◌else◌}
 use Rattle.irq_status.specs.declared.HostWrite.{HostWrite}
 use Rattle.irq_status.specs.declared.HostWrite.TheVariants.{Enable}
+use Rattle.fifo_model.specs.declared.Queue.{Queue}
 use Rattle.fifo_model.specs.declared.Queue.TheVariants.{One, Two, Three}
 use Rattle.machine_model.specs.declared.Seen.{Seen}
 use Rattle.machine_model.specs.Paths.{RiscProgram}
 use Rattle.machine_model.specs.Seen.{seen}
 use Rattle.machine_model.specs.States.{State}
 use Rattle.machine_model.specs.Steps.{Step, Turn, Host, run, step}
+use Rattle.dma_machine.specs.FallThrough.{moved_whole}
 use Rattle.dma_machine.specs.Looks.{holds}
+use Rattle.dma_machine.specs.Plain.{plain_room}
+
+-- how many plain entries may be pushed at once, where they may
+abbrev pub run_room : Bool → Queue → State → ℕ
+run_room lets q m = if lets then plain_room q m else 0
 
 -- what is made of what is kept, where a turn of a machine with this program does what is seen of it, and where the queues
 -- are emptied, of which these hold an entry
@@ -28,6 +35,11 @@ module _ {K : Type 0} where
   -- nothing is made of it
   abbrev pub no_notes : Notes K
   no_notes = record { saw = λ program seen k. k; emptied = λ one two three k. k }
+
+  -- of a turn that takes an entry whole, where this holds
+  abbrev pub TellsNothingIf : Bool → Notes K → Type 0
+  TellsNothingIf true notes = (program : RiscProgram) (q : Queue) (at : ℕ) (k : K) → notes.saw program (moved_whole q at) k ≡ k
+  TellsNothingIf false notes = Unit {0}
 
   -- a host write that disables the FIFO empties the queues
   abbrev pub written : Notes K → HostWrite → State → K → K

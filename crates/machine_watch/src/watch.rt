@@ -6,7 +6,7 @@ ghost use Rattle.machine_model.specs.Paths.{RiscProgram};
 ghost use Rattle.machine_model.specs.Steps.{Push, Turn};
 ghost use Rattle.machine_model.specs.declared.Did.TheVariants.{Still};
 ghost use Rattle.machine_model.specs.declared.Seen.{Seen as SeenOf};
-ghost use Rattle.machine_watch.specs.Watches.{Notes, no_notes, watched, watching};
+ghost use Rattle.machine_watch.specs.Watches.{Notes, TellsNothingIf, no_notes, watched, watching};
 ghost use Rattle.sync_status.specs.Statuses.{is_control, kind_of};
 
 use dma_machine::{Machine, Seen};
@@ -24,6 +24,11 @@ pub trait Watch {
     /// Whether a turn that takes an entry whole may be told without the address of its instruction. Such an entry need not
     /// stand in its queue.
     const LETS_FALL: bool;
+
+    ghost LETS_RUN: { Bool };
+
+    /// Whether turns that take an entry whole make nothing of what is kept. Entries that fall through may then be taken many at once.
+    const LETS_RUN: bool;
 
     /// A turn of a machine with this program was taken.
     fn saw(&mut self, program: &Program, seen: &Seen)
@@ -103,6 +108,9 @@ pub trait Watch {
 
     // a turn that does nothing makes nothing of what is kept
     ghost still: { (program : RiscProgram) (seen : SeenOf) (kept : Self) → seen.did ≡ Still → notes.saw program seen kept ≡ kept };
+
+    // nor does one that takes an entry whole, where they may be taken many at once
+    ghost whole: { TellsNothingIf LETS_RUN notes };
 }
 
 /// Of a machine that nobody watches nothing is kept: it takes its turns as it does alone.
@@ -112,6 +120,10 @@ impl Watch for () {
     ghost LETS_FALL = { true };
 
     const LETS_FALL: bool = true;
+
+    ghost LETS_RUN = { true };
+
+    const LETS_RUN: bool = true;
 
     fn saw(&mut self, _program: &Program, _seen: &Seen) {}
 
@@ -141,4 +153,6 @@ impl Watch for () {
     }
 
     ghost still = { λ program seen kept still. refl };
+
+    ghost whole = { λ program queue at kept. refl };
 }

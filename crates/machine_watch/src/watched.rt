@@ -1,10 +1,11 @@
 //! A machine that is watched.
 
-ghost use Rattle.std.specs.Prelude.{◌≡◌, ◌∷◌, [], false, replicate};
+ghost use Rattle.std.specs.Prelude.{◌≡◌, ◌<◌, ◌≤◌, ◌*◌, ◌∷◌, [], List, false, length, replicate, ℕ};
 ghost use Rattle.dma_machine.specs.Facts.{report_of};
+ghost use Rattle.dma_machine.specs.Plain.{ArePlain, plain_steps};
 ghost use Rattle.irq_status.specs.Writes.{IsWrite};
 ghost use Rattle.machine_model.specs.Steps.{Control, Host, Push, Turn, control_pushed_as, pushed_as};
-ghost use Rattle.machine_watch.specs.Watches.{watched, watching};
+ghost use Rattle.machine_watch.specs.Watches.{run_room, watched, watching};
 ghost use Rattle.sync_status.specs.Statuses.{is_control, kind_of};
 
 use crate::watch::Watch;
@@ -56,6 +57,29 @@ impl<R: Ram, W: Watch> Watched<R, W> {
     {
         self.watch
             .push_and_turns(&mut self.machine, queue, entry, count);
+    }
+
+    /// How many plain entries of a queue `push_plain` may push, as `Machine::plain_room`. None where turns that take an entry are told.
+    #[inline]
+    pub fn plain_room(&self, queue: Queue) -> u32
+        ensures { result ≡ run_room W.LETS_RUN queue self.now.machine }
+    {
+        if W::LETS_RUN {
+            self.machine.plain_room(queue)
+        } else {
+            0
+        }
+    }
+
+    /// Pushes of plain entries, and turns behind each, as `Machine::push_plain`.
+    #[inline]
+    pub fn push_plain(&mut self, queue: Queue, dwords: &[u8], turns: u32)
+        requires some { 0 < length dwords.now }
+        requires room { length dwords.now ≤ 4 * run_room W.LETS_RUN queue self.old.machine }
+        requires plain { (entries : List (ℕ × ℕ)) × ArePlain dwords.now turns entries }
+        ensures { (entries : List (ℕ × ℕ)) → ArePlain dwords.now turns entries → self.new ≡ watched W.notes (plain_steps queue entries) self.old }
+    {
+        self.machine.push_plain(queue, dwords, turns);
     }
 
     /// A push of a control code, as `Machine::push_control`.
