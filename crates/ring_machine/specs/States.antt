@@ -1,6 +1,6 @@
 -- What is kept of a ring's run: the ring, and the blocks that it has ended.
-use Rattle.std.specs.Prelude.{◌≡◌, ℕ, Option, Some, None}
-use Rattle.std.proofs.Common.{ap}
+use Rattle.std.specs.Prelude.{◌≡◌, ℕ, true, Option, Some, None}
+use Rattle.std.proofs.Common.{ap, refl}
 use Rattle.fifo_model.specs.Queues.{more}
 use Rattle.ring_model.specs.Rings.{Ring, ends}
 use Rattle.machine_model.specs.declared.Did.{Did}
@@ -8,7 +8,7 @@ use Rattle.machine_model.specs.declared.Did.TheVariants.{Still}
 use Rattle.machine_model.specs.declared.Seen.{Seen}
 use Rattle.machine_model.specs.Paths.{RiscProgram}
 use Rattle.ring_model.specs.Runs.{end_by, end_seen}
-use Rattle.machine_watch.specs.Watches.{Notes, Watching}
+use Rattle.machine_watch.specs.Watches.{Notes, TellsNothingIf, Watching}
 
 pub record Counted : Type 0 where
   pub ring : Ring
@@ -26,6 +26,10 @@ block_notes = record { saw = λ program seen k. counted (end_seen (ends k.ring) 
 -- with the machine
 abbrev pub RingState : Type 0
 RingState = Watching Counted
+
+-- a turn that takes an entry whole ends none
+pub whole_ends_none : TellsNothingIf true block_notes
+whole_ends_none program q at k = refl
 
 -- a turn that does nothing ends none
 pub still_ends_none : (program : RiscProgram) (s : Seen) (k : Counted) → s.did ≡ Still → block_notes.saw program s k ≡ k

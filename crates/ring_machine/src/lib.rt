@@ -2,7 +2,7 @@
 #![tactic(auto)]
 
 ghost use Rattle.std.specs.Prelude.{◌≡◌, true};
-ghost use Rattle.ring_machine.specs.States.{block_notes, counted, still_ends_none};
+ghost use Rattle.ring_machine.specs.States.{block_notes, counted, still_ends_none, whole_ends_none};
 ghost use Rattle.ring_model.specs.Rings.{IsRing, ends};
 
 use dma_machine::{Did, Machine, Seen};
@@ -74,6 +74,10 @@ impl Watch for BlockCount {
 
     const LETS_FALL: bool = true;
 
+    ghost LETS_RUN = { true };
+
+    const LETS_RUN: bool = true;
+
     fn saw(&mut self, _program: &Program, seen: &Seen) {
         if matches!(seen.did, Did::Retired) {
             self.retire(seen.at);
@@ -94,4 +98,6 @@ impl Watch for BlockCount {
     }
 
     ghost still = { still_ends_none };
+
+    ghost whole = { whole_ends_none };
 }
