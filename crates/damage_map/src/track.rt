@@ -188,6 +188,10 @@ impl Watch for Track {
 
     const LETS_FALL: bool = true;
 
+    ghost LETS_RUN = { false };
+
+    const LETS_RUN: bool = false;
+
     fn saw(&mut self, program: &Program, seen: &Seen) {
         match seen.did {
             Did::Synced => self.open(opens(program, seen.at)),
@@ -225,4 +229,6 @@ impl Watch for Track {
     }
 
     ghost still = { still_tells_nothing };
+
+    ghost whole = { tt };
 }
