@@ -110,13 +110,13 @@ module _ (program : RiscProgram) (fill : ℕ) (steps : List Step) (made : All Is
       record {
         entered = row_entered d field q number j k whole;
         kept = λ x address. whole_rows_stand d field fill steps j k
-        (record {
-          description = c.description;
-          valid = c.valid;
-          described = c.described;
-          made = made;
-          there = s.there;
-          signal = s.signal;
-          opened = s.opened;
-        }) q number x address whole;
+            (record {
+              description = c.description;
+              valid = c.valid;
+              described = c.described;
+              made = made;
+              there = s.there;
+              signal = s.signal;
+              opened = s.opened;
+            }) q number x address whole;
       })

@@ -42,10 +42,10 @@ pub record IsSignalFrom (d : Desc) (field : Parity) (first : State) (steps : Lis
 -- the signal each byte of the row that is kept is at its place: it is that byte of the line that these entries are
 pub record HoldsRow (d : Desc) (field : Parity) (q : Queue) (number : ℕ) (first : State) (steps : List Step) (j k : ℕ) : Type 0 where
   pub entered :
-    HaveEntered (row_entries d field number q (state_at first steps j) (between j k steps)) q (state_at first steps j) (between j k steps)
+      HaveEntered (row_entries d field number q (state_at first steps j) (between j k steps)) q (state_at first steps j) (between j k steps)
   pub kept :
-    (x address : ℕ) → IsKeptAt d field (of_row q number x) address →
-    StandsAt (row_entries d field number q (state_at first steps j) (between j k steps)) x address (state_at first steps (k + 1))
+      (x address : ℕ) → IsKeptAt d field (of_row q number x) address →
+      StandsAt (row_entries d field number q (state_at first steps j) (between j k steps)) x address (state_at first steps (k + 1))
 
 -- so it is with each whole row at each signal of a field
 abbrev pub HoldsWholeRows : State → List Step → Type 0

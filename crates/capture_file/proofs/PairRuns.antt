@@ -60,9 +60,11 @@ pairs_more queue before bytes [] dword turns are is =
 pairs_more queue before bytes (pair ∷ pairs) dword turns are is =
     let sum : before + (pair.1 + pair_turns pairs) ≡ before + pair.1 + pair_turns pairs = omega arith in
     let place : 11 * suc (length pairs) ≡ 11 + 11 * length pairs = omega arith in
-    let rest : drop (11 * suc (length pairs)) bytes ≡ drop (11 * length pairs) (drop 11 bytes) = ap (λ n. drop n bytes) place ∙ sym (drop-drop (11 * length pairs) 11 bytes) in
-    (are.0, pairs_more queue (before + pair.1) (drop 11 bytes) pairs dword turns are.1
-    (subst (λ zs. IsPair queue (before + pair.1 + pair_turns pairs) zs dword turns) rest (subst (λ n. IsPair queue n (drop (11 * suc (length pairs)) bytes) dword turns) sum is)))
+    let rest : drop (11 * suc (length pairs)) bytes ≡ drop (11 * length pairs) (drop 11 bytes) = ap (λ n. drop n bytes) place ∙ sym (drop-drop (11 * length pairs) 11 bytes) in (
+      are.0,
+      pairs_more queue (before + pair.1) (drop 11 bytes) pairs dword turns are.1
+          (subst (λ zs. IsPair queue (before + pair.1 + pair_turns pairs) zs dword turns) rest (subst (λ n. IsPair queue n (drop (11 * suc (length pairs)) bytes) dword turns) sum is)),
+    )
 
 turns_more : (pairs : List (ℕ × ℕ)) (dword turns : ℕ) → pair_turns (pairs ++ (dword, turns) ∷ []) ≡ pair_turns pairs + turns
 turns_more [] dword turns = omega arith

@@ -55,9 +55,7 @@ impl<R: Ram> Engine<R> {
     pub fn none_served(&self) -> bool
         ensures { result ≡ none_served self.now.demands (state_of R.memory self.now) }
     {
-        !self.is_served(Queue::One)
-            && !self.is_served(Queue::Two)
-            && !self.is_served(Queue::Three)
+        !self.is_served(Queue::One) && !self.is_served(Queue::Two) && !self.is_served(Queue::Three)
     }
 
     #[inline]

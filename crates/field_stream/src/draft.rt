@@ -97,7 +97,15 @@ impl Draft {
         ensures { self.new ≡ pushed (Mark code) self.old }
     {
         let [one, two, three, four] = TURNS.to_le_bytes();
-        self.append(&[tags::CONTROL, code.nibble(), tags::TURNS, one, two, three, four]);
+        self.append(&[
+            tags::CONTROL,
+            code.nibble(),
+            tags::TURNS,
+            one,
+            two,
+            three,
+            four,
+        ]);
     }
 
     // An entry with drawn bytes, and 16 turns.

@@ -44,8 +44,8 @@ spelled-words at bits one two =
 pub spelled-kept : (pc int_stat : ℕ) (at bits : List ℕ) → length at ≡ 9 → length bits ≡ 9 → at ≡ at_text pc → bits ≡ at_text int_stat → IsUtf8 at → IsUtf8 bits →
     (spelled at bits ≡ kept_words pc int_stat) × IsUtf8 (spelled at bits)
 spelled-kept pc int_stat at bits one two at_is bits_is at_utf8 bits_utf8 = (
-    spelled-words at bits one two ∙ ap₂ (λ (a b : List ℕ). codes " |" ++ (a ++ b)) at_is bits_is,
-    subst IsUtf8 (sym (spelled-words at bits one two))
-    (IsUtf8-append (codes " |") (at ++ bits) (IsUtf8-from_ascii (codes " |") (IsAscii-cons 32 (124 ∷ []) (omega arith) (IsAscii-cons 124 [] (omega arith) IsAscii-nil)))
-    (IsUtf8-append at bits at_utf8 bits_utf8)),
+  spelled-words at bits one two ∙ ap₂ (λ (a b : List ℕ). codes " |" ++ (a ++ b)) at_is bits_is,
+  subst IsUtf8 (sym (spelled-words at bits one two))
+      (IsUtf8-append (codes " |") (at ++ bits) (IsUtf8-from_ascii (codes " |") (IsAscii-cons 32 (124 ∷ []) (omega arith) (IsAscii-cons 124 [] (omega arith) IsAscii-nil)))
+      (IsUtf8-append at bits at_utf8 bits_utf8)),
 )
