@@ -1,4 +1,4 @@
--- What a reader that used all bytes says of them is so of the stream.
+-- What a reader finds of all bytes is so of the stream.
 use Rattle.std.proofs.Common.{◌≡◌, ℕ, ◌≤◌, false, ◌+◌, ◌-◌, List, [], ◌∷◌, ◌++◌, length, take, drop, Result, Err, refl, sym, ap, subst, ◌∙◌, arith, append_assoc}
 use Rattle.std.specs.Prelude.{MatchResult}
 use Rattle.std.proofs.lemmas.List.{append-nil, drop-drop, take_rest}
@@ -10,7 +10,7 @@ use Rattle.capture_file.specs.Streams.{Bad, Reading, reading, steps_of, stream_o
 use Rattle.capture_file.specs.Readers.{Closed, Failed, Opening, Phase, PlacedAt, Reader, Records, Uses, after_answer, behind, closed_by, ending_in, resumed}
 use Rattle.kept_stream.specs.Kept.{HoldsKept, longest_kept}
 
--- what an answer says of the bytes behind the first ones
+-- what an answer means for the bytes behind the first ones
 pub front_used : (reader after : Reader) (found : Got) (at used : ℕ) (stream bytes : List ℕ) → bytes ≡ stream →
     ((more : List ℕ) → resumed reader (take (length bytes - at) (drop at bytes) ++ more) ≡ after_answer found (resumed after (drop used (take (length bytes - at) (drop at bytes)) ++ more))) →
     resumed reader (drop at stream) ≡ after_answer found (resumed after (drop (at + used) stream))

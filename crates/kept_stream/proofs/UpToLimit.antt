@@ -1,4 +1,4 @@
--- A stream is read to one byte beyond the longest: what is read tells what the whole file is.
+-- A stream is read to one byte beyond the longest: what is read decides what the whole file is.
 use Rattle.std.proofs.Common.{◌≡◌, ℕ, ◌+◌, ◌<◌, ◌≤◌, Bool, true, false, List, length, take, Ok, refl, sym, ap, ◌∙◌, arith}
 use Rattle.std.specs.Prelude.{nat_le}
 use Rattle.std.proofs.lemmas.Bool.{le-ltb, leb-true, leb-false, lt-ltb}

@@ -1,15 +1,16 @@
 //! Streams that are read whole and kept.
 #![tactic(auto)]
 
-ghost use Rattle.std.specs.Prelude.{◌≡◌, [], ◌∷◌, Err, IfOk, MatchResult, false};
+ghost use Rattle.std.specs.Prelude.{◌≡◌, ◌+◌, ◌++◌, [], ◌∷◌, Err, IfOk, List, MatchResult, drop, false, length, ℕ};
 ghost use Rattle.capture_desk.specs.Desks.{IsAllowed};
+ghost use Rattle.capture_file.specs.Readers.{PlacedAt, Uses, after_answer, resumed};
 ghost use Rattle.capture_file.specs.Streams.{steps_of};
 ghost use Rattle.command_steps.specs.Inputs.{OfInput};
 ghost use Rattle.command_steps.specs.Reading.{Takes};
 ghost use Rattle.kept_stream.specs.Kept.{HoldsKept, a_kept_stream, longest_kept};
 
 use capture_desk::Desk;
-use capture_file::{FileFault, Got, Input, StepReader};
+use capture_file::{FileFault, Got, Input, Step, StepReader};
 use command_steps::read_whole;
 use command_texts::Refusal;
 use std::alloc::Global;
@@ -46,6 +47,22 @@ impl KeptStream {
     }
 }
 
+/// Uses the front of a piece, as `take` does, quick where a data push or turns are there, as mostly.
+#[inline(always)]
+fn use_front(reader: &mut StepReader, piece: &[u8]) -> (usize, Got)
+    ensures whole { (more : List ℕ) → resumed reader.old (piece.now ++ more) ≡ after_answer result.1 (resumed reader.new (drop result.0 piece.now ++ more)) }
+    ensures used { Uses result.1 result.0 (length piece.now) }
+    ensures moves { (before : ℕ) → PlacedAt reader.old.phase reader.old.place before → PlacedAt reader.new.phase reader.new.place (before + result.0) }
+{
+    if let Some((queue, entry)) = reader.take_push(piece) {
+        return (6, Got::Step(Step::Push(queue, entry)));
+    }
+    if let Some(count) = reader.take_turns(piece) {
+        return (5, Got::Step(Step::Turns(count)));
+    }
+    reader.take(piece)
+}
+
 /// The first fault of a stream, if it has one.
 fn judge(bytes: &[u8]) -> Result<(), FileFault>
     ensures { MatchResult result (λ _. HoldsKept bytes.now) (λ fault. steps_of longest_kept false bytes.now ≡ Err fault) }
@@ -53,7 +70,7 @@ fn judge(bytes: &[u8]) -> Result<(), FileFault>
     let mut reader = StepReader::new(LONGEST_KEPT as u64);
     let mut at = 0;
     while at < bytes.len() {
-        let (used, got) = reader.take(&bytes[at..]);
+        let (used, got) = use_front(&mut reader, &bytes[at..]);
         at += used;
         if let Got::Bad(fault) = got {
             return Err(fault);
@@ -62,8 +79,8 @@ fn judge(bytes: &[u8]) -> Result<(), FileFault>
     reader.close()
 }
 
-/// Reads a whole stream file, of BFS1 or BFS2. It is refused as `Malformed` at its first fault; it is too long where a byte
-/// stands at 67,108,864 and no fault stands lower (this project's own rule).
+/// Reads a whole stream file, of BFS1 or BFS2. Its first fault is reported as `Malformed`; it is too long where a byte is at
+/// 67,108,864 and no fault is lower (this project's own rule).
 pub fn keep_stream<D: Desk>(alloc: Global, name: &str, desk: &mut D) -> Result<KeptStream, Refusal>
     requires { IsAllowed name.now (D.seen desk.old).told.may_open }
     ensures kept { IfOk result (λ stream. OfInput name.now (D.seen desk.old).told.inputs (λ content. content ≡ stream)) }

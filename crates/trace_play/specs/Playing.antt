@@ -22,7 +22,7 @@ begun m bytes = record { tracing = tracing m 0; turns = 0; reader = fresh longes
 abbrev pub coming : Playing → List machine.Step
 coming p = replicate p.turns machine.Turn ++ steps_run (resumed p.reader p.bytes).steps
 
--- their text, and what stands behind it
+-- their text, and what comes behind it
 abbrev pub text_left : Playing → List ℕ
 text_left p = rest_text p.tracing (coming p)
 

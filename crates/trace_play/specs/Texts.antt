@@ -6,7 +6,7 @@ use Rattle.dma_machine.specs.Facts.{report_of}
 use Rattle.command_texts.specs.Texts.{report_text}
 use Rattle.turn_trace.specs.Traces.{Tracing, after_all, last_line, lines, tracing}
 
--- the text of the steps that are left of a trace, and what stands behind them
+-- the text of the steps that are left of a trace, and what comes behind them
 abbrev pub end_text : Tracing → List ℕ
 end_text t = last_line t ++ report_text (report_of t.machine)
 

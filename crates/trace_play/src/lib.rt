@@ -142,7 +142,7 @@ impl<R: Ram> StreamTrace<R> {
         }
     }
 
-    /// The same, quick where a data push or turns stand there, as mostly.
+    /// The same, quick where a data push or turns are there, as mostly.
     #[inline(always)]
     fn take_front(&mut self, text: &mut Lines) -> bool
         requires none { self.old.turns ≡ 0 }
@@ -167,7 +167,7 @@ impl<R: Ram> StreamTrace<R> {
         self.take_record(text)
     }
 
-    /// Appends what stands behind the last step: the line of the turns of which nothing was seen, and the report.
+    /// Appends what comes behind the last step: the line of the turns of which nothing was seen, and the report.
     fn push_end(&self, text: &mut Lines)
         requires none { coming self.now ≡ [] }
         requires room { array_string_len text.old + 400 ≤ 65536 }

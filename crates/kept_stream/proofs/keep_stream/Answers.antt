@@ -1,4 +1,4 @@
--- What is read to one byte beyond the longest tells what the whole stream is.
+-- What is read to one byte beyond the longest decides what the whole stream is.
 use Rattle.std.proofs.Common.{◌≡◌, ◌+◌, ◌∙◌, false, List, ℕ, take, Result, Ok, Err, ap, subst, sym}
 use Rattle.capture_file.specs.declared.FileFault.{FileFault}
 use Rattle.capture_file.specs.declared.Step.{Step}

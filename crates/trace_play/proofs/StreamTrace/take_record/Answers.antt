@@ -1,54 +1,43 @@
-use Rattle.std.proofs.Common.{◌+◌, drop, refl, sym, ap, ap₂, ◌∙◌, ◌++◌}
-use Rattle.capture_file.specs.Readers.{resumed}
-use Rattle.capture_file.specs.Streams.{with_step}
+use Rattle.std.proofs.Common.{◌+◌, drop, sym, ap, ◌∙◌}
+use Rattle.capture_file.specs.Readers.{after_answer, resumed}
 use Rattle.capture_file.proofs.Answered.{failed-ends}
-use Rattle.kept_stream.proofs.Judged.{front_used}
-use Rattle.trace_play.specs.Playing.{Playing, text_left}
-use Rattle.trace_play.proofs.Records.{none_left, passed, record_taken}
+use Rattle.trace_play.specs.Playing.{Playing}
+use Rattle.trace_play.proofs.Records.{front_passed, front_step, none_left, playing_at}
 use Rattle.trace_play.proofs.StreamTrace.take_record.Goals as goal
 
 pub returns-in-Step-clause-text : goal.returns-in-Step-clause-text
 returns-in-Step-clause-text g c =
     let t = c.self.inside in
-    let before : Playing = record { tracing = t.trace; turns = t.turns; reader = t.reader; bytes = drop t.at t.stream } in
-    let after = c.take_step.new.self in
-    let used = c.take-used.result.0 in
-    let whole = front_used t.reader c.take-used.new.self c.take-used.result.1 t.at used t.stream c.as_bytes.result.now c.as_bytes.ensures.bytes c.take-used.ensures.whole in
-    record_taken before after c.args.text.now.bytes c.take_step.new.text.bytes c.in-Step.step (ap (λ (p : Playing). p.turns) c.self.view_is ∙ c.requires.none)
-    ((rw c.in-Step.is at whole) ∙ sym (ap₂ (λ r b. with_step c.in-Step.step (resumed r b)) c.take_step.ensures.reader c.take_step.ensures.bytes)) c.take_step.ensures.text
-    ∙ ap (λ (p : Playing). c.args.text.now.bytes ++ text_left p) c.self.view_is
+    let took = c.take-used in
+    let taken = c.take_step in
+    front_step t.trace t.turns t.reader took.new.self t.stream c.as_bytes.result.now t.at took.result.0 took.result.1 c.args.self.now c.self.view_is c.as_bytes.ensures.bytes took.ensures.whole
+    c.in-Step.step taken.new.self c.args.text.now.bytes taken.new.text.bytes c.in-Step.is c.requires.none taken.ensures.reader taken.ensures.bytes taken.ensures.text
 
 pub returns-in-End-clause-text : goal.returns-in-End-clause-text
 returns-in-End-clause-text g c =
     let t = c.self.inside in
-    let before : Playing = record { tracing = t.trace; turns = t.turns; reader = t.reader; bytes = drop t.at t.stream } in
-    let after : Playing = record { tracing = t.trace; turns = t.turns; reader = c.take-used.new.self; bytes = drop (t.at + c.take-used.result.0) t.stream } in
-    let whole = front_used t.reader c.take-used.new.self c.take-used.result.1 t.at c.take-used.result.0 t.stream c.as_bytes.result.now c.as_bytes.ensures.bytes c.take-used.ensures.whole in
-    passed before after c.args.text.now.bytes c.args.text.now.bytes refl refl (rw c.in-End.is at whole) refl
-    ∙ ap (λ (p : Playing). c.args.text.now.bytes ++ text_left p) c.self.view_is
+    let took = c.take-used in
+    front_passed t.trace t.turns t.reader took.new.self t.stream c.as_bytes.result.now t.at took.result.0 took.result.1 c.args.self.now c.self.view_is c.as_bytes.ensures.bytes took.ensures.whole
+    c.args.text.now.bytes (ap (λ f. after_answer f (resumed took.new.self (drop (t.at + took.result.0) t.stream))) c.in-End.is)
 
 pub returns-in-More-clause-text : goal.returns-in-More-clause-text
 returns-in-More-clause-text g c =
     let t = c.self.inside in
-    let before : Playing = record { tracing = t.trace; turns = t.turns; reader = t.reader; bytes = drop t.at t.stream } in
-    let after : Playing = record { tracing = t.trace; turns = t.turns; reader = c.take-used.new.self; bytes = drop (t.at + c.take-used.result.0) t.stream } in
-    let whole = front_used t.reader c.take-used.new.self c.take-used.result.1 t.at c.take-used.result.0 t.stream c.as_bytes.result.now c.as_bytes.ensures.bytes c.take-used.ensures.whole in
-    passed before after c.args.text.now.bytes c.args.text.now.bytes refl refl (rw c.in-More.is at whole) refl
-    ∙ ap (λ (p : Playing). c.args.text.now.bytes ++ text_left p) c.self.view_is
+    let took = c.take-used in
+    front_passed t.trace t.turns t.reader took.new.self t.stream c.as_bytes.result.now t.at took.result.0 took.result.1 c.args.self.now c.self.view_is c.as_bytes.ensures.bytes took.ensures.whole
+    c.args.text.now.bytes (ap (λ f. after_answer f (resumed took.new.self (drop (t.at + took.result.0) t.stream))) c.in-More.is)
 
 pub returns-in-Bad-clause-text : goal.returns-in-Bad-clause-text
 returns-in-Bad-clause-text g c =
     let t = c.self.inside in
-    let before : Playing = record { tracing = t.trace; turns = t.turns; reader = t.reader; bytes = drop t.at t.stream } in
-    let after : Playing = record { tracing = t.trace; turns = t.turns; reader = c.take-used.new.self; bytes = drop (t.at + c.take-used.result.0) t.stream } in
-    let whole = front_used t.reader c.take-used.new.self c.take-used.result.1 t.at c.take-used.result.0 t.stream c.as_bytes.result.now c.as_bytes.ensures.bytes c.take-used.ensures.whole in
-    let ends = failed-ends c.take-used.new.self c.in-Bad.field-0 after.bytes (rw c.in-Bad.is at c.take-used.ensures.stays) in
-    passed before after c.args.text.now.bytes c.args.text.now.bytes refl refl ((rw c.in-Bad.is at whole) ∙ sym ends) refl
-    ∙ ap (λ (p : Playing). c.args.text.now.bytes ++ text_left p) c.self.view_is
+    let took = c.take-used in
+    let ends = failed-ends took.new.self c.in-Bad.field-0 (drop (t.at + took.result.0) t.stream) (rw c.in-Bad.is at took.ensures.stays) in
+    front_passed t.trace t.turns t.reader took.new.self t.stream c.as_bytes.result.now t.at took.result.0 took.result.1 c.args.self.now c.self.view_is c.as_bytes.ensures.bytes took.ensures.whole
+    c.args.text.now.bytes (ap (λ f. after_answer f (resumed took.new.self (drop (t.at + took.result.0) t.stream))) c.in-Bad.is ∙ sym ends)
 
 pub returns-in-Bad-clause-none : goal.returns-in-Bad-clause-none
 returns-in-Bad-clause-none g c _ =
     let t = c.self.inside in
-    let after : Playing = record { tracing = t.trace; turns = t.turns; reader = c.take-used.new.self; bytes = drop (t.at + c.take-used.result.0) t.stream } in
+    let after : Playing = playing_at t.trace t.turns c.take-used.new.self t.stream (t.at + c.take-used.result.0) in
     none_left after c.in-Bad.field-0 (ap (λ (p : Playing). p.turns) c.self.view_is ∙ c.requires.none)
     (failed-ends c.take-used.new.self c.in-Bad.field-0 after.bytes (rw c.in-Bad.is at c.take-used.ensures.stays))
