@@ -22,9 +22,6 @@ pub(crate) const ROOM: usize = 32_768;
 // How many bytes the records of a line have at most.
 pub(crate) const LINE: usize = 11_264;
 
-// The turns behind each push.
-const TURNS: u32 = 16;
-
 // The bytes that are not put yet, and the generator.
 #[derive(Drop)]
 pub(crate) struct Draft {
@@ -96,16 +93,7 @@ impl Draft {
         requires { length self.old.bytes + 7 ≤ 32768 }
         ensures { self.new ≡ pushed (Mark code) self.old }
     {
-        let [one, two, three, four] = TURNS.to_le_bytes();
-        self.append(&[
-            tags::CONTROL,
-            code.nibble(),
-            tags::TURNS,
-            one,
-            two,
-            three,
-            four,
-        ]);
+        self.append(&[tags::CONTROL, code.nibble(), tags::TURNS, 16, 0, 0, 0]);
     }
 
     // An entry with drawn bytes, and 16 turns.
@@ -117,7 +105,6 @@ impl Draft {
         ensures length { length self.new.bytes ≡ length self.old.bytes + 11 }
     {
         let [a, b, c, d] = self.generator.draw(valid(status));
-        let [one, two, three, four] = TURNS.to_le_bytes();
         self.append(&[
             tag(queue),
             status.nibble(),
@@ -126,10 +113,10 @@ impl Draft {
             c,
             d,
             tags::TURNS,
-            one,
-            two,
-            three,
-            four,
+            16,
+            0,
+            0,
+            0,
         ]);
     }
 

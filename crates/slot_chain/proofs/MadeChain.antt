@@ -3,10 +3,10 @@ use Rattle.std.proofs.Common.{◌≡◌, ℕ, ◌<◌, ◌≤◌, All, List, len
 use Rattle.std.specs.Prelude.{replicate, slice_index_or}
 use Rattle.page_table.proofs.Listed.{none_passes}
 use Rattle.page_table.specs.Grants.{Chunk}
-use Rattle.machine_model.specs.Paths.{IsFirstBad, RiscProgram, shares_byte}
+use Rattle.machine_model.specs.Paths.{IsFirstBad, RiscProgram, one_span, shares_byte}
 use Rattle.machine_model.specs.declared.Cause.{Cause}
 use Rattle.chain_model.specs.declared.PartWords.{PartWords}
-use Rattle.chain_model.specs.Chains.{Chain, IsChain, IsPatching, IsSoundChain, alone, max_parts, max_slots}
+use Rattle.chain_model.specs.Chains.{Chain, IsChain, IsPatching, IsSoundChain, alone, max_parts, max_slots, patched_words, unpatched}
 use Rattle.chain_model.proofs.Live.{IsPatching-unpatched}
 use Rattle.chain_model.proofs.Slots.{empty_sound}
 use Rattle.slot_chain.specs.Making.{AreAlone, place_fault}
@@ -41,8 +41,13 @@ module _ (chain : Chain) (slots : (1 ≤ chain.slots) × (chain.slots ≤ max_sl
       }
 
 -- without parts a chain's program is never refused
-pub never_bad : (chain : Chain) (at nth : ℕ) (cause : Cause) → IsFirstBad (alone chain None) at nth cause → ⊥
+never_bad : (chain : Chain) (at nth : ℕ) (cause : Cause) → IsFirstBad (alone chain None) at nth cause → ⊥
 never_bad chain at nth cause bad = let fine = empty_sound chain nth in let other = bad.bad in absurd (cc)
+
+pub never_refused : (chain : Chain) (words : List ℕ) (at nth : ℕ) (cause : Cause) → words ≡ patched_words chain (unpatched chain) →
+    IsFirstBad (one_span chain.base words chain.grants) at nth cause → ⊥
+never_refused chain words at nth cause same bad =
+    never_bad chain at nth cause (subst (λ (ws : List ℕ). IsFirstBad (one_span chain.base ws chain.grants) at nth cause) same bad)
 
 -- from what the code has of its parts
 module _ (base slots : ℕ) (parts judged : List PartWords) (grants : List Chunk) (running : RiscProgram) (programs : List RiscProgram) (patching : List (Option ℕ)) (same : judged ≡ parts)

@@ -267,7 +267,6 @@ pub(crate) struct Programs {
 }
 
 /// Checks a chain: its place, and then the program of each part. The verifier's steps are counted.
-#[tactic(auto, using(crate::proofs::MadeChain::never_bad))]
 pub(crate) fn judge_chain<L: Ledger>(
     alloc: Global,
     base: u32,
