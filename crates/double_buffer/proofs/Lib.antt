@@ -2,7 +2,7 @@ mod Granting
 mod Reasons
 mod Together
 mod Standing
-mod Pairs
+pub mod Pairs
 mod Behind
 pub mod Plays
 pub mod Promising
