@@ -1,6 +1,6 @@
 -- What the top call promises, said one by one, follows from its one exact clause.
 use Rattle.std.specs.Prelude.{⊤}
-use Rattle.std.proofs.Common.{true, ◌≡◌, ℕ, ◌⊎◌, inl, inr, false, List, [], ◌∷◌, Option, Result, Ok, Err, All, refl, sym, ap, subst, ◌∙◌}
+use Rattle.std.proofs.Common.{true, ◌≡◌, ◌<◌, arith, ℕ, ◌⊎◌, inl, inr, false, List, [], ◌∷◌, Option, Result, Ok, Err, All, refl, sym, ap, subst, ◌∙◌}
 use Rattle.bt878_words.specs.declared.Task.{Task}
 use Rattle.bt878_words.specs.declared.Task.TheVariants as command
 use Rattle.bt878_words.specs.declared.UsageFault.{UsageFault}
@@ -23,7 +23,7 @@ use Rattle.command_texts.specs.declared.refusal.Refusal.{Refusal}
 use Rattle.command_texts.specs.declared.refusal.Refusal.TheVariants as refusal
 use Rattle.command_texts.specs.Answers.{answer_of}
 use Rattle.command_steps.specs.Outputs.{EndsAtFault, Product, Says, delivered}
-use Rattle.command_steps.specs.Inputs.{AreGood, OfInput, SameCounts, ReadsRose, WritesRose, apart}
+use Rattle.command_steps.specs.Inputs.{AreGood, KeepsReads, OfInput, SameCounts, ReadsRose, WritesRose, apart}
 use Rattle.command_texts.specs.Texts.{answer_text, help_text, made_text, version_text}
 use Rattle.stream_play.specs.Plays.{longest_stream}
 use Rattle.command_inputs.specs.Programs.{GivesSound}
@@ -44,11 +44,13 @@ use Rattle.bt878_contract.specs.Tasks.{RunMakes, RunOf, TellsRows, Traces, compi
 use Rattle.bt878_contract.specs.Clauses.{AreTold, CreatesNone, IsAssembled, IsBadInput, IsCompiled, IsCut, IsInOrder, IsGenerated, IsGood, IsOutput, IsRefusal, IsUnreadOf, IsUsage, OfDesc, OfDescRun}
 use Rattle.double_buffer.proofs.Pairs.{shows}
 use Rattle.bt878_contract.specs.Chains.{HasFragments}
+use Rattle.bt878_contract.specs.Clauses.{IsShort, LacksFirst, LacksInput}
 use Rattle.bt878_contract.specs.Clauses.{OfLive, OfLiveBy, OfLiveRun, OfLiveSteps, OfRan, OfRanBy, OfRingRun, OfSteps, OnlyOutputs, OnlySays, SameNames, SameOutput, SaysAccepted, SaysAll, SaysAlone, SaysBlocks, SaysChecked, SaysDamage, SaysTrace}
 use Rattle.bt878_contract.specs.Clauses.{SaysListing, ShowsImage, ShowsLast, ShowsLastLive, ShowsProgram, StandsAt, StaysInside, TellsInput, UnlessCut}
 use Rattle.bt878_contract.proofs.Words.{outputs_apart}
 use Rattle.bt878_contract.proofs.Inputs.{both-map, taken_are_good, three-map}
 use Rattle.bt878_contract.proofs.Judges.{bad_in, bad_leads, good_leads, good_not_bad, judged, unread_in}
+use Rattle.bt878_contract.proofs.Missing.{first_is_kept, good_not_missing, head_is_first, head_leads, missing_leads}
 use Rattle.bt878_contract.proofs.Outputs.{AreApart, AreOutputs, all_said, all_written, cut_off, done_names, done_other, no_files, only_says, part_done_other, part_names, rises, said_names, same_outputs, says_only}
 
 -- ---- the words
@@ -404,6 +406,49 @@ completes (Ok task) answer old new h told good reads writes =
     (λ p. absurd (writes (rises old.writes new.writes p.fault.1)))
     (λ r refused. uncut (answer_of r) old new reads (good_leads (inputs_of task) (judged (sources (meaning task))) r old new told good refused.why)) h
 
+-- a failed read is answered as one
+kept_or_fault : (r : Refusal) (old new : Seen) → KeepsReads r old new → old.reads < new.reads → answer_of r ≡ ReadFault
+kept_or_fault refusal.ReadFault old new h more = refl
+kept_or_fault r old new h more = absurd (omega (arith, h, more))
+
+pub read_fault_must : (r : Result Task UsageFault) (answer : Answer) (old new : Seen) → Answers r answer old new → old.reads < new.reads → answer ≡ ReadFault
+read_fault_must (Err fault) answer old new h more = let same = h.1.2 in absurd (omega (arith, same, more))
+read_fault_must (Ok task) answer old new h more =
+    by_end task answer old new (λ a. a ≡ ReadFault)
+    (λ d. let same = d.counts.0 in absurd (omega (arith, same, more)))
+    (λ p. let same = p.fault.0 in absurd (omega (arith, same, more)))
+    (λ r refused. kept_or_fault r old new refused.reads more) h
+
+-- and so is an input that isn't there
+fault_or_short : (r : Refusal) → (r ≡ refusal.ReadFault) ⊎ (r ≡ refusal.NoMemory) → (answer_of r ≡ ReadFault) ⊎ (answer_of r ≡ NoMemory)
+fault_or_short r (inl e) = inl (ap answer_of e)
+fault_or_short r (inr e) = inr (ap answer_of e)
+
+pub missing_must : (r : Result Task UsageFault) (answer : Answer) (old new : Seen) → Answers r answer old new → LacksInput r old.told.inputs → (answer ≡ ReadFault) ⊎ (answer ≡ NoMemory)
+missing_must (Err fault) answer old new h missing = absurd missing
+missing_must (Ok task) answer old new h missing =
+    by_end task answer old new (λ a. (a ≡ ReadFault) ⊎ (a ≡ NoMemory))
+    (λ d. absurd (good_not_missing (inputs_of task) old.told.inputs (good_at_done task old new d) missing))
+    (λ p. absurd (good_not_missing (inputs_of task) old.told.inputs (good_in_part task old new p) missing))
+    (λ r refused. fault_or_short r (missing_leads (inputs_of task) (judged (sources (meaning task))) r old new missing refused.why)) h
+
+pub first_missing_must : (r : Result Task UsageFault) (answer : Answer) (old new : Seen) → Answers r answer old new → LacksFirst r old.told.inputs → answer ≡ ReadFault
+first_missing_must (Err fault) answer old new h missing = absurd missing
+first_missing_must (Ok task) answer old new h missing =
+    let first = head_is_first (inputs_of task) old.told.inputs missing in
+    by_end task answer old new (λ a. a ≡ ReadFault)
+    (λ d. absurd (good_not_missing (inputs_of task) old.told.inputs (good_at_done task old new d) first))
+    (λ p. absurd (good_not_missing (inputs_of task) old.told.inputs (good_in_part task old new p) first))
+    (λ r refused. ap answer_of (head_leads (inputs_of task) r old.told.inputs refused.calls.1.0 (first_is_kept task) missing refused.calls.1.1)) h
+
+-- ---- out of memory
+
+pub short_ends : (r : Result Task UsageFault) (answer : Answer) (old new : Seen) → Answers r answer old new → answer ≡ NoMemory → IsShort r old new
+short_ends (Err fault) answer old new h e = let usage = h.0 in absurd (cc)
+short_ends (Ok task) answer old new h e =
+    let refused = refused_by task answer old new h refusal.NoMemory e in
+    (only_says (answer_text NoMemory) old new refused.said, refused.reads, refused.calls)
+
 -- ---- the order of work
 
 pub in_order : (r : Result Task UsageFault) (answer : Answer) (old new : Seen) → Answers r answer old new → IsInOrder r answer old new
@@ -412,16 +457,16 @@ in_order (Ok task) answer old new h =
     by_end task answer old new (λ a. IsInOrder (Ok task) a old new) (λ d. (d.product.text, d.calls)) (λ p. p.calls) (λ r refused. refused_order r refused) h
   where
     refused_order : (r : Refusal) → IsRefused task r old new → IsInOrder (Ok task) (answer_of r) old new
-    refused_order refusal.ReadFault refused = refused.calls
-    refused_order (refusal.Malformed file fault) refused = refused.calls
-    refused_order (refusal.BadDesc fault) refused = refused.calls
-    refused_order (refusal.BadGeometry fault) refused = refused.calls
-    refused_order (refusal.BadChain fault) refused = refused.calls
-    refused_order (refusal.BadRing fault) refused = refused.calls
-    refused_order (refusal.BadText fault) refused = refused.calls
-    refused_order (refusal.Rejected at nth cause) refused = refused.calls
-    refused_order (refusal.Differs text) refused = refused.calls
-    refused_order refusal.NoMemory refused = refused.calls
+    refused_order refusal.ReadFault refused = (refusal.ReadFault, refl, refused.calls)
+    refused_order (refusal.Malformed file fault) refused = (refusal.Malformed file fault, refl, refused.calls)
+    refused_order (refusal.BadDesc fault) refused = (refusal.BadDesc fault, refl, refused.calls)
+    refused_order (refusal.BadGeometry fault) refused = (refusal.BadGeometry fault, refl, refused.calls)
+    refused_order (refusal.BadChain fault) refused = (refusal.BadChain fault, refl, refused.calls)
+    refused_order (refusal.BadRing fault) refused = (refusal.BadRing fault, refl, refused.calls)
+    refused_order (refusal.BadText fault) refused = (refusal.BadText fault, refl, refused.calls)
+    refused_order (refusal.Rejected at nth cause) refused = (refusal.Rejected at nth cause, refl, refused.calls)
+    refused_order (refusal.Differs text) refused = (refusal.Differs text, refl, refused.calls)
+    refused_order refusal.NoMemory refused = (refusal.NoMemory, refl, refused.calls)
 
 -- ---- what an answer leaves
 

@@ -1,5 +1,6 @@
 pub mod Inputs
 pub mod Judges
+pub mod Missing
 pub mod Outputs
 pub mod Words
 pub mod Consequences

@@ -23,7 +23,7 @@ use Rattle.command_texts.specs.declared.refusal.Refusal.TheVariants.{ReadFault, 
 use Rattle.command_texts.specs.Answers.{answer_of}
 use Rattle.command_steps.specs.Outputs.{Product}
 use Rattle.command_steps.specs.Reading.{Calls}
-use Rattle.command_steps.specs.Inputs.{AreGood, IsFirstBadOf, OfInput, ReadsRose, WritesRose}
+use Rattle.command_steps.specs.Inputs.{AreGood, Input, IsFirstBadOf, IsThereAndGood, OfInput, ReadsRose, WritesRose}
 use Rattle.command_texts.specs.Texts.{accepted_text, answer_text, blocks_text, made_text, report_text}
 use Rattle.command_inputs.specs.Programs.{HoldsSound}
 use Rattle.stream_play.specs.Runs.{IsRun, LiveRan, Ran, chain_ran, first_of, last_live_of, last_of, live_steps_of, OfRun}
@@ -218,6 +218,25 @@ TellsInput ReadFault = ⊥
 TellsInput NoMemory = ⊥
 TellsInput _ = ⊤
 
+-- an input isn't there, and those before it are good
+abbrev pub IsFirstMissing : List Input → Option Inputs → Type 0
+IsFirstMissing [] told = ⊥
+IsFirstMissing (input ∷ inputs) told =
+    (is_missing input.name told ≡ true) ⊎ (IsThereAndGood input told × IsFirstMissing inputs told)
+
+abbrev pub LacksInput : Result Task UsageFault → Option Inputs → Type 0
+LacksInput (Ok task) told = IsFirstMissing (inputs_of task) told
+LacksInput (Err fault) told = ⊥
+
+-- and it is the first
+abbrev pub IsHeadMissing : List Input → Option Inputs → Type 0
+IsHeadMissing [] told = ⊥
+IsHeadMissing (input ∷ inputs) told = is_missing input.name told ≡ true
+
+abbrev pub LacksFirst : Result Task UsageFault → Option Inputs → Type 0
+LacksFirst (Ok task) told = IsHeadMissing (inputs_of task) told
+LacksFirst (Err fault) told = ⊥
+
 -- every input is there and good
 abbrev pub IsGood : Result Task UsageFault → Option Inputs → Type 0
 IsGood (Ok task) inputs = AreGood (inputs_of task) inputs
@@ -238,7 +257,8 @@ abbrev pub IsInOrder : Result Task UsageFault → Answer → Seen → Seen → T
 IsInOrder (Err fault) answer old new = Tells (said_by (answer_text answer)) old.calls new.calls
 IsInOrder (Ok task) Done old new = (text : List ℕ) × Calls (IsWholeWork task old.told.inputs text) old new
 IsInOrder (Ok task) WriteFault old new = Calls (IsPartOfWork task old.told.inputs) old new
-IsInOrder (Ok task) answer old new = Calls (IsRefusedWork task old.told.inputs (answer_text answer)) old new
+IsInOrder (Ok task) answer old new =
+    (refusal : Refusal) × (answer ≡ answer_of refusal) × Calls (IsRefusedWork task refusal old.told.inputs (answer_text answer)) old new
 
 -- ---- what an answer leaves
 
@@ -253,6 +273,18 @@ abbrev pub OnlySays : List ℕ → Seen → Seen → Type 0
 OnlySays text old new =
     CreatesNone old.told new.told
     × ((n : ℕ) × (n ≤ length text) × SaysAll (take n text) old.told new.told × ((n ≡ length text) ⊎ WritesRose old new))
+
+-- ---- out of memory
+
+-- Nothing was created, no call at reading failed, and nothing was said but the text. Some first inputs were read through and
+-- found good, and one more at most was opened, at which memory ran out.
+abbrev pub IsShort : Result Task UsageFault → Seen → Seen → Type 0
+IsShort (Ok task) old new =
+    OnlySays (answer_text (answer_of NoMemory)) old new × (new.reads ≡ old.reads)
+    × Calls (IsRefusedWork task NoMemory old.told.inputs (answer_text (answer_of NoMemory))) old new
+IsShort (Err fault) old new = ⊥
+
+-- ---- after a fault of writing
 
 -- the outputs of these names are as they were
 abbrev pub SameOutputs : List (List ℕ × List ℕ) → Option Outputs → Option Outputs → Type 0

@@ -26,7 +26,7 @@ use Rattle.command_texts.specs.declared.answer.Answer.TheVariants.{Done, Usage, 
 use Rattle.command_texts.specs.declared.refusal.Refusal.{Refusal}
 use Rattle.command_texts.specs.Answers.{answer_of}
 use Rattle.command_texts.specs.Texts.{accepted_text, answer_text, blocks_text, built_text, help_text, made_text, report_text, version_text}
-use Rattle.command_steps.specs.Inputs.{Input, OfInput, SameCounts, StopsIn, apart}
+use Rattle.command_steps.specs.Inputs.{Input, KeepsReads, OfInput, SameCounts, StopsIn, apart}
 use Rattle.command_steps.specs.Reading.{AreTaken, AreTakenUpTo, Calls}
 use Rattle.command_steps.specs.Outputs.{IsDeliveryPart, IsPart, Product, Says, SaysAtOnce, delivered, delivery, names_of}
 use Rattle.command_inputs.specs.Programs.{GivesSound, HoldsSound, a_program, a_sound_program}
@@ -361,9 +361,9 @@ IsPartOfWork task told calls =
     × (calls ≡ taking ++ writing)
 
 -- some inputs were opened and read through, up to the one that stopped; then a text was said, by one run of calls
-abbrev pub IsRefusedWork : Task → Option Inputs → List ℕ → List Call → Type 0
-IsRefusedWork task told text calls =
-    (taking : List Call) × AreTakenUpTo (inputs_of task) told taking × (calls ≡ taking ++ said_by text)
+abbrev pub IsRefusedWork : Task → Refusal → Option Inputs → List ℕ → List Call → Type 0
+IsRefusedWork task refusal told text calls =
+    (taking : List Call) × AreTakenUpTo (inputs_of task) refusal told taking × (calls ≡ taking ++ said_by text)
 
 -- ---- what comes of it
 
@@ -388,11 +388,13 @@ pub record IsPartDone (task : Task) (old new : Seen) : Type 0 where
   pub fault : IsWriteFault old new
   pub calls : Calls (IsPartOfWork task old.told.inputs) old new
 
--- it was refused: nothing changed but that the refusal's text was said
+-- it was refused: nothing changed but that the refusal's text was said, and no call at reading failed but for a fault of
+-- reading
 pub record IsRefused (task : Task) (refusal : Refusal) (old new : Seen) : Type 0 where
   pub why : Stops task refusal old new
+  pub reads : KeepsReads refusal old new
   pub said : Says (answer_text (answer_of refusal)) old new
-  pub calls : Calls (IsRefusedWork task old.told.inputs (answer_text (answer_of refusal))) old new
+  pub calls : Calls (IsRefusedWork task refusal old.told.inputs (answer_text (answer_of refusal))) old new
 
 abbrev pub Ends : Task → Answer → Seen → Seen → Type 0
 Ends task Done old new = IsDone task old new

@@ -1,6 +1,7 @@
 -- How a command ends: its refusal is said, or what it made is delivered.
-use Rattle.std.proofs.Common.{◌≡◌, ℕ, zero, suc, ◌<◌, ◌⊎◌, inl, inr, All, List, [], ◌∷◌, ◌++◌, length, take, slice_index_or, Option, refl, sym, ap, subst, ◌∙◌, arith}
-use Rattle.capture_desk.specs.Desks.{IsAllowed, Seen, Tells, Told, after_say, counted, said_by}
+use Rattle.std.proofs.Common.{◌≡◌, ℕ, zero, suc, ◌<◌, ◌⊎◌, inl, inr, All, Bool, true, false, List, [], ◌∷◌, ◌++◌, length, take, slice_index_or, Option, refl, sym, ap, subst, ◌∙◌, arith}
+use Rattle.capture_desk.specs.declared.calls.Call.{Call}
+use Rattle.capture_desk.specs.Desks.{Inputs, IsAllowed, Seen, Tells, Told, after_say, counted, said_by}
 use Rattle.capture_desk.proofs.Telling.{tells_both}
 use Rattle.bt878_words.specs.declared.Task.{Task}
 use Rattle.bt878_words.specs.Words.{writes}
@@ -8,11 +9,11 @@ use Rattle.command_texts.specs.declared.answer.Answer.{Answer}
 use Rattle.command_texts.specs.declared.answer.Answer.TheVariants.{Done, NoMemory, Usage, WriteFault}
 use Rattle.command_texts.specs.declared.refusal.Refusal.{Refusal}
 use Rattle.command_texts.specs.declared.refusal.Refusal.TheVariants as refusal
-use Rattle.command_texts.specs.Answers.{answer_of}
+use Rattle.command_texts.specs.Answers.{TakesMemory, answer_of}
 use Rattle.command_texts.specs.Texts.{answer_text}
 use Rattle.command_steps.specs.declared.outputs.Output.{Output}
-use Rattle.command_steps.specs.Inputs.{Input, StopsIn, apart}
-use Rattle.command_steps.specs.Reading.{Stopped, Took}
+use Rattle.command_steps.specs.Inputs.{Input, KeepsReads, StopsIn, apart}
+use Rattle.command_steps.specs.Reading.{AreTakenUpTo, EndsTaking, IsOpened, IsShortAt, MayCome, Stopped, Took}
 use Rattle.command_steps.specs.Outputs.{AreCutOff, AreDelivered, Finishes, IsDeliveryPart, IsPart, LastWriteFailed, Product, Refused, Says, delivered, delivery}
 use Rattle.command_steps.proofs.Parts.{apart_part, apart_delivered}
 use Rattle.bt878_contract.specs.Tasks.{AreAllowed, Ends, IsDone, IsPartDone, IsProduct, IsRefused, Stops, inputs_of}
@@ -43,25 +44,60 @@ no_memory : (inputs : List Input) (old new : Seen) → StopsIn inputs refusal.No
 no_memory [] old new = refl
 no_memory (input ∷ inputs) old new = inl tt
 
+-- where there is no memory for the text of a refusal, memory runs out at the input that it is of
+short_at : (kept : Bool) (name : List ℕ) (told : Option Inputs) (calls : List Call) → kept ≡ true → IsOpened name told calls → IsShortAt kept name told calls
+short_at true name told calls is h = h
+short_at false name told calls is h = absurd (cc)
+
+short_ends : (r : Refusal) (kept : Bool) (name : List ℕ) (told : Option Inputs) (calls : List Call) → TakesMemory r → EndsTaking r kept name told calls → EndsTaking refusal.NoMemory kept name told calls
+short_ends refusal.ReadFault kept name told calls takes h = absurd takes
+short_ends refusal.NoMemory kept name told calls takes h = h
+short_ends r kept name told calls takes h = short_at kept name told calls (h.1 takes) h.0
+
+short_comes : (r : Refusal) (kept : Bool) → TakesMemory r → MayCome r kept → kept ≡ true
+short_comes refusal.NoMemory kept takes h = h
+short_comes r kept takes h = h takes
+
+short_calls : (inputs : List Input) (r : Refusal) (told : Option Inputs) (calls : List Call) → TakesMemory r → AreTakenUpTo inputs r told calls → AreTakenUpTo inputs refusal.NoMemory told calls
+short_calls [] r told calls takes h = h
+short_calls (input ∷ inputs) r told calls takes (inl h) = inl (h.0, short_ends r input.judge.kept input.name told calls takes h.1)
+short_calls (input ∷ inputs) r told calls takes (inr (x, y, e, whole, good, may, more)) = inr (x, y, e, whole, good, short_comes r input.judge.kept takes may, short_calls inputs r told y takes more)
+
+short_reads : (r : Refusal) (old new : Seen) → TakesMemory r → KeepsReads r old new → new.reads ≡ old.reads
+short_reads refusal.ReadFault old new takes h = absurd takes
+short_reads r old new takes h = h
+
+-- what comes after a refusal reads nothing
+reads_later : (r : Refusal) (old mid new : Seen) → new.reads ≡ mid.reads → KeepsReads r old mid → KeepsReads r old new
+reads_later refusal.ReadFault old mid new same h = tt
+reads_later r old mid new same h = same ∙ h
+
 pub ends_refused : (task : Task) (r : Refusal) (answer : Answer) (old mid new : Seen) → Stopped (inputs_of task) r old mid → Refused r answer mid new → Ends task answer old new
 ends_refused task r answer old mid new stopped refused = by_answer refused.0
   where
-    refused_as : (other : Refusal) → answer ≡ answer_of other → Stops task other old new → IsRefused task other old new
-    refused_as other e why =
+    refused_as : (other : Refusal) → answer ≡ answer_of other → Stops task other old new → KeepsReads other old new → AreTakenUpTo (inputs_of task) other old.told.inputs stopped.calls.0 → IsRefused task other old new
+    refused_as other e why reads taken =
         record {
           why = why;
+          reads = reads;
           said = subst (λ a. Says (answer_text a) old new) e (said_from (answer_text answer) old mid new stopped.writes stopped.told refused.1.0);
           calls = (
             stopped.calls.0 ++ said_by (answer_text (answer_of other)),
-            (stopped.calls.0, stopped.calls.1, refl),
+            (stopped.calls.0, taken, refl),
             tells_both stopped.calls.0 (said_by (answer_text (answer_of other))) old.calls mid.calls new.calls stopped.calls.2
                 (subst (λ a. Tells (said_by (answer_text a)) mid.calls new.calls) e refused.1.1),
           );
         }
 
-    by_answer : (answer ≡ answer_of r) ⊎ (answer ≡ NoMemory) → Ends task answer old new
-    by_answer (inl e) = subst (λ a. Ends task a old new) (sym e) (ends_by task r old new (refused_as r e (stops_later (inputs_of task) r old mid new refused.2 stopped.why)))
-    by_answer (inr e) = subst (λ a. Ends task a old new) (sym e) (ends_by task refusal.NoMemory old new (refused_as refusal.NoMemory e (no_memory (inputs_of task) old new)))
+    by_answer : (answer ≡ answer_of r) ⊎ ((answer ≡ NoMemory) × TakesMemory r) → Ends task answer old new
+    by_answer (inl e) =
+        subst (λ a. Ends task a old new) (sym e)
+        (ends_by task r old new
+        (refused_as r e (stops_later (inputs_of task) r old mid new refused.1.2 stopped.why) (reads_later r old mid new refused.1.2 stopped.reads) stopped.calls.1))
+    by_answer (inr (e, takes)) =
+        subst (λ a. Ends task a old new) (sym e)
+        (ends_by task refusal.NoMemory old new
+        (refused_as refusal.NoMemory e (no_memory (inputs_of task) old new) (refused.1.2 ∙ short_reads r old mid takes stopped.reads) (short_calls (inputs_of task) r old.told.inputs stopped.calls.0 takes stopped.calls.1)))
 
 -- ---- what is done
 

@@ -1,14 +1,15 @@
 -- A stream that is played behind other inputs.
-use Rattle.std.proofs.Common.{◌≡◌, ℕ, List, [], ◌∷◌, Result, Ok, Err, IsErrAnd, true, sym, ap, subst, ◌∙◌}
+use Rattle.std.proofs.Common.{◌≡◌, ℕ, List, [], ◌∷◌, Result, Ok, Err, IsErrAnd, true, false, refl, sym, ap, subst, ◌∙◌}
 use Rattle.capture_desk.specs.Desks.{Seen, Told}
 use Rattle.capture_file.specs.Streams.{steps_run}
 use Rattle.machine_model.specs.States.{State}
 use Rattle.machine_model.specs.Steps.{run}
 use Rattle.command_texts.specs.declared.refusal.Refusal.{Refusal}
+use Rattle.command_texts.specs.declared.refusal.Refusal.TheVariants.{NoMemory}
 use Rattle.command_steps.specs.Inputs.{Input, OfInput, apart}
 use Rattle.command_steps.specs.Reading.{Stopped, Takes, Took}
 use Rattle.command_steps.proofs.Inputs.{OfInput-map, same_inputs}
-use Rattle.command_steps.proofs.Sequence.{stopped_before, stopped_then, stops_with, took_then}
+use Rattle.command_steps.proofs.Sequence.{stopped_before, stopped_then, stopped_unopened, stops_with, took_then}
 use Rattle.capture_desc.specs.declared.desc.Desc.{Desc}
 use Rattle.command_inputs.specs.Chains.{IsFrameFile, a_first_description, a_second_description, a_second_with}
 use Rattle.command_inputs.proofs.Pairing.{second_taken}
@@ -16,10 +17,16 @@ use Rattle.stream_play.specs.Plays.{HasPlayed}
 use Rattle.stream_play.specs.Runs.{a_stream_file}
 
 -- the first input was taken, and the second one was not
-pub second_stops : {A : Type 0} (first second : Input) (r : Result A Refusal) (refusal : Refusal) (old mid new : Seen) → IsErrAnd r (λ y. y ≡ refusal) → Took (first ∷ []) old mid → Stopped (second ∷ []) refusal mid new →
+pub second_stops : {A : Type 0} (first second : Input) (r : Result A Refusal) (refusal : Refusal) (old mid new : Seen) → IsErrAnd r (λ y. y ≡ refusal) → first.judge.kept ≡ true → Took (first ∷ []) old mid → Stopped (second ∷ []) refusal mid new →
     Takes (first ∷ second ∷ []) r old new
-second_stops first second r refusal old mid new is took stopped =
-    stops_with (first ∷ second ∷ []) r refusal old new is (stopped_then (first ∷ []) old mid (second ∷ []) refusal new took stopped)
+second_stops first second r refusal old mid new is kept took stopped =
+    stops_with (first ∷ second ∷ []) r refusal old new is (stopped_then (first ∷ []) old mid (second ∷ []) refusal new (kept, tt) took stopped)
+
+-- memory runs out behind the first, before a second one that isn't kept is opened
+pub short_between : {A : Type 0} (first second : Input) (r : Result A Refusal) (old mid : Seen) → IsErrAnd r (λ y. y ≡ NoMemory) → first.judge.kept ≡ true → second.judge.kept ≡ false → Took (first ∷ []) old mid →
+    Takes (first ∷ second ∷ []) r old mid
+short_between first second r old mid is kept not_kept took =
+    second_stops first second r NoMemory old mid mid is kept took (stopped_unopened second mid not_kept)
 
 -- both were taken
 pub both_taken : (first second : Input) (old mid new : Seen) → Took (first ∷ []) old mid → Took (second ∷ []) mid new → Took (first ∷ second ∷ []) old new
@@ -48,8 +55,8 @@ module _ (one two stream : List ℕ) (first : Desc) (old mid : Seen) (took : Too
   second_description_stops r refusal new is stopped =
       let h : Stopped (a_second_description one two ∷ []) refusal mid new = second_taken one two first mid new reads_still {A = ℕ} [] (Err refusal) stopped in
       stops_with all_three r refusal old new is
-      (stopped_before (a_first_description one ∷ a_second_description one two ∷ []) old new (a_stream_file true stream ∷ []) refusal
-      (stopped_then (a_first_description one ∷ []) old mid (a_second_description one two ∷ []) refusal new took h))
+      (stopped_before (a_first_description one) (a_second_description one two ∷ []) old new (a_stream_file true stream ∷ []) refusal
+      (stopped_then (a_first_description one ∷ []) old mid (a_second_description one two ∷ []) refusal new (refl, tt) took h))
 
   -- it does
   module _ (last : Seen) (pairs : Took (a_second_with first two ∷ []) mid last) where
@@ -61,7 +68,7 @@ module _ (one two stream : List ℕ) (first : Desc) (old mid : Seen) (took : Too
     pub chain_stream_stops : {A : Type 0} (r : Result A Refusal) (refusal : Refusal) (new : Seen) → IsErrAnd r (λ y. y ≡ refusal) → Stopped (a_stream_file true stream ∷ []) refusal last new → Takes all_three r old new
     chain_stream_stops r refusal new is stopped =
         stops_with all_three r refusal old new is
-        (stopped_then (a_first_description one ∷ a_second_description one two ∷ []) old last (a_stream_file true stream ∷ []) refusal new descriptions_taken stopped)
+        (stopped_then (a_first_description one ∷ a_second_description one two ∷ []) old last (a_stream_file true stream ∷ []) refusal new (refl, refl, tt) descriptions_taken stopped)
 
     pub all_three_taken : (new : Seen) → Took (a_stream_file true stream ∷ []) last new → Took all_three old new
     all_three_taken new plays = took_then (a_first_description one ∷ a_second_description one two ∷ []) old last (a_stream_file true stream ∷ []) new descriptions_taken plays

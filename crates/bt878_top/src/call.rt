@@ -1,9 +1,10 @@
 //! The one call.
 
-ghost use Rattle.std.specs.Prelude.{◌≡◌, ℕ, ◌⊎◌, IfOk, List, Ok};
+ghost use Rattle.std.specs.Prelude.{◌≡◌, ◌<◌, ℕ, ◌⊎◌, IfOk, List, Ok};
 ghost use Rattle.bt878_words.specs.Words.{HasFrames, Word, task_of, writes};
 ghost use Rattle.bt878_contract.specs.Clauses.{AreTold, IsAssembled, IsBadInput, IsCompiled, IsGenerated, IsGood, IsInOrder, IsRefusal, IsUnreadOf, IsUsage, OfDescRun, OfLive, OfLiveRun, OfLiveSteps};
 ghost use Rattle.bt878_contract.specs.Clauses.{OfRan, OfRingRun, OfSteps, OnlyOutputs, OnlySays, SameNames, SaysAccepted, SaysAlone, SaysBlocks, SaysChecked, SaysDamage, SaysListing, ShowsImage, ShowsLast, ShowsLastLive};
+ghost use Rattle.bt878_contract.specs.Clauses.{IsShort, LacksFirst, LacksInput};
 ghost use Rattle.bt878_contract.specs.Clauses.{SaysTrace, ShowsProgram, StandsAt, StaysInside, TellsInput, UnlessCut};
 ghost use Rattle.bt878_contract.specs.Pictures.{EndsInTime, ShowsNoFault, ShowsPictures, ShowsSignalledPictures};
 ghost use Rattle.bt878_contract.specs.Rows.{HasArrivedRows, HoldsWholeRows};
@@ -280,18 +281,30 @@ pub fn bt878<D: Desk>(alloc: Global, words: &[&str], desk: &mut D) -> Answer
     // At Done both counts of faults are as they were.
     ensures done { (result ≡ Answer.Done) → SameCounts (D.seen desk.old) (D.seen desk.new) }
 
-    // When each refusal comes, and, but for want of memory and faults of reading, that it must come:
+    // When each refusal comes, and that it must: a fault of reading where one rose, or where an input isn't there, unless
+    // memory ran out before it was opened, which it doesn't at the first; and, but for want of memory and faults of reading,
     // `Malformed`, `Rejected`, `BadDesc`, `BadGeometry`, `BadChain`, `BadRing`, `BadText` and `Differs` exactly where
     // the first bad input is so.
     ensures read_fault { (result ≡ Answer.ReadFault) →
         IsUnreadOf (names_read (task_of words.now))
         (D.seen desk.old)
         (D.seen desk.new) }
+    ensures read_fault_must { (D.seen desk.old).reads < (D.seen desk.new).reads → result ≡ Answer.ReadFault }
+    ensures missing_must { LacksInput (task_of words.now) (D.seen desk.old).told.inputs →
+        ((result ≡ Answer.ReadFault) ⊎ (result ≡ Answer.NoMemory)) }
+    ensures first_missing_must { LacksFirst (task_of words.now) (D.seen desk.old).told.inputs → result ≡ Answer.ReadFault }
     ensures bad_input { (refusal : Refusal) → result ≡ answer_of refusal → TellsInput refusal →
         IsBadInput (task_of words.now) refusal (D.seen desk.old).told.inputs }
     ensures bad_input_must { AreTold (D.seen desk.old).told.inputs → (wanted : Refusal) →
         IsBadInput (task_of words.now) wanted (D.seen desk.old).told.inputs →
         UnlessCut wanted result
+        (D.seen desk.old)
+        (D.seen desk.new) }
+
+    // Out of memory: nothing was created and nothing printed but its text, no call at reading failed, and no input was
+    // opened behind the one at which memory ran out.
+    ensures no_memory { (result ≡ Answer.NoMemory) →
+        IsShort (task_of words.now)
         (D.seen desk.old)
         (D.seen desk.new) }
 

@@ -32,7 +32,7 @@ pub fn make<'a, D: Desk>(
 {
     let checked = check_file(alloc, desc, desk)?;
     let counts = Made::of(checked.frame(), frames);
-    let text = made_text(alloc, counts.fields, counts.entries)?;
+    let text = made_text(counts.fields, counts.entries);
     Ok(Produced::Files {
         outputs: Outputs::Stream {
             name: stream,

@@ -11,12 +11,15 @@ ghost use Rattle.command_steps.specs.Outputs.{Finishes, names_of};
 
 use crate::contents::{Contents, Frames};
 use crate::listings::{Listed, say_whole};
+use crate::runs::say_rows;
 use crate::traces::say_trace;
 use capture_desk::Desk;
 use command_steps::{Output, finish};
-use command_texts::{Answer, CheckText};
+use command_texts::{Answer, CheckText, ShortText};
+use damage_map::Track;
 use dma_machine::Machine;
 use double_buffer::DoubleBuffer;
+use machine_watch::Watched;
 use page_ram::PageRam;
 use program_build::Checked;
 use risc_verify::Program;
@@ -25,8 +28,6 @@ use trace_play::StreamTrace;
 /// The outputs of a command, each with its name.
 #[derive(Drop)]
 pub enum Outputs<'a> {
-    /// There are none.
-    Nothing,
     /// The program file of a program and of the byte that fills its memory.
     Program {
         name: &'a str,
@@ -70,8 +71,16 @@ pub enum Produced<'a> {
     Listing(Listed),
     /// A trace, which is printed piece by piece.
     Traced(StreamTrace<PageRam>),
+    /// Which rows of a description are whole, which is put into words where it is printed.
+    Damaged {
+        checked: Checked,
+        map: Watched<PageRam, Track>,
+    },
     /// Outputs, and a text.
-    Files { outputs: Outputs<'a>, text: String },
+    Files {
+        outputs: Outputs<'a>,
+        text: ShortText,
+    },
 }
 
 impl Outputs<'_> {
@@ -82,7 +91,6 @@ impl Outputs<'_> {
         ensures { Finishes (files_of self.now) text.now result (D.seen desk.old) (D.seen desk.new) }
     {
         match self {
-            Outputs::Nothing => say_alone(text, desk),
             Outputs::Program {
                 name,
                 program,
@@ -133,13 +141,14 @@ impl Produced<'_> {
             Produced::Checked(text) => say_alone(text.as_str(), desk),
             Produced::Listing(listed) => say_whole(&listed, desk),
             Produced::Traced(mut trace) => say_trace(&mut trace, desk),
-            Produced::Files { outputs, text } => outputs.deliver(&text, desk),
+            Produced::Damaged { checked, map } => say_rows(&checked, &map, desk),
+            Produced::Files { outputs, text } => outputs.deliver(text.as_str(), desk),
         }
     }
 }
 
 /// Says a text, where there is no output.
-fn say_alone<D: Desk>(text: &str, desk: &mut D) -> Answer
+pub fn say_alone<D: Desk>(text: &str, desk: &mut D) -> Answer
     ensures { Finishes [] text.now result (D.seen desk.old) (D.seen desk.new) }
 {
     let outputs: [Output<Contents>; 0] = [];

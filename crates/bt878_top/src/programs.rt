@@ -12,7 +12,7 @@ use capture_desk::Desk;
 use command_inputs::{accept, assemble_file, check_file, shown_file};
 use command_texts::{ACCEPTED, Refusal, built_text};
 use risc_verify::Program;
-use std::alloc::{AllocError, Global};
+use std::alloc::Global;
 
 /// `verify PROG`: says whether the program is sound.
 pub fn verify<'a, D: Desk>(
@@ -46,23 +46,18 @@ pub fn check<'a, D: Desk>(
 }
 
 /// A program file under a name, and how many words and chunks the program has.
-fn built<'a>(
-    alloc: Global,
-    name: &'a str,
-    program: Program,
-    fill: u8,
-) -> Result<Produced<'a>, AllocError>
-    ensures { IfOk result (λ produced. product_of produced ≡ record { files = program_file name.now program fill ∷ []; text = program_text program }) }
+fn built<'a>(name: &'a str, program: Program, fill: u8) -> Produced<'a>
+    ensures { product_of result ≡ record { files = program_file name.now program fill ∷ []; text = program_text program } }
 {
-    let text = built_text(alloc, program.words().len(), program.grants().len())?;
-    Ok(Produced::Files {
+    let text = built_text(program.words().len(), program.grants().len());
+    Produced::Files {
         outputs: Outputs::Program {
             name,
             program,
             fill,
         },
         text,
-    })
+    }
 }
 
 /// `compile DESC PROG`: writes the program of the description and says how many words and chunks it has.
@@ -78,7 +73,7 @@ pub fn compile<'a, D: Desk>(
 {
     let checked = check_file(alloc, desc, desk)?;
     let fill = checked.fill();
-    Ok(built(alloc, program, checked.into_program(alloc)?, fill)?)
+    Ok(built(program, checked.into_program(alloc)?, fill))
 }
 
 /// `assemble TEXT PROG`: writes the program and the fill whose listing the text is, and says how many words
@@ -94,5 +89,5 @@ pub fn assemble<'a, D: Desk>(
     ensures makes { IfOk result (λ produced. IsProduct (Task.Assemble text.entry program.entry) (D.seen desk.old).told.inputs (product_of produced)) }
 {
     let file = assemble_file(alloc, text, desk)?;
-    Ok(built(alloc, program, file.program, file.fill)?)
+    Ok(built(program, file.program, file.fill))
 }

@@ -1,27 +1,29 @@
 //! The commands that run a program over a stream: each reads what gives the program, plays the stream on its machine, and
-//! makes the report. All memory is taken before the stream is opened, but for the text.
+//! makes the report. All memory is taken before the stream is opened.
 
-ghost use Rattle.std.specs.Prelude.{◌≡◌, string_bytes, IfOk};
+ghost use Rattle.std.specs.Prelude.{[], IfOk};
 ghost use Rattle.bt878_contract.specs.Tasks.{IsProduct, inputs_of};
 ghost use Rattle.bt878_top.specs.Products.{product_of};
 ghost use Rattle.capture_desk.specs.Desks.{IsAllowed};
+ghost use Rattle.command_steps.specs.Outputs.{Finishes};
 ghost use Rattle.command_steps.specs.Reading.{Takes};
 ghost use Rattle.damage_map.specs.Maps.{rows_of};
 ghost use Rattle.damage_text.specs.Texts.{damage_text};
 
 use crate::machines::{machine_of_description, machine_of_ring, map_of};
-use crate::produced::{Outputs, Produced};
+use crate::produced::{Outputs, Produced, say_alone};
 use bt878_words::Task;
 use capture_desk::Desk;
 use command_inputs::{Loaded, accept, buffer_file, check_file, frame_file, ring_file};
-use command_texts::Refusal;
+use command_texts::{Answer, Refusal};
 use damage_map::Track;
-use damage_text::damage_text;
+use damage_text::push_damage;
 use machine_watch::Watched;
 use page_ram::PageRam;
 use pixel_layout::Parity;
 use program_build::Checked;
-use std::alloc::{AllocError, Global};
+use risc_listing::Lines;
+use std::alloc::Global;
 use stream_play::{Played, machine_of, play_and_tell, play_file};
 
 /// `run PROG STREAM IMAGE`: runs the program over the stream, writes the image of its memory and says its report.
@@ -109,20 +111,20 @@ pub fn ring<'a, D: Desk>(
     })
 }
 
-/// What is said of the rows of a description.
-fn rows_text(
-    alloc: Global,
-    checked: &Checked,
-    map: &Watched<PageRam, Track>,
-) -> Result<String, AllocError>
-    ensures { IfOk result (λ text. string_bytes text ≡ damage_text checked.now (λ field. rows_of field map.now)) }
+/// Prints which rows of each described field are whole. Its text stands on the stack, so it is never inlined: a frame is touched
+/// page by page when it begins.
+#[inline(never)]
+pub fn say_rows<D: Desk>(checked: &Checked, map: &Watched<PageRam, Track>, desk: &mut D) -> Answer
+    ensures { Finishes [] (damage_text checked.now (λ field. rows_of field map.now)) result (D.seen desk.old) (D.seen desk.new) }
 {
-    damage_text(
-        alloc,
+    let mut text = Lines::new();
+    push_damage(
+        &mut text,
         checked.frame().desc(),
         map.watch().rows(Parity::Top),
         map.watch().rows(Parity::Bottom),
-    )
+    );
+    say_alone(text.as_str(), desk)
 }
 
 /// `damage DESC STREAM`: runs the program of the description over the stream, and says of each described field
@@ -140,11 +142,7 @@ pub fn damage<'a, D: Desk>(
 {
     let checked = check_file(alloc, desc, desk)?;
     let map = play_file(alloc, map_of(alloc, &checked)?, stream, desk)?;
-    let text = rows_text(alloc, &checked, &map)?;
-    Ok(Produced::Files {
-        outputs: Outputs::Nothing,
-        text,
-    })
+    Ok(Produced::Damaged { checked, map })
 }
 
 /// `chain DESC1 DESC2 STREAM IMAGE`: runs the chain of both descriptions over the stream, whose patches tell

@@ -34,8 +34,8 @@ pub fn trace<'a, D: Desk>(
     ensures makes { IfOk result (λ produced. IsProduct (Task.Trace program.entry stream.entry) (D.seen desk.old).told.inputs (product_of produced)) }
 {
     let Loaded { accepted, fill } = accept(alloc, program, desk)?;
-    let machine = machine_of(alloc, accepted, fill)?;
     let kept = keep_stream(alloc, stream, desk)?;
+    let machine = machine_of(alloc, accepted, fill)?;
     Ok(Produced::Traced(StreamTrace::new(machine, kept)))
 }
 

@@ -1,5 +1,5 @@
 -- Two description files that are read and judged, and make a chain.
-use Rattle.std.specs.Prelude.{◌≡◌, ℕ, ⊤, List, Option, Some, Result, Ok}
+use Rattle.std.specs.Prelude.{◌≡◌, ℕ, true, ⊤, List, Option, Some, Result, Ok}
 use Rattle.capture_desk.specs.Desks.{Inputs}
 use Rattle.capture_desc.specs.declared.desc.Desc.{Desc}
 use Rattle.picture_model.specs.Geometry.{frame_fault}
@@ -28,7 +28,7 @@ HoldsFrame bytes = (d : Desc) × IsFrameFile bytes d
 
 abbrev pub frame_files : Judge
 frame_files =
-    record { most = longest_description; MayGoOn = Always; IsGood = ByBytes HoldsFrame; IsBad = IsBadDescBy frame_fault }
+    record { most = longest_description; kept = true; MayGoOn = Always; IsGood = ByBytes HoldsFrame; IsBad = IsBadDescBy frame_fault }
 
 -- ---- the second description, which is judged with the first
 
@@ -60,7 +60,7 @@ IsBadSecond first_name name refusal told = IsBadDescBy frame_fault name refusal 
 
 abbrev pub second_files : List ℕ → Judge
 second_files first_name =
-    record { most = longest_description; MayGoOn = Always; IsGood = HoldsSecond first_name; IsBad = IsBadSecond first_name }
+    record { most = longest_description; kept = true; MayGoOn = Always; IsGood = HoldsSecond first_name; IsBad = IsBadSecond first_name }
 
 -- ---- as inputs
 
@@ -90,7 +90,7 @@ HoldsSecondWith first bytes = (second : Desc) × (frame_of bytes ≡ Ok second) 
 
 abbrev pub second_with : Desc → Judge
 second_with first =
-    record { most = longest_description; MayGoOn = Always; IsGood = ByBytes (HoldsSecondWith first); IsBad = IsBadWith first }
+    record { most = longest_description; kept = true; MayGoOn = Always; IsGood = ByBytes (HoldsSecondWith first); IsBad = IsBadWith first }
 
 abbrev pub a_second_with : Desc → List ℕ → Input
 a_second_with first name = record { name = name; judge = second_with first }

@@ -45,7 +45,7 @@ IsBadFor program name refusal told = IsBadDescBy frame_fault name refusal told
 
 abbrev pub shown_with : RiscProgram → Judge
 shown_with program =
-    record { most = longest_description; MayGoOn = Always; IsGood = ByBytes (HoldsShown program); IsBad = IsBadFor program }
+    record { most = longest_description; kept = true; MayGoOn = Always; IsGood = ByBytes (HoldsShown program); IsBad = IsBadFor program }
 
 abbrev pub a_shown_with : RiscProgram → List ℕ → Input
 a_shown_with program name = record { name = name; judge = shown_with program }
@@ -76,7 +76,7 @@ IsBadShown program_name name refusal told = IsBadDescBy frame_fault name refusal
 
 abbrev pub shown_files : List ℕ → Judge
 shown_files program_name =
-    record { most = longest_description; MayGoOn = Always; IsGood = HoldsShownBy program_name; IsBad = IsBadShown program_name }
+    record { most = longest_description; kept = true; MayGoOn = Always; IsGood = HoldsShownBy program_name; IsBad = IsBadShown program_name }
 
 abbrev pub a_shown_description : List ℕ → List ℕ → Input
 a_shown_description program_name name = record { name = name; judge = shown_files program_name }

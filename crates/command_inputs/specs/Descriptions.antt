@@ -1,5 +1,5 @@
 -- A description file that is read and judged, and the program that it asks for.
-use Rattle.std.specs.Prelude.{◌≡◌, ℕ, ⊤, List, length, Option, Some, None, Result, Ok, Err, if◌then◌else◌, nat_lt}
+use Rattle.std.specs.Prelude.{◌≡◌, ℕ, true, ⊤, List, length, Option, Some, None, Result, Ok, Err, if◌then◌else◌, nat_lt}
 use Rattle.capture_desk.specs.Desks.{Inputs}
 use Rattle.capture_desc.specs.declared.desc.Desc.{Desc}
 use Rattle.capture_desc.specs.declared.fault.DescFault.{DescFault}
@@ -94,7 +94,7 @@ pub record GivesDescribed (d : Desc) (bytes : List ℕ) (program : RiscProgram) 
 -- ---- as an input
 
 abbrev pub descriptions : Judge
-descriptions = record { most = longest_description; MayGoOn = Always; IsGood = ByBytes HoldsValid; IsBad = IsBadDesc }
+descriptions = record { most = longest_description; kept = true; MayGoOn = Always; IsGood = ByBytes HoldsValid; IsBad = IsBadDesc }
 
 abbrev pub a_description : List ℕ → Input
 a_description name = record { name = name; judge = descriptions }

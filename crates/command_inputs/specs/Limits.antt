@@ -1,5 +1,5 @@
 -- Files that may have so many bytes and no more.
-use Rattle.std.specs.Prelude.{◌≡◌, ℕ, ◌<◌, ◌≤◌, List, length, Option}
+use Rattle.std.specs.Prelude.{◌≡◌, ℕ, true, ◌<◌, ◌≤◌, List, length, Option}
 use Rattle.capture_desk.specs.Desks.{Inputs}
 use Rattle.capture_file.specs.declared.FileKind.TheVariants as kind
 use Rattle.capture_file.specs.declared.FileFault.{FileFault}
@@ -21,7 +21,7 @@ IsLonger most file name _ inputs = ⊥
 -- ---- as an input
 
 abbrev pub limited_files : ℕ → File → Judge
-limited_files most file = record { most = most; MayGoOn = Always; IsGood = ByBytes (λ bytes. length bytes ≤ most); IsBad = IsLonger most file }
+limited_files most file = record { most = most; kept = true; MayGoOn = Always; IsGood = ByBytes (λ bytes. length bytes ≤ most); IsBad = IsLonger most file }
 
 abbrev pub a_limited : ℕ → File → List ℕ → Input
 a_limited most file name = record { name = name; judge = limited_files most file }

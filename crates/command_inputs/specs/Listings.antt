@@ -1,5 +1,5 @@
 -- A text that is read and assembled.
-use Rattle.std.specs.Prelude.{ℕ, List, Option, Ok}
+use Rattle.std.specs.Prelude.{ℕ, true, List, Option, Ok}
 use Rattle.capture_desk.specs.Desks.{Inputs}
 use Rattle.capture_file.specs.declared.program.ProgramFile.{ProgramFile}
 use Rattle.risc_asm.specs.Answers.{Answers, IsFault, most_bytes}
@@ -22,7 +22,7 @@ IsBadText name _ inputs = ⊥
 -- ---- as an input
 
 abbrev pub listings : Judge
-listings = record { most = most_bytes; MayGoOn = Always; IsGood = ByBytes HoldsListing; IsBad = IsBadText }
+listings = record { most = most_bytes; kept = true; MayGoOn = Always; IsGood = ByBytes HoldsListing; IsBad = IsBadText }
 
 abbrev pub a_listing : List ℕ → Input
 a_listing name = record { name = name; judge = listings }

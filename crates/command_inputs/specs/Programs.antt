@@ -1,5 +1,5 @@
 -- A program file that is read and judged.
-use Rattle.std.specs.Prelude.{◌≡◌, ℕ, ⊤, List, Option, Result, Ok, Err}
+use Rattle.std.specs.Prelude.{◌≡◌, ℕ, true, ⊤, List, Option, Result, Ok, Err}
 use Rattle.capture_desk.specs.Desks.{Inputs}
 use Rattle.machine_model.specs.declared.Cause.{Cause}
 use Rattle.machine_model.specs.Paths.{RiscProgram, IsSound, IsFirstBad}
@@ -64,10 +64,10 @@ GivesSound bytes program fill = Accepts (program_of bytes) program fill
 -- ---- as inputs
 
 abbrev pub program_files : Judge
-program_files = record { most = longest_program; MayGoOn = Always; IsGood = ByBytes HoldsProgram; IsBad = IsBadFile }
+program_files = record { most = longest_program; kept = true; MayGoOn = Always; IsGood = ByBytes HoldsProgram; IsBad = IsBadFile }
 
 abbrev pub sound_programs : Judge
-sound_programs = record { most = longest_program; MayGoOn = Always; IsGood = ByBytes HoldsSound; IsBad = IsBadProgram }
+sound_programs = record { most = longest_program; kept = true; MayGoOn = Always; IsGood = ByBytes HoldsSound; IsBad = IsBadProgram }
 
 abbrev pub a_program : List ℕ → Input
 a_program name = record { name = name; judge = program_files }

@@ -1,5 +1,5 @@
 -- A ring file that is read and judged, and the program that it asks for.
-use Rattle.std.specs.Prelude.{◌≡◌, ℕ, ⊤, List, length, Option, Result, Ok, Err, if◌then◌else◌, nat_lt}
+use Rattle.std.specs.Prelude.{◌≡◌, ℕ, true, ⊤, List, length, Option, Result, Ok, Err, if◌then◌else◌, nat_lt}
 use Rattle.capture_desk.specs.Desks.{Inputs}
 use Rattle.machine_model.specs.Paths.{RiscProgram}
 use Rattle.capture_file.specs.declared.Input.TheVariants as input
@@ -57,7 +57,7 @@ GivesRingProgram bytes program fill = (ring : Ring) × GivesRing ring bytes prog
 -- ---- as an input
 
 abbrev pub ring_files : Judge
-ring_files = record { most = longest_ring; MayGoOn = Always; IsGood = ByBytes HoldsRing; IsBad = IsBadRing }
+ring_files = record { most = longest_ring; kept = true; MayGoOn = Always; IsGood = ByBytes HoldsRing; IsBad = IsBadRing }
 
 abbrev pub a_ring : List ℕ → Input
 a_ring name = record { name = name; judge = ring_files }

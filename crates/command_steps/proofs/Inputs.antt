@@ -1,7 +1,9 @@
 -- What holds of an input that is told.
-use Rattle.std.proofs.Common.{◌≡◌, ℕ, true, false, Bool, List, Option, Some, None, sym, ap, subst}
-use Rattle.capture_desk.specs.Desks.{HasRisen, Inputs, Told, after_open, first_rest, is_missing, named}
-use Rattle.command_steps.specs.Inputs.{OfFile, OfInput, OfRest, apart}
+use Rattle.std.proofs.Common.{◌≡◌, ℕ, true, false, Bool, List, Option, Some, None, refl, sym, ap, subst, ◌∙◌}
+use Rattle.capture_desk.specs.Desks.{HasRisen, Inputs, Seen, Told, after_open, first_rest, is_missing, named}
+use Rattle.command_texts.specs.declared.refusal.Refusal.{Refusal}
+use Rattle.command_texts.specs.declared.refusal.Refusal.TheVariants.{ReadFault}
+use Rattle.command_steps.specs.Inputs.{KeepsReads, OfFile, OfInput, OfRest, apart}
 
 -- what holds of bytes, holds where they are told
 pub OfInput-map : (name : List ℕ) (inputs : Option Inputs) (P Q : List ℕ → Type 0) → ((bytes : List ℕ) → P bytes → Q bytes) → OfInput name inputs P → OfInput name inputs Q
@@ -11,6 +13,15 @@ OfInput-map name (Some inputs) P Q f h = of_file (named name inputs) h
     of_file : (file : Option (List ℕ)) → OfFile file P → OfFile file Q
     of_file None h = h
     of_file (Some bytes) h = f bytes h
+
+-- an input of which something holds is there
+pub is_there : (name : List ℕ) (inputs : Option Inputs) (P : List ℕ → Type 0) → OfInput name inputs P → is_missing name inputs ≡ false
+is_there name None P h = refl
+is_there name (Some inputs) P h = of_file (named name inputs) h
+  where
+    of_file : (file : Option (List ℕ)) → OfFile file P → elim file as (λ _. Bool) [ None ↦ true | Some _ ↦ false ] ≡ false
+    of_file None h = absurd h
+    of_file (Some bytes) h = refl
 
 -- the inputs stay through what only reads
 pub same_inputs : (a b : Told) → apart a ≡ apart b → a.inputs ≡ b.inputs
@@ -35,3 +46,14 @@ opened_input name old opened P there e h = of_inputs old.inputs there (subst (λ
 
 pub rose_from : (old mid new : ℕ) → mid ≡ old → HasRisen mid new → HasRisen old new
 rose_from old mid new e h = subst (λ n. HasRisen n new) e h
+
+-- ---- the count of failed reads
+
+pub keeps_reads : (refusal : Refusal) (old new : Seen) → new.reads ≡ old.reads → KeepsReads refusal old new
+keeps_reads ReadFault old new e = tt
+keeps_reads refusal old new e = e
+
+-- no read failed before
+pub keeps_from : (refusal : Refusal) (old mid new : Seen) → mid.reads ≡ old.reads → KeepsReads refusal mid new → KeepsReads refusal old new
+keeps_from ReadFault old mid new quiet h = tt
+keeps_from refusal old mid new quiet h = h ∙ quiet

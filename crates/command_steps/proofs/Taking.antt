@@ -1,13 +1,15 @@
 -- The calls by which an input is taken.
-use Rattle.std.proofs.Common.{◌≡◌, ℕ, ◌+◌, ◌<◌, inl, inr, zero, suc, arith, true, false, List, [], ◌∷◌, ◌++◌, take, Option, Some, None, Ok, Err, refl, sym, subst, append_assoc}
+use Rattle.std.proofs.Common.{◌≡◌, ℕ, ◌+◌, ◌<◌, inl, inr, zero, suc, arith, true, false, Bool, List, [], ◌∷◌, ◌++◌, take, Option, Some, None, Ok, Err, refl, sym, ap, subst, ◌∙◌, append_assoc}
 use Rattle.std.proofs.lemmas.List.{append-nil}
 use Rattle.capture_desk.specs.declared.calls.Call.{Call}
 use Rattle.capture_desk.specs.declared.calls.Call.TheVariants.{OpenIn, Read, CreateOut, Finish, Say}
-use Rattle.capture_desk.specs.Desks.{Seen, Tells, is_missing, after_open}
+use Rattle.capture_desk.specs.Desks.{Inputs, Seen, Tells, is_missing, after_open}
 use Rattle.capture_desk.proofs.Telling.{tells_both, tells_none}
-use Rattle.command_steps.specs.Inputs.{Always, OfInput, OfRest}
-use Rattle.command_steps.specs.Reading.{AreAllReads, AreReads, Calls, IsNextRead, IsTaking, IsWholeTaking, OpensBy}
-use Rattle.command_steps.proofs.Inputs.{opened_input}
+use Rattle.command_texts.specs.declared.refusal.Refusal.{Refusal}
+use Rattle.command_texts.specs.declared.refusal.Refusal.TheVariants.{ReadFault, NoMemory}
+use Rattle.command_steps.specs.Inputs.{Always, Input, IsThereAndGood, OfInput, OfRest}
+use Rattle.command_steps.specs.Reading.{AreAllReads, AreReads, Calls, EndsTaking, MayCome, IsNextRead, IsOpened, IsTaking, IsTakingOf, IsWholeTaking, IsWholeTakingOf, OpensBy}
+use Rattle.command_steps.proofs.Inputs.{is_there, opened_input}
 
 -- reads that may come so far, whatever reads come later
 pub record ReadSoFar (MayGoOn : ℕ → Type 0) (most at : ℕ) (old new : Seen) : Type 0 where
@@ -101,10 +103,11 @@ module _ (name : List ℕ) (most : ℕ) (MayGoOn : List ℕ → Type 0) where
   -- an input was opened, and its rest read
   pub taken : (A E : Type 0) (done : A) (old mid new : Seen) (P : ℕ → Type 0) → is_missing name old.told.inputs ≡ false → mid.told ≡ after_open name old.told →
       ((at : ℕ) → P at → OfRest mid.told.rest (λ bytes. MayGoOn (take at bytes))) →
-      Calls (OpensBy {A = A} {E = E} name (Ok done)) old mid → Calls (AreReads P most 0) mid new → Calls (IsTaking name most MayGoOn old.told.inputs) old new
+      Calls (OpensBy {A = A} {E = E} name (Ok done)) old mid → Calls (AreReads P most 0) mid new →
+      Calls (λ calls. IsTaking name most MayGoOn old.told.inputs calls × IsOpened name old.told.inputs calls) old new
   taken A E done old mid new P there opened f (opening, is, one) (reads, h, two) = (
     OpenIn name true ∷ reads,
-    (refl, reads_of P (λ at. OfInput name old.told.inputs (λ bytes. MayGoOn (take at bytes))) (λ at p. opened_input name old.told mid.told (λ bytes. MayGoOn (take at bytes)) there opened (f at p)) most 0 reads h),
+    ((refl, reads_of P (λ at. OfInput name old.told.inputs (λ bytes. MayGoOn (take at bytes))) (λ at p. opened_input name old.told mid.told (λ bytes. MayGoOn (take at bytes)) there opened (f at p)) most 0 reads h), there),
     tells_both (OpenIn name true ∷ []) reads old.calls mid.calls new.calls (subst (λ calls. Tells calls old.calls mid.calls) is one) two,
   )
 
@@ -122,6 +125,57 @@ module _ (name : List ℕ) (most : ℕ) (MayGoOn : List ℕ → Type 0) where
   pub not_taken : (A E : Type 0) (failed : E) (old new : Seen) → Calls (OpensBy {A = A} {E = E} name (Err failed)) old new → Calls (IsTaking name most MayGoOn old.told.inputs) old new
   not_taken A E failed old new (opening, is, one) = (OpenIn name false ∷ [], (refl, refl), subst (λ calls. Tells calls old.calls new.calls) is one)
 
-  -- nothing was done
-  pub nothing_taken : (old new : Seen) → new ≡ old → Calls (IsTaking name most MayGoOn old.told.inputs) old new
-  nothing_taken old new e = ([], tt, subst (λ (s : Seen). Tells [] old.calls s.calls) (sym e) (tells_none old.calls))
+-- ---- what is read through is read
+
+reads_of_all : (MayGoOn : ℕ → Type 0) (most at : ℕ) (calls : List Call) → AreAllReads MayGoOn most at calls → AreReads MayGoOn most at calls
+reads_of_all MayGoOn most at [] h = tt
+reads_of_all MayGoOn most at (Read size None ∷ calls) h = absurd h
+reads_of_all MayGoOn most at (Read size (Some n) ∷ calls) (next, inl end) = (next, (λ none. end.1), subst (AreReads MayGoOn most (at + n)) (sym end.1) tt)
+reads_of_all MayGoOn most at (Read size (Some n) ∷ calls) (next, inr more) =
+    (next, (λ none. absurd (omega (arith, none, more.0))), reads_of_all MayGoOn most (at + n) calls more.1)
+reads_of_all MayGoOn most at (OpenIn name done ∷ calls) h = absurd h
+reads_of_all MayGoOn most at (CreateOut name done ∷ calls) h = absurd h
+reads_of_all MayGoOn most at (Finish done ∷ calls) h = absurd h
+reads_of_all MayGoOn most at (Say ∷ calls) h = absurd h
+
+pub taking_of_all : (name : List ℕ) (most : ℕ) (MayGoOn : List ℕ → Type 0) (told : Option Inputs) (calls : List Call) → IsWholeTaking name most MayGoOn told calls → IsTaking name most MayGoOn told calls
+taking_of_all name most MayGoOn told [] h = absurd h
+taking_of_all name most MayGoOn told (OpenIn other true ∷ calls) h = (h.0, reads_of_all (λ at. OfInput name told (λ bytes. MayGoOn (take at bytes))) most 0 calls h.1)
+taking_of_all name most MayGoOn told (OpenIn other false ∷ calls) h = absurd h
+taking_of_all name most MayGoOn told (Read size moved ∷ calls) h = absurd h
+taking_of_all name most MayGoOn told (CreateOut other done ∷ calls) h = absurd h
+taking_of_all name most MayGoOn told (Finish done ∷ calls) h = absurd h
+taking_of_all name most MayGoOn told (Say ∷ calls) h = absurd h
+
+-- ---- where a refusal stops
+
+-- of one that is kept every refusal may come
+pub may_come : (refusal : Refusal) (kept : Bool) → kept ≡ true → MayCome refusal kept
+may_come NoMemory kept is = is
+may_come refusal kept is = λ takes. is
+
+-- it was opened, and so stops there for whatever it may be refused
+pub ends_opened : (refusal : Refusal) (kept : Bool) (name : List ℕ) (told : Option Inputs) (calls : List Call) → MayCome refusal kept → IsOpened name told calls → EndsTaking refusal kept name told calls
+ends_opened ReadFault kept name told calls may h = tt
+ends_opened NoMemory true name told calls may h = h
+ends_opened NoMemory false name told calls may h = absurd (cc)
+ends_opened refusal kept name told calls may h = (h, may)
+
+opened_by : (name : List ℕ) (most : ℕ) (MayGoOn : List ℕ → Type 0) (told : Option Inputs) (calls : List Call) → is_missing name told ≡ false → IsWholeTaking name most MayGoOn told calls → IsOpened name told calls
+opened_by name most MayGoOn told [] there h = absurd h
+opened_by name most MayGoOn told (OpenIn other true ∷ calls) there h = there
+opened_by name most MayGoOn told (OpenIn other false ∷ calls) there h = absurd h
+opened_by name most MayGoOn told (Read size moved ∷ calls) there h = absurd h
+opened_by name most MayGoOn told (CreateOut other done ∷ calls) there h = absurd h
+opened_by name most MayGoOn told (Finish done ∷ calls) there h = absurd h
+opened_by name most MayGoOn told (Say ∷ calls) there h = absurd h
+
+-- what stops behind an input that was taken stops at it
+pub last_taken : (input : Input) (refusal : Refusal) (told : Option Inputs) (a x y : List Call) → MayCome refusal input.judge.kept → a ≡ x ++ y → IsWholeTakingOf input told x → IsThereAndGood input told → y ≡ [] →
+    IsTakingOf input told a × EndsTaking refusal input.judge.kept input.name told a
+last_taken input refusal told a x y may e whole good none =
+    let there = is_there input.name told (input.judge.IsGood told) good in
+    subst (λ z. IsTakingOf input told z × EndsTaking refusal input.judge.kept input.name told z) (sym (e ∙ ap (λ z. x ++ z) none ∙ append-nil x)) (
+      taking_of_all input.name input.judge.most input.judge.MayGoOn told x whole,
+      ends_opened refusal input.judge.kept input.name told x may (opened_by input.name input.judge.most input.judge.MayGoOn told x there whole),
+    )

@@ -1,5 +1,5 @@
 -- Inputs: what is told of one, how it is judged, and why it is not taken.
-use Rattle.std.specs.Prelude.{◌≡◌, ℕ, ◌⊎◌, ⊤, true, false, List, [], ◌∷◌, Option, Some, None}
+use Rattle.std.specs.Prelude.{◌≡◌, ℕ, ◌⊎◌, ⊤, Bool, true, false, List, [], ◌∷◌, Option, Some, None, Result, Ok, Err}
 use Rattle.capture_desk.specs.Desks.{Inputs, Seen, Told, HasRisen, named, is_missing}
 use Rattle.command_texts.specs.declared.refusal.Refusal.{Refusal}
 use Rattle.command_texts.specs.declared.refusal.Refusal.TheVariants.{ReadFault, NoMemory}
@@ -15,6 +15,15 @@ ReadsRose old new = HasRisen old.reads new.reads
 
 abbrev pub WritesRose : Seen → Seen → Type 0
 WritesRose old new = HasRisen old.writes new.writes
+
+-- no call at reading failed, but where a fault of reading is answered
+abbrev pub KeepsReads : Refusal → Seen → Seen → Type 0
+KeepsReads ReadFault old new = ⊤
+KeepsReads _ old new = new.reads ≡ old.reads
+
+abbrev pub ReadsBy : {A : Type 0} → Result A Refusal → Seen → Seen → Type 0
+ReadsBy (Ok _) old new = new.reads ≡ old.reads
+ReadsBy (Err refusal) old new = KeepsReads refusal old new
 
 abbrev pub SameCounts : Seen → Seen → Type 0
 SameCounts old new = (new.reads ≡ old.reads) × (new.writes ≡ old.writes)
@@ -48,7 +57,6 @@ StopsAtRead _ old new = ⊥
 
 abbrev pub StopsReading : List ℕ → Refusal → Seen → Seen → Type 0
 StopsReading name ReadFault old new = IsUnread name old new
-StopsReading name NoMemory old new = ⊤
 StopsReading name _ old new = ⊥
 
 -- it could not be read, or it is bad in a way that this refusal tells; want of memory is free
@@ -61,9 +69,10 @@ StopsAt IsBad name refusal old new = IsBad name refusal old.told.inputs
 
 -- How an input of some kind is judged. It is read to one byte beyond `most`; behind its first bytes it may be read on
 -- where they are as `MayGoOn` says; it is good by its bytes and by what is told of the other inputs, or bad in the way
--- that a refusal says.
+-- that a refusal says. Where it is kept, memory is taken once it is open and not before; else before, and not then.
 pub record Judge : Type 1 where
   pub most : ℕ
+  pub kept : Bool
   pub MayGoOn : List ℕ → Type 0
   pub IsGood : Option Inputs → List ℕ → Type 0
   pub IsBad : List ℕ → Refusal → Option Inputs → Type 0
@@ -82,7 +91,7 @@ Always bytes = ⊤
 
 -- an input that is read and not judged yet: all bytes are good
 abbrev pub raw_files : ℕ → Judge
-raw_files most = record { most = most; MayGoOn = Always; IsGood = ByBytes Always; IsBad = λ name refusal told. ⊥ }
+raw_files most = record { most = most; kept = true; MayGoOn = Always; IsGood = ByBytes Always; IsBad = λ name refusal told. ⊥ }
 
 abbrev pub a_raw : List ℕ → ℕ → Input
 a_raw name most = record { name = name; judge = raw_files most }

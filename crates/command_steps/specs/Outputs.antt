@@ -6,7 +6,7 @@ use Rattle.capture_desk.specs.Desks.{IsWriteFault, Seen, Told, Tells, counted, s
 use Rattle.command_texts.specs.declared.answer.Answer.{Answer}
 use Rattle.command_texts.specs.declared.answer.Answer.TheVariants.{Done, NoMemory, WriteFault}
 use Rattle.command_texts.specs.declared.refusal.Refusal.{Refusal}
-use Rattle.command_texts.specs.Answers.{answer_of}
+use Rattle.command_texts.specs.Answers.{TakesMemory, answer_of}
 use Rattle.command_texts.specs.Texts.{answer_text}
 use Rattle.command_steps.specs.declared.outputs.Output.{Output}
 use Rattle.command_steps.specs.Inputs.{SameCounts, apart}
@@ -118,9 +118,9 @@ Says text old new =
 
 -- by one run of calls that say
 abbrev pub SaysAtOnce : List ℕ → Seen → Seen → Type 0
-SaysAtOnce text old new = Says text old new × Tells (said_by text) old.calls new.calls
+SaysAtOnce text old new = Says text old new × Tells (said_by text) old.calls new.calls × (new.reads ≡ old.reads)
 
 -- a refusal was said, or that there is no memory for its text
 abbrev pub Refused : Refusal → Answer → Seen → Seen → Type 0
 Refused refusal answer old new =
-    ((answer ≡ answer_of refusal) ⊎ (answer ≡ NoMemory)) × SaysAtOnce (answer_text answer) old new × (new.reads ≡ old.reads)
+    ((answer ≡ answer_of refusal) ⊎ ((answer ≡ NoMemory) × TakesMemory refusal)) × SaysAtOnce (answer_text answer) old new

@@ -1,10 +1,12 @@
 -- The calls by which inputs are taken, and their order.
-use Rattle.std.specs.Prelude.{◌≡◌, ℕ, ◌+◌, ◌-◌, ◌<◌, ◌≤◌, min, ◌⊎◌, ⊤, true, false, List, [], ◌∷◌, ◌++◌, length, take, Option, Some, None, Result, Ok, Err}
+use Rattle.std.specs.Prelude.{◌≡◌, ℕ, ◌+◌, ◌-◌, ◌<◌, ◌≤◌, min, ◌⊎◌, ⊤, Bool, true, false, List, [], ◌∷◌, ◌++◌, length, take, Option, Some, None, Result, Ok, Err}
 use Rattle.capture_desk.specs.declared.calls.Call.{Call}
 use Rattle.capture_desk.specs.declared.calls.Call.TheVariants.{OpenIn, Read}
 use Rattle.capture_desk.specs.Desks.{Inputs, Seen, Tells, is_missing, after_open}
 use Rattle.command_texts.specs.declared.refusal.Refusal.{Refusal}
-use Rattle.command_steps.specs.Inputs.{Input, OfInput, IsThereAndGood, StopsIn, StopsReading, apart}
+use Rattle.command_texts.specs.declared.refusal.Refusal.TheVariants.{ReadFault, NoMemory}
+use Rattle.command_texts.specs.Answers.{TakesMemory}
+use Rattle.command_steps.specs.Inputs.{Input, KeepsReads, OfInput, IsThereAndGood, StopsIn, StopsReading, apart}
 
 -- the most bytes that one read asks for
 abbrev pub piece : ℕ
@@ -56,6 +58,27 @@ IsTakingOf input told calls = IsTaking input.name input.judge.most input.judge.M
 abbrev pub IsWholeTakingOf : Input → Option Inputs → List Call → Type 0
 IsWholeTakingOf input told calls = IsWholeTaking input.name input.judge.most input.judge.MayGoOn told calls
 
+-- it is there, and was opened
+abbrev pub IsOpened : List ℕ → Option Inputs → List Call → Type 0
+IsOpened name told (OpenIn other true ∷ calls) = is_missing name told ≡ false
+IsOpened name told _ = ⊥
+
+-- memory ran out at an input: one that is kept was opened, and another was not
+abbrev pub IsShortAt : Bool → List ℕ → Option Inputs → List Call → Type 0
+IsShortAt true name told calls = IsOpened name told calls
+IsShortAt false name told calls = calls ≡ []
+
+-- memory may run out for a refusal or its text only where an input is kept
+abbrev pub MayCome : Refusal → Bool → Type 0
+MayCome NoMemory kept = kept ≡ true
+MayCome refusal kept = TakesMemory refusal → kept ≡ true
+
+-- an input at which a refusal stopped was opened, but where it could not be read
+abbrev pub EndsTaking : Refusal → Bool → List ℕ → Option Inputs → List Call → Type 0
+EndsTaking ReadFault kept name told calls = ⊤
+EndsTaking NoMemory kept name told calls = IsShortAt kept name told calls
+EndsTaking refusal kept name told calls = IsOpened name told calls × MayCome refusal kept
+
 -- ---- several inputs
 
 -- all inputs were opened and read through, one after the other, each found good before the next
@@ -65,13 +88,13 @@ AreTaken (input ∷ inputs) told calls =
     (first later : List Call) × (calls ≡ first ++ later) × IsWholeTakingOf input told first × IsThereAndGood input told
     × AreTaken inputs told later
 
--- or some of them, and then the one that stopped, opened and read so far or not opened
-abbrev pub AreTakenUpTo : List Input → Option Inputs → List Call → Type 0
-AreTakenUpTo [] told calls = calls ≡ []
-AreTakenUpTo (input ∷ inputs) told calls =
-    IsTakingOf input told calls
+-- or some of them, and then the one at which a refusal stopped, opened and read so far or not opened
+abbrev pub AreTakenUpTo : List Input → Refusal → Option Inputs → List Call → Type 0
+AreTakenUpTo [] refusal told calls = calls ≡ []
+AreTakenUpTo (input ∷ inputs) refusal told calls =
+    (IsTakingOf input told calls × EndsTaking refusal input.judge.kept input.name told calls)
     ⊎ ((first later : List Call) × (calls ≡ first ++ later) × IsWholeTakingOf input told first × IsThereAndGood input told
-    × AreTakenUpTo inputs told later)
+    × MayCome refusal input.judge.kept × AreTakenUpTo inputs refusal told later)
 
 -- what a step leaves that takes inputs and nothing else: all of them, or up to one that is refused
 pub record Took (inputs : List Input) (old new : Seen) : Type 0 where
@@ -82,9 +105,10 @@ pub record Took (inputs : List Input) (old new : Seen) : Type 0 where
 
 pub record Stopped (inputs : List Input) (refusal : Refusal) (old new : Seen) : Type 0 where
   pub told : apart new.told ≡ apart old.told
+  pub reads : KeepsReads refusal old new
   pub writes : new.writes ≡ old.writes
   pub why : StopsIn inputs refusal old new
-  pub calls : Calls (AreTakenUpTo inputs old.told.inputs) old new
+  pub calls : Calls (AreTakenUpTo inputs refusal old.told.inputs) old new
 
 abbrev pub Takes : {A : Type 0} → List Input → Result A Refusal → Seen → Seen → Type 0
 Takes inputs (Ok _) old new = Took inputs old new

@@ -3,7 +3,7 @@
 ghost use Rattle.std.specs.Prelude.{◌≡◌, ◌+◌, ◌-◌, ◌<◌, ◌≤◌, ◌^◌, ◌++◌, [], ◌∷◌, length, take, IfErr, IfOk, IsTrue};
 ghost use Rattle.capture_desk.specs.declared.calls.Call.TheVariants as Call;
 ghost use Rattle.capture_desk.specs.Desks.{IsAllowed, ReadCounts, Tells, after_read, moved_by};
-ghost use Rattle.command_steps.specs.Inputs.{Always, OfInput, OfRest, StopsAtRead, a_raw, apart};
+ghost use Rattle.command_steps.specs.Inputs.{Always, OfInput, OfRest, ReadsBy, StopsAtRead, a_raw, apart};
 ghost use Rattle.command_steps.specs.Reading.{AreAllReads, AreReads, Calls, IsPiece, Opened, OpensBy, Takes};
 
 use crate::keeps::Keeps;
@@ -60,7 +60,7 @@ fn keep_rest<D: Desk, K: Keeps>(
     ensures told { apart (D.seen desk.new).told ≡ apart (D.seen desk.old).told }
     ensures stops { IfErr result (λ refusal. StopsAtRead refusal (D.seen desk.old) (D.seen desk.new)) }
     ensures writes { (D.seen desk.new).writes ≡ (D.seen desk.old).writes }
-    ensures quiet { IfOk result (λ _. (D.seen desk.new).reads ≡ (D.seen desk.old).reads) }
+    ensures quiet { ReadsBy result (D.seen desk.old) (D.seen desk.new) }
     ensures calls { Calls (AreReads (λ at. Always []) most 0) (D.seen desk.old) (D.seen desk.new) }
     ensures through { IfOk result (λ _. Calls (AreAllReads (λ at. Always []) most 0) (D.seen desk.old) (D.seen desk.new)) }
 {
@@ -80,26 +80,29 @@ fn keep_rest<D: Desk, K: Keeps>(
     Ok(())
 }
 
-/// Opens an input and gives its pieces to their keeper.
-fn keep_input<D: Desk, K: Keeps>(
+/// Gives the pieces of the open input to their keeper, by a buffer that is taken first.
+fn keep_opened<D: Desk, K: Keeps>(
     alloc: Global,
-    name: &str,
     most: usize,
     desk: &mut D,
     keeper: &mut K,
-    buffer: &mut [u8],
 ) -> Result<(), Refusal>
-    requires allowed { IsAllowed name.now (D.seen desk.old).told.may_open }
+    requires open { IsTrue (D.seen desk.old).told.input_open }
     requires few { most < 2 ^ 32 }
-    requires room { length buffer.old ≡ 65536 }
-    ensures bytes { IfOk result (λ _. OfInput name.now (D.seen desk.old).told.inputs (λ content. K.kept keeper.new ≡ K.kept keeper.old ++ take (most + 1) content)) }
-    ensures takes { Takes (a_raw name.now most ∷ []) result (D.seen desk.old) (D.seen desk.new) }
+    ensures bytes { IfOk result (λ _. OfRest (D.seen desk.old).told.rest (λ rest. K.kept keeper.new ≡ K.kept keeper.old ++ take (most + 1) rest)) }
+    ensures told { apart (D.seen desk.new).told ≡ apart (D.seen desk.old).told }
+    ensures stops { IfErr result (λ refusal. StopsAtRead refusal (D.seen desk.old) (D.seen desk.new)) }
+    ensures writes { (D.seen desk.new).writes ≡ (D.seen desk.old).writes }
+    ensures quiet { ReadsBy result (D.seen desk.old) (D.seen desk.new) }
+    ensures calls { Calls (AreReads (λ at. Always []) most 0) (D.seen desk.old) (D.seen desk.new) }
+    ensures through { IfOk result (λ _. Calls (AreAllReads (λ at. Always []) most 0) (D.seen desk.old) (D.seen desk.new)) }
 {
-    open(name, desk)?;
-    keep_rest(alloc, most, desk, keeper, buffer)
+    let mut buffer = vec![in alloc; 0; PIECE]?;
+    keep_rest(alloc, most, desk, keeper, &mut buffer)
 }
 
-/// Reads an input until it ends or one byte more than `most` was read, and gives each piece to its keeper.
+/// Reads an input until it ends or one byte more than `most` was read, and gives each piece to its keeper. No memory is
+/// taken before it is open, so one that isn't there is a read fault even where there is none.
 pub fn read_pieces<D: Desk, K: Keeps>(
     alloc: Global,
     name: &str,
@@ -112,8 +115,8 @@ pub fn read_pieces<D: Desk, K: Keeps>(
     ensures bytes { IfOk result (λ _. OfInput name.now (D.seen desk.old).told.inputs (λ content. K.kept keeper.new ≡ K.kept keeper.old ++ take (most + 1) content)) }
     ensures takes { Takes (a_raw name.now most ∷ []) result (D.seen desk.old) (D.seen desk.new) }
 {
-    let mut buffer = vec![in alloc; 0; PIECE]?;
-    keep_input(alloc, name, most, desk, keeper, &mut buffer)
+    open(name, desk)?;
+    keep_opened(alloc, most, desk, keeper)
 }
 
 /// Reads an input until it ends or one byte more than `most` was read.

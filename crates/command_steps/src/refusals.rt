@@ -11,8 +11,7 @@ use std::alloc::Global;
 
 /// Says a text as the last act: a fault of the desk changes nothing more.
 fn say_last<D: Desk>(text: &[u8], desk: &mut D)
-    ensures reads { (D.seen desk.new).reads ≡ (D.seen desk.old).reads }
-    ensures says { SaysAtOnce text.now (D.seen desk.old) (D.seen desk.new) }
+    ensures { SaysAtOnce text.now (D.seen desk.old) (D.seen desk.new) }
 {
     let _ = say_all(desk, text);
 }

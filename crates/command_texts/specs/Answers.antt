@@ -1,5 +1,5 @@
--- The status of each answer, and the answer of each refusal.
-use Rattle.std.specs.Prelude.{ℕ}
+-- The status of each answer, the answer of each refusal, and which texts take memory.
+use Rattle.std.specs.Prelude.{ℕ, ⊤}
 use Rattle.command_texts.specs.declared.answer.Answer.{Answer}
 use Rattle.command_texts.specs.declared.answer.Answer.TheVariants.{Done, Usage, ReadFault, WriteFault, Malformed, BadDesc, BadGeometry, BadChain, BadRing, BadText, Rejected, Differs, NoMemory}
 use Rattle.command_texts.specs.declared.refusal.Refusal.{Refusal}
@@ -31,3 +31,11 @@ answer_of (refusal.BadText fault) = BadText fault
 answer_of (refusal.Rejected at nth cause) = Rejected at nth cause
 answer_of (refusal.Differs text) = Differs text
 answer_of refusal.NoMemory = NoMemory
+
+-- a refusal whose text takes memory, which may run out
+abbrev pub TakesMemory : Refusal → Type 0
+TakesMemory refusal.ReadFault = ⊥
+TakesMemory (refusal.Malformed file fault) = ⊥
+TakesMemory (refusal.Differs text) = ⊥
+TakesMemory refusal.NoMemory = ⊥
+TakesMemory _ = ⊤

@@ -29,7 +29,7 @@ use Rattle.risc_asm.specs.Words.{listing_words}
 use Rattle.command_texts.specs.declared.answer.Answer.{Answer}
 use Rattle.command_texts.specs.declared.answer.Answer.TheVariants.{Done, Usage, ReadFault, WriteFault, Malformed, BadDesc, BadGeometry, BadChain, BadRing, BadText, Rejected, Differs, NoMemory}
 use Rattle.command_texts.specs.declared.texts.RefusalText.{RefusalText}
-use Rattle.command_texts.specs.declared.texts.RefusalText.TheVariants.{Ready, Made}
+use Rattle.command_texts.specs.declared.texts.RefusalText.TheVariants.{Ready, Short, Made}
 
 abbrev pub byte_text : ℕ → List ℕ
 byte_text n = hex 2 n
@@ -140,6 +140,7 @@ answer_text NoMemory = codes "no memory\n"
 -- the bytes of a text that is ready, or of one that was made
 abbrev pub refusal_bytes : RefusalText → List ℕ
 refusal_bytes (Ready text) = text.now
+refusal_bytes (Short text) = text
 refusal_bytes (Made text) = text.items
 
 -- a report: the turns taken, the bytes stored, the pushes lost and INT_STAT

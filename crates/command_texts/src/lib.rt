@@ -4,12 +4,11 @@
 mod answer;
 mod check_text;
 mod refusal;
+mod short;
 mod texts;
 
 pub use answer::Answer;
 pub use check_text::CheckText;
 pub use refusal::Refusal;
-pub use texts::{
-    ACCEPTED, HELP, NO_MEMORY, RefusalText, VERSION, blocks_text, built_text, made_text,
-    refusal_text, report_text, usage_text,
-};
+pub use short::{ShortText, blocks_text, built_text, made_text, push_report, report_text};
+pub use texts::{ACCEPTED, HELP, NO_MEMORY, RefusalText, VERSION, refusal_text, usage_text};

@@ -1,16 +1,15 @@
 //! The texts that are printed.
 
-ghost use Rattle.std.specs.Prelude.{◌≡◌, IfOk, Some, codes, string_bytes};
-ghost use Rattle.command_texts.specs.Answers.{answer_of};
-ghost use Rattle.command_texts.specs.Texts.{answer_text, blocks_text, built_text, cause_words, input_words, key_text, kind_words, lost_words, made_text, not_toml_text, refusal_bytes, report_text, ring_place_text};
+ghost use Rattle.std.specs.Prelude.{◌≡◌, IfErr, IfOk, Some, codes};
+ghost use Rattle.command_texts.specs.Answers.{TakesMemory, answer_of};
+ghost use Rattle.command_texts.specs.Texts.{answer_text, cause_words, key_text, not_toml_text, refusal_bytes, ring_place_text};
 
 use crate::answer::Answer;
 use crate::refusal::Refusal;
+use crate::short::{ShortText, malformed_text};
 use bt878_words::UsageFault;
 use capture_desc::DescFault;
-use capture_file::{FileFault, FileKind, Input};
 use chain_model::ChainFault;
-use dma_machine::Report;
 use machine_model::Cause;
 use picture_model::BuildFault;
 use ring_compile::RingFault;
@@ -73,51 +72,6 @@ impl fmt::Display for CauseWords {
             Cause::Wrap => write!(f, "wrap"),
             Cause::Ungranted(address) => write!(f, "ungranted {address:08x}"),
         }
-    }
-}
-
-/// A fault of a file in words.
-#[derive(Drop)]
-struct KindWords(FileKind);
-
-impl fmt::Display for KindWords {
-    ghost output = { λ words. Some (kind_words words.0) };
-
-    fn fmt<W: fmt::Write>(&self, f: &mut fmt::Formatter<W>) -> fmt::Result {
-        match self.0 {
-            FileKind::Magic => write!(f, "magic"),
-            FileKind::Short => write!(f, "short"),
-            FileKind::Count => write!(f, "count"),
-            FileKind::Base => write!(f, "base"),
-            FileKind::Page => write!(f, "page"),
-            FileKind::Order => write!(f, "order"),
-            FileKind::Overlap => write!(f, "overlap"),
-            FileKind::Tag(byte) => write!(f, "tag {byte:02x}"),
-            FileKind::Status(byte) => write!(f, "status {byte:02x}"),
-            FileKind::Code(byte) => write!(f, "code {byte:02x}"),
-            FileKind::Enable(byte) => write!(f, "enable {byte:02x}"),
-            FileKind::AfterEnd => write!(f, "after end"),
-            FileKind::TooLong => write!(f, "too long"),
-            FileKind::TooManyTurns => write!(f, "too many turns"),
-            FileKind::Trigger(byte) => write!(f, "trigger {byte:02x}"),
-            FileKind::Length => write!(f, "length"),
-            FileKind::Pages => write!(f, "pages"),
-            FileKind::Slot(byte) => write!(f, "slot {byte:02x}"),
-            FileKind::Buffer(byte) => write!(f, "buffer {byte:02x}"),
-            FileKind::Entry => write!(f, "entry"),
-        }
-    }
-}
-
-/// Which file, in words.
-fn input_words(input: Input) -> &'static str
-    ensures { result.now ≡ input_words input }
-{
-    match input {
-        Input::Program => "program file",
-        Input::Stream => "stream file",
-        Input::Desc => "description",
-        Input::Ring => "ring file",
     }
 }
 
@@ -239,22 +193,13 @@ fn listing_text(alloc: Global, fault: AsmFault) -> Result<Vec<u8>, AllocError>
     Ok(text.into_bytes())
 }
 
-/// The text of a fault of a file.
-fn malformed_text(alloc: Global, input: Input, fault: FileFault) -> Result<Vec<u8>, AllocError>
-    ensures { IfOk result (λ text. text.items ≡ answer_text (Answer.Malformed input fault)) }
-{
-    let FileFault { at, kind } = fault;
-    let input = input_words(input);
-    let kind = KindWords(kind);
-    let text = format!(in alloc; "{input}: {kind} at {at}\n")?;
-    Ok(text.into_bytes())
-}
-
 /// The text of a refusal.
 #[derive(Drop)]
 pub enum RefusalText<'a> {
     /// It is ready, so that it can be printed where no memory is left.
     Ready(&'a str),
+    /// It was made, and takes no memory.
+    Short(ShortText),
     /// It was made.
     Made(Vec<u8>),
 }
@@ -266,6 +211,7 @@ impl RefusalText<'_> {
     {
         match self {
             RefusalText::Ready(text) => text.as_bytes(),
+            RefusalText::Short(text) => text.as_str().as_bytes(),
             RefusalText::Made(text) => text.as_slice(),
         }
     }
@@ -274,13 +220,16 @@ impl RefusalText<'_> {
 /// The text of a refusal: that of the answer that it becomes. The error is out of memory; the texts of `ReadFault` and of
 /// `NoMemory` take no memory, and that of `Differs` was made before.
 pub fn refusal_text(alloc: Global, refusal: &Refusal) -> Result<RefusalText<'_>, AllocError>
-    ensures { IfOk result (λ text. refusal_bytes text ≡ answer_text (answer_of refusal.now)) }
+    ensures text { IfOk result (λ text. refusal_bytes text ≡ answer_text (answer_of refusal.now)) }
+    ensures takes { IfErr result (λ _. TakesMemory refusal.now) }
 {
     let text = match refusal {
         Refusal::ReadFault => return Ok(RefusalText::Ready(READ_FAULT)),
         Refusal::NoMemory => return Ok(RefusalText::Ready(NO_MEMORY)),
         Refusal::Differs(text) => return Ok(RefusalText::Ready(text.as_str())),
-        Refusal::Malformed(input, fault) => malformed_text(alloc, *input, *fault)?,
+        Refusal::Malformed(input, fault) => {
+            return Ok(RefusalText::Short(malformed_text(*input, *fault)));
+        }
         Refusal::BadDesc(fault) => desc_text(alloc, fault)?,
         Refusal::BadGeometry(fault) => geometry_text(alloc, *fault)?,
         Refusal::BadChain(fault) => chain_text(alloc, *fault)?,
@@ -289,66 +238,4 @@ pub fn refusal_text(alloc: Global, refusal: &Refusal) -> Result<RefusalText<'_>,
         Refusal::Rejected { at, nth, cause } => rejected_text(alloc, *at, *nth, *cause)?,
     };
     Ok(RefusalText::Made(text))
-}
-
-/// The pushes lost, in words.
-#[derive(Drop)]
-struct LostWords([u64; 4]);
-
-impl fmt::Display for LostWords {
-    ghost output = { λ words. Some (lost_words words.0) };
-
-    fn fmt<W: fmt::Write>(&self, f: &mut fmt::Formatter<W>) -> fmt::Result {
-        let [one, two, three, control] = self.0;
-        write!(f, "{one} {two} {three} {control}")
-    }
-}
-
-/// The report of a machine in words.
-#[derive(Drop)]
-struct ReportWords(Report);
-
-impl fmt::Display for ReportWords {
-    ghost output = { λ words. Some (report_text words.0) };
-
-    fn fmt<W: fmt::Write>(&self, f: &mut fmt::Formatter<W>) -> fmt::Result {
-        let turns = self.0.turns;
-        let moved = self.0.moved;
-        let lost = LostWords(self.0.overruns);
-        let status = self.0.int_stat;
-        write!(
-            f,
-            "turns {turns}\nmoved {moved}\noverruns {lost}\nstatus {status:08x}\n"
-        )
-    }
-}
-
-/// The report of a machine. The error is out of memory.
-pub fn report_text(alloc: Global, report: &Report) -> Result<String, AllocError>
-    ensures { IfOk result (λ text. string_bytes text ≡ report_text report.now) }
-{
-    let report = ReportWords(*report);
-    format!(in alloc; "{report}")
-}
-
-/// What `ring` prints: the number of block ends, and then the report of the machine. The error is out of memory.
-pub fn blocks_text(alloc: Global, blocks: u64, report: &Report) -> Result<String, AllocError>
-    ensures { IfOk result (λ text. string_bytes text ≡ blocks_text blocks report.now) }
-{
-    let report = ReportWords(*report);
-    format!(in alloc; "blocks {blocks}\n{report}")
-}
-
-/// What `compile` and `assemble` print of a program of so many words and chunks. The error is out of memory.
-pub fn built_text(alloc: Global, words: usize, pages: usize) -> Result<String, AllocError>
-    ensures { IfOk result (λ text. string_bytes text ≡ built_text words pages) }
-{
-    format!(in alloc; "words {words} pages {pages}\n")
-}
-
-/// What `make` prints of a stream of so many fields and data entries. The error is out of memory.
-pub fn made_text(alloc: Global, fields: u32, entries: u64) -> Result<String, AllocError>
-    ensures { IfOk result (λ text. string_bytes text ≡ made_text fields entries) }
-{
-    format!(in alloc; "fields {fields} entries {entries}\n")
 }

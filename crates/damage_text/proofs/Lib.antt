@@ -1,1 +1,2 @@
 pub mod MarkByMark
+mod Heights

@@ -2,7 +2,8 @@
 //! project's own rule.
 #![tactic(auto)]
 
-ghost use Rattle.std.specs.Prelude.{◌≡◌, ◌++◌, ◌<◌, ◌≤◌, ◌^◌, IfOk, Some, codes, count_by, length, option_map, string_bytes};
+ghost use Rattle.arrayvec.specs.ArrayString.{array_string_len};
+ghost use Rattle.std.specs.Prelude.{◌≡◌, ◌+◌, ◌++◌, ◌≤◌, Some, codes, count_by, length, option_map};
 ghost use Rattle.std.specs.List.{flat_map};
 ghost use Rattle.picture_model.specs.Described.{field_height, rows_of};
 ghost use Rattle.damage_text.specs.Texts.{bad_line, bad_rows, by_field, damage_text, field_name, field_text, whole_text};
@@ -10,11 +11,11 @@ ghost use Rattle.damage_text.specs.Texts.{bad_line, bad_rows, by_field, damage_t
 use capture_desc::{Desc, Fields};
 use picture_model::{field_height, picture_row};
 use pixel_layout::Parity;
-use std::alloc::{AllocError, Global};
-use std::fmt::Write;
+use risc_listing::{Lines, push_number};
 
 fn field_name(field: Parity) -> &'static str
-    ensures { result.now ≡ field_name field }
+    ensures name { result.now ≡ field_name field }
+    ensures short { length result.now ≤ 6 }
 {
     match field {
         Parity::Top => "top",
@@ -22,24 +23,31 @@ fn field_name(field: Parity) -> &'static str
     }
 }
 
+// Appends the line of a row that is not whole.
+fn push_bad_row(text: &mut Lines, row: u64)
+    requires { array_string_len text.old + 25 ≤ 65536 }
+    ensures bytes { text.new.bytes ≡ text.old.bytes ++ bad_line row }
+    ensures long { array_string_len text.new ≤ array_string_len text.old + 25 }
+{
+    text.push_str("bad");
+    push_number(text, row);
+    text.push_str("\n");
+}
+
 // Appends a line for each row of a field that is not whole; the marks are those of its first rows.
-fn push_bad_rows(
-    text: &mut String,
-    desc: &Desc,
-    field: Parity,
-    marks: &[bool],
-) -> Result<(), AllocError>
+fn push_bad_rows(text: &mut Lines, desc: &Desc, field: Parity, marks: &[bool])
     requires rows { length marks.now ≤ field_height desc.now field }
-    requires few { length marks.now < 2 ^ 32 }
-    ensures { IfOk result (λ _. string_bytes text.new ≡ string_bytes text.old ++ flat_map bad_line (bad_rows (rows_of desc.now field) marks.now)) }
+    requires few { length marks.now ≤ 1024 }
+    requires room { array_string_len text.old + 25600 ≤ 65536 }
+    ensures bytes { text.new.bytes ≡ text.old.bytes ++ flat_map bad_line (bad_rows (rows_of desc.now field) marks.now) }
+    ensures long { array_string_len text.new ≤ array_string_len text.old + 25600 }
 {
     for (number, &is_whole) in marks.iter().enumerate() {
         if !is_whole {
             let row = picture_row(desc.fields, field, number as u32);
-            writeln!(text, "bad {row}")?;
+            push_bad_row(text, row);
         }
     }
-    Ok(())
 }
 
 fn count_whole(marks: &[bool]) -> usize
@@ -48,67 +56,62 @@ fn count_whole(marks: &[bool]) -> usize
     marks.iter().filter(|is_whole| **is_whole).count()
 }
 
-// Appends the line with how many rows of a field are whole.
-fn push_counts(text: &mut String, field: Parity, marks: &[bool]) -> Result<(), AllocError>
-    ensures { IfOk result (λ _. string_bytes text.new ≡ string_bytes text.old ++ (field_name field ++ (codes " " ++ (whole_text marks.now ++ codes "\n")))) }
+// Appends the line that tells how many rows of a field are whole.
+fn push_counts(text: &mut Lines, field: Parity, marks: &[bool])
+    requires { array_string_len text.old + 60 ≤ 65536 }
+    ensures bytes { text.new.bytes ≡ text.old.bytes ++ (field_name field ++ (codes " " ++ (whole_text marks.now ++ codes "\n"))) }
+    ensures long { array_string_len text.new ≤ array_string_len text.old + 60 }
 {
-    let name = field_name(field);
-    let whole = count_whole(marks);
-    let rows = marks.len();
-    writeln!(text, "{name} {whole} of {rows}")
+    text.push_str(field_name(field));
+    push_number(text, count_whole(marks) as u64);
+    text.push_str(" of");
+    push_number(text, marks.len() as u64);
+    text.push_str("\n");
 }
 
-// Appends what is printed of a field that had a signal.
-fn push_marks(
-    text: &mut String,
-    desc: &Desc,
-    field: Parity,
-    marks: &[bool],
-) -> Result<(), AllocError>
-    ensures { IfOk result (λ _. string_bytes text.new ≡ string_bytes text.old ++ field_text field (rows_of desc.now field) (Some marks.now)) }
+// Appends what is said of a field that had a signal.
+fn push_marks(text: &mut Lines, desc: &Desc, field: Parity, marks: &[bool])
+    requires few { field_height desc.now field ≤ 1024 }
+    requires room { array_string_len text.old + 25660 ≤ 65536 }
+    ensures bytes { text.new.bytes ≡ text.old.bytes ++ field_text field (rows_of desc.now field) (Some marks.now) }
+    ensures long { array_string_len text.new ≤ array_string_len text.old + 25660 }
 {
-    push_counts(text, field, marks)?;
+    push_counts(text, field, marks);
     let shown = marks.len().min(field_height(desc, field) as usize);
-    push_bad_rows(text, desc, field, &marks[..shown])
+    push_bad_rows(text, desc, field, &marks[..shown]);
 }
 
-// Appends what is printed of a field.
-fn push_field(
-    text: &mut String,
-    desc: &Desc,
-    field: Parity,
-    marks: Option<&[bool]>,
-) -> Result<(), AllocError>
-    ensures { IfOk result (λ _. string_bytes text.new ≡ string_bytes text.old ++ field_text field (rows_of desc.now field) (option_map (λ m. m.now) marks.entry)) }
+// Appends what is said of a field.
+fn push_field(text: &mut Lines, desc: &Desc, field: Parity, marks: Option<&[bool]>)
+    requires few { field_height desc.now field ≤ 1024 }
+    requires room { array_string_len text.old + 25660 ≤ 65536 }
+    ensures bytes { text.new.bytes ≡ text.old.bytes ++ field_text field (rows_of desc.now field) (option_map (λ m. m.now) marks.entry) }
+    ensures long { array_string_len text.new ≤ array_string_len text.old + 25660 }
 {
     match marks {
         Some(marks) => push_marks(text, desc, field, marks),
         None => {
-            let name = field_name(field);
-            writeln!(text, "{name} none")
+            text.push_str(field_name(field));
+            text.push_str(" none\n");
         }
     }
 }
 
-/// What `damage` prints of a capture (this project's own rule), from the marks of the rows of its fields, each whether
-/// a row is a whole line: None for a field that had no signal. Of each described field, top first, it has a
+/// Appends what `damage` prints of a capture (this project's own rule), from the marks of the rows of its fields, which tell
+/// whether a row is a whole line: None for a field that had no signal. Of each described field, top first, it has a
 /// line `top none` without a signal, else a line `top M of N`, where M of N marked rows are whole, and a line `bad R`
 /// for each other picture row R, counted from 0, in rising order. The bottom field has lines `bottom` in the same
-/// way. Of two fields the top one has the picture rows of even number. The error is out of memory.
-pub fn damage_text(
-    alloc: Global,
-    desc: &Desc,
-    top: Option<&[bool]>,
-    bottom: Option<&[bool]>,
-) -> Result<String, AllocError>
-    ensures { IfOk result (λ text. string_bytes text ≡ damage_text desc.now (by_field (option_map (λ m. m.now) top.entry) (option_map (λ m. m.now) bottom.entry))) }
+/// way. Of two fields the top one has the picture rows of even number. A picture of a valid description has at most 1,024
+/// rows, so that the text has room; it takes no memory.
+pub fn push_damage(text: &mut Lines, desc: &Desc, top: Option<&[bool]>, bottom: Option<&[bool]>)
+    requires few { desc.now.height ≤ 1024 }
+    requires room { array_string_len text.old + 51320 ≤ 65536 }
+    ensures { text.new.bytes ≡ text.old.bytes ++ damage_text desc.now (by_field (option_map (λ m. m.now) top.entry) (option_map (λ m. m.now) bottom.entry)) }
 {
-    let mut text = String::new(alloc);
     if desc.fields != Fields::Bottom {
-        push_field(&mut text, desc, Parity::Top, top)?;
+        push_field(text, desc, Parity::Top, top);
     }
     if desc.fields != Fields::Top {
-        push_field(&mut text, desc, Parity::Bottom, bottom)?;
+        push_field(text, desc, Parity::Bottom, bottom);
     }
-    Ok(text)
 }

@@ -1,5 +1,5 @@
 -- A stream file that is read whole before anything is made of it.
-use Rattle.std.specs.Prelude.{◌≡◌, ℕ, false, List, Option, Ok, Err}
+use Rattle.std.specs.Prelude.{◌≡◌, ℕ, true, false, List, Option, Ok, Err}
 use Rattle.capture_desk.specs.Desks.{Inputs}
 use Rattle.capture_file.specs.declared.Input.TheVariants.{Stream}
 use Rattle.capture_file.specs.declared.Step.{Step}
@@ -22,7 +22,7 @@ IsBadKept name (Malformed Stream fault) inputs = OfInput name inputs (λ bytes. 
 IsBadKept name _ inputs = ⊥
 
 abbrev pub kept_streams : Judge
-kept_streams = record { most = longest_kept; MayGoOn = Always; IsGood = ByBytes HoldsKept; IsBad = IsBadKept }
+kept_streams = record { most = longest_kept; kept = true; MayGoOn = Always; IsGood = ByBytes HoldsKept; IsBad = IsBadKept }
 
 abbrev pub a_kept_stream : List ℕ → Input
 a_kept_stream name = record { name = name; judge = kept_streams }

@@ -1,11 +1,12 @@
 -- A stream that is opened and played: why it stops.
-use Rattle.std.proofs.Common.{◌≡◌, ℕ, inl, false, Bool, List, Err}
+use Rattle.std.proofs.Common.{◌≡◌, ℕ, inl, false, Bool, List, Option, Err}
 use Rattle.capture_desk.specs.Desks.{Seen, is_missing, after_open}
 use Rattle.command_texts.specs.declared.refusal.Refusal.{Refusal}
 use Rattle.command_texts.specs.declared.refusal.Refusal.TheVariants.{ReadFault, Malformed, NoMemory}
 use Rattle.capture_file.specs.declared.Input.TheVariants.{Stream}
 use Rattle.capture_file.specs.Streams.{steps_of}
 use Rattle.command_steps.specs.Inputs.{StopsAt}
+use Rattle.command_steps.specs.Reading.{MayCome}
 use Rattle.command_steps.proofs.Inputs.{opened_input, rose_from}
 use Rattle.stream_play.specs.Plays.{StopsPlaying, longest_stream}
 use Rattle.stream_play.specs.Runs.{IsBadStream}
@@ -18,3 +19,9 @@ module _ (chained : Bool) where
       opened_input name old.told mid.told (λ bytes. steps_of longest_stream chained bytes ≡ Err fault) there opened h
   stops_at_stream NoMemory name old mid new there opened counts h = tt
   stops_at_stream refusal name old mid new there opened counts h = absurd h
+
+  -- memory runs out for none of its refusals
+  pub comes_of_stream : (refusal : Refusal) (rest : Option (List ℕ)) (mid new : Seen) → StopsPlaying chained rest refusal mid new → MayCome refusal false
+  comes_of_stream ReadFault rest mid new h = λ takes. absurd takes
+  comes_of_stream (Malformed Stream fault) rest mid new h = λ takes. absurd takes
+  comes_of_stream refusal rest mid new h = absurd h

@@ -40,6 +40,7 @@ abbrev pub stream_files : Bool → Judge
 stream_files chained =
     record {
       most = longest_stream;
+      kept = false;
       MayGoOn = HoldsNoFault chained;
       IsGood = ByBytes (HoldsSteps chained);
       IsBad = IsBadStream chained;

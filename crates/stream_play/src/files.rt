@@ -1,6 +1,6 @@
 //! Stream files, played on a player that is made for them.
 
-ghost use Rattle.std.specs.Prelude.{◌≡◌, [], ◌∷◌, length, string_bytes, IfOk};
+ghost use Rattle.std.specs.Prelude.{◌≡◌, [], ◌∷◌, length, IfOk};
 ghost use Rattle.capture_desk.specs.Desks.{IsAllowed};
 ghost use Rattle.command_steps.specs.Inputs.{OfInput};
 ghost use Rattle.command_steps.specs.Reading.{Takes};
@@ -12,7 +12,7 @@ use crate::player::Player;
 use crate::reports::Reports;
 use capture_desk::Desk;
 use command_steps::{PIECE, open};
-use command_texts::Refusal;
+use command_texts::{Refusal, ShortText};
 use std::alloc::Global;
 
 /// Opens an input and plays its stream to its end.
@@ -56,11 +56,11 @@ pub struct Played<P> {
     /// The player after all steps of the stream.
     pub player: P,
     /// What is said of it.
-    pub text: String,
+    pub text: ShortText,
 }
 
 /// Plays a whole stream file on a player as `play_file`, and makes the text that is said of it. All memory is taken before
-/// the stream is opened, but for the text.
+/// the stream is opened.
 pub fn play_and_tell<D: Desk, P: Player + Reports + Drop>(
     alloc: Global,
     player: P,
@@ -69,10 +69,10 @@ pub fn play_and_tell<D: Desk, P: Player + Reports + Drop>(
 ) -> Result<Played<P>, Refusal>
     requires { IsAllowed stream.now (D.seen desk.old).told.may_open }
     ensures played { IfOk result (λ played. OfInput stream.now (D.seen desk.old).told.inputs (λ bytes. PlaysAll P.act P.has_slots bytes player played.player)) }
-    ensures text { IfOk result (λ played. string_bytes played.text ≡ P.told played.player) }
+    ensures text { IfOk result (λ played. played.text ≡ P.told played.player) }
     ensures takes { Takes (a_stream_file P.has_slots stream.now ∷ []) result (D.seen desk.old) (D.seen desk.new) }
 {
     let player = play_file(alloc, player, stream, desk)?;
-    let text = player.text(alloc)?;
+    let text = player.text();
     Ok(Played { player, text })
 }

@@ -4,7 +4,7 @@ ghost use Rattle.std.specs.Prelude.{◌≡◌, ◌+◌, ◌≤◌, drop, length,
 ghost use Rattle.capture_file.specs.Readers.{fresh, front_record, resumed};
 ghost use Rattle.capture_file.specs.Records.{StepFits};
 ghost use Rattle.capture_file.specs.declared.Step.TheVariants as Step;
-ghost use Rattle.command_steps.specs.Inputs.{OfRest, apart};
+ghost use Rattle.command_steps.specs.Inputs.{OfRest, ReadsBy, apart};
 ghost use Rattle.command_steps.specs.Reading.{AreAllReads, AreReads, Calls};
 ghost use Rattle.stream_play.specs.Plays.{EndsWell, Handed, HandedAll, HandedFront, HandedPart, IsOther, IsAtFault, MayStand, PlaysAll, ReadsForm, StopsPlaying, longest_stream};
 ghost use Rattle.stream_play.specs.Runs.{HoldsNoFault};
@@ -184,7 +184,7 @@ fn hand_all<D: Desk, P: Player>(
     ensures stops { IfErr result (λ refusal. StopsPlaying P.has_slots (D.seen desk.old).told.rest refusal (D.seen desk.old) (D.seen desk.new)) }
     ensures told { apart (D.seen desk.new).told ≡ apart (D.seen desk.old).told }
     ensures writes { (D.seen desk.new).writes ≡ (D.seen desk.old).writes }
-    ensures quiet { IfOk result (λ _. (D.seen desk.new).reads ≡ (D.seen desk.old).reads) }
+    ensures quiet { ReadsBy result (D.seen desk.old) (D.seen desk.new) }
     ensures calls { Calls (AreReads (λ at. OfRest (D.seen desk.old).told.rest (λ bytes. HoldsNoFault P.has_slots (take at bytes))) longest_stream 0) (D.seen desk.old) (D.seen desk.new) }
     ensures through { IfOk result (λ _. Calls (AreAllReads (λ at. OfRest (D.seen desk.old).told.rest (λ bytes. HoldsNoFault P.has_slots (take at bytes))) longest_stream 0) (D.seen desk.old) (D.seen desk.new)) }
 {
@@ -218,7 +218,7 @@ pub fn play<D: Desk, P: Player>(
     ensures stops { IfErr result (λ refusal. StopsPlaying P.has_slots (D.seen desk.old).told.rest refusal (D.seen desk.old) (D.seen desk.new)) }
     ensures told { apart (D.seen desk.new).told ≡ apart (D.seen desk.old).told }
     ensures writes { (D.seen desk.new).writes ≡ (D.seen desk.old).writes }
-    ensures quiet { IfOk result (λ _. (D.seen desk.new).reads ≡ (D.seen desk.old).reads) }
+    ensures quiet { ReadsBy result (D.seen desk.old) (D.seen desk.new) }
     ensures calls { Calls (AreReads (λ at. OfRest (D.seen desk.old).told.rest (λ bytes. HoldsNoFault P.has_slots (take at bytes))) longest_stream 0) (D.seen desk.old) (D.seen desk.new) }
     ensures through { IfOk result (λ _. Calls (AreAllReads (λ at. OfRest (D.seen desk.old).told.rest (λ bytes. HoldsNoFault P.has_slots (take at bytes))) longest_stream 0) (D.seen desk.old) (D.seen desk.new)) }
 {

@@ -4,18 +4,17 @@
 ghost use Rattle.arrayvec.specs.ArrayString.{array_string_len};
 ghost use Rattle.capture_file.specs.Records.{StepFits};
 ghost use Rattle.capture_file.specs.Streams.{atomic};
-ghost use Rattle.command_texts.specs.Texts.{lost_words, report_text};
 ghost use Rattle.machine_model.specs.Steps.{Step as MachineStep, Turn};
 ghost use Rattle.std.specs.Prelude.{◌≡◌, ◌+◌, ◌^◌, ◌<◌, ◌≤◌, ◌++◌, [], List, codes, false, length, replicate, true};
-ghost use Rattle.std.specs.Fmt.{decimal};
 ghost use Rattle.trace_play.specs.Playing.{begun, coming, text_left, weight};
 ghost use Rattle.trace_play.specs.Texts.{rest_text};
 
 use capture_file::{Got, Step, StepReader};
-use dma_machine::{Machine, Report};
+use command_texts::push_report;
+use dma_machine::Machine;
 use kept_stream::{KeptStream, LONGEST_KEPT};
 use page_ram::Ram;
-use risc_listing::{Lines, ROOM, push_at, push_count, push_number};
+use risc_listing::{Lines, ROOM};
 use std::marker::Model;
 use turn_trace::Trace;
 
@@ -42,43 +41,6 @@ impl<R: Ram> Model for StreamTrace<R> {
     ghost view = { λ t. record { tracing = t.trace; turns = t.turns; reader = t.reader; bytes = drop t.at t.stream } };
 
     ghost invariant = { λ t. t.at ≤ length t.stream };
-}
-
-/// Appends the counts of turns and of bytes stored.
-fn push_counts(text: &mut Lines, report: &Report)
-    requires { array_string_len text.old + 60 ≤ 65536 }
-    ensures bytes { text.new.bytes ≡ text.old.bytes ++ (codes "turns " ++ (decimal report.now.turns ++ (codes "\nmoved " ++ decimal report.now.moved))) }
-    ensures long { array_string_len text.new ≤ array_string_len text.old + 60 }
-{
-    text.push_str("turns");
-    push_number(text, report.turns);
-    text.push_str("\nmoved");
-    push_number(text, report.moved);
-}
-
-/// Appends the counts of what was lost.
-fn push_lost(text: &mut Lines, lost: &[u64; 4])
-    requires { array_string_len text.old + 84 ≤ 65536 }
-    ensures bytes { text.new.bytes ≡ text.old.bytes ++ (codes " " ++ lost_words lost.now) }
-    ensures long { array_string_len text.new ≤ array_string_len text.old + 84 }
-{
-    push_number(text, lost[0]);
-    push_number(text, lost[1]);
-    push_number(text, lost[2]);
-    push_number(text, lost[3]);
-}
-
-/// Appends the report of a machine.
-fn push_report(text: &mut Lines, report: &Report)
-    requires { array_string_len text.old + 200 ≤ 65536 }
-    ensures { text.new.bytes ≡ text.old.bytes ++ report_text report.now }
-{
-    push_counts(text, report);
-    text.push_str("\noverruns");
-    push_lost(text, &report.overruns);
-    text.push_str("\nstatus");
-    push_at(text, report.int_stat);
-    text.push_str("\n");
 }
 
 impl<R: Ram> StreamTrace<R> {

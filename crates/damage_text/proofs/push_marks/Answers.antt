@@ -1,6 +1,5 @@
-use Rattle.std.proofs.Common.{ℕ, List, ◌≡◌, ◌≤◌, ◌++◌, ◌∙◌, length, string_bytes, take, codes, min, ap, sym, arith, append_assoc}
+use Rattle.std.proofs.Common.{ℕ, List, ◌≡◌, ◌≤◌, ◌++◌, ◌∙◌, length, take, codes, min, ap, sym, arith, append_assoc}
 use Rattle.std.proofs.lemmas.List.FromFn.{length-map-range_with_len}
-use Rattle.std.proofs.lemmas.Result.{IfOk-weaker}
 use Rattle.std.specs.List.{flat_map}
 use Rattle.picture_model.specs.Described.{both, field_height, picture_row, rows_of}
 use Rattle.damage_text.specs.Texts.{bad_line, bad_rows, field_name, whole_text}
@@ -16,8 +15,8 @@ one_text before name counts lines =
     ∙ ap (λ text. before ++ text) (append_assoc name (codes " " ++ (counts ++ codes "\n")) lines
     ∙ ap (λ text. name ++ (codes " " ++ text)) (append_assoc counts (codes "\n") lines))
 
-pub returns : goal.returns
-returns c =
+pub returns-clause-bytes : goal.returns-clause-bytes
+returns-clause-bytes c =
     let field = c.args.field in
     let rows = rows_of c.args.desc.now field in
     let marks = c.args.marks.now in
@@ -27,11 +26,8 @@ returns c =
     let few : min (length marks) (length rows) ≤ c.min-shown.result = omega (arith, c.min-shown.ensures, height) in
     let shown : bad_rows rows (take c.min-shown.result marks) ≡ bad_rows rows marks =
     marks_of_rows rows marks c.min-shown.result few in
-    let counts = string_bytes c.push_counts.new.text in
-    IfOk-weaker c.push_bad_rows.result _ _
-    (λ _ told.
-    told
+    let counts = c.push_counts.new.text.bytes in
+    c.push_bad_rows.ensures.bytes
     ∙ ap (λ bad. counts ++ flat_map bad_line bad) shown
-    ∙ ap (λ text. text ++ flat_map bad_line (bad_rows rows marks)) c.in_ok-push_counts.ensures
-    ∙ one_text (string_bytes c.args.text.now) (field_name field) (whole_text marks) (flat_map bad_line (bad_rows rows marks)))
-    c.push_bad_rows.ensures
+    ∙ ap (λ text. text ++ flat_map bad_line (bad_rows rows marks)) c.push_counts.ensures.bytes
+    ∙ one_text c.args.text.now.bytes (field_name field) (whole_text marks) (flat_map bad_line (bad_rows rows marks))

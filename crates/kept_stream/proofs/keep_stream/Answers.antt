@@ -1,5 +1,5 @@
 -- What is read to one byte beyond the longest decides what the whole stream is.
-use Rattle.std.proofs.Common.{◌≡◌, ◌+◌, ◌∙◌, false, List, ℕ, take, Result, Ok, Err, ap, subst, sym}
+use Rattle.std.proofs.Common.{◌≡◌, ◌+◌, ◌∙◌, false, List, ℕ, take, Result, Ok, Err, ap, subst, sym, refl}
 use Rattle.capture_file.specs.declared.FileFault.{FileFault}
 use Rattle.capture_file.specs.declared.Step.{Step}
 use Rattle.capture_file.specs.Streams.{steps_of}
@@ -45,7 +45,7 @@ returns-in-Ok-clause-takes g c =
     let old = g.D.Desk.seen c.args.desk.now in
     let new = g.D.Desk.seen c.read_whole.new.desk in
     let bytes = c.in_ok-bytes.bytes.items in
-    judged name (raw_files longest_kept) kept_streams {A = ℕ} (Ok 0) old new
+    judged name (raw_files longest_kept) kept_streams {A = ℕ} refl (Ok 0) old new
     (holds name old new bytes c.in_ok-bytes.ensures.bytes (subst HoldsKept c.deref.ensures.value c.in-Ok.ensures)) tt c.in_ok-bytes.ensures.takes
 
 pub returns-in-Err-clause-takes : goal.returns-in-Err-clause-takes
@@ -54,5 +54,5 @@ returns-in-Err-clause-takes g c =
     let old = g.D.Desk.seen c.args.desk.now in
     let new = g.D.Desk.seen c.read_whole.new.desk in
     let bytes = c.in_ok-bytes.bytes.items in
-    judged name (raw_files longest_kept) kept_streams {A = ℕ} (Err (Malformed Stream c.in-Err.fault)) old new tt
+    judged name (raw_files longest_kept) kept_streams {A = ℕ} refl (Err (Malformed Stream c.in-Err.fault)) old new tt
     (whole_found name old new bytes c.in_ok-bytes.ensures.bytes (Err c.in-Err.fault) (subst (λ b. steps_of longest_kept false b ≡ Err c.in-Err.fault) c.deref.ensures.value c.in-Err.ensures)) c.in_ok-bytes.ensures.takes

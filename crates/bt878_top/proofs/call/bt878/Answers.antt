@@ -9,7 +9,7 @@ use Rattle.machine_model.specs.States.{first_state}
 use Rattle.chain_law.specs.Runs.{LiveRunShowsNoFault, LiveRunShowsPictures, LiveRunSignalsInTime, LiveRunStaysInside}
 use Rattle.bt878_contract.proofs.Consequences.{bad_input_comes, bad_input_must, completes, done_assemble, done_capture, done_captured, done_chain, done_check, done_compile, done_counts, done_damage, done_inside}
 use Rattle.bt878_contract.proofs.Consequences.{done_fragments, done_help, done_list, done_live, done_make, done_ring, done_run, done_sound, done_trace, done_verify, done_version, ends_at_fault, in_order, names_kept, others_untouched, read_fault_comes}
-use Rattle.bt878_contract.proofs.Consequences.{refused_only_says, usage_comes, write_fault_comes, write_fault_stands}
+use Rattle.bt878_contract.proofs.Consequences.{first_missing_must, missing_must, read_fault_must, refused_only_says, short_ends, usage_comes, write_fault_comes, write_fault_stands}
 use Rattle.bt878_top.proofs.call.bt878.Goals as goal
 
 pub returns-clause-sound : goal.returns-clause-sound
@@ -227,3 +227,23 @@ pub returns-clause-order : goal.returns-clause-order
 returns-clause-order g c =
     let see = g.D.Desk.seen in
     in_order (task_of c.args.words.now) c.answer_words.result (see c.args.desk.now) (see c.answer_words.new.desk) c.answer_words.ensures
+
+pub returns-clause-read_fault_must : goal.returns-clause-read_fault_must
+returns-clause-read_fault_must g c =
+    let see = g.D.Desk.seen in
+    read_fault_must (task_of c.args.words.now) c.answer_words.result (see c.args.desk.now) (see c.answer_words.new.desk) c.answer_words.ensures
+
+pub returns-clause-missing_must : goal.returns-clause-missing_must
+returns-clause-missing_must g c =
+    let see = g.D.Desk.seen in
+    missing_must (task_of c.args.words.now) c.answer_words.result (see c.args.desk.now) (see c.answer_words.new.desk) c.answer_words.ensures
+
+pub returns-clause-first_missing_must : goal.returns-clause-first_missing_must
+returns-clause-first_missing_must g c =
+    let see = g.D.Desk.seen in
+    first_missing_must (task_of c.args.words.now) c.answer_words.result (see c.args.desk.now) (see c.answer_words.new.desk) c.answer_words.ensures
+
+pub returns-clause-no_memory : goal.returns-clause-no_memory
+returns-clause-no_memory g c =
+    let see = g.D.Desk.seen in
+    short_ends (task_of c.args.words.now) c.answer_words.result (see c.args.desk.now) (see c.answer_words.new.desk) c.answer_words.ensures

@@ -1,5 +1,4 @@
 use Rattle.std.proofs.Common.{◌∙◌, ap}
-use Rattle.std.specs.Prelude.{string_bytes}
 use Rattle.capture_desc.specs.declared.desc.Desc.{Desc}
 use Rattle.command_texts.specs.Texts.{made_text}
 use Rattle.field_stream.specs.Made.{made_entries, made_fields}
@@ -11,8 +10,8 @@ returns-clause-makes g c =
     let d = c.in_ok-checked.checked in
     let frames = c.args.frames in
     let counts = c.of-counts in
-    make_made c.args.desc (g.D.Desk.seen c.args.desk.now).told.inputs c.args.stream c.args.seed frames c.new.result (string_bytes c.in_ok-text.text) d c.new.ensures
-    (c.in_ok-text.ensures
+    make_made c.args.desc (g.D.Desk.seen c.args.desk.now).told.inputs c.args.stream c.args.seed frames c.new.result c.made_text-text.result d c.new.ensures
+    (c.made_text-text.ensures
     ∙ ap (λ n. made_text n counts.result.entries) (counts.ensures.fields ∙ ap (λ (x : Desc). made_fields x frames) c.frame.ensures.value)
     ∙ ap (made_text (made_fields d frames)) (counts.ensures.entries ∙ ap (λ (x : Desc). made_entries x frames) c.frame.ensures.value))
     c.in_ok-checked.ensures.describes

@@ -1,4 +1,4 @@
-use Rattle.std.proofs.Common.{ℕ, List, [], Ok, Err, true, sym}
+use Rattle.std.proofs.Common.{ℕ, List, [], Ok, Err, true, sym, refl}
 use Rattle.capture_file.specs.Programs.{program_of}
 use Rattle.command_inputs.specs.Checked.{FindsIn, a_shown_description}
 use Rattle.command_inputs.specs.Programs.{Accepts, a_sound_program}
@@ -16,7 +16,7 @@ returns-in_err-text-clause-takes g c =
     let P = λ (bytes : List ℕ). Accepts (program_of bytes) loaded.accepted loaded.fill in
     let refusal = c.in_err-text.field-0.0 in
     let reads = still_told c.args.program.now mid.told old.told P P (sym c.in_ok-loaded.ensures.takes.told) (λ bytes is. is) c.in_ok-loaded.ensures.accepts in
-    second_stops (a_sound_program c.args.program.now) (a_shown_description c.args.program.now c.args.desc.now) c.from_residual-in_err-text.result refusal old mid new c.from_residual-in_err-text.ensures.1 c.in_ok-loaded.ensures.takes
+    second_stops (a_sound_program c.args.program.now) (a_shown_description c.args.program.now c.args.desc.now) c.from_residual-in_err-text.result refusal old mid new c.from_residual-in_err-text.ensures.1 refl c.in_ok-loaded.ensures.takes
     (shown_taken c.args.program.now c.args.desc.now loaded.accepted loaded.fill mid new reads {A = ℕ} [] (Err refusal) c.in_err-text.ensures.takes)
 
 pub returns-clause-takes : goal.returns-clause-takes

@@ -1,5 +1,4 @@
 use Rattle.std.proofs.Common.{true, subst, ◌∙◌}
-use Rattle.std.specs.Prelude.{string_bytes}
 use Rattle.command_inputs.specs.Chains.{IsFrameFile}
 use Rattle.double_buffer.specs.Plays.{chain_act}
 use Rattle.stream_play.specs.Plays.{PlaysAll}
@@ -37,7 +36,7 @@ returns-clause-makes g c =
     let buffer = c.in_ok-buffer.buffer in
     let player = c.in_ok-player.field-0.player in
     let same = c.in_ok-buffer.ensures.takes.told ∙ c.in_ok-frame.ensures.takes.told in
-    chain_made c.args.first c.args.second c.args.stream c.args.image old.inputs first pairs.second player (string_bytes c.in_ok-player.field-0.text) pairs.pair c.in_ok-frame.ensures.describes
+    chain_made c.args.first c.args.second c.args.stream c.args.image old.inputs first pairs.second player c.in_ok-player.field-0.text pairs.pair c.in_ok-frame.ensures.describes
     (still_told c.args.second.now old mid (λ bytes. IsFrameFile bytes pairs.second) (λ bytes. IsFrameFile bytes pairs.second) c.in_ok-frame.ensures.takes.told (λ bytes is. is) pairs.reads)
     (still_told c.args.stream.now old last (λ bytes. PlaysAll chain_act true bytes buffer player) (λ bytes. HasPlayedChain bytes first pairs.second player) same
     (λ bytes p. chain_played bytes first pairs.second player (subst (λ b. PlaysAll chain_act true bytes b player) pairs.begins p)) c.in_ok-player.ensures.played)

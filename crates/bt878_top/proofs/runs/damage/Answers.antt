@@ -1,9 +1,9 @@
-use Rattle.std.proofs.Common.{[], ◌∷◌, false, subst}
-use Rattle.std.specs.Prelude.{string_bytes}
+use Rattle.std.proofs.Common.{[], ◌∷◌, false, subst, refl}
 use Rattle.damage_map.specs.Laws.{map_after}
+use Rattle.damage_map.specs.Maps.{rows_of}
 use Rattle.damage_map.specs.Tracks.{track_notes}
+use Rattle.damage_text.specs.Texts.{damage_text}
 use Rattle.command_inputs.specs.Descriptions.{a_description}
-use Rattle.command_steps.proofs.Sequence.{takes_behind}
 use Rattle.stream_play.specs.Plays.{HasPlayedWatched, PlaysAll, watch_act}
 use Rattle.stream_play.specs.Runs.{a_stream}
 use Rattle.stream_play.proofs.Watches.{watched_played}
@@ -15,14 +15,7 @@ pub returns-in_err-map-clause-takes : goal.returns-in_err-map-clause-takes
 returns-in_err-map-clause-takes g c =
     let see = g.D.Desk.seen in
     second_stops (a_description c.args.desc.now) (a_stream c.args.stream.now) c.from_residual-in_err-map.result c.in_err-map.field-0.0 (see c.args.desk.now) (see c.check_file.new.desk) (see c.play_file.new.desk)
-    c.from_residual-in_err-map.ensures.1 c.in_ok-checked.ensures.takes c.in_err-map.ensures.takes
-
--- want of memory behind both
-pub returns-in_err-text-clause-takes : goal.returns-in_err-text-clause-takes
-returns-in_err-text-clause-takes g c =
-    let see = g.D.Desk.seen in
-    takes_behind (a_description c.args.desc.now ∷ a_stream c.args.stream.now ∷ []) (see c.args.desk.now) (see c.play_file.new.desk) [] c.from_residual-in_err-text.result c.from_residual-in_err-text.ensures.1
-    (both_taken (a_description c.args.desc.now) (a_stream c.args.stream.now) (see c.args.desk.now) (see c.check_file.new.desk) (see c.play_file.new.desk) c.in_ok-checked.ensures.takes c.in_ok-map.ensures.takes)
+    c.from_residual-in_err-map.ensures.1 refl c.in_ok-checked.ensures.takes c.in_err-map.ensures.takes
 
 pub returns-clause-takes : goal.returns-clause-takes
 returns-clause-takes g c =
@@ -36,7 +29,7 @@ returns-clause-makes g c =
     let d = c.in_ok-checked.checked in
     let begin = map_after d d.fill [] in
     let map = c.in_ok-map.map in
-    damage_made c.args.desc c.args.stream old.inputs d map (string_bytes c.in_ok-text.text) c.in_ok-checked.ensures.describes
+    damage_made c.args.desc c.args.stream old.inputs d map (damage_text d (λ field. rows_of field map)) c.in_ok-checked.ensures.describes
     (still_told c.args.stream.now old mid (λ bytes. PlaysAll (watch_act track_notes) false bytes c.in_ok-map_of.field-0 map) (λ bytes. HasPlayedWatched track_notes bytes begin map) c.in_ok-checked.ensures.takes.told
     (λ bytes p. watched_played track_notes bytes begin map (subst (λ w. PlaysAll (watch_act track_notes) false bytes w map) c.in_ok-map_of.ensures p)) c.in_ok-map.ensures.played)
-    c.in_ok-text.ensures
+    refl

@@ -1,5 +1,4 @@
-use Rattle.std.proofs.Common.{false, subst}
-use Rattle.std.specs.Prelude.{string_bytes}
+use Rattle.std.proofs.Common.{false, subst, refl}
 use Rattle.machine_model.specs.States.{first_state}
 use Rattle.machine_watch.specs.Watches.{watching}
 use Rattle.ring_model.specs.Rings.{ring_program}
@@ -17,7 +16,7 @@ pub returns-in_err-player-clause-takes : goal.returns-in_err-player-clause-takes
 returns-in_err-player-clause-takes g c =
     let see = g.D.Desk.seen in
     second_stops (a_ring c.args.ring.now) (a_stream c.args.stream.now) c.from_residual-in_err-player.result c.in_err-player.field-0.0 (see c.args.desk.now) (see c.ring_file.new.desk) (see c.play_and_tell.new.desk)
-    c.from_residual-in_err-player.ensures.1 c.in_ok-ring.ensures.takes c.in_err-player.ensures.takes
+    c.from_residual-in_err-player.ensures.1 refl c.in_ok-ring.ensures.takes c.in_err-player.ensures.takes
 
 pub returns-clause-takes : goal.returns-clause-takes
 returns-clause-takes g c =
@@ -34,7 +33,7 @@ returns-clause-makes g c =
     let player = c.in_ok-player.field-0.player in
     let machine = c.in_ok-machine.machine in
     let m = c.into_machine.result in
-    ring_made c.args.ring c.args.stream c.args.program c.args.image old.inputs ring player m (string_bytes c.in_ok-player.field-0.text) c.fill-fill.result c.fill-fill.ensures.value c.into_machine.ensures c.in_ok-ring.ensures.ring
+    ring_made c.args.ring c.args.stream c.args.program c.args.image old.inputs ring player m c.in_ok-player.field-0.text c.fill-fill.result c.fill-fill.ensures.value c.into_machine.ensures c.in_ok-ring.ensures.ring
     (still_told c.args.stream.now old mid (λ bytes. PlaysAll (watch_act block_notes) false bytes machine player) (λ bytes. HasPlayedRing bytes ring first player) c.in_ok-ring.ensures.takes.told
     (λ bytes p. ring_played bytes ring player c.in_ok-machine.ensures.ring (watched_played block_notes bytes begin player (subst (λ w. PlaysAll (watch_act block_notes) false bytes w player) c.in_ok-machine.ensures.first p))) c.in_ok-player.ensures.played)
     c.in_ok-player.ensures.text

@@ -1,5 +1,4 @@
-use Rattle.std.proofs.Common.{◌≡◌, ap, false, sym, ◌∙◌}
-use Rattle.std.specs.Prelude.{string_bytes}
+use Rattle.std.proofs.Common.{◌≡◌, ap, false, sym, ◌∙◌, refl}
 use Rattle.machine_model.specs.States.{first_state}
 use Rattle.machine_watch.specs.Watches.{Watching, no_notes}
 use Rattle.dma_machine.specs.Facts.{report_of}
@@ -16,7 +15,7 @@ pub returns-in_err-player-clause-takes : goal.returns-in_err-player-clause-takes
 returns-in_err-player-clause-takes g c =
     let see = g.D.Desk.seen in
     second_stops (a_sound_program c.args.program.now) (a_stream c.args.stream.now) c.from_residual-in_err-player.result c.in_err-player.field-0.0 (see c.args.desk.now) (see c.accept.new.desk) (see c.play_and_tell.new.desk)
-    c.from_residual-in_err-player.ensures.1 c.in_ok-accepted.ensures.takes c.in_err-player.ensures.takes
+    c.from_residual-in_err-player.ensures.1 refl c.in_ok-accepted.ensures.takes c.in_err-player.ensures.takes
 
 pub returns-clause-takes : goal.returns-clause-takes
 returns-clause-takes g c =
@@ -33,6 +32,6 @@ returns-clause-makes g c =
     let w = c.new-machine.result in
     let m = c.into_machine.result in
     let begins : w.machine ≡ first = ap (λ (x : Watching _). x.machine) c.new-machine.ensures ∙ c.in_ok-machine_of.ensures in
-    run_made c.args.program c.args.stream c.args.image old.inputs loaded.accepted loaded.fill m (string_bytes c.in_ok-player.field-0.text) c.in_ok-accepted.ensures.accepts
+    run_made c.args.program c.args.stream c.args.image old.inputs loaded.accepted loaded.fill m c.in_ok-player.field-0.text c.in_ok-accepted.ensures.accepts
     (still_told c.args.stream.now old mid (λ bytes. PlaysAll (watch_act no_notes) false bytes w player) (λ bytes. HasPlayed bytes first m) c.in_ok-accepted.ensures.takes.told (λ bytes p. played_as bytes w.machine first player.machine m begins (sym c.into_machine.ensures) (machine_played no_notes bytes w player p)) c.in_ok-player.ensures.played)
     (c.in_ok-player.ensures.text ∙ ap (λ s. report_text (report_of s)) (sym c.into_machine.ensures))

@@ -1,4 +1,4 @@
-use Rattle.std.proofs.Common.{◌≡◌, ℕ, List, [], sym, subst}
+use Rattle.std.proofs.Common.{◌≡◌, ℕ, List, [], sym, subst, refl}
 use Rattle.bt878_words.specs.declared.Task.TheVariants.{Trace}
 use Rattle.machine_model.specs.States.{State}
 use Rattle.command_inputs.specs.Programs.{a_sound_program}
@@ -14,7 +14,7 @@ pub returns-in_err-kept-clause-takes : goal.returns-in_err-kept-clause-takes
 returns-in_err-kept-clause-takes g c =
     let see = g.D.Desk.seen in
     second_stops (a_sound_program c.args.program.now) (a_kept_stream c.args.stream.now) c.from_residual-in_err-kept.result c.in_err-kept.field-0.0 (see c.args.desk.now) (see c.accept.new.desk) (see c.keep_stream.new.desk)
-    c.from_residual-in_err-kept.ensures.1 c.in_ok-accepted.ensures.takes c.in_err-kept.ensures.takes
+    c.from_residual-in_err-kept.ensures.1 refl c.in_ok-accepted.ensures.takes c.in_err-kept.ensures.takes
 
 pub returns-clause-takes : goal.returns-clause-takes
 returns-clause-takes g c =

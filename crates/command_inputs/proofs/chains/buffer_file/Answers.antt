@@ -1,3 +1,4 @@
+use Rattle.std.proofs.Common.{refl}
 use Rattle.std.proofs.lemmas.Result.{IfErr-weaker}
 use Rattle.command_steps.specs.Inputs.{StopsAt}
 use Rattle.command_steps.proofs.Judging.{judged, not_judged}
@@ -28,5 +29,5 @@ returns-clause-takes g c =
     let old = g.D.Desk.seen c.args.desk.now in
     let new = g.D.Desk.seen c.frame_file.new.desk in
     let r = c.pair.result in
-    judged name frame_files (second_with first) r old new (holds_pair first name old new second reads r c.pair.ensures.pair)
+    judged name frame_files (second_with first) refl r old new (holds_pair first name old new second reads r c.pair.ensures.pair)
     (IfErr-weaker r (IsRefusedPair first second) (λ refusal. StopsAt (IsBadWith first) name refusal old new) (pair_stops first name old new second reads) c.pair.ensures.refused) c.in_ok-second.ensures.takes

@@ -1,4 +1,4 @@
-use Rattle.std.proofs.Common.{true}
+use Rattle.std.proofs.Common.{true, refl}
 use Rattle.std.proofs.lemmas.Result.{IfErr-weaker, IfOk-weaker}
 use Rattle.command_steps.specs.Inputs.{OfInput, StopsAt}
 use Rattle.command_steps.proofs.Judging.{judged, not_judged}
@@ -34,6 +34,6 @@ returns-clause-takes g c =
     let old = g.D.Desk.seen c.args.desk.now in
     let new = g.D.Desk.seen c.frame_file.new.desk in
     let r = c.judge.result in
-    judged name frame_files (shown_with program) r old new
+    judged name frame_files (shown_with program) refl r old new
     (IfOk-weaker r (Finds program d true) (λ _. OfInput name old.told.inputs (HoldsShown program)) (holds_shown program name old new d reads) c.judge.ensures.shown)
     (IfErr-weaker r (IsRefusedBy program d) (λ refusal. StopsAt (IsBadFor program) name refusal old new) (differing_stops program name old new d reads) c.judge.ensures.refused) c.in_ok-frame.ensures.takes

@@ -1,4 +1,4 @@
-use Rattle.std.proofs.Common.{IfErr, IfOk, subst}
+use Rattle.std.proofs.Common.{IfErr, IfOk, subst, refl}
 use Rattle.std.proofs.lemmas.Result.{IfErr-weaker}
 use Rattle.capture_file.specs.declared.Input.TheVariants as file
 use Rattle.picture_model.specs.Geometry.{first_fault}
@@ -32,7 +32,7 @@ returns-clause-takes g c =
     let bytes = c.in_ok-bytes.bytes.items in
     let whole = c.in_ok-bytes.ensures.whole in
     let r = c.check_bytes.result in
-    judged name (limited_files longest_description file.Desc) descriptions r old new
+    judged name (limited_files longest_description file.Desc) descriptions refl r old new
     (good_file name old.told.inputs bytes whole Describes r HoldsValid (λ content found holds. (found, holds)) (subst (λ bytes. IfOk r (Describes bytes)) c.deref.ensures.value c.check_bytes.ensures.describes))
     (IfErr-weaker r (IsRefused first_fault bytes) (λ refusal. StopsAt (IsBadDescBy first_fault) name refusal old new) (refused_stops first_fault name old new bytes whole)
     (subst (λ bytes. IfErr r (IsRefused first_fault bytes)) c.deref.ensures.value c.check_bytes.ensures.refuses)) c.in_ok-bytes.ensures.takes

@@ -23,7 +23,7 @@ returns-then-len-most-clause-takes g c =
     let new = g.D.Desk.seen c.read_whole.new.desk in
     let bytes = c.in_ok-bytes.bytes.items in
     let long : most < length bytes = omega (arith, c.len.ensures, c.if-len-most.true) in
-    found_bad name (raw_files most) (limited_files most c.args.file) _ old new
+    found_bad name (raw_files most) (limited_files most c.args.file) refl _ old new
     (refl, refl, OfInput-map name old.told.inputs (λ content. bytes ≡ take (most + 1) content) (λ content. most < length content) (λ content e. is_longer most bytes content e long) c.in_ok-bytes.ensures.bytes)
     c.in_ok-bytes.ensures.takes
 

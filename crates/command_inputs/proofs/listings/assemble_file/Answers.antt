@@ -1,5 +1,5 @@
 -- What is read to one byte beyond the longest text tells what the whole text is.
-use Rattle.std.proofs.Common.{◌≡◌, ◌≤◌, ◌+◌, ◌∙◌, ℕ, List, length, take, Err, ap, subst, arith, length-take}
+use Rattle.std.proofs.Common.{◌≡◌, ◌≤◌, ◌+◌, ◌∙◌, ℕ, List, length, take, Err, ap, subst, arith, length-take, refl}
 use Rattle.std.proofs.lemmas.List.{take_all}
 use Rattle.capture_file.specs.declared.program.ProgramFile.{ProgramFile}
 use Rattle.risc_asm.specs.Answers.{Answers, IsFault, most_bytes}
@@ -64,9 +64,9 @@ returns-in-Err-Bad-clause-takes g c =
     let old = g.D.Desk.seen c.args.desk.now in
     let text = c.in_ok-text.text in
     let fault = c.in-Err-Bad.fault in
-    found_bad c.args.name.now (raw_files most_bytes) listings (BadText fault) old (g.D.Desk.seen c.read_text.new.desk)
+    found_bad c.args.name.now (raw_files most_bytes) listings refl (BadText fault) old (g.D.Desk.seen c.read_text.new.desk)
     (fault_found c.args.name.now old text c.in_ok-text.ensures.bytes fault (subst (λ (error : AsmError). Answers text (Err error)) c.in-Err-Bad.field-0-is c.in-Err-Bad.ensures)) c.in_ok-text.ensures.takes
 
 pub returns-in-Err-Memory-clause-takes : goal.returns-in-Err-Memory-clause-takes
 returns-in-Err-Memory-clause-takes g c =
-    found_bad c.args.name.now (raw_files most_bytes) listings NoMemory (g.D.Desk.seen c.args.desk.now) (g.D.Desk.seen c.read_text.new.desk) tt c.in_ok-text.ensures.takes
+    found_bad c.args.name.now (raw_files most_bytes) listings refl NoMemory (g.D.Desk.seen c.args.desk.now) (g.D.Desk.seen c.read_text.new.desk) tt c.in_ok-text.ensures.takes

@@ -1,5 +1,5 @@
 -- A program that was read is judged.
-use Rattle.std.proofs.Common.{◌≡◌, List, ℕ, Result, Ok, sym, subst}
+use Rattle.std.proofs.Common.{◌≡◌, List, ℕ, Result, Ok, sym, subst, refl}
 use Rattle.std.proofs.lemmas.Result.{IfErr-weaker, IfOk-weaker}
 use Rattle.capture_file.specs.declared.FileFault.{FileFault}
 use Rattle.capture_file.specs.declared.program.ProgramFile.{ProgramFile}
@@ -56,7 +56,7 @@ returns-clause-takes g c =
     let file = c.in_ok-file.file in
     let reads = c.in_ok-file.ensures.file in
     let r = c.judge.result in
-    judged name program_files sound_programs r old new
+    judged name program_files sound_programs refl r old new
     (IfOk-weaker r (λ loaded. Accepts (Ok file) loaded.accepted loaded.fill) (λ _. OfInput name old.told.inputs HoldsSound)
     (λ (loaded : Loaded) h. OfInput-map name old.told.inputs (λ bytes. Accepts (program_of bytes) loaded.accepted loaded.fill) HoldsSound (λ bytes a. (loaded.accepted, loaded.fill, a))
     (of_found name old new file reads (λ found. Accepts found loaded.accepted loaded.fill) h)) c.judge.ensures.accepts)

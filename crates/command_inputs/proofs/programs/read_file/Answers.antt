@@ -1,5 +1,5 @@
 -- What is read to one byte beyond the longest tells what the whole file is.
-use Rattle.std.proofs.Common.{◌≡◌, ◌+◌, ◌∙◌, List, ℕ, take, Result, Ok, Err, IfErr, IfOk, ap, sym, subst}
+use Rattle.std.proofs.Common.{◌≡◌, ◌+◌, ◌∙◌, List, ℕ, take, Result, Ok, Err, IfErr, IfOk, ap, sym, subst, refl}
 use Rattle.std.proofs.lemmas.Result.{IfErr-weaker, IfOk-weaker}
 use Rattle.capture_file.specs.declared.FileFault.{FileFault}
 use Rattle.capture_file.specs.declared.Input.TheVariants.{Program}
@@ -53,7 +53,7 @@ returns-clause-takes g c =
     let bytes = c.in_ok-bytes.bytes.items in
     let read = c.in_ok-bytes.ensures.bytes in
     let r = c.parse.result in
-    judged name (raw_files longest_program) program_files r old new
+    judged name (raw_files longest_program) program_files refl r old new
     (IfOk-weaker r (λ file. program_of bytes ≡ Ok file) (λ _. OfInput name old.told.inputs HoldsProgram)
     (λ file h. OfInput-map name old.told.inputs (λ content. program_of content ≡ Ok file) HoldsProgram (λ content e. (file, e)) (whole_found name old new bytes read (Ok file) h))
     (subst (λ bytes. IfOk r (λ file. program_of bytes ≡ Ok file)) c.deref.ensures.value c.parse.ensures.reads))

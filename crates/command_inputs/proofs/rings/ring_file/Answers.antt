@@ -1,4 +1,4 @@
-use Rattle.std.proofs.Common.{IfErr, IfOk, subst}
+use Rattle.std.proofs.Common.{IfErr, IfOk, subst, refl}
 use Rattle.std.proofs.lemmas.Result.{IfErr-weaker}
 use Rattle.capture_file.specs.declared.Input.TheVariants as file
 use Rattle.command_steps.specs.Inputs.{StopsAt}
@@ -30,7 +30,7 @@ returns-clause-takes g c =
     let bytes = c.in_ok-bytes.bytes.items in
     let whole = c.in_ok-bytes.ensures.whole in
     let r = c.read_bytes.result in
-    judged name (limited_files longest_ring file.Ring) ring_files r old new
+    judged name (limited_files longest_ring file.Ring) ring_files refl r old new
     (good_file name old.told.inputs bytes whole IsRingFile r HoldsRing (λ content ring holds. (ring, holds)) (subst (λ bytes. IfOk r (IsRingFile bytes)) c.deref.ensures.value c.read_bytes.ensures.ring))
     (IfErr-weaker r (IsRefused bytes) (λ refusal. StopsAt IsBadRing name refusal old new) (refused_stops name old new bytes whole)
     (subst (λ bytes. IfErr r (IsRefused bytes)) c.deref.ensures.value c.read_bytes.ensures.refuses)) c.in_ok-bytes.ensures.takes

@@ -1,12 +1,13 @@
-use Rattle.std.proofs.Common.{[], ◌∷◌, take}
+use Rattle.std.proofs.Common.{[], ◌∷◌, false, take}
 use Rattle.std.proofs.lemmas.Result.{IfErr-weaker, IfOk-weaker}
 use Rattle.command_steps.specs.Inputs.{OfInput, OfRest, StopsAt}
+use Rattle.command_steps.specs.Reading.{MayCome}
 use Rattle.command_steps.proofs.Inputs.{OfInput-map, opened_input}
 use Rattle.command_steps.proofs.Opening.{not_opened, takes_opened}
 use Rattle.command_steps.proofs.Sequence.{stops_with}
 use Rattle.stream_play.specs.Plays.{PlaysAll, StopsPlaying}
 use Rattle.stream_play.specs.Runs.{HoldsNoFault, HoldsSteps, IsBadStream, a_stream_file}
-use Rattle.stream_play.proofs.Loading.{stops_at_stream}
+use Rattle.stream_play.proofs.Loading.{comes_of_stream, stops_at_stream}
 use Rattle.stream_play.proofs.files.play_input.Goals as goal
 
 pub returns-in_err-open-clause-takes : goal.returns-in_err-open-clause-takes
@@ -38,7 +39,9 @@ returns-clause-takes g c =
     let k = c.play.ensures in
     let P = PlaysAll g.P.Player.act has_slots in
     takes_opened (a_stream_file has_slots name) old c.in_ok-open.field-0 mid new e.opened e.writes e.quiet e.calls (λ at. OfRest mid.told.rest (λ bytes. HoldsNoFault has_slots (take at bytes))) (λ at h. h) k.told
-    k.writes c.play.result k.quiet k.calls k.through
+    k.writes c.play.result
+    (IfErr-weaker c.play.result (λ refusal. StopsPlaying has_slots mid.told.rest refusal mid new) (λ refusal. MayCome refusal false) (λ refusal. comes_of_stream has_slots refusal mid.told.rest mid new) k.stops)
+    k.quiet k.calls k.through
     (IfOk-weaker c.play.result (λ _. OfRest mid.told.rest (λ bytes. P bytes c.args.player.now c.play.new.player)) (λ _. OfInput name old.told.inputs (HoldsSteps has_slots))
     (λ done h. OfInput-map name old.told.inputs (λ bytes. P bytes c.args.player.now c.play.new.player) (HoldsSteps has_slots) (λ bytes p. (p.0, p.1))
     (opened_input name old.told mid.told (λ bytes. P bytes c.args.player.now c.play.new.player) e.opened.0 e.opened.1 h)) k.played)
