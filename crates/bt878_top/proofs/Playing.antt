@@ -1,15 +1,14 @@
 -- A stream that is played behind other inputs.
-use Rattle.std.proofs.Common.{◌≡◌, ℕ, List, [], ◌∷◌, Result, Ok, Err, IsErrAnd, true, false, refl, sym, ap, subst, ◌∙◌}
+use Rattle.std.proofs.Common.{◌≡◌, ℕ, List, [], ◌∷◌, Result, Ok, Err, IsErrAnd, true, refl, sym, ap, subst, ◌∙◌}
 use Rattle.capture_desk.specs.Desks.{Seen, Told}
 use Rattle.capture_file.specs.Streams.{steps_run}
 use Rattle.machine_model.specs.States.{State}
 use Rattle.machine_model.specs.Steps.{run}
 use Rattle.command_texts.specs.declared.refusal.Refusal.{Refusal}
-use Rattle.command_texts.specs.declared.refusal.Refusal.TheVariants.{NoMemory}
 use Rattle.command_steps.specs.Inputs.{Input, OfInput, apart}
 use Rattle.command_steps.specs.Reading.{Stopped, Takes, Took}
 use Rattle.command_steps.proofs.Inputs.{OfInput-map, same_inputs}
-use Rattle.command_steps.proofs.Sequence.{stopped_before, stopped_then, stopped_unopened, stops_with, took_then}
+use Rattle.command_steps.proofs.Sequence.{stopped_before, stopped_then, stops_with, takes_before, took_then}
 use Rattle.capture_desc.specs.declared.desc.Desc.{Desc}
 use Rattle.command_inputs.specs.Chains.{IsFrameFile, a_first_description, a_second_description, a_second_with}
 use Rattle.command_inputs.proofs.Pairing.{second_taken}
@@ -22,11 +21,9 @@ pub second_stops : {A : Type 0} (first second : Input) (r : Result A Refusal) (r
 second_stops first second r refusal old mid new is kept took stopped =
     stops_with (first ∷ second ∷ []) r refusal old new is (stopped_then (first ∷ []) old mid (second ∷ []) refusal new (kept, tt) took stopped)
 
--- memory runs out behind the first, before a second one that isn't kept is opened
-pub short_between : {A : Type 0} (first second : Input) (r : Result A Refusal) (old mid : Seen) → IsErrAnd r (λ y. y ≡ NoMemory) → first.judge.kept ≡ true → second.judge.kept ≡ false → Took (first ∷ []) old mid →
-    Takes (first ∷ second ∷ []) r old mid
-short_between first second r old mid is kept not_kept took =
-    second_stops first second r NoMemory old mid mid is kept took (stopped_unopened second mid not_kept)
+-- the first input was not taken
+pub first_stops : {A : Type 0} (first second : Input) (r : Result A Refusal) (refusal : Refusal) (old mid : Seen) → IsErrAnd r (λ y. y ≡ refusal) → Stopped (first ∷ []) refusal old mid → Takes (first ∷ second ∷ []) r old mid
+first_stops first second r refusal old mid is stopped = takes_before first [] old mid (second ∷ []) r refusal is stopped
 
 -- both were taken
 pub both_taken : (first second : Input) (old mid new : Seen) → Took (first ∷ []) old mid → Took (second ∷ []) mid new → Took (first ∷ second ∷ []) old new
@@ -68,7 +65,7 @@ module _ (one two stream : List ℕ) (first : Desc) (old mid : Seen) (took : Too
     pub chain_stream_stops : {A : Type 0} (r : Result A Refusal) (refusal : Refusal) (new : Seen) → IsErrAnd r (λ y. y ≡ refusal) → Stopped (a_stream_file true stream ∷ []) refusal last new → Takes all_three r old new
     chain_stream_stops r refusal new is stopped =
         stops_with all_three r refusal old new is
-        (stopped_then (a_first_description one ∷ a_second_description one two ∷ []) old last (a_stream_file true stream ∷ []) refusal new (refl, refl, tt) descriptions_taken stopped)
+        (stopped_then (a_first_description one ∷ a_second_description one two ∷ []) old last (a_stream_file true stream ∷ []) refusal new (refl, (refl, tt)) descriptions_taken stopped)
 
     pub all_three_taken : (new : Seen) → Took (a_stream_file true stream ∷ []) last new → Took all_three old new
     all_three_taken new plays = took_then (a_first_description one ∷ a_second_description one two ∷ []) old last (a_stream_file true stream ∷ []) new descriptions_taken plays

@@ -3,9 +3,14 @@ use Rattle.capture_file.specs.Programs.{program_of}
 use Rattle.command_inputs.specs.Checked.{FindsIn, a_shown_description}
 use Rattle.command_inputs.specs.Programs.{Accepts, a_sound_program}
 use Rattle.command_inputs.proofs.Showing.{shown_taken}
-use Rattle.bt878_top.proofs.Playing.{both_taken, second_stops, still_told}
+use Rattle.bt878_top.proofs.Playing.{both_taken, second_stops, still_told, first_stops}
 use Rattle.bt878_top.proofs.Products.{check_made}
 use Rattle.bt878_top.proofs.programs.check.Goals as goal
+
+pub returns-in_err-loaded-clause-takes : goal.returns-in_err-loaded-clause-takes
+returns-in_err-loaded-clause-takes g c =
+    let see = g.D.Desk.seen in
+    first_stops (a_sound_program c.args.program.now) (a_shown_description c.args.program.now c.args.desc.now) c.from_residual.result c.in_err-loaded.field-0.0 (see c.args.desk.now) (see c.accept.new.desk) c.from_residual.ensures.1 c.in_err-loaded.ensures.takes
 
 pub returns-in_err-text-clause-takes : goal.returns-in_err-text-clause-takes
 returns-in_err-text-clause-takes g c =

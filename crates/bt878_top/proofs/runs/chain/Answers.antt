@@ -1,12 +1,20 @@
-use Rattle.std.proofs.Common.{true, subst, ◌∙◌}
-use Rattle.command_inputs.specs.Chains.{IsFrameFile}
+use Rattle.command_steps.proofs.Sequence.{takes_before}
+use Rattle.std.proofs.Common.{true, subst, ◌∙◌, [], ◌∷◌}
+use Rattle.command_inputs.specs.Chains.{IsFrameFile, a_first_description, a_second_description}
 use Rattle.double_buffer.specs.Plays.{chain_act}
 use Rattle.stream_play.specs.Plays.{PlaysAll}
-use Rattle.stream_play.specs.Runs.{HasPlayedChain}
+use Rattle.stream_play.specs.Runs.{HasPlayedChain, a_stream_file}
 use Rattle.stream_play.proofs.Chains.{chain_played}
 use Rattle.bt878_top.proofs.Playing.{all_three_taken, chain_stream_stops, second_description_stops, still_told}
 use Rattle.bt878_top.proofs.Products.{chain_made}
 use Rattle.bt878_top.proofs.runs.chain.Goals as goal
+
+pub returns-in_err-frame-clause-takes : goal.returns-in_err-frame-clause-takes
+returns-in_err-frame-clause-takes g c =
+    let see = g.D.Desk.seen in
+    let first = c.args.first.now in
+    takes_before (a_first_description first) [] (see c.args.desk.now) (see c.frame_file.new.desk) (a_second_description first c.args.second.now ∷ a_stream_file true c.args.stream.now ∷ []) c.from_residual.result
+    c.in_err-frame.field-0.0 c.from_residual.ensures.1 c.in_err-frame.ensures.takes
 
 pub returns-in_err-buffer-clause-takes : goal.returns-in_err-buffer-clause-takes
 returns-in_err-buffer-clause-takes g c =

@@ -7,9 +7,14 @@ use Rattle.command_inputs.specs.Descriptions.{a_description}
 use Rattle.stream_play.specs.Plays.{HasPlayedWatched, PlaysAll, watch_act}
 use Rattle.stream_play.specs.Runs.{a_stream}
 use Rattle.stream_play.proofs.Watches.{watched_played}
-use Rattle.bt878_top.proofs.Playing.{both_taken, second_stops, still_told}
+use Rattle.bt878_top.proofs.Playing.{both_taken, second_stops, still_told, first_stops}
 use Rattle.bt878_top.proofs.Products.{damage_made}
 use Rattle.bt878_top.proofs.runs.damage.Goals as goal
+
+pub returns-in_err-checked-clause-takes : goal.returns-in_err-checked-clause-takes
+returns-in_err-checked-clause-takes g c =
+    let see = g.D.Desk.seen in
+    first_stops (a_description c.args.desc.now) (a_stream c.args.stream.now) c.from_residual.result c.in_err-checked.field-0.0 (see c.args.desk.now) (see c.check_file.new.desk) c.from_residual.ensures.1 c.in_err-checked.ensures.takes
 
 pub returns-in_err-map-clause-takes : goal.returns-in_err-map-clause-takes
 returns-in_err-map-clause-takes g c =

@@ -8,9 +8,14 @@ use Rattle.stream_play.specs.Plays.{PlaysAll, watch_act}
 use Rattle.stream_play.specs.Runs.{HasPlayedRing, a_stream}
 use Rattle.stream_play.proofs.Rings.{ring_played}
 use Rattle.stream_play.proofs.Watches.{watched_played}
-use Rattle.bt878_top.proofs.Playing.{both_taken, second_stops, still_told}
+use Rattle.bt878_top.proofs.Playing.{both_taken, second_stops, still_told, first_stops}
 use Rattle.bt878_top.proofs.Products.{ring_made}
 use Rattle.bt878_top.proofs.runs.ring.Goals as goal
+
+pub returns-in_err-ring-clause-takes : goal.returns-in_err-ring-clause-takes
+returns-in_err-ring-clause-takes g c =
+    let see = g.D.Desk.seen in
+    first_stops (a_ring c.args.ring.now) (a_stream c.args.stream.now) c.from_residual.result c.in_err-ring.field-0.0 (see c.args.desk.now) (see c.ring_file.new.desk) c.from_residual.ensures.1 c.in_err-ring.ensures.takes
 
 pub returns-in_err-player-clause-takes : goal.returns-in_err-player-clause-takes
 returns-in_err-player-clause-takes g c =

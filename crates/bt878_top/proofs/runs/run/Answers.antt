@@ -7,9 +7,14 @@ use Rattle.command_inputs.specs.Programs.{a_sound_program}
 use Rattle.stream_play.specs.Plays.{HasPlayed, PlaysAll, watch_act}
 use Rattle.stream_play.specs.Runs.{a_stream}
 use Rattle.stream_play.proofs.Watches.{machine_played}
-use Rattle.bt878_top.proofs.Playing.{both_taken, played_as, second_stops, still_told}
+use Rattle.bt878_top.proofs.Playing.{both_taken, played_as, second_stops, still_told, first_stops}
 use Rattle.bt878_top.proofs.Products.{run_made}
 use Rattle.bt878_top.proofs.runs.run.Goals as goal
+
+pub returns-in_err-accepted-clause-takes : goal.returns-in_err-accepted-clause-takes
+returns-in_err-accepted-clause-takes g c =
+    let see = g.D.Desk.seen in
+    first_stops (a_sound_program c.args.program.now) (a_stream c.args.stream.now) c.from_residual.result c.in_err-accepted.field-0.0 (see c.args.desk.now) (see c.accept.new.desk) c.from_residual.ensures.1 c.in_err-accepted.ensures.takes
 
 pub returns-in_err-player-clause-takes : goal.returns-in_err-player-clause-takes
 returns-in_err-player-clause-takes g c =

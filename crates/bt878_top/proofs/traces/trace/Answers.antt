@@ -1,4 +1,5 @@
-use Rattle.std.proofs.Common.{◌≡◌, ℕ, List, [], sym, subst, refl}
+use Rattle.command_steps.proofs.Sequence.{takes_behind}
+use Rattle.std.proofs.Common.{◌≡◌, ℕ, List, [], sym, subst, refl, ◌∷◌}
 use Rattle.bt878_words.specs.declared.Task.TheVariants.{Trace}
 use Rattle.machine_model.specs.States.{State}
 use Rattle.command_inputs.specs.Programs.{a_sound_program}
@@ -6,15 +7,29 @@ use Rattle.command_steps.specs.Inputs.{OfInput}
 use Rattle.kept_stream.specs.Kept.{a_kept_stream}
 use Rattle.bt878_contract.specs.Tasks.{IsProduct}
 use Rattle.trace_play.specs.Playing.{Playing, begun, text_left}
-use Rattle.bt878_top.proofs.Playing.{both_taken, second_stops, still_told}
+use Rattle.bt878_top.proofs.Playing.{both_taken, second_stops, still_told, first_stops}
 use Rattle.bt878_top.proofs.Products.{TracesAll, kept_traced, trace_made}
 use Rattle.bt878_top.proofs.traces.trace.Goals as goal
+
+pub returns-in_err-accepted-clause-takes : goal.returns-in_err-accepted-clause-takes
+returns-in_err-accepted-clause-takes g c =
+    let see = g.D.Desk.seen in
+    first_stops (a_sound_program c.args.program.now) (a_kept_stream c.args.stream.now) c.from_residual.result c.in_err-accepted.field-0.0 (see c.args.desk.now) (see c.accept.new.desk) c.from_residual.ensures.1 c.in_err-accepted.ensures.takes
 
 pub returns-in_err-kept-clause-takes : goal.returns-in_err-kept-clause-takes
 returns-in_err-kept-clause-takes g c =
     let see = g.D.Desk.seen in
     second_stops (a_sound_program c.args.program.now) (a_kept_stream c.args.stream.now) c.from_residual-in_err-kept.result c.in_err-kept.field-0.0 (see c.args.desk.now) (see c.accept.new.desk) (see c.keep_stream.new.desk)
     c.from_residual-in_err-kept.ensures.1 refl c.in_ok-accepted.ensures.takes c.in_err-kept.ensures.takes
+
+-- memory runs out behind both
+pub returns-in_err-machine-clause-takes : goal.returns-in_err-machine-clause-takes
+returns-in_err-machine-clause-takes g c =
+    let see = g.D.Desk.seen in
+    let one = a_sound_program c.args.program.now in
+    let two = a_kept_stream c.args.stream.now in
+    takes_behind one (two ∷ []) (see c.args.desk.now) (see c.keep_stream.new.desk) [] c.from_residual-in_err-machine.result c.from_residual-in_err-machine.ensures.1 (refl, (refl, tt))
+    (both_taken one two (see c.args.desk.now) (see c.accept.new.desk) (see c.keep_stream.new.desk) c.in_ok-accepted.ensures.takes c.in_ok-kept.ensures.takes)
 
 pub returns-clause-takes : goal.returns-clause-takes
 returns-clause-takes g c =
