@@ -28,7 +28,8 @@ use Rattle.dma_machine.specs.Views.{job_of}
 use Rattle.dma_machine.specs.Counts.{acted, acted_times, with_turns}
 use Rattle.dma_machine.specs.Facts.{IsMachine}
 use Rattle.dma_machine.specs.FallThrough.{MovesWhole, fallen_through, none_before, put_down}
-use Rattle.dma_machine.specs.Plain.{ArePlain, AreTaken, HaveTurns, asked_of_all, dwords_of, lets_plain, plain_entry, plain_room, plain_steps, room_in, turns_of, whole_entries}
+use Rattle.machine_model.specs.PlainEntries.{ArePlain, HaveTurns, dwords_of, plain_entry, plain_steps, turns_behind}
+use Rattle.dma_machine.specs.Plain.{AreTaken, asked_of_all, lets_plain, plain_room, room_in, whole_entries}
 use Rattle.dma_machine.specs.Stills.{is_still, none_served, works_still}
 use Rattle.dma_machine.specs.WholeTakes.{takes_whole}
 use Rattle.dma_machine.proofs.Counting.{acted-turns, turn-acted}
@@ -244,7 +245,7 @@ module _ (q : Queue) (dword count : ℕ) (m : State) (instr : Instr) (ds : Deman
 
 -- their bytes are stored, and asked no more
 abbrev all_put : Queue → Instr → Demands → List (ℕ × ℕ) → State → State
-all_put q instr ds entries m = with_turns (more m.turns (turns_of entries)) (put_down q (length entries * 4) instr ds 0 (dwords_of entries) m)
+all_put q instr ds entries m = with_turns (more m.turns (turns_behind entries)) (put_down q (length entries * 4) instr ds 0 (dwords_of entries) m)
 
 module _ (q : Queue) (instr : Instr) (ds : Demands) (m : State) (off : instr_off instr ≡ 0) where
   abbrev made : Demands → List Block → ℕ → ℕ → State
@@ -305,8 +306,8 @@ all_run q instr ds entry (next ∷ entries) m h few each =
     run-append (push q (plain_entry entry.0) m) (replicate entry.1 Turn) (plain_steps q (next ∷ entries))
     ∙ ap (λ s. run s (plain_steps q (next ∷ entries))) (first_run q entry.0 (suc (length entries)) m instr ds h entry.1 few each.0)
     ∙ all_run q instr less next entries after (others q entry.0 (suc (length entries)) m instr ds h turns) still_few each.1
-    ∙ put_both q instr ds m h.off entry.0 entry.1 (length (next ∷ entries) * 4) (turns_of (next ∷ entries)) (dwords_of (next ∷ entries))
-    ∙ ap (λ n. with_turns (more m.turns (turns_of (entry ∷ next ∷ entries))) (put_down q n instr ds 0 (dwords_of (entry ∷ next ∷ entries)) m)) all
+    ∙ put_both q instr ds m h.off entry.0 entry.1 (length (next ∷ entries) * 4) (turns_behind (next ∷ entries)) (dwords_of (next ∷ entries))
+    ∙ ap (λ n. with_turns (more m.turns (turns_behind (entry ∷ next ∷ entries))) (put_down q n instr ds 0 (dwords_of (entry ∷ next ∷ entries)) m)) all
 
 -- and each is seen to be taken
 all_taken : (q : Queue) (instr : Instr) (ds : Demands) (entries : List (ℕ × ℕ)) (m : State) → Takes q (length entries) instr ds m → m.turns ≤ 2 ^ 64 - 1 → HaveTurns entries → AreTaken q entries m

@@ -1,46 +1,19 @@
--- Plain entries, pushed to a queue one after the other with turns behind each, and how many of them fall through it.
-use Rattle.std.specs.Prelude.{◌≡◌, ℕ, ◌+◌, ◌-◌, ◌/◌, ◌≤◌, min, Bool, not, ◌&&◌, ◌==◌, true, is_none, List, [], ◌∷◌, ◌++◌, replicate, if◌then◌else◌}
+-- Plain entries that fall through their queue one after the other, and how many do.
+use Rattle.std.specs.Prelude.{◌≡◌, ℕ, ◌+◌, ◌-◌, ◌/◌, min, Bool, not, ◌&&◌, ◌==◌, true, is_none, List, [], ◌∷◌, replicate, if◌then◌else◌}
 use Rattle.risc_word.specs.declared.Instr.{Instr}
 use Rattle.risc_word.specs.Parts.{instr_off}
-use Rattle.fifo_model.specs.declared.Entry.{Entry}
 use Rattle.fifo_model.specs.declared.Queue.{Queue}
-use Rattle.fifo_model.specs.Queues.{front, lane_bytes, queue_state}
+use Rattle.fifo_model.specs.Queues.{front, queue_state}
 use Rattle.machine_model.specs.declared.Demands.{Demands}
 use Rattle.machine_model.specs.declared.Job.{Job}
 use Rattle.machine_model.specs.declared.Job.TheVariants.{Running}
 use Rattle.machine_model.specs.States.{State}
 use Rattle.machine_model.specs.Seen.{seen}
-use Rattle.machine_model.specs.Steps.{Push, Step, Turn, push, run}
+use Rattle.machine_model.specs.PlainEntries.{plain_entry}
+use Rattle.machine_model.specs.Steps.{Turn, push, run}
 use Rattle.machine_model.specs.Turns.{demand_on, turn}
 use Rattle.dma_machine.specs.FallThrough.{MovesWhole}
 use Rattle.dma_machine.specs.Stills.{is_still, none_served}
-
--- four valid pixel bytes within a line
-abbrev pub plain_entry : ℕ → Entry
-plain_entry dword = record { status = 0; dword = dword }
-
--- each with its DWORD, and the number of turns behind it
-abbrev pub plain_steps : Queue → List (ℕ × ℕ) → List Step
-plain_steps q [] = []
-plain_steps q (entry ∷ entries) = (Push q (plain_entry entry.0) ∷ replicate entry.1 Turn) ++ plain_steps q entries
-
-abbrev pub dwords_of : List (ℕ × ℕ) → List ℕ
-dwords_of [] = []
-dwords_of (entry ∷ entries) = lane_bytes entry.0 ++ dwords_of entries
-
-abbrev pub turns_of : List (ℕ × ℕ) → ℕ
-turns_of [] = 0
-turns_of (entry ∷ entries) = entry.1 + turns_of entries
-
-abbrev pub HaveTurns : List (ℕ × ℕ) → Type 0
-HaveTurns [] = Unit {0}
-HaveTurns (entry ∷ entries) = (1 ≤ entry.1) × HaveTurns entries
-
--- entries of these DWORDs, one behind the other, with so many turns in all, and at least one behind each
-pub record ArePlain (bytes : List ℕ) (sum : ℕ) (entries : List (ℕ × ℕ)) : Type 0 where
-  pub dwords : dwords_of entries ≡ bytes
-  pub turns : turns_of entries ≡ sum
-  pub each : HaveTurns entries
 
 -- the first turn behind each takes it whole, and those behind that turn do nothing
 abbrev pub AreTaken : Queue → List (ℕ × ℕ) → State → Type 0

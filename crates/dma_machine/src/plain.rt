@@ -9,7 +9,8 @@ use page_ram::Ram;
 impl<R: Ram> Engine<R> {
     ghost use Rattle.dma_machine.specs.FallThrough.{put_down};
     ghost use Rattle.dma_machine.specs.Needs.{CanWork};
-    ghost use Rattle.dma_machine.specs.Plain.{ArePlain, AreTaken, lets_plain, plain_room, plain_steps};
+    ghost use Rattle.dma_machine.specs.Plain.{AreTaken, lets_plain, plain_room};
+    ghost use Rattle.machine_model.specs.PlainEntries.{ArePlain, plain_steps};
     ghost use Rattle.dma_machine.specs.Stills.{StillIf};
     ghost use Rattle.dma_machine.specs.Views.{state_of};
     ghost use Rattle.fifo_model.specs.Queues.{IsFifo};

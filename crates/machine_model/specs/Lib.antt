@@ -5,3 +5,4 @@ pub mod Steps
 pub mod Accesses
 pub mod Safety
 pub mod Seen
+pub mod PlainEntries

@@ -9,7 +9,8 @@ use Rattle.machine_model.specs.States.{State}
 use Rattle.machine_model.specs.Steps.{Turn, push, run}
 use Rattle.machine_model.specs.Turns.{turn}
 use Rattle.dma_machine.specs.FallThrough.{MovesWhole, moved_whole}
-use Rattle.dma_machine.specs.Plain.{AreTaken, plain_entry, plain_room, plain_steps}
+use Rattle.dma_machine.specs.Plain.{AreTaken, plain_room}
+use Rattle.machine_model.specs.PlainEntries.{plain_entry, plain_steps}
 use Rattle.dma_machine.specs.Stills.{is_still}
 use Rattle.machine_watch.specs.Watches.{Notes, TellsNothingIf, kept_after, run_room, watched, watching}
 use Rattle.machine_watch.proofs.Keeping.{kept-append, still_keeps}

@@ -2,7 +2,7 @@
 
 ghost use Rattle.std.specs.Prelude.{◌≡◌, ◌<◌, ◌≤◌, ◌*◌, ◌∷◌, [], List, false, length, replicate, ℕ};
 ghost use Rattle.dma_machine.specs.Facts.{report_of};
-ghost use Rattle.dma_machine.specs.Plain.{ArePlain, plain_steps};
+ghost use Rattle.machine_model.specs.PlainEntries.{ArePlain, plain_steps};
 ghost use Rattle.irq_status.specs.Writes.{IsWrite};
 ghost use Rattle.machine_model.specs.Steps.{Control, Host, Push, Turn, control_pushed_as, pushed_as};
 ghost use Rattle.machine_watch.specs.Watches.{run_room, watched, watching};

@@ -1,5 +1,5 @@
 use Rattle.std.proofs.Common.{length, ap, ◌∙◌}
-use Rattle.dma_machine.specs.Plain.{plain_steps}
+use Rattle.machine_model.specs.PlainEntries.{plain_steps}
 use Rattle.machine_watch.specs.Watches.{watched}
 use Rattle.machine_watch.proofs.Running.{all_keep, lets_run, run_watched, tells_nothing}
 use Rattle.machine_watch.proofs.watched.Watched.push_plain.Goals as goal
