@@ -1,4 +1,4 @@
--- How a command ends: its refusal is said, or what it made is delivered.
+-- How a command ends: its refusal is reported, or what it made is delivered.
 use Rattle.std.proofs.Common.{◌≡◌, ℕ, zero, suc, ◌<◌, ◌⊎◌, inl, inr, All, Bool, true, false, List, [], ◌∷◌, ◌++◌, length, take, slice_index_or, Option, refl, sym, ap, subst, ◌∙◌, arith}
 use Rattle.capture_desk.specs.declared.calls.Call.{Call}
 use Rattle.capture_desk.specs.Desks.{Inputs, IsAllowed, Seen, Tells, Told, after_say, counted, said_by}
@@ -44,7 +44,7 @@ no_memory : (inputs : List Input) (old new : Seen) → StopsIn inputs refusal.No
 no_memory [] old new = refl
 no_memory (input ∷ inputs) old new = inl tt
 
--- where there is no memory for the text of a refusal, memory runs out at the input that it is of
+-- out of memory for the text of a refusal: then memory runs out at the input that the refusal is of
 short_at : (kept : Bool) (name : List ℕ) (told : Option Inputs) (calls : List Call) → kept ≡ true → IsOpened name told calls → IsShortAt kept name told calls
 short_at true name told calls is h = h
 short_at false name told calls is h = absurd (cc)
@@ -139,7 +139,7 @@ module _ (task : Task) (product : Product) (old mid new : Seen) (took : Took (in
 
 -- ---- names that may be created
 
--- those of outputs may still be once the inputs are taken
+-- the names of outputs may still be created once the inputs are taken
 pub still_allowed : (names others : List (List ℕ)) (old mid : Told) → others ≡ names → apart mid ≡ apart old → AreAllowed names old.may_create → AreAllowed others mid.may_create
 still_allowed names others old mid same taken h =
     subst (λ ns. AreAllowed ns mid.may_create) (sym same) (subst (AreAllowed names) (sym (ap (λ (t : Told). t.may_create) taken)) h)

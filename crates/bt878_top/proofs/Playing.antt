@@ -29,7 +29,7 @@ first_stops first second r refusal old mid is stopped = takes_before first [] ol
 pub both_taken : (first second : Input) (old mid new : Seen) → Took (first ∷ []) old mid → Took (second ∷ []) mid new → Took (first ∷ second ∷ []) old new
 both_taken first second old mid new one two = took_then (first ∷ []) old mid (second ∷ []) new one two
 
--- what holds of an input that is told still, and what follows
+-- what holds of an input holds where the desk tells the same, and so does what follows from it
 pub still_told : (name : List ℕ) (old mid : Told) (P Q : List ℕ → Type 0) → apart mid ≡ apart old → ((bytes : List ℕ) → P bytes → Q bytes) → OfInput name mid.inputs P → OfInput name old.inputs Q
 still_told name old mid P Q same f h = OfInput-map name old.inputs P Q f (subst (λ inputs. OfInput name inputs P) (same_inputs mid old same) h)
 
@@ -40,7 +40,7 @@ played_as bytes a b x y e f (steps, reads, is) = (steps, reads, sym f ∙ is ∙
 -- ---- the two descriptions of a chain, and a stream
 
 module _ (one two stream : List ℕ) (first : Desc) (old mid : Seen) (took : Took (a_first_description one ∷ []) old mid) (reads : OfInput one old.told.inputs (λ bytes. IsFrameFile bytes first)) where
-  -- the first is told still
+  -- the desk still tells the first
   reads_still : OfInput one mid.told.inputs (λ bytes. IsFrameFile bytes first)
   reads_still = still_told one mid.told old.told (λ bytes. IsFrameFile bytes first) (λ bytes. IsFrameFile bytes first) (sym took.told) (λ bytes is. is) reads
 
@@ -55,7 +55,7 @@ module _ (one two stream : List ℕ) (first : Desc) (old mid : Seen) (took : Too
       (stopped_before (a_first_description one) (a_second_description one two ∷ []) old new (a_stream_file true stream ∷ []) refusal
       (stopped_then (a_first_description one ∷ []) old mid (a_second_description one two ∷ []) refusal new (refl, tt) took h))
 
-  -- it does
+  -- it makes a chain with the first
   module _ (last : Seen) (pairs : Took (a_second_with first two ∷ []) mid last) where
     descriptions_taken : Took (a_first_description one ∷ a_second_description one two ∷ []) old last
     descriptions_taken =

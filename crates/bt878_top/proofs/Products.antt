@@ -79,7 +79,7 @@ module _ (r : RunMeaning) (inputs : Option Inputs) (product : Product) where
     tt,
   )
 
--- a run of a sound program keeps inside
+-- a run of a sound program stays inside
 module _ (r : Ran) (sound : IsSound r.program) where
   run_makes : (Gives : List ℕ → RiscProgram → ℕ → Type 0) (a b : List ℕ) → IsRun Gives a b r → (files given : List (List ℕ × List ℕ)) → given ≡ files → (Says : List ℕ → Type 0) (text : List ℕ) → Says text →
       RunMakes files Says (record { files = given; text = text }) r

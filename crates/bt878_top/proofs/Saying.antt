@@ -1,4 +1,4 @@
--- A text that is said piece by piece.
+-- A text that is printed piece by piece.
 use Rattle.std.proofs.Common.{◌≡◌, ℕ, ◌+◌, ◌<◌, List, [], ◌∷◌, Result, ◌++◌, ◌∙◌, length, drop, get_or, sym, ap, subst, append_assoc}
 use Rattle.std.specs.List.{flat_map}
 use Rattle.std.proofs.lemmas.List.{drop_more}
@@ -11,7 +11,7 @@ use Rattle.capture_desk.proofs.Telling.{say_both, say_more}
 use Rattle.capture_desk.proofs.Laws.{after_say-after_say}
 use Rattle.capture_desk.proofs.Pieces as pieces
 
--- a front of a text was said, but not the whole
+-- the first bytes of a text were printed, but not the whole
 abbrev pub BreaksOff : List ℕ → Told → Told → Type 0
 BreaksOff = pieces.BreaksOff after_say
 
@@ -24,7 +24,7 @@ breaks_off_after = pieces.breaks_off_after after_say after_say-after_say
 pub breaks_off_within : (a c : List ℕ) (old new : Told) → BreaksOff a old new → BreaksOff (a ++ c) old new
 breaks_off_within = pieces.breaks_off_within after_say
 
--- a piece between what was said and the rest
+-- a piece between what was printed and the rest
 pub piece_said : (said piece rest front whole : List ℕ) (old mid new : Told) → piece ++ rest ≡ front → said ++ front ≡ whole → mid ≡ after_say said old →
     new ≡ after_say piece mid → ((said ++ piece) ++ rest ≡ whole) × (new ≡ after_say (said ++ piece) old)
 piece_said said piece rest front whole old mid new split so_far before is = (
@@ -39,7 +39,7 @@ piece_breaks_off said piece rest front whole old mid new split so_far before is 
     (breaks_off_after said front old mid new before
     (subst (λ (text : List ℕ). BreaksOff text mid new) split (breaks_off_within piece rest mid new is)))
 
--- ---- what is counted and told
+-- ---- what is counted, and what the desk tells
 
 pub said_both : (a b : List ℕ) (old mid new : Seen) → OnlySaid a old mid → OnlySaid b mid new → OnlySaid (a ++ b) old new
 said_both a b old mid new one two = (two.0 ∙ one.0, two.1 ∙ one.1, say_both a b old.calls mid.calls new.calls one.2 two.2)
@@ -48,7 +48,7 @@ pub fault_later : {E : Type 0} (a b whole : List ℕ) (failed : E) (old mid new 
     IsWriteFault old new × Tells (Say ∷ []) old.calls new.calls
 fault_later a b whole failed old mid new one two = ((two.0.0 ∙ one.0, two.0.1 ∙ ap counted one.1, two.0.2), say_more a old.calls mid.calls new.calls one.2 two.1)
 
--- the text of two parts, of which the first was said
+-- the text of two parts, of which the first was printed
 pub then_said : {A E : Type 0} (a b : List ℕ) (old mid new : Told) (result : Result A E) → mid ≡ after_say a old → Puts b result after_say mid new →
     Puts (a ++ b) result after_say old new
 then_said = pieces.puts_then after_say after_say-after_say

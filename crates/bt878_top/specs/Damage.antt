@@ -1,4 +1,4 @@
--- What is said of the rows of a description after a whole stream.
+-- What is printed of the rows of a description after a whole stream.
 use Rattle.std.specs.Prelude.{◌≡◌, List, ℕ, []}
 use Rattle.capture_desc.specs.declared.desc.Desc.{Desc}
 use Rattle.damage_map.specs.Laws.{map_after}
@@ -7,7 +7,7 @@ use Rattle.damage_text.specs.Texts.{damage_text}
 use Rattle.damage_map.specs.Tracks.{track_notes}
 use Rattle.stream_play.specs.Plays.{HasPlayedWatched}
 
--- a machine of the description took its steps, and the text tells of its rows
+-- a machine of the description took its steps, and the text is that of its rows
 pub record TellsPlayed (bytes : List ℕ) (d : Desc) (text : List ℕ) : Type 0 where
   pub map : Map
   pub played : HasPlayedWatched track_notes bytes (map_after d d.fill []) map

@@ -89,7 +89,7 @@ fn produce<'a, D: Desk>(
     }
 }
 
-/// Does a task: what it makes of its inputs is delivered, or its refusal is said.
+/// Does a task: what it makes of its inputs is delivered, or its refusal is reported.
 fn answer_task<D: Desk>(alloc: Global, task: Task<'_>, desk: &mut D) -> Answer
     requires opens { AreAllowed (reads task) (D.seen desk.old).told.may_open }
     requires creates { AreAllowed (writes task) (D.seen desk.old).told.may_create }
@@ -114,21 +114,21 @@ fn answer_words<D: Desk>(alloc: Global, words: &[&str], desk: &mut D) -> Answer
     }
 }
 
-/// Does what the words after the program's name ask for, over the files of a desk. It opens no name but
-/// the command's inputs, one after the other, each judged before the next is opened; creates no name but
-/// its outputs, and only after all inputs were found good; and says its text last. What a clause says of
-/// a content holds where the desk tells it. (The commands, their texts and their order of work are this
-/// project's own rules.)
+/// Does what the words after the program's name ask for, over the files of a desk. It opens the command's
+/// inputs and no other name, one after the other, each checked before the next is opened. It creates the
+/// outputs and no other name, and only after all inputs were found good. It prints its text last. A clause
+/// about a content holds where the desk tells it. (The commands, their texts and their order of work are
+/// this project's own rules.)
 pub fn bt878<D: Desk>(alloc: Global, words: &[&str], desk: &mut D) -> Answer
     requires opens { AreNames (names_read (task_of words.now)) (D.seen desk.old).told.may_open }
     requires creates { AreNames (names_written (task_of words.now)) (D.seen desk.old).told.may_create }
 
-    // All that is promised, by cases on the words and the answer. What follows says its parts.
+    // All that is promised, by cases on the words and the answer. The clauses that follow are its parts.
     ensures answers { Answers (task_of words.now) result
         (D.seen desk.old)
         (D.seen desk.new) }
 
-    // The words: Usage comes exactly where they have a fault, and is the first; so NoMemory never
+    // The words: Usage comes exactly where they have a fault, and has the first; so NoMemory never
     // comes there.
     ensures usage { IsUsage (task_of words.now) result }
 
@@ -145,7 +145,7 @@ pub fn bt878<D: Desk>(alloc: Global, words: &[&str], desk: &mut D) -> Answer
         (ShowsLast image.now (D.seen desk.old).told (D.seen desk.new).told) }
 
     // The same at Done of `capture`, with the program and the fill of the description; and the program
-    // file is the one spelling of the program that ran and of its fill.
+    // file is the canonical encoding of the program that ran and of its fill.
     ensures captured { (result ≡ Answer.Done) → (desc stream program image : Word) →
         task_of words.now ≡ Ok (Task.Capture desc stream program image) →
         OfRun GivesCompiled desc.now stream.now (D.seen desk.old).told.inputs
@@ -153,7 +153,7 @@ pub fn bt878<D: Desk>(alloc: Global, words: &[&str], desk: &mut D) -> Answer
         × ShowsLast image.now (D.seen desk.old).told (D.seen desk.new).told r) }
 
     // At Done of `ring` the program and the fill that ran are those of the ring file, and both files are as at
-    // Done of `capture`; the text tells how many blocks the steps of the whole stream end, and then the report.
+    // Done of `capture`; the text has how many blocks the steps of the whole stream end, and then the report.
     ensures ringed { (result ≡ Answer.Done) → (ring stream program image : Word) →
         task_of words.now ≡ Ok (Task.Ring ring stream program image) →
         OfRingRun ring.now stream.now (D.seen desk.old).told.inputs
@@ -161,8 +161,8 @@ pub fn bt878<D: Desk>(alloc: Global, words: &[&str], desk: &mut D) -> Answer
         × ShowsImage image.now (D.seen desk.new).told r
         × SaysBlocks (D.seen desk.old).told (D.seen desk.new).told x r) }
 
-    // At Done of `run`, `capture`, `damage`, `ring` and `trace`: at every place of those steps, what the turn there writes is granted,
-    // what it fetches is a word of the program, and OCERR is 0. That a turn stores nowhere else and reads no
+    // At Done of `run`, `capture`, `damage`, `ring` and `trace`: at every place of those steps, what the turn there writes is
+    // granted, what it fetches is a word of the program, and OCERR is 0. That a turn stores nowhere else and reads no
     // other word are the laws `turns_store_what_is_listed` and `turns_read_what_is_listed` of machine_model.
     ensures inside { (result ≡ Answer.Done) →
         OfRan (task_of words.now) (D.seen desk.old).told.inputs StaysInside }
@@ -182,7 +182,7 @@ pub fn bt878<D: Desk>(alloc: Global, words: &[&str], desk: &mut D) -> Answer
 
     // At Done of these, for every valid description whose program is the one that ran (for `capture` the
     // description that was read): the same after the first signal of a field, and then RISCI is set and the RISC
-    // status tells the field.
+    // status is that of the field.
     ensures signalled_pictures { (result ≡ Answer.Done) →
         OfRan (task_of words.now) (D.seen desk.old).told.inputs (OfSteps ShowsSignalledPictures) }
 
@@ -196,21 +196,21 @@ pub fn bt878<D: Desk>(alloc: Global, words: &[&str], desk: &mut D) -> Answer
     ensures no_fault_in_rings { (result ≡ Answer.Done) →
         OfRan (task_of words.now) (D.seen desk.old).told.inputs (OfSteps RingsShowNoFault) }
 
-    // At Done of `damage` the text tells, for each described field, which of its rows are whole lines at the
+    // At Done of `damage` the text has for each described field which of its rows are whole lines at the
     // field's last signal over the steps of the whole stream, or that there was none; nothing is created.
     ensures damaged { (result ≡ Answer.Done) → (desc stream : Word) →
         task_of words.now ≡ Ok (Task.Damage desc stream) →
         OfDescRun desc.now stream.now (D.seen desk.old).told.inputs
         (SaysDamage (D.seen desk.old).told (D.seen desk.new).told) }
 
-    // At Done of these, for every description and picture as in `signalled_pictures`: where the
-    // field that arrived is the last one that is signalled, every row of it is whole (so `damage` says it).
+    // At Done of these five, for every description and picture as in `signalled_pictures`: where the
+    // field that arrived is the last one that is signalled, every row of it is whole (so `damage` prints it).
     ensures arrived_rows { (result ≡ Answer.Done) →
         OfRan (task_of words.now) (D.seen desk.old).told.inputs (OfSteps HasArrivedRows) }
 
     // At Done of these five, for every valid description whose program is the one that ran, every field of it and
     // every signal of the field, whatever came before: right after the signal each byte of a row that is whole and
-    // isn't clipped stands at its place, where it has one, and is that byte of the line that the row's instructions took;
+    // isn't clipped is at its place, where it has one, and is that byte of the line that the row's instructions took;
     // the entries of this line entered the queue one after another.
     ensures whole_rows { (result ≡ Answer.Done) →
         OfRan (task_of words.now) (D.seen desk.old).told.inputs (OfSteps HoldsWholeRows) }
@@ -223,12 +223,12 @@ pub fn bt878<D: Desk>(alloc: Global, words: &[&str], desk: &mut D) -> Answer
         OfLiveRun first.now second.now stream.now (D.seen desk.old).told.inputs
         (ShowsLastLive image.now (D.seen desk.old).told (D.seen desk.new).told) }
 
-    // At every place of that live run, what the turn there writes is granted, what it fetches is a word of the
-    // chain, and OCERR is 0. For every part that is the fragment of a description, every field of it, every
+    // The part of a slot for a buffer is the fragment of the first description for buffer 0, and of the second for
+    // buffer 1. At every place of that live run, what the turn there writes is granted, what it fetches is a word of
+    // the chain, and OCERR is 0. For every part that is the fragment of a description, every field of it, every
     // picture and all places: after the first signal of a field that arrived in order and lost nothing, memory
-    // shows the picture and is as it was everywhere else, RISCI is set and the RISC status tells the field, and
-    // no turn up to the signal sets FDSR; and once all entries were pushed the signal comes within a bound of turns. The
-    // part of a slot for a buffer is the fragment of the first description for buffer 0, and of the second for buffer 1.
+    // shows the picture and is as it was everywhere else, RISCI is set and the RISC status is that of the field; no
+    // turn up to the signal sets FDSR; and once all entries were pushed the signal comes within a bound of turns.
     ensures live_fragments { (result ≡ Answer.Done) →
         OfLive (task_of words.now) (D.seen desk.old).told.inputs HasFragments }
     ensures live_inside { (result ≡ Answer.Done) →
@@ -240,7 +240,7 @@ pub fn bt878<D: Desk>(alloc: Global, words: &[&str], desk: &mut D) -> Answer
     ensures live_in_time { (result ≡ Answer.Done) →
         OfLive (task_of words.now) (D.seen desk.old).told.inputs (OfLiveSteps LiveRunSignalsInTime) }
 
-    // At Done of the other commands: what was written and said.
+    // At Done of the other commands: what was written and printed.
     ensures accepted { (result ≡ Answer.Done) → (program : Word) →
         task_of words.now ≡ Ok (Task.Verify program) →
         SaysAccepted program.now (D.seen desk.old).told (D.seen desk.new).told }
@@ -257,7 +257,7 @@ pub fn bt878<D: Desk>(alloc: Global, words: &[&str], desk: &mut D) -> Answer
         task_of words.now ≡ Ok (Task.Assemble text program) →
         IsAssembled text.now program.now (D.seen desk.old).told (D.seen desk.new).told }
 
-    // At Done of `check` the program is sound and shows each described field, and what is found of them was said.
+    // At Done of `check` the program is sound and shows each described field, and what is found of them was printed.
     ensures checked { (result ≡ Answer.Done) → (program desc : Word) →
         task_of words.now ≡ Ok (Task.Check program desc) →
         SaysChecked program.now desc.now (D.seen desk.old).told (D.seen desk.new).told }
@@ -281,10 +281,10 @@ pub fn bt878<D: Desk>(alloc: Global, words: &[&str], desk: &mut D) -> Answer
     // At Done both counts of faults are as they were.
     ensures done { (result ≡ Answer.Done) → SameCounts (D.seen desk.old) (D.seen desk.new) }
 
-    // When each refusal comes, and that it must: a fault of reading where one rose, or where an input isn't there, unless
-    // memory ran out before it was opened, which it doesn't at the first; and, but for want of memory and faults of reading,
-    // `Malformed`, `Rejected`, `BadDesc`, `BadGeometry`, `BadChain`, `BadRing`, `BadText` and `Differs` exactly where
-    // the first bad input is so.
+    // When each refusal comes, and that it must. `ReadFault` comes where a call at reading failed, and where an input isn't
+    // there and those before it are good; memory may run out before that input is opened, but not before the first is.
+    // `Malformed`, `Rejected`, `BadDesc`, `BadGeometry`, `BadChain`, `BadRing`, `BadText` and `Differs` come exactly where
+    // the first bad input is so, unless memory runs out or a read fails.
     ensures read_fault { (result ≡ Answer.ReadFault) →
         IsUnreadOf (names_read (task_of words.now))
         (D.seen desk.old)
@@ -308,7 +308,7 @@ pub fn bt878<D: Desk>(alloc: Global, words: &[&str], desk: &mut D) -> Answer
         (D.seen desk.old)
         (D.seen desk.new) }
 
-    // Good inputs and no fault of the desk give Done, or want of memory.
+    // Good inputs and no fault of the desk give Done, or NoMemory.
     ensures complete { AreTold (D.seen desk.old).told.inputs →
         IsGood (task_of words.now) (D.seen desk.old).told.inputs →
         ¬ (ReadsRose
@@ -319,14 +319,14 @@ pub fn bt878<D: Desk>(alloc: Global, words: &[&str], desk: &mut D) -> Answer
         (D.seen desk.new)) →
         ((result ≡ Answer.Done) ⊎ (result ≡ Answer.NoMemory)) }
 
-    // A refusal creates nothing and says its text, or a part of it where the desk met a fault of
+    // A refusal creates nothing and prints its text, or a part of it where the desk met a fault of
     // writing.
     ensures refused { IsRefusal result →
         OnlySays (answer_text result)
         (D.seen desk.old)
         (D.seen desk.new) }
 
-    // A fault of writing: when it comes, and what stands after it.
+    // A fault of writing: when it comes, and what is there after it.
     ensures write_fault { (result ≡ Answer.WriteFault) →
         WritesRose
         (D.seen desk.old)
@@ -335,14 +335,14 @@ pub fn bt878<D: Desk>(alloc: Global, words: &[&str], desk: &mut D) -> Answer
         StandsAt (task_of words.now) (D.seen desk.old).told (D.seen desk.new).told }
 
     // The order of work, where the desk tells its calls. Each input is opened at most once, in the order of the
-    // words, after the one before it was read through and found good; where all are taken, exactly once, and read
-    // until its end is found or one byte beyond its limit is read. A read asks for 65,536 bytes, or for what is left
-    // up to that byte; each piece of a stream is read only where those before it hold no fault. The outputs
+    // words, after the one before it was read through and found good. Where all are taken, each is opened exactly once,
+    // and read until its end is found or one byte beyond its limit is read. A read asks for 65,536 bytes, or for what is
+    // left up to that byte; each piece of a stream is read only where those before it hold no fault. The outputs
     // are created in their order, each once and each finished before the next, after all inputs were found
-    // good. The text is said last, that of a refusal by one run of calls.
+    // good. The text is printed last, that of a refusal by one run of calls.
     ensures order { IsInOrder (task_of words.now) result (D.seen desk.old) (D.seen desk.new) }
 
-    // Whatever the answer, no call of the desk follows one that fails at writing: at most one does, and it
+    // Whatever the answer, no call of the desk follows one that fails at writing: at most one fails so, and it
     // is the last of all.
     ensures last { EndsAtFault (D.seen desk.old) (D.seen desk.new) }
 

@@ -29,7 +29,7 @@ impl Model for Frames {
 }
 
 impl Frames {
-    /// So many frames.
+    /// `count` frames, 1 to 16.
     pub fn new(count: u8) -> Frames
         requires { (1 ≤ count) × (count ≤ 16) }
         ensures { result ≡ count }
@@ -37,7 +37,7 @@ impl Frames {
         Frames { count }
     }
 
-    /// How many they are.
+    /// How many frames, 1 to 16.
     pub fn count(&self) -> u8
         ensures value { result ≡ self.now }
         ensures range { (1 ≤ result) × (result ≤ 16) }

@@ -15,7 +15,7 @@ use command_texts::{Refusal, made_text};
 use field_stream::Made;
 use std::alloc::Global;
 
-/// `make DESC SEED FRAMES STREAM`: writes a generated stream of so many frames of the description, and says
+/// `make DESC SEED FRAMES STREAM`: writes a generated stream of so many frames of the description, and prints
 /// how many fields and data entries it has.
 pub fn make<'a, D: Desk>(
     alloc: Global,

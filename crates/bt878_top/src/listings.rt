@@ -29,8 +29,8 @@ pub struct Listed {
     pub memory: Vec<u8>,
 }
 
-/// `list PROG`: reads a program file, whose program need not be sound, and makes ready what its listing takes: saying it
-/// takes no more memory.
+/// `list PROG`: reads a program file, whose program need not be sound, and takes the memory for its listing: printing it
+/// takes no more.
 pub fn list<'a, D: Desk>(
     alloc: Global,
     program: &'a str,
@@ -45,8 +45,8 @@ pub fn list<'a, D: Desk>(
     Ok(Produced::Listing(Listed { program, memory }))
 }
 
-/// Says the lines of words that stand from an address on, piece by piece. Its piece of text stands on the stack, so it is never
-/// inlined: a frame is touched page by page when it begins.
+/// Prints the lines of the words from an address on, piece by piece. Its piece of text is on the stack, so it is never
+/// inlined: a function touches its stack frame page by page where it begins.
 #[inline(never)]
 fn say_words<D: Desk>(base: u32, words: &[u32], desk: &mut D) -> Result<(), Failed>
     requires { base + 4 * length words.now ≤ 2 ^ 32 }
@@ -63,7 +63,7 @@ fn say_words<D: Desk>(base: u32, words: &[u32], desk: &mut D) -> Result<(), Fail
     Ok(())
 }
 
-/// Says the first line of a listing by the base; never inlined either.
+/// Prints the first line of a listing by the base; never inlined either.
 #[inline(never)]
 fn say_base<D: Desk>(base: u32, desk: &mut D) -> Result<(), Failed>
     ensures says { Puts (base_line base) result after_say (D.seen desk.old).told (D.seen desk.new).told }
@@ -74,7 +74,7 @@ fn say_base<D: Desk>(base: u32, desk: &mut D) -> Result<(), Failed>
     say_all(desk, lines.as_str().as_bytes())
 }
 
-/// Says the first line of a span; never inlined either.
+/// Prints the first line of a span; never inlined either.
 #[inline(never)]
 fn say_address<D: Desk>(at: u32, desk: &mut D) -> Result<(), Failed>
     ensures says { Puts (span_line at) result after_say (D.seen desk.old).told (D.seen desk.new).told }
@@ -85,7 +85,7 @@ fn say_address<D: Desk>(at: u32, desk: &mut D) -> Result<(), Failed>
     say_all(desk, lines.as_str().as_bytes())
 }
 
-/// Says the line behind the last span; never inlined either.
+/// Prints the line behind the last span; never inlined either.
 #[inline(never)]
 fn say_entry<D: Desk>(entry: u32, desk: &mut D) -> Result<(), Failed>
     ensures says { Puts (entry_line entry) result after_say (D.seen desk.old).told (D.seen desk.new).told }
@@ -96,7 +96,7 @@ fn say_entry<D: Desk>(entry: u32, desk: &mut D) -> Result<(), Failed>
     say_all(desk, lines.as_str().as_bytes())
 }
 
-/// Says the lines of a span.
+/// Prints the lines of a span.
 fn say_span<D: Desk>(at: u32, words: &[u32], desk: &mut D) -> Result<(), Failed>
     requires { at + 4 * length words.now ≤ 2 ^ 32 }
     ensures says { Puts (span_lines (span at words.now)) result after_say (D.seen desk.old).told (D.seen desk.new).told }
@@ -106,7 +106,7 @@ fn say_span<D: Desk>(at: u32, words: &[u32], desk: &mut D) -> Result<(), Failed>
     say_words(at, words, desk)
 }
 
-/// Says the lines of spans, one after the other.
+/// Prints the lines of spans, one after the other.
 fn say_spans<D: Desk>(spans: &Spans, desk: &mut D) -> Result<(), Failed>
     requires { All (λ s. end_of s ≤ 2 ^ 32) spans.now }
     ensures says { Puts (flat_map span_lines spans.now) result after_say (D.seen desk.old).told (D.seen desk.new).told }
@@ -118,7 +118,7 @@ fn say_spans<D: Desk>(spans: &Spans, desk: &mut D) -> Result<(), Failed>
     Ok(())
 }
 
-/// Says the lines of spans, and the entry behind them.
+/// Prints the lines of spans, and the entry behind them.
 fn say_spans_and_entry<D: Desk>(program: &Program, desk: &mut D) -> Result<(), Failed>
     ensures says { Puts (lines_by false program.now) result after_say (D.seen desk.old).told (D.seen desk.new).told }
     ensures counts { SayCounts (lines_by false program.now) result (D.seen desk.old) (D.seen desk.new) }
@@ -127,7 +127,7 @@ fn say_spans_and_entry<D: Desk>(program: &Program, desk: &mut D) -> Result<(), F
     say_entry(program.base(), desk)
 }
 
-/// Says the base, and the lines of the words behind it.
+/// Prints the base, and the lines of the words behind it.
 fn say_base_and_words<D: Desk>(program: &Program, desk: &mut D) -> Result<(), Failed>
     requires { begins_at_base program.now ≡ true }
     ensures says { Puts (lines_by true program.now) result after_say (D.seen desk.old).told (D.seen desk.new).told }
@@ -137,7 +137,7 @@ fn say_base_and_words<D: Desk>(program: &Program, desk: &mut D) -> Result<(), Fa
     say_words(program.base(), program.words(), desk)
 }
 
-/// Says the lines of all words of a program, by its base or span by span.
+/// Prints the lines of all words of a program, by its base or span by span.
 fn say_all_words<D: Desk>(program: &Program, desk: &mut D) -> Result<(), Failed>
     ensures says { Puts (all_word_lines program.now) result after_say (D.seen desk.old).told (D.seen desk.new).told }
     ensures counts { SayCounts (all_word_lines program.now) result (D.seen desk.old) (D.seen desk.new) }
@@ -149,8 +149,8 @@ fn say_all_words<D: Desk>(program: &Program, desk: &mut D) -> Result<(), Failed>
     }
 }
 
-/// Says the listing of a program. It takes no memory. Where the desk fails, a front of the listing was
-/// said.
+/// Prints the listing of a program. It takes no memory. Where the desk fails, the first bytes of the listing
+/// were printed.
 fn say_listing<D: Desk>(listed: &Listed, desk: &mut D) -> Result<(), Failed>
     ensures says { Puts (listing_with listed.now.program listed.now.memory.items) result after_say (D.seen desk.old).told (D.seen desk.new).told }
     ensures counts { SayCounts (listing_with listed.now.program listed.now.memory.items) result (D.seen desk.old) (D.seen desk.new) }
@@ -159,7 +159,7 @@ fn say_listing<D: Desk>(listed: &Listed, desk: &mut D) -> Result<(), Failed>
     say_all(desk, &listed.memory)
 }
 
-/// Says the listing of a program as the text of Done.
+/// Prints the listing of a program as the text of Done.
 pub fn say_whole<D: Desk>(listed: &Listed, desk: &mut D) -> Answer
     ensures { Finishes [] (listing_with listed.now.program listed.now.memory.items) result (D.seen desk.old) (D.seen desk.new) }
 {

@@ -17,7 +17,7 @@ use ring_machine::{BlockCount, RingMachine};
 use std::alloc::{AllocError, Global};
 use stream_play::machine_of_sound;
 
-/// The machine of a description, whose program is let go of.
+/// The machine of a description, of which no more is kept than the program and the fill.
 pub fn machine_of_description(
     alloc: Global,
     checked: Checked,
@@ -28,7 +28,7 @@ pub fn machine_of_description(
     machine_of_sound(alloc, checked.into_program(alloc)?, fill)
 }
 
-/// The machine of a description, of whose rows nothing is told yet.
+/// The machine of a description, of whose rows nothing is known yet.
 pub fn map_of(alloc: Global, checked: &Checked) -> Result<Watched<PageRam, Track>, AllocError>
     ensures { IfOk result (λ map. map ≡ map_after checked.now checked.now.fill []) }
 {

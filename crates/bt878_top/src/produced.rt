@@ -63,11 +63,11 @@ pub enum Outputs<'a> {
 /// What a command makes of its inputs.
 #[derive(Drop)]
 pub enum Produced<'a> {
-    /// A text that stands ready.
+    /// A text that is ready.
     Ready(&'static str),
     /// What is found of the fields of a description.
     Checked(CheckText),
-    /// A listing, which is said piece by piece.
+    /// A listing, which is printed piece by piece.
     Listing(Listed),
     /// A trace, which is printed piece by piece.
     Traced(StreamTrace<PageRam>),
@@ -84,8 +84,8 @@ pub enum Produced<'a> {
 }
 
 impl Outputs<'_> {
-    /// Writes the outputs, one after the other, says a text, and answers `Done`; `WriteFault` up to the first call
-    /// that fails, after which none follows.
+    /// Writes the outputs, one after the other, prints a text, and answers `Done`. Where a call fails it answers
+    /// `WriteFault`, and no call follows.
     fn deliver<D: Desk>(&self, text: &str, desk: &mut D) -> Answer
         requires { AreAllowed (names_of (files_of self.now)) (D.seen desk.old).told.may_create }
         ensures { Finishes (files_of self.now) text.now result (D.seen desk.old) (D.seen desk.new) }
@@ -130,8 +130,8 @@ impl Outputs<'_> {
 }
 
 impl Produced<'_> {
-    /// Writes the outputs of a command, one after the other, says its text, and answers `Done`; `WriteFault` up to
-    /// the first call that fails, after which none follows.
+    /// Writes the outputs of a command, one after the other, prints its text, and answers `Done`. Where a call
+    /// fails it answers `WriteFault`, and no call follows.
     pub fn deliver<D: Desk>(self, desk: &mut D) -> Answer
         requires { AreAllowed (names_of (product_of self).files) (D.seen desk.old).told.may_create }
         ensures { Finishes (product_of self.entry).files (product_of self.entry).text result (D.seen desk.old) (D.seen desk.new) }
@@ -147,7 +147,7 @@ impl Produced<'_> {
     }
 }
 
-/// Says a text, where there is no output.
+/// Prints a text, where there is no output.
 pub fn say_alone<D: Desk>(text: &str, desk: &mut D) -> Answer
     ensures { Finishes [] text.now result (D.seen desk.old) (D.seen desk.new) }
 {
@@ -155,7 +155,7 @@ pub fn say_alone<D: Desk>(text: &str, desk: &mut D) -> Answer
     finish(&outputs, text, desk)
 }
 
-/// Writes one output and says a text.
+/// Writes one output and prints a text.
 fn one_output<D: Desk>(name: &str, content: Contents<'_>, text: &str, desk: &mut D) -> Answer
     requires { IsAllowed name.now (D.seen desk.old).told.may_create }
     ensures { Finishes ((name.now, bytes_of content.entry) ∷ []) text.now result (D.seen desk.old) (D.seen desk.new) }
@@ -163,7 +163,7 @@ fn one_output<D: Desk>(name: &str, content: Contents<'_>, text: &str, desk: &mut
     finish(&[Output { name, content }], text, desk)
 }
 
-/// Writes the program that a machine ran and the image of its memory, and says a text.
+/// Writes the program that a machine ran and the image of its memory, and prints a text.
 fn program_and_image<D: Desk>(
     program: &str,
     fill: u8,

@@ -14,7 +14,7 @@ use command_texts::{ACCEPTED, Refusal, built_text};
 use risc_verify::Program;
 use std::alloc::Global;
 
-/// `verify PROG`: says whether the program is sound.
+/// `verify PROG`: prints that the program is sound, or refuses it.
 pub fn verify<'a, D: Desk>(
     alloc: Global,
     program: &'a str,
@@ -28,7 +28,7 @@ pub fn verify<'a, D: Desk>(
     Ok(Produced::Ready(ACCEPTED))
 }
 
-/// `check PROG DESC`: says of each described field whether the program, which has to be sound, shows it.
+/// `check PROG DESC`: prints for each described field whether the program, which has to be sound, shows it.
 pub fn check<'a, D: Desk>(
     alloc: Global,
     program: &'a str,
@@ -60,7 +60,7 @@ fn built<'a>(name: &'a str, program: Program, fill: u8) -> Produced<'a>
     }
 }
 
-/// `compile DESC PROG`: writes the program of the description and says how many words and chunks it has.
+/// `compile DESC PROG`: writes the program of the description and prints how many words and chunks it has.
 pub fn compile<'a, D: Desk>(
     alloc: Global,
     desc: &'a str,
@@ -76,7 +76,7 @@ pub fn compile<'a, D: Desk>(
     Ok(built(program, checked.into_program(alloc)?, fill))
 }
 
-/// `assemble TEXT PROG`: writes the program and the fill whose listing the text is, and says how many words
+/// `assemble TEXT PROG`: writes the program and the fill whose listing the text is, and prints how many words
 /// and chunks the program has. The program need not be sound.
 pub fn assemble<'a, D: Desk>(
     alloc: Global,

@@ -26,7 +26,7 @@ use risc_listing::Lines;
 use std::alloc::Global;
 use stream_play::{Played, machine_of, play_and_tell, play_file};
 
-/// `run PROG STREAM IMAGE`: runs the program over the stream, writes the image of its memory and says its report.
+/// `run PROG STREAM IMAGE`: runs the program over the stream, writes the image of its memory and prints its report.
 pub fn run<'a, D: Desk>(
     alloc: Global,
     program: &'a str,
@@ -52,7 +52,7 @@ pub fn run<'a, D: Desk>(
 }
 
 /// `capture DESC STREAM PROG IMAGE`: runs the program of the description over the stream, writes the program
-/// and the image of its memory, and says its report.
+/// and the image of its memory, and prints its report.
 pub fn capture<'a, D: Desk>(
     alloc: Global,
     desc: &'a str,
@@ -82,7 +82,7 @@ pub fn capture<'a, D: Desk>(
 }
 
 /// `ring RING STREAM PROG IMAGE`: runs the program of the ring over the stream, writes the program and the
-/// image of its memory, and says how many blocks were ended and the report.
+/// image of its memory, and prints how many blocks were ended and the report.
 pub fn ring<'a, D: Desk>(
     alloc: Global,
     ring: &'a str,
@@ -111,8 +111,8 @@ pub fn ring<'a, D: Desk>(
     })
 }
 
-/// Prints which rows of each described field are whole. Its text stands on the stack, so it is never inlined: a frame is touched
-/// page by page when it begins.
+/// Prints which rows of each described field are whole. Its text is on the stack, so it is never inlined: a function touches its
+/// stack frame page by page where it begins.
 #[inline(never)]
 pub fn say_rows<D: Desk>(checked: &Checked, map: &Watched<PageRam, Track>, desk: &mut D) -> Answer
     ensures { Finishes [] (damage_text checked.now (λ field. rows_of field map.now)) result (D.seen desk.old) (D.seen desk.new) }
@@ -127,7 +127,7 @@ pub fn say_rows<D: Desk>(checked: &Checked, map: &Watched<PageRam, Track>, desk:
     say_alone(text.as_str(), desk)
 }
 
-/// `damage DESC STREAM`: runs the program of the description over the stream, and says of each described field
+/// `damage DESC STREAM`: runs the program of the description over the stream, and prints for each described field
 /// which of its rows are whole lines at its last signal.
 pub fn damage<'a, D: Desk>(
     alloc: Global,
@@ -145,8 +145,8 @@ pub fn damage<'a, D: Desk>(
     Ok(Produced::Damaged { checked, map })
 }
 
-/// `chain DESC1 DESC2 STREAM IMAGE`: runs the chain of both descriptions over the stream, whose patches tell
-/// which of the two each slot shows, writes the image of its memory and says its report.
+/// `chain DESC1 DESC2 STREAM IMAGE`: runs the chain of both descriptions over the stream, whose patches choose
+/// which of the two each slot shows, writes the image of its memory and prints its report.
 pub fn chain<'a, D: Desk>(
     alloc: Global,
     first: &'a str,

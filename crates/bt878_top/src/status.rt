@@ -15,7 +15,7 @@ pub fn exit_status<D: Desk>(alloc: Global, words: &[&str], desk: &mut D) -> u8
     requires opens { AreNames (names_read (task_of words.now)) (D.seen desk.old).told.may_open }
     requires creates { AreNames (names_written (task_of words.now)) (D.seen desk.old).told.may_create }
 
-    // The status is that of an answer of which all holds that `bt878` promises.
+    // The status is that of an answer for which everything holds that `bt878` promises of it.
     ensures ends { EndsWith (task_of words.now) result (D.seen desk.old) (D.seen desk.new) }
 
     // Status 0 is Done alone, and so all that is promised at Done.

@@ -39,8 +39,8 @@ pub fn trace<'a, D: Desk>(
     Ok(Produced::Traced(StreamTrace::new(machine, kept)))
 }
 
-/// Prints a trace piece by piece. Its piece of text stands on the stack, so it is never inlined: a frame is touched page by
-/// page when it begins.
+/// Prints a trace piece by piece. Its piece of text is on the stack, so it is never inlined: a function touches its stack frame
+/// page by page where it begins.
 #[inline(never)]
 fn say_pieces<D: Desk>(trace: &mut StreamTrace<PageRam>, desk: &mut D) -> Result<(), Failed>
     ensures says { Puts (text_left trace.old) result after_say (D.seen desk.old).told (D.seen desk.new).told }

@@ -1,4 +1,4 @@
--- Each clause follows from the one exact clause.
+-- Each clause follows from the clause `answers`.
 use Rattle.bt878_words.specs.Words.{task_of}
 use Rattle.bt878_contract.specs.Pictures.{EndsInTime, ShowsNoFault, ShowsPictures, ShowsSignalledPictures}
 use Rattle.bt878_contract.specs.Rows.{HasArrivedRows, HoldsWholeRows}

@@ -22,7 +22,7 @@ returns-in_err-kept-clause-takes g c =
     second_stops (a_sound_program c.args.program.now) (a_kept_stream c.args.stream.now) c.from_residual-in_err-kept.result c.in_err-kept.field-0.0 (see c.args.desk.now) (see c.accept.new.desk) (see c.keep_stream.new.desk)
     c.from_residual-in_err-kept.ensures.1 refl c.in_ok-accepted.ensures.takes c.in_err-kept.ensures.takes
 
--- memory runs out behind both
+-- memory runs out behind both inputs
 pub returns-in_err-machine-clause-takes : goal.returns-in_err-machine-clause-takes
 returns-in_err-machine-clause-takes g c =
     let see = g.D.Desk.seen in
