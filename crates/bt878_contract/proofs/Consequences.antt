@@ -1,4 +1,4 @@
--- What the top call promises, said one by one, follows from its one exact clause.
+-- What the top call promises, one by one, follows from its one exact clause.
 use Rattle.std.specs.Prelude.{⊤}
 use Rattle.std.proofs.Common.{true, ◌≡◌, ◌<◌, arith, ℕ, ◌⊎◌, inl, inr, false, List, [], ◌∷◌, Option, Result, Ok, Err, All, refl, sym, ap, subst, ◌∙◌}
 use Rattle.bt878_words.specs.declared.Task.{Task}
@@ -71,7 +71,7 @@ pub done_counts : (r : Result Task UsageFault) (answer : Answer) (old new : Seen
 done_counts (Err fault) answer old new h e = let usage = h.0 in absurd (cc)
 done_counts (Ok task) answer old new h e = (done_by task answer old new h e).counts
 
--- what follows of what `run`, `capture` and `ring` make, over the stream's steps
+-- what follows from the runs that commands make, over the steps of the whole stream
 module _ (Q : Ran → Type 0) (f : (files : List (List ℕ × List ℕ)) (Says : List ℕ → Type 0) (product : Product) (stream : List ℕ) (r : Ran) → steps_of longest_stream false stream ≡ Ok r.steps → RunMakes files Says product r → Q r) where
   of_run : (Gives : List ℕ → RiscProgram → ℕ → Type 0) (files : Ran → List (List ℕ × List ℕ)) (Says : List ℕ → Ran → List ℕ → Type 0) (product : Product) (file stream : List ℕ) (inputs : Option Inputs) →
       OfInput file inputs (λ a. OfInput stream inputs (λ b. RunOf Gives files Says (a ∷ b ∷ []) product)) → OfRun Gives file stream inputs Q
@@ -116,7 +116,7 @@ module _ (P : LiveRan → Type 0) (always : (a b c : List ℕ) (r : LiveRan) →
   live_by (Ok task) answer old new h e = let d = done_by task answer old new h e in live_of (meaning task) old.told.inputs d.product d.made.made
   live_by (Err fault) answer old new h e = tt
 
--- what follows of its promises alone
+-- what follows from its promises alone
 module _ (P : Chain → ℕ → List LiveStep → Type 0) (promised : (chain : Chain) (fill : ℕ) (steps : List LiveStep) → KeepsLivePromises chain fill steps → P chain fill steps) where
   pub done_live : (r : Result Task UsageFault) (answer : Answer) (old new : Seen) → Answers r answer old new → answer ≡ Done → OfLive r old.told.inputs (OfLiveSteps P)
   done_live = live_by (OfLiveSteps P) (λ a b c r is kept. promised (chain_ran r) r.first.fill (live_steps_of r) kept)
@@ -137,7 +137,7 @@ module _ (task : Task) (old new : Seen) (d : IsDone task old new) where
   its_text_alone none =
       (says_only d.product.text old.told new.told (d.left ∙ ap (λ files. delivered files d.product.text (apart old.told)) (no_files d.product.files (d.made.names ∙ none)))).0
 
-  -- the files of a run, and a text that is said of it
+  -- the files of a run, and a text that is printed of it
   its_run : (files : List (List ℕ × List ℕ)) (Says : List ℕ → Type 0) (r : Ran) → AreApart (writes task) → RunMakes files Says d.product r → AreOutputs files new.told.outputs
   its_run files Says r h m = subst (λ fs. AreOutputs fs new.told.outputs) m.writes (its_files h)
 
@@ -306,7 +306,7 @@ by_end task WriteFault old new P done part refused h = part h
 by_end task (Usage fault) old new P done part refused h = absurd h
 by_end task answer old new P done part refused h = subst P (sym h.1) (refused h.0 h.2)
 
--- no two refusals have one answer
+-- no two refusals have the same answer
 refusal_in : Answer → Refusal
 refusal_in ReadFault = refusal.ReadFault
 refusal_in (Malformed file fault) = refusal.Malformed file fault
@@ -335,7 +335,7 @@ refusal_back refusal.NoMemory = refl
 one_refusal : (a b : Refusal) → answer_of a ≡ answer_of b → a ≡ b
 one_refusal a b e = sym (refusal_back a) ∙ ap refusal_in e ∙ refusal_back b
 
--- and neither Done nor WriteFault is one's
+-- Done, WriteFault and Usage are the answer of no refusal
 abbrev IsOther : Answer → Type 0
 IsOther Done = ⊥
 IsOther WriteFault = ⊥
@@ -375,7 +375,7 @@ pub bad_input_comes : (r : Result Task UsageFault) (answer : Answer) (old new : 
 bad_input_comes (Err fault) answer old new h why e tells = absurd (subst IsOther (sym (sym h.0 ∙ e)) (is_other why))
 bad_input_comes (Ok task) answer old new h why e tells = bad_in (inputs_of task) why old new tells (refused_by task answer old new h why e).why
 
--- ---- what an input leads to, where it is told
+-- ---- what an input leads to, where the desk tells it
 
 -- what was made, whole or in part, was made of good inputs
 good_at_done : (task : Task) (old new : Seen) → IsDone task old new → AreGood (inputs_of task) old.told.inputs

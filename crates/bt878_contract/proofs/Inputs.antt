@@ -1,4 +1,4 @@
--- What follows of an input that the desk tells, and of a run over two.
+-- What follows for an input that the desk tells, and for a run over two.
 use Rattle.std.proofs.Common.{◌≡◌, ℕ, inl, inr, true, false, Bool, List, [], ◌∷◌, Option, Some, None, refl}
 use Rattle.capture_desk.specs.Desks.{Seen, Inputs, is_missing, named}
 use Rattle.command_texts.specs.declared.refusal.Refusal.TheVariants.{ReadFault}

@@ -1,4 +1,4 @@
--- Why an input is not taken: a told input is bad in one way only, and a good one isn't bad.
+-- Why an input is not taken: an input that the desk tells is bad in one way only, and a good one isn't bad.
 use Rattle.std.proofs.Common.{false, true, ◌≡◌, ℕ, ◌<◌, ◌⊎◌, inl, inr, Bool, List, [], ◌∷◌, map, Option, Result, Ok, Err, refl, sym, ap, subst, ◌∙◌, arith}
 use Rattle.capture_desk.specs.Desks.{HasRisen, Inputs, Seen}
 use Rattle.machine_model.specs.declared.Cause.{Cause}
@@ -40,7 +40,7 @@ use Rattle.bt878_contract.specs.Clauses.{AreTold, IsCut, IsUnreadOf, TellsInput,
 use Rattle.bt878_contract.proofs.Inputs.{both_of, cut_unread, told_some}
 use Rattle.bt878_contract.proofs.Outputs.{first_among, later_among}
 
--- Why is what a refusal says of the bytes
+-- `Why` is what a refusal means for the bytes
 pub record IsJudge (IsBad : List ℕ → Refusal → Option Inputs → Type 0) (IsGood : Option Inputs → List ℕ → Type 0) (Why : Refusal → Option Inputs → List ℕ → Type 0) : Type 0 where
   pub tells : (name : List ℕ) (refusal : Refusal) (inputs : Option Inputs) → IsBad name refusal inputs → OfInput name inputs (Why refusal inputs)
   pub excludes : (refusal : Refusal) (inputs : Option Inputs) (bytes : List ℕ) → AreTold inputs → IsGood inputs bytes → Why refusal inputs bytes → ⊥
@@ -355,7 +355,7 @@ text_once a b bytes one two =
 text_judge : IsByteJudge IsBadText HoldsListing IsAtFault
 text_judge = record { tells = text_tells; excludes = text_excludes; once = text_once }
 
--- a description that is judged by a program
+-- a description that is checked against a program
 module _ (program : List ℕ) where
   pub record IsDiffering (refusal : Refusal) (told : Option Inputs) (bytes : List ℕ) : Type 0 where
     text : List ℕ
@@ -486,7 +486,7 @@ stops_later [] refusal old mid new same h = h
 stops_later (input ∷ inputs) refusal old mid new same (inl h) = inl (stops_at_later input.judge.IsBad input.name refusal old mid new same h)
 stops_later (input ∷ inputs) refusal old mid new same (inr h) = inr (h.0, stops_later inputs refusal old mid new same h.1)
 
--- what a refusal tells is so of the first input that is not good
+-- a refusal about an input is so of the first that is not good
 pub bad_in : (inputs : List Input) (refusal : Refusal) (old new : Seen) → TellsInput refusal → StopsIn inputs refusal old new → IsFirstBadOf inputs refusal old.told.inputs
 bad_in [] refusal old new tells h = subst TellsInput h tells
 bad_in (input ∷ inputs) refusal old new tells (inl h) = inl (bad_at input.judge.IsBad input.name refusal old new tells h)

@@ -1,4 +1,4 @@
--- Files that are written and a text that is said, whole or in part, and what is left as it was.
+-- Files that are written and a text that is printed, whole or in part, and what is left as it was.
 use Rattle.std.proofs.Common.{◌≡◌, ◌≢◌, ℕ, ◌⊎◌, length, arith, inl, inr, true, false, Bool, ◌||◌, List, [], ◌∷◌, ◌++◌, take, Option, Some, None, option_map, refl, sym, ap, subst, ◌∙◌}
 use Rattle.std.specs.Prelude.{⊤}
 use Rattle.std.specs.Str.{bytes_eq}

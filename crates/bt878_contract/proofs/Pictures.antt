@@ -1,5 +1,5 @@
 -- Every run shows the pictures that it captures, by the law of the picture; all their rows are whole, and the bytes of whole
--- rows stand in memory.
+-- rows are in memory.
 use Rattle.std.proofs.Common.{◌≡◌, ℕ, ◌+◌, ◌-◌, true, false, List, drop, replicate, slice_index_or, take, Some, All, sym, ◌∙◌, subst}
 use Rattle.fifo_model.specs.declared.Queue.{Queue}
 use Rattle.pixel_layout.specs.declared.Parity.{Parity}

@@ -51,6 +51,6 @@ module _ (names : List (List ℕ)) where
     each_of some told are (λ other among. within other (later_among other name some among)),
   )
 
-  -- each of the names that are told may be used
+  -- each of these names may be used, where those that the desk tells are these
   pub all_allowed : (told : Option (List (List ℕ))) → AreNames names told → AreAllowed names told
   all_allowed told are = each_of names told are (λ name among. among)

@@ -1,4 +1,4 @@
--- What the top call promises, said one by one. What is said of a content holds where the desk tells it.
+-- What the top call promises, one by one. A clause about a content holds where the desk tells it.
 use Rattle.std.specs.Prelude.{◌≡◌, ℕ, ◌≤◌, ◌⊎◌, ⊤, false, true, List, [], ◌∷◌, ◌++◌, length, take, Option, Some, None, option_map, Result, Ok, Err}
 use Rattle.bt878_words.specs.declared.Task.{Task}
 use Rattle.bt878_words.specs.declared.UsageFault.{UsageFault}
@@ -40,20 +40,20 @@ use Rattle.bt878_contract.specs.Tasks.{blocks_of, rows_told, compiled_text, inpu
 
 -- ---- the words
 
--- `Usage` is the first fault of the words, and comes only where they have one
+-- `Usage` has the first fault of the words, and comes only where they have one
 abbrev pub IsUsage : Result Task UsageFault → Answer → Type 0
 IsUsage (Err fault) answer = answer ≡ Usage fault
 IsUsage (Ok task) answer = (fault : UsageFault) → answer ≡ Usage fault → ⊥
 
 -- ---- what is read
 
--- the inputs are told
+-- the desk tells the inputs
 abbrev pub AreTold : Option Inputs → Type 0
 AreTold None = ⊥
 AreTold (Some inputs) = ⊤
 
--- P of what a command ran: the program that its first input gives, with its fill, over the steps of the whole stream; the
--- commands that run no program that stays the same promise nothing of one
+-- P of what a command ran: the program that its first input gives, with its fill, over the steps of the whole stream.
+-- Commands that run no program, and `chain`, whose program is patched, promise nothing here.
 abbrev pub OfRanBy : Meaning → Option Inputs → (Ran → Type 0) → Type 0
 OfRanBy (RunsProgram r) inputs P = OfRun r.Gives (input_of r.source).name (input_of r.stream).name inputs P
 OfRanBy m inputs P = ⊤
@@ -90,7 +90,7 @@ OfDescRun desc stream inputs P =
 abbrev pub OfDesc : List ℕ → Option Inputs → (Desc → Type 0) → Type 0
 OfDesc desc inputs P = OfInput desc inputs (λ bytes. (d : Desc) × Describes bytes d × P d)
 
--- ---- what is written and said
+-- ---- what is written and printed
 
 -- the output of a name is there, with these bytes
 abbrev pub IsOutput : List ℕ → List ℕ → Option Outputs → Type 0
@@ -101,11 +101,11 @@ IsOutput name bytes (Some outputs) = output_named name outputs ≡ Some bytes
 abbrev pub SameOutput : List ℕ → Option Outputs → Option Outputs → Type 0
 SameOutput name old new = option_map (output_named name) new ≡ option_map (output_named name) old
 
--- this text was said, and nothing else
+-- this text was printed, and nothing else
 abbrev pub SaysAll : List ℕ → Told → Told → Type 0
 SaysAll text old new = new.said ≡ option_map (λ said. said ++ text) old.said
 
--- some first bytes of this text were said, and nothing else
+-- some first bytes of this text were printed, and nothing else
 abbrev pub SaysPart : List ℕ → Told → Told → Type 0
 SaysPart text old new = (n : ℕ) × (n ≤ length text) × SaysAll (take n text) old new
 
@@ -133,11 +133,11 @@ ShowsLastLive image old new r =
 abbrev pub OfLiveSteps : (Chain → ℕ → List LiveStep → Type 0) → LiveRan → Type 0
 OfLiveSteps P r = P (chain_ran r) r.first.fill (live_steps_of r)
 
--- the block ends over all steps are said, and then the report of the state after them
+-- the block ends over all steps are printed, and then the report of the state after them
 abbrev pub SaysBlocks : Told → Told → Ring → Ran → Type 0
 SaysBlocks old new ring r = SaysAll (blocks_text (blocks_of ring r) (report_of (last_of r))) old new
 
--- which rows are whole lines at the last signal of each field is said, and nothing is created
+-- which rows are whole lines at the last signal of each field is printed, and nothing is created
 abbrev pub SaysDamage : Told → Told → Desc → Ran → Type 0
 SaysDamage old new d r = SaysAll (damage_text d (rows_told d r)) old new × CreatesNone old new
 
@@ -145,7 +145,7 @@ SaysDamage old new d r = SaysAll (damage_text d (rows_told d r)) old new × Crea
 abbrev pub SaysTrace : Told → Told → Ran → Type 0
 SaysTrace old new r = SaysAll (trace_of r) old new × CreatesNone old new
 
--- the program file of `capture` or `ring` is the one spelling of the program that ran and of its fill
+-- the program file of `capture` or `ring` is the canonical encoding of the program that ran and of its fill
 abbrev pub ShowsProgram : List ℕ → Told → Ran → Type 0
 ShowsProgram program new r = IsOutput program (spelled r.program r.fill) new.outputs
 
@@ -158,37 +158,37 @@ StaysInside r = (place : ℕ) → IsInside r.program (state_at (first_of r) (ste
 abbrev pub OfSteps : (State → List machine.Step → Type 0) → Ran → Type 0
 OfSteps P r = P (first_of r) (steps_run r.steps)
 
--- the program of the file is sound, `accepted` is said of it, and nothing is created
+-- the program of the file is sound, `accepted` is printed, and nothing is created
 abbrev pub SaysAccepted : List ℕ → Told → Told → Type 0
 SaysAccepted program old new = OfInput program old.inputs HoldsSound × SaysAll accepted_text old new × CreatesNone old new
 
--- the listing of the whole file's program is said, and nothing is created
+-- the listing of the whole file's program is printed, and nothing is created
 abbrev pub SaysListing : List ℕ → Told → Told → Type 0
 SaysListing program old new =
     OfInput program old.inputs (λ bytes. (file : ProgramFile) × (program_of bytes ≡ Ok file)
     × SaysAll (listing file.program file.fill) old new) × CreatesNone old new
 
--- the one spelling of the description's program and of its fill is written, and the numbers of its words and chunks are
--- said
+-- the canonical encoding of the description's program and of its fill is written, and the numbers of its words and chunks
+-- are printed
 abbrev pub IsCompiled : List ℕ → List ℕ → Told → Told → Type 0
 IsCompiled desc program old new =
     OfDesc desc old.inputs (λ d. IsOutput program (spelled (compiled d) d.fill) new.outputs × SaysAll (compiled_text d) old new)
 
--- the generated stream is written, and its numbers of fields and data entries are said
+-- the generated stream is written, and its numbers of fields and data entries are printed
 abbrev pub IsGenerated : List ℕ → ℕ → ℕ → List ℕ → Told → Told → Type 0
 IsGenerated desc seed frames stream old new =
     OfDesc desc old.inputs (λ d. IsOutput stream (made d seed frames) new.outputs
     × SaysAll (made_text (made_fields d frames) (made_entries d frames)) old new)
 
--- the one spelling of the program and the fill whose listing the text is, is written, and the numbers of the program's
--- words and chunks are said
+-- the text is the listing of a program and a fill; their canonical encoding is written, and the numbers of the program's
+-- words and chunks are printed
 abbrev pub IsAssembled : List ℕ → List ℕ → Told → Told → Type 0
 IsAssembled text program old new =
     OfInput text old.inputs (λ bytes. (file : ProgramFile) × GivesAssembled bytes file
     × IsOutput program (spelled file.program file.fill) new.outputs × SaysAll (program_text file.program) old new)
 
 -- the program of the first file is sound and shows each field that the description of the second describes, what is found of
--- them is said, and nothing is created
+-- them is printed, and nothing is created
 abbrev pub SaysChecked : List ℕ → List ℕ → Told → Told → Type 0
 SaysChecked program desc old new =
     OfInput program old.inputs (λ a. OfInput desc old.inputs (λ b.
@@ -206,7 +206,7 @@ IsUnreadOf names old new =
     ReadsRose old new
     ⊎ ((name : List ℕ) × (is_among name names ≡ true) × (is_missing name old.told.inputs ≡ true))
 
--- the cause of a refusal that tells what is bad about an input: `Malformed`, `Rejected`, `BadDesc`, `BadGeometry`,
+-- the cause of a refusal that has what is bad about an input: `Malformed`, `Rejected`, `BadDesc`, `BadGeometry`,
 -- `BadChain`, `BadRing`, `BadText` or `Differs`
 abbrev pub IsBadInput : Result Task UsageFault → Refusal → Option Inputs → Type 0
 IsBadInput (Ok task) refusal inputs = IsFirstBadOf (inputs_of task) refusal inputs
@@ -228,7 +228,7 @@ abbrev pub LacksInput : Result Task UsageFault → Option Inputs → Type 0
 LacksInput (Ok task) told = IsFirstMissing (inputs_of task) told
 LacksInput (Err fault) told = ⊥
 
--- and it is the first
+-- the first input isn't there
 abbrev pub IsHeadMissing : List Input → Option Inputs → Type 0
 IsHeadMissing [] told = ⊥
 IsHeadMissing (input ∷ inputs) told = is_missing input.name told ≡ true
@@ -242,7 +242,7 @@ abbrev pub IsGood : Result Task UsageFault → Option Inputs → Type 0
 IsGood (Ok task) inputs = AreGood (inputs_of task) inputs
 IsGood (Err fault) inputs = ⊥
 
--- want of memory, or a fault of reading
+-- out of memory, or a fault of reading
 abbrev pub IsCut : Answer → Seen → Seen → Type 0
 IsCut answer old new = (answer ≡ answer_of NoMemory) ⊎ ((answer ≡ answer_of ReadFault) × ReadsRose old new)
 
@@ -268,7 +268,7 @@ IsRefusal Done = ⊥
 IsRefusal WriteFault = ⊥
 IsRefusal _ = ⊤
 
--- nothing was created, and a text was said, whole or in part where the desk met a fault of writing
+-- nothing was created, and a text was printed: the whole, or a part where the desk met a fault of writing
 abbrev pub OnlySays : List ℕ → Seen → Seen → Type 0
 OnlySays text old new =
     CreatesNone old.told new.told
@@ -276,8 +276,8 @@ OnlySays text old new =
 
 -- ---- out of memory
 
--- Nothing was created, no call at reading failed, and nothing was said but the text. Some first inputs were read through and
--- found good, and one more at most was opened, at which memory ran out.
+-- Nothing was created, no call at reading failed, and nothing was printed but the text. Some first inputs were read through
+-- and found good, and at most one more was opened, at which memory ran out.
 abbrev pub IsShort : Result Task UsageFault → Seen → Seen → Type 0
 IsShort (Ok task) old new =
     OnlySays (answer_text (answer_of NoMemory)) old new × (new.reads ≡ old.reads)
@@ -292,7 +292,7 @@ SameOutputs [] old new = ⊤
 SameOutputs (file ∷ files) old new = SameOutput file.0 old new × SameOutputs files old new
 
 -- Files and a text, cut off. Some first files are whole; then one was not created, or has some of its first bytes, with
--- none after it and nothing said; or all are whole, and a part of the text was said.
+-- none after it and nothing printed; or all are whole, and a part of the text was printed.
 abbrev pub IsCutOff : List (List ℕ × List ℕ) → List ℕ → Told → Told → Type 0
 IsCutOff [] text old new = SaysPart text old new
 IsCutOff (file ∷ files) text old new =
@@ -301,7 +301,7 @@ IsCutOff (file ∷ files) text old new =
     × SameOutputs files old.outputs new.outputs × (new.said ≡ old.said))
     ⊎ (IsOutput file.0 file.1 new.outputs × IsCutOff files text old new))
 
--- what stands after a fault of writing: what the command makes of its inputs, cut off
+-- what is there after a fault of writing: what the command makes of its inputs, cut off
 abbrev pub StandsAt : Result Task UsageFault → Told → Told → Type 0
 StandsAt (Ok task) old new =
     (product : Product) × IsProduct task old.inputs product × IsCutOff product.files product.text old new

@@ -47,15 +47,15 @@ ShowsPictures first steps =
     ArrivesUpToEnd d field f picture first steps j k →
     HasPicture first.program d field f picture (state_at first steps j) (state_at first steps k) (state_at first steps (k + 1))
 
--- no turn from j to k sets FDSR, whether or not the bit stands
+-- no turn from j to k sets FDSR, whether or not the bit is set already
 abbrev pub ShowsNoFault : State → List Step → Type 0
 ShowsNoFault first steps =
     (d : Desc) (field : Parity) (f : Found) (picture : Picture) (j k i : ℕ) → ShowsField first.program d field f picture →
     ArrivesUpToEnd d field f picture first steps j k → j ≤ i → i ≤ k → step_at steps i ≡ Turn → sets_fdsr (state_at first steps i) ≡ false
 
--- where the picture arrives at j over the steps up to l, and all entries up to the field's last were pushed before i, the
+-- The picture arrives at j over the steps up to l, and all entries up to the field's last were pushed before i. Then the
 -- field ends before l once there are so many turns from i to l: five for each instruction from the opening to the end, these
--- two among them, and one for each entry
+-- two among them, and one for each entry.
 abbrev pub EndsInTime : State → List Step → Type 0
 EndsInTime first steps =
     (d : Desc) (field : Parity) (f : Found) (picture : Picture) (j i l : ℕ) → ShowsField first.program d field f picture →
@@ -80,7 +80,7 @@ pub record ArrivesUpTo (d : Desc) (field : Parity) (picture : Picture) (first : 
   pub signal : IsFirstSignal (section_of d field) first steps j k
   pub arrives : ArrivesAt d field picture (state_at first steps j) (between j (k + 1) steps)
 
--- memory is that of before with the picture, RISCI is set, and the RISC status tells the field
+-- memory is that of before with the picture, RISCI is set, and the RISC status is that of the field
 pub record IsShown (d : Desc) (field : Parity) (picture : Picture) (before now : State) : Type 0 where
   pub memory : After d field picture before.memory now.memory
   pub told : TellsField field now

@@ -12,15 +12,15 @@ use Rattle.ring_law.specs.Runs.{EndsBlockAt, ends_between}
 abbrev pub Begins : Ring → State → Type 0
 Begins ring first = first ≡ first_state (ring_program ring) ring.fill
 
--- where a ring run goes from place j up to and with step k, which ends a block: it is the block whose turn it is, and
--- after it the lines stand in the blocks, over the memory at place j
+-- A ring run goes from place j up to and with step k, which ends a block. Then it is the block whose turn it is, and
+-- after step k the lines are in the blocks, over the memory at place j.
 abbrev pub ShowsRings : State → List Step → Type 0
 ShowsRings first steps =
     (ring : Ring) (lines : List (List ℕ)) (j k block : ℕ) → Begins ring first → EndsBlockAt ring lines steps j k block →
     (block ≡ ends_between ring steps j k % ring.blocks)
     × ShowsBlocks ring lines (ends_between ring steps j k) (state_at first steps j) (state_at first steps (k + 1))
 
--- no turn from place j up to step k sets FDSR, whether or not the bit stands
+-- no turn from place j up to step k sets FDSR, whether or not the bit is set already
 abbrev pub RingsShowNoFault : State → List Step → Type 0
 RingsShowNoFault first steps =
     (ring : Ring) (lines : List (List ℕ)) (j k block i : ℕ) → Begins ring first → EndsBlockAt ring lines steps j k block →

@@ -38,8 +38,8 @@ pub record IsSignalFrom (d : Desc) (field : Parity) (first : State) (steps : Lis
   pub signal : signals_at (section_of d field) first steps k ≡ true
   pub opened : last_step (is_opening d field) first (take k steps) ≡ Some j
 
--- the entries that the row's instructions took from a queue since the opening entered it one after another, and right after
--- the signal each byte of the row that is kept is at its place: it is that byte of the line that these entries are
+-- The entries that the row's instructions took from a queue since the opening entered it one after another; they are a line.
+-- Right after the signal each byte of the row that is kept is at its place, and is that byte of this line.
 pub record HoldsRow (d : Desc) (field : Parity) (q : Queue) (number : ℕ) (first : State) (steps : List Step) (j k : ℕ) : Type 0 where
   pub entered :
       HaveEntered (row_entries d field number q (state_at first steps j) (between j k steps)) q (state_at first steps j) (between j k steps)

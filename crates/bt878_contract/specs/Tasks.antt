@@ -49,11 +49,11 @@ use Rattle.trace_play.specs.Texts.{trace_text}
 abbrev pub image_file : List ℕ → Ran → List ℕ × List ℕ
 image_file name r = (name, image_of (last_of r).memory)
 
--- the one spelling of a program
+-- the canonical encoding of a program and a fill
 abbrev pub program_file : List ℕ → RiscProgram → ℕ → List ℕ × List ℕ
 program_file name program fill = (name, spelled program fill)
 
--- what `run` and `capture` say: the report of the machine after all steps
+-- what `run` and `capture` print: the report of the machine after all steps
 abbrev pub Reports : List ℕ → Ran → List ℕ → Type 0
 Reports file r text = text ≡ report_text (report_of (last_of r))
 
@@ -61,7 +61,7 @@ Reports file r text = text ≡ report_text (report_of (last_of r))
 abbrev pub blocks_of : Ring → Ran → ℕ
 blocks_of ring r = block_ends (ends ring) (first_of r) (steps_run r.steps)
 
--- what `ring` says of a ring file: its block ends, and then the report
+-- what `ring` prints of a ring file: its block ends, and then the report
 pub record ReportsBlocks (file : List ℕ) (r : Ran) (text : List ℕ) : Type 0 where
   pub ring : Ring
   pub gives : GivesRing ring file r.program r.fill
@@ -78,13 +78,13 @@ Traces file r text = text ≡ trace_of r
 abbrev pub rows_told : Desc → Ran → Parity → Option (List Bool)
 rows_told d r field = answer d field (first_of r) (steps_run r.steps)
 
--- what `damage` says of a description file: which rows are whole
+-- what `damage` prints of a description file: which rows are whole
 pub record TellsRows (file : List ℕ) (r : Ran) (text : List ℕ) : Type 0 where
   pub description : Desc
   pub gives : GivesDescribed description file r.program r.fill
   pub says : text ≡ damage_text description (rows_told description r)
 
--- What a run makes: the program is sound; the files; a text as it is said of the run; and at every place of the steps the
+-- What a run makes: the files, and a text of which `Says` holds. The program is sound, and at every place of the steps the
 -- machine is inside: what a turn there writes is granted, what it fetches is a word of the program, and OCERR is 0.
 pub record RunMakes (files : List (List ℕ × List ℕ)) (Says : List ℕ → Type 0) (product : Product) (r : Ran) : Type 0 where
   pub sound : IsSound r.program
@@ -115,7 +115,7 @@ pub record DescMakes (file : Desc → List ℕ × List ℕ) (text : Desc → Lis
   pub writes : product.files ≡ file description ∷ []
   pub says : product.text ≡ text description
 
--- what `compile` and `assemble` say of a program: its words and its chunks
+-- what `compile` and `assemble` print of a program: how many words and chunks it has
 abbrev pub program_text : RiscProgram → List ℕ
 program_text program = built_text (length (all_words program)) (length program.grants)
 
@@ -129,7 +129,7 @@ pub record ListingMakes (program : List ℕ) (product : Product) (text : List �
   pub writes : product.files ≡ program_file program file.program file.fill ∷ []
   pub says : product.text ≡ program_text file.program
 
--- P of the contents of all inputs, in their order, where they are told
+-- P of the contents of all inputs, in their order, where the desk tells them
 abbrev pub OfInputs : List Input → Option Inputs → (List (List ℕ) → Type 0) → Type 0
 OfInputs [] told P = P []
 OfInputs (input ∷ inputs) told P = OfInput input.name told (λ bytes. OfInputs inputs told (λ later. P (bytes ∷ later)))
@@ -141,7 +141,7 @@ pub data Source : Type 0 where
   Program : List ℕ → Source
   SoundProgram : List ℕ → Source
   Description : List ℕ → Source
-  -- the first of the two of a chain, and the second, which is judged with the first
+  -- the first of the two of a chain, and the second, which is checked with the first
   FirstDescription : List ℕ → Source
   SecondDescription : List ℕ → List ℕ → Source
   -- of the form for chains, or of the other
@@ -150,10 +150,10 @@ pub data Source : Type 0 where
   KeptStream : List ℕ → Source
   RingFile : List ℕ → Source
   Listing : List ℕ → Source
-  -- a description that is judged by the program of a file, which has to show each field of it
+  -- a description that is checked against the program of a file, which has to show each field of it
   ShownDescription : List ℕ → List ℕ → Source
 
--- how it is judged
+-- its name, and its judge
 abbrev pub input_of : Source → Input
 input_of (Program name) = a_program name
 input_of (SoundProgram name) = a_sound_program name
@@ -168,8 +168,8 @@ input_of (ShownDescription program name) = a_shown_description program name
 
 -- ---- the meaning of each command
 
--- a program that an input gives runs over a stream: what it gives, the files of the run, and what is said of it and of the
--- file that it came from
+-- A program that an input gives runs over a stream: the two inputs, what the first gives, the files of the run, and which text
+-- is printed of it and of the file that it came from.
 pub record RunMeaning : Type 1 where
   pub source : Source
   pub stream : Source
@@ -184,7 +184,7 @@ pub record ChainMeaning : Type 0 where
   pub stream : List ℕ
   pub image : List ℕ
 
--- something else is made of the contents of the inputs; its text, where that is the same whatever the contents
+-- something else is made of the contents of the inputs; `text` is its text, where that is the same whatever the contents
 pub record OtherMeaning : Type 1 where
   pub sources : List Source
   pub makes : List (List ℕ) → Product → Type 0
@@ -209,13 +209,14 @@ abbrev pub VerdictOf : List (List ℕ) → Product → Type 0
 VerdictOf (program ∷ []) product = HoldsSound program
 VerdictOf _ product = ⊥
 
--- what a run over a stream makes, by the files of what ran, and what is said of it and of the file that it came from
+-- What a run over a stream makes: `files` has the files of what ran, and `Says` which text is printed of it and of the file that
+-- it came from.
 abbrev pub RunOf : (List ℕ → RiscProgram → ℕ → Type 0) → (Ran → List (List ℕ × List ℕ)) → (List ℕ → Ran → List ℕ → Type 0) → List (List ℕ) → Product → Type 0
 RunOf Gives files Says (file ∷ stream ∷ []) product =
     (r : Ran) × IsRun Gives file stream r × RunMakes (files r) (Says file r) product r
 RunOf Gives files Says _ product = ⊥
 
--- no file, the image of a run, and its program file before it
+-- the files of a run: none, the image, or the program file and the image
 abbrev pub no_file : Ran → List (List ℕ × List ℕ)
 no_file r = []
 
@@ -238,7 +239,7 @@ abbrev pub AssembledOf : List ℕ → List (List ℕ) → Product → Type 0
 AssembledOf program (text ∷ []) product = ListingMakes program product text
 AssembledOf program _ product = ⊥
 
--- what a check makes: the program is sound and shows each described field, and this is what is said of them
+-- what a check makes: the program is sound and shows each described field, and this is what is printed of them
 abbrev pub CheckOf : List (List ℕ) → Product → Type 0
 CheckOf (program ∷ desc ∷ []) product = FindsBy program desc true product.text
 CheckOf _ product = ⊥
@@ -321,7 +322,7 @@ Makes task inputs product = MakesBy (meaning task) inputs product
 
 -- ---- the words
 
--- the names of the inputs that words without a fault give, and of the outputs; none where they have one
+-- the names of the inputs and of the outputs that words without a fault give; none where the words have one
 abbrev pub reads : Task → List (List ℕ)
 reads task = map (λ source. (input_of source).name) (sources (meaning task))
 
@@ -333,11 +334,11 @@ abbrev pub names_written : Result Task UsageFault → List (List ℕ)
 names_written (Err fault) = []
 names_written (Ok task) = writes task
 
--- the names that are told are these
+-- the names that the desk tells are these
 abbrev pub AreNames : List (List ℕ) → Option (List (List ℕ)) → Type 0
 AreNames names told = MatchOption told ⊤ (λ known. (name : List ℕ) → is_among name known ≡ is_among name names)
 
--- each of these names may be used, where the names that may be are told
+-- each of these names may be used, where the desk tells which may be
 abbrev pub AreAllowed : List (List ℕ) → Option (List (List ℕ)) → Type 0
 AreAllowed [] told = ⊤
 AreAllowed (name ∷ names) told = IsAllowed name told × AreAllowed names told
@@ -349,18 +350,18 @@ Stops task refusal old new = StopsIn (inputs_of task) refusal old new
 -- ---- the order of work
 
 -- all inputs were opened once and read through, one after the other, each found good before the next was opened; then
--- the outputs were written, one after the other, and a text was said
+-- the outputs were written, one after the other, and a text was printed
 abbrev pub IsWholeWork : Task → Option Inputs → List ℕ → List Call → Type 0
 IsWholeWork task told text calls =
     (taking : List Call) × AreTaken (inputs_of task) told taking × (calls ≡ taking ++ delivery (writes task) text)
 
--- the same, but that a write, a call that says, or the creation or finish of an output failed; no call follows
+-- the same, but that a write, a call of `say`, or the creation or finish of an output failed; no call follows
 abbrev pub IsPartOfWork : Task → Option Inputs → List Call → Type 0
 IsPartOfWork task told calls =
     (taking writing : List Call) × AreTaken (inputs_of task) told taking × IsDeliveryPart (writes task) writing
     × (calls ≡ taking ++ writing)
 
--- some inputs were opened and read through, up to the one that stopped; then a text was said, by one run of calls
+-- some inputs were opened and read through, up to the one that stopped; then a text was printed, by one run of calls
 abbrev pub IsRefusedWork : Task → Refusal → Option Inputs → List ℕ → List Call → Type 0
 IsRefusedWork task refusal told text calls =
     (taking : List Call) × AreTakenUpTo (inputs_of task) refusal told taking × (calls ≡ taking ++ said_by text)
@@ -372,7 +373,7 @@ pub record IsProduct (task : Task) (inputs : Option Inputs) (product : Product) 
   pub made : Makes task inputs product
   pub names : names_of product.files ≡ writes task
 
--- it was done: its outputs were written and its text was said, and nothing else changed
+-- it was done: its outputs were written and its text was printed, and nothing else changed
 pub record IsDone (task : Task) (old new : Seen) : Type 0 where
   pub product : Product
   pub made : IsProduct task old.told.inputs product
@@ -388,8 +389,8 @@ pub record IsPartDone (task : Task) (old new : Seen) : Type 0 where
   pub fault : IsWriteFault old new
   pub calls : Calls (IsPartOfWork task old.told.inputs) old new
 
--- it was refused: nothing changed but that the refusal's text was said, and no call at reading failed but for a fault of
--- reading
+-- it was refused: nothing changed but that the refusal's text was printed; a call at reading failed only where the refusal
+-- is `ReadFault`
 pub record IsRefused (task : Task) (refusal : Refusal) (old new : Seen) : Type 0 where
   pub why : Stops task refusal old new
   pub reads : KeepsReads refusal old new
@@ -402,7 +403,7 @@ Ends task WriteFault old new = IsPartDone task old new
 Ends task (Usage fault) old new = ⊥
 Ends task answer old new = (refusal : Refusal) × (answer ≡ answer_of refusal) × IsRefused task refusal old new
 
--- what comes of the words: of a fault of theirs only its text
+-- what comes of the words: where they have a fault, only its text
 abbrev pub Answers : Result Task UsageFault → Answer → Seen → Seen → Type 0
 Answers (Err fault) answer old new = (answer ≡ Usage fault) × SaysAtOnce (answer_text (Usage fault)) old new
 Answers (Ok task) answer old new = Ends task answer old new
