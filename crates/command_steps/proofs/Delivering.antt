@@ -11,7 +11,7 @@ use Rattle.command_steps.specs.Inputs.{SameCounts}
 use Rattle.command_steps.specs.Reading.{Calls}
 use Rattle.command_steps.specs.Outputs.{IsDeliveryOf, IsDeliveryPart, IsFileOf, IsPart, after_file, delivered, delivery, files_of, names_of}
 
--- Of all files some were written, and these are left: what comes of them, comes of all.
+-- Of all files some were written, and others are left: what delivers these delivers all.
 pub record IsUnderWay (files left : List (List ℕ × List ℕ)) (old now : Seen) : Type 0 where
   pub whole : (text : List ℕ) → delivered left text now.told ≡ delivered files text old.told
   pub part : (text : List ℕ) (t : Told) → IsPart left text now.told t → IsPart files text old.told t
@@ -48,7 +48,7 @@ not_written_calls A E failed files left name bytes old mid new h (calls, is, tel
     a_part (inr (inl e)) = inr (inl e)
     a_part (inr (inr e)) = inr (inr (inl e))
 
--- ---- all are written, and the text is said
+-- ---- all are written, and the text is printed
 
 pub text_calls : (files : List (List ℕ × List ℕ)) (text : List ℕ) (old mid new : Seen) → IsUnderWay files [] old mid → OnlySaid text mid new →
     Tells (delivery (names_of files) text) old.calls new.calls

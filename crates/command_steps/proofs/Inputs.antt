@@ -1,11 +1,11 @@
--- What holds of an input that is told.
+-- What holds of an input that the desk tells.
 use Rattle.std.proofs.Common.{◌≡◌, ℕ, true, false, Bool, List, Option, Some, None, refl, sym, ap, subst, ◌∙◌}
 use Rattle.capture_desk.specs.Desks.{HasRisen, Inputs, Seen, Told, after_open, first_rest, is_missing, named}
 use Rattle.command_texts.specs.declared.refusal.Refusal.{Refusal}
 use Rattle.command_texts.specs.declared.refusal.Refusal.TheVariants.{ReadFault}
 use Rattle.command_steps.specs.Inputs.{KeepsReads, OfFile, OfInput, OfRest, apart}
 
--- what holds of bytes, holds where they are told
+-- what follows for the bytes of an input follows for the input
 pub OfInput-map : (name : List ℕ) (inputs : Option Inputs) (P Q : List ℕ → Type 0) → ((bytes : List ℕ) → P bytes → Q bytes) → OfInput name inputs P → OfInput name inputs Q
 OfInput-map name None P Q f h = tt
 OfInput-map name (Some inputs) P Q f h = of_file (named name inputs) h

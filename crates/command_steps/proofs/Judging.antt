@@ -1,4 +1,4 @@
--- An input that was read, and is then judged: it is good, or bad as a refusal says.
+-- An input that was read, and is then checked: it is good, or bad in the way of a refusal.
 use Rattle.std.proofs.Common.{IsErrAnd, ◌≡◌, ℕ, inl, inr, true, List, [], ◌∷◌, Option, Result, Ok, Err, IfOk, IfErr, sym, subst}
 use Rattle.capture_desk.specs.declared.calls.Call.{Call}
 use Rattle.capture_desk.specs.Desks.{Inputs, Seen}
@@ -12,14 +12,14 @@ use Rattle.command_steps.proofs.Taking.{last_taken, may_come}
 
 -- ---- one judge in place of another that reads as far
 
--- an input that is not judged yet is bad in no way
+-- an input that is not checked yet is bad in no way
 pub raw_stops : (IsBad : List ℕ → Refusal → Option Inputs → Type 0) (most : ℕ) (name : List ℕ) (refusal : Refusal) (old new : Seen) → StopsAt (raw_files most).IsBad name refusal old new → StopsAt IsBad name refusal old new
 raw_stops IsBad most name ReadFault old new h = h
 raw_stops IsBad most name NoMemory old new h = tt
 raw_stops IsBad most name refusal old new h = absurd h
 
 module _ (name : List ℕ) (from to : Judge) where
-  -- the input as it was judged at first, and as it is judged in the end
+  -- the input with its judge at first, and with its judge in the end
   abbrev before : Input
   before = record { name = name; judge = from }
 
@@ -57,7 +57,7 @@ module _ (name : List ℕ) (from to : Judge) where
       by_why (inl why) = inl (bad why)
       by_why (inr (was, why)) = inr (good was, why)
 
-  -- by the answer, where all that is good by the one is good by the other, and what is bad is bad
+  -- by the answer, where what is good by the first judge is good by the second, and what is bad is bad
   pub takes_as : {A : Type 0} (inputs : List Input) (r : Result A Refusal) (old new : Seen) → (IsGoodBefore old.told.inputs → IsGoodAfter old.told.inputs) →
       ((refusal : Refusal) → StopsAt from.IsBad name refusal old new → StopsAt to.IsBad name refusal old new) → Takes (before ∷ inputs) r old new → Takes (after ∷ inputs) r old new
   takes_as inputs (Ok x) old new good bad h = took_as inputs old new good h
@@ -79,7 +79,7 @@ module _ (name : List ℕ) (from to : Judge) where
         calls = (h.calls.0, inl (last_taken before refusal old.told.inputs h.calls.0 x y (may_come refusal from.kept kept) e whole was none), h.calls.2);
       }
 
-  -- it was not taken, and so is not judged
+  -- it was not taken, and so is not checked
   pub not_taken : (refusal : Refusal) (old new : Seen) → (StopsAt from.IsBad name refusal old new → StopsAt to.IsBad name refusal old new) → Stopped (before ∷ []) refusal old new → Stopped (after ∷ []) refusal old new
   not_taken refusal old new bad h =
       record { told = h.told; reads = h.reads; writes = h.writes; why = inl (by_why h.why); calls = (h.calls.0, inl (by_calls h.calls.0 h.calls.1), h.calls.2) }
@@ -96,7 +96,7 @@ module _ (name : List ℕ) (from to : Judge) where
       by_calls calls (inl h) = h
       by_calls calls (inr (x, y, e, whole, was, may, none)) = last_taken before refusal old.told.inputs calls x y may e whole was none
 
-  -- by the answer of its judging, once it was taken
+  -- by the answer of its check, once it was taken
   pub judged : {A : Type 0} → from.kept ≡ true → (r : Result A Refusal) (old new : Seen) → IfOk r (λ _. IsGoodAfter old.told.inputs) → IfErr r (λ refusal. StopsAt to.IsBad name refusal old new) →
       Took (before ∷ []) old new → Takes (after ∷ []) r old new
   judged kept (Ok x) old new good bad h = found_good old new good h

@@ -1,4 +1,4 @@
--- The open input has no part in what is written and said.
+-- The open input has no part in what is written and printed.
 use Rattle.std.proofs.Common.{◌≡◌, ℕ, inl, inr, List, [], ◌∷◌, refl, ap}
 use Rattle.capture_desk.specs.Desks.{Told}
 use Rattle.command_steps.specs.Inputs.{apart}

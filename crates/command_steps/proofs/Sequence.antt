@@ -41,7 +41,7 @@ calls_before input (next ∷ first) later refusal told a (inr (x, y, e, whole, g
 
 -- ---- why one is not taken
 
--- want of memory is free
+-- running out of memory is free
 no_memory : (inputs : List Input) (old new : Seen) → StopsIn inputs NoMemory old new
 no_memory [] old new = refl
 no_memory (input ∷ inputs) old new = inl tt
@@ -143,7 +143,7 @@ module _ (input : Input) (first : List Input) (old mid : Seen) where
         calls = (h.calls.0, calls_before input first later refusal old.told.inputs h.calls.0 h.calls.1, h.calls.2);
       }
 
-  -- and so does want of memory behind those that were taken
+  -- and so does running out of memory behind those that were taken
   pub stopped_behind : (later : List Input) → AreKept (input ∷ first) → Took (input ∷ first) old mid → Stopped (input ∷ (first ++ later)) NoMemory old mid
   stopped_behind later kept took =
       record {

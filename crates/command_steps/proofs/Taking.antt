@@ -149,12 +149,12 @@ taking_of_all name most MayGoOn told (Say ∷ calls) h = absurd h
 
 -- ---- where a refusal stops
 
--- of one that is kept every refusal may come
+-- every refusal may come of one that is kept
 pub may_come : (refusal : Refusal) (kept : Bool) → kept ≡ true → MayCome refusal kept
 may_come NoMemory kept is = is
 may_come refusal kept is = λ takes. is
 
--- it was opened, and so stops there for whatever it may be refused
+-- it was opened, and so any refusal that may come stops there
 pub ends_opened : (refusal : Refusal) (kept : Bool) (name : List ℕ) (told : Option Inputs) (calls : List Call) → MayCome refusal kept → IsOpened name told calls → EndsTaking refusal kept name told calls
 ends_opened ReadFault kept name told calls may h = tt
 ends_opened NoMemory true name told calls may h = h

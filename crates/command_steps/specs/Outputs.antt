@@ -1,4 +1,4 @@
--- Outputs and texts: what a command writes and says, and the calls by which it does.
+-- Outputs and texts: what a command writes and prints, and the calls by which it does.
 use Rattle.std.specs.Prelude.{◌≡◌, ℕ, ◌≤◌, ◌⊎◌, true, false, List, [], ◌∷◌, map, length, take, Result, Ok, Err}
 use Rattle.capture_desk.specs.declared.calls.Call.{Call}
 use Rattle.capture_desk.specs.declared.calls.Call.TheVariants.{CreateOut, Finish, Say}
@@ -12,7 +12,7 @@ use Rattle.command_steps.specs.declared.outputs.Output.{Output}
 use Rattle.command_steps.specs.Inputs.{SameCounts, apart}
 use Rattle.command_steps.specs.Reading.{Calls}
 
--- the bytes that a command writes, file by file in order, each a name with bytes, and the text that it says last
+-- the bytes that a command writes, file by file in order, each a name with bytes, and the text that it prints last
 pub record Product : Type 0 where
   pub files : List (List ℕ × List ℕ)
   pub text : List ℕ
@@ -24,7 +24,7 @@ names_of files = map (λ file. file.0) files
 abbrev pub files_of : {C : Type 0} → (C → List ℕ) → List (Output C) → List (List ℕ × List ℕ)
 files_of bytes outputs = map (λ (output : Output _). (output.name.now, bytes output.content)) outputs
 
--- ---- what stands
+-- ---- what is written and printed
 
 -- a file was written whole
 abbrev pub after_file : List ℕ × List ℕ → Told → Told
@@ -39,8 +39,8 @@ abbrev pub IsFilePart : List ℕ → List ℕ → Told → Told → Type 0
 IsFilePart name bytes t new =
     (new ≡ t) ⊎ ((n : ℕ) × (n ≤ length bytes) × (new ≡ after_write (take n bytes) (after_create name t)))
 
--- a part was delivered: some files whole and the next one not at all or to a byte of it, or all files and
--- the text to a byte of it
+-- a part was delivered: some files whole, and the next one not at all or up to one of its bytes; or all files, and
+-- the text up to one of its bytes
 abbrev pub IsPart : List (List ℕ × List ℕ) → List ℕ → Told → Told → Type 0
 IsPart [] text t new = (n : ℕ) × (n ≤ length text) × (new ≡ after_say (take n text) t)
 IsPart (file ∷ files) text t new =
@@ -55,7 +55,7 @@ abbrev pub delivery : List (List ℕ) → List ℕ → List Call
 delivery [] text = said_by text
 delivery (name ∷ names) text = CreateOut name true ∷ Finish true ∷ delivery names text
 
--- a delivery up to a call that failed: a creation, a write, a finish, or a call that says
+-- a delivery up to a call that failed: a creation, a write, a finish, or a call of `say`
 abbrev pub IsDeliveryPart : List (List ℕ) → List Call → Type 0
 IsDeliveryPart [] calls = calls ≡ Say ∷ []
 IsDeliveryPart (name ∷ names) calls =
@@ -77,7 +77,7 @@ IsFileOf name (Err _) calls =
 
 -- ---- faults of writing
 
--- by the answer of a step that only writes and says
+-- by the answer of a step that only writes and prints
 abbrev pub DeliveryCounts : {A E : Type 0} → Result A E → Seen → Seen → Type 0
 DeliveryCounts (Ok _) old new = SameCounts old new
 DeliveryCounts (Err _) old new = IsWriteFault old new
@@ -102,7 +102,7 @@ pub record AreCutOff (files : List (List ℕ × List ℕ)) (text : List ℕ) (ol
   pub fault : IsWriteFault old new
   pub calls : Calls (IsDeliveryPart (names_of files)) old new
 
--- the files were written and the text was said, or a part of them, up to a fault of writing
+-- the files were written and the text was printed, or a part of them, up to a fault of writing
 abbrev pub Finishes : List (List ℕ × List ℕ) → List ℕ → Answer → Seen → Seen → Type 0
 Finishes files text Done old new = AreDelivered files text old new
 Finishes files text WriteFault old new = AreCutOff files text old new
@@ -110,17 +110,18 @@ Finishes files text _ old new = ⊥
 
 -- ---- refusals
 
--- a text was said and nothing else changed; or a part of it, up to a fault of the desk, after which it was not called
+-- a text was printed and nothing else changed; or a part of it, up to a fault of the desk, after which the desk was not
+-- called
 abbrev pub Says : List ℕ → Seen → Seen → Type 0
 Says text old new =
     (n : ℕ) × (n ≤ length text) × (apart new.told ≡ after_say (take n text) (apart old.told))
     × (((n ≡ length text) × (new.writes ≡ old.writes)) ⊎ LastWriteFailed old new)
 
--- by one run of calls that say
+-- by one run of calls of `say`
 abbrev pub SaysAtOnce : List ℕ → Seen → Seen → Type 0
 SaysAtOnce text old new = Says text old new × Tells (said_by text) old.calls new.calls × (new.reads ≡ old.reads)
 
--- a refusal was said, or that there is no memory for its text
+-- the text of a refusal was printed, or that of `NoMemory` where memory ran out for it
 abbrev pub Refused : Refusal → Answer → Seen → Seen → Type 0
 Refused refusal answer old new =
     ((answer ≡ answer_of refusal) ⊎ ((answer ≡ NoMemory) × TakesMemory refusal)) × SaysAtOnce (answer_text answer) old new

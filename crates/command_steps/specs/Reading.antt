@@ -12,18 +12,18 @@ use Rattle.command_steps.specs.Inputs.{Input, KeepsReads, OfInput, IsThereAndGoo
 abbrev pub piece : ℕ
 piece = 65536
 
--- the calls that were made are as P says
+-- P holds of the calls that were made
 abbrev pub Calls : (List Call → Type 0) → Seen → Seen → Type 0
 Calls P old new = (calls : List Call) × P calls × Tells calls old.calls new.calls
 
 -- ---- one input
 
--- a read behind the first `at` bytes asks for a piece, or for what is left to one byte beyond the most; and only where
--- these first bytes may be read on
+-- a read behind the first `at` bytes asks for a piece, or for what is left up to one byte beyond the most; it comes only
+-- where these first bytes may be read on
 abbrev pub IsNextRead : (ℕ → Type 0) → ℕ → ℕ → ℕ → Type 0
 IsNextRead MayGoOn most at size = (at ≤ most) × MayGoOn at × (size ≡ min piece (most + 1 - at))
 
--- reads behind the first `at` bytes, one behind the other, up to one that fails or finds the end
+-- reads behind the first `at` bytes, one after the other, up to one that fails or finds the end
 abbrev pub AreReads : (ℕ → Type 0) → ℕ → ℕ → List Call → Type 0
 AreReads MayGoOn most at [] = ⊤
 AreReads MayGoOn most at (Read size None ∷ calls) = IsNextRead MayGoOn most at size × (calls ≡ [])
@@ -73,7 +73,7 @@ abbrev pub MayCome : Refusal → Bool → Type 0
 MayCome NoMemory kept = kept ≡ true
 MayCome refusal kept = TakesMemory refusal → kept ≡ true
 
--- an input at which a refusal stopped was opened, but where it could not be read
+-- an input at which a refusal stopped was opened, unless it could not be read
 abbrev pub EndsTaking : Refusal → Bool → List ℕ → Option Inputs → List Call → Type 0
 EndsTaking ReadFault kept name told calls = ⊤
 EndsTaking NoMemory kept name told calls = IsShortAt kept name told calls
@@ -88,7 +88,7 @@ AreTaken (input ∷ inputs) told calls =
     (first later : List Call) × (calls ≡ first ++ later) × IsWholeTakingOf input told first × IsThereAndGood input told
     × AreTaken inputs told later
 
--- or some of them, and then the one at which a refusal stopped, opened and read so far or not opened
+-- or some were, and then comes the one at which a refusal stopped: it was opened and read so far, or not opened
 abbrev pub AreTakenUpTo : List Input → Refusal → Option Inputs → List Call → Type 0
 AreTakenUpTo [] refusal told calls = calls ≡ []
 AreTakenUpTo (input ∷ inputs) refusal told calls =
@@ -96,7 +96,7 @@ AreTakenUpTo (input ∷ inputs) refusal told calls =
     ⊎ ((first later : List Call) × (calls ≡ first ++ later) × IsWholeTakingOf input told first × IsThereAndGood input told
     × MayCome refusal input.judge.kept × AreTakenUpTo inputs refusal told later)
 
--- what a step leaves that takes inputs and nothing else: all of them, or up to one that is refused
+-- what comes of a step that only takes inputs: all of them are taken, or those before one that is refused
 pub record Took (inputs : List Input) (old new : Seen) : Type 0 where
   pub told : apart new.told ≡ apart old.told
   pub reads : new.reads ≡ old.reads
@@ -125,6 +125,6 @@ abbrev pub OpensBy : {A E : Type 0} → List ℕ → Result A E → List Call �
 OpensBy name (Ok _) calls = calls ≡ OpenIn name true ∷ []
 OpensBy name (Err _) calls = calls ≡ OpenIn name false ∷ []
 
--- the first bytes of a buffer are so many that were left of an input; none only at its end
+-- the first n bytes of a buffer are the next n of an input; none only at its end
 abbrev pub IsPiece : ℕ → List ℕ → List ℕ → Type 0
 IsPiece n rest buffer = (n ≤ length rest) × (n ≡ 0 → rest ≡ []) × (take n buffer ≡ take n rest)

@@ -8,7 +8,7 @@ use std::alloc::{AllocError, Global};
 pub trait Keeps {
     ghost kept: { Self → List ℕ };
 
-    /// Keeps a piece behind the others. The error is want of memory.
+    /// Keeps a piece behind the others. The error is out of memory.
     fn keep(&mut self, alloc: Global, piece: &[u8]) -> Result<(), AllocError>
         ensures { IfOk result (λ _. kept self.new ≡ kept self.old ++ piece.now) };
 }

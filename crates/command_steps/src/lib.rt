@@ -1,5 +1,5 @@
-//! The steps at a desk that all commands share: to read an input, to write outputs and say a text, and
-//! to say a refusal.
+//! The steps at a desk that all commands share: to read an input, to write outputs and print a text, and
+//! to report a refusal.
 #![tactic(auto)]
 
 mod keeps;

@@ -1,4 +1,4 @@
-//! Outputs, written one after the other, and a text that is said last.
+//! Outputs, written one after the other, and a text that is printed last.
 
 ghost use Rattle.std.specs.Prelude.{All, IsTrue, List, MatchResult, ℕ, ◌≡◌};
 ghost use Rattle.capture_desk.specs.Desks.{IsAllowed, Puts, WriteCounts, after_write};
@@ -42,7 +42,7 @@ fn write_output<C: Content, D: Desk>(name: &str, content: &C, desk: &mut D) -> R
     desk.finish()
 }
 
-/// Writes outputs, one after the other, and then says a text. Where a call fails, it is the last.
+/// Writes outputs, one after the other, and then prints a text. Where a call fails, it is the last.
 fn deliver<C: Content, D: Desk>(
     outputs: &[Output<'_, C>],
     text: &str,
@@ -61,8 +61,8 @@ fn deliver<C: Content, D: Desk>(
     say_all(desk, text.as_bytes())
 }
 
-/// Writes the outputs of a command, one after the other, says its text, and answers `Done`; `WriteFault` up to
-/// the first call that fails, after which none follows.
+/// Writes the outputs of a command, one after the other, prints its text, and answers `Done`. Where a call
+/// fails it answers `WriteFault`, and no call follows.
 pub fn finish<C: Content, D: Desk>(outputs: &[Output<'_, C>], text: &str, desk: &mut D) -> Answer
     requires { All (λ output. IsAllowed output.name.now (D.seen desk.old).told.may_create) outputs.now }
     ensures { Finishes (files_of C.bytes outputs.now) text.now result (D.seen desk.old) (D.seen desk.new) }

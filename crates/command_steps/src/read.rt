@@ -29,7 +29,7 @@ pub fn open<D: Desk>(name: &str, desk: &mut D) -> Result<(), Refusal>
     }
 }
 
-/// Reads a piece of the open input, of at most so many bytes, to the front of a buffer, and answers its length.
+/// Reads a piece of the open input, of at most `most` bytes, into the front of a buffer, and answers its length.
 pub fn read_into<D: Desk>(buffer: &mut [u8], most: usize, desk: &mut D) -> Result<usize, Failed>
     requires open { IsTrue (D.seen desk.old).told.input_open }
     requires some { 0 < most }
@@ -102,7 +102,7 @@ fn keep_opened<D: Desk, K: Keeps>(
 }
 
 /// Reads an input until it ends or one byte more than `most` was read, and gives each piece to its keeper. No memory is
-/// taken before it is open, so one that isn't there is a read fault even where there is none.
+/// taken before the input is open, so one that isn't there is a read fault even where no memory is left.
 pub fn read_pieces<D: Desk, K: Keeps>(
     alloc: Global,
     name: &str,

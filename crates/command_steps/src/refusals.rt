@@ -1,4 +1,4 @@
-//! Refusals, said as the last act.
+//! Refusals, reported as the last act.
 
 ghost use Rattle.std.specs.Prelude.{◌≡◌};
 ghost use Rattle.command_texts.specs.Texts.{answer_text};
@@ -9,14 +9,14 @@ use capture_desk::{Desk, say_all};
 use command_texts::{Answer, NO_MEMORY, Refusal, refusal_text, usage_text};
 use std::alloc::Global;
 
-/// Says a text as the last act: a fault of the desk changes nothing more.
+/// Prints a text as the last act: a fault of the desk changes nothing more.
 fn say_last<D: Desk>(text: &[u8], desk: &mut D)
     ensures { SaysAtOnce text.now (D.seen desk.old) (D.seen desk.new) }
 {
     let _ = say_all(desk, text);
 }
 
-/// Says the text of a refusal, and answers it; `NoMemory` where there is no memory for the text.
+/// Prints the text of a refusal, and answers it. Out of memory for that text, it prints and answers `NoMemory`.
 pub fn refuse<D: Desk>(alloc: Global, refusal: Refusal, desk: &mut D) -> Answer
     ensures { Refused refusal result (D.seen desk.old) (D.seen desk.new) }
 {
@@ -33,7 +33,7 @@ pub fn refuse<D: Desk>(alloc: Global, refusal: Refusal, desk: &mut D) -> Answer
     }
 }
 
-/// Says the text of a fault of the words, and answers it. It takes no memory.
+/// Prints the text of a fault of the words, and answers it. It takes no memory.
 pub fn refuse_words<D: Desk>(fault: UsageFault, desk: &mut D) -> Answer
     ensures answer { result ≡ Answer.Usage fault }
     ensures says { SaysAtOnce (answer_text (Answer.Usage fault)) (D.seen desk.old) (D.seen desk.new) }
