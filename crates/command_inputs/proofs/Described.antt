@@ -1,4 +1,4 @@
--- Why a description file is refused, in its reading or its judging.
+-- Why a description file is refused, in its reading or its check.
 use Rattle.std.proofs.Common.{◌≡◌, ◌<◌, ℕ, List, Option, length, Err, sym, ap, subst, ◌∙◌, cond}
 use Rattle.std.proofs.lemmas.Bool.{lt-ltb}
 use Rattle.capture_desc.specs.declared.desc.Desc.{Desc}

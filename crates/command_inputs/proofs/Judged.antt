@@ -1,4 +1,4 @@
--- What is so of the bytes of a file that was read whole, is so of the file.
+-- What is so of the bytes of a file that was read whole is so of the file.
 use Rattle.std.proofs.Common.{◌≡◌, List, ℕ, Option, Result, IfOk}
 use Rattle.std.proofs.lemmas.Result.{IfOk-weaker}
 use Rattle.capture_desk.specs.Desks.{Inputs}

@@ -127,7 +127,7 @@ pub entry_len : (size : ℕ) (spans : List Span) (bytes : List ℕ) (x : ℕ × 
 unfolding entry_field
 entry_len size spans bytes x e = (judged_len (entry_fault spans) size bytes x e).0
 
--- the words where they stand
+-- the words and where they are
 abbrev pub most_placed : ℕ
 most_placed = 4 + 8 * 4096 + 4 * 1048576 + 4
 

@@ -1,4 +1,4 @@
--- The second description of a chain, which is judged with the first.
+-- The second description of a chain, which is checked with the first.
 use Rattle.std.proofs.Common.{◌≡◌, List, ℕ, ◌∷◌, Some, Result, Ok, Err, IfOk}
 use Rattle.std.specs.Prelude.{OnOk}
 use Rattle.capture_desc.specs.declared.desc.Desc.{Desc}
@@ -61,7 +61,7 @@ module _ (first_name name : List ℕ) (first : Desc) (old new : Seen) (reads : O
   second_stops (BadChain fault) h = OfInput-map name old.told.inputs _ (λ bytes. OfInput first_name old.told.inputs (λ first_bytes. HasFault first_bytes bytes fault)) (has_fault fault) h
   second_stops refusal h = h
 
-  -- it is taken as one that is judged by both files
+  -- it is taken as one that is checked by both files
   pub second_taken : {A : Type 0} (inputs : List Input) (r : Result A Refusal) → Takes (a_second_with first name ∷ inputs) r old new → Takes (a_second_description first_name name ∷ inputs) r old new
   second_taken inputs r h =
       takes_as name (second_with first) (second_files first_name) inputs r old new

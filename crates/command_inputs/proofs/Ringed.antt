@@ -1,4 +1,4 @@
--- Why a ring file is refused, in its reading or its judging.
+-- Why a ring file is refused, in its reading or its check.
 use Rattle.std.proofs.Common.{◌≡◌, ◌<◌, ℕ, List, length, Err, sym, ap, subst, ◌∙◌, cond}
 use Rattle.std.proofs.lemmas.Bool.{lt-ltb}
 use Rattle.capture_file.specs.declared.Input.TheVariants as input

@@ -1,4 +1,4 @@
--- The description of a check, which is judged by a program.
+-- The description of a check, which is checked against a program.
 use Rattle.std.proofs.Common.{List, ℕ, ◌∷◌, Bool, true, false, Result}
 use Rattle.capture_desc.specs.declared.desc.Desc.{Desc}
 use Rattle.capture_desk.specs.Desks.{Seen}
@@ -26,7 +26,7 @@ module _ (program : RiscProgram) (name : List ℕ) (old new : Seen) where
   frame_stops refusal h = h
 
   module _ (d : Desc) (reads : OfInput name old.told.inputs (λ bytes. IsFrameFile bytes d)) where
-    -- what is found of the description, is found of the file
+    -- what is found of the description is found of the file
     pub found : (all_shown : Bool) (text : List ℕ) → Finds program d all_shown text → OfInput name old.told.inputs (λ bytes. FindsIn program bytes all_shown text)
     found all_shown text finds =
         OfInput-map name old.told.inputs (λ bytes. IsFrameFile bytes d) (λ bytes. FindsIn program bytes all_shown text)
@@ -49,7 +49,7 @@ module _ (program_name name : List ℕ) (program : RiscProgram) (fill : ℕ) (ol
       OfInput-map program_name old.told.inputs (λ program_bytes. GivesSound program_bytes program fill) (λ program_bytes. AreShown program_bytes bytes)
       (λ program_bytes accepts. record { program = program; fill = fill; accepts = accepts; shown = shown }) reads
 
-  -- what is found of the description, is found of both files
+  -- what is found of the description is found of both files
   pub found_by : (all_shown : Bool) (text bytes : List ℕ) → FindsIn program bytes all_shown text → OfInput program_name old.told.inputs (λ program_bytes. FindsBy program_bytes bytes all_shown text)
   found_by all_shown text bytes finds =
       OfInput-map program_name old.told.inputs (λ program_bytes. GivesSound program_bytes program fill) (λ program_bytes. FindsBy program_bytes bytes all_shown text)
@@ -62,7 +62,7 @@ module _ (program_name name : List ℕ) (program : RiscProgram) (fill : ℕ) (ol
       OfInput-map name old.told.inputs (λ bytes. FindsIn program bytes false text) (λ bytes. OfInput program_name old.told.inputs (λ program_bytes. FindsBy program_bytes bytes false text)) (found_by false text) h
   shown_stops refusal h = h
 
-  -- it is taken as one that is judged by both files
+  -- it is taken as one that is checked by both files
   pub shown_taken : {A : Type 0} (inputs : List Input) (r : Result A Refusal) → Takes (a_shown_with program name ∷ inputs) r old new → Takes (a_shown_description program_name name ∷ inputs) r old new
   shown_taken inputs r h =
       takes_as name (shown_with program) (shown_files program_name) inputs r old new

@@ -1,4 +1,4 @@
--- What is read to one byte beyond the longest file tells whether the file is too long, and else what the whole file is.
+-- What is read up to one byte beyond the longest file shows whether the file is too long, and else what the whole file is.
 use Rattle.std.proofs.Common.{◌≡◌, ◌≤◌, ◌<◌, ◌+◌, ◌∙◌, ℕ, List, Option, length, take, ap, subst, arith, length-take}
 use Rattle.std.proofs.lemmas.List.{take_all}
 use Rattle.capture_desk.specs.Desks.{Inputs}
@@ -11,7 +11,7 @@ is_longer most bytes content e long =
     let same = ap length e in
     omega (arith, size, same, long)
 
--- a file of which no more were read was read whole
+-- a file of which no more bytes were read than it may have was read whole
 pub is_whole : (most : ℕ) (bytes content : List ℕ) → bytes ≡ take (most + 1) content → length bytes ≤ most → bytes ≡ content
 is_whole most bytes content e few =
     let size = length-take (most + 1) content in

@@ -1,4 +1,4 @@
--- A program file is read to one byte beyond the longest: what is read tells what the whole file is.
+-- A program file is read up to one byte beyond the longest: what is read shows what the whole file is.
 use Rattle.std.proofs.Common.{◌≡◌, ℕ, zero, suc, ◌+◌, ◌-◌, ◌*◌, ◌<◌, ◌≤◌, ◌⊎◌, inl, inr, Bool, true, false, cond, List, [], ◌∷◌, ◌++◌, length, take, drop, Option, Some, None, Result, Ok, Err, refl, sym, ap, ◌∙◌, arith, length-append}
 use Rattle.std.specs.Prelude.{nat_le}
 use Rattle.std.proofs.lemmas.Bool.{le-leb, leb-true, leb-false}
@@ -43,7 +43,7 @@ module _ (size : ℕ) (more : List ℕ) where
   then_same x y f g (inl (p, e, d)) h = ap (λ r. r >>= f) e ∙ h p e ∙ sym (ap (λ r. r >>= g) d)
   then_same x y f g (inr (e, a, b)) h = ap (λ r. r >>= f) a ∙ sym (ap (λ r. r >>= g) b)
 
-  -- a value that was judged
+  -- a value that was checked
   judged_same : {A : Type 0} (kind : Option FileKind) (bytes : List ℕ) (value : A) (rest : List ℕ) →
       Same (judged kind size bytes >>= λ _. Ok (value, rest)) (judged kind longer (bytes ++ more) >>= λ _. Ok (value, rest ++ more))
   judged_same None bytes value rest = inl ((value, rest), refl, refl)
@@ -121,7 +121,7 @@ module _ (size : ℕ) (more : List ℕ) where
   bind_same x y f g (inl (p, e, d)) h = same_by (ap (λ r. r >>= f) e) (ap (λ r. r >>= g) d) (h p e)
   bind_same x y f g (inr (w, e, d)) h = inr (w, ap (λ r. r >>= f) e, ap (λ r. r >>= g) d)
 
-  -- the words where they stand
+  -- the words and where they are
   span_same : (from sum : ℕ) (bytes : List ℕ) → sum ≤ 1048576 → 8 + 4 * 1048576 ≤ length bytes + 4 * sum → Same (span_field size from sum bytes) (span_field longer from sum (bytes ++ more))
   unfolding span_field span_address_field span_length_field
   span_same from sum bytes few long =
@@ -289,7 +289,7 @@ module _ (size : ℕ) (more : List ℕ) where
       (λ x e. let len = form_len size bytes x e in after_form x (omega (arith, len, long)))
       ∙ sym (field_by_field longer (bytes ++ more))
 
--- what is read of a program file tells what the whole file is
+-- what is read of a program file shows what the whole file is
 pub read_is_whole : (bytes : List ℕ) → program_of (take (longest_program + 1) bytes) ≡ program_of bytes
 read_is_whole bytes = by_length (nat_le (length bytes) longest_program) refl
   where

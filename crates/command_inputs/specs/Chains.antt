@@ -1,4 +1,4 @@
--- Two description files that are read and judged, and make a chain.
+-- Two description files that are read and checked, and make a chain.
 use Rattle.std.specs.Prelude.{◌≡◌, ℕ, true, ⊤, List, Option, Some, Result, Ok}
 use Rattle.capture_desk.specs.Desks.{Inputs}
 use Rattle.capture_desc.specs.declared.desc.Desc.{Desc}
@@ -30,7 +30,7 @@ abbrev pub frame_files : Judge
 frame_files =
     record { most = longest_description; kept = true; MayGoOn = Always; IsGood = ByBytes HoldsFrame; IsBad = IsBadDescBy frame_fault }
 
--- ---- the second description, which is judged with the first
+-- ---- the second description, which is checked with the first
 
 -- two files are those of two descriptions
 pub record AreFrames (first_bytes second_bytes : List ℕ) (first second : Desc) : Type 0 where
@@ -72,7 +72,7 @@ a_second_description first_name name = record { name = name; judge = second_file
 
 -- ---- the second, where the first is known
 
--- two descriptions make no chain; want of memory is free
+-- two descriptions make no chain; running out of memory is free
 abbrev pub IsRefusedPair : Desc → Desc → Refusal → Type 0
 IsRefusedPair first second (BadChain fault) = chain_fault first second ≡ Some fault
 IsRefusedPair first second NoMemory = ⊤

@@ -1,4 +1,4 @@
--- A description that is judged by a program: whether the program shows each field that it describes.
+-- A description that is checked against a program: whether the program shows each field that it describes.
 use Rattle.std.specs.Prelude.{◌≡◌, ℕ, ⊤, Bool, true, false, List, Option, Ok}
 use Rattle.capture_desk.specs.Desks.{Inputs}
 use Rattle.capture_desc.specs.declared.desc.Desc.{Desc}
@@ -15,12 +15,12 @@ use Rattle.command_inputs.specs.Programs.{GivesSound}
 
 -- ---- what is found
 
--- of a program and a description: whether each described field is shown, and what is said of them
+-- of a program and a description: whether each described field is shown, and what is printed of them
 pub record Finds (program : RiscProgram) (d : Desc) (all_shown : Bool) (text : List ℕ) : Type 0 where
   pub shown : shows program d ≡ all_shown
   pub says : text ≡ check_text program d
 
--- why a description is refused; want of memory is free
+-- why a description is refused; running out of memory is free
 abbrev pub IsRefusedBy : RiscProgram → Desc → Refusal → Type 0
 IsRefusedBy program d (Differs text) = Finds program d false text
 IsRefusedBy program d NoMemory = ⊤

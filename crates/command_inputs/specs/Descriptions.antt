@@ -1,4 +1,4 @@
--- A description file that is read and judged, and the program that it asks for.
+-- A description file that is read and checked, and the program that it asks for.
 use Rattle.std.specs.Prelude.{◌≡◌, ℕ, true, ⊤, List, length, Option, Some, None, Result, Ok, Err, if◌then◌else◌, nat_lt}
 use Rattle.capture_desk.specs.Desks.{Inputs}
 use Rattle.capture_desc.specs.declared.desc.Desc.{Desc}
@@ -17,11 +17,11 @@ use Rattle.command_texts.specs.declared.refusal.Refusal.TheVariants.{Malformed, 
 use Rattle.command_steps.specs.Inputs.{Always, ByBytes, Input, Judge, OfInput}
 use Rattle.command_inputs.specs.Limits.{too_long}
 
--- the most bytes of a description file, which is read to one byte beyond them at most
+-- the most bytes of a description file, which is read up to one byte beyond them at most
 abbrev pub longest_description : ℕ
 longest_description = 1048576
 
--- a description without a fault of geometry, or the first
+-- a description without a fault of geometry, or the first such fault
 abbrev pub judged : Option BuildFault → Desc → Result Desc Refusal
 judged None d = Ok d
 judged (Some fault) d = Err (BadGeometry fault)
@@ -42,7 +42,7 @@ description_by fault_in bytes =
 abbrev pub description_of : List ℕ → Result Desc Refusal
 description_of bytes = description_by first_fault bytes
 
--- why a text describes no capture; want of memory is free
+-- why a text describes no capture; running out of memory is free
 abbrev pub Misreads : Result Desc DescFault → Refusal → Type 0
 Misreads found (BadDesc fault) = found ≡ Err fault
 Misreads found NoMemory = ⊤
@@ -61,7 +61,7 @@ pub record Describes (bytes : List ℕ) (d : Desc) : Type 0 where
 abbrev pub HoldsValid : List ℕ → Type 0
 HoldsValid bytes = (d : Desc) × Describes bytes d
 
--- why a file that isn't too long holds none; want of memory is free
+-- why a file that isn't too long holds none; running out of memory is free
 abbrev pub IsRefused : (Desc → Option BuildFault) → List ℕ → Refusal → Type 0
 IsRefused fault_in bytes NoMemory = ⊤
 IsRefused fault_in bytes (BadDesc fault) = description_by fault_in bytes ≡ Err (BadDesc fault)

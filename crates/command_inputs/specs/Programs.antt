@@ -1,4 +1,4 @@
--- A program file that is read and judged.
+-- A program file that is read and checked.
 use Rattle.std.specs.Prelude.{◌≡◌, ℕ, true, ⊤, List, Option, Result, Ok, Err}
 use Rattle.capture_desk.specs.Desks.{Inputs}
 use Rattle.machine_model.specs.declared.Cause.{Cause}
@@ -11,7 +11,7 @@ use Rattle.command_texts.specs.declared.refusal.Refusal.{Refusal}
 use Rattle.command_texts.specs.declared.refusal.Refusal.TheVariants.{Malformed, Rejected, NoMemory}
 use Rattle.command_steps.specs.Inputs.{Always, ByBytes, Input, Judge, OfInput}
 
--- the most bytes of a program file, which is read to one byte beyond them at most
+-- the most bytes of a program file, which is read up to one byte beyond them at most
 abbrev pub longest_program : ℕ
 longest_program = 4259857
 
@@ -22,7 +22,7 @@ pub record Accepts (found : Result ProgramFile FileFault) (program : RiscProgram
   pub reads : found ≡ Ok (record { program = program; fill = fill })
   pub sound : IsSound program
 
--- a file gives a program, and this is the first place of its path that isn't fine
+-- a file gives a program, and this is the first bad place of its path
 pub record Rejects (found : Result ProgramFile FileFault) (at nth : ℕ) (cause : Cause) : Type 0 where
   pub file : ProgramFile
   pub reads : found ≡ Ok file

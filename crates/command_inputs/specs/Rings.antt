@@ -1,4 +1,4 @@
--- A ring file that is read and judged, and the program that it asks for.
+-- A ring file that is read and checked, and the program that it asks for.
 use Rattle.std.specs.Prelude.{◌≡◌, ℕ, true, ⊤, List, length, Option, Result, Ok, Err, if◌then◌else◌, nat_lt}
 use Rattle.capture_desk.specs.Desks.{Inputs}
 use Rattle.machine_model.specs.Paths.{RiscProgram}
@@ -11,7 +11,7 @@ use Rattle.command_texts.specs.declared.refusal.Refusal.TheVariants.{Malformed, 
 use Rattle.command_steps.specs.Inputs.{Always, ByBytes, Input, Judge, OfInput}
 use Rattle.command_inputs.specs.Limits.{too_long}
 
--- the most bytes of a ring file, which is read to one byte beyond them at most
+-- the most bytes of a ring file, which is read up to one byte beyond them at most
 abbrev pub longest_ring : ℕ
 longest_ring = 1048576
 
@@ -32,7 +32,7 @@ pub record IsRingFile (bytes : List ℕ) (r : Ring) : Type 0 where
 abbrev pub HoldsRing : List ℕ → Type 0
 HoldsRing bytes = (r : Ring) × IsRingFile bytes r
 
--- why a file that isn't too long holds none; want of memory is free
+-- why a file that isn't too long holds none; running out of memory is free
 abbrev pub IsRefused : List ℕ → Refusal → Type 0
 IsRefused bytes NoMemory = ⊤
 IsRefused bytes (BadRing fault) = ring_of bytes ≡ Err (BadRing fault)

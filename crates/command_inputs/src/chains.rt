@@ -1,4 +1,4 @@
-//! The second description file of a chain, read and judged with the first.
+//! The second description file of a chain, read and checked with the first.
 
 ghost use Rattle.std.specs.Prelude.{◌≡◌, [], ◌∷◌, IfErr, IfOk, OnOk};
 ghost use Rattle.capture_desk.specs.Desks.{IsAllowed};

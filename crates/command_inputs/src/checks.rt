@@ -1,4 +1,4 @@
-//! The description file of a check, read and judged by a program.
+//! The description file of a check, read and checked against a program.
 
 ghost use Rattle.std.specs.Prelude.{[], ◌∷◌, IfErr, IfOk, true};
 ghost use Rattle.capture_desk.specs.Desks.{IsAllowed};
@@ -14,7 +14,7 @@ use planar_plan::Frame;
 use risc_verify::Accepted;
 use std::alloc::Global;
 
-/// Judges a description by a program.
+/// Checks a description against a program.
 fn judge(alloc: Global, program: &Accepted, frame: &Frame) -> Result<CheckText, Refusal>
     ensures shown { IfOk result (Finds program.now frame.now true) }
     ensures refused { IfErr result (IsRefusedBy program.now frame.now) }
@@ -28,8 +28,8 @@ fn judge(alloc: Global, program: &Accepted, frame: &Frame) -> Result<CheckText, 
     }
 }
 
-/// Reads the description file of a check and judges it by a sound program: the refusals of `frame_file`, and then
-/// `Differs` where the program doesn't show each field that is described. The text, of either kind, has a line for each
+/// Reads the description file of a check and checks it against a sound program: the refusals of `frame_file`, and then
+/// `Differs` where the program doesn't show each field that is described. The text of either answer has a line for each
 /// described field (this project's own rules).
 pub fn shown_file<D: Desk>(
     alloc: Global,

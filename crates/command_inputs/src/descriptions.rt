@@ -1,4 +1,4 @@
-//! A description file, read and judged.
+//! A description file, read and checked.
 
 ghost use Rattle.std.specs.Prelude.{◌≡◌, ◌≤◌, [], ◌∷◌, length, IfErr, IfOk, Ok};
 ghost use Rattle.capture_desc.specs.Description.{described};
@@ -45,7 +45,7 @@ fn geometry_refusal(error: BuildError) -> Refusal
     }
 }
 
-/// Reads and judges the bytes of a description file, with its program.
+/// Reads and checks the bytes of a description file, with its program.
 fn check_bytes(alloc: Global, bytes: &[u8]) -> Result<Checked, Refusal>
     requires { length bytes.now ≤ longest_description }
     ensures describes { IfOk result (Describes bytes.now) }
@@ -58,7 +58,7 @@ fn check_bytes(alloc: Global, bytes: &[u8]) -> Result<Checked, Refusal>
     }
 }
 
-/// Reads and judges the bytes of a description file, without its program.
+/// Reads and checks the bytes of a description file, without its program.
 fn frame_bytes(alloc: Global, bytes: &[u8]) -> Result<Frame, Refusal>
     requires { length bytes.now ≤ longest_description }
     ensures describes { IfOk result (IsFrameFile bytes.now) }
@@ -71,7 +71,7 @@ fn frame_bytes(alloc: Global, bytes: &[u8]) -> Result<Frame, Refusal>
     }
 }
 
-/// Reads a description file and judges its description: `Malformed` where it has more than 1,048,576
+/// Reads a description file and checks its description: `Malformed` where it has more than 1,048,576
 /// bytes, `BadDesc` where its text describes no capture, `BadGeometry` with the first fault of the
 /// geometry (this project's own rules).
 pub fn check_file<D: Desk>(alloc: Global, name: &str, desk: &mut D) -> Result<Checked, Refusal>
@@ -83,9 +83,9 @@ pub fn check_file<D: Desk>(alloc: Global, name: &str, desk: &mut D) -> Result<Ch
     check_bytes(alloc, &bytes)
 }
 
-/// Reads a description file of a chain, whose program isn't made: `Malformed` and `BadDesc` as `check_file`,
-/// and `BadGeometry` with the first fault of the geometry but those of the program's place (this project's
-/// own rules).
+/// Reads a description file of a chain or of a check, whose own program isn't made: `Malformed` and `BadDesc`
+/// as `check_file`, and `BadGeometry` with the first fault of the geometry that isn't one of the program's
+/// place (this project's own rules).
 pub fn frame_file<D: Desk>(alloc: Global, name: &str, desk: &mut D) -> Result<Frame, Refusal>
     requires { IsAllowed name.now (D.seen desk.old).told.may_open }
     ensures describes { IfOk result (λ frame. OfInput name.now (D.seen desk.old).told.inputs (λ bytes. IsFrameFile bytes frame)) }

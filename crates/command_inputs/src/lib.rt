@@ -1,5 +1,5 @@
-//! Inputs that are read and judged: program files, descriptions, one or the two of a chain or that of a check, ring files, and
-//! texts of listings.
+//! Inputs that are read and checked: program files, descriptions (one, the two of a chain, or that of a check), ring files,
+//! and texts of listings.
 #![tactic(auto)]
 
 mod chains;

@@ -12,7 +12,7 @@ use command_steps::read_whole;
 use command_texts::Refusal;
 use std::alloc::Global;
 
-/// Reads a whole file, to one byte beyond the most that it may have: `Malformed` there where it has more.
+/// Reads a whole file, up to one byte beyond the most bytes that it may have: `Malformed` at that byte where it has more.
 pub fn read_limited<D: Desk>(
     alloc: Global,
     name: &str,

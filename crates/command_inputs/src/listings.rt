@@ -31,7 +31,7 @@ impl Keeps for Pieces {
     }
 }
 
-// Reads a text to its end, or to one byte beyond the longest.
+// Reads a text to its end, or up to one byte beyond the longest.
 fn read_text<D: Desk>(alloc: Global, name: &str, desk: &mut D) -> Result<Text, Refusal>
     requires { IsAllowed name.now (D.seen desk.old).told.may_open }
     ensures bytes { IfOk result (λ text. OfInput name.now (D.seen desk.old).told.inputs (λ content. text ≡ take (most_bytes + 1) content)) }
@@ -44,9 +44,9 @@ fn read_text<D: Desk>(alloc: Global, name: &str, desk: &mut D) -> Result<Text, R
     Ok(pieces.text)
 }
 
-/// Reads a text to its end, or to one byte beyond 67,108,864 bytes, and assembles it: the program and the
-/// fill whose listing it is, or `BadText` with its first fault (this project's own rules). The program need
-/// not be sound. The text is let go before this answers.
+/// Reads a text to its end, or up to one byte beyond 67,108,864 bytes, and assembles it: the program and
+/// the fill whose listing it is, or `BadText` with its first fault (this project's own rules). The program
+/// need not be sound. The text is let go before this answers.
 pub fn assemble_file<D: Desk>(
     alloc: Global,
     name: &str,

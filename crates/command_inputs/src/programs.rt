@@ -1,4 +1,4 @@
-//! A program file, read and judged.
+//! A program file, read and checked.
 
 ghost use Rattle.std.specs.Prelude.{◌≡◌, ◌<◌, [], ◌∷◌, IfErr, IfOk, Ok};
 ghost use Rattle.capture_desk.specs.Desks.{IsAllowed};
@@ -69,8 +69,8 @@ fn verify_over<L: Ledger>(alloc: Global, program: Program, blank: Blank) -> Resu
 }
 
 /// Verifies a program. The verifier's steps are counted in a ledger of their own. Errors: `Bad` with the
-/// first place of the program's path that isn't fine, only where the program isn't sound; `Memory` for want
-/// of memory (what a fault is, and their order, is this project's own rule).
+/// first bad place of the program's path, only where the program isn't sound; `Memory` where memory ran
+/// out (what a fault is, and their order, is this project's own rule).
 fn verify_program(alloc: Global, program: Program) -> Result<Accepted, Why>
     ensures accepted { IfOk result (λ accepted. accepted ≡ program) }
     ensures refused { IfErr result (λ why. Refuses program why) }
@@ -79,7 +79,7 @@ fn verify_program(alloc: Global, program: Program) -> Result<Accepted, Why>
     verify_over::<Brand>(alloc, program, Blank::new(1))
 }
 
-/// Judges the program of a program file.
+/// Checks the program of a program file.
 fn judge(alloc: Global, file: ProgramFile) -> Result<Loaded, Refusal>
     ensures accepts { IfOk result (λ loaded. Accepts (Ok file) loaded.accepted loaded.fill) }
     ensures refuses { IfErr result (λ refusal. IsRefused file refusal) }
@@ -92,7 +92,7 @@ fn judge(alloc: Global, file: ProgramFile) -> Result<Loaded, Refusal>
     }
 }
 
-/// Reads a program file and judges its program.
+/// Reads a program file and checks its program.
 pub fn accept<D: Desk>(alloc: Global, name: &str, desk: &mut D) -> Result<Loaded, Refusal>
     requires { IsAllowed name.now (D.seen desk.old).told.may_open }
     ensures accepts { IfOk result (λ loaded. OfInput name.now (D.seen desk.old).told.inputs (λ bytes. Accepts (program_of bytes) loaded.accepted loaded.fill)) }

@@ -1,4 +1,4 @@
-//! A ring file, read and judged.
+//! A ring file, read and checked.
 
 ghost use Rattle.std.specs.Prelude.{◌≤◌, [], ◌∷◌, length, IfErr, IfOk};
 ghost use Rattle.capture_desk.specs.Desks.{IsAllowed};
@@ -16,7 +16,7 @@ use std::alloc::Global;
 /// The most bytes of a ring file.
 const LONGEST_RING: usize = 1_048_576;
 
-/// Reads and judges the bytes of a ring file.
+/// Reads and checks the bytes of a ring file.
 fn read_bytes(alloc: Global, bytes: &[u8]) -> Result<Ring, Refusal>
     requires { length bytes.now ≤ longest_ring }
     ensures ring { IfOk result (IsRingFile bytes.now) }
@@ -29,7 +29,7 @@ fn read_bytes(alloc: Global, bytes: &[u8]) -> Result<Ring, Refusal>
     }
 }
 
-/// Reads a ring file and judges its ring: `Malformed` where it has more than 1,048,576 bytes, `BadRing` with the
+/// Reads a ring file and checks its ring: `Malformed` where it has more than 1,048,576 bytes, `BadRing` with the
 /// first fault of its text, its keys or the ring's place in memory (this project's own rules).
 pub fn ring_file<D: Desk>(alloc: Global, name: &str, desk: &mut D) -> Result<Ring, Refusal>
     requires { IsAllowed name.now (D.seen desk.old).told.may_open }

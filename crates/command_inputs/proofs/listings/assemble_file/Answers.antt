@@ -1,4 +1,4 @@
--- What is read to one byte beyond the longest text tells what the whole text is.
+-- What is read up to one byte beyond the longest text shows what the whole text is.
 use Rattle.std.proofs.Common.{◌≡◌, ◌≤◌, ◌+◌, ◌∙◌, ℕ, List, length, take, Err, ap, subst, arith, length-take, refl}
 use Rattle.std.proofs.lemmas.List.{take_all}
 use Rattle.capture_file.specs.declared.program.ProgramFile.{ProgramFile}
@@ -15,7 +15,7 @@ use Rattle.command_inputs.specs.Listings.{GivesAssembled, HoldsListing, IsBadTex
 use Rattle.command_inputs.proofs.listings.assemble_file.Goals as goal
 
 module _ (text content : List ℕ) (e : text ≡ take (most_bytes + 1) content) where
-  -- a text of which no more bytes were read was read whole
+  -- a text of which no more bytes were read than it may have was read whole
   is_whole : length text ≤ most_bytes → text ≡ content
   is_whole few =
       let size = length-take (most_bytes + 1) content in

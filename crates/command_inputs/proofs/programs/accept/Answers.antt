@@ -1,4 +1,4 @@
--- A program that was read is judged.
+-- A program that was read is checked.
 use Rattle.std.proofs.Common.{◌≡◌, List, ℕ, Result, Ok, sym, subst, refl}
 use Rattle.std.proofs.lemmas.Result.{IfErr-weaker, IfOk-weaker}
 use Rattle.capture_file.specs.declared.FileFault.{FileFault}

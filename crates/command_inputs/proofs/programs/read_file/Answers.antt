@@ -1,4 +1,4 @@
--- What is read to one byte beyond the longest tells what the whole file is.
+-- What is read up to one byte beyond the longest file shows what the whole file is.
 use Rattle.std.proofs.Common.{◌≡◌, ◌+◌, ◌∙◌, List, ℕ, take, Result, Ok, Err, IfErr, IfOk, ap, sym, subst, refl}
 use Rattle.std.proofs.lemmas.Result.{IfErr-weaker, IfOk-weaker}
 use Rattle.capture_file.specs.declared.FileFault.{FileFault}
@@ -16,7 +16,7 @@ use Rattle.command_inputs.proofs.WholeFiles.{read_is_whole}
 use Rattle.command_inputs.proofs.programs.read_file.Goals as goal
 
 module _ (name : List ℕ) (old new : Seen) (bytes : List ℕ) (read : OfInput name old.told.inputs (λ content. bytes ≡ take (longest_program + 1) content)) where
-  -- what the bytes are found to be, the file is
+  -- what is found of the bytes is found of the file
   whole_found : (found : Result ProgramFile FileFault) → program_of bytes ≡ found → OfInput name old.told.inputs (λ content. program_of content ≡ found)
   whole_found found h =
       OfInput-map name old.told.inputs (λ content. bytes ≡ take (longest_program + 1) content) (λ content. program_of content ≡ found)
