@@ -18,7 +18,7 @@ use Rattle.capture_file.specs.Readers.{Closed, Failed, Opening, Phase, Reader, R
 use Rattle.stream_play.specs.Plays.{IsFormOf, IsPhaseOf, MayGive, MayStand, ReadsForm}
 
 module _ (c : Bool) where
-  -- what a reader gives, and what it is then
+  -- what a reader gives, and the reader after it
   abbrev Fits : Taken → Type 0
   Fits t = ReadsForm c t.reader × MayGive c t.answer
 
@@ -77,7 +77,7 @@ module _ (c : Bool) where
   patch_stands h [] = tt
   patch_stands h (slot ∷ rest) = slot_stands h (nat_lt slot 2) slot rest
 
-  -- a record's kind may stand in the stream
+  -- a record's kind may be in the stream
   abbrev KindStands : RecordKind → Type 0
   KindStands kind.Patch = c ≡ true
   KindStands _ = ⊤

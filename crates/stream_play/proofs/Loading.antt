@@ -20,7 +20,7 @@ module _ (chained : Bool) where
   stops_at_stream NoMemory name old mid new there opened counts h = tt
   stops_at_stream refusal name old mid new there opened counts h = absurd h
 
-  -- memory runs out for none of its refusals
+  -- it never runs out of memory, and the text of no refusal of it takes memory
   pub comes_of_stream : (refusal : Refusal) (rest : Option (List ℕ)) (mid new : Seen) → StopsPlaying chained rest refusal mid new → MayCome refusal false
   comes_of_stream ReadFault rest mid new h = λ takes. absurd takes
   comes_of_stream (Malformed Stream fault) rest mid new h = λ takes. absurd takes

@@ -33,7 +33,7 @@ module _ {S : Type 0} (act : Step → S → S) where
       (GoesOn-then p (resumed reader (first ++ (second ++ more))) now (resumed after (second ++ more)) later (resumed last more)
       (one (second ++ more)) (two more))
 
-  -- what an answer of the reader says of what is left
+  -- what is left after an answer of the reader
   pub GoesOn-after : (p : S) (step : Step) (whole left : Reading) (now : S) → whole ≡ with_step step left → now ≡ act step p → GoesOn act p whole now left
   GoesOn-after p step whole left now e f =
       subst (λ w. GoesOn act p w now left) (sym e) (subst (λ n. GoesOn act p (with_step step left) n left) (sym f) (GoesOn-step p step left))
@@ -55,7 +55,7 @@ GoesOn-from act at used m reader after last piece now later one two more =
     subst (λ bytes. GoesOn act m (resumed reader (piece ++ more)) later (resumed last (bytes ++ more))) (drop-drop used at piece)
     (GoesOn-then act m (resumed reader (piece ++ more)) now (resumed after (drop at piece ++ more)) later (resumed last (drop used (drop at piece) ++ more)) (one more) (two more))
 
--- what is handed behind the first bytes is handed with them
+-- what is handed behind the first bytes of a piece is handed with them
 pub handed_behind : {S : Type 0} (act : Step → S → S) (at used : ℕ) (m : S) (reader after last : Reader) (piece rest : List ℕ) (now later : S) → rest ≡ drop at piece →
     at ≤ length piece → after.place ≡ reader.place + at → ((more : List ℕ) → GoesOn act m (resumed reader (piece ++ more)) now (resumed after (drop at piece ++ more))) →
     HandedPart act used now after rest later last → HandedPart act (at + used) m reader piece later last

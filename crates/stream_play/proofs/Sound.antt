@@ -13,7 +13,7 @@ use Rattle.stream_play.specs.Plays.{EndsWell, GoesOn, HandedPart, longest_stream
 use Rattle.stream_play.specs.Runs.{HoldsNoFault}
 use Rattle.stream_play.proofs.Playing.{HandedTo}
 
--- a whole ends as what is left of it
+-- a whole ends well where what is left of it does
 pub well_from : {S : Type 0} (act : Step → S → S) (p : S) (whole : Reading) (now : S) (left : Reading) → GoesOn act p whole now left → EndsWell left → EndsWell whole
 well_from act p whole now left goes well = λ fault bad. well fault (goes.ending ∙ bad)
 
@@ -31,7 +31,7 @@ pub well_after : {S : Type 0} (act : Step → S → S) (m now : S) (reader after
 well_after act m now reader after piece run none part (Ok used) well = λ is. well_before act m now reader after piece run none part (well is)
 well_after act m now reader after piece run none part (Err fault) well = tt
 
--- a piece whose rest ends well
+-- a piece ends well where its rest does
 pub well_piece : {S : Type 0} (act : Step → S → S) (m now : S) (reader after : Reader) (piece : List ℕ) (at : ℕ) →
     ((more : List ℕ) → GoesOn act m (resumed reader (piece ++ more)) now (resumed after (drop at piece ++ more))) →
     EndsWell (resumed after (drop at piece)) → EndsWell (resumed reader piece)
@@ -40,13 +40,13 @@ well_piece act m now reader after piece at goes well =
     (well_from act m (resumed reader (piece ++ [])) now (resumed after (drop at piece ++ [])) (goes [])
     (subst (λ bytes. EndsWell (resumed after bytes)) (sym (append-nil (drop at piece))) well))
 
--- nothing was read
+-- before anything is read there is no fault
 pub nothing_wrong : (chained : Bool) (o : Option (List ℕ)) → OfRest o (λ bytes. HoldsNoFault chained (take 0 bytes))
 unfolding stream_of
 nothing_wrong chained None = tt
 nothing_wrong chained (Some bytes) = λ fault bad. absurd (cc)
 
--- one more piece was read
+-- nor once one more piece is read that ends well
 pub still_sound : {S : Type 0} (act : Step → S → S) (chained : Bool) (m now : S) (after : Reader) (at n : ℕ) (o : Option (List ℕ)) (new : List ℕ) → HandedTo act chained m now after at o now after →
     OfRest (option_map (λ bytes. drop at bytes) o) (λ rest. IsPiece n rest new) → EndsWell (resumed after (take n new)) →
     OfRest o (λ bytes. HoldsNoFault chained (take (at + n) bytes))

@@ -14,6 +14,6 @@ module _ {K : Type 0} (notes : Notes K) where
   pub watched_played : (bytes : List ℕ) (w now : Watching K) → PlaysAll (watch_act notes) false bytes w now → HasPlayedWatched notes bytes w now
   watched_played bytes w now (steps, reads, is) = (steps, reads, is ∙ acted_watched steps w)
 
-  -- so did the machine
+  -- so did the machine that is watched
   pub machine_played : (bytes : List ℕ) (w now : Watching K) → PlaysAll (watch_act notes) false bytes w now → HasPlayed bytes w.machine now.machine
   machine_played bytes w now plays = let played = watched_played bytes w now plays in (played.0, played.1, ap (λ (x : Watching K). x.machine) played.2)

@@ -77,7 +77,7 @@ pub record IsRun (Gives : List ℕ → RiscProgram → ℕ → Type 0) (file str
   pub gives : Gives file r.program r.fill
   pub reads : steps_of longest_stream false stream ≡ Ok r.steps
 
--- P of what ran, where the inputs are told
+-- P of what ran, where the desk tells the inputs
 abbrev pub OfRun : (List ℕ → RiscProgram → ℕ → Type 0) → List ℕ → List ℕ → Option Inputs → (Ran → Type 0) → Type 0
 OfRun Gives file stream inputs P =
     OfInput file inputs (λ a. OfInput stream inputs (λ b. (r : Ran) × IsRun Gives a b r × P r))
@@ -105,7 +105,7 @@ chain_ran r = chain_of_two r.first r.second
 abbrev pub live_steps_of : LiveRan → List LiveStep
 live_steps_of r = all_live_steps r.steps
 
--- the chain and its machine after all steps, from a memory that is filled as the first description says
+-- the chain and its machine after all steps, from a memory in which every granted byte is the first description's fill
 abbrev pub last_live_of : LiveRan → Live
 last_live_of r = live_run (chain_ran r) (first_live (chain_ran r) r.first.fill) (live_steps_of r)
 

@@ -50,17 +50,17 @@ pub fn play_file<D: Desk, P: Player + Drop>(
     Ok(player)
 }
 
-/// A player after its stream, and the text that is said of it.
+/// A player after its stream, and the text that is printed of it.
 #[derive(Drop)]
 pub struct Played<P> {
     /// The player after all steps of the stream.
     pub player: P,
-    /// What is said of it.
+    /// What is printed of it.
     pub text: ShortText,
 }
 
-/// Plays a whole stream file on a player as `play_file`, and makes the text that is said of it. All memory is taken before
-/// the stream is opened.
+/// Plays a whole stream file on a player as `play_file`, and makes the text that is printed of it. All memory is taken
+/// before the stream is opened.
 pub fn play_and_tell<D: Desk, P: Player + Reports + Drop>(
     alloc: Global,
     player: P,

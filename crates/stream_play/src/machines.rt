@@ -26,7 +26,8 @@ pub fn machine_of(
     Ok(Machine::new(accepted, ram, fifo))
 }
 
-/// Verifies a program that is surely sound, as any other is. The verifier's steps are counted in the ledger of `blank`.
+/// Verifies a program that is known to be sound. The verifier's steps are counted in the ledger of `blank`. The error is
+/// out of memory.
 fn accept_sound<L: Ledger>(
     alloc: Global,
     program: Program,
@@ -48,7 +49,7 @@ fn accept_sound<L: Ledger>(
     }
 }
 
-/// The machine of a program that is surely sound, as one that was compiled is, before its first step, as `machine_of`.
+/// The machine, as by `machine_of`, of a program that is known to be sound, as each compiled one is.
 pub fn machine_of_sound(
     alloc: Global,
     program: Program,

@@ -1,4 +1,4 @@
-//! What is said of a player once its stream was played.
+//! What is printed of a player once its stream was played.
 
 ghost use Rattle.std.specs.Prelude.{◌≡◌, ℕ, List};
 ghost use Rattle.command_texts.specs.Texts.{blocks_text as told_blocks, report_text as told_report};
@@ -10,7 +10,7 @@ use machine_watch::Watched;
 use page_ram::Ram;
 use ring_machine::BlockCount;
 
-/// A player of which something is said once its stream was played. Contracts see the bytes of that text.
+/// A player of which a text is printed once its stream was played. Contracts see the bytes of that text.
 pub trait Reports {
     ghost told: { Self → List ℕ };
 
@@ -19,7 +19,7 @@ pub trait Reports {
         ensures { result ≡ told self.now };
 }
 
-/// Of a machine its report.
+/// The text of a machine is its report.
 impl<R: Ram> Reports for Watched<R, ()> {
     ghost told = { λ w. told_report (report_of w.machine) };
 
@@ -28,7 +28,7 @@ impl<R: Ram> Reports for Watched<R, ()> {
     }
 }
 
-/// Of the machine of a ring how many blocks were ended, and its report.
+/// The text of a ring's machine is how many blocks were ended, and its report.
 impl<R: Ram> Reports for Watched<R, BlockCount> {
     ghost told = { λ w. told_blocks w.kept.blocks (report_of w.machine) };
 
@@ -37,7 +37,7 @@ impl<R: Ram> Reports for Watched<R, BlockCount> {
     }
 }
 
-/// Of a chain the report of its machine.
+/// The text of a chain is the report of its machine.
 impl<R: Ram> Reports for DoubleBuffer<R> {
     ghost told = { λ b. told_report (report_of b.live.machine) };
 
