@@ -54,7 +54,7 @@ five_digits n low high =
     ∙ ap (λ (m : ℕ). (48 + n / 10000) ∷ (48 + m % 10) ∷ (48 + n / 10 / 10 % 10) ∷ (48 + n / 10 % 10) ∷ (48 + n % 10) ∷ []) second
     ∙ ap (λ (m : ℕ). (48 + n / 10000) ∷ (48 + n / 1000 % 10) ∷ (48 + m % 10) ∷ (48 + n / 10 % 10) ∷ (48 + n % 10) ∷ []) third
 
--- a number of more than four digits, and the four that stand last
+-- a number of more than four digits, and its last four
 pub four_last : (n : ℕ) → 10000 ≤ n → n < 2 ^ 64 → decimal n ≡ decimal (n / 10000) ++ last_four (n % 10000)
 four_last n low high =
     let ten : n / 10 / 10 ≡ n / 100 = omega arith in

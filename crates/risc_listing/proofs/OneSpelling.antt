@@ -1,4 +1,4 @@
--- Words are the one spelling of the instruction that is read of them exactly where each bit that no
+-- Words are the canonical encoding of the instruction that is read of them exactly where each bit that no
 -- field names is 0.
 use Rattle.std.proofs.Common.{ℕ, zero, suc, ◌+◌, ◌*◌, ◌^◌, ◌≡◌, ◌<◌, Bool, true, false, List, [], ◌∷◌, Option, Some, None, Ok, refl, sym, ap, ◌∙◌, arith}
 use Rattle.std.specs.Prelude.{IfOk, IfSome, ◌==◌, ◌&&◌, if◌then◌else◌, slice_index}
@@ -127,7 +127,7 @@ number_back n =
     cond_both (n == 12) _ _ (IsNumbered n) (λ is. sym (eqb-true n 12 is)) (λ _.
     cond_both (n == 14) _ _ (IsNumbered n) (λ is. sym (eqb-true n 14 is)) (λ _. tt))))
 
--- what is read of words is spelled by them exactly where they are plain
+-- words are the canonical encoding of what is read of them exactly where they are plain
 abbrev IsExact : ℕ → List ℕ → Reading → Type 0
 IsExact word rest reading =
     IfOk reading (λ read. starts_with (λ one other. one == other) (word ∷ rest) (encoded read.0) ≡ are_unnamed_zero read.0 word (slice_index rest 0))
@@ -195,7 +195,7 @@ exact : (words : List ℕ) → ((k : ℕ) → slice_index words k < 2 ^ 32) →
 exact [] small = tt
 exact (word ∷ rest) small = exact_by_opcode word (small 0) rest (small 1)
 
--- what was read is spelled, by the test of the bits
+-- words are the canonical encoding of what was read, by the test of the bits
 pub spelled_where : (test other : Bool) (words : List ℕ) → ((k : ℕ) → slice_index words k < 2 ^ 32) → (instr : Instr) (number : ℕ) → Ok (instr, number) ≡ instr_at words 0 →
     TellsPlain test words → test ≡ other → spelled words ≡ (if other then Some (instr, number) else None)
 spelled_where test other words small instr number is told same =

@@ -1,4 +1,4 @@
--- Lines of words that stay what they are whatever words follow: no instruction has more than five words.
+-- Lines of words that stay the same whatever words follow: no instruction has more than five words.
 use Rattle.std.proofs.Common.{◌≡◌, ℕ, ◌+◌, ◌*◌, ◌≤◌, List, [], ◌∷◌, ◌++◌, length, drop, Ok, Err, inl, inr, refl, sym, ap, ◌∙◌, arith, length-append}
 use Rattle.std.specs.Prelude.{◌==◌, if◌then◌else◌, slice_index, Bool, Option, Some, None}
 use Rattle.std.specs.Cmp.Lexicographic.{pointwise}
@@ -23,7 +23,7 @@ sync_whole word None = λ is. cc
 chosen : (test : Bool) (one other : Reading) → IsWhole one → IsWhole other → IsWhole (if test then one else other)
 chosen test one other h k = cond_both test one other IsWhole (λ _. h) (λ _. k)
 
--- five words cut no instruction
+-- five words don't cut an instruction off
 whole : (opcode word a b c d : ℕ) (rest : List ℕ) → IsWhole (by_opcode opcode word (a ∷ b ∷ c ∷ d ∷ rest))
 whole opcode word a b c d rest =
     chosen (opcode == 1) _ _ (λ is. cc)

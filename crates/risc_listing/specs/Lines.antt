@@ -1,4 +1,4 @@
--- The text of an instruction. Each field stands after one space.
+-- The text of an instruction. One space is before each field.
 use Rattle.std.specs.Prelude.{ℕ, ◌+◌, ◌-◌, ◌/◌, ◌%◌, ◌^◌, Bool, true, false, List, [], ◌∷◌, ◌++◌, codes, if◌then◌else◌, ◌==◌, slice_index}
 use Rattle.std.specs.Fmt.{decimal, digits, padded_integral, format_spec}
 use Rattle.risc_word.specs.declared.Code.{Code}
@@ -15,12 +15,12 @@ hex width n = padded_integral (format_spec 32 0 4 width (2 ^ 64 - 1)) false [] (
 abbrev pub address_text : ℕ → List ℕ
 address_text n = hex 8 n
 
--- a word that stands only where its bit is set
+-- a word that is there only where its bit is set
 abbrev pub flag_text : List ℕ → Bool → List ℕ
 flag_text name true = name
 flag_text name false = []
 
--- a field of four bits that stands only where it isn't 0
+-- a field of four bits that is there only where it isn't 0
 abbrev pub nibble_text : List ℕ → ℕ → List ℕ
 nibble_text name n = if n == 0 then [] else name ++ digits 16 false n
 
@@ -75,7 +75,7 @@ instr_text (Write1S23 ctl ends off counts addr) =
 abbrev pub line_end : List ℕ
 line_end = 10 ∷ []
 
--- the line of an instruction that stands at an address
+-- the line of an instruction at an address
 abbrev pub instr_line : ℕ → Instr → List ℕ
 instr_line at instr = address_text at ++ (codes " " ++ (instr_text instr ++ line_end))
 

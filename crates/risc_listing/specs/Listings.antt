@@ -8,7 +8,7 @@ use Rattle.page_table.specs.Grants.{Chunk, is_page}
 use Rattle.machine_model.specs.Paths.{RiscProgram, Span, all_words, begins_at_base}
 use Rattle.risc_listing.specs.Lines.{hex, address_text, instr_line, line_end}
 
--- the instruction that words begin with and its length, where they are exactly its one spelling
+-- the instruction that words begin with and its length, where they are exactly its canonical encoding
 abbrev pub if_spelled : List ℕ → Reading → Option (Instr × ℕ)
 if_spelled words (Ok read) =
     if starts_with (λ one other. one == other) words (encoded read.0) then Some read else None
@@ -22,12 +22,12 @@ abbrev pub line_of : ℕ → ℕ → Option (Instr × ℕ) → List ℕ
 line_of at word (Some read) = instr_line at read.0
 line_of at word None = address_text at ++ (codes " word " ++ (address_text word ++ line_end))
 
--- so many words a line stands for
+-- how many words a line is of
 abbrev pub words_of : Option (Instr × ℕ) → ℕ
 words_of (Some read) = read.1
 words_of None = 1
 
--- the lines of words that stand from an address on. `skip` words are passed over: those of the
+-- the lines of the words from an address on. `skip` words are passed over: those of the
 -- instruction whose line was the last
 unfoldable pub word_lines : ℕ → ℕ → List ℕ → List ℕ
 word_lines at skip [] = []
@@ -35,7 +35,7 @@ word_lines at (suc skip) (_ ∷ rest) = word_lines (at + 4) skip rest
 word_lines at zero (word ∷ rest) =
     let found = spelled (word ∷ rest) in line_of at word found ++ word_lines (at + 4) (words_of found - 1) rest
 
--- a chunk of memory that the program may write; a page is told by its address alone
+-- a chunk of memory that the program may write; the line of a page has its address alone
 abbrev pub chunk_line : Chunk → List ℕ
 chunk_line c =
     if is_page c then codes "page " ++ (address_text c.at ++ line_end)
@@ -53,7 +53,7 @@ span_line at = codes "span " ++ (address_text at ++ line_end)
 abbrev pub entry_line : ℕ → List ℕ
 entry_line entry = codes "entry " ++ (address_text entry ++ line_end)
 
--- a span: its address, and the lines of its words, which are read by themselves
+-- a span: its address, and the lines of its words, which are read without those of other spans
 abbrev pub span_lines : Span → List ℕ
 span_lines s = span_line s.at ++ word_lines s.at 0 s.words
 

@@ -9,14 +9,14 @@ use Rattle.risc_word.specs.declared.Instr.TheVariants.{Write, Skip, WriteC, Jump
 abbrev pub is_zero : ℕ → ℕ → ℕ → Bool
 is_zero low width word = bits low width word == 0
 
--- a first word with a bit for each lane that is left out, and one without
+-- a first word that has a bit for each lane to leave out, and one that has no such bits
 abbrev pub are_unnamed_zero_in_data : ℕ → Bool
 are_unnamed_zero_in_data word = is_zero 25 1 word
 
 abbrev pub are_unnamed_zero_in_skip : ℕ → Bool
 are_unnamed_zero_in_skip word = is_zero 25 1 word && is_zero 12 4 word
 
--- a first word that has no count and no line ends, and that of a SYNC
+-- the first word of a JUMP, and that of a SYNC
 abbrev pub are_unnamed_zero_in_jump : ℕ → Bool
 are_unnamed_zero_in_jump word = is_zero 25 3 word && is_zero 0 16 word
 
@@ -38,7 +38,7 @@ are_unnamed_zero (Write123 ctl ends off counts addrs) first second = are_unnamed
 are_unnamed_zero (Skip123 ctl ends counts) first second = are_unnamed_zero_in_skip first && are_unnamed_zero_in_counts second
 are_unnamed_zero (Write1S23 ctl ends off counts addr) first second = are_unnamed_zero_in_data first && are_unnamed_zero_in_counts second
 
--- the test tells this of the instruction that stands at the words, where one does
+-- the test is whether each of these bits is 0 in the instruction that the words begin with, where they begin with one
 abbrev pub TellsPlain : Bool → List ℕ → Type 0
 TellsPlain test words =
     IfOk (instr_at words 0) (λ read. are_unnamed_zero read.0 (slice_index words 0) (slice_index words 1) ≡ test)

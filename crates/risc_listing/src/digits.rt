@@ -33,7 +33,7 @@ fn last_digit(n: u32) -> u8
     PAIRS[2 * (n % 256) as usize + 1]
 }
 
-// The digit before it.
+// The digit before the last.
 #[inline(always)]
 #[tactic(auto, using(crate::proofs::Hexadecimal::first_in_table))]
 fn last_but_one(n: u32) -> u8
@@ -117,7 +117,7 @@ fn unit(n: u16) -> u8
     DECIMAL_PAIRS[2 * n as usize + 1]
 }
 
-// The digit before it.
+// The digit before the last.
 #[inline(always)]
 #[tactic(auto, using(crate::proofs::Decimal::ten_in_table))]
 fn ten(n: u16) -> u8

@@ -36,8 +36,8 @@ pub const LONGEST_INSTR: usize = 5;
 /// Lines that are made at once.
 pub type Lines = ArrayString<ROOM>;
 
-// The instruction that the words begin with and its length, where they are exactly its one spelling.
-// `is_plain` tells whether each bit that no field names is 0.
+// The instruction that the words begin with and its length, where they are exactly its canonical encoding.
+// `is_plain` is whether each bit that no field names is 0.
 #[inline(always)]
 fn spelled(words: &[u32], is_plain: bool) -> Option<(Instr, usize)>
     requires { TellsPlain is_plain words.now }
@@ -55,7 +55,7 @@ fn spelled(words: &[u32], is_plain: bool) -> Option<(Instr, usize)>
 }
 
 // Appends the line of the instruction or the word that words begin with, and answers how many words
-// the line stands for.
+// the line is of.
 #[inline(always)]
 fn push_spelled<const CAP: usize>(
     text: &mut ArrayString<CAP>,
@@ -83,7 +83,7 @@ fn push_spelled<const CAP: usize>(
     }
 }
 
-// The same of any words. Each opcode has its own way to its line, which is what makes it fast.
+// The same of any words. Each opcode has a branch of its own, which makes this fast.
 #[inline(always)]
 fn push_line<const CAP: usize>(text: &mut ArrayString<CAP>, at: u32, words: &[u32]) -> usize
     requires some { 1 ≤ length words.now }
@@ -110,9 +110,9 @@ fn push_line<const CAP: usize>(text: &mut ArrayString<CAP>, at: u32, words: &[u3
     }
 }
 
-/// Appends the lines of words that stand from `base` on, from the word numbered `from` on, counted from 0, as many
-/// as surely have room, and answers the number of the first word that has no line yet. Where another line has room
-/// and there is another word, it appends a line at least. It takes no memory.
+/// Appends lines of the words from the address `base` on, as many as surely have room, beginning with the word numbered
+/// `from`, counted from 0. It answers the number of the first word that has no line yet. Where there is another word, and
+/// room for another line, it appends at least one. It takes no memory.
 pub fn push_words(text: &mut Lines, base: u32, words: &[u32], from: usize) -> usize
     requires from { from ≤ length words.now }
     requires ends { base + 4 * length words.now ≤ 2 ^ 32 }
@@ -127,8 +127,8 @@ pub fn push_words(text: &mut Lines, base: u32, words: &[u32], from: usize) -> us
     next
 }
 
-/// Appends the lines of words from one on, counted from 0, that stay what they are whatever words follow, as
-/// many as surely have room, and answers the number of the first word that has no line yet. It takes no memory.
+/// Appends lines as `push_words`, but only those that stay the same whatever words follow, so perhaps none. It answers
+/// the number of the first word that has no line yet. It takes no memory.
 pub fn push_settled(text: &mut Lines, base: u32, words: &[u32], from: usize) -> usize
     requires from { from ≤ length words.now }
     requires ends { base + 4 * length words.now ≤ 2 ^ 32 }
@@ -152,7 +152,7 @@ pub fn push_base(text: &mut Lines, base: u32)
     text.push_str("\n");
 }
 
-/// Appends the first line of a span, which tells its address.
+/// Appends the first line of a span, which has its address.
 pub fn push_span(text: &mut Lines, at: u32)
     requires { array_string_len text.old + 98 ≤ 65536 }
     ensures { text.new.bytes ≡ text.old.bytes ++ span_line at }
@@ -162,7 +162,7 @@ pub fn push_span(text: &mut Lines, at: u32)
     text.push_str("\n");
 }
 
-/// Appends the line behind the last span, which tells the entry.
+/// Appends the line behind the last span, which has the entry.
 pub fn push_entry(text: &mut Lines, entry: u32)
     requires { array_string_len text.old + 98 ≤ 65536 }
     ensures { text.new.bytes ≡ text.old.bytes ++ entry_line entry }
@@ -192,7 +192,7 @@ fn put_chunks(text: &mut String, chunks: &PageSet) -> Result<(), AllocError>
 }
 
 /// The last lines of a listing: the granted chunks in rising order, and the byte that fills memory at
-/// first. The error is want of memory.
+/// first. The error is out of memory.
 pub fn memory_lines(alloc: Global, chunks: &PageSet, fill: u8) -> Result<Vec<u8>, AllocError>
     ensures { IfOk result (λ text. text.items ≡ flat_map chunk_line chunks.now ++ fill_line fill) }
 {
@@ -202,7 +202,7 @@ pub fn memory_lines(alloc: Global, chunks: &PageSet, fill: u8) -> Result<Vec<u8>
     Ok(text.into_bytes())
 }
 
-/// Appends the lines of words that stand from an address on. The error is want of memory.
+/// Appends the lines of the words from an address on. The error is out of memory.
 pub fn put_words(text: &mut Vec<u8>, base: u32, words: &[u32]) -> Result<(), AllocError>
     requires { base + 4 * length words.now ≤ 2 ^ 32 }
     ensures { IfOk result (λ _. text.new.items ≡ text.old.items ++ word_lines base 0 words.now) }
@@ -257,7 +257,7 @@ fn put_all_words(text: &mut Vec<u8>, program: &Program) -> Result<(), AllocError
 /// The listing of a program whose memory is filled with `fill` at first, as the bytes of its lines: the
 /// instructions behind the base, or span by span with the entry behind them; the granted chunks in rising order; the
 /// fill. A word with a bit that no field of its instruction names has a line `word`, and so has a word where no
-/// instruction stands. The error is want of memory. It is for callers of the library: the program says a listing
+/// instruction is. The error is out of memory. It is for callers of the library: the program prints a listing
 /// piece by piece.
 pub fn list(alloc: Global, program: &Program, fill: u8) -> Result<Vec<u8>, AllocError>
     ensures { IfOk result (λ text. text.items ≡ listing program.now fill) }

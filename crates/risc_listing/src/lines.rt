@@ -19,7 +19,7 @@ use std::{fmt, str};
 /// No line of an instruction or of a word has more bytes.
 pub const LONGEST_LINE: usize = 98;
 
-// A word that stands only where its bit is set.
+// A word that is there only where its bit is set.
 #[inline(always)]
 fn push_flag<const CAP: usize>(text: &mut ArrayString<CAP>, name: &str, is_set: bool)
     requires { array_string_len text.old + length name.now ≤ CAP }
@@ -43,7 +43,7 @@ pub fn push_digit<const CAP: usize>(text: &mut ArrayString<CAP>, value: u8)
     text.push_str(unsafe { str::from_utf8_unchecked(&digits) });
 }
 
-// A field of four bits that stands only where it isn't 0.
+// A field of four bits that is there only where it isn't 0.
 #[inline(always)]
 fn push_nibble<const CAP: usize>(text: &mut ArrayString<CAP>, name: &str, value: u8)
     requires { array_string_len text.old + length name.now + 2 ≤ CAP }
@@ -206,7 +206,7 @@ fn push_planar<const CAP: usize>(
     push_counts(text, counts);
 }
 
-// The address at which a line stands, and a space.
+// The address that a line begins with, and a space.
 #[inline(always)]
 fn push_head<const CAP: usize>(text: &mut ArrayString<CAP>, at: u32)
     requires { array_string_len text.old + 9 ≤ CAP }
@@ -230,7 +230,7 @@ pub fn code_name(code: Code) -> &'static str
     }
 }
 
-// The text of a SYNC. It and those of the other instructions stay functions, so that the way from each opcode to
+// The text of a SYNC. It and those of the other instructions are never inlined, so that the path from each opcode to
 // its line is short.
 #[inline(never)]
 fn push_sync<const CAP: usize>(text: &mut ArrayString<CAP>, ctl: Ctl, resync: bool, code: Code)
@@ -399,7 +399,7 @@ fn push_instr<const CAP: usize>(text: &mut ArrayString<CAP>, instr: &Instr)
     }
 }
 
-/// Appends the line of an instruction that stands at an address.
+/// Appends the line of an instruction at an address.
 #[inline(always)]
 pub fn push_instr_line<const CAP: usize>(text: &mut ArrayString<CAP>, at: u32, instr: &Instr)
     requires { array_string_len text.old + 98 ≤ CAP }
@@ -411,7 +411,7 @@ pub fn push_instr_line<const CAP: usize>(text: &mut ArrayString<CAP>, at: u32, i
     text.push_str("\n");
 }
 
-/// Appends the line of a word that stands at an address, where it begins no instruction.
+/// Appends the line of a word at an address. The word begins no instruction.
 #[inline(always)]
 pub fn push_word_line<const CAP: usize>(text: &mut ArrayString<CAP>, at: u32, word: u32)
     requires { array_string_len text.old + 98 ≤ CAP }
@@ -424,7 +424,7 @@ pub fn push_word_line<const CAP: usize>(text: &mut ArrayString<CAP>, at: u32, wo
     text.push_str("\n");
 }
 
-/// The line of an instruction that stands at an address, for messages of callers of the library.
+/// The line of an instruction at an address, for messages of callers of the library.
 #[derive(Drop)]
 pub struct InstrLine<'a> {
     /// The address of its first word.

@@ -29,7 +29,7 @@ type AboveSecondCount = Field<12, 4>;
 
 type AboveThirdCount = Field<28, 4>;
 
-/// Whether these bits are 0 in the first word of an instruction that writes data.
+/// Whether the bits that no field names are 0 in the first word of an instruction that writes data.
 #[inline(always)]
 pub fn are_unnamed_zero_in_data(word: u32) -> bool
     ensures { result ≡ are_unnamed_zero_in_data word }
@@ -37,7 +37,7 @@ pub fn are_unnamed_zero_in_data(word: u32) -> bool
     Spare::get(word) == 0
 }
 
-/// The same of one that takes data and writes nothing.
+/// The same of an instruction that takes data and writes nothing.
 #[inline(always)]
 pub fn are_unnamed_zero_in_skip(word: u32) -> bool
     ensures { result ≡ are_unnamed_zero_in_skip word }
@@ -69,7 +69,7 @@ pub fn are_unnamed_zero_in_counts(word: u32) -> bool
     AboveSecondCount::get(word) == 0 && AboveThirdCount::get(word) == 0
 }
 
-/// A word, or 0 past the last.
+/// The word numbered `at`, counted from 0, or 0 past the last.
 #[inline(always)]
 pub fn word_or_zero(words: &[u32], at: usize) -> u32
     ensures { result ≡ slice_index words.now at }
