@@ -107,7 +107,7 @@ lowest Three ds m held before e =
 abbrev others_after : Queue → Option State → List Application
 others_after q after = elim after as (λ _. List Application) [ None ↦ [] | Some next ↦ applications 0 q next ]
 
--- what is asked before it, one by one
+-- what `falls_in` and `falls_through` ask of the machine, one by one
 pub record Falls (q : Queue) (entry : Entry) (m : State) (ds : Demands) : Type 0 where
   pub on : m.fifo_on ≡ true
   pub runs : m.risc_on ≡ true

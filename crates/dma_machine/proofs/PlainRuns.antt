@@ -243,7 +243,7 @@ module _ (q : Queue) (dword count : ℕ) (m : State) (instr : Instr) (ds : Deman
 
 -- ---- all of them
 
--- their bytes are stored, and asked no more
+-- their bytes are stored, and no longer asked for
 abbrev all_put : Queue → Instr → Demands → List (ℕ × ℕ) → State → State
 all_put q instr ds entries m = with_turns (more m.turns (turns_behind entries)) (put_down q (length entries * 4) instr ds 0 (dwords_of entries) m)
 
@@ -369,7 +369,7 @@ room_running at wait instr ds q count m is some le =
     by_phase phase.Waiting le = absurd (omega (arith, some, le))
     by_phase phase.Running le = refl
 
--- ---- as they are told of
+-- ---- by their DWORDs and the sum of their turns
 
 length_dwords : (entries : List (ℕ × ℕ)) → length (dwords_of entries) ≡ length entries * 4
 length_dwords [] = refl

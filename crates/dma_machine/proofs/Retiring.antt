@@ -76,6 +76,6 @@ module _ (m : State) (machine : IsMachine m) where
   retired_if false on e = cc
   retired_if true on e = in_job m.job on refl e
 
-  -- the instruction that retires stands at the address that is seen
+  -- the instruction that retires is at the address that is seen
   pub seen-RetiresAt : (seen m).did ≡ Retired → RetiresAt m (seen m).at
   seen-RetiresAt e = retired_if m.risc_on refl e

@@ -1,4 +1,4 @@
--- How many words spell an instruction of three counts.
+-- How many words an instruction of three counts has.
 use Rattle.std.proofs.Common.{◌≡◌, ℕ, ◌+◌, List, [], ◌∷◌, length, arith}
 use Rattle.risc_word.specs.declared.Ctl.{Ctl}
 use Rattle.risc_word.specs.declared.Ends.{Ends}

@@ -57,7 +57,7 @@ works_still-turns t (Running instr ds) m = refl
 pub is_still-turns : (t : ℕ) (m : State) → is_still (with_turns t m) ≡ is_still m
 is_still-turns t m = ap (λ still. if m.risc_on then still else true) (works_still-turns t m.job m)
 
--- counting leaves a flag that tells of it right
+-- a flag for it stays right where turns are counted
 pub StillIf-turns : (t : ℕ) (flag : Bool) (m : State) → StillIf flag m → StillIf flag (with_turns t m)
 StillIf-turns t true m e = is_still-turns t m ∙ e
 StillIf-turns t false m e = tt

@@ -1,4 +1,4 @@
--- A flag that isn't set tells nothing, and one that is set tells that the machine stands still.
+-- A flag that isn't set means nothing, and one that is set means that the machine stands still.
 use Rattle.std.proofs.Common.{◌≡◌, Bool, true, false}
 use Rattle.machine_model.specs.States.{State}
 use Rattle.dma_machine.specs.Stills.{StillIf}

@@ -33,7 +33,7 @@ falls_in _ q status m = false
 abbrev pub falls_through : Queue → ℕ → State → Bool
 falls_through q status m = m.fifo_on && (m.risc_on && falls_in m.job q status m)
 
--- bytes that lie in the lanes from `lane` on are stored, and asked no more
+-- bytes that lie in the lanes from `lane` on are stored, and no longer asked for
 abbrev pub put_down : Queue → ℕ → Instr → Demands → ℕ → List ℕ → State → State
 put_down q count instr ds lane bytes m =
     let d : Demand = demand_on q ds in

@@ -1,4 +1,4 @@
--- What is asked of a machine without a turn, and what a turn leaves to say of an instruction.
+-- What is asked of a machine without a turn, and which instruction a turn retires.
 use Rattle.std.specs.Prelude.{◌≡◌, ℕ, Bool, true, Option, Some, None, is_some}
 use Rattle.fifo_model.specs.declared.Queue.{Queue}
 use Rattle.fifo_model.specs.Queues.{Queues, front, queue_state}
@@ -31,7 +31,7 @@ drops_of _ _ queues = None
 abbrev pub next_drop : State → Option Queue
 next_drop m = drops_of m.risc_on m.job m.queues
 
--- where the instruction stands that the next turn retires, if it retires one
+-- the address of the instruction that the next turn retires, if it retires one
 abbrev pub retired_at : Did → ℕ → Option ℕ
 retired_at Retired at = Some at
 retired_at _ at = None
@@ -50,7 +50,7 @@ pub record CanGoOn (program : RiscProgram) (m : State) : Type 0 where
   pub grants : program.grants ≡ m.program.grants
   pub safe : IsSafe (with_program program m)
 
--- the instruction that this state retires stands at this address of the program, and pc is the address after it
+-- the instruction that this state retires is at this address of the program, and pc is the address after it
 pub record RetiresAt (m : State) (at : ℕ) : Type 0 where
   pub instr : Instr
   pub demands : Demands

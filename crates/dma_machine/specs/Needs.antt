@@ -1,4 +1,4 @@
--- What the code doesn't ask at run time, since the facts of the machine's type tell it.
+-- What the code doesn't check at run time, since it follows from the facts of the machine's type.
 use Rattle.std.specs.Prelude.{◌≡◌, ◌^◌, ◌≤◌, ◌<◌, ℕ, Bool, true, false, List, Option, Some, None, Ok, Err}
 use Rattle.risc_word.specs.declared.Ctl.{Ctl}
 use Rattle.risc_word.specs.declared.Instr.{Instr}
@@ -44,7 +44,7 @@ abbrev pub IsAddress : Option ℕ → Type 0
 IsAddress None = Unit {0}
 IsAddress (Some address) = address ≤ 2 ^ 32
 
--- a turn needs this, by the job
+-- what a turn needs, by the job
 pub record CanRun (m : State) (instr : Instr) (ds : Demands) : Type 0 where
   pub target : IsAddress m.target
   pub within : demands_cause (chunks_of m.memory) ds ≡ None

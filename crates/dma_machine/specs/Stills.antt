@@ -25,7 +25,7 @@ works_still (Running instr ds) m = runs_still ds m
 abbrev pub is_still : State → Bool
 is_still m = if m.risc_on then works_still m.job m else true
 
--- a flag that tells of it is set nowhere else
+-- a flag for it is set nowhere else
 abbrev pub StillIf : Bool → State → Type 0
 StillIf true m = is_still m ≡ true
 StillIf false m = Unit {0}

@@ -1,4 +1,4 @@
--- What the fields of the machine's engine say: the machine's state.
+-- The machine's state, by the fields of its engine.
 use Rattle.std.specs.Prelude.{List}
 use Rattle.risc_word.specs.declared.Instr.{Instr}
 use Rattle.page_table.specs.Blocks.{Block}

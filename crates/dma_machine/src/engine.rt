@@ -29,14 +29,14 @@ pub struct Wait {
     pub code: Code,
 }
 
-/// The machine's parts. Those that each turn asks for come first: near the front, shorter instructions reach them. `wait` means
-/// something while the machine waits, `instr` and `demands` while it runs.
+/// The machine's parts. Those that each turn uses come first, where the processor reaches them by shorter instructions. `wait`
+/// has a meaning only while the machine waits, `instr` and `demands` only while it runs.
 #[derive(Drop)]
 pub struct Engine<R> {
     pub phase: Phase,
     pub fifo_on: bool,
     pub risc_on: bool,
-    /// Set where turns do nothing but count until a push or a write of the host comes.
+    /// Set only where turns do nothing but count until a push or a write of the host comes.
     pub still: bool,
     pub trigger: u16,
     pub demands: Demands,
@@ -51,7 +51,7 @@ pub struct Engine<R> {
     pub skipping: Skipping,
     pub target: Option<u64>,
     pub pc: u64,
-    /// Where the span stands in which a word was found last, or none.
+    /// Where the span is in which a word was found last, or none.
     pub near: SpanPlace,
     pub ram: R,
     pub accepted: Accepted,
@@ -60,7 +60,7 @@ pub struct Engine<R> {
     ghost found: { IsNear accepted near },
 }
 
-/// Rows of a turn, each on its own. What happens once an instruction or less is cold, so that the compiler lays out the
+/// Rows of a turn, each on its own. What happens at most once an instruction is cold, so that the compiler lays out the
 /// moves of a DWORD in a row.
 impl<R: Ram> Engine<R> {
     ghost use Rattle.dma_machine.specs.Needs.{CanBegin, CtlFits, IsAddress};
@@ -165,7 +165,7 @@ impl<R: Ram> Engine<R> {
         self.pc += 4 * u64::from(count);
     }
 
-    /// Removes a front that is no control code while waiting.
+    /// Removes, while the machine waits, a front that is no control code.
     pub fn drop_front(&mut self, q: Queue)
         requires there { IsSome (front (queue_state q self.old.queues)) }
         requires no_code { front_code (queue_state q self.old.queues) ≡ None }
@@ -175,7 +175,7 @@ impl<R: Ram> Engine<R> {
         self.lose_step_unless(self.wait.resync);
     }
 
-    /// Removes the control codes at the three fronts: they are the awaited one or another.
+    /// Removes the control code at the three fronts: it is the awaited one or another.
     pub fn meet(&mut self, awaited: bool)
         requires one { IsSome (front_code self.old.queues.one) }
         requires two { IsSome (front_code self.old.queues.two) }

@@ -62,7 +62,7 @@ impl<R: Ram> Engine<R> {
         }
     }
 
-    /// Whether a front stands in a queue that is no control code.
+    /// Whether a queue has a front that is no control code.
     #[inline]
     fn is_stray(&self, q: Queue) -> bool
         ensures stray { result ≡ is_stray (queue_state q self.now.queues) }
@@ -99,7 +99,7 @@ impl<R: Ram> Engine<R> {
         }
     }
 
-    /// The control code that stands at the front of the three queues.
+    /// The control code that is at the front of all three queues.
     #[inline]
     pub fn common_code(&self) -> Option<Code>
         ensures code { result ≡ common_code self.now.queues }

@@ -169,7 +169,7 @@ impl<R: Ram> Engine<R> {
         }
     }
 
-    /// The parts of a machine at the base of its program. What `wait`, `instr` and `demands` are means nothing yet.
+    /// The parts of a machine at the base of its program. `wait`, `instr` and `demands` mean nothing yet.
     pub fn new(accepted: Accepted, ram: R, queues: Fifo) -> Engine<R>
         requires granted { chunks_of (R.memory ram) ≡ accepted.grants }
         requires empty { queues ≡ empty_fifo }

@@ -118,7 +118,7 @@ impl<R: Ram> Machine<R> {
         self.engine.push_control(c)
     }
 
-    /// Counts turns, which are taken then.
+    /// Counts turns, which are then taken.
     #[inline(always)]
     fn count(&mut self, count: u32)
         ensures state { self.new ≡ with_turns (more self.old.turns count) self.old }
@@ -150,7 +150,7 @@ impl<R: Ram> Machine<R> {
         self.act();
     }
 
-    /// Whether the machine is known to stand still: what ended the last turn tells it.
+    /// Whether the machine is known to stand still: whether its last turn found it so.
     #[inline(always)]
     fn is_known_still(&self) -> bool
         ensures { result ≡ true → is_still self.now ≡ true }
@@ -167,8 +167,8 @@ impl<R: Ram> Machine<R> {
         self.engine.still = true;
     }
 
-    /// Takes so many turns, which are counted, of a machine that stands still: they do nothing. In a loop of their own the
-    /// compiler sees it.
+    /// Takes so many turns, which are counted, of a machine that stands still: they do nothing. They have a loop of their own,
+    /// in which the compiler sees it.
     #[inline(always)]
     fn stay(&mut self, count: u32)
         requires { is_still self.old ≡ true }
@@ -245,7 +245,7 @@ impl<R: Ram> Machine<R> {
     }
 
     /// A push of a data entry to a queue, and so many turns of the controller behind it, as a stream mostly has them. Where
-    /// the first of these turns takes the entry whole, it need not stand in its queue. Each queue has code of its own.
+    /// the first of these turns takes the entry whole, it need not enter its queue. Each queue has code of its own.
     #[inline(never)]
     pub fn push_and_turns(&mut self, q: Queue, e: Entry, count: u32)
         requires { is_control (kind_of e.status) ≡ false }
@@ -259,7 +259,7 @@ impl<R: Ram> Machine<R> {
         }
     }
 
-    /// A push of a data entry, and the turn behind it where this turn takes the entry whole; whether it was taken.
+    /// A push of a data entry, and the turn behind it where this turn takes the entry whole. Answers whether the turn was taken.
     #[inline(always)]
     fn push_and_take_on(&mut self, q: Queue, e: Entry) -> bool
         requires { is_control (kind_of e.status) ≡ false }
@@ -280,9 +280,9 @@ impl<R: Ram> Machine<R> {
         falls
     }
 
-    /// A push of a data entry to a queue, and the turn behind it where this turn takes the entry whole, as within a line most
-    /// are taken: such an entry need not stand in its queue. Whether the turn was taken. It neither fetches an instruction
-    /// nor retires one.
+    /// A push of a data entry to a queue, and the turn behind it where this turn takes the entry whole, as it takes most
+    /// entries of a line: such an entry need not enter its queue. Answers whether the turn was taken. That turn neither
+    /// fetches an instruction nor retires one.
     #[inline(never)]
     pub fn push_and_take(&mut self, q: Queue, e: Entry) -> bool
         requires { is_control (kind_of e.status) ≡ false }
@@ -300,9 +300,10 @@ impl<R: Ram> Machine<R> {
         }
     }
 
-    /// How many plain entries of a queue, data entries with the status PixelsValid, `push_plain` may push: where each of them has
-    /// a turn behind it, this turn takes it whole, and then the machine stands still. None where the FIFO or RISC is disabled, no
-    /// data instruction runs, the trigger point is not 1, the line has not begun, a lane is off, or an entry waits.
+    /// How many plain entries, data entries with the status PixelsValid, `push_plain` may push to a queue. Where each of them has a
+    /// turn behind it, that turn takes it whole, and behind it the machine stands still. None where the FIFO or RISC is disabled, no
+    /// data instruction runs, the trigger point is not 1, the line has not begun, a lane is off, or an entry waits in this queue or
+    /// in another one of which the instruction asks something.
     #[inline]
     pub fn plain_room(&self, q: Queue) -> u32
         ensures room { result ≡ plain_room q self.now }
@@ -368,7 +369,7 @@ impl<R: Ram> Machine<R> {
         told
     }
 
-    /// Takes a turn without counting it, and tells what it did.
+    /// Takes a turn without counting it, and answers what it did.
     #[inline(always)]
     fn act_told(&mut self) -> Told
         ensures state { self.new ≡ acted self.old }
@@ -381,7 +382,7 @@ impl<R: Ram> Machine<R> {
     }
 
     /// Exchanges the machine's program for another one with which it can go on: one that begins at the same address, has
-    /// words at the same addresses and the same grants, and on whose path the machine stands (this project's own rule). Nothing else
+    /// words at the same addresses and the same grants, and on whose path the machine is (this project's own rule). Nothing else
     /// changes.
     pub fn swap(&mut self, other: &mut Accepted)
         requires { CanGoOn other.old self.old }
@@ -389,7 +390,7 @@ impl<R: Ram> Machine<R> {
         ensures other { other.new ≡ self.old.program }
         ensures facts { IsMachine self.new }
     {
-        // the call tells what each program keeps
+        // the call shows what each program keeps
         let _base = other.program().base();
         self.engine.near = SpanPlace::none();
         swap(&mut self.engine.accepted, other);
@@ -434,7 +435,7 @@ impl<R: Ram> Machine<R> {
         self.engine.holds(q)
     }
 
-    /// The address of the next instruction, behind the one that waits or runs. A word of the program stands there.
+    /// The address of the next instruction, behind the one that waits or runs. A word of the program is there.
     #[inline]
     pub fn pc(&self) -> u32
         ensures address { result ≡ self.now.pc }

@@ -23,7 +23,7 @@ fn planar_length(counts: &[u16; 3], addrs: &[u32]) -> u8
     1 + (counts.len() / 2) as u8 + addrs.len() as u8
 }
 
-/// The length of its one spelling in words.
+/// The length of an instruction's canonical encoding in words.
 pub fn length_in_words(instr: &Instr) -> u8
     ensures { result ≡ length (encoded instr.now) }
 {

@@ -1,4 +1,4 @@
-//! Turns that tell what they did: each looks at what comes, and then lets the code of turns do it.
+//! Turns that answer what they did: each looks at what comes, and then the code of turns does it.
 
 ghost use Rattle.dma_machine.specs.Noted.{noted};
 ghost use Rattle.machine_model.specs.Seen.{instr_did, seen_alone, taken_by, verdict_of};
@@ -58,7 +58,7 @@ fn told_alone(did: Did, at: u32) -> Told
     }
 }
 
-/// Whether a line's last entry goes with the bytes that are taken of it.
+/// Whether the bytes that are taken of an entry are its last, and the entry ends a line.
 fn ends_line(entry: Entry, taken: u8, count: u8) -> bool
     requires { taken + count ≤ 4 }
     ensures { result ≡ (is_end (kind_of entry.status) && taken + count == valid_bytes entry.status) }
@@ -157,7 +157,7 @@ impl<R: Ram> Engine<R> {
     ghost use Rattle.page_table.specs.Blocks.{chunks_of};
     ghost use Rattle.std.specs.Prelude.{◌≡◌, ◌*◌, ◌-◌, ◌^◌, None};
 
-    /// Where an instruction of so many words stands that waits or runs.
+    /// The address of the instruction that waits or runs, which has so many words.
     fn address_before(&self, words: u8) -> u32
         requires { self.now.pc < 2 ^ 32 }
         ensures { result ≡ self.now.pc - 4 * words }
@@ -301,7 +301,7 @@ impl<R: Ram> Engine<R> {
         }
     }
 
-    /// Where the instruction stands that the next turn retires, if it retires one.
+    /// The address of the instruction that the next turn retires, if it retires one.
     #[inline]
     pub fn next_retirement(&self) -> Option<u32>
         requires { self.now.pc < 2 ^ 32 }
@@ -342,8 +342,8 @@ impl<R: Ram> Engine<R> {
         }
     }
 
-    /// Takes a turn without counting it, and finds out whether those after it do nothing. A caller that asks only for what
-    /// is seen has a copy in which the compiler counts no bytes.
+    /// Takes a turn without counting it, and finds out whether those after it do nothing. For a caller that uses only what
+    /// is seen, the compiler makes a copy that counts no bytes.
     #[inline(always)]
     pub fn act_told(&mut self) -> Told
         requires can { CanWork (state_of R.memory self.old).job (state_of R.memory self.old) }

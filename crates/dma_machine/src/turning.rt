@@ -72,7 +72,7 @@ impl<R: Ram> Engine<R> {
         }
     }
 
-    /// Whether turns do nothing but count, also where the flag doesn't tell it yet.
+    /// Whether turns do nothing but count, also where the flag isn't set yet.
     #[inline]
     pub fn stands_still(&self) -> bool
         requires { StillIf self.now.still (state_of R.memory self.now) }
@@ -81,7 +81,7 @@ impl<R: Ram> Engine<R> {
         self.still || self.is_still()
     }
 
-    /// Counts turns, which are taken then.
+    /// Counts turns, which are then taken.
     #[inline(always)]
     pub fn count(&mut self, count: u32)
         ensures state { state_of R.memory self.new ≡ with_turns (more self.old.turns count) (state_of R.memory self.old) }
