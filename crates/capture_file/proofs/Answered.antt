@@ -96,7 +96,7 @@ pub taken-moves : (r : Reader) (piece : List ℕ) → IsReader r → Moves r pie
 unfolding taken
 taken-moves r piece is = phase-moves r.phase r piece is.at
 
--- Where no byte comes any more.
+-- Where no more bytes come.
 
 pub not-over : (limit count : ℕ) (found : Reading) → count ≤ limit → within limit count found ≡ found
 not-over limit count found h = ap (λ (b : Bool). within_if b limit found) (le-ltb limit count h)

@@ -304,7 +304,7 @@ passes_fields kind.Trigger tag turns rest more cut = passes_trigger rest more cu
 passes_fields kind.Patch tag turns rest more cut = passes_patch rest more cut
 passes_fields kind.Unknown tag turns rest more cut = absurd (cc)
 
--- anything passes no bytes
+-- whatever is found has a byte at least
 passes_none : (found : Found) (count : ℕ) → Spans found count → Passes found 0
 passes_none Cut count h = tt
 passes_none (Wrong from to fault) count h = omega arith

@@ -25,6 +25,6 @@ image_head layout count = image_name layout ++ little_bytes 4 count
 abbrev pub image_as : Layout → List Block → List ℕ
 image_as layout memory = image_head layout (length memory) ++ flat_map (block_image layout) memory
 
--- BMI1 where all chunks are pages, else BMI2: the number of the chunks, and they in rising order
+-- BMI1 where all chunks are pages, else BMI2: the number of the chunks, and the chunks in rising order
 unfoldable pub image_of : List Block → List ℕ
 image_of memory = image_as (layout_for (chunks_of memory)) memory

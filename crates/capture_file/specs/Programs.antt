@@ -183,8 +183,8 @@ chunk_count_field size bytes = do
   _ ← judged (chunk_count_fault count.0) size bytes
   Ok count
 
--- one chunk, where the one before it ends at `from` and those before have `sum` bytes: of a page the
--- address alone is written
+-- one chunk, where the one before it ends at `from` and those before have `sum` bytes: a page is its
+-- address alone
 abbrev pub page_fault : RiscProgram → ℕ → ℕ → Option FileKind
 page_fault program from at =
     if not (at % page_size == 0) then Some fault.Page
@@ -269,7 +269,7 @@ program_in size bytes = do
 abbrev pub program_of : List ℕ → Result ProgramFile FileFault
 program_of bytes = program_in (length bytes) bytes
 
--- the first words, and that a file has them: its fields up to there are right and whole
+-- the first words of a file; it has them where its fields up to there are right and whole
 abbrev pub first_words_field : ProgramForm → ℕ → List ℕ → Field RiscProgram
 first_words_field (Based layout) size bytes = based_field size bytes
 first_words_field Spanned size bytes = do

@@ -211,7 +211,7 @@ pub record Takes (step : Step) (count : ℕ) (r : Reader) (piece : List ℕ) (af
   pub moves : (before : ℕ) → PlacedAt r.phase r.place before → PlacedAt after.phase after.place (before + count)
   pub fits : StepFits step
 
--- how the bytes end that a reader used
+-- how the bytes that a reader used end
 abbrev pub ending_in : Phase → Ending
 ending_in Opening = Unfinished
 ending_in (Records form) = Unfinished

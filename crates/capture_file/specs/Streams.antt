@@ -89,7 +89,7 @@ abbrev pub control_at : List ℕ → Found
 control_at [] = Cut
 control_at (number ∷ _) = control_with number (code_numbered number)
 
--- so many turns a stream may have
+-- how many turns a stream may have
 abbrev pub most_turns : ℕ
 most_turns = 2 ^ 30
 
@@ -211,8 +211,8 @@ opened_by chained (Some word) rest = opened (form_of chained word) rest
 abbrev pub judged : Bool → List ℕ → Reading
 judged chained bytes = opened_by chained (number_at bytes) (drop 4 bytes)
 
--- so many bytes of which those below the limit read so: a byte at the limit is at fault, where no
--- field below it is
+-- a stream by how its bytes below the limit are read: where no field of these is at fault, a byte at
+-- the limit is
 abbrev pub too_long : ℕ → Ending → Ending
 too_long limit (Bad fault) = Bad fault
 too_long limit _ = Bad (fault_at limit fault.TooLong)

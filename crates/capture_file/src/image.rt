@@ -94,8 +94,8 @@ fn put_blocks<R: Ram, D: Desk>(ram: &R, layout: Layout, desk: &mut D) -> Result<
 
 /// Appends the image of a memory to the open output: `BMI1` where all chunks are pages, else `BMI2`,
 /// then the number of the chunks, and of each chunk, in rising order, its address, its length where it
-/// is no page, and its bytes (this project's own format). Where a write fails, a front of the image was
-/// appended.
+/// is no page, and its bytes (this project's own format). Where a write fails, some first bytes of the
+/// image were appended.
 #[tactic(auto, unfolding(crate::specs::Images::image_of))]
 pub fn write_image<R: Ram, D: Desk>(ram: &R, desk: &mut D) -> Result<(), Failed>
     requires open { IsTrue (D.seen desk.old).told.output_open }

@@ -64,7 +64,7 @@ pub enum FileKind {
     Enable(u8),
     /// A byte is after the last field.
     AfterEnd,
-    /// A byte is where the length of the file is limited.
+    /// The file has more bytes than it may have; the place is that of the first of these.
     TooLong,
     /// The counts of turns so far sum to more than 1,073,741,824.
     TooManyTurns,

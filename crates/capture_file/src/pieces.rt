@@ -32,8 +32,8 @@ fn feed(reader: &mut StepReader, piece: &[u8], steps: &mut Vec<Step>) -> Result<
     Ok(())
 }
 
-/// The steps of a stream that comes in these pieces, or its first fault, however it was cut. It is for callers
-/// of the library: the program plays a stream as it is read.
+/// The steps of a stream that comes in these pieces, however it is cut, or its first fault. The outer error is
+/// out of memory. This is for callers of the library: the program plays a stream as it is read.
 pub fn read_stream(
     alloc: Global,
     chained: bool,

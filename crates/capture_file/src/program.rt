@@ -37,7 +37,7 @@ pub struct ProgramFile {
 pub enum ProgramError {
     /// The first field that is cut or at fault.
     File(FileFault),
-    /// There was no memory.
+    /// Out of memory.
     Memory,
 }
 
@@ -196,7 +196,7 @@ fn span_end(spans: &Spans, number: usize) -> u64
     u64::from(spans.at(number)) + 4 * spans.words_of(number).len() as u64
 }
 
-// Whether an address is that of one of so many words.
+// Whether an address is that of one of so many words from `at` on.
 fn stands_in(at: u32, count: usize, address: u32) -> bool
     ensures { result ≡ (nat_le at address && (address - at) % 4 == 0 && nat_lt ((address - at) / 4) count) }
 {

@@ -103,7 +103,7 @@ fn fault(at: u64, kind: FileKind) -> FileFault
     FileFault { at, kind }
 }
 
-/// The bytes of a piece that stand below a limit.
+/// The bytes of a piece that are below a limit.
 #[inline]
 fn below(piece: &[u8], room: u64) -> &[u8]
     ensures { result.now ≡ take room piece.now }
@@ -426,8 +426,8 @@ impl StepReader {
     }
 
     /// Takes a data push whose record, of 6 bytes, lies whole at the front of the piece. There is none
-    /// where another record stands there, where a record is under way, or where the piece passes the
-    /// limit: then the reader stays as it was, and `take` goes on.
+    /// where another record is there, where a record is under way, or where the piece passes the
+    /// limit. Then the reader stays as it was, and `take` goes on.
     #[inline(always)]
     pub fn take_push(&mut self, piece: &[u8]) -> Option<(Queue, Entry)>
         ensures found { result ≡ push_in (front_record self.old piece.now) }
@@ -482,7 +482,7 @@ impl StepReader {
     }
 
     /// Whether the bytes used are a whole stream. Where they end before the end record, the fault is
-    /// `Short` at their number.
+    /// `Short`, and its place is their number.
     pub fn close(&self) -> Result<(), FileFault>
         ensures value { result ≡ closed_by self.now.place (ending_in self.now.phase) }
         ensures rest { resumed self.now [] ≡ reading [] (ending_in self.now.phase) }

@@ -35,7 +35,7 @@ pub enum RecordKind {
     Unknown,
 }
 
-/// What stands at the front of some bytes where a record begins.
+/// What is at the front of some bytes where a record begins.
 #[derive(Clone, Copy)]
 pub enum Found {
     /// The bytes end within the record.

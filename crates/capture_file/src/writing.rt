@@ -62,7 +62,7 @@ fn put_by<D: Desk>(desk: &mut D, numbers: &[u32], piece: &mut [u8]) -> Result<()
     Ok(())
 }
 
-// Appends numbers to the open output. A buffer for many takes time of its own, even for few.
+// Appends numbers to the open output. Few have a small buffer of their own, since a large one takes time even for few.
 pub fn put_numbers<D: Desk>(desk: &mut D, numbers: &[u32]) -> Result<(), Failed>
     requires open { IsTrue (D.seen desk.old).told.output_open }
     ensures puts { Puts (numbers_spelled numbers.now) result after_write (D.seen desk.old).told (D.seen desk.new).told }
@@ -251,9 +251,9 @@ fn put_as<D: Desk>(
     put(desk, &[fill])
 }
 
-/// Appends the one file of a program and a fill to the open output: `BRP1` or `BRP2` where the words are one after
-/// another from the entry on, or where there are none, by whether all chunks are pages; else `BRP3`. Where a write
-/// fails, a front of the file was appended.
+/// Appends the canonical encoding of a program and a fill to the open output. It is `BRP1` or `BRP2` where the words
+/// are one after another from the entry on, or where there are none: `BRP1` where all chunks are pages. Else it is
+/// `BRP3`. Where a write fails, some first bytes of it were appended.
 #[tactic(auto, unfolding(crate::specs::Programs::spelled))]
 pub fn write_program<D: Desk>(program: &Program, fill: u8, desk: &mut D) -> Result<(), Failed>
     requires open { IsTrue (D.seen desk.old).told.output_open }
