@@ -41,7 +41,7 @@ pub enum AsmFault {
 pub enum AsmError {
     /// The text is at fault.
     Bad(AsmFault),
-    /// There was no memory.
+    /// Out of memory.
     Memory,
 }
 
