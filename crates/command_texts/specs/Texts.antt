@@ -81,7 +81,7 @@ cause_words NoTarget = codes "no target"
 cause_words Wrap = codes "wrap"
 cause_words (Ungranted address) = codes "ungranted " ++ address_text address
 
--- a fault of a file of keys, which is named first; a key is printed as it is in the file
+-- a fault of a file of keys: the text begins with the file's name, and a key is printed as it is in the file
 abbrev pub key_text : List ℕ → List ℕ → List ℕ → List ℕ
 key_text file fault key = file ++ (codes ": " ++ (fault ++ (codes " key " ++ (key ++ line_end))))
 
@@ -162,7 +162,7 @@ blocks_text blocks r = codes "blocks " ++ (decimal blocks ++ (line_end ++ report
 abbrev pub accepted_text : List ℕ
 accepted_text = codes "accepted\n"
 
--- what `compile` and `assemble` print: the words of the program and its chunks, and what `make` prints
+-- what `compile` and `assemble` print: how many words and chunks the program has; and what `make` prints
 abbrev pub built_text : ℕ → ℕ → List ℕ
 built_text words pages = codes "words " ++ (decimal words ++ (codes " pages " ++ (decimal pages ++ line_end)))
 

@@ -32,8 +32,8 @@ pub enum Refusal {
     BadRing(RingFault),
     /// A text is not the listing of a program.
     BadText(AsmFault),
-    /// The program isn't sound: the address of the first place of its path that isn't fine, the
-    /// number of that place, counted from 0, and its fault.
+    /// The program isn't sound: the address of the first bad place of its path, the number of that
+    /// place, counted from 0, and its fault.
     Rejected { at: u64, nth: u64, cause: Cause },
     /// A program doesn't show each field of a description: a line for each described field.
     Differs(CheckText),

@@ -15,7 +15,7 @@ use std::marker::Model;
 /// The most bytes of a short text.
 const SHORT: usize = 256;
 
-/// A short text. It stands where it is, and takes no memory.
+/// A short text. Its bytes are in the value itself, so it takes no memory of an allocator.
 #[derive(Drop)]
 pub struct ShortText {
     text: ArrayString<SHORT>,
@@ -30,7 +30,7 @@ impl Model for ShortText {
 }
 
 impl ShortText {
-    /// What was made of it in lines.
+    /// The text in `lines`, which is short.
     fn of_lines(lines: &Lines) -> ShortText
         requires { array_string_len lines.now ≤ 256 }
         ensures { result ≡ lines.now.bytes }

@@ -20,7 +20,7 @@ use std::fmt;
 /// What is reported where an input could not be read.
 const READ_FAULT: &str = "read fault\n";
 
-/// What is reported out of memory.
+/// What is reported where memory ran out.
 pub const NO_MEMORY: &str = "no memory\n";
 
 /// What `verify` prints of a sound program.
