@@ -9,7 +9,7 @@ pub no_marks : (rows : List ℕ) → bad_rows rows [] ≡ []
 no_marks [] = refl
 no_marks (row ∷ rows) = refl
 
--- marks beyond the rows are of none
+-- marks beyond the rows count for nothing
 pub marks_of_rows : (rows : List ℕ) (marks : List Bool) (n : ℕ) → min (length marks) (length rows) ≤ n →
     bad_rows rows (take n marks) ≡ bad_rows rows marks
 marks_of_rows [] marks n few = refl

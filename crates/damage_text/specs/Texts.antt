@@ -12,7 +12,7 @@ abbrev pub field_name : Parity → List ℕ
 field_name Top = codes "top"
 field_name Bottom = codes "bottom"
 
--- the rows whose mark is that they are not whole; the shorter list ends them
+-- the rows whose marks are false: they are not whole. The shorter list ends both
 abbrev pub bad_rows : List ℕ → List Bool → List ℕ
 bad_rows (row ∷ rows) (true ∷ marks) = bad_rows rows marks
 bad_rows (row ∷ rows) (false ∷ marks) = row ∷ bad_rows rows marks
@@ -26,7 +26,7 @@ bad_line row = codes "bad " ++ (decimal row ++ codes "\n")
 abbrev pub whole_text : List Bool → List ℕ
 whole_text marks = decimal (count_by (λ is_whole. is_whole) marks) ++ (codes " of " ++ decimal (length marks))
 
--- a field, from its picture rows and the marks of its rows: none where it had no signal
+-- a field, from its picture rows and the marks of its rows; it has no marks where it had no signal
 abbrev pub field_text : Parity → List ℕ → Option (List Bool) → List ℕ
 field_text field rows None = field_name field ++ codes " none\n"
 field_text field rows (Some marks) =

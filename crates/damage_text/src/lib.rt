@@ -56,7 +56,7 @@ fn count_whole(marks: &[bool]) -> usize
     marks.iter().filter(|is_whole| **is_whole).count()
 }
 
-// Appends the line that tells how many rows of a field are whole.
+// Appends the line of how many rows of a field are whole.
 fn push_counts(text: &mut Lines, field: Parity, marks: &[bool])
     requires { array_string_len text.old + 60 ≤ 65536 }
     ensures bytes { text.new.bytes ≡ text.old.bytes ++ (field_name field ++ (codes " " ++ (whole_text marks.now ++ codes "\n"))) }
@@ -69,7 +69,7 @@ fn push_counts(text: &mut Lines, field: Parity, marks: &[bool])
     text.push_str("\n");
 }
 
-// Appends what is said of a field that had a signal.
+// Appends what is printed of a field that had a signal.
 fn push_marks(text: &mut Lines, desc: &Desc, field: Parity, marks: &[bool])
     requires few { field_height desc.now field ≤ 1024 }
     requires room { array_string_len text.old + 25660 ≤ 65536 }
@@ -81,7 +81,7 @@ fn push_marks(text: &mut Lines, desc: &Desc, field: Parity, marks: &[bool])
     push_bad_rows(text, desc, field, &marks[..shown]);
 }
 
-// Appends what is said of a field.
+// Appends what is printed of a field.
 fn push_field(text: &mut Lines, desc: &Desc, field: Parity, marks: Option<&[bool]>)
     requires few { field_height desc.now field ≤ 1024 }
     requires room { array_string_len text.old + 25660 ≤ 65536 }
@@ -97,8 +97,8 @@ fn push_field(text: &mut Lines, desc: &Desc, field: Parity, marks: Option<&[bool
     }
 }
 
-/// Appends what `damage` prints of a capture (this project's own rule), from the marks of the rows of its fields, which tell
-/// whether a row is a whole line: None for a field that had no signal. Of each described field, top first, it has a
+/// Appends what `damage` prints of a capture (this project's own rule), from the marks of the rows of its fields. A mark is
+/// true where the row is a whole line; a field that had no signal has None. For each described field, top first, there is a
 /// line `top none` without a signal, else a line `top M of N`, where M of N marked rows are whole, and a line `bad R`
 /// for each other picture row R, counted from 0, in rising order. The bottom field has lines `bottom` in the same
 /// way. Of two fields the top one has the picture rows of even number. A picture of a valid description has at most 1,024
