@@ -39,7 +39,7 @@ told-one t s loud = ap (λ (list : List ℕ). list ++ []) (ap (λ (quiet : Bool)
 pub told-after : (t : Tracing) (s : Step) → is_quiet s t.machine ≡ false → after_all t (s ∷ []) ≡ tracing (step s t.machine) 0
 told-after t s loud = ap (λ (quiet : Bool). tracing (step s t.machine) (still_after quiet t.still)) loud
 
--- a turn that is not
+-- a turn that has none
 pub quiet-one : (t : Tracing) → (seen t.machine).did ≡ Still → lines t (Turn ∷ []) ≡ []
 quiet-one t still = ap (λ (did : Did). told_if (is_still_did did) t Turn ++ []) still
 
@@ -67,7 +67,7 @@ still-after (suc count) m n still fits =
     ∙ still-after count (turn m) (more n 1) (still_stays m still) small
     ∙ ap (tracing (run (turn m) (replicate count Turn))) (more_more n count)
 
--- one at least
+-- where there is one turn at least
 pub still-after-some : (count : ℕ) (t : Tracing) → 0 < count → is_still t.machine ≡ true →
     after_all t (replicate count Turn) ≡ tracing (run t.machine (replicate count Turn)) (more t.still count)
 still-after-some zero t some still = absurd (omega (arith, some))

@@ -66,7 +66,7 @@ write_words (Trigger number) = codes "trigger" ++ count_text (4 * 2 ^ number)
 abbrev pub moved_words : Queue → ℕ → List ℕ
 moved_words q count = codes "move " ++ (queue_name q ++ count_text count)
 
--- one at whose last entry the instruction is given up
+-- a burst at whose last entry the instruction is given up
 abbrev pub given_up_words : Queue → ℕ → List ℕ
 given_up_words q count =
     if count == 0 then codes "give up " ++ queue_name q else moved_words q count ++ codes " give up"
@@ -135,7 +135,7 @@ abbrev pub is_quiet : Step → State → Bool
 is_quiet Turn m = is_still_did (seen m).did
 is_quiet _ m = false
 
--- the text of a step: it waits for the end of the turns of which nothing is seen
+-- the text of a step: none for a turn of which nothing is seen; any other step ends such turns, and their line comes before its own
 abbrev pub told_if : Bool → Tracing → Step → List ℕ
 told_if true t s = []
 told_if false t s = still_line t.still ++ line s t.machine
@@ -143,7 +143,7 @@ told_if false t s = still_line t.still ++ line s t.machine
 abbrev pub told_by : Tracing → Step → List ℕ
 told_by t s = told_if (is_quiet s t.machine) t s
 
--- the trace after a step
+-- how many turns of which nothing was seen come last after a step, and the trace after it
 abbrev pub still_after : Bool → ℕ → ℕ
 still_after true still = more still 1
 still_after false still = 0

@@ -143,9 +143,9 @@ impl<R: Ram> Trace<R> {
         self.still = self.still.saturating_add(u64::from(count));
     }
 
-    /// Takes turns one after the other, up to so many, as long as the text of another has room, and appends their lines;
-    /// how many are left. Where it has room for one at first, at least one is taken. A machine that stands still takes them
-    /// all at once.
+    /// Takes turns one after the other, at most `count`, as long as there is room for the text of another, and appends their
+    /// lines. Answers how many are left. Where there is room at first, at least one of `count` is taken. A machine that stands
+    /// still takes all that are left at once.
     pub fn turns(&mut self, count: u32, text: &mut Lines) -> u32
         ensures within { result ≤ count }
         ensures state { self.new ≡ after_all self.old (replicate (count - result) Turn) }

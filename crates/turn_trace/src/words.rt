@@ -259,7 +259,7 @@ impl Kept {
         }
     }
 
-    /// Keeps those of a pc and an INT_STAT.
+    /// Keeps the words of a pc and an INT_STAT.
     #[inline(always)]
     fn keep(&mut self, pc: u32, int_stat: u32)
         ensures { self.new ≡ (pc, int_stat) }
