@@ -45,7 +45,7 @@ pub tells_nothing : {K : Type 0} (notes : Notes K) (lets : Bool) → lets ≡ tr
 tells_nothing notes true is law = law
 tells_nothing notes false is law = absurd cc
 
--- with the machine
+-- the same, with the machine
 pub run_watched : {K : Type 0} (notes : Notes K) (q : Queue) (entries : List (ℕ × ℕ)) (m after : State) (k : K) → after ≡ run m (plain_steps q entries) →
     kept_after notes m (plain_steps q entries) k ≡ k → watching after k ≡ watched notes (plain_steps q entries) (watching m k)
 run_watched {K = K} notes q entries m after k ran keeps = ap₂ (λ (a : State) (x : K). watching a x) ran (sym keeps)

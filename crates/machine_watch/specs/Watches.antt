@@ -13,12 +13,12 @@ use Rattle.dma_machine.specs.FallThrough.{moved_whole}
 use Rattle.dma_machine.specs.Looks.{holds}
 use Rattle.dma_machine.specs.Plain.{plain_room}
 
--- how many plain entries may be pushed at once, where they may
+-- how many plain entries may be pushed at once; none where `lets` is false
 abbrev pub run_room : Bool → Queue → State → ℕ
 run_room lets q m = if lets then plain_room q m else 0
 
--- what is made of what is kept, where a turn of a machine with this program does what is seen of it, and where the queues
--- are emptied, of which these hold an entry
+-- What becomes of what is kept: `saw` is for a turn of a machine with this program, by what is seen of the turn, and
+-- `emptied` for queues that are emptied, by which of them hold an entry.
 pub record Notes (K : Type 0) : Type 0 where
   pub saw : RiscProgram → Seen → K → K
   pub emptied : Bool → Bool → Bool → K → K
@@ -32,11 +32,11 @@ module _ {K : Type 0} where
   abbrev pub watching : State → K → Watching K
   watching m k = record { machine = m; kept = k }
 
-  -- nothing is made of it
+  -- what is kept stays as it is
   abbrev pub no_notes : Notes K
   no_notes = record { saw = λ program seen k. k; emptied = λ one two three k. k }
 
-  -- of a turn that takes an entry whole, where this holds
+  -- it stays so at a turn that takes an entry whole, where this holds
   abbrev pub TellsNothingIf : Bool → Notes K → Type 0
   TellsNothingIf true notes = (program : RiscProgram) (q : Queue) (at : ℕ) (k : K) → notes.saw program (moved_whole q at) k ≡ k
   TellsNothingIf false notes = Unit {0}
@@ -46,7 +46,7 @@ module _ {K : Type 0} where
   written notes (Enable false risc) m k = notes.emptied (holds One m) (holds Two m) (holds Three m) k
   written notes write m k = k
 
-  -- what a step makes of it, from the state that the step meets: a push makes nothing
+  -- what a step makes of it, from the state that the step meets: a push leaves it as it is
   abbrev pub next : Notes K → State → Step → K → K
   next notes m Turn k = notes.saw m.program (seen m) k
   next notes m (Host write) k = written notes write m k

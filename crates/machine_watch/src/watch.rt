@@ -15,19 +15,19 @@ use page_ram::Ram;
 use risc_verify::Program;
 
 /// What is kept of a machine's steps beside the machine. Proofs see its `notes`: what a turn makes of it, by what is seen of
-/// the turn, and what the emptying of the queues makes of it. A push makes nothing of it, nor does a turn that does nothing.
+/// the turn, and what the emptying of the queues makes of it. A push leaves it as it is, and so does a turn that does nothing.
 pub trait Watch {
     ghost notes: { Notes Self };
 
     ghost LETS_FALL: { Bool };
 
-    /// Whether a turn that takes an entry whole may be told without the address of its instruction. Such an entry need not
-    /// stand in its queue.
+    /// Whether a turn that takes an entry whole may be noted without the address of its instruction. Such an entry need not
+    /// enter its queue.
     const LETS_FALL: bool;
 
     ghost LETS_RUN: { Bool };
 
-    /// Whether turns that take an entry whole make nothing of what is kept. Entries that fall through may then be taken many at once.
+    /// Whether turns that take an entry whole leave what is kept as it is. Many entries that fall through may then be taken at once.
     const LETS_RUN: bool;
 
     /// A turn of a machine with this program was taken.
@@ -63,8 +63,8 @@ pub trait Watch {
         }
     }
 
-    /// The same turns of a machine that may move, up to where it stands still. It stands out of line, so that a machine that
-    /// stands still saves no registers.
+    /// The same turns of a machine that may move, up to where it stands still. It is never inlined, so that no registers are
+    /// saved for a machine that stands still.
     #[cold]
     #[inline(never)]
     fn turns_apart<R: Ram>(&mut self, machine: &mut Machine<R>, count: u32)
@@ -106,14 +106,14 @@ pub trait Watch {
         }
     }
 
-    // a turn that does nothing makes nothing of what is kept
+    // a turn that does nothing leaves what is kept as it is
     ghost still: { (program : RiscProgram) (seen : SeenOf) (kept : Self) → seen.did ≡ Still → notes.saw program seen kept ≡ kept };
 
-    // nor does one that takes an entry whole, where they may be taken many at once
+    // so does one that takes an entry whole, where many may be taken at once
     ghost whole: { TellsNothingIf LETS_RUN notes };
 }
 
-/// Of a machine that nobody watches nothing is kept: it takes its turns as it does alone.
+/// Nothing is kept of a machine that nobody watches: it takes its turns as it does alone.
 impl Watch for () {
     ghost notes = { no_notes };
 

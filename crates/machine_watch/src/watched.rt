@@ -59,7 +59,8 @@ impl<R: Ram, W: Watch> Watched<R, W> {
             .push_and_turns(&mut self.machine, queue, entry, count);
     }
 
-    /// How many plain entries of a queue `push_plain` may push, as `Machine::plain_room`. None where turns that take an entry are told.
+    /// How many plain entries `push_plain` may push to a queue, as `Machine::plain_room`. None where turns that take an entry whole
+    /// may change what is kept.
     #[inline]
     pub fn plain_room(&self, queue: Queue) -> u32
         ensures { result ≡ run_room W.LETS_RUN queue self.now.machine }
