@@ -26,7 +26,7 @@ good_not_missing [] told good missing = missing
 good_not_missing (input ∷ inputs) told good (inl missing) = good_is_there input told good.0 missing
 good_not_missing (input ∷ inputs) told good (inr (there, later)) = good_not_missing inputs told good.1 later
 
--- the desk tells inputs of which one is missing
+-- where an input is missing the desk tells the inputs
 missing_told : (name : List ℕ) (told : Option Inputs) → is_missing name told ≡ true → AreTold told
 missing_told name None missing = absurd (cc)
 missing_told name (Some inputs) missing = tt

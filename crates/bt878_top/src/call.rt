@@ -168,11 +168,11 @@ pub fn bt878<D: Desk>(alloc: Global, words: &[&str], desk: &mut D) -> Answer
         OfRan (task_of words.now) (D.seen desk.old).told.inputs StaysInside }
 
     // At Done of these, for every description a field of which the program that ran shows (as `check` finds it),
-    // every picture of the field and all places of those steps: after the first end of a field that arrived in order
-    // and lost nothing, memory holds each byte of the picture that is not clipped at its place and is as it was
-    // everywhere else, and the control bits of the JUMP that ends the field are applied; no turn up to then sets
-    // FDSR; and once all entries were pushed the end comes within a bound of turns. Compiled programs show each
-    // described field (the law `compiled_programs_are_found` of check_law).
+    // every picture of the field and all places of those steps: let a field arrive in order and lose nothing, and take
+    // its first end. After it memory holds each byte of the picture that is not clipped at its place and is as it was
+    // everywhere else, and the control bits of the JUMP that ends the field are applied. No turn up to it sets FDSR.
+    // Once all entries were pushed it comes within a bound of turns. Compiled programs show each described field (the
+    // law `compiled_programs_are_found` of check_law).
     ensures pictures { (result ≡ Answer.Done) →
         OfRan (task_of words.now) (D.seen desk.old).told.inputs (OfSteps ShowsPictures) }
     ensures no_fault_shown { (result ≡ Answer.Done) →
@@ -187,10 +187,10 @@ pub fn bt878<D: Desk>(alloc: Global, words: &[&str], desk: &mut D) -> Answer
         OfRan (task_of words.now) (D.seen desk.old).told.inputs (OfSteps ShowsSignalledPictures) }
 
     // At Done of these, for every ring whose program and fill are those that ran (for `ring` the ring that was
-    // read), all lines and all places of those steps: where a ring run goes from place j up to and with step k,
-    // which ends a block, that is the block whose turn it is; after step k RISCI is set and the RISC status is
-    // the block's number, each block holds the lines of its last block end since j or what it held at j, and
-    // every other byte is as it was at j. No turn from j up to k sets FDSR.
+    // read), all lines and all places of those steps: let a ring run go from place j up to and with step k, which
+    // ends a block. That is the block whose turn it is. After step k RISCI is set and the RISC status is the block's
+    // number, each block holds the lines of its last block end since j or what it held at j, and every other byte
+    // is as it was at j. No turn from j up to k sets FDSR.
     ensures blocks { (result ≡ Answer.Done) →
         OfRan (task_of words.now) (D.seen desk.old).told.inputs (OfSteps ShowsRings) }
     ensures no_fault_in_rings { (result ≡ Answer.Done) →
@@ -226,9 +226,9 @@ pub fn bt878<D: Desk>(alloc: Global, words: &[&str], desk: &mut D) -> Answer
     // The part of a slot for a buffer is the fragment of the first description for buffer 0, and of the second for
     // buffer 1. At every place of that live run, what the turn there writes is granted, what it fetches is a word of
     // the chain, and OCERR is 0. For every part that is the fragment of a description, every field of it, every
-    // picture and all places: after the first signal of a field that arrived in order and lost nothing, memory
-    // shows the picture and is as it was everywhere else, RISCI is set and the RISC status is that of the field; no
-    // turn up to the signal sets FDSR; and once all entries were pushed the signal comes within a bound of turns.
+    // picture and all places: let a field arrive in order and lose nothing, and take its first signal. After it memory
+    // shows the picture and is as it was everywhere else, RISCI is set and the RISC status is that of the field. No
+    // turn up to it sets FDSR. Once all entries were pushed it comes within a bound of turns.
     ensures live_fragments { (result ≡ Answer.Done) →
         OfLive (task_of words.now) (D.seen desk.old).told.inputs HasFragments }
     ensures live_inside { (result ≡ Answer.Done) →

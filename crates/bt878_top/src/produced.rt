@@ -71,7 +71,7 @@ pub enum Produced<'a> {
     Listing(Listed),
     /// A trace, which is printed piece by piece.
     Traced(StreamTrace<PageRam>),
-    /// Which rows of a description are whole, which is put into words where it is printed.
+    /// Which rows of a description are whole; the text is made where it is printed.
     Damaged {
         checked: Checked,
         map: Watched<PageRam, Track>,
