@@ -6,6 +6,7 @@ pub mod Answered
 mod Wanting
 pub mod Fronts
 pub mod PairRuns
+pub mod OtherRecords
 pub mod Programs
 pub mod Chunks
 pub mod FourBytes

@@ -11,7 +11,8 @@ use Rattle.capture_file.specs.declared.reader.Got.TheVariants as got
 use Rattle.capture_file.specs.declared.records.Form.{Form}
 use Rattle.capture_file.specs.declared.records.Found.TheVariants.{Whole}
 use Rattle.capture_file.specs.declared.records.RecordKind.TheVariants as kind
-use Rattle.capture_file.specs.Pairs.{AreCopied, ArePairs, IsPair, TakesPairs, pair_dwords, pair_steps, pair_turns, plain_entry, push_tag}
+use Rattle.machine_model.specs.PlainEntries.{dwords_of, plain_entry, turns_behind}
+use Rattle.capture_file.specs.Pairs.{AreCopied, ArePairs, IsPair, TakesPairs, pair_steps, push_tag}
 use Rattle.capture_file.specs.Records.{StepFits}
 use Rattle.capture_file.specs.Readers.{IsReader, Phase, Reader, Records, behind, resumed, taken, taking}
 use Rattle.capture_file.specs.Streams.{data_with, fields_at, kind_of_tag, most_turns, number_at, push_if, is_data, record_at, turns_if, turns_of, turns_with, with_step}
@@ -54,23 +55,23 @@ pair_found queue before (t ∷ s ∷ a ∷ b ∷ c ∷ d ∷ u ∷ rest) dword t
 -- ---- and others behind it
 
 pub pairs_more : (queue : Queue) (before : ℕ) (bytes : List ℕ) (pairs : List (ℕ × ℕ)) (dword turns : ℕ) → ArePairs queue before bytes pairs →
-    IsPair queue (before + pair_turns pairs) (drop (11 * length pairs) bytes) dword turns → ArePairs queue before bytes (pairs ++ (dword, turns) ∷ [])
+    IsPair queue (before + turns_behind pairs) (drop (11 * length pairs) bytes) dword turns → ArePairs queue before bytes (pairs ++ (dword, turns) ∷ [])
 pairs_more queue before bytes [] dword turns are is =
     let same : before + 0 ≡ before = omega arith in (subst (λ n. IsPair queue n bytes dword turns) same is, tt)
 pairs_more queue before bytes (pair ∷ pairs) dword turns are is =
-    let sum : before + (pair.1 + pair_turns pairs) ≡ before + pair.1 + pair_turns pairs = omega arith in
+    let sum : before + (pair.1 + turns_behind pairs) ≡ before + pair.1 + turns_behind pairs = omega arith in
     let place : 11 * suc (length pairs) ≡ 11 + 11 * length pairs = omega arith in
     let rest : drop (11 * suc (length pairs)) bytes ≡ drop (11 * length pairs) (drop 11 bytes) = ap (λ n. drop n bytes) place ∙ sym (drop-drop (11 * length pairs) 11 bytes) in (
       are.0,
       pairs_more queue (before + pair.1) (drop 11 bytes) pairs dword turns are.1
-          (subst (λ zs. IsPair queue (before + pair.1 + pair_turns pairs) zs dword turns) rest (subst (λ n. IsPair queue n (drop (11 * suc (length pairs)) bytes) dword turns) sum is)),
+          (subst (λ zs. IsPair queue (before + pair.1 + turns_behind pairs) zs dword turns) rest (subst (λ n. IsPair queue n (drop (11 * suc (length pairs)) bytes) dword turns) sum is)),
     )
 
-turns_more : (pairs : List (ℕ × ℕ)) (dword turns : ℕ) → pair_turns (pairs ++ (dword, turns) ∷ []) ≡ pair_turns pairs + turns
+turns_more : (pairs : List (ℕ × ℕ)) (dword turns : ℕ) → turns_behind (pairs ++ (dword, turns) ∷ []) ≡ turns_behind pairs + turns
 turns_more [] dword turns = omega arith
 turns_more (pair ∷ pairs) dword turns = let rest = turns_more pairs dword turns in omega (arith, rest)
 
-dwords_more : (pairs : List (ℕ × ℕ)) (dword turns : ℕ) → pair_dwords (pairs ++ (dword, turns) ∷ []) ≡ pair_dwords pairs ++ lane_bytes dword
+dwords_more : (pairs : List (ℕ × ℕ)) (dword turns : ℕ) → dwords_of (pairs ++ (dword, turns) ∷ []) ≡ dwords_of pairs ++ lane_bytes dword
 dwords_more [] dword turns = refl
 dwords_more (pair ∷ pairs) dword turns = ap (λ bytes. lane_bytes pair.0 ++ bytes) (dwords_more pairs dword turns)
 
@@ -132,9 +133,9 @@ pair_taken limit chained form place turns piece queue dword count below few fits
     ∙ ap (λ bytes. with_step (Turns count) (resumed (between limit chained form (place + 11) (turns + count)) (bytes ++ more))) (drop-drop 5 6 piece))
 
 pub pairs_taken : (limit : ℕ) (chained : Bool) (form : Form) (place turns : ℕ) (piece : List ℕ) (queue : Queue) (pairs : List (ℕ × ℕ)) → place ≤ limit → place + length piece ≤ limit →
-    turns + pair_turns pairs ≤ most_turns → ArePairs queue turns piece pairs → (more : List ℕ) →
+    turns + turns_behind pairs ≤ most_turns → ArePairs queue turns piece pairs → (more : List ℕ) →
     resumed (between limit chained form place turns) (piece ++ more)
-    ≡ behind (pair_steps queue pairs) (resumed (between limit chained form (place + 11 * length pairs) (turns + pair_turns pairs)) (drop (11 * length pairs) piece ++ more))
+    ≡ behind (pair_steps queue pairs) (resumed (between limit chained form (place + 11 * length pairs) (turns + turns_behind pairs)) (drop (11 * length pairs) piece ++ more))
 pairs_taken limit chained form place turns piece queue [] below fits few are more =
     let at : place ≡ place + 11 * 0 = omega arith in
     let sum : turns ≡ turns + 0 = omega arith in
@@ -144,14 +145,14 @@ pairs_taken limit chained form place turns piece queue (pair ∷ pairs) below fi
     let long = is.whole in
     let size = length-drop 11 piece in
     let at : place + 11 + 11 * length pairs ≡ place + 11 * length (pair ∷ pairs) = omega arith in
-    let sum : turns + pair.1 + pair_turns pairs ≡ turns + (pair.1 + pair_turns pairs) = omega arith in
+    let sum : turns + pair.1 + turns_behind pairs ≡ turns + (pair.1 + turns_behind pairs) = omega arith in
     let here : 11 + 11 * length pairs ≡ 11 * length (pair ∷ pairs) = omega arith in
     pair_taken limit chained form place turns piece queue pair.0 pair.1 below (omega (arith, few)) fits (omega (arith, few)) is more
     ∙ ap (λ rest. with_step (Push queue (plain_entry pair.0)) (with_step (Turns pair.1) rest))
     (pairs_taken limit chained form (place + 11) (turns + pair.1) (drop 11 piece) queue pairs (omega (arith, long, fits)) (omega (arith, size, long, fits)) (omega (arith, few)) are.1 more
-    ∙ ap (λ n. behind (pair_steps queue pairs) (resumed (between limit chained form n (turns + pair.1 + pair_turns pairs)) (drop (11 * length pairs) (drop 11 piece) ++ more))) at
+    ∙ ap (λ n. behind (pair_steps queue pairs) (resumed (between limit chained form n (turns + pair.1 + turns_behind pairs)) (drop (11 * length pairs) (drop 11 piece) ++ more))) at
     ∙ ap (λ n. behind (pair_steps queue pairs) (resumed (between limit chained form (place + 11 * length (pair ∷ pairs)) n) (drop (11 * length pairs) (drop 11 piece) ++ more))) sum
-    ∙ ap (λ bytes. behind (pair_steps queue pairs) (resumed (between limit chained form (place + 11 * length (pair ∷ pairs)) (turns + pair_turns (pair ∷ pairs))) (bytes ++ more)))
+    ∙ ap (λ bytes. behind (pair_steps queue pairs) (resumed (between limit chained form (place + 11 * length (pair ∷ pairs)) (turns + turns_behind (pair ∷ pairs))) (bytes ++ more)))
     (drop-drop (11 * length pairs) 11 piece ∙ ap (λ n. drop n piece) here))
 
 -- nothing was taken
@@ -179,7 +180,7 @@ module _ (limit room turns count sum : ℕ) (chained : Bool) (form : Form) (piec
         copied = known;
         whole = λ more.
             pairs_taken limit chained form (limit - room) turns piece queue pairs (omega arith) (omega (arith, below, fits)) (omega (arith, few, left, turned)) known.there more
-            ∙ ap (λ n. behind (pair_steps queue pairs) (resumed (between limit chained form (limit - room + 11 * n) (turns + pair_turns pairs)) (drop (11 * n) piece ++ more))) known.many
+            ∙ ap (λ n. behind (pair_steps queue pairs) (resumed (between limit chained form (limit - room + 11 * n) (turns + turns_behind pairs)) (drop (11 * n) piece ++ more))) known.many
             ∙ ap (λ n. behind (pair_steps queue pairs) (resumed (between limit chained form (limit - room + 11 * count) (turns + n)) (drop (11 * count) piece ++ more))) turned
             ∙ ap (λ n. behind (pair_steps queue pairs) (resumed (between limit chained form n (turns + sum)) (drop (11 * count) piece ++ more))) place;
         within = within;

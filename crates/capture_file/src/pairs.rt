@@ -1,8 +1,8 @@
 //! Pairs of records, of which most streams are made: a push of four valid pixel bytes, and turns behind it.
 
-ghost use Rattle.capture_file.specs.Pairs.{AreCopied, IsPair, push_tag};
+ghost use Rattle.capture_file.specs.Pairs.{AreAll, AreCopied, IsPair, NoPair, push_tag};
 ghost use Rattle.capture_file.specs.Streams.{most_turns};
-ghost use Rattle.std.specs.Prelude.{◌≡◌, ◌-◌, ◌*◌, ◌≤◌, IfSome, List, length, ℕ};
+ghost use Rattle.std.specs.Prelude.{◌≡◌, ◌+◌, ◌-◌, ◌*◌, ◌≤◌, IfNone, IfSome, List, length, ℕ};
 
 use super::tags;
 use super::writing::spell_one;
@@ -32,6 +32,7 @@ fn pair_at(queue: Queue, left: u32, bytes: &[u8]) -> Option<(u32, u32)>
     requires { left ≤ most_turns }
     ensures pair { IfSome result (λ pair. IsPair queue (most_turns - left) bytes.now pair.0 pair.1) }
     ensures left { IfSome result (λ pair. pair.1 ≤ left) }
+    ensures none { IfNone result (NoPair queue (most_turns - left) bytes.now) }
 {
     if bytes.len() < PAIR
         || bytes[0] != push_tag(queue)
@@ -48,8 +49,8 @@ fn pair_at(queue: Queue, left: u32, bytes: &[u8]) -> Option<(u32, u32)>
     Some((dword, turns))
 }
 
-/// Copies the DWORDs of the pairs at the front of a piece, one behind the other, as far as pairs of the queue stand there and there is
-/// room, where so many turns are left to the stream. How many pairs, and the sum of their turns.
+/// Copies the DWORDs of the pairs of a queue at the front of a piece side by side, as many as are there and have room, where so many
+/// turns are left to the stream. How many pairs, and the sum of their turns.
 #[inline(never)]
 pub fn copy_pairs(queue: Queue, left: u32, piece: &[u8], dwords: &mut [u8]) -> (usize, u32)
     requires { left ≤ most_turns }
@@ -57,13 +58,15 @@ pub fn copy_pairs(queue: Queue, left: u32, piece: &[u8], dwords: &mut [u8]) -> (
     ensures within { 11 * result.0 ≤ length piece.now }
     ensures room { 4 * result.0 ≤ length dwords.new }
     ensures few { result.1 ≤ left }
+    ensures all { AreAll queue (most_turns - left + result.1) result.0 piece.now (length dwords.new) }
 {
     let most = (dwords.len() / 4).min(piece.len() / PAIR);
     let mut rest = left;
     let mut count = 0;
-    while count < most
-        && let Some((dword, turns)) = pair_at(queue, rest, &piece[PAIR * count..])
-    {
+    while count < most {
+        let Some((dword, turns)) = pair_at(queue, rest, &piece[PAIR * count..]) else {
+            return (count, left - rest);
+        };
         spell_one(dword, dwords, 4 * count);
         rest -= turns;
         count += 1;

@@ -2,7 +2,7 @@
 
 ghost use Rattle.capture_file.specs.Readers.{AnswerFits, Closed, Failed, Opening, Records, Counts, IsReader, PlacedAt, Stays, Uses, after_answer, behind_word, closed_by, closed_taken, ending_in};
 ghost use Rattle.capture_file.specs.Readers.{fresh, record_taken, resumed, room, taken, taking, word_taken, Takes, front_record};
-ghost use Rattle.capture_file.specs.Pairs.{TakesPairs};
+ghost use Rattle.capture_file.specs.Pairs.{AreAll, IsBetween, TakesPairs};
 ghost use Rattle.capture_file.specs.Records.{FoundFits, HasFour, Passes, Spans, StepFits, Sums, push_in, turns_in};
 ghost use Rattle.capture_file.specs.declared.FileFault.{FileFault};
 ghost use Rattle.capture_file.specs.declared.records.Found.TheVariants.{Cut};
@@ -450,12 +450,14 @@ impl StepReader {
 
     /// Takes pairs of records, a data push to the queue with the status PixelsValid and one turn or more behind it, that lie whole at
     /// the front of the piece, and copies their DWORDs, four bytes for each, one behind the other: how many pairs, of 11 bytes each, and
-    /// the sum of their turns. It may take fewer than stand there, and takes no more than there is room for. There are none where
-    /// `take_push` has none.
+    /// the sum of their turns. It takes all that are there and have room. None where a record is under way, or where the limit is
+    /// within the piece.
     #[inline]
     pub fn take_pairs(&mut self, queue: Queue, piece: &[u8], dwords: &mut [u8]) -> (usize, u32)
         ensures taken { (pairs : List (ℕ × ℕ)) × TakesPairs queue result.0 result.1 dwords.new self.old piece.now self.new pairs }
         ensures room { 4 * result.0 ≤ length dwords.new }
+        ensures all { IsBetween self.old piece.now → AreAll queue self.new.turns result.0 piece.now (length dwords.new) }
+        ensures none { (IsBetween self.old piece.now → ⊥) → result.0 ≡ 0 }
     {
         if let State::Between(_) = self.state
             && piece.len() as u64 <= self.room

@@ -1,6 +1,6 @@
 -- What is kept of a field under way, and how each step changes it.
 use Rattle.std.specs.Prelude.{◌≡◌, ℕ, Bool, true, false, not, ◌&&◌, ◌==◌, List, [], ◌∷◌, ◌++◌, drop, length, Option, Some, None, option_map, Ok, Err, if◌then◌else◌, nat_lt}
-use Rattle.std.proofs.Common.{ap}
+use Rattle.std.proofs.Common.{ap, refl}
 use Rattle.risc_word.specs.declared.Instr.TheVariants.{Jump, Sync}
 use Rattle.risc_word.specs.Words.{Reading}
 use Rattle.fifo_model.specs.declared.Queue.{Queue}
@@ -14,7 +14,7 @@ use Rattle.machine_model.specs.Paths.{RiscProgram, fetch}
 use Rattle.risc_word.specs.Parts.{instr_ends}
 use Rattle.machine_model.specs.States.{State}
 use Rattle.machine_model.specs.Steps.{Step}
-use Rattle.machine_watch.specs.Watches.{Notes, kept_after, next}
+use Rattle.machine_watch.specs.Watches.{FirstTellsIf, Notes, kept_after, next}
 use Rattle.capture_desc.specs.declared.desc.Desc.{Desc}
 use Rattle.damage_map.specs.Before.{before_of, before_rows}
 use Rattle.damage_map.specs.declared.before.LinesBefore.{LinesBefore}
@@ -163,6 +163,18 @@ track_notes =
 -- of a turn that does nothing there is nothing to note
 pub still_tells_nothing : (program : RiscProgram) (s : Seen) (t : FieldTrack) → s.did ≡ Still → track_notes.saw program s t ≡ t
 still_tells_nothing program s t still = ap (λ (did : Did). turned program did s t) still
+
+-- nor is there of a turn that takes an entry whole behind another of its queue
+taken_twice : (mark : LineMark) → taken_mark false (taken_mark false mark) ≡ taken_mark false mark
+taken_twice Fresh = refl
+taken_twice Within = refl
+taken_twice Done = refl
+taken_twice Spoilt = refl
+
+pub later_tell_nothing : FirstTellsIf true track_notes
+later_tell_nothing first later One at next t = ap (λ mark. record t { marks = record t.marks { one = mark } }) (taken_twice t.marks.one)
+later_tell_nothing first later Two at next t = ap (λ mark. record t { marks = record t.marks { two = mark } }) (taken_twice t.marks.two)
+later_tell_nothing first later Three at next t = ap (λ mark. record t { marks = record t.marks { three = mark } }) (taken_twice t.marks.three)
 
 -- what each step makes of it, from the state that the step meets
 abbrev pub track_next : State → Step → FieldTrack → FieldTrack

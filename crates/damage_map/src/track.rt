@@ -1,6 +1,6 @@
 //! What is kept of a field under way.
 ghost use Rattle.std.specs.Prelude.{◌≡◌, ◌∷◌, ℕ, Bool, List, Option, false, true, option_map, IfOk};
-ghost use Rattle.damage_map.specs.Tracks.{fresh, is_good, is_whole, left_mark, mark_on, met, met_mark, opened, rows_kept, signalled, still_tells_nothing, taken_mark, through, track_notes, untold, with_mark};
+ghost use Rattle.damage_map.specs.Tracks.{fresh, is_good, is_whole, later_tell_nothing, left_mark, mark_on, met, met_mark, opened, rows_kept, signalled, still_tells_nothing, taken_mark, through, track_notes, untold, with_mark};
 
 use crate::before::{LinesBefore, before_rows};
 use crate::lines::{Lines, Told};
@@ -188,10 +188,6 @@ impl Watch for Track {
 
     const LETS_FALL: bool = true;
 
-    ghost LETS_RUN = { false };
-
-    const LETS_RUN: bool = false;
-
     fn saw(&mut self, program: &Program, seen: &Seen) {
         match seen.did {
             Did::Synced => self.open(opens(program, seen.at)),
@@ -230,5 +226,5 @@ impl Watch for Track {
 
     ghost still = { still_tells_nothing };
 
-    ghost whole = { tt };
+    ghost whole = { later_tell_nothing };
 }

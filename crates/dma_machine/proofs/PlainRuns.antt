@@ -15,10 +15,12 @@ use Rattle.fifo_model.specs.Queues.{QueueState, IsFifo, front, is_ready, lane_by
 use Rattle.fifo_model.proofs.ChangesKeepQueues.{IsQueue-queue_state}
 use Rattle.machine_model.specs.declared.Demand.{Demand}
 use Rattle.machine_model.specs.declared.Demands.{Demands}
-use Rattle.machine_model.specs.declared.Job.TheVariants.{Running}
+use Rattle.machine_model.specs.declared.Job.{Job}
+use Rattle.machine_model.specs.declared.Job.TheVariants.{Idle, Running, Waiting}
+use Rattle.machine_model.specs.Paths.{RiscProgram}
 use Rattle.machine_model.specs.States.{State}
 use Rattle.machine_model.specs.Seen.{seen}
-use Rattle.machine_model.specs.Steps.{Push, Turn, push, run, step}
+use Rattle.machine_model.specs.Steps.{Push, Turn, push, run, step, with_program}
 use Rattle.machine_model.specs.Turns.{turn, Store, demand_less, demand_on, is_served, stored_all, stores_at, with_demand}
 use Rattle.machine_model.proofs.Runs.{run-append}
 use Rattle.dma_machine.specs.declared.engine.Phase.{Phase}
@@ -397,6 +399,16 @@ plain_taken q instr ds m sum dwords (entry ∷ entries) job fifo few room plain 
     let many = length_dwords (entry ∷ entries) in
     let same = ap length plain.dwords in
     all_taken q instr ds (entry ∷ entries) m (takes_room q (length (entry ∷ entries)) m instr ds job fifo (omega arith) (omega (arith, many, same, room))) few plain.each
+
+-- ---- whatever the program is
+
+room-program : (program : RiscProgram) (job : Job) (q : Queue) (m : State) → room_in job q (with_program program m) ≡ room_in job q m
+room-program program Idle q m = refl
+room-program program (Waiting ctl resync code) q m = refl
+room-program program (Running instr ds) q m = refl
+
+pub plain_room-program : (program : RiscProgram) (q : Queue) (m : State) → plain_room q (with_program program m) ≡ plain_room q m
+plain_room-program program q m = ap (λ room. if m.fifo_on && m.risc_on then room else 0) (room-program program m.job q m)
 
 -- ---- they leave a machine
 

@@ -7,6 +7,7 @@ ghost use Rattle.dma_machine.specs.FallThrough.{MovesWhole, falls_through};
 ghost use Rattle.dma_machine.specs.Facts.{IsMachine, report_of};
 ghost use Rattle.dma_machine.specs.Looks.{CanGoOn, RetiresAt, holds, next_drop, next_fetch, next_retirement};
 ghost use Rattle.dma_machine.specs.Plain.{AreTaken, plain_room};
+ghost use Rattle.machine_model.specs.Paths.{RiscProgram};
 ghost use Rattle.machine_model.specs.PlainEntries.{ArePlain, plain_steps};
 ghost use Rattle.dma_machine.specs.Stills.{is_still};
 ghost use Rattle.fifo_model.specs.Queues.{empty_queues, max_capacity, more, empty_fifo, queue_state};
@@ -321,6 +322,7 @@ impl<R: Ram> Machine<R> {
         requires room { length dwords.now ≤ 4 * plain_room q self.old }
         requires plain { (entries : List (ℕ × ℕ)) × ArePlain dwords.now turns entries }
         ensures state { (entries : List (ℕ × ℕ)) → ArePlain dwords.now turns entries → self.new ≡ run self.old (plain_steps q entries) }
+        ensures others { (program : RiscProgram) (entries : List (ℕ × ℕ)) → ArePlain dwords.now turns entries → with_program program self.new ≡ run (with_program program self.old) (plain_steps q entries) }
         ensures taken { (entries : List (ℕ × ℕ)) → ArePlain dwords.now turns entries → AreTaken q entries self.old }
         ensures facts { IsMachine self.new }
     {

@@ -14,8 +14,8 @@ impl<R: Ram> Engine<R> {
     ghost use Rattle.dma_machine.specs.Stills.{StillIf};
     ghost use Rattle.dma_machine.specs.Views.{state_of};
     ghost use Rattle.fifo_model.specs.Queues.{IsFifo};
-    ghost use Rattle.machine_model.specs.Paths.{demands_cause};
-    ghost use Rattle.machine_model.specs.Steps.{run};
+    ghost use Rattle.machine_model.specs.Paths.{RiscProgram, demands_cause};
+    ghost use Rattle.machine_model.specs.Steps.{run, with_program};
     ghost use Rattle.machine_model.specs.Turns.{demand_on};
     ghost use Rattle.page_table.specs.Blocks.{chunks_of};
     ghost use Rattle.std.specs.Prelude.{◌≡◌, ◌*◌, ◌<◌, ◌≤◌, List, None, ℕ, length};
@@ -70,6 +70,7 @@ impl<R: Ram> Engine<R> {
         requires room { length dwords.now ≤ 4 * plain_room q (state_of R.memory self.old) }
         requires plain { (entries : List (ℕ × ℕ)) × ArePlain dwords.now turns entries }
         ensures state { (entries : List (ℕ × ℕ)) → ArePlain dwords.now turns entries → state_of R.memory self.new ≡ run (state_of R.memory self.old) (plain_steps q entries) }
+        ensures others { (program : RiscProgram) (entries : List (ℕ × ℕ)) → ArePlain dwords.now turns entries → with_program program (state_of R.memory self.new) ≡ run (with_program program (state_of R.memory self.old)) (plain_steps q entries) }
         ensures taken { (entries : List (ℕ × ℕ)) → ArePlain dwords.now turns entries → AreTaken q entries (state_of R.memory self.old) }
         ensures still { StillIf self.new.still (state_of R.memory self.new) }
     {

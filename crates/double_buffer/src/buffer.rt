@@ -116,11 +116,14 @@ impl DoubleBuffer<PageRam> {
 }
 
 impl<R: Ram> DoubleBuffer<R> {
-    ghost use Rattle.std.specs.Prelude.{◌≡◌};
+    ghost use Rattle.std.specs.Prelude.{◌≡◌, ◌*◌, ◌<◌, ◌≤◌, List, length, ℕ};
     ghost use Rattle.capture_file.specs.declared.Step.TheVariants as Step;
     ghost use Rattle.capture_file.specs.Records.{StepFits};
     ghost use Rattle.dma_machine.specs.Facts.{report_of};
+    ghost use Rattle.dma_machine.specs.Plain.{plain_room};
+    ghost use Rattle.machine_model.specs.PlainEntries.{ArePlain, plain_steps};
     ghost use Rattle.machine_model.specs.Steps.{control_pushed_as, pushed_as};
+    ghost use Rattle.slot_chain.specs.States.{stepped};
     ghost use Rattle.double_buffer.specs.Plays.{chain_act};
 
     /// A push of a data entry to a queue; it is ignored while the FIFO is off.
@@ -148,6 +151,25 @@ impl<R: Ram> DoubleBuffer<R> {
         ensures { self.new ≡ chain_act (Step.Turns count) self.old }
     {
         self.running.turns(count);
+    }
+
+    /// How many plain entries of a queue `push_plain` may push, as `Machine::plain_room`.
+    #[inline]
+    pub fn plain_room(&self, queue: Queue) -> u32
+        ensures { result ≡ plain_room queue self.now.live.machine }
+    {
+        self.running.plain_room(queue)
+    }
+
+    /// Pushes of plain entries and turns behind each, as `Machine::push_plain`.
+    #[inline]
+    pub fn push_plain(&mut self, queue: Queue, dwords: &[u8], turns: u32)
+        requires some { 0 < length dwords.now }
+        requires room { length dwords.now ≤ 4 * plain_room queue self.old.live.machine }
+        requires plain { (entries : List (ℕ × ℕ)) × ArePlain dwords.now turns entries }
+        ensures { (entries : List (ℕ × ℕ)) → ArePlain dwords.now turns entries → self.new ≡ stepped (plain_steps queue entries) self.old }
+    {
+        self.running.push_plain(queue, dwords, turns);
     }
 
     /// A write of the host to a register.

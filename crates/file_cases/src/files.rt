@@ -193,6 +193,37 @@ fn whole_records_are_taken_off_a_piece(rt: HostRuntime) {
     assert!(rt; takes_whole_turns(&mut reader));
 }
 
+// Two pairs of records for queue 1, and a push without a turn.
+const PAIRS: &[u8] =
+    b"\x01\0\x10\x11\x12\x13\x05\x02\0\0\0\x01\0\x20\x21\x22\x23\x05\x01\0\0\0\x01\0\x30\x31\x32\x33\x05\0\0\0\0";
+
+// What a reader takes of them for a queue, where there is room for so many DWORDs.
+fn takes_pairs(
+    reader: &mut StepReader,
+    queue: Queue,
+    most: usize,
+    want: (usize, u32),
+    copied: &[u8],
+) -> bool {
+    let mut dwords = [0; 12];
+    let most = most.min(3);
+    let taken = reader.take_pairs(queue, PAIRS, &mut dwords[..4 * most]);
+    taken == want && dwords.starts_with(copied)
+}
+
+#[test]
+fn pairs_are_taken_off_a_piece(rt: HostRuntime) {
+    let both = [0x10, 0x11, 0x12, 0x13, 0x20, 0x21, 0x22, 0x23, 0, 0, 0, 0];
+    let mut reader = StepReader::new(100);
+    assert!(rt; takes_pairs(&mut reader, Queue::One, 3, (0, 0), &[0; 12]));
+    assert!(rt; takes(&mut reader, b"BFS1", (4, Got::More)));
+    assert!(rt; takes_pairs(&mut reader, Queue::Two, 3, (0, 0), &[0; 12]));
+    assert!(rt; takes_pairs(&mut reader, Queue::One, 3, (2, 3), &both));
+    assert!(rt; takes_pairs(&mut reader, Queue::One, 1, (1, 2), &both[..4]));
+    // the limit is within the piece
+    assert!(rt; takes_pairs(&mut StepReader::new(20), Queue::One, 3, (0, 0), &[0; 12]));
+}
+
 // The steps of a stream that comes byte by byte.
 fn read_by_bytes(
     alloc: Global,

@@ -220,6 +220,52 @@ fn one_line_by_bursts(rt: HostRuntime) -> Result<(), Fail> {
     Ok(())
 }
 
+// Of a WRITE of 20 bytes, of which the start was taken, three plain entries fall through before its last four bytes. Two of
+// them, with two turns behind the first and three behind the second.
+fn passes_two_plain_entries(m: &mut Machine<MapRam>) -> bool {
+    if m.plain_room(One) != 3 {
+        return false;
+    }
+    let dwords = [0x14, 0x15, 0x16, 0x17, 0x18, 0x19, 0x1a, 0x1b];
+    m.push_plain(One, &dwords, 5);
+    m.plain_room(One) == 1
+}
+
+#[test]
+fn a_run_of_plain_entries(rt: HostRuntime) -> Result<(), Fail> {
+    let words = [
+        0x8000_8004,
+        0,
+        0x8000_0006,
+        0,
+        0x1c00_0014,
+        0x20000,
+        0x71e1_0000,
+        0x1000,
+    ];
+    let start = [
+        Control(Code::Vre),
+        Control(Code::Fm1),
+        Turns(5),
+        Both(One, 2, 0x1312_1110, 1),
+    ];
+    let mut m = made(rt.alloc(), &words, 0)?;
+    assert!(rt; m.plain_room(One) == 0);
+    play(&mut m, &start);
+    assert!(rt; passes_two_plain_entries(&mut m));
+    assert!(rt; reports(&mut m, &[], &report(11, 12, [0; 4], 0)));
+    assert!(rt;
+        holds(
+            &m,
+            0,
+            &[
+                0x10, 0x11, 0x12, 0x13, 0x14, 0x15, 0x16, 0x17, 0x18, 0x19, 0x1a, 0x1b, 0
+            ]
+        )
+    );
+    Ok(())
+}
+
 // The start of a line, which the turn behind it takes by its verdict; a DWORD that falls through the queue, with a turn to
 // spare; and the end, to which no turn belongs. Pushed with the turns behind them, and with the one turn that takes an entry whole.
 #[test]

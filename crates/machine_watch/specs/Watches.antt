@@ -13,9 +13,9 @@ use Rattle.dma_machine.specs.FallThrough.{moved_whole}
 use Rattle.dma_machine.specs.Looks.{holds}
 use Rattle.dma_machine.specs.Plain.{plain_room}
 
--- how many plain entries may be pushed at once; none where `lets` is false
+-- how many plain entries may be pushed at once; none where `falls` is false
 abbrev pub run_room : Bool → Queue → State → ℕ
-run_room lets q m = if lets then plain_room q m else 0
+run_room falls q m = if falls then plain_room q m else 0
 
 -- What becomes of what is kept: `saw` is for a turn of a machine with this program, by what is seen of the turn, and
 -- `emptied` for queues that are emptied, by which of them hold an entry.
@@ -36,10 +36,12 @@ module _ {K : Type 0} where
   abbrev pub no_notes : Notes K
   no_notes = record { saw = λ program seen k. k; emptied = λ one two three k. k }
 
-  -- it stays so at a turn that takes an entry whole, where this holds
-  abbrev pub TellsNothingIf : Bool → Notes K → Type 0
-  TellsNothingIf true notes = (program : RiscProgram) (q : Queue) (at : ℕ) (k : K) → notes.saw program (moved_whole q at) k ≡ k
-  TellsNothingIf false notes = Unit {0}
+  -- of turns that take entries of a queue whole, one after the other, the first alone changes it, where this holds
+  abbrev pub FirstTellsIf : Bool → Notes K → Type 0
+  FirstTellsIf true notes =
+      (first later : RiscProgram) (q : Queue) (at next : ℕ) (k : K) →
+      notes.saw later (moved_whole q next) (notes.saw first (moved_whole q at) k) ≡ notes.saw first (moved_whole q at) k
+  FirstTellsIf false notes = Unit {0}
 
   -- a host write that disables the FIFO empties the queues
   abbrev pub written : Notes K → HostWrite → State → K → K

@@ -6,7 +6,7 @@ ghost use Rattle.machine_model.specs.Paths.{RiscProgram};
 ghost use Rattle.machine_model.specs.Steps.{Push, Turn};
 ghost use Rattle.machine_model.specs.declared.Did.TheVariants.{Still};
 ghost use Rattle.machine_model.specs.declared.Seen.{Seen as SeenOf};
-ghost use Rattle.machine_watch.specs.Watches.{Notes, TellsNothingIf, no_notes, watched, watching};
+ghost use Rattle.machine_watch.specs.Watches.{FirstTellsIf, Notes, no_notes, watched, watching};
 ghost use Rattle.sync_status.specs.Statuses.{is_control, kind_of};
 
 use dma_machine::{Machine, Seen};
@@ -25,16 +25,11 @@ pub trait Watch {
     /// enter its queue.
     const LETS_FALL: bool;
 
-    ghost LETS_RUN: { Bool };
-
-    /// Whether turns that take an entry whole leave what is kept as it is. Many entries that fall through may then be taken at once.
-    const LETS_RUN: bool;
-
     /// A turn of a machine with this program was taken.
     fn saw(&mut self, program: &Program, seen: &Seen)
         ensures { self.new ≡ notes.saw program.now seen.now self.old };
 
-    /// A turn took an entry of a queue whole, within its line.
+    /// A turn took an entry of a queue whole, within its line, or several turns did, one after the other.
     fn took_whole(&mut self, queue: Queue)
         requires { LETS_FALL ≡ true }
         ensures { (program : RiscProgram) (at : ℕ) → self.new ≡ notes.saw program (moved_whole queue at) self.old };
@@ -109,8 +104,8 @@ pub trait Watch {
     // a turn that does nothing leaves what is kept as it is
     ghost still: { (program : RiscProgram) (seen : SeenOf) (kept : Self) → seen.did ≡ Still → notes.saw program seen kept ≡ kept };
 
-    // so does one that takes an entry whole, where many may be taken at once
-    ghost whole: { TellsNothingIf LETS_RUN notes };
+    // so does one that takes an entry whole behind another of its queue, and one call of `took_whole` is for all of them
+    ghost whole: { FirstTellsIf LETS_FALL notes };
 }
 
 /// Nothing is kept of a machine that nobody watches: it takes its turns as it does alone.
@@ -120,10 +115,6 @@ impl Watch for () {
     ghost LETS_FALL = { true };
 
     const LETS_FALL: bool = true;
-
-    ghost LETS_RUN = { true };
-
-    const LETS_RUN: bool = true;
 
     fn saw(&mut self, _program: &Program, _seen: &Seen) {}
 
@@ -154,5 +145,5 @@ impl Watch for () {
 
     ghost still = { λ program seen kept still. refl };
 
-    ghost whole = { λ program queue at kept. refl };
+    ghost whole = { λ first later queue at next kept. refl };
 }

@@ -59,13 +59,13 @@ impl<R: Ram, W: Watch> Watched<R, W> {
             .push_and_turns(&mut self.machine, queue, entry, count);
     }
 
-    /// How many plain entries `push_plain` may push to a queue, as `Machine::plain_room`. None where turns that take an entry whole
-    /// may change what is kept.
+    /// How many plain entries `push_plain` may push to a queue, as `Machine::plain_room`. None where each turn is noted with the
+    /// address of its instruction.
     #[inline]
     pub fn plain_room(&self, queue: Queue) -> u32
-        ensures { result ≡ run_room W.LETS_RUN queue self.now.machine }
+        ensures { result ≡ run_room W.LETS_FALL queue self.now.machine }
     {
-        if W::LETS_RUN {
+        if W::LETS_FALL {
             self.machine.plain_room(queue)
         } else {
             0
@@ -76,11 +76,12 @@ impl<R: Ram, W: Watch> Watched<R, W> {
     #[inline]
     pub fn push_plain(&mut self, queue: Queue, dwords: &[u8], turns: u32)
         requires some { 0 < length dwords.now }
-        requires room { length dwords.now ≤ 4 * run_room W.LETS_RUN queue self.old.machine }
+        requires room { length dwords.now ≤ 4 * run_room W.LETS_FALL queue self.old.machine }
         requires plain { (entries : List (ℕ × ℕ)) × ArePlain dwords.now turns entries }
         ensures { (entries : List (ℕ × ℕ)) → ArePlain dwords.now turns entries → self.new ≡ watched W.notes (plain_steps queue entries) self.old }
     {
         self.machine.push_plain(queue, dwords, turns);
+        self.watch.took_whole(queue);
     }
 
     /// A push of a control code, as `Machine::push_control`.

@@ -8,7 +8,7 @@ use Rattle.machine_model.specs.declared.Did.TheVariants.{Still}
 use Rattle.machine_model.specs.declared.Seen.{Seen}
 use Rattle.machine_model.specs.Paths.{RiscProgram}
 use Rattle.ring_model.specs.Runs.{end_by, end_seen}
-use Rattle.machine_watch.specs.Watches.{Notes, TellsNothingIf, Watching}
+use Rattle.machine_watch.specs.Watches.{FirstTellsIf, Notes, Watching}
 
 pub record Counted : Type 0 where
   pub ring : Ring
@@ -28,8 +28,8 @@ abbrev pub RingState : Type 0
 RingState = Watching Counted
 
 -- a turn that takes an entry whole ends none
-pub whole_ends_none : TellsNothingIf true block_notes
-whole_ends_none program q at k = refl
+pub whole_ends_none : FirstTellsIf true block_notes
+whole_ends_none first later q at next k = refl
 
 -- a turn that does nothing ends none
 pub still_ends_none : (program : RiscProgram) (s : Seen) (k : Counted) → s.did ≡ Still → block_notes.saw program s k ≡ k

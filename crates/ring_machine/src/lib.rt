@@ -74,10 +74,6 @@ impl Watch for BlockCount {
 
     const LETS_FALL: bool = true;
 
-    ghost LETS_RUN = { true };
-
-    const LETS_RUN: bool = true;
-
     fn saw(&mut self, _program: &Program, seen: &Seen) {
         if matches!(seen.did, Did::Retired) {
             self.retire(seen.at);

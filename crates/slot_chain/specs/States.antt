@@ -1,10 +1,10 @@
 -- What contracts see of a chain: the chain, and its live state.
-use Rattle.std.specs.Prelude.{ℕ, List, replicate}
+use Rattle.std.specs.Prelude.{ℕ, List, map, replicate}
 use Rattle.fifo_model.specs.Queues.{empty_fifo}
 use Rattle.page_table.specs.Blocks.{Block}
 use Rattle.page_table.specs.Grants.{Chunk}
 use Rattle.machine_model.specs.States.{State, started}
-use Rattle.machine_model.specs.Steps.{Turn, with_program}
+use Rattle.machine_model.specs.Steps.{Step, Turn, with_program}
 use Rattle.chain_model.specs.declared.PartWords.{PartWords}
 use Rattle.chain_model.specs.Chains.{Chain, Patching, patched, unpatched}
 use Rattle.chain_model.specs.Live.{Live, LiveStep, Plain, live_run, live_step}
@@ -34,6 +34,10 @@ live_of chain patching m = record { patching = patching; machine = with_program 
 
 abbrev pub state_of : Chain → Patching → State → ChainState
 state_of chain patching m = record { chain = chain; live = live_of chain patching m }
+
+-- after steps of its machine
+abbrev pub stepped : List Step → ChainState → ChainState
+stepped steps state = record state { live = live_run state.chain state.live (map Plain steps) }
 
 -- after so many turns
 abbrev pub turned : ℕ → ChainState → ChainState

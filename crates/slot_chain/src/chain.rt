@@ -92,15 +92,17 @@ impl<R: Ram + Drop> Chain<R> {
 }
 
 impl<R: Ram> Chain<R> {
-    ghost use Rattle.std.specs.Prelude.{◌≡◌, ◌<◌, false, true};
+    ghost use Rattle.std.specs.Prelude.{◌≡◌, ◌*◌, ◌<◌, ◌≤◌, List, false, length, true, ℕ};
     ghost use Rattle.sync_status.specs.Statuses.{is_control, kind_of};
     ghost use Rattle.irq_status.specs.Writes.{IsWrite};
     ghost use Rattle.machine_model.specs.Steps.{Control, Host, Push, Turn, control_pushed_as, pushed_as};
     ghost use Rattle.dma_machine.specs.Facts.{report_of};
+    ghost use Rattle.dma_machine.specs.Plain.{plain_room};
     ghost use Rattle.dma_machine.specs.Stills.{is_still};
+    ghost use Rattle.machine_model.specs.PlainEntries.{ArePlain, plain_steps};
     ghost use Rattle.chain_model.specs.Chains.{Belongs};
     ghost use Rattle.chain_model.specs.Live.{LiveInside, Patch, Plain};
-    ghost use Rattle.slot_chain.specs.States.{lived, turned};
+    ghost use Rattle.slot_chain.specs.States.{lived, stepped, turned};
 
     /// A push of a data entry to a queue; it is ignored while the FIFO is off.
     #[inline]
@@ -140,6 +142,26 @@ impl<R: Ram> Chain<R> {
         ensures { result ≡ is_still self.now.live.machine }
     {
         self.wheel.machine.stands_still()
+    }
+
+    /// How many plain entries of a queue `push_plain` may push, as `Machine::plain_room`.
+    #[inline]
+    pub fn plain_room(&self, q: Queue) -> u32
+        ensures { result ≡ plain_room q self.now.live.machine }
+    {
+        self.wheel.machine.plain_room(q)
+    }
+
+    /// Pushes of plain entries and turns behind each, as `Machine::push_plain`. The machine fetches nothing meanwhile, so no
+    /// slot is asked for.
+    #[inline]
+    pub fn push_plain(&mut self, q: Queue, dwords: &[u8], turns: u32)
+        requires some { 0 < length dwords.now }
+        requires room { length dwords.now ≤ 4 * plain_room q self.old.live.machine }
+        requires plain { (entries : List (ℕ × ℕ)) × ArePlain dwords.now turns entries }
+        ensures { (entries : List (ℕ × ℕ)) → ArePlain dwords.now turns entries → self.new ≡ stepped (plain_steps q entries) self.old }
+    {
+        self.wheel.machine.push_plain(q, dwords, turns);
     }
 
     /// So many turns of a machine that stands still.

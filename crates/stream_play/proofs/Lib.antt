@@ -7,3 +7,4 @@ pub mod FewTurns
 pub mod Rings
 pub mod Chains
 pub mod Watches
+mod PlainPairs

@@ -7,7 +7,7 @@ use Rattle.machine_watch.proofs.Keeping.{watched-append}
 use Rattle.stream_play.specs.Plays.{HasPlayed, HasPlayedWatched, PlaysAll, acted, watch_act}
 
 module _ {K : Type 0} (notes : Notes K) where
-  acted_watched : (steps : List Step) (w : Watching K) → acted (watch_act notes) steps w ≡ watched notes (steps_run steps) w
+  pub acted_watched : (steps : List Step) (w : Watching K) → acted (watch_act notes) steps w ≡ watched notes (steps_run steps) w
   acted_watched [] w = refl
   acted_watched (one ∷ steps) w = acted_watched steps (watched notes (atomic one) w) ∙ watched-append notes (atomic one) (steps_run steps) w
 

@@ -95,7 +95,7 @@ StopsPlaying chained rest ReadFault old new = ReadsRose old new
 StopsPlaying chained rest (Malformed Stream fault) old new = OfRest rest (λ bytes. steps_of longest_stream chained bytes ≡ Err fault)
 StopsPlaying chained rest _ old new = ⊥
 
--- ---- patches stand only in streams of the form for chains
+-- ---- patches are only in streams of the form for chains
 
 abbrev pub IsFormOf : Bool → Form → Type 0
 IsFormOf chained Bfs3 = chained ≡ true
@@ -109,7 +109,7 @@ IsPhaseOf chained _ = ⊤
 abbrev pub ReadsForm : Bool → Reader → Type 0
 ReadsForm chained r = (r.chained ≡ chained) × IsPhaseOf chained r.phase
 
--- a step may stand in such a stream
+-- such a stream may have this step
 abbrev pub MayStand : Bool → Step → Type 0
 MayStand chained (Patch slot buffer) = chained ≡ true
 MayStand chained _ = ⊤

@@ -1,6 +1,6 @@
 //! A stream, handed to a player as it is read.
 
-ghost use Rattle.std.specs.Prelude.{◌≡◌, ◌+◌, ◌≤◌, drop, length, take, IfErr, IfNone, IfOk, IfSome, IsTrue, None, Some};
+ghost use Rattle.std.specs.Prelude.{◌≡◌, ◌+◌, ◌*◌, ◌≤◌, drop, length, take, IfErr, IfNone, IfOk, IfSome, IsTrue, None, Some};
 ghost use Rattle.capture_file.specs.Readers.{fresh, front_record, resumed};
 ghost use Rattle.capture_file.specs.Records.{StepFits};
 ghost use Rattle.capture_file.specs.declared.Step.TheVariants as Step;
@@ -20,6 +20,9 @@ use std::mem::replace;
 /// The most bytes of a stream.
 const LONGEST_STREAM: u64 = 4_294_967_295;
 
+/// The most pairs of records that are handed on at once.
+const MOST_PAIRS: usize = 512;
+
 /// Hands a record to the player.
 #[inline]
 fn hand<P: Player>(player: &mut P, step: Step)
@@ -36,8 +39,36 @@ fn hand<P: Player>(player: &mut P, step: Step)
     }
 }
 
-/// Hands a data push to the player, with the turns that lie whole at the front of the bytes behind its record, and answers
-/// how many bytes the record of the turns has, 0 where they are no whole record of turns.
+/// Hands pairs of records, plain entries of the queue and the turns behind them, that lie whole at the front of a piece to the player,
+/// as many as it takes at once, and answers how many bytes they have. `dwords` is room for their DWORDs, side by side.
+#[inline(always)]
+fn hand_pairs<P: Player>(
+    player: &mut P,
+    reader: &mut StepReader,
+    queue: Queue,
+    piece: &[u8],
+    dwords: &mut [u8],
+) -> usize
+    requires form { ReadsForm P.has_slots reader.old }
+    ensures form { ReadsForm P.has_slots reader.new }
+    ensures handed { HandedPart P.act result player.old reader.old piece.now player.new reader.new }
+{
+    let room = player.plain_room(queue) as usize;
+    if room == 0 {
+        return 0;
+    }
+    let most = dwords.len().min(4 * room);
+    let dwords = &mut dwords[..most];
+    let (count, turns) = reader.take_pairs(queue, piece, dwords);
+    if count == 0 {
+        return 0;
+    }
+    player.push_plain(queue, &dwords[..4 * count], turns);
+    11 * count
+}
+
+/// Hands a data push to the player, with the turns that lie whole at the front of the bytes behind its record and the pairs behind
+/// them that are taken at once, and answers how many bytes the records behind the push have, 0 where they are no whole record of turns.
 #[inline(always)]
 fn hand_push<P: Player>(
     player: &mut P,
@@ -45,6 +76,7 @@ fn hand_push<P: Player>(
     queue: Queue,
     entry: Entry,
     rest: &[u8],
+    dwords: &mut [u8],
 ) -> usize
     requires form { ReadsForm P.has_slots reader.old }
     requires fits { StepFits (Step.Push queue entry) }
@@ -54,7 +86,7 @@ fn hand_push<P: Player>(
     match reader.take_turns(rest) {
         Some(count) => {
             player.push_and_turns(queue, entry, count);
-            5
+            5 + hand_pairs(player, reader, queue, &rest[5..], dwords)
         }
         None => {
             player.push(queue, entry);
@@ -63,10 +95,15 @@ fn hand_push<P: Player>(
     }
 }
 
-/// Hands the data push, with the turns behind it, or the turns that lie whole at the front of a piece to the player, and
+/// Hands the data push, with the turns and the pairs behind it, or the turns that lie whole at the front of a piece to the player, and
 /// answers how many bytes their records have.
 #[inline(always)]
-fn hand_plain<P: Player>(player: &mut P, reader: &mut StepReader, piece: &[u8]) -> Option<usize>
+fn hand_plain<P: Player>(
+    player: &mut P,
+    reader: &mut StepReader,
+    piece: &[u8],
+    dwords: &mut [u8],
+) -> Option<usize>
     requires form { ReadsForm P.has_slots reader.old }
     ensures form { ReadsForm P.has_slots reader.new }
     ensures handed { IfSome result (λ used. HandedFront P.act (Some used) player.old reader.old piece.now player.new reader.new) }
@@ -74,7 +111,7 @@ fn hand_plain<P: Player>(player: &mut P, reader: &mut StepReader, piece: &[u8]) 
     ensures other { IfNone result (IsOther (front_record reader.old piece.now)) }
 {
     if let Some((queue, entry)) = reader.take_push(piece) {
-        return Some(6 + hand_push(player, reader, queue, entry, &piece[6..]));
+        return Some(6 + hand_push(player, reader, queue, entry, &piece[6..], dwords));
     }
     if let Some(count) = reader.take_turns(piece) {
         player.turns(count);
@@ -83,9 +120,8 @@ fn hand_plain<P: Player>(player: &mut P, reader: &mut StepReader, piece: &[u8]) 
     None
 }
 
-/// Hands the data pushes and the turns at the front of a piece to the player, up to where another
-/// record stands or the piece ends, and answers how many bytes their records have. Meanwhile the reader stands in a place of
-/// the function's own, so that what it counts is at hand for each record.
+/// Hands the data pushes and the turns at the front of a piece to the player, up to another record or the end of the piece, and
+/// answers how many bytes their records have.
 #[inline(never)]
 fn hand_run<P: Player>(player: &mut P, reader: &mut StepReader, piece: &[u8]) -> usize
     requires form { ReadsForm P.has_slots reader.old }
@@ -95,8 +131,9 @@ fn hand_run<P: Player>(player: &mut P, reader: &mut StepReader, piece: &[u8]) ->
 {
     // in a place of this function's own, where its counts are at hand
     let mut own = replace(reader, StepReader::new(LONGEST_STREAM));
+    let mut dwords = [0; 4 * MOST_PAIRS];
     let mut at = 0;
-    while let Some(used) = hand_plain(player, &mut own, &piece[at..]) {
+    while let Some(used) = hand_plain(player, &mut own, &piece[at..], &mut dwords) {
         at += used;
     }
     *reader = own;

@@ -1,12 +1,17 @@
 //! What takes the steps of a stream.
 
-ghost use Rattle.std.specs.Prelude.{◌≡◌, Bool, false, true};
+ghost use Rattle.std.specs.Prelude.{◌≡◌, ◌*◌, ◌<◌, ◌≤◌, Bool, List, false, length, true, ℕ};
 ghost use Rattle.capture_file.specs.declared.Step.TheVariants as Step;
 ghost use Rattle.capture_file.specs.declared.Step.{Step as StepOf};
+ghost use Rattle.fifo_model.specs.declared.Queue.{Queue as QueueOf};
 ghost use Rattle.capture_file.specs.Readers.{fresh};
 ghost use Rattle.capture_file.specs.Records.{StepFits};
+ghost use Rattle.capture_file.specs.Pairs.{pair_steps};
+ghost use Rattle.dma_machine.specs.Plain.{plain_room};
 ghost use Rattle.double_buffer.specs.Plays.{chain_act};
-ghost use Rattle.stream_play.specs.Plays.{watch_act};
+ghost use Rattle.machine_model.specs.PlainEntries.{ArePlain};
+ghost use Rattle.machine_watch.specs.Watches.{run_room};
+ghost use Rattle.stream_play.specs.Plays.{acted, watch_act};
 
 use capture_file::StepReader;
 use double_buffer::DoubleBuffer;
@@ -22,6 +27,8 @@ pub trait Player {
     ghost act: { StepOf → Self → Self };
 
     ghost has_slots: { Bool };
+
+    ghost room: { QueueOf → Self → ℕ };
 
     /// A reader of its streams: with patches where it has slots, else of the other forms.
     fn reader(limit: u64) -> StepReader
@@ -50,6 +57,18 @@ pub trait Player {
         self.turns(count);
     }
 
+    /// How many plain entries of a queue, which have four valid pixel bytes and turns behind them, `push_plain` may take.
+    fn plain_room(&self, queue: Queue) -> u32
+        ensures { result ≡ room queue self.now };
+
+    /// Takes plain entries of a queue, one or more, and turns behind each: the bytes are their DWORDs, four for each entry, the lowest
+    /// first, and `turns` the sum of their turns, at least one behind each.
+    fn push_plain(&mut self, queue: Queue, dwords: &[u8], turns: u32)
+        requires some { 0 < length dwords.now }
+        requires room { length dwords.now ≤ 4 * room queue self.old }
+        requires plain { (pairs : List (ℕ × ℕ)) × ArePlain dwords.now turns pairs }
+        ensures { (pairs : List (ℕ × ℕ)) → ArePlain dwords.now turns pairs → self.new ≡ acted act (pair_steps queue pairs) self.old };
+
     /// Takes a write of the host to a register.
     fn host(&mut self, write: HostWrite)
         requires { StepFits (Step.Host write) }
@@ -66,6 +85,8 @@ impl<R: Ram, W: Watch> Player for Watched<R, W> {
 
     ghost has_slots = { false };
 
+    ghost room = { λ queue w. run_room W.LETS_FALL queue w.machine };
+
     fn reader(limit: u64) -> StepReader {
         StepReader::new(limit)
     }
@@ -78,6 +99,16 @@ impl<R: Ram, W: Watch> Player for Watched<R, W> {
     #[inline(always)]
     fn push_and_turns(&mut self, queue: Queue, entry: Entry, count: u32) {
         Watched::push_and_turns(self, queue, entry, count);
+    }
+
+    #[inline(always)]
+    fn plain_room(&self, queue: Queue) -> u32 {
+        Watched::plain_room(self, queue)
+    }
+
+    #[inline(always)]
+    fn push_plain(&mut self, queue: Queue, dwords: &[u8], turns: u32) {
+        Watched::push_plain(self, queue, dwords, turns);
     }
 
     #[inline(always)]
@@ -104,6 +135,8 @@ impl<R: Ram> Player for DoubleBuffer<R> {
 
     ghost has_slots = { true };
 
+    ghost room = { λ queue b. plain_room queue b.live.machine };
+
     fn reader(limit: u64) -> StepReader {
         StepReader::chained(limit)
     }
@@ -116,6 +149,16 @@ impl<R: Ram> Player for DoubleBuffer<R> {
     #[inline(always)]
     fn push_control(&mut self, code: Code) {
         let _ = DoubleBuffer::push_control(self, code);
+    }
+
+    #[inline(always)]
+    fn plain_room(&self, queue: Queue) -> u32 {
+        DoubleBuffer::plain_room(self, queue)
+    }
+
+    #[inline(always)]
+    fn push_plain(&mut self, queue: Queue, dwords: &[u8], turns: u32) {
+        DoubleBuffer::push_plain(self, queue, dwords, turns);
     }
 
     #[inline(always)]

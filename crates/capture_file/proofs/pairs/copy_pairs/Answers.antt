@@ -1,7 +1,8 @@
-use Rattle.std.proofs.Common.{◌≡◌, ◌+◌, ◌-◌, ◌*◌, [], ◌∷◌, ◌++◌, drop, subst, arith}
+use Rattle.std.proofs.Common.{◌≡◌, ◌+◌, ◌-◌, ◌*◌, ◌/◌, ◌∙◌, [], ◌∷◌, ◌++◌, ap, drop, inl, length, min, subst, sym, arith}
 use Rattle.std.proofs.lemmas.List.{take_rest}
-use Rattle.capture_file.specs.Pairs.{IsPair}
+use Rattle.capture_file.specs.Pairs.{IsPair, NoPair}
 use Rattle.capture_file.specs.Streams.{most_turns}
+use Rattle.capture_file.proofs.OtherRecords.{all_taken}
 use Rattle.capture_file.proofs.PairRuns.{copied_more}
 use Rattle.capture_file.proofs.pairs.copy_pairs.Goals as goal
 
@@ -21,3 +22,19 @@ loop-count-preserved c =
       omega arith,
       omega (arith, within),
     )
+
+pub returns-clause-all : goal.returns-clause-all
+returns-clause-all c =
+    let room : min (length c.args.dwords.now / 4) (length c.args.piece.now / 11) ≡ min (length c.loop-count.dwords / 4) (length c.args.piece.now / 11) =
+    ap (λ n. min (n / 4) (length c.args.piece.now / 11)) (sym c.loop-count.auto.dwords)
+    in
+    all_taken c.args.queue (most_turns - c.args.left + (c.args.left - c.loop-count.rest)) c.loop-count.count c.min-most.result (length c.loop-count.dwords) c.args.piece.now
+    (c.min-most.ensures ∙ room) (omega (arith, c.loop-count-test.false))
+
+pub returns-in_default-clause-all : goal.returns-in_default-clause-all
+returns-in_default-clause-all c =
+    let within = c.loop-count.invariant.3 in
+    let before : most_turns - c.loop-count.rest ≡ most_turns - c.args.left + (c.args.left - c.loop-count.rest) = omega (arith, within, c.requires) in
+    inl
+    (subst (λ n. NoPair c.args.queue n (drop (11 * c.loop-count.count) c.args.piece.now)) before
+    (subst (λ bytes. NoPair c.args.queue (most_turns - c.loop-count.rest) bytes) (take_rest c.args.piece.now (11 * c.loop-count.count)) c.in_default.ensures.none))

@@ -1,5 +1,5 @@
-use Rattle.std.proofs.Common.{[], ◌≡◌, ◌≤◌, ◌+◌, ◌-◌, ◌*◌, ap, subst}
-use Rattle.capture_file.specs.Pairs.{TakesPairs}
+use Rattle.std.proofs.Common.{arith, length, [], ◌≡◌, ◌≤◌, ◌+◌, ◌-◌, ◌*◌, ap, subst}
+use Rattle.capture_file.specs.Pairs.{AreAll, TakesPairs}
 use Rattle.capture_file.specs.Readers.{HoldsAt, Reader, phase_of}
 use Rattle.capture_file.specs.Streams.{most_turns}
 use Rattle.capture_file.proofs.PairRuns.{reader_takes}
@@ -24,3 +24,10 @@ returns-clause-taken c =
           (reader_takes i.limit i.room i.turns n sum i.chained c.in-Between.field-0 c.args.piece.now c.copy_pairs-count.new.dwords c.args.queue
           known.copied.0 c.self.invariant.0 c.if-piece-self.true few known.few known.within known.copied.1 (phase_of i.state) i.held (ap phase_of between) none),
     )
+
+pub returns-clause-all : goal.returns-clause-all
+returns-clause-all c = λ between.
+    let i = c.self.inside in
+    let few : i.turns ≤ most_turns = (rw c.in-Between.is at c.self.invariant.2.at).2 in
+    let before : most_turns - (most_turns - i.turns) + c.copy_pairs-count.result.1 ≡ i.turns + c.copy_pairs-count.result.1 = omega (arith, few) in
+    subst (λ n. AreAll c.args.queue n c.copy_pairs-count.result.0 c.args.piece.now (length c.copy_pairs-count.new.dwords)) before c.copy_pairs-count.ensures.all
