@@ -21,14 +21,16 @@ use Rattle.picture_law.proofs.Places.{run_shows_picture, run_tells_field}
 use Rattle.damage_law.specs.Marks.{answer, last_step, marks}
 use Rattle.damage_law.proofs.LastSignals.{answers_stay}
 use Rattle.damage_map.proofs.ArrivedFields.{arrived_rows_are_whole}
-use Rattle.damage_map.proofs.StandingRows.{whole_rows_stand}
+use Rattle.damage_map.proofs.StandingRows.{whole_rows_stand, whole_rows_took_asked}
 use Rattle.damage_law.proofs.EnteredRows.{whole_rows_entered}
-use Rattle.damage_law.specs.Standing.{HaveEntered, row_entries}
+use Rattle.damage_law.specs.Standing.{HaveEntered, IsSignalSince, row_entries}
 use Rattle.bt878_contract.specs.Rows.{HasArrivedRows, HoldsRow, HoldsWholeRows, IsSignalFrom}
 use Rattle.check_law.specs.Laws.{Found}
 use Rattle.check_law.specs.Runs.{IsCapture as FoundCapture, IsEnded}
-use Rattle.check_law.proofs.Places.{run_shows_picture as found_shows_picture, run_shows_no_fault as found_shows_no_fault, run_ends_with_closing as found_ends_with_closing, run_ends_in_time as found_ends_in_time}
-use Rattle.bt878_contract.specs.Pictures.{ArrivesUpTo, ArrivesUpToEnd, EndsInTime, IsCompiled, IsShown, ShowsField, ShowsNoFault, ShowsPictures, ShowsSignalledPictures}
+use Rattle.check_law.proofs.Places.{run_shows_picture as found_shows_picture, run_shows_no_fault as found_shows_no_fault}
+use Rattle.check_law.proofs.Places.{run_ends_with_closing as found_ends_with_closing, run_ends_in_time as found_ends_in_time}
+use Rattle.bt878_contract.specs.Pictures.{ArrivesUpTo, ArrivesUpToEnd, EndsInTime, IsCompiled, IsShown, ShowsField, ShowsNoFault}
+use Rattle.bt878_contract.specs.Pictures.{ShowsPictures, ShowsSignalledPictures}
 
 module _ (program : RiscProgram) (fill : ℕ) (steps : List Step) (made : All IsStep steps) where
   capture : (d : Desc) (field : Parity) (picture : Picture) → IsCompiled program d field picture → IsCapture d field picture steps
@@ -61,7 +63,8 @@ module _ (program : RiscProgram) (fill : ℕ) (steps : List Step) (made : All Is
     found_capture : FoundCapture program d field f picture steps
     found_capture = record { shown = shown.shows; pictured = shown.pictured; made = made }
 
-    ended : (j k : ℕ) → ArrivesUpToEnd d field f picture (first_state program fill) steps j k → IsEnded program d field f picture fill steps j k
+    ended : (j k : ℕ) → ArrivesUpToEnd d field f picture (first_state program fill) steps j k →
+        IsEnded program d field f picture fill steps j k
     ended j k a = record { capture = found_capture; signal = a.ends; arrives = a.arrives }
 
   pub fields_shown : ShowsPictures (first_state program fill) steps
@@ -73,10 +76,12 @@ module _ (program : RiscProgram) (fill : ℕ) (steps : List Step) (made : All Is
       }
 
   pub no_fault_shown : ShowsNoFault (first_state program fill) steps
-  no_fault_shown d field f picture j k i shown a = found_shows_no_fault program d field f picture fill steps j k i (ended d field f picture shown j k a)
+  no_fault_shown d field f picture j k i shown a =
+      found_shows_no_fault program d field f picture fill steps j k i (ended d field f picture shown j k a)
 
   pub fields_end_in_time : EndsInTime (first_state program fill) steps
-  fields_end_in_time d field f picture j i l shown = found_ends_in_time program d field f picture fill steps j i l (found_capture d field f picture shown)
+  fields_end_in_time d field f picture j i l shown =
+      found_ends_in_time program d field f picture fill steps j i l (found_capture d field f picture shown)
 
   -- ---- compiled programs
 
@@ -84,7 +89,8 @@ module _ (program : RiscProgram) (fill : ℕ) (steps : List Step) (made : All Is
   rows_arrived d field picture j k c =
       subst
       (λ (p : RiscProgram).
-      ArrivesUpTo d field picture (first_state p fill) steps j k → last_step (is_signal (section_of d field)) (first_state p fill) steps ≡ Some k →
+      ArrivesUpTo d field picture (first_state p fill) steps j k →
+      last_step (is_signal (section_of d field)) (first_state p fill) steps ≡ Some k →
       answer d field (first_state p fill) steps ≡ Some (replicate (field_height d field) true))
       (sym c.same) (λ a last.
       answers_stay d field (first_state (compiled d) fill) steps k last
@@ -107,16 +113,17 @@ module _ (program : RiscProgram) (fill : ℕ) (steps : List Step) (made : All Is
       slice_index_or (marks d field (state_at (first_state p fill) steps j) (between j k steps)) number false ≡ true →
       HoldsRow d field q number (first_state p fill) steps j k)
       (sym c.same) (λ s q number whole.
+      let since : IsSignalSince d field fill steps j k = record {
+        description = c.description;
+        valid = c.valid;
+        described = c.described;
+        made = made;
+        there = s.there;
+        signal = s.signal;
+        opened = s.opened;
+      } in
       record {
         entered = row_entered d field q number j k whole;
-        kept = λ x address. whole_rows_stand d field fill steps j k
-            (record {
-              description = c.description;
-              valid = c.valid;
-              described = c.described;
-              made = made;
-              there = s.there;
-              signal = s.signal;
-              opened = s.opened;
-            }) q number x address whole;
+        asked = whole_rows_took_asked d field fill steps j k since q number whole;
+        kept = λ x address. whole_rows_stand d field fill steps j k since q number x address whole;
       })

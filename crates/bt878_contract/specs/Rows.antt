@@ -16,6 +16,7 @@ use Rattle.picture_law.specs.Runs.{between, signals_at}
 use Rattle.picture_law.specs.Sections.{section_of}
 use Rattle.damage_law.specs.Marks.{answer, is_opening, last_step, marks}
 use Rattle.damage_law.specs.Standing.{HaveEntered, StandsAt, row_entries}
+use Rattle.damage_map.specs.Asked.{AreAsked}
 use Rattle.bt878_contract.specs.Pictures.{ArrivesUpTo, IsCompiled}
 
 -- where a picture arrives up to step k, and this is the field's last signal, every row of the field is whole
@@ -38,11 +39,13 @@ pub record IsSignalFrom (d : Desc) (field : Parity) (first : State) (steps : Lis
   pub signal : signals_at (section_of d field) first steps k ≡ true
   pub opened : last_step (is_opening d field) first (take k steps) ≡ Some j
 
--- The entries that the row's instructions took from a queue since the opening entered it one after another; they are a line.
--- Right after the signal each byte of the row that is kept is at its place, and is that byte of this line.
+-- The entries that the row's instructions took from a queue since the opening entered it one after another, and are what the
+-- description asks of the queue for a row. Right after the signal each byte of the row that is kept is at its place, and is that byte
+-- of the line that these entries are.
 pub record HoldsRow (d : Desc) (field : Parity) (q : Queue) (number : ℕ) (first : State) (steps : List Step) (j k : ℕ) : Type 0 where
   pub entered :
       HaveEntered (row_entries d field number q (state_at first steps j) (between j k steps)) q (state_at first steps j) (between j k steps)
+  pub asked : AreAsked d q (row_entries d field number q (state_at first steps j) (between j k steps))
   pub kept :
       (x address : ℕ) → IsKeptAt d field (of_row q number x) address →
       StandsAt (row_entries d field number q (state_at first steps j) (between j k steps)) x address (state_at first steps (k + 1))
@@ -50,6 +53,7 @@ pub record HoldsRow (d : Desc) (field : Parity) (q : Queue) (number : ℕ) (firs
 -- so it is with each whole row at each signal of a field
 abbrev pub HoldsWholeRows : State → List Step → Type 0
 HoldsWholeRows first steps =
-    (d : Desc) (field : Parity) (j k : ℕ) → IsFieldOf first.program d field → IsSignalFrom d field first steps j k → (q : Queue) (number : ℕ) →
+    (d : Desc) (field : Parity) (j k : ℕ) → IsFieldOf first.program d field → IsSignalFrom d field first steps j k →
+    (q : Queue) (number : ℕ) →
     slice_index_or (marks d field (state_at first steps j) (between j k steps)) number false ≡ true →
     HoldsRow d field q number first steps j k

@@ -211,7 +211,8 @@ pub fn bt878<D: Desk>(alloc: Global, words: &[&str], desk: &mut D) -> Answer
     // At Done of these five, for every valid description whose program is the one that ran, every field of it and
     // every signal of the field, whatever came before: right after the signal each byte of a row that is whole and
     // isn't clipped is at its place, where it has one, and is that byte of the line that the row's instructions took;
-    // the entries of this line entered the queue one after another.
+    // the entries of this line entered the queue one after another, and the line is as long as the description asks.
+    // Nothing was taken of a queue for which the format has no plane.
     ensures whole_rows { (result ≡ Answer.Done) →
         OfRan (task_of words.now) (D.seen desk.old).told.inputs (OfSteps HoldsWholeRows) }
 

@@ -3,3 +3,4 @@ pub mod Tracks
 pub mod Maps
 pub mod Laws
 pub mod Worked
+pub mod Asked

@@ -2,9 +2,11 @@
 
 ghost use Rattle.std.specs.Prelude.{◌≡◌, true, false, [], ◌∷◌, Some, None};
 ghost use Rattle.picture_model.specs.Worked.{smallest};
-ghost use Rattle.damage_law.specs.Worked.{chroma_long, chroma_short, clipped, cut_short, emptied_empty, emptied_full, interrupted, planar_rows, reserved, restarted, too_long, two_rows, unkept_short};
+ghost use Rattle.damage_law.specs.Worked.{chroma_long, chroma_short, clipped, cut_short, emptied_empty, emptied_full, interrupted};
+ghost use Rattle.damage_law.specs.Worked.{planar_rows, reserved, restarted, too_long, two_rows, unkept_short};
 ghost use Rattle.damage_law.specs.Arrived.{ArrivedRowsAreWhole};
 ghost use Rattle.damage_law.specs.Standing.{WholeRowsStand};
+ghost use Rattle.damage_map.specs.Asked.{NothingTakenIsNothingAsked, WholeRowsTookAsked};
 ghost use Rattle.damage_map.specs.Laws.{KeepsAnswers, TellsSignals};
 ghost use Rattle.damage_map.specs.Worked.{kept_of};
 
@@ -25,6 +27,14 @@ pub fn arrived_rows_are_whole()
 /// clipped is at its place, where it has one, and is that byte of the line that the row's instructions took from the plane's queue.
 pub fn whole_rows_stand()
     ensures { WholeRowsStand }
+{}
+
+/// What the instructions of a whole row took of a queue is what the description asks of it: where the format has the plane of
+/// the queue, a line as long as a row on that plane, and else nothing. So a whole row of which
+/// nothing was taken on a queue is one of which nothing is asked there.
+pub fn whole_rows_took_what_is_asked()
+    ensures asked { WholeRowsTookAsked }
+    ensures nothing { NothingTakenIsNothingAsked }
 {}
 
 /// Over the worked fields of damage_law a track keeps the marks of their rows by the definition (its law
