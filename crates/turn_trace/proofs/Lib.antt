@@ -1,3 +1,5 @@
 pub mod Tracings
 pub mod Lines
 mod KeptWords
+mod PieceBytes
+mod CountDigits

@@ -112,6 +112,9 @@ words Turn m = turn_words m.turns (seen m) (next_drop m) (taken m)
 abbrev pub level_text : Queue → State → List ℕ
 level_text q m = count_text (length (queue_state q m.queues).entries)
 
+abbrev pub levels_text : State → List ℕ
+levels_text m = level_text One m ++ (level_text Two m ++ level_text Three m)
+
 -- the numbers of a state: pc, INT_STAT, the entries in each queue, the bytes stored
 abbrev pub numbers : State → List ℕ
 numbers m =

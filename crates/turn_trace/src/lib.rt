@@ -10,13 +10,16 @@ ghost use Rattle.std.specs.Prelude.{◌≡◌, ◌+◌, ◌-◌, ◌<◌, ◌≤
 ghost use Rattle.sync_status.specs.Statuses.{is_control, kind_of};
 ghost use Rattle.turn_trace.specs.Traces.{after_all, last_line, lines, tracing};
 
+mod counts;
 pub mod laws;
+mod pieces;
 mod words;
 
 use dma_machine::{Did, Machine};
 use fifo_model::{Entry, Queue};
 use irq_status::HostWrite;
 use page_ram::Ram;
+use pieces::KeptAddress;
 use risc_listing::{Lines, ROOM};
 use risc_word::Code;
 use std::marker::Model;
@@ -33,6 +36,7 @@ pub const LONGEST_STEP: usize = 157;
 pub struct Trace<R: Ram> {
     machine: Machine<R>,
     still: u64,
+    at: KeptAddress,
     kept: Kept,
 }
 
@@ -52,6 +56,7 @@ impl<R: Ram> Trace<R> {
         Trace {
             machine,
             still: 0,
+            at: KeptAddress::new(0),
             kept: Kept::new(0, 0),
         }
     }
@@ -127,7 +132,7 @@ impl<R: Ram> Trace<R> {
             return;
         }
         self.end_still(text);
-        push_turn_words(text, turns, drops, told);
+        push_turn_words(text, turns, drops, told, &mut self.at);
         push_numbers(text, &self.machine, &mut self.kept);
     }
 

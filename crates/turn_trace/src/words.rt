@@ -6,8 +6,10 @@ ghost use Rattle.risc_listing.specs.Lines.{at_text, code_name, count_text, line_
 ghost use Rattle.std.specs.Prelude.{◌≡◌, ◌+◌, ◌*◌, ◌^◌, ◌<◌, ◌≤◌, ◌++◌, codes, length};
 ghost use Rattle.sync_status.specs.Statuses.{kind_of};
 ghost use Rattle.turn_trace.specs.Kept.{kept_words};
-ghost use Rattle.turn_trace.specs.Traces.{bit_text, control_words, did_words, dropped_words, entry_words, fate, given_up_words, level_text, moved_words, numbers, queue_name, status_name, still_line, turn_words, write_words};
+ghost use Rattle.turn_trace.specs.Traces.{bit_text, control_words, did_words, dropped_words, entry_words, fate, given_up_words, levels_text, moved_words, numbers, queue_name, status_name, still_line, turn_words, write_words};
 
+use crate::counts::{end_of_eight, end_of_seven, turn_of_eight, turn_of_seven};
+use crate::pieces::{KeptAddress, burst_words, pixel_words, still_words, three_digits};
 use dma_machine::{Did, Machine, Told};
 use fifo_model::{Entry, Pushed, Queue};
 use irq_status::HostWrite;
@@ -67,13 +69,18 @@ pub fn push_fate(text: &mut Lines, pushed: Pushed)
     }
 }
 
-/// Appends the words of a push of a data entry.
+/// Appends the words of a push of a data entry, most of which are of four pixel bytes.
 #[inline(always)]
 pub fn push_entry_words(text: &mut Lines, queue: Queue, entry: &Entry)
     requires { array_string_len text.old + 26 ≤ 65536 }
     ensures bytes { text.new.bytes ≡ text.old.bytes ++ entry_words queue entry.now }
     ensures long { array_string_len text.new ≤ array_string_len text.old + 26 }
 {
+    if let StatusKind::Pixels = kind(entry.status) {
+        let words = pixel_words(queue, entry.dword);
+        text.push_str(unsafe { str::from_utf8_unchecked(&words) });
+        return;
+    }
     text.push_str("push ");
     text.push_str(queue_name(queue));
     text.push_str(" ");
@@ -198,28 +205,100 @@ fn push_did(text: &mut Lines, did: Did, drops: Option<Queue>, taken: u32)
     }
 }
 
-/// Appends the words of a turn: how many were taken before, the queue from which it dropped an entry, and what it did.
+// The words of a turn behind the count of turns: the address of its instruction, which is kept, and what it did. Most are
+// bursts of few bytes.
 #[inline(always)]
-pub fn push_turn_words(text: &mut Lines, turns: u64, drops: Option<Queue>, told: Told)
-    requires { array_string_len text.old + 70 ≤ 65536 }
-    ensures bytes { text.new.bytes ≡ text.old.bytes ++ turn_words turns told.seen drops told.taken }
-    ensures long { array_string_len text.new ≤ array_string_len text.old + 70 }
+fn push_seen_words(text: &mut Lines, drops: Option<Queue>, told: Told, kept: &mut KeptAddress)
+    requires { array_string_len text.old + 45 ≤ 65536 }
+    ensures bytes { text.new.bytes ≡ text.old.bytes ++ (at_text told.seen.at ++ (codes " " ++ did_words told.seen.did drops told.taken)) }
+    ensures long { array_string_len text.new ≤ array_string_len text.old + 45 }
 {
-    text.push_str("turn");
-    push_number(text, turns);
-    push_at(text, told.seen.at);
+    kept.keep(told.seen.at);
+    if let Did::Moved(queue) = told.seen.did {
+        if told.taken < 10 {
+            let words = burst_words(kept, queue, told.taken as u8);
+            text.push_str(unsafe { str::from_utf8_unchecked(&words) });
+            return;
+        }
+    }
+    kept.append(text);
     text.push_str(" ");
     push_did(text, told.seen.did, drops, told.taken);
 }
 
-// How many entries a queue holds.
+// How many turns were taken before one, as its line begins: in a long trace mostly a number of seven or eight digits.
 #[inline(always)]
-fn push_level<R: Ram>(text: &mut Lines, machine: &Machine<R>, queue: Queue)
-    requires { array_string_len text.old + 6 ≤ 65536 }
-    ensures bytes { text.new.bytes ≡ text.old.bytes ++ level_text queue machine.now }
-    ensures long { array_string_len text.new ≤ array_string_len text.old + 6 }
+fn push_turn_count(text: &mut Lines, turns: u64)
+    requires { array_string_len text.old + 25 ≤ 65536 }
+    ensures bytes { text.new.bytes ≡ text.old.bytes ++ (codes "turn" ++ count_text turns) }
+    ensures long { array_string_len text.new ≤ array_string_len text.old + 25 }
 {
-    push_count(text, machine.level(queue) as u16);
+    if turns >= 10_000_000 && turns < 100_000_000 {
+        let words = turn_of_eight(turns as u32);
+        text.push_str(unsafe { str::from_utf8_unchecked(&words) });
+    } else if turns >= 1_000_000 && turns < 10_000_000 {
+        let words = turn_of_seven(turns as u32);
+        text.push_str(unsafe { str::from_utf8_unchecked(&words) });
+    } else {
+        text.push_str("turn");
+        push_number(text, turns);
+    }
+}
+
+/// Appends the words of a turn: how many were taken before, the queue from which it dropped an entry, and what it did.
+#[inline(always)]
+pub fn push_turn_words(
+    text: &mut Lines,
+    turns: u64,
+    drops: Option<Queue>,
+    told: Told,
+    kept: &mut KeptAddress,
+)
+    requires { array_string_len text.old + 70 ≤ 65536 }
+    ensures bytes { text.new.bytes ≡ text.old.bytes ++ turn_words turns told.seen drops told.taken }
+    ensures long { array_string_len text.new ≤ array_string_len text.old + 70 }
+{
+    push_turn_count(text, turns);
+    push_seen_words(text, drops, told, kept);
+}
+
+// How many entries each queue holds.
+#[inline(always)]
+fn push_levels<R: Ram>(text: &mut Lines, machine: &Machine<R>)
+    requires { array_string_len text.old + 18 ≤ 65536 }
+    ensures bytes { text.new.bytes ≡ text.old.bytes ++ levels_text machine.now }
+    ensures long { array_string_len text.new ≤ array_string_len text.old + 18 }
+{
+    let one = machine.level(Queue::One) as u16;
+    let two = machine.level(Queue::Two) as u16;
+    let three = machine.level(Queue::Three) as u16;
+    if one < 10 && two < 10 && three < 10 {
+        let digits = three_digits(one, two, three);
+        text.push_str(unsafe { str::from_utf8_unchecked(&digits) });
+    } else {
+        push_count(text, one);
+        push_count(text, two);
+        push_count(text, three);
+    }
+}
+
+// How many bytes were stored, as a line ends: in a long trace mostly a number of seven or eight digits.
+#[inline(always)]
+fn push_moved_and_end(text: &mut Lines, moved: u64)
+    requires { array_string_len text.old + 22 ≤ 65536 }
+    ensures bytes { text.new.bytes ≡ text.old.bytes ++ (count_text moved ++ line_end) }
+    ensures long { array_string_len text.new ≤ array_string_len text.old + 22 }
+{
+    if moved >= 10_000_000 && moved < 100_000_000 {
+        let words = end_of_eight(moved as u32);
+        text.push_str(unsafe { str::from_utf8_unchecked(&words) });
+    } else if moved >= 1_000_000 && moved < 10_000_000 {
+        let words = end_of_seven(moved as u32);
+        text.push_str(unsafe { str::from_utf8_unchecked(&words) });
+    } else {
+        push_number(text, moved);
+        text.push_str("\n");
+    }
 }
 
 /// The words of a pc and an INT_STAT, kept with what they are of: in most lines they are those of the line before.
@@ -290,11 +369,25 @@ pub fn push_numbers<R: Ram>(text: &mut Lines, machine: &Machine<R>, kept: &mut K
     let report = machine.report();
     kept.keep(machine.pc(), report.int_stat);
     kept.append(text);
-    push_level(text, machine, Queue::One);
-    push_level(text, machine, Queue::Two);
-    push_level(text, machine, Queue::Three);
-    push_number(text, report.moved);
-    text.push_str("\n");
+    push_levels(text, machine);
+    push_moved_and_end(text, report.moved);
+}
+
+// The line of so many turns of which nothing was seen: mostly a number of two digits.
+#[inline(always)]
+fn push_still_words(text: &mut Lines, still: u64)
+    requires { array_string_len text.old + 27 ≤ 65536 }
+    ensures bytes { text.new.bytes ≡ text.old.bytes ++ (codes "still" ++ (count_text still ++ line_end)) }
+    ensures long { array_string_len text.new ≤ array_string_len text.old + 27 }
+{
+    if still >= 10 && still < 100 {
+        let words = still_words(still as u8);
+        text.push_str(unsafe { str::from_utf8_unchecked(&words) });
+    } else {
+        text.push_str("still");
+        push_number(text, still);
+        text.push_str("\n");
+    }
 }
 
 /// Appends the line of so many turns of which nothing was seen, if there were any.
@@ -305,8 +398,6 @@ pub fn push_still_line(text: &mut Lines, still: u64)
     ensures long { array_string_len text.new ≤ array_string_len text.old + 27 }
 {
     if still != 0 {
-        text.push_str("still");
-        push_number(text, still);
-        text.push_str("\n");
+        push_still_words(text, still);
     }
 }
