@@ -1,5 +1,5 @@
 #!/usr/bin/env python3
-"""Lemmas of the proofs that nothing cites, and statements that stand more than once.
+"""Lemmas of the proofs that nothing cites, statements that stand more than once, and lines that are too long.
 
     python3 tools/lemmas.py [--beside FOLDER ..]
 
@@ -8,6 +8,10 @@ or lemma that no other text names, and for each statement that two lemmas have, 
 make no difference.  With --beside the lemmas of other folders, such as those of std in the toolchain, are compared too:
 what stands there need not stand here.  It goes by the texts alone: a lemma may be a law that is its own end, and one
 that the prover's search takes is always named (`using`).  Only a check tells whether a lemma can go.
+
+It also prints a line for each line of a `.rt` or `.antt` file of the crates that has more than 140 characters: its place and
+its length.  Not for a line of an `.antt` file that is a text in quotes alone, which can't be broken, or a tuple of eight
+tuples or more, each in the one before, which `rt fmt` would lay out as stairs.
 
 Python 3.11, standard library only.
 """
@@ -26,6 +30,8 @@ BINDER = re.compile(r"[({]([A-Za-z_][\w'\- ]*?)\s*:")
 IN_BRACES = re.compile(r"Rattle\.(\w+)\.(?:specs|proofs)\.([\w.+]+?)\.\{([^}]*)\}")
 BY_PATH = re.compile(r"Rattle\.(\w+)\.(?:specs|proofs)\.([\w.+]+)\.([^\s(){},.;]+)")
 OF_CODE = re.compile(r"(\w+)::(?:specs|proofs)::([\w:]+)::([^\s(){},:;]+)")
+MOST = 140
+UNBROKEN = re.compile(r'\s*(?:"(?:\\.|[^"\\])*"|(?:\(\w+, ){8}.*)[),;]*')
 # What the toolchain names: the proof of a function, its parts and its answers.
 GIVEN = ("Answers", "Proof", "Invariants")
 
@@ -108,6 +114,16 @@ def twice(texts, others):
             yield [place for _, place in found]
 
 
+def too_long(folder):
+    """Yields the place and the length of each line with more characters than a line may have."""
+    for file in sorted(pathlib.Path(folder).glob("*/*/**/*")):
+        if file.suffix not in (".rt", ".antt") or file.relative_to(folder).parts[1] not in ("src", "specs", "proofs"):
+            continue
+        for at, line in enumerate(file.read_text(encoding="utf-8").split("\n"), 1):
+            if len(line) > MOST and not (file.suffix == ".antt" and UNBROKEN.fullmatch(line)):
+                yield f"{file}:{at}", len(line)
+
+
 def read(folder, *patterns):
     files = [file for pattern in patterns for file in pathlib.Path(folder).glob(pattern) if "out" not in file.parts]
     return {file: without_comments(file.read_text()) if file.suffix == ".antt" else file.read_text() for file in files}
@@ -123,6 +139,8 @@ def main():
         print(f"{place}: nothing names {name}")
     for places in sorted(twice(texts, others)):
         print("; ".join(places[:6]) + (" .." if len(places) > 6 else "") + ": one statement")
+    for place, length in too_long("crates"):
+        print(f"{place}: {length} characters")
 
 
 if __name__ == "__main__":

@@ -19,7 +19,8 @@ never_both b is not = absurd (cc)
 
 -- a good input isn't missing
 good_is_there : (input : Input) (told : Option Inputs) → IsThereAndGood input told → is_missing input.name told ≡ true → ⊥
-good_is_there input told good missing = never_both (is_missing input.name told) missing (is_there input.name told (input.judge.IsGood told) good)
+good_is_there input told good missing =
+    never_both (is_missing input.name told) missing (is_there input.name told (input.judge.IsGood told) good)
 
 pub good_not_missing : (inputs : List Input) (told : Option Inputs) → AreGood inputs told → IsFirstMissing inputs told → ⊥
 good_not_missing [] told good missing = missing
@@ -39,7 +40,8 @@ all_told (input ∷ inputs) told (inr (there, later)) = all_told inputs told lat
 -- ---- why it stops
 
 -- an input that is missing is bad in no way
-stops_at_missing : (input : Input) (judged : IsJudged input) (refusal : Refusal) (old new : Seen) → is_missing input.name old.told.inputs ≡ true → StopsAt input.judge.IsBad input.name refusal old new →
+stops_at_missing : (input : Input) (judged : IsJudged input) (refusal : Refusal) (old new : Seen) →
+    is_missing input.name old.told.inputs ≡ true → StopsAt input.judge.IsBad input.name refusal old new →
     (refusal ≡ ReadFault) ⊎ (refusal ≡ NoMemory)
 stops_at_missing input judged ReadFault old new missing h = inl refl
 stops_at_missing input judged NoMemory old new missing h = inr refl
@@ -47,18 +49,21 @@ stops_at_missing input judged refusal old new missing h =
     absurd (never_both (is_missing input.name old.told.inputs) missing
     (is_there input.name old.told.inputs (judged.Why refusal old.told.inputs) (judged.judges.tells input.name refusal old.told.inputs h)))
 
-stops_at_good : (input : Input) (judged : IsJudged input) (refusal : Refusal) (old new : Seen) → AreTold old.told.inputs → IsThereAndGood input old.told.inputs → StopsAt input.judge.IsBad input.name refusal old new →
+stops_at_good : (input : Input) (judged : IsJudged input) (refusal : Refusal) (old new : Seen) → AreTold old.told.inputs →
+    IsThereAndGood input old.told.inputs → StopsAt input.judge.IsBad input.name refusal old new →
     (refusal ≡ ReadFault) ⊎ (refusal ≡ NoMemory)
 stops_at_good input judged ReadFault old new told good h = inl refl
 stops_at_good input judged NoMemory old new told good h = inr refl
 stops_at_good input judged refusal old new told good h = absurd (good_or_bad judged.judges input.name refusal old.told.inputs told good h)
 
-pub missing_leads : (inputs : List Input) → AreJudged inputs → (refusal : Refusal) (old new : Seen) → IsFirstMissing inputs old.told.inputs → StopsIn inputs refusal old new →
+pub missing_leads : (inputs : List Input) → AreJudged inputs → (refusal : Refusal) (old new : Seen) →
+    IsFirstMissing inputs old.told.inputs → StopsIn inputs refusal old new →
     (refusal ≡ ReadFault) ⊎ (refusal ≡ NoMemory)
 missing_leads [] are refusal old new missing h = absurd missing
 missing_leads (input ∷ inputs) are refusal old new (inl missing) (inl h) = stops_at_missing input are.0 refusal old new missing h
 missing_leads (input ∷ inputs) are refusal old new (inl missing) (inr h) = absurd (good_is_there input old.told.inputs h.0 missing)
-missing_leads (input ∷ inputs) are refusal old new (inr (there, later)) (inl h) = stops_at_good input are.0 refusal old new (all_told inputs old.told.inputs later) there h
+missing_leads (input ∷ inputs) are refusal old new (inr (there, later)) (inl h) =
+    stops_at_good input are.0 refusal old new (all_told inputs old.told.inputs later) there h
 missing_leads (input ∷ inputs) are refusal old new (inr (there, later)) (inr h) = missing_leads inputs are.1 refusal old new later h.1
 
 -- ---- the first input
@@ -93,19 +98,24 @@ opened_there name told (CreateOut other done ∷ calls) h = absurd h
 opened_there name told (Finish done ∷ calls) h = absurd h
 opened_there name told (Say ∷ calls) h = absurd h
 
-only_unread : (refusal : Refusal) (name : List ℕ) (told : Option Inputs) (calls : List Call) → is_missing name told ≡ true → EndsTaking refusal true name told calls → refusal ≡ ReadFault
+only_unread : (refusal : Refusal) (name : List ℕ) (told : Option Inputs) (calls : List Call) → is_missing name told ≡ true →
+    EndsTaking refusal true name told calls → refusal ≡ ReadFault
 only_unread ReadFault name told calls missing h = refl
 only_unread NoMemory name told calls missing h = absurd (never_both (is_missing name told) missing (opened_there name told calls h))
 only_unread refusal name told calls missing h = absurd (never_both (is_missing name told) missing (opened_there name told calls h.0))
 
-kept_unread : (kept : Bool) (refusal : Refusal) (name : List ℕ) (told : Option Inputs) (calls : List Call) → kept ≡ true → is_missing name told ≡ true → EndsTaking refusal kept name told calls → refusal ≡ ReadFault
+kept_unread : (kept : Bool) (refusal : Refusal) (name : List ℕ) (told : Option Inputs) (calls : List Call) → kept ≡ true →
+    is_missing name told ≡ true → EndsTaking refusal kept name told calls → refusal ≡ ReadFault
 kept_unread true refusal name told calls is missing h = only_unread refusal name told calls missing h
 kept_unread false refusal name told calls is missing h = absurd (cc)
 
-pub head_leads : (inputs : List Input) (refusal : Refusal) (told : Option Inputs) (calls : List Call) → IsFirstKept inputs → IsHeadMissing inputs told → AreTakenUpTo inputs refusal told calls → refusal ≡ ReadFault
+pub head_leads : (inputs : List Input) (refusal : Refusal) (told : Option Inputs) (calls : List Call) → IsFirstKept inputs →
+    IsHeadMissing inputs told → AreTakenUpTo inputs refusal told calls → refusal ≡ ReadFault
 head_leads [] refusal told calls kept missing h = absurd missing
-head_leads (input ∷ inputs) refusal told calls kept missing (inl h) = kept_unread input.judge.kept refusal input.name told calls kept missing h.1
-head_leads (input ∷ inputs) refusal told calls kept missing (inr (x, y, e, whole, good, may, more)) = absurd (good_is_there input told good missing)
+head_leads (input ∷ inputs) refusal told calls kept missing (inl h) =
+    kept_unread input.judge.kept refusal input.name told calls kept missing h.1
+head_leads (input ∷ inputs) refusal told calls kept missing (inr (x, y, e, whole, good, may, more)) =
+    absurd (good_is_there input told good missing)
 
 -- a first input that is missing is the first that is
 pub head_is_first : (inputs : List Input) (told : Option Inputs) → IsHeadMissing inputs told → IsFirstMissing inputs told

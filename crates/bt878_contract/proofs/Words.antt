@@ -44,7 +44,8 @@ module _ (names : List (List ℕ)) where
   allowed None are name among = tt
   allowed (Some known) are name among = are name ∙ among
 
-  each_of : (some : List (List ℕ)) (told : Option (List (List ℕ))) → AreNames names told → ((name : List ℕ) → is_among name some ≡ true → is_among name names ≡ true) → AreAllowed some told
+  each_of : (some : List (List ℕ)) (told : Option (List (List ℕ))) → AreNames names told →
+      ((name : List ℕ) → is_among name some ≡ true → is_among name names ≡ true) → AreAllowed some told
   each_of [] told are within = tt
   each_of (name ∷ some) told are within = (
     allowed told are name (within name (first_among name some)),

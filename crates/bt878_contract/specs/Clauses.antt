@@ -1,5 +1,6 @@
 -- What the top call promises, one by one. A clause about a content holds where the desk tells it.
-use Rattle.std.specs.Prelude.{◌≡◌, ℕ, ◌≤◌, ◌⊎◌, ⊤, false, true, List, [], ◌∷◌, ◌++◌, length, take, Option, Some, None, option_map, Result, Ok, Err}
+use Rattle.std.specs.Prelude.{◌≡◌, ℕ, ◌≤◌, ◌⊎◌, ⊤, false, true, List, [], ◌∷◌, ◌++◌, length, take, Option, Some, None, option_map, Result}
+use Rattle.std.specs.Prelude.{Ok, Err}
 use Rattle.bt878_words.specs.declared.Task.{Task}
 use Rattle.bt878_words.specs.declared.UsageFault.{UsageFault}
 use Rattle.capture_desk.specs.Desks.{Seen, Inputs, Outputs, Tells, Told, said_by, is_among, is_missing, output_named}

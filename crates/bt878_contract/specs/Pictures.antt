@@ -31,12 +31,14 @@ pub record ShowsField (program : RiscProgram) (d : Desc) (field : Parity) (f : F
   pub pictured : IsPicture d field picture
 
 -- the first end of the field after place j is step k, and the picture arrives at j over the steps j to k
-pub record ArrivesUpToEnd (d : Desc) (field : Parity) (f : Found) (picture : Picture) (first : State) (steps : List Step) (j k : ℕ) : Type 0 where
+pub record ArrivesUpToEnd (d : Desc) (field : Parity) (f : Found) (picture : Picture) (first : State) (steps : List Step)
+    (j k : ℕ) : Type 0 where
   pub ends : IsFirstEnd f.end first steps j k
   pub arrives : ArrivesAtOpening first.program d field f picture (state_at first steps j) (between j (k + 1) steps)
 
 -- memory is that of before with the picture, and the control bits of the JUMP that ends the field are applied
-pub record HasPicture (program : RiscProgram) (d : Desc) (field : Parity) (f : Found) (picture : Picture) (before last now : State) : Type 0 where
+pub record HasPicture (program : RiscProgram) (d : Desc) (field : Parity) (f : Found) (picture : Picture)
+    (before last now : State) : Type 0 where
   pub memory : After d field picture before.memory now.memory
   pub closing : (instr : Instr) (words : ℕ) → fetch program f.end ≡ Ok (instr, words) → now.interrupts ≡ after_closing instr last.interrupts
 
@@ -61,7 +63,8 @@ EndsInTime first steps =
     (d : Desc) (field : Parity) (f : Found) (picture : Picture) (j i l : ℕ) → ShowsField first.program d field f picture →
     j ≤ i → i ≤ l → l ≤ length steps →
     (arrives : ArrivesAtOpening first.program d field f picture (state_at first steps j) (between j l steps)) →
-    ((q : Queue) → entries_of arrives.before arrives.entries q ≤ length (queue_state q (state_at first steps j).queues).entries + length (coming (meeting first.program (between j i steps)) q)) →
+    ((q : Queue) → entries_of arrives.before arrives.entries q
+    ≤ length (queue_state q (state_at first steps j).queues).entries + length (coming (meeting first.program (between j i steps)) q)) →
     5 * (f.count + 2) + over_queues (entries_of arrives.before arrives.entries) ≤ turns_in (meeting first.program (between i l steps)) →
     (k : ℕ) × IsFirstEnd f.end first steps j k × (k < l)
 

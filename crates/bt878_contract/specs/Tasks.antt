@@ -1,5 +1,6 @@
 -- What the words ask for, what each command means, what comes of it, and why it is refused.
-use Rattle.std.specs.Prelude.{◌≡◌, ℕ, ⊤, Bool, List, [], ◌∷◌, ◌++◌, map, length, Option, Some, None, MatchOption, Result, Ok, Err, true, false}
+use Rattle.std.specs.Prelude.{◌≡◌, ℕ, ⊤, Bool, List, [], ◌∷◌, ◌++◌, map, length, Option, Some, None, MatchOption, Result, Ok, Err, true}
+use Rattle.std.specs.Prelude.{false}
 use Rattle.bt878_words.specs.declared.Task.{Task}
 use Rattle.bt878_words.specs.declared.Task.TheVariants as command
 use Rattle.bt878_words.specs.declared.UsageFault.{UsageFault}
@@ -211,7 +212,8 @@ VerdictOf _ product = ⊥
 
 -- What a run over a stream makes: `files` has the files of what ran, and `Says` which text is printed of it and of the file that
 -- it came from.
-abbrev pub RunOf : (List ℕ → RiscProgram → ℕ → Type 0) → (Ran → List (List ℕ × List ℕ)) → (List ℕ → Ran → List ℕ → Type 0) → List (List ℕ) → Product → Type 0
+abbrev pub RunOf : (List ℕ → RiscProgram → ℕ → Type 0) → (Ran → List (List ℕ × List ℕ)) → (List ℕ → Ran → List ℕ → Type 0) → List (List ℕ) →
+    Product → Type 0
 RunOf Gives files Says (file ∷ stream ∷ []) product =
     (r : Ran) × IsRun Gives file stream r × RunMakes (files r) (Says file r) product r
 RunOf Gives files Says _ product = ⊥
@@ -291,7 +293,8 @@ meaning (command.Make desc seed frames stream) =
 meaning (command.Chain one two stream image) =
     RunsChain (record { one = one.now; two = two.now; stream = stream.now; image = image.now })
 meaning (command.Damage desc stream) =
-    RunsProgram (record { source = Description desc.now; stream = Stream false stream.now; Gives = GivesCompiled; files = no_file; Says = TellsRows })
+    RunsProgram
+    (record { source = Description desc.now; stream = Stream false stream.now; Gives = GivesCompiled; files = no_file; Says = TellsRows })
 meaning (command.Ring ring stream program image) =
     RunsProgram (record {
       source = RingFile ring.now;
@@ -304,7 +307,8 @@ meaning (command.Assemble text program) = made_of (Listing text.now) (AssembledO
 meaning (command.Check program desc) =
     MakesOther (record { sources = SoundProgram program.now ∷ ShownDescription program.now desc.now ∷ []; makes = CheckOf; text = None })
 meaning (command.Trace program stream) =
-    RunsProgram (record { source = SoundProgram program.now; stream = KeptStream stream.now; Gives = GivesSound; files = no_file; Says = Traces })
+    RunsProgram
+    (record { source = SoundProgram program.now; stream = KeptStream stream.now; Gives = GivesSound; files = no_file; Says = Traces })
 meaning command.Help = prints_alone help_text
 meaning command.Version = prints_alone version_text
 

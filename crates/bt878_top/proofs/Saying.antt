@@ -25,14 +25,16 @@ pub breaks_off_within : (a c : List ℕ) (old new : Told) → BreaksOff a old ne
 breaks_off_within = pieces.breaks_off_within after_say
 
 -- a piece between what was printed and the rest
-pub piece_said : (said piece rest front whole : List ℕ) (old mid new : Told) → piece ++ rest ≡ front → said ++ front ≡ whole → mid ≡ after_say said old →
+pub piece_said : (said piece rest front whole : List ℕ) (old mid new : Told) → piece ++ rest ≡ front → said ++ front ≡ whole →
+    mid ≡ after_say said old →
     new ≡ after_say piece mid → ((said ++ piece) ++ rest ≡ whole) × (new ≡ after_say (said ++ piece) old)
 piece_said said piece rest front whole old mid new split so_far before is = (
   append_assoc said piece rest ∙ ap (λ (list : List ℕ). said ++ list) split ∙ so_far,
   said_on said piece old mid new before is,
 )
 
-pub piece_breaks_off : (said piece rest front whole : List ℕ) (old mid new : Told) → piece ++ rest ≡ front → said ++ front ≡ whole → mid ≡ after_say said old →
+pub piece_breaks_off : (said piece rest front whole : List ℕ) (old mid new : Told) → piece ++ rest ≡ front → said ++ front ≡ whole →
+    mid ≡ after_say said old →
     BreaksOff piece mid new → BreaksOff whole old new
 piece_breaks_off said piece rest front whole old mid new split so_far before is =
     subst (λ (text : List ℕ). BreaksOff text old new) so_far
@@ -44,12 +46,15 @@ piece_breaks_off said piece rest front whole old mid new split so_far before is 
 pub said_both : (a b : List ℕ) (old mid new : Seen) → OnlySaid a old mid → OnlySaid b mid new → OnlySaid (a ++ b) old new
 said_both a b old mid new one two = (two.0 ∙ one.0, two.1 ∙ one.1, say_both a b old.calls mid.calls new.calls one.2 two.2)
 
-pub fault_later : {E : Type 0} (a b whole : List ℕ) (failed : E) (old mid new : Seen) → OnlySaid a old mid → IsWriteFault mid new × Tells (Say ∷ []) mid.calls new.calls →
+pub fault_later : {E : Type 0} (a b whole : List ℕ) (failed : E) (old mid new : Seen) → OnlySaid a old mid →
+    IsWriteFault mid new × Tells (Say ∷ []) mid.calls new.calls →
     IsWriteFault old new × Tells (Say ∷ []) old.calls new.calls
-fault_later a b whole failed old mid new one two = ((two.0.0 ∙ one.0, two.0.1 ∙ ap counted one.1, two.0.2), say_more a old.calls mid.calls new.calls one.2 two.1)
+fault_later a b whole failed old mid new one two =
+    ((two.0.0 ∙ one.0, two.0.1 ∙ ap counted one.1, two.0.2), say_more a old.calls mid.calls new.calls one.2 two.1)
 
 -- the text of two parts, of which the first was printed
-pub then_said : {A E : Type 0} (a b : List ℕ) (old mid new : Told) (result : Result A E) → mid ≡ after_say a old → Puts b result after_say mid new →
+pub then_said : {A E : Type 0} (a b : List ℕ) (old mid new : Told) (result : Result A E) → mid ≡ after_say a old →
+    Puts b result after_say mid new →
     Puts (a ++ b) result after_say old new
 then_said = pieces.puts_then after_say after_say-after_say
 

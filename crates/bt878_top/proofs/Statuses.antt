@@ -1,7 +1,8 @@
 -- Status 0 is that of Done alone.
 use Rattle.std.proofs.Common.{◌≡◌, refl}
 use Rattle.command_texts.specs.declared.answer.Answer.{Answer}
-use Rattle.command_texts.specs.declared.answer.Answer.TheVariants.{Done, Usage, ReadFault, WriteFault, Malformed, BadDesc, BadGeometry, BadChain, BadRing, BadText, Rejected, Differs, NoMemory}
+use Rattle.command_texts.specs.declared.answer.Answer.TheVariants.{Done, Usage, ReadFault, WriteFault, Malformed, BadDesc, BadGeometry}
+use Rattle.command_texts.specs.declared.answer.Answer.TheVariants.{BadChain, BadRing, BadText, Rejected, Differs, NoMemory}
 use Rattle.command_texts.specs.Answers.{status_of}
 
 pub done_at_zero : (answer : Answer) → status_of answer ≡ 0 → answer ≡ Done

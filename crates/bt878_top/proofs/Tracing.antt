@@ -21,6 +21,7 @@ piece_made true shown text made cleared before after is held none goes_on ends =
 piece_made false shown text made cleared before after is held none goes_on ends =
     append-nil shown ∙ is ∙ held ∙ ends refl ∙ ap (λ (list : List ℕ). list ++ text_left before) none
 
-pub fewer_left : (more : Bool) (before after : Playing) → (more ≡ true → weight after < weight before) → pieces_left more after < pieces_left true before
+pub fewer_left : (more : Bool) (before after : Playing) → (more ≡ true → weight after < weight before) →
+    pieces_left more after < pieces_left true before
 fewer_left true before after less = let l = less refl in omega (arith, l)
 fewer_left false before after less = omega arith

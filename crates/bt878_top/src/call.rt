@@ -2,8 +2,10 @@
 
 ghost use Rattle.std.specs.Prelude.{◌≡◌, ◌<◌, ℕ, ◌⊎◌, IfOk, List, Ok};
 ghost use Rattle.bt878_words.specs.Words.{HasFrames, Word, task_of, writes};
-ghost use Rattle.bt878_contract.specs.Clauses.{AreTold, IsAssembled, IsBadInput, IsCompiled, IsGenerated, IsGood, IsInOrder, IsRefusal, IsUnreadOf, IsUsage, OfDescRun, OfLive, OfLiveRun, OfLiveSteps};
-ghost use Rattle.bt878_contract.specs.Clauses.{OfRan, OfRingRun, OfSteps, OnlyOutputs, OnlySays, SameNames, SaysAccepted, SaysAlone, SaysBlocks, SaysChecked, SaysDamage, SaysListing, ShowsImage, ShowsLast, ShowsLastLive};
+ghost use Rattle.bt878_contract.specs.Clauses.{AreTold, IsAssembled, IsBadInput, IsCompiled, IsGenerated, IsGood, IsInOrder, IsRefusal};
+ghost use Rattle.bt878_contract.specs.Clauses.{IsUnreadOf, IsUsage, OfDescRun, OfLive, OfLiveRun, OfLiveSteps};
+ghost use Rattle.bt878_contract.specs.Clauses.{OfRan, OfRingRun, OfSteps, OnlyOutputs, OnlySays, SameNames, SaysAccepted, SaysAlone};
+ghost use Rattle.bt878_contract.specs.Clauses.{SaysBlocks, SaysChecked, SaysDamage, SaysListing, ShowsImage, ShowsLast, ShowsLastLive};
 ghost use Rattle.bt878_contract.specs.Clauses.{IsShort, LacksFirst, LacksInput};
 ghost use Rattle.bt878_contract.specs.Clauses.{SaysTrace, ShowsProgram, StandsAt, StaysInside, TellsInput, UnlessCut};
 ghost use Rattle.bt878_contract.specs.Pictures.{EndsInTime, ShowsNoFault, ShowsPictures, ShowsSignalledPictures};

@@ -28,7 +28,8 @@ pub fn make<'a, D: Desk>(
     requires desc { IsAllowed desc.now (D.seen desk.old).told.may_open }
     requires frames { (1 ≤ frames) × (frames ≤ 16) }
     ensures takes { Takes (inputs_of (Task.Make desc.entry seed frames stream.entry)) result (D.seen desk.old) (D.seen desk.new) }
-    ensures makes { IfOk result (λ produced. IsProduct (Task.Make desc.entry seed frames stream.entry) (D.seen desk.old).told.inputs (product_of produced)) }
+    ensures makes { IfOk result
+        (λ produced. IsProduct (Task.Make desc.entry seed frames stream.entry) (D.seen desk.old).told.inputs (product_of produced)) }
 {
     let checked = check_file(alloc, desc, desk)?;
     let counts = Made::of(checked.frame(), frames);

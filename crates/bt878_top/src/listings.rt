@@ -152,7 +152,8 @@ fn say_all_words<D: Desk>(program: &Program, desk: &mut D) -> Result<(), Failed>
 /// Prints the listing of a program. It takes no memory. Where the desk fails, the first bytes of the listing
 /// were printed.
 fn say_listing<D: Desk>(listed: &Listed, desk: &mut D) -> Result<(), Failed>
-    ensures says { Puts (listing_with listed.now.program listed.now.memory.items) result after_say (D.seen desk.old).told (D.seen desk.new).told }
+    ensures says { Puts (listing_with listed.now.program listed.now.memory.items) result after_say (D.seen desk.old).told
+        (D.seen desk.new).told }
     ensures counts { SayCounts (listing_with listed.now.program listed.now.memory.items) result (D.seen desk.old) (D.seen desk.new) }
 {
     say_all_words(&listed.program, desk)?;

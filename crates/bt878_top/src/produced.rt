@@ -174,7 +174,8 @@ fn program_and_image<D: Desk>(
 ) -> Answer
     requires program { IsAllowed program.now (D.seen desk.old).told.may_create }
     requires image { IsAllowed image.now (D.seen desk.old).told.may_create }
-    ensures { Finishes ((program.now, spelled machine.now.program fill) ∷ (image.now, image_of machine.now.memory) ∷ []) text.now result (D.seen desk.old) (D.seen desk.new) }
+    ensures { Finishes ((program.now, spelled machine.now.program fill) ∷ (image.now, image_of machine.now.memory) ∷ []) text.now result
+        (D.seen desk.old) (D.seen desk.new) }
 {
     let outputs = [
         Output {

@@ -38,7 +38,8 @@ pub fn check<'a, D: Desk>(
     requires program { IsAllowed program.now (D.seen desk.old).told.may_open }
     requires desc { IsAllowed desc.now (D.seen desk.old).told.may_open }
     ensures takes { Takes (inputs_of (Task.Check program.entry desc.entry)) result (D.seen desk.old) (D.seen desk.new) }
-    ensures makes { IfOk result (λ produced. IsProduct (Task.Check program.entry desc.entry) (D.seen desk.old).told.inputs (product_of produced)) }
+    ensures makes { IfOk result
+        (λ produced. IsProduct (Task.Check program.entry desc.entry) (D.seen desk.old).told.inputs (product_of produced)) }
 {
     let loaded = accept(alloc, program, desk)?;
     let text = shown_file(alloc, &loaded.accepted, desc, desk)?;
@@ -69,7 +70,8 @@ pub fn compile<'a, D: Desk>(
 ) -> Result<Produced<'a>, Refusal>
     requires { IsAllowed desc.now (D.seen desk.old).told.may_open }
     ensures takes { Takes (inputs_of (Task.Compile desc.entry program.entry)) result (D.seen desk.old) (D.seen desk.new) }
-    ensures makes { IfOk result (λ produced. IsProduct (Task.Compile desc.entry program.entry) (D.seen desk.old).told.inputs (product_of produced)) }
+    ensures makes { IfOk result
+        (λ produced. IsProduct (Task.Compile desc.entry program.entry) (D.seen desk.old).told.inputs (product_of produced)) }
 {
     let checked = check_file(alloc, desc, desk)?;
     let fill = checked.fill();
@@ -86,7 +88,8 @@ pub fn assemble<'a, D: Desk>(
 ) -> Result<Produced<'a>, Refusal>
     requires { IsAllowed text.now (D.seen desk.old).told.may_open }
     ensures takes { Takes (inputs_of (Task.Assemble text.entry program.entry)) result (D.seen desk.old) (D.seen desk.new) }
-    ensures makes { IfOk result (λ produced. IsProduct (Task.Assemble text.entry program.entry) (D.seen desk.old).told.inputs (product_of produced)) }
+    ensures makes { IfOk result
+        (λ produced. IsProduct (Task.Assemble text.entry program.entry) (D.seen desk.old).told.inputs (product_of produced)) }
 {
     let file = assemble_file(alloc, text, desk)?;
     Ok(built(program, file.program, file.fill))

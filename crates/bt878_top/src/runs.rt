@@ -37,7 +37,8 @@ pub fn run<'a, D: Desk>(
     requires program { IsAllowed program.now (D.seen desk.old).told.may_open }
     requires stream { IsAllowed stream.now (D.seen desk.old).told.may_open }
     ensures takes { Takes (inputs_of (Task.Run program.entry stream.entry image.entry)) result (D.seen desk.old) (D.seen desk.new) }
-    ensures makes { IfOk result (λ produced. IsProduct (Task.Run program.entry stream.entry image.entry) (D.seen desk.old).told.inputs (product_of produced)) }
+    ensures makes { IfOk result
+        (λ produced. IsProduct (Task.Run program.entry stream.entry image.entry) (D.seen desk.old).told.inputs (product_of produced)) }
 {
     let Loaded { accepted, fill } = accept(alloc, program, desk)?;
     let machine = Watched::new(machine_of(alloc, accepted, fill)?, ());
@@ -63,8 +64,10 @@ pub fn capture<'a, D: Desk>(
 ) -> Result<Produced<'a>, Refusal>
     requires desc { IsAllowed desc.now (D.seen desk.old).told.may_open }
     requires stream { IsAllowed stream.now (D.seen desk.old).told.may_open }
-    ensures takes { Takes (inputs_of (Task.Capture desc.entry stream.entry program.entry image.entry)) result (D.seen desk.old) (D.seen desk.new) }
-    ensures makes { IfOk result (λ produced. IsProduct (Task.Capture desc.entry stream.entry program.entry image.entry) (D.seen desk.old).told.inputs (product_of produced)) }
+    ensures takes { Takes (inputs_of (Task.Capture desc.entry stream.entry program.entry image.entry)) result (D.seen desk.old)
+        (D.seen desk.new) }
+    ensures makes { IfOk result (λ produced.
+        IsProduct (Task.Capture desc.entry stream.entry program.entry image.entry) (D.seen desk.old).told.inputs (product_of produced)) }
 {
     let checked = check_file(alloc, desc, desk)?;
     let fill = checked.fill();
@@ -93,8 +96,10 @@ pub fn ring<'a, D: Desk>(
 ) -> Result<Produced<'a>, Refusal>
     requires ring { IsAllowed ring.now (D.seen desk.old).told.may_open }
     requires stream { IsAllowed stream.now (D.seen desk.old).told.may_open }
-    ensures takes { Takes (inputs_of (Task.Ring ring.entry stream.entry program.entry image.entry)) result (D.seen desk.old) (D.seen desk.new) }
-    ensures makes { IfOk result (λ produced. IsProduct (Task.Ring ring.entry stream.entry program.entry image.entry) (D.seen desk.old).told.inputs (product_of produced)) }
+    ensures takes { Takes (inputs_of (Task.Ring ring.entry stream.entry program.entry image.entry)) result (D.seen desk.old)
+        (D.seen desk.new) }
+    ensures makes { IfOk result (λ produced.
+        IsProduct (Task.Ring ring.entry stream.entry program.entry image.entry) (D.seen desk.old).told.inputs (product_of produced)) }
 {
     let ring = ring_file(alloc, ring, desk)?;
     let fill = ring.fill();
@@ -138,7 +143,8 @@ pub fn damage<'a, D: Desk>(
     requires desc { IsAllowed desc.now (D.seen desk.old).told.may_open }
     requires stream { IsAllowed stream.now (D.seen desk.old).told.may_open }
     ensures takes { Takes (inputs_of (Task.Damage desc.entry stream.entry)) result (D.seen desk.old) (D.seen desk.new) }
-    ensures makes { IfOk result (λ produced. IsProduct (Task.Damage desc.entry stream.entry) (D.seen desk.old).told.inputs (product_of produced)) }
+    ensures makes { IfOk result
+        (λ produced. IsProduct (Task.Damage desc.entry stream.entry) (D.seen desk.old).told.inputs (product_of produced)) }
 {
     let checked = check_file(alloc, desc, desk)?;
     let map = play_file(alloc, map_of(alloc, &checked)?, stream, desk)?;
@@ -158,8 +164,10 @@ pub fn chain<'a, D: Desk>(
     requires first { IsAllowed first.now (D.seen desk.old).told.may_open }
     requires second { IsAllowed second.now (D.seen desk.old).told.may_open }
     requires stream { IsAllowed stream.now (D.seen desk.old).told.may_open }
-    ensures takes { Takes (inputs_of (Task.Chain first.entry second.entry stream.entry image.entry)) result (D.seen desk.old) (D.seen desk.new) }
-    ensures makes { IfOk result (λ produced. IsProduct (Task.Chain first.entry second.entry stream.entry image.entry) (D.seen desk.old).told.inputs (product_of produced)) }
+    ensures takes { Takes (inputs_of (Task.Chain first.entry second.entry stream.entry image.entry)) result (D.seen desk.old)
+        (D.seen desk.new) }
+    ensures makes { IfOk result (λ produced.
+        IsProduct (Task.Chain first.entry second.entry stream.entry image.entry) (D.seen desk.old).told.inputs (product_of produced)) }
 {
     let frame = frame_file(alloc, first, desk)?;
     let buffer = buffer_file(alloc, &frame, second, desk)?;

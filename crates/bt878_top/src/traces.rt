@@ -31,7 +31,8 @@ pub fn trace<'a, D: Desk>(
     requires program { IsAllowed program.now (D.seen desk.old).told.may_open }
     requires stream { IsAllowed stream.now (D.seen desk.old).told.may_open }
     ensures takes { Takes (inputs_of (Task.Trace program.entry stream.entry)) result (D.seen desk.old) (D.seen desk.new) }
-    ensures makes { IfOk result (λ produced. IsProduct (Task.Trace program.entry stream.entry) (D.seen desk.old).told.inputs (product_of produced)) }
+    ensures makes { IfOk result
+        (λ produced. IsProduct (Task.Trace program.entry stream.entry) (D.seen desk.old).told.inputs (product_of produced)) }
 {
     let Loaded { accepted, fill } = accept(alloc, program, desk)?;
     let kept = keep_stream(alloc, stream, desk)?;

@@ -2,7 +2,8 @@
 #![tactic(auto)]
 
 ghost use Rattle.std.specs.Prelude.{◌≡◌, [], ◌∷◌, map, IfOk};
-ghost use Rattle.bt878_words.specs.Words.{HasFrames, apart, command_in, command_of, has_clash, is_among, made_with, named, number_from, number_of, reads, task_of, verb_named, writes};
+ghost use Rattle.bt878_words.specs.Words.{HasFrames, apart, command_in, command_of, has_clash, is_among, made_with, named, number_from};
+ghost use Rattle.bt878_words.specs.Words.{number_of, reads, task_of, verb_named, writes};
 
 /// What is wrong with the words, in the order in which it is looked for (this project's own rule).
 #[derive(Clone, Copy, Debug, PartialEq, Eq)]

@@ -1,5 +1,6 @@
 -- A description that is read meets what every description meets.
-use Rattle.std.proofs.Common.{◌≡◌, ℕ, ◌≤◌, Bool, true, false, not, ◌&&◌, ◌==◌, nat_le, List, [], length, get_or, Option, Some, None, Result, Ok, Err, inl, inr, ◌⊎◌, arith}
+use Rattle.std.proofs.Common.{◌≡◌, ℕ, ◌≤◌, Bool, true, false, not, ◌&&◌, ◌==◌, nat_le, List, [], length, get_or, Option, Some, None, Result}
+use Rattle.std.proofs.Common.{Ok, Err, inl, inr, ◌⊎◌, arith}
 use Rattle.std.specs.Prelude.{IfSome, IfOk}
 use Rattle.std.specs.List.{All, list_all}
 use Rattle.std.proofs.lemmas.Bool.{and_parts, leb-true, not-true}
@@ -22,7 +23,8 @@ use Rattle.capture_desc.specs.declared.fault.Key.TheVariants as key
 use Rattle.capture_desc.specs.Keys.{is_known, name_of}
 use Rattle.capture_desc.specs.Values.{Reading, fault_of}
 use Rattle.capture_desc.specs.WellFormed.{IsWellFormed, count, last_first, max_skip_lines}
-use Rattle.capture_desc.specs.Description.{Answers, values, field_numbers, fit_fields, plane_numbers, pages, pages_beside, chunks, chunks_fit, described, described_in, unless_unknown}
+use Rattle.capture_desc.specs.Description.{Answers, values, field_numbers, fit_fields, plane_numbers, pages, pages_beside, chunks}
+use Rattle.capture_desc.specs.Description.{chunks_fit, described, described_in, unless_unknown}
 use Rattle.capture_desc.proofs.Parts.{HasLists, values-lists}
 
 some_map : {A : Type 0} (P Q : A → Type 0) (o : Option A) → ((a : A) → P a → Q a) → IfSome o P → IfSome o Q
@@ -32,23 +34,29 @@ some_map P Q (Some a) f h = f a h
 equal_from_test : (a b : ℕ) → (a == b) ≡ true → a ≡ b
 equal_from_test a b h = grind (arith, nat_tests)
 
-pub HasPlanes-read : (ms : Members) (d : Desc) (k : Key) (read : Option (List ℕ)) → plane_numbers d.format k ms ≡ Ok read → IfSome read (λ ns. length ns ≡ planes_of (layout d.format))
+pub HasPlanes-read : (ms : Members) (d : Desc) (k : Key) (read : Option (List ℕ)) → plane_numbers d.format k ms ≡ Ok read →
+    IfSome read (λ ns. length ns ≡ planes_of (layout d.format))
 HasPlanes-read ms d k read h =
     some_map _ _ read (λ ns fits. equal_from_test _ _ fits)
     (list_fits is_integer u32_of (λ ns. length ns == planes_of (layout d.format)) (name_of k) ms read (told-ok (fault_of k) _ read h))
 
-fit_fields-HasFields : (which : Fields) (most : ℕ) (ns : List ℕ) → fit_fields which most ns ≡ true → (length ns ≡ count which) × All (λ n. n ≤ most) ns
+fit_fields-HasFields : (which : Fields) (most : ℕ) (ns : List ℕ) → fit_fields which most ns ≡ true →
+    (length ns ≡ count which) × All (λ n. n ≤ most) ns
 fit_fields-HasFields which most ns h =
-    let parts = and_parts (length ns == count which) (list_all (λ n. nat_le n most) ns) h in
-    (equal_from_test _ _ parts.0, λ k e below. leb-true (get_or ns k e) most (AllPass-from_list_all (λ n. nat_le n most) ns parts.1 k e below))
+    let parts = and_parts (length ns == count which) (list_all (λ n. nat_le n most) ns) h in (
+      equal_from_test _ _ parts.0,
+      λ k e below. leb-true (get_or ns k e) most (AllPass-from_list_all (λ n. nat_le n most) ns parts.1 k e below),
+    )
 
-HasFields-read : (ms : Members) (which : Fields) (most : ℕ) (k : Key) (read : Option (List ℕ)) → field_numbers which most k ms ≡ Ok read → IfSome read (λ ns. (length ns ≡ count which) × All (λ n. n ≤ most) ns)
+HasFields-read : (ms : Members) (which : Fields) (most : ℕ) (k : Key) (read : Option (List ℕ)) → field_numbers which most k ms ≡ Ok read →
+    IfSome read (λ ns. (length ns ≡ count which) × All (λ n. n ≤ most) ns)
 HasFields-read ms which most k read h =
     some_map _ _ read (fit_fields-HasFields which most)
     (list_fits is_integer u32_of (fit_fields which most) (name_of k) ms read (told-ok (fault_of k) _ read h))
 
 -- pages that are read are those of the key, or none beside chunks
-pages_read : (has_chunks : Bool) (reading : keys.Reading (Option (List ℕ))) (read : List ℕ) → pages_beside has_chunks reading ≡ Ok read → (reading ≡ Ok (Some read)) ⊎ (read ≡ [])
+pages_read : (has_chunks : Bool) (reading : keys.Reading (Option (List ℕ))) (read : List ℕ) → pages_beside has_chunks reading ≡ Ok read →
+    (reading ≡ Ok (Some read)) ⊎ (read ≡ [])
 pages_read true (Ok (Some ns)) read h = inl (cc)
 pages_read true (Ok None) read h = inr (cc)
 pages_read true (Err fault) read h = absurd (cc)
@@ -63,7 +71,8 @@ few_pages : (ms : Members) (read : List ℕ) → pages ms ≡ Ok read → length
 unfolding page_list
 few_pages ms read h =
     elim (pages_read (is_there (name_of key.Chunks) ms) (page_list ms) read (told-ok (fault_of key.Pages) _ read h)) [
-      | inl there ↦ (let fits : nat_le (length read) max_chunks ≡ true = list_fits is_integer u32_of (λ ns. nat_le (length ns) max_chunks) (name_of key.Pages) ms (Some read) there in grind (arith, nat_tests))
+      | inl there ↦ (let fits : nat_le (length read) max_chunks ≡ true = list_fits is_integer u32_of (λ ns. nat_le (length ns) max_chunks)
+          (name_of key.Pages) ms (Some read) there in grind (arith, nat_tests))
       | inr none ↦ rw none (omega arith)
     ]
 
@@ -71,7 +80,8 @@ no_pages : (ms : Members) (read : List ℕ) → is_there (name_of key.Pages) ms 
 unfolding page_list
 no_pages ms read absent h =
     elim (pages_read (is_there (name_of key.Chunks) ms) (page_list ms) read (told-ok (fault_of key.Pages) _ read h)) [
-      | inl there ↦ (let none : page_list ms ≡ Ok None = absent_list (list_typed is_integer) (each u32_of) (λ ns. nat_le (length ns) max_chunks) (get_member (name_of key.Pages) ms) absent in absurd (cc))
+      | inl there ↦ (let none : page_list ms ≡ Ok None = absent_list (list_typed is_integer) (each u32_of)
+          (λ ns. nat_le (length ns) max_chunks) (get_member (name_of key.Pages) ms) absent in absurd (cc))
       | inr none ↦ none
     ]
 
@@ -90,7 +100,8 @@ fit has_pages list h =
 chunks_read : (ms : Members) (read : Option (List (ℕ × ℕ))) → chunks ms ≡ Ok read → IfSome read (Fit (is_there (name_of key.Pages) ms))
 chunks_read ms read h =
     some_map _ _ read (λ cs fits. fit (is_there (name_of key.Pages) ms) cs fits)
-    (list_fits is_row two_of (chunks_fit (is_there (name_of key.Pages) ms)) (name_of key.Chunks) ms read (told-ok (fault_of key.Chunks) _ read h))
+    (list_fits is_row two_of (chunks_fit (is_there (name_of key.Pages) ms)) (name_of key.Chunks) ms read
+    (told-ok (fault_of key.Chunks) _ read h))
 
 pub HasLists-IsWellFormed : (ms : Members) (d : Desc) → HasLists ms d → IsWellFormed d
 HasLists-IsWellFormed ms d has =

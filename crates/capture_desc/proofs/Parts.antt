@@ -10,7 +10,8 @@ use Rattle.capture_desc.specs.declared.fault.Key.TheVariants as key
 use Rattle.toml_keys.specs.Values.{u32_max}
 use Rattle.capture_desc.specs.Values.{number_or, optional_number, required_number, required_word, word_or}
 use Rattle.capture_desc.specs.WellFormed.{max_skip_lines}
-use Rattle.capture_desc.specs.Description.{values, chroma_first, field_numbers, fields_named, plane_numbers, clips, pages, chunks, vbi_lines}
+use Rattle.capture_desc.specs.Description.{values, chroma_first, field_numbers, fields_named, plane_numbers, clips, pages, chunks}
+use Rattle.capture_desc.specs.Description.{vbi_lines}
 use Rattle.toml_keys.proofs.Chains.{gone_on}
 
 -- the lists of a description are those of its keys
@@ -23,7 +24,8 @@ pub record HasLists (ms : Members) (d : Desc) : Type 0 where
   pub pages : pages ms ≡ Ok d.pages
   pub chunks : chunks ms ≡ Ok d.chunks
 
-vbi_lines-skip : (fields : Fields) (ms : Members) (vbi : VbiLines) → vbi_lines fields ms ≡ Ok vbi → field_numbers fields max_skip_lines key.VbiSkip ms ≡ Ok vbi.skip
+vbi_lines-skip : (fields : Fields) (ms : Members) (vbi : VbiLines) → vbi_lines fields ms ≡ Ok vbi →
+    field_numbers fields max_skip_lines key.VbiSkip ms ≡ Ok vbi.skip
 vbi_lines-skip fields ms vbi h =
     gone_on (number_or 0 u32_max key.VbiLines ms) _ vbi h (λ lines _ h.
     gone_on (number_or 2044 u32_max key.VbiBytes ms) _ vbi h (λ bytes _ h.
@@ -69,5 +71,13 @@ values-lists ms d h =
       chunks = all_chunks;
       fill = fill;
     } ≡ d = cc in
-    rw (← same) (record { stride = is_stride; offset = is_offset; chroma_first = is_first; vbi_skip = is_skip; clip = is_clip; pages = is_pages; chunks = is_chunks })
+    rw (← same) (record {
+      stride = is_stride;
+      offset = is_offset;
+      chroma_first = is_first;
+      vbi_skip = is_skip;
+      clip = is_clip;
+      pages = is_pages;
+      chunks = is_chunks;
+    })
     ))))))))))))))

@@ -5,7 +5,8 @@ use Rattle.toml.specs.Data.{Members, as_str}
 use Rattle.toml_keys.specs.declared.KeyFault.TheVariants as key_fault
 use Rattle.toml_keys.specs.Keys.{document_of, is_there, least, unknown_names}
 use Rattle.toml_keys.specs.Values as keys
-use Rattle.toml_keys.specs.Values.{◌>>=◌, four_of, is_integer, is_row, list, number, otherwise, required, told, two_of, u32_max, u32_of, word}
+use Rattle.toml_keys.specs.Values.{◌>>=◌, four_of, is_integer, is_row, list, number, otherwise, required, told, two_of, u32_max, u32_of}
+use Rattle.toml_keys.specs.Values.{word}
 use Rattle.toml_keys.proofs.Chains.{chain}
 use Rattle.toml_keys.proofs.Least.{least-IsLeastUnknown}
 use Rattle.toml_keys.proofs.Shown as keys_shown
@@ -22,7 +23,8 @@ use Rattle.capture_desc.specs.declared.fault.DescError.TheVariants.{Bad, Memory}
 use Rattle.capture_desc.specs.declared.fault.DescFault.{DescFault}
 use Rattle.capture_desc.specs.Keys.{is_known, name_of}
 use Rattle.capture_desc.specs.Values.{Reading, fault_of, number_or, optional_number, required_number, required_word, word_or}
-use Rattle.capture_desc.specs.Description.{Answers, chroma_first, values, vbi_lines, field_numbers, fields_named, fit_fields, plane_numbers, clips, pages, pages_beside, chunks, chunks_fit, described, described_in, unless_unknown}
+use Rattle.capture_desc.specs.Description.{Answers, chroma_first, values, vbi_lines, field_numbers, fields_named, fit_fields, plane_numbers}
+use Rattle.capture_desc.specs.Description.{clips, pages, pages_beside, chunks, chunks_fit, described, described_in, unless_unknown}
 use Rattle.capture_desc.specs.Faults.{Explains, Shows}
 
 module _ (ms : Members) where
@@ -43,7 +45,8 @@ module _ (ms : Members) where
     required_word_says : {A : Type 0} (named : List ℕ → Option A) → Says (required_word named k ms)
     required_word_says named =
         told_says (required (word named (name_of k) ms))
-        (keys_shown.required_says (name_of k) ms (word named (name_of k) ms) (keys_shown.at_none (name_of k) ms as_str named) (keys_shown.at_says (name_of k) ms as_str named))
+        (keys_shown.required_says (name_of k) ms (word named (name_of k) ms) (keys_shown.at_none (name_of k) ms as_str named)
+        (keys_shown.at_says (name_of k) ms as_str named))
 
     word_or_says : {A : Type 0} (default : A) (named : List ℕ → Option A) → Says (word_or default named k ms)
     word_or_says default named =
@@ -69,18 +72,22 @@ module _ (ms : Members) where
 
     field_numbers_says : (fields : Fields) (most : ℕ) → Says (field_numbers fields most k ms)
     field_numbers_says fields most =
-        told_says (list is_integer u32_of (fit_fields fields most) (name_of k) ms) (keys_shown.list_says (name_of k) ms is_integer u32_of (fit_fields fields most))
+        told_says (list is_integer u32_of (fit_fields fields most) (name_of k) ms)
+        (keys_shown.list_says (name_of k) ms is_integer u32_of (fit_fields fields most))
 
   clips_says : Says (clips ms)
   clips_says =
       let few : List (ℕ × ℕ × ℕ × ℕ) → Bool = λ rows. nat_le (length rows) 64 in
       let name = name_of key.Clip in
       let read = otherwise [] (list is_row four_of few name ms) in
-      let says = told_says key.Clip read (keys_shown.otherwise_says name ms [] (list is_row four_of few name ms) (keys_shown.list_says name ms is_row four_of few)) in
+      let says =
+      told_says key.Clip read
+      (keys_shown.otherwise_says name ms [] (list is_row four_of few name ms) (keys_shown.list_says name ms is_row four_of few)) in
       then (told (fault_of key.Clip) read) _ says (λ rows _. tt)
 
   module _ (reading : keys.Reading (Option (List ℕ))) where
-    beside_says : (has_chunks : Bool) → (reading ≡ Ok None → is_there (name_of key.Pages) ms ≡ false) → keys_shown.Says (name_of key.Pages) ms reading → keys_shown.Says (name_of key.Pages) ms (pages_beside has_chunks reading)
+    beside_says : (has_chunks : Bool) → (reading ≡ Ok None → is_there (name_of key.Pages) ms ≡ false) →
+        keys_shown.Says (name_of key.Pages) ms reading → keys_shown.Says (name_of key.Pages) ms (pages_beside has_chunks reading)
     beside_says true absent says = keys_shown.otherwise_says (name_of key.Pages) ms [] reading says
     beside_says false absent says = keys_shown.required_says (name_of key.Pages) ms reading absent says
 
@@ -91,12 +98,14 @@ module _ (ms : Members) where
       let read = list is_integer u32_of few name ms in
       let has_chunks = is_there (name_of key.Chunks) ms in
       told_says key.Pages (pages_beside has_chunks read)
-      (beside_says read has_chunks (keys_shown.list_none name ms is_integer u32_of few) (keys_shown.list_says name ms is_integer u32_of few))
+      (beside_says read has_chunks (keys_shown.list_none name ms is_integer u32_of few)
+      (keys_shown.list_says name ms is_integer u32_of few))
 
   chunks_says : Says (chunks ms)
   chunks_says =
       let fits = chunks_fit (is_there (name_of key.Pages) ms) in
-      told_says key.Chunks (list is_row two_of fits (name_of key.Chunks) ms) (keys_shown.list_says (name_of key.Chunks) ms is_row two_of fits)
+      told_says key.Chunks (list is_row two_of fits (name_of key.Chunks) ms)
+      (keys_shown.list_says (name_of key.Chunks) ms is_row two_of fits)
 
 vbi_lines_says : (fields : Fields) (ms : Members) → Says ms (vbi_lines fields ms)
 vbi_lines_says fields ms =
@@ -123,7 +132,8 @@ values_says ms =
     then ms (chunks ms) _ (chunks_says ms) (λ all_chunks _.
     then ms (number_or 0 255 key.Fill ms) _ (number_or_says ms key.Fill 0 255) (λ fill _. tt))))))))))))))
 
-known_says : (ms : Members) (unknown : Option (List ℕ)) → unknown ≡ least (unknown_names is_known ms) → Says ms (unless_unknown unknown (values ms))
+known_says : (ms : Members) (unknown : Option (List ℕ)) → unknown ≡ least (unknown_names is_known ms) →
+    Says ms (unless_unknown unknown (values ms))
 known_says ms None is = values_says ms
 known_says ms (Some name) is = least-IsLeastUnknown is_known ms name (sym is)
 
@@ -138,7 +148,8 @@ described-shows text = document_says (document_of text)
 pub fault-shows : (text : List ℕ) (fault : DescFault) → described text ≡ Err fault → Shows (document_of text) fault
 fault-shows text fault is = let shows = described-shows text in rw is at shows
 
-pub answered-shown : (text : List ℕ) (answer : Result Desc DescError) → Answers (described text) answer → IfErr answer (Explains (document_of text))
+pub answered-shown : (text : List ℕ) (answer : Result Desc DescError) → Answers (described text) answer →
+    IfErr answer (Explains (document_of text))
 answered-shown text (Ok d) is = tt
 answered-shown text (Err (Bad fault)) is = fault-shows text fault is
 answered-shown text (Err Memory) is = tt

@@ -1,5 +1,6 @@
 -- What a text describes, or its first fault.
-use Rattle.std.specs.Prelude.{ℕ, Bool, ◌&&◌, not, ◌==◌, List, [], length, map, Option, Some, None, Ok, Err, Result, ⊤, ◌≡◌, if◌then◌else◌, nat_le, codes, bytes_eq}
+use Rattle.std.specs.Prelude.{ℕ, Bool, ◌&&◌, not, ◌==◌, List, [], length, map, Option, Some, None, Ok, Err, Result, ⊤, ◌≡◌, if◌then◌else◌}
+use Rattle.std.specs.Prelude.{nat_le, codes, bytes_eq}
 use Rattle.std.specs.List.{list_all}
 use Rattle.toml.specs.Data.{Members}
 use Rattle.toml_keys.specs.Keys.{document_of, is_there, least, unknown_names}

@@ -7,7 +7,8 @@ ghost use Rattle.page_table.specs.Taken.{listed};
 ghost use Rattle.pixel_layout.specs.Layouts.{format_named};
 ghost use Rattle.capture_desc.specs.Values.{rect, required_word, word_or};
 ghost use Rattle.capture_desc.specs.WellFormed.{IsWellFormed};
-ghost use Rattle.capture_desc.specs.Description.{Answers, chroma_first, chunks, clips, described, field_numbers, fields_named, fit_fields, pages, plane_numbers, values, vbi_lines};
+ghost use Rattle.capture_desc.specs.Description.{Answers, chroma_first, chunks, clips, described, field_numbers, fields_named, fit_fields};
+ghost use Rattle.capture_desc.specs.Description.{pages, plane_numbers, values, vbi_lines};
 ghost use Rattle.capture_desc.specs.Faults.{Explains, Shows};
 
 use crate::desc::{Desc, Fields};

@@ -89,8 +89,10 @@ pub(crate) fn list<T: Member + Drop>(
     table: &Table,
     key: Key,
 ) -> Result<Option<Vec<T>>, DescError>
-    ensures ok { IfOk result (λ r. at (list_typed T.typed) (each T.value) (name_of key) (table_view table.now) ≡ Ok (option_map (λ v. v.items) r)) }
-    ensures err { IfErr result (Refuses (told (fault_of key) (at (list_typed T.typed) (each T.value) (name_of key) (table_view table.now)))) }
+    ensures ok { IfOk result
+        (λ r. at (list_typed T.typed) (each T.value) (name_of key) (table_view table.now) ≡ Ok (option_map (λ v. v.items) r)) }
+    ensures err { IfErr result
+        (Refuses (told (fault_of key) (at (list_typed T.typed) (each T.value) (name_of key) (table_view table.now)))) }
 {
     match toml_keys::list::<T>(alloc, table, key.name()) {
         Ok(list) => Ok(list),

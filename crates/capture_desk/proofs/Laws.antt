@@ -1,5 +1,6 @@
 -- Laws of what a desk's calls change.
-use Rattle.std.proofs.Common.{ℕ, ◌+◌, List, [], ◌∷◌, ◌++◌, drop, Option, Some, None, option_map, Bool, true, false, if◌then◌else◌, ◌≡◌, refl, ap, append_assoc}
+use Rattle.std.proofs.Common.{ℕ, ◌+◌, List, [], ◌∷◌, ◌++◌, drop, Option, Some, None, option_map, Bool, true, false, if◌then◌else◌, ◌≡◌}
+use Rattle.std.proofs.Common.{refl, ap, append_assoc}
 use Rattle.std.proofs.lemmas.List.{drop-drop}
 use Rattle.std.proofs.lemmas.List as list
 use Rattle.std.specs.Str.{bytes_eq}
@@ -13,7 +14,8 @@ more_nil : (o : Option (List ℕ)) → option_map (λ old. old ++ []) o ≡ o
 more_nil None = refl
 more_nil (Some old) = ap Some (list.append-nil old)
 
-more_twice : (a b : List ℕ) (o : Option (List ℕ)) → option_map (λ old. old ++ b) (option_map (λ old. old ++ a) o) ≡ option_map (λ old. old ++ (a ++ b)) o
+more_twice : (a b : List ℕ) (o : Option (List ℕ)) →
+    option_map (λ old. old ++ b) (option_map (λ old. old ++ a) o) ≡ option_map (λ old. old ++ (a ++ b)) o
 more_twice a b None = refl
 more_twice a b (Some old) = ap Some (append_assoc old a b)
 
@@ -78,7 +80,8 @@ drop_none : (rest : Option (List ℕ)) → option_map (λ bytes. drop 0 bytes) r
 drop_none None = refl
 drop_none (Some bytes) = refl
 
-drop_twice : (m n : ℕ) (rest : Option (List ℕ)) → option_map (λ bytes. drop n bytes) (option_map (λ bytes. drop m bytes) rest) ≡ option_map (λ bytes. drop (m + n) bytes) rest
+drop_twice : (m n : ℕ) (rest : Option (List ℕ)) →
+    option_map (λ bytes. drop n bytes) (option_map (λ bytes. drop m bytes) rest) ≡ option_map (λ bytes. drop (m + n) bytes) rest
 drop_twice m n None = refl
 drop_twice m n (Some bytes) = ap Some (drop-drop n m bytes)
 

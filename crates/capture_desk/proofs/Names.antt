@@ -1,5 +1,6 @@
 -- Files by name: the first file of a name, and what is under it.
-use Rattle.std.proofs.Common.{ℕ, suc, zero, ◌+◌, ◌<◌, List, [], ◌∷◌, ◌++◌, map, set, get_or, length, Option, Some, None, is_some, option_map, Bool, true, false, ◌||◌, if◌then◌else◌, ◌≡◌, refl, sym, ap, ◌∙◌, arith, below_more}
+use Rattle.std.proofs.Common.{ℕ, suc, zero, ◌+◌, ◌<◌, List, [], ◌∷◌, ◌++◌, map, set, get_or, length, Option, Some, None, is_some}
+use Rattle.std.proofs.Common.{option_map, Bool, true, false, ◌||◌, if◌then◌else◌, ◌≡◌, refl, sym, ap, ◌∙◌, arith, below_more}
 use Rattle.std.specs.Str.{bytes_eq}
 use Rattle.capture_desk.specs.Desks.{Outputs, appended, created, is_among, named}
 use Rattle.capture_desk.specs.Inside.{IsFirst, entry, nothing}
@@ -19,7 +20,8 @@ pub is_some-named : {V : Type 0} → (name : List ℕ) (files : List (List ℕ �
 is_some-named name [] = refl
 is_some-named name (file ∷ files) = is_some_cases (bytes_eq file.0 name) file.1 _ _ (is_some-named name files)
   where
-    is_some_cases : {V : Type 0} → (t : Bool) (v : V) (rest : Option V) (among : Bool) → is_some rest ≡ among → is_some (if t then Some v else rest) ≡ (t || among)
+    is_some_cases : {V : Type 0} → (t : Bool) (v : V) (rest : Option V) (among : Bool) → is_some rest ≡ among →
+        is_some (if t then Some v else rest) ≡ (t || among)
     is_some_cases true v rest among e = refl
     is_some_cases false v rest among e = e
 
@@ -66,7 +68,8 @@ pub none_by : {V : Type 0} → (name text : List ℕ) (files : List (List ℕ ×
 none_by name text files none i e t b = below_more _ i b (ap (λ x. bytes_eq x name) (sym e) ∙ t)
 
 -- the entry of a slot that was read
-pub entry_read : (slots : List Slot) (i : ℕ) (slot : Slot) → i < length slots → slot ≡ get_or slots i slot → entry slot ≡ get_or (map entry slots) i nothing
+pub entry_read : (slots : List Slot) (i : ℕ) (slot : Slot) → i < length slots → slot ≡ get_or slots i slot →
+    entry slot ≡ get_or (map entry slots) i nothing
 entry_read slots i slot l e = ap entry e ∙ sym (get_or-map entry slots i slot nothing l)
 
 pub named_of : {V : Type 0} → (name : List ℕ) (files : List (List ℕ × V)) (none : List ℕ × V) (i : ℕ) → IsFirst name files none i →

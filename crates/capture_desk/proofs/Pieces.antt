@@ -12,18 +12,21 @@ module _ (after : List ℕ → Told → Told) (twice : (a b : List ℕ) (t : Tol
   pub put_after : (a b : List ℕ) (old mid new : Told) → mid ≡ after a old → new ≡ after b mid → new ≡ after (a ++ b) old
   put_after a b old mid new e f = f ∙ ap (after b) e ∙ twice a b old
 
-  pub breaks_off_after : (a b : List ℕ) (old mid new : Told) → mid ≡ after a old → BreaksOff after b mid new → BreaksOff after (a ++ b) old new
+  pub breaks_off_after : (a b : List ℕ) (old mid new : Told) → mid ≡ after a old → BreaksOff after b mid new →
+      BreaksOff after (a ++ b) old new
   breaks_off_after a b old mid new e h = (
     length a + h.0,
     omega (arith, length-append a b, h.1),
     put_after a (take h.0 b) old mid new e h.2 ∙ ap (λ (zs : List ℕ). after zs old) (sym (take-append-add a b h.0)),
   )
 
-  pub puts_then : {A E : Type 0} (a b : List ℕ) (old mid new : Told) (r : Result A E) → mid ≡ after a old → Puts b r after mid new → Puts (a ++ b) r after old new
+  pub puts_then : {A E : Type 0} (a b : List ℕ) (old mid new : Told) (r : Result A E) → mid ≡ after a old → Puts b r after mid new →
+      Puts (a ++ b) r after old new
   puts_then a b old mid new (Ok x) e h = put_after a b old mid new e h
   puts_then a b old mid new (Err x) e h = breaks_off_after a b old mid new e h
 
-pub breaks_off_within : (after : List ℕ → Told → Told) (a c : List ℕ) (old new : Told) → BreaksOff after a old new → BreaksOff after (a ++ c) old new
+pub breaks_off_within : (after : List ℕ → Told → Told) (a c : List ℕ) (old new : Told) → BreaksOff after a old new →
+    BreaksOff after (a ++ c) old new
 breaks_off_within after a c old new h = (
   h.0,
   omega (arith, length-append a c, h.1),

@@ -1,5 +1,6 @@
 -- What a change of a slot, or of the open input, is for what the desk over memory holds.
-use Rattle.std.proofs.Common.{ℕ, ◌+◌, ◌-◌, ◌<◌, ◌≢◌, min, List, [], ◌++◌, map, set, get_or, take, drop, length, Option, Some, is_some, option_map, Bool, true, false, ◌==◌, Ok, Err, ◌≡◌, refl, sym, ap}
+use Rattle.std.proofs.Common.{ℕ, ◌+◌, ◌-◌, ◌<◌, ◌≢◌, min, List, [], ◌++◌, map, set, get_or, take, drop, length, Option, Some, is_some}
+use Rattle.std.proofs.Common.{option_map, Bool, true, false, ◌==◌, Ok, Err, ◌≡◌, refl, sym, ap}
 use Rattle.std.proofs.Common.{◌∙◌, arith, All, get_or-set_same, get_or-set_other}
 use Rattle.std.proofs.lemmas.List.{length-map, length-set, map-set}
 use Rattle.std.proofs.lemmas.List.Elements.{All-get_or, All-set}
@@ -8,7 +9,8 @@ use Rattle.std.specs.Str.{bytes_eq}
 use Rattle.capture_desk.specs.declared.memory.Slot.{Slot}
 use Rattle.capture_desk.specs.declared.memory.Place.{Place}
 use Rattle.capture_desk.specs.Desks.{output_under, Inputs, appended, created, named, written}
-use Rattle.capture_desk.specs.Memory.{Memory, add_answer, added, append_count, called, created_by, held, is_failing, is_full, made, open_answer, opened, or_empty, write_failed}
+use Rattle.capture_desk.specs.Memory.{Memory, add_answer, added, append_count, called, created_by, held, is_failing, is_full, made}
+use Rattle.capture_desk.specs.Memory.{open_answer, opened, or_empty, write_failed}
 use Rattle.capture_desk.specs.Inside.{IsFirstSlot, IsOpenSlot, Whole, entry, kept, nothing, output_at, rest_from}
 use Rattle.capture_desk.proofs.Names.{appended_of, created_of, entry_read, named_of}
 
@@ -90,7 +92,8 @@ module _ (slots : List Slot) (i : ℕ) (x y : Slot) (within : i < length slots) 
       ap (λ z. (z, kept y.made y.held.bytes)) (e ∙ ap (λ o. o.0) (sym entry_at)) ∙ ap (λ z. ((output_at slots i).0, kept z y.held.bytes)) g
       ∙ ap (λ z. ((output_at slots i).0, Some z)) b in
       let after : map entry (set slots i y) ≡ created name m.outputs =
-      map_set ∙ ap (λ z. set (map entry slots) i z) new ∙ sym (created_of name (map entry slots) nothing i first) ∙ ap (created name) (sym outs) in
+      map_set ∙ ap (λ z. set (map entry slots) i z) new ∙ sym (created_of name (map entry slots) nothing i first)
+      ∙ ap (created name) (sym outs) in
       ap (λ z. record m { outputs = z; writing = Some (output_at (set slots i y) i).0 }) after
       ∙ ap (λ z. record m { outputs = created name m.outputs; writing = Some z }) there
 
@@ -117,11 +120,13 @@ module _ (slots : List Slot) (i : ℕ) (x y : Slot) (within : i < length slots) 
   pub same_writing : (writing : Option ℕ) → writing ≡ Some i → y.name ≡ x.name →
       option_map (λ j. (output_at (set slots i y) j).0) writing ≡ option_map (λ j. (output_at slots j).0) writing
   same_writing writing w e =
-      ap (λ o. option_map (λ j. (output_at (set slots i y) j).0) o) w ∙ ap Some (same_name e) ∙ ap (λ o. option_map (λ j. (output_at slots j).0) o) (sym w)
+      ap (λ o. option_map (λ j. (output_at (set slots i y) j).0) o) w ∙ ap Some (same_name e)
+      ∙ ap (λ o. option_map (λ j. (output_at slots j).0) o) (sym w)
 
 -- ---- opening
 
-pub open_answer_some : (name bytes : List ℕ) (m : Memory) → is_failing m ≡ false → named name m.inputs ≡ Some bytes → open_answer name m ≡ Ok tt
+pub open_answer_some : (name bytes : List ℕ) (m : Memory) → is_failing m ≡ false → named name m.inputs ≡ Some bytes →
+    open_answer name m ≡ Ok tt
 open_answer_some name bytes m f e = rw (f, e) refl
 
 pub opened_some : (name bytes : List ℕ) (m : Memory) → is_failing m ≡ false → named name m.inputs ≡ Some bytes →

@@ -10,18 +10,21 @@ all_of_none : (made : List Call) → all_recorded made None ≡ None
 all_of_none [] = refl
 all_of_none (call ∷ later) = all_of_none later
 
-all_of_both : (first later : List Call) (calls : Option (List Call)) → all_recorded (first ++ later) calls ≡ all_recorded later (all_recorded first calls)
+all_of_both : (first later : List Call) (calls : Option (List Call)) →
+    all_recorded (first ++ later) calls ≡ all_recorded later (all_recorded first calls)
 all_of_both [] later calls = refl
 all_of_both (call ∷ first) later calls = all_of_both first later (recorded call calls)
 
 pub tells_none : (calls : Option (List Call)) → Tells [] calls calls
 tells_none calls = inr refl
 
-tells_later : (first later : List Call) (old mid new : Option (List Call)) → Tells first old mid → new ≡ all_recorded later mid → Tells (first ++ later) old new
+tells_later : (first later : List Call) (old mid new : Option (List Call)) → Tells first old mid → new ≡ all_recorded later mid →
+    Tells (first ++ later) old new
 tells_later first later old mid new (inl e) f = inl (f ∙ ap (all_recorded later) e ∙ all_of_none later)
 tells_later first later old mid new (inr e) f = inr (f ∙ ap (all_recorded later) e ∙ sym (all_of_both first later old))
 
-pub tells_both : (first later : List Call) (old mid new : Option (List Call)) → Tells first old mid → Tells later mid new → Tells (first ++ later) old new
+pub tells_both : (first later : List Call) (old mid new : Option (List Call)) → Tells first old mid → Tells later mid new →
+    Tells (first ++ later) old new
 tells_both first later old mid new h (inl f) = inl f
 tells_both first later old mid new h (inr f) = tells_later first later old mid new h f
 
@@ -54,7 +57,8 @@ one_run old mid new (inl e) (inr f) = inl (f ∙ ap (recorded Say) e)
 one_run old mid new (inr e) (inr f) = inr (same_run old mid new e f)
 
 -- a text, and then a call of `say`
-pub say_more : (text : List ℕ) (old mid new : Option (List Call)) → Tells (said_by text) old mid → Tells (Say ∷ []) mid new → Tells (Say ∷ []) old new
+pub say_more : (text : List ℕ) (old mid new : Option (List Call)) → Tells (said_by text) old mid → Tells (Say ∷ []) mid new →
+    Tells (Say ∷ []) old new
 say_more [] old mid new h (inl f) = inl f
 say_more [] old mid new (inl e) (inr f) = inl (f ∙ ap (recorded Say) e)
 say_more [] old mid new (inr e) (inr f) = inr (f ∙ ap (recorded Say) e)
@@ -66,7 +70,8 @@ some_said [] old new few h = absurd (omega (arith, few))
 some_said (x ∷ text) old new few h = h
 
 -- two texts that follow one another
-pub say_both : (a b : List ℕ) (old mid new : Option (List Call)) → Tells (said_by a) old mid → Tells (said_by b) mid new → Tells (said_by (a ++ b)) old new
+pub say_both : (a b : List ℕ) (old mid new : Option (List Call)) → Tells (said_by a) old mid → Tells (said_by b) mid new →
+    Tells (said_by (a ++ b)) old new
 say_both [] [] old mid new h f = tells_both [] [] old mid new h f
 say_both [] (y ∷ b) old mid new h f = tells_both [] (Say ∷ []) old mid new h f
 say_both (x ∷ a) [] old mid new h f = tells_both (Say ∷ []) [] old mid new h f

@@ -1,5 +1,6 @@
 -- What a desk tells, and what each of its calls changes. A name is the list of its bytes.
-use Rattle.std.specs.Prelude.{ℕ, length, ◌+◌, ◌-◌, ◌^◌, ◌<◌, ◌≤◌, min, Bool, true, false, IsTrue, List, [], ◌∷◌, ◌++◌, take, drop, Option, Some, None, option_map, MatchOption, ◌⊎◌, Result, Ok, Err, ⊤, ◌≡◌, if◌then◌else◌}
+use Rattle.std.specs.Prelude.{ℕ, length, ◌+◌, ◌-◌, ◌^◌, ◌<◌, ◌≤◌, min, Bool, true, false, IsTrue, List, [], ◌∷◌, ◌++◌, take, drop, Option}
+use Rattle.std.specs.Prelude.{Some, None, option_map, MatchOption, ◌⊎◌, Result, Ok, Err, ⊤, ◌≡◌, if◌then◌else◌}
 use Rattle.std.specs.List.{list_any}
 use Rattle.std.specs.Str.{bytes_eq}
 use Rattle.capture_desk.specs.declared.calls.Call.{Call}

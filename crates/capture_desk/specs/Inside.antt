@@ -1,5 +1,6 @@
 -- How the desk over memory keeps what it holds.
-use Rattle.std.specs.Prelude.{ℕ, length, ◌-◌, ◌<◌, ◌≤◌, Bool, true, false, List, [], map, drop, Option, Some, None, option_map, IfSome, is_some, slice_index_or, ◌≡◌, All}
+use Rattle.std.specs.Prelude.{ℕ, length, ◌-◌, ◌<◌, ◌≤◌, Bool, true, false, List, [], map, drop, Option, Some, None, option_map, IfSome}
+use Rattle.std.specs.Prelude.{is_some, slice_index_or, ◌≡◌, All}
 use Rattle.std.specs.Str.{bytes_eq}
 use Rattle.capture_desk.specs.declared.memory.MemDesk.TheInside.{Inside}
 use Rattle.capture_desk.specs.declared.memory.Slot.{Slot}

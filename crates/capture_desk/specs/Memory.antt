@@ -1,5 +1,6 @@
 -- The desk over memory: what it holds, and what each of its calls answers and leaves.
-use Rattle.std.specs.Prelude.{ℕ, length, ◌-◌, min, Bool, false, true, ◌==◌, List, [], ◌++◌, map, take, drop, Option, Some, None, option_map, is_some, Result, Ok, Err, if◌then◌else◌}
+use Rattle.std.specs.Prelude.{ℕ, length, ◌-◌, min, Bool, false, true, ◌==◌, List, [], ◌++◌, map, take, drop, Option, Some, None, option_map}
+use Rattle.std.specs.Prelude.{is_some, Result, Ok, Err, if◌then◌else◌}
 use Rattle.std.specs.List.{list_any}
 use Rattle.capture_desk.specs.declared.desk.Failed.{Failed}
 use Rattle.capture_desk.specs.declared.desk.OpenFault.{OpenFault}

@@ -1,7 +1,8 @@
 //! The trait of desks.
 ghost use Rattle.std.specs.Prelude.{◌≡◌, ◌<◌, [], ◌∷◌, length, IsTrue};
 ghost use Rattle.capture_desk.specs.declared.calls.Call.TheVariants.{CreateOut, Finish, OpenIn, Read, Say};
-ghost use Rattle.capture_desk.specs.Desks.{Appends, CallCounts, IsAllowed, Makes, OpenCounts, Opens, ReadCounts, Reads, Seen, Tells, after_create, after_finish, after_say, after_write, moved_by, was_done};
+ghost use Rattle.capture_desk.specs.Desks.{Appends, CallCounts, IsAllowed, Makes, OpenCounts, Opens, ReadCounts, Reads, Seen, Tells};
+ghost use Rattle.capture_desk.specs.Desks.{after_create, after_finish, after_say, after_write, moved_by, was_done};
 
 use thiserror::Error;
 

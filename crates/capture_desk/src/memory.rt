@@ -1,10 +1,14 @@
 //! The desk over memory.
-ghost use Rattle.std.specs.Prelude.{All, IfOk, IsTrue, MatchOption, None, [], drop, is_some, length, map, option_copied, take, true, ℕ, ◌++◌, ◌+◌, ◌<◌, ◌∷◌, ◌≡◌, ◌≤◌};
+ghost use Rattle.std.specs.Prelude.{All, IfOk, IsTrue, MatchOption, None, [], drop, is_some, length, map, option_copied, take, true, ℕ};
+ghost use Rattle.std.specs.Prelude.{◌++◌, ◌+◌, ◌<◌, ◌∷◌, ◌≡◌, ◌≤◌};
 ghost use Rattle.capture_desk.specs.declared.memory.Slot.{Slot};
 ghost use Rattle.capture_desk.specs.Inside.{IsFirstInput, IsFirstSlot, entry, kept};
-ghost use Rattle.capture_desk.specs.Desks.{Appends, IsAllowed, is_among, Makes, OpenCounts, Opens, ReadCounts, Reads, Told, CallCounts, after_create, after_finish, after_say, after_write, named, output_named};
-ghost use Rattle.capture_desk.specs.Memory.{Memory, add_answer, added, all_told, seen_of, append_answer, called, created_by, filled, finished, held, is_failing, names_of, new_memory, open_answer};
-ghost use Rattle.capture_desk.specs.Memory.{opened, passed, read_answer, read_failed, read_on, rest_of, spoke, spoken, write_answer, write_failed, wrote};
+ghost use Rattle.capture_desk.specs.Desks.{Appends, IsAllowed, is_among, Makes, OpenCounts, Opens, ReadCounts, Reads, Told, CallCounts};
+ghost use Rattle.capture_desk.specs.Desks.{after_create, after_finish, after_say, after_write, named, output_named};
+ghost use Rattle.capture_desk.specs.Memory.{Memory, add_answer, added, all_told, seen_of, append_answer, called, created_by, filled};
+ghost use Rattle.capture_desk.specs.Memory.{finished, held, is_failing, names_of, new_memory, open_answer};
+ghost use Rattle.capture_desk.specs.Memory.{opened, passed, read_answer, read_failed, read_on, rest_of, spoke, spoken, write_answer};
+ghost use Rattle.capture_desk.specs.Memory.{write_failed, wrote};
 
 use crate::bounded::Bounded;
 use crate::desk::{Desk, Failed, OpenFault};

@@ -25,7 +25,14 @@ impl<H: Host + Drop> Model for OsDesk<H> {
 
     ghost Value = { System };
 
-    ghost view = { λ d. record { store = H.store d.host; input = option_map H.rest d.input; output = option_map H.label d.output; read_faults = d.read_faults; write_faults = d.write_faults; failed = d.failed } };
+    ghost view = { λ d. record {
+      store = H.store d.host;
+      input = option_map H.rest d.input;
+      output = option_map H.label d.output;
+      read_faults = d.read_faults;
+      write_faults = d.write_faults;
+      failed = d.failed;
+    } };
 }
 
 impl<H: Host + Drop> OsDesk<H> {

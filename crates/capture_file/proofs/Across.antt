@@ -6,9 +6,11 @@ use Rattle.capture_file.specs.declared.records.Found.{Found}
 use Rattle.capture_file.specs.declared.records.Found.TheVariants.{Cut}
 use Rattle.capture_file.specs.Records.{HasFour, Spans, Passes, Sums, FoundFits}
 use Rattle.capture_file.specs.Streams.{number_at, record_at, most_turns}
-use Rattle.capture_file.proofs.Fields.{number_at-six, number_at-four, record_at-six, record_at-spans, record_at-passes, record_at-sums, record_at-fits}
+use Rattle.capture_file.proofs.Fields.{number_at-six, number_at-four, record_at-six, record_at-spans, record_at-passes, record_at-sums}
+use Rattle.capture_file.proofs.Fields.{record_at-fits}
 
-module _ (form : Form) (turns : ℕ) (held more new : List ℕ) (found : Found) (filled : new ≡ take 6 (held ++ more)) (is : found ≡ record_at form turns new) where
+module _ (form : Form) (turns : ℕ) (held more new : List ℕ) (found : Found) (filled : new ≡ take 6 (held ++ more))
+    (is : found ≡ record_at form turns new) where
   pub found_across : found ≡ record_at form turns (held ++ more)
   found_across = is ∙ ap (record_at form turns) filled ∙ record_at-six form turns (held ++ more)
 

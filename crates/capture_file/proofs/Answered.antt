@@ -1,5 +1,6 @@
 -- What a reader answers: how much it uses of a piece, and what it answers at the end.
-use Rattle.std.proofs.Common.{◌≡◌, ℕ, zero, suc, ◌+◌, ◌-◌, ◌<◌, ◌≤◌, Bool, true, false, List, [], ◌∷◌, ◌++◌, length, take, drop, Option, Some, None, refl, ap, ◌∙◌, arith, length-append, length-take, length-drop}
+use Rattle.std.proofs.Common.{◌≡◌, ℕ, zero, suc, ◌+◌, ◌-◌, ◌<◌, ◌≤◌, Bool, true, false, List, [], ◌∷◌, ◌++◌, length, take, drop, Option}
+use Rattle.std.proofs.Common.{Some, None, refl, ap, ◌∙◌, arith, length-append, length-take, length-drop}
 use Rattle.std.proofs.lemmas.Bool.{ltb-true, le-ltb}
 use Rattle.std.proofs.lemmas.List.{take_all, append-nil}
 use Rattle.std.specs.Prelude.{nat_lt}
@@ -12,8 +13,10 @@ use Rattle.capture_file.specs.declared.records.Form.TheVariants.{Bfs1, Bfs2, Bfs
 use Rattle.capture_file.specs.declared.records.Found.{Found}
 use Rattle.capture_file.specs.declared.records.Found.TheVariants.{Cut, Wrong, Last, Whole}
 use Rattle.capture_file.specs.Records.{HasFour, Spans, Passes}
-use Rattle.capture_file.specs.Streams.{Reading, reading, Unfinished, Ended, number_at, form_of, record_at, records, within, within_if, opened_by, after_end, stream_of, judged, Bad}
-use Rattle.capture_file.specs.Readers.{Reader, Taken, taking, resumed, taken, taken_in, unfinished_if, found_taken, record_taken, form_taken, word_taken, closed_taken, behind_word, begun, resumed_in}
+use Rattle.capture_file.specs.Streams.{Reading, reading, Unfinished, Ended, number_at, form_of, record_at, records, within, within_if}
+use Rattle.capture_file.specs.Streams.{opened_by, after_end, stream_of, judged, Bad}
+use Rattle.capture_file.specs.Readers.{Reader, Taken, taking, resumed, taken, taken_in, unfinished_if, found_taken, record_taken}
+use Rattle.capture_file.specs.Readers.{form_taken, word_taken, closed_taken, behind_word, begun, resumed_in}
 use Rattle.capture_file.specs.Readers.{ending_in, Uses, Counts, IsAt, IsReader, Stays, PlacedAt}
 use Rattle.capture_file.proofs.Fields.{number_at-four, record_at-spans, record_at-passes}
 use Rattle.capture_file.proofs.Readings.{records-front, front_of}
@@ -22,14 +25,16 @@ use Rattle.capture_file.proofs.Readings.{records-front, front_of}
 abbrev Moves : Reader → List ℕ → Taken → Type 0
 Moves r piece t = Uses t.answer t.used (length piece) × Counts t.answer (r.place + t.used) t.reader.place
 
-unfinished-moves : (over : Bool) (r : Reader) (piece : List ℕ) → nat_lt (r.limit - r.place) (length piece) ≡ over → Moves r piece (unfinished_if over r piece)
+unfinished-moves : (over : Bool) (r : Reader) (piece : List ℕ) → nat_lt (r.limit - r.place) (length piece) ≡ over →
+    Moves r piece (unfinished_if over r piece)
 unfinished-moves true r piece is =
     let over : r.limit - r.place < length piece = ltb-true (r.limit - r.place) (length piece) is in
     (omega arith, tt)
 unfinished-moves false r piece is = (refl, refl)
 
 module _ (r : Reader) (piece : List ℕ) where
-  found-moves : (found : Found) → Spans found (length (r.held ++ take (r.limit - r.place) piece)) → Passes found (length r.held) → Moves r piece (found_taken found r piece)
+  found-moves : (found : Found) → Spans found (length (r.held ++ take (r.limit - r.place) piece)) → Passes found (length r.held) →
+      Moves r piece (found_taken found r piece)
   found-moves Cut spans passes = unfinished-moves (nat_lt (r.limit - r.place) (length piece)) r piece refl
   found-moves (Wrong from to kind) spans passes =
       let size = length-append r.held (take (r.limit - r.place) piece) in
@@ -51,7 +56,8 @@ record-moves form r piece cut =
     (record_at-passes form r.turns r.held (take (r.limit - r.place) piece) cut)
 
 -- behind the first word
-later-moves : (answer : Got) (first used count rest before now : ℕ) → Uses answer used rest → Counts answer (4 + used) now → first ≤ count → rest ≡ count - first → before + first ≡ 4 →
+later-moves : (answer : Got) (first used count rest before now : ℕ) → Uses answer used rest → Counts answer (4 + used) now → first ≤ count →
+    rest ≡ count - first → before + first ≡ 4 →
     Uses answer (first + used) count × Counts answer (before + (first + used)) now
 later-moves (got.Step step) first used count rest before now uses counts some is word = ((omega arith, omega arith), omega arith)
 later-moves got.End first used count rest before now uses counts some is word = ((omega arith, omega arith), omega arith)
@@ -65,7 +71,8 @@ module _ (r : Reader) (piece : List ℕ) (place : r.place ≡ length r.held) (sh
       let front = length-take (r.limit - r.place) piece in
       omega arith
 
-  form-moves : (form : Form) → 4 ≤ length (r.held ++ take (r.limit - r.place) piece) → Moves r piece (behind_word form (4 - length r.held) (begun form r) (drop (4 - length r.held) piece))
+  form-moves : (form : Form) → 4 ≤ length (r.held ++ take (r.limit - r.place) piece) →
+      Moves r piece (behind_word form (4 - length r.held) (begun form r) (drop (4 - length r.held) piece))
   form-moves Bfs1 four =
       let t : Taken = record_taken Bfs1 (begun Bfs1 r) (drop (4 - length r.held) piece) in
       let moves = record-moves Bfs1 (begun Bfs1 r) (drop (4 - length r.held) piece) refl in
@@ -74,7 +81,8 @@ module _ (r : Reader) (piece : List ℕ) (place : r.place ≡ length r.held) (sh
   form-moves Bfs2 four = ((omega arith, enough four), omega arith)
   form-moves Bfs3 four = ((omega arith, enough four), omega arith)
 
-  word-moves : (word : Option ℕ) → HasFour word (length (r.held ++ take (r.limit - r.place) piece)) → Moves r piece (word_taken word r piece)
+  word-moves : (word : Option ℕ) → HasFour word (length (r.held ++ take (r.limit - r.place) piece)) →
+      Moves r piece (word_taken word r piece)
   word-moves None four = unfinished-moves (nat_lt (r.limit - r.place) (length piece)) r piece refl
   word-moves (Some word) four = named (form_of r.chained word)
     where
@@ -87,7 +95,9 @@ closed-moves r [] = (refl, omega arith)
 closed-moves r (byte ∷ piece) = (omega arith, tt)
 
 phase-moves : (phase : Phase) (r : Reader) (piece : List ℕ) → IsAt phase r → Moves r piece (taken_in phase r piece)
-phase-moves Opening r piece at = word-moves r piece at.0 at.1 at.2 (number_at (r.held ++ take (r.limit - r.place) piece)) (number_at-four (r.held ++ take (r.limit - r.place) piece))
+phase-moves Opening r piece at =
+    word-moves r piece at.0 at.1 at.2 (number_at (r.held ++ take (r.limit - r.place) piece))
+    (number_at-four (r.held ++ take (r.limit - r.place) piece))
 phase-moves (Records form) r piece at = record-moves form r piece at.1
 phase-moves Closed r piece at = closed-moves r piece
 phase-moves (Failed fault) r piece at = (omega arith, tt)
@@ -105,7 +115,8 @@ none-four : (word : Option ℕ) (count : ℕ) → HasFour word count → count <
 none-four None count four short = refl
 none-four (Some word) count four short = absurd (omega arith)
 
-opening-ends : (limit : ℕ) (chained : Bool) (held : List ℕ) → length held ≤ limit → length held < 4 → stream_of limit chained (held ++ []) ≡ reading [] Unfinished
+opening-ends : (limit : ℕ) (chained : Bool) (held : List ℕ) → length held ≤ limit → length held < 4 →
+    stream_of limit chained (held ++ []) ≡ reading [] Unfinished
 unfolding stream_of
 opening-ends limit chained held below short =
     let none : number_at held ≡ None = none-four (number_at held) (length held) (number_at-four held) short in
@@ -126,14 +137,16 @@ record-ends form limit place turns start room held below cut =
     ∙ records-front form turns start held
     ∙ ap (λ (f : Found). front_of f form turns start held) cut
 
-closed-ends : (limit place room : ℕ) → place ≤ limit → within limit (place + length {A = ℕ} []) (reading [] (after_end place (take room []))) ≡ reading [] Ended
+closed-ends : (limit place room : ℕ) → place ≤ limit →
+    within limit (place + length {A = ℕ} []) (reading [] (after_end place (take room []))) ≡ reading [] Ended
 closed-ends limit place room below =
     not-over limit (place + length {A = ℕ} []) (reading [] (after_end place (take room []))) (omega arith)
     ∙ ap (λ (zs : List ℕ). reading [] (after_end place zs)) (no-bytes room)
 
 phase-ends : (phase : Phase) (r : Reader) → r.place ≤ r.limit → IsAt phase r → resumed_in phase r [] ≡ reading [] (ending_in phase)
 phase-ends Opening r below at = opening-ends r.limit r.chained r.held (omega arith) at.1
-phase-ends (Records form) r below at = record-ends form r.limit r.place r.turns (r.place - length r.held) (r.limit - r.place) r.held below at.1
+phase-ends (Records form) r below at =
+    record-ends form r.limit r.place r.turns (r.place - length r.held) (r.limit - r.place) r.held below at.1
 phase-ends Closed r below at = closed-ends r.limit r.place (r.limit - r.place) below
 phase-ends (Failed fault) r below at = refl
 
@@ -153,9 +166,11 @@ stays-found (Wrong from to kind) r piece = refl
 stays-found Last r piece = tt
 stays-found (Whole step len) r piece = tt
 
-stays-form : (form : Option Form) (used : ℕ) (r : Reader) (piece : List ℕ) → let t = form_taken form used r piece in Stays t.answer t.reader.phase
+stays-form : (form : Option Form) (used : ℕ) (r : Reader) (piece : List ℕ) → let t = form_taken form used r piece in
+    Stays t.answer t.reader.phase
 stays-form None used r piece = refl
-stays-form (Some Bfs1) used r piece = stays-found (record_at Bfs1 r.turns ([] ++ take (r.limit - 4) (drop used piece))) (begun Bfs1 r) (drop used piece)
+stays-form (Some Bfs1) used r piece =
+    stays-found (record_at Bfs1 r.turns ([] ++ take (r.limit - 4) (drop used piece))) (begun Bfs1 r) (drop used piece)
 stays-form (Some Bfs2) used r piece = tt
 stays-form (Some Bfs3) used r piece = tt
 
@@ -167,7 +182,8 @@ stays-closed : (r : Reader) (piece : List ℕ) → let t = closed_taken r piece 
 stays-closed r [] = tt
 stays-closed r (byte ∷ piece) = refl
 
-stays-phase : (phase : Phase) (r : Reader) (piece : List ℕ) → r.phase ≡ phase → let t = taken_in phase r piece in Stays t.answer t.reader.phase
+stays-phase : (phase : Phase) (r : Reader) (piece : List ℕ) → r.phase ≡ phase → let t = taken_in phase r piece in
+    Stays t.answer t.reader.phase
 stays-phase Opening r piece is = stays-word (number_at (r.held ++ take (r.limit - r.place) piece)) r piece
 stays-phase (Records form) r piece is = stays-found (record_at form r.turns (r.held ++ take (r.limit - r.place) piece)) r piece
 stays-phase Closed r piece is = stays-closed r piece
@@ -189,7 +205,8 @@ placed_from (Records form) place count e = e
 placed_from Closed place count e = e
 placed_from (Failed fault) place count e = tt
 
-placed_answer : (answer : Got) (phase : Phase) (place before used now : ℕ) → place ≡ before → Counts answer (place + used) now → Stays answer phase → PlacedAt phase now (before + used)
+placed_answer : (answer : Got) (phase : Phase) (place before used now : ℕ) → place ≡ before → Counts answer (place + used) now →
+    Stays answer phase → PlacedAt phase now (before + used)
 placed_answer (got.Step step) phase place before used now e counts stays = placed_from phase now (before + used) (omega arith)
 placed_answer got.End phase place before used now e counts stays = placed_from phase now (before + used) (omega arith)
 placed_answer got.More phase place before used now e counts stays = placed_from phase now (before + used) (omega arith)
@@ -199,16 +216,20 @@ placed-phase : (phase : Phase) (r : Reader) (piece : List ℕ) (before : ℕ) �
     let t = taken_in phase r piece in PlacedAt t.reader.phase t.reader.place (before + t.used)
 placed-phase Opening r piece before is at placed =
     let t : Taken = taken_in Opening r piece in
-    placed_answer t.answer t.reader.phase r.place before t.used t.reader.place placed (phase-moves Opening r piece at).1 (stays-phase Opening r piece is)
+    placed_answer t.answer t.reader.phase r.place before t.used t.reader.place placed (phase-moves Opening r piece at).1
+    (stays-phase Opening r piece is)
 placed-phase (Records form) r piece before is at placed =
     let t : Taken = taken_in (Records form) r piece in
-    placed_answer t.answer t.reader.phase r.place before t.used t.reader.place placed (phase-moves (Records form) r piece at).1 (stays-phase (Records form) r piece is)
+    placed_answer t.answer t.reader.phase r.place before t.used t.reader.place placed (phase-moves (Records form) r piece at).1
+    (stays-phase (Records form) r piece is)
 placed-phase Closed r piece before is at placed =
     let t : Taken = taken_in Closed r piece in
-    placed_answer t.answer t.reader.phase r.place before t.used t.reader.place placed (phase-moves Closed r piece at).1 (stays-phase Closed r piece is)
+    placed_answer t.answer t.reader.phase r.place before t.used t.reader.place placed (phase-moves Closed r piece at).1
+    (stays-phase Closed r piece is)
 placed-phase (Failed fault) r piece before is at placed = rw is tt
 
-pub taken-placed : (r : Reader) (piece : List ℕ) (before : ℕ) → IsReader r → PlacedAt r.phase r.place before → let t = taken r piece in PlacedAt t.reader.phase t.reader.place (before + t.used)
+pub taken-placed : (r : Reader) (piece : List ℕ) (before : ℕ) → IsReader r → PlacedAt r.phase r.place before → let t = taken r piece in
+    PlacedAt t.reader.phase t.reader.place (before + t.used)
 unfolding taken
 taken-placed r piece before is placed = placed-phase r.phase r piece before refl is.at placed
 

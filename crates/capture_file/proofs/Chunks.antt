@@ -1,5 +1,6 @@
 -- The chunks of a program file are grants.
-use Rattle.std.proofs.Common.{◌≡◌, ℕ, zero, suc, ◌+◌, ◌*◌, ◌%◌, ◌^◌, max, ◌<◌, ◌≤◌, Bool, true, false, cond, not, ◌&&◌, List, [], ◌∷◌, ◌++◌, length, get_or, drop, Option, Some, None, Result, Ok, Err}
+use Rattle.std.proofs.Common.{◌≡◌, ℕ, zero, suc, ◌+◌, ◌*◌, ◌%◌, ◌^◌, max, ◌<◌, ◌≤◌, Bool, true, false, cond, not, ◌&&◌, List, [], ◌∷◌, ◌++◌}
+use Rattle.std.proofs.Common.{length, get_or, drop, Option, Some, None, Result, Ok, Err}
 use Rattle.std.proofs.Common.{refl, sym, ap, subst, ◌∙◌, arith, append_assoc}
 use Rattle.std.specs.Prelude.{nat_lt, nat_le, ◌==◌}
 use Rattle.std.specs.List.{All, list_any, position, prefix_len}
@@ -18,11 +19,13 @@ use Rattle.capture_file.specs.declared.FileKind.TheVariants as fault
 use Rattle.capture_file.specs.declared.FileFault.{FileFault}
 use Rattle.capture_file.specs.declared.program.Layout.{Layout}
 use Rattle.capture_file.specs.declared.program.Layout.TheVariants.{Paged, Chunked}
-use Rattle.capture_file.specs.Programs.{◌>>=◌, number_field, judged, page_fault, address_fault, is_length, length_fault, page_field, long_chunk_field, chunk_field, chunks_field}
+use Rattle.capture_file.specs.Programs.{◌>>=◌, number_field, judged, page_fault, address_fault, is_length, length_fault, page_field}
+use Rattle.capture_file.specs.Programs.{long_chunk_field, chunk_field, chunks_field}
 
 -- ---- steps that did not fail
 
-pub bind_ok : {A B : Type 0} (r : Result A FileFault) (f : A → Result B FileFault) (y : B) → (r >>= f) ≡ Ok y → (x : A) × (r ≡ Ok x) × (f x ≡ Ok y)
+pub bind_ok : {A B : Type 0} (r : Result A FileFault) (f : A → Result B FileFault) (y : B) → (r >>= f) ≡ Ok y →
+    (x : A) × (r ≡ Ok x) × (f x ≡ Ok y)
 bind_ok (Ok x) f y e = (x, refl, e)
 bind_ok (Err d) f y e = absurd (cc)
 
@@ -69,7 +72,9 @@ Follows program from c = (from ≤ c.at) × IsChunk c × (shares_byte program c 
 
 page_right : (program : RiscProgram) (from at : ℕ) → page_fault program from at ≡ None → at < 2 ^ 32 → Follows program from (chunk at 4096)
 page_right program from at e low =
-    let a = no_fault (not (at % 4096 == 0)) fault.Page (cond (nat_lt at from) (Some fault.Order) (cond (shares_byte program (chunk at 4096)) (Some fault.Overlap) None)) e in
+    let a =
+    no_fault (not (at % 4096 == 0)) fault.Page
+    (cond (nat_lt at from) (Some fault.Order) (cond (shares_byte program (chunk at 4096)) (Some fault.Overlap) None)) e in
     let b = no_fault (nat_lt at from) fault.Order (cond (shares_byte program (chunk at 4096)) (Some fault.Overlap) None) a.1 in
     let c = no_fault (shares_byte program (chunk at 4096)) fault.Overlap None b.1 in
     let paged : at % 4096 ≡ 0 = eqb-true (at % 4096) 0 (not-false (at % 4096 == 0) a.0) in
@@ -85,7 +90,8 @@ pub above_zero : (n : ℕ) → not (n == 0) ≡ true → 0 < n
 above_zero zero e = absurd (cc)
 above_zero (suc n) e = omega arith
 
-length_right : (program : RiscProgram) (from sum at len : ℕ) → length_fault program sum at len ≡ None → (at % 4 ≡ 0) × (from ≤ at) → Follows program from (chunk at len) × (sum + len ≤ 16777216)
+length_right : (program : RiscProgram) (from sum at len : ℕ) → length_fault program sum at len ≡ None → (at % 4 ≡ 0) × (from ≤ at) →
+    Follows program from (chunk at len) × (sum + len ≤ 16777216)
 length_right program from sum at len e h =
     let a = no_fault (not (is_length sum at len)) fault.Length (cond (shares_byte program (chunk at len)) (Some fault.Overlap) None) e in
     let b = no_fault (shares_byte program (chunk at len)) fault.Overlap None a.1 in
@@ -107,10 +113,12 @@ Sums Chunked sum len = sum + len ≤ 16777216
 abbrev pub ChunkRight : Layout → RiscProgram → ℕ → ℕ → Chunk × List ℕ → Type 0
 ChunkRight layout program from sum x = Follows program from x.0 × Sums layout sum x.0.len × IsBytes x.1
 
-page_read : (size : ℕ) (program : RiscProgram) (from sum : ℕ) (bytes : List ℕ) (x : Chunk × List ℕ) → IsBytes bytes → page_field size program from bytes ≡ Ok x → ChunkRight Paged program from sum x
+page_read : (size : ℕ) (program : RiscProgram) (from sum : ℕ) (bytes : List ℕ) (x : Chunk × List ℕ) → IsBytes bytes →
+    page_field size program from bytes ≡ Ok x → ChunkRight Paged program from sum x
 unfolding page_field
 page_read size program from sum bytes x fits e =
-    let a = bind_ok (number_field size bytes) (λ at. judged (page_fault program from at.0) size bytes >>= λ _. Ok (chunk at.0 4096, at.1)) x e in
+    let a =
+    bind_ok (number_field size bytes) (λ at. judged (page_fault program from at.0) size bytes >>= λ _. Ok (chunk at.0 4096, at.1)) x e in
     let b = bind_ok (judged (page_fault program from a.0.0) size bytes) (λ _. Ok (chunk a.0.0 4096, a.0.1)) x a.2 in
     let number = number_fits size bytes a.0 fits a.1 in
     let right = page_right program from a.0.0 (judged_ok (page_fault program from a.0.0) size bytes b.0 b.1) number.0 in
@@ -127,14 +135,19 @@ pub record LongChunk (size : ℕ) (program : RiscProgram) (from sum : ℕ) (byte
   pub len_fine : length_fault program sum at.0 len.0 ≡ None
   pub is : (chunk at.0 len.0, len.1) ≡ x
 
-pub long_chunk_parts : (size : ℕ) (program : RiscProgram) (from sum : ℕ) (bytes : List ℕ) (x : Chunk × List ℕ) → long_chunk_field size program from sum bytes ≡ Ok x → LongChunk size program from sum bytes x
+pub long_chunk_parts : (size : ℕ) (program : RiscProgram) (from sum : ℕ) (bytes : List ℕ) (x : Chunk × List ℕ) →
+    long_chunk_field size program from sum bytes ≡ Ok x → LongChunk size program from sum bytes x
 unfolding long_chunk_field
 long_chunk_parts size program from sum bytes x e =
     let a = bind_ok (number_field size bytes)
-    (λ at. judged (address_fault from at.0) size bytes >>= λ _. number_field size at.1 >>= λ len. judged (length_fault program sum at.0 len.0) size at.1 >>= λ _. Ok (chunk at.0 len.0, len.1)) x e in
+    (λ at. judged (address_fault from at.0) size bytes >>= λ _. number_field size at.1
+    >>= λ len. judged (length_fault program sum at.0 len.0) size at.1 >>= λ _. Ok (chunk at.0 len.0, len.1)) x e in
     let b = bind_ok (judged (address_fault from a.0.0) size bytes)
-    (λ _. number_field size a.0.1 >>= λ len. judged (length_fault program sum a.0.0 len.0) size a.0.1 >>= λ _. Ok (chunk a.0.0 len.0, len.1)) x a.2 in
-    let c = bind_ok (number_field size a.0.1) (λ len. judged (length_fault program sum a.0.0 len.0) size a.0.1 >>= λ _. Ok (chunk a.0.0 len.0, len.1)) x b.2 in
+    (λ _. number_field size a.0.1 >>= λ len. judged (length_fault program sum a.0.0 len.0) size a.0.1
+    >>= λ _. Ok (chunk a.0.0 len.0, len.1)) x a.2 in
+    let c =
+    bind_ok (number_field size a.0.1)
+    (λ len. judged (length_fault program sum a.0.0 len.0) size a.0.1 >>= λ _. Ok (chunk a.0.0 len.0, len.1)) x b.2 in
     let d = bind_ok (judged (length_fault program sum a.0.0 c.0.0) size a.0.1) (λ _. Ok (chunk a.0.0 c.0.0, c.0.1)) x c.2 in
     record {
       at = a.0;
@@ -146,7 +159,8 @@ long_chunk_parts size program from sum bytes x e =
       is = ok_is (chunk a.0.0 c.0.0, c.0.1) x d.2;
     }
 
-long_chunk_read : (size : ℕ) (program : RiscProgram) (from sum : ℕ) (bytes : List ℕ) (x : Chunk × List ℕ) → IsBytes bytes → long_chunk_field size program from sum bytes ≡ Ok x → ChunkRight Chunked program from sum x
+long_chunk_read : (size : ℕ) (program : RiscProgram) (from sum : ℕ) (bytes : List ℕ) (x : Chunk × List ℕ) → IsBytes bytes →
+    long_chunk_field size program from sum bytes ≡ Ok x → ChunkRight Chunked program from sum x
 long_chunk_read size program from sum bytes x fits e =
     let c = long_chunk_parts size program from sum bytes x e in
     let first = number_fits size bytes c.at fits c.at_read in
@@ -154,7 +168,8 @@ long_chunk_read size program from sum bytes x fits e =
     let right = length_right program from sum c.at.0 c.len.0 c.len_fine (address_right from c.at.0 c.at_fine) in
     subst (λ (y : Chunk × List ℕ). ChunkRight Chunked program from sum y) c.is (right.0, right.1, second.1)
 
-chunk_read : (layout : Layout) (size : ℕ) (program : RiscProgram) (from sum : ℕ) (bytes : List ℕ) (x : Chunk × List ℕ) → IsBytes bytes → chunk_field layout size program from sum bytes ≡ Ok x → ChunkRight layout program from sum x
+chunk_read : (layout : Layout) (size : ℕ) (program : RiscProgram) (from sum : ℕ) (bytes : List ℕ) (x : Chunk × List ℕ) → IsBytes bytes →
+    chunk_field layout size program from sum bytes ≡ Ok x → ChunkRight layout program from sum x
 chunk_read Paged size program from sum bytes x fits e = page_read size program from sum bytes x fits e
 chunk_read Chunked size program from sum bytes x fits e = long_chunk_read size program from sum bytes x fits e
 
@@ -171,7 +186,8 @@ pub record AreRead (layout : Layout) (program : RiscProgram) (from sum count : �
   pub totals : Totals layout sum count x.0
   pub fits : IsBytes x.1
 
-totals_more : (layout : Layout) (sum count : ℕ) (c : Chunk) (chunks : List Chunk) → Sums layout sum c.len → Totals layout (sum + c.len) count chunks → Totals layout sum (suc count) (c ∷ chunks)
+totals_more : (layout : Layout) (sum count : ℕ) (c : Chunk) (chunks : List Chunk) → Sums layout sum c.len →
+    Totals layout (sum + c.len) count chunks → Totals layout sum (suc count) (c ∷ chunks)
 totals_more Paged sum count c chunks h t = omega (arith, total-cons c chunks)
 totals_more Chunked sum count c chunks h t = omega (arith, total-cons c chunks)
 
@@ -179,7 +195,8 @@ totals_none : (layout : Layout) (sum : ℕ) → Totals layout sum 0 []
 totals_none Paged sum = refl
 totals_none Chunked sum = omega arith
 
-pub chunks_read : (layout : Layout) (size : ℕ) (program : RiscProgram) (count from sum : ℕ) (bytes : List ℕ) (x : List Chunk × List ℕ) → IsBytes bytes →
+pub chunks_read : (layout : Layout) (size : ℕ) (program : RiscProgram) (count from sum : ℕ) (bytes : List ℕ) (x : List Chunk × List ℕ) →
+    IsBytes bytes →
     chunks_field layout size program count from sum bytes ≡ Ok x → AreRead layout program from sum count x
 unfolding chunks_field
 chunks_read layout size program zero from sum bytes x fits e =
@@ -189,7 +206,9 @@ chunks_read layout size program zero from sum bytes x fits e =
 chunks_read layout size program (suc count) from sum bytes x fits e =
     let a = bind_ok (chunk_field layout size program from sum bytes)
     (λ c. chunks_field layout size program count (c.0.at + c.0.len) (sum + c.0.len) c.1 >>= λ others. Ok (c.0 ∷ others.0, others.1)) x e in
-    let b = bind_ok (chunks_field layout size program count (a.0.0.at + a.0.0.len) (sum + a.0.0.len) a.0.1) (λ others. Ok (a.0.0 ∷ others.0, others.1)) x a.2 in
+    let b =
+    bind_ok (chunks_field layout size program count (a.0.0.at + a.0.0.len) (sum + a.0.0.len) a.0.1)
+    (λ others. Ok (a.0.0 ∷ others.0, others.1)) x a.2 in
     let one = chunk_read layout size program from sum bytes a.0 fits a.1 in
     let rest = chunks_read layout size program count (a.0.0.at + a.0.0.len) (sum + a.0.0.len) a.0.1 b.0 one.2 b.1 in
     let same : (a.0.0 ∷ b.0.0, b.0.1) ≡ x = ok_is (a.0.0 ∷ b.0.0, b.0.1) x b.2 in
@@ -213,7 +232,8 @@ end_later : (from to : ℕ) (chunks : List Chunk) → from ≤ to → EndBy from
 end_later from to [] le h = tt
 end_later from to (d ∷ rest) le h = (h.0, omega arith, end_later from to rest le h.2)
 
-end_push : (from : ℕ) (chunks : List Chunk) (c : Chunk) → EndBy from chunks → (c.at < c.at + c.len) × (c.at + c.len ≤ from) → EndBy from (chunks ++ c ∷ [])
+end_push : (from : ℕ) (chunks : List Chunk) (c : Chunk) → EndBy from chunks → (c.at < c.at + c.len) × (c.at + c.len ≤ from) →
+    EndBy from (chunks ++ c ∷ [])
 end_push from [] c h last = (last.0, last.1, tt)
 end_push from (d ∷ rest) c h last = (h.0, h.1, end_push from rest c h.2 last)
 
@@ -233,7 +253,8 @@ rising_unshared from earlier (c ∷ rest) h rising =
     (rising_unshared (c.at + c.len) (earlier ++ c ∷ []) rest
     (end_push (c.at + c.len) earlier c (end_later from (c.at + c.len) earlier (omega arith) h) (omega arith, omega arith)) rising.2)
 
-rising_placed : (from : ℕ) (earlier chunks : List Chunk) → EndBy from earlier → AreRising from chunks → all_placed earlier chunks ≡ earlier ++ chunks
+rising_placed : (from : ℕ) (earlier chunks : List Chunk) → EndBy from earlier → AreRising from chunks →
+    all_placed earlier chunks ≡ earlier ++ chunks
 rising_placed from earlier [] h rising = sym (append-nil earlier)
 rising_placed from earlier (c ∷ rest) h rising =
     let some = rising.1.some in
@@ -247,23 +268,34 @@ chunk_aligned c is =
     let some = is.some in
     rw (is.at_aligned, is.len_aligned, lt-ltb 0 c.len (omega arith), le-leb (c.at + c.len) (2 ^ 32) is.ends) refl
 
-all_aligned : (from : ℕ) (pairs : List (ℕ × ℕ)) → AreRising from (listed pairs) → prefix_len (λ (pair : ℕ × ℕ). not (not (is_aligned (pair_chunk pair)))) pairs ≡ length pairs
+all_aligned : (from : ℕ) (pairs : List (ℕ × ℕ)) → AreRising from (listed pairs) →
+    prefix_len (λ (pair : ℕ × ℕ). not (not (is_aligned (pair_chunk pair)))) pairs ≡ length pairs
 all_aligned from [] rising = refl
 all_aligned from (pair ∷ pairs) rising =
     let rest = all_aligned (pair.0 + pair.1) pairs rising.2 in
     rw (chunk_aligned (pair_chunk pair) rising.1, rest) (omega arith)
 
-rising_aligned : (from : ℕ) (pairs : List (ℕ × ℕ)) → AreRising from (listed pairs) → position (λ (pair : ℕ × ℕ). not (is_aligned (pair_chunk pair))) pairs ≡ None
+rising_aligned : (from : ℕ) (pairs : List (ℕ × ℕ)) → AreRising from (listed pairs) →
+    position (λ (pair : ℕ × ℕ). not (is_aligned (pair_chunk pair))) pairs ≡ None
 rising_aligned from pairs rising = rw (all_aligned from pairs rising, le-ltb (length pairs) (length pairs) (omega arith)) refl
 
-pub rising_taken : (pairs : List (ℕ × ℕ)) → AreRising 0 (listed pairs) → length pairs ≤ 4096 → total (listed pairs) ≤ 2 ^ 24 → taken_chunks pairs ≡ Ok (listed pairs)
+pub rising_taken : (pairs : List (ℕ × ℕ)) → AreRising 0 (listed pairs) → length pairs ≤ 4096 → total (listed pairs) ≤ 2 ^ 24 →
+    taken_chunks pairs ≡ Ok (listed pairs)
 rising_taken pairs rising few small =
-    rw (le-ltb 4096 (length pairs) few, le-ltb (2 ^ 24) (total (listed pairs)) small, rising_aligned 0 pairs rising, rising_unshared 0 [] (listed pairs) tt rising, rising_placed 0 [] (listed pairs) tt rising) refl
+    rw (
+      le-ltb 4096 (length pairs) few,
+      le-ltb (2 ^ 24) (total (listed pairs)) small,
+      rising_aligned 0 pairs rising,
+      rising_unshared 0 [] (listed pairs) tt rising,
+      rising_placed 0 [] (listed pairs) tt rising,
+    ) refl
 
-pub taken_is : (pairs : List (ℕ × ℕ)) (grants : List Chunk) → AreRising 0 (listed pairs) → length pairs ≤ 4096 → total (listed pairs) ≤ 2 ^ 24 → taken_chunks pairs ≡ Ok grants → grants ≡ listed pairs
+pub taken_is : (pairs : List (ℕ × ℕ)) (grants : List Chunk) → AreRising 0 (listed pairs) → length pairs ≤ 4096 →
+    total (listed pairs) ≤ 2 ^ 24 → taken_chunks pairs ≡ Ok grants → grants ≡ listed pairs
 taken_is pairs grants rising few small e = cc (rising_taken pairs rising few small)
 
-pub not_taken : (pairs : List (ℕ × ℕ)) (fault : PageFault) → AreRising 0 (listed pairs) → length pairs ≤ 4096 → total (listed pairs) ≤ 2 ^ 24 → Answers (taken_chunks pairs) (Err fault) → (fault ≡ Memory → ⊥) → ⊥
+pub not_taken : (pairs : List (ℕ × ℕ)) (fault : PageFault) → AreRising 0 (listed pairs) → length pairs ≤ 4096 →
+    total (listed pairs) ≤ 2 ^ 24 → Answers (taken_chunks pairs) (Err fault) → (fault ≡ Memory → ⊥) → ⊥
 not_taken pairs Memory rising few small e other = other refl
 not_taken pairs TooMany rising few small e other = cc (rising_taken pairs rising few small, e)
 not_taken pairs (Unaligned i) rising few small e other = cc (rising_taken pairs rising few small, e)

@@ -1,5 +1,6 @@
 -- A record's fields: how many bytes they are, and that the bytes after them change nothing.
-use Rattle.std.proofs.Common.{◌≡◌, ℕ, suc, ◌+◌, ◌-◌, ◌<◌, ◌≤◌, ◌⊎◌, inl, inr, Bool, true, false, List, [], ◌∷◌, ◌++◌, length, take, Option, Some, None, refl, sym, ap, ◌∙◌, arith, drop, get_or, length-take, take-append-drop}
+use Rattle.std.proofs.Common.{◌≡◌, ℕ, suc, ◌+◌, ◌-◌, ◌<◌, ◌≤◌, ◌⊎◌, inl, inr, Bool, true, false, List, [], ◌∷◌, ◌++◌, length, take, Option}
+use Rattle.std.proofs.Common.{Some, None, refl, sym, ap, ◌∙◌, arith, drop, get_or, length-take, take-append-drop}
 use Rattle.std.proofs.lemmas.List.{take_all}
 use Rattle.risc_word.specs.declared.Code.{Code}
 use Rattle.risc_word.specs.Words.{code_numbered}
@@ -10,7 +11,8 @@ use Rattle.capture_file.specs.declared.records.RecordKind.TheVariants as kind
 use Rattle.capture_file.specs.declared.records.Found.{Found}
 use Rattle.capture_file.specs.declared.records.Found.TheVariants.{Cut, Wrong, Last, Whole}
 use Rattle.capture_file.specs.declared.Step.{Step}
-use Rattle.capture_file.specs.Streams.{number_at, kind_of_tag, is_data, push_if, push_at, data_with, control_with, control_at, turns_if, turns_with, most_turns, ack_with, enable_if, enable_at}
+use Rattle.capture_file.specs.Streams.{number_at, kind_of_tag, is_data, push_if, push_at, data_with, control_with, control_at, turns_if}
+use Rattle.capture_file.specs.Streams.{turns_with, most_turns, ack_with, enable_if, enable_at}
 use Rattle.capture_file.specs.Streams.{trigger_if, trigger_at, is_buffer, buffer_if, slot_if, patch_at, fields_at, record_at}
 use Rattle.capture_file.specs.Records.{HasFour, Spans, Passes, Sums, FoundFits}
 use Rattle.std.specs.Prelude.{nat_lt, nat_le, not, ◌&&◌, ◌||◌, ◌==◌}
@@ -48,8 +50,10 @@ keeps_number : (f : Option ℕ → Found) (short long : Option ℕ) → f None �
 keeps_number f short long cut (inl e) = inl (ap f e ∙ cut)
 keeps_number f short long cut (inr e) = inr (ap f e)
 
-keeps_push_if : (b : Bool) (queue : Queue) (status : ℕ) (rest more : List ℕ) → Keeps (push_if b queue status rest) (push_if b queue status (rest ++ more))
-keeps_push_if true queue status rest more = keeps_number (data_with queue status) (number_at rest) (number_at (rest ++ more)) refl (number_at-append rest more)
+keeps_push_if : (b : Bool) (queue : Queue) (status : ℕ) (rest more : List ℕ) →
+    Keeps (push_if b queue status rest) (push_if b queue status (rest ++ more))
+keeps_push_if true queue status rest more =
+    keeps_number (data_with queue status) (number_at rest) (number_at (rest ++ more)) refl (number_at-append rest more)
 keeps_push_if false queue status rest more = inr refl
 
 keeps_push : (queue : Queue) (rest more : List ℕ) → Keeps (push_at queue rest) (push_at queue (rest ++ more))
@@ -78,18 +82,22 @@ keeps_patch : (rest more : List ℕ) → Keeps (patch_at rest) (patch_at (rest +
 keeps_patch [] more = inl refl
 keeps_patch (slot ∷ rest) more = keeps_slot (nat_lt slot 2) slot rest more
 
-keeps_fields : (k : RecordKind) (tag turns : ℕ) (rest more : List ℕ) → Keeps (fields_at k tag turns rest) (fields_at k tag turns (rest ++ more))
+keeps_fields : (k : RecordKind) (tag turns : ℕ) (rest more : List ℕ) →
+    Keeps (fields_at k tag turns rest) (fields_at k tag turns (rest ++ more))
 keeps_fields kind.End tag turns rest more = inr refl
 keeps_fields (kind.Push queue) tag turns rest more = keeps_push queue rest more
 keeps_fields kind.Control tag turns rest more = keeps_control rest more
-keeps_fields kind.Turns tag turns rest more = keeps_number (turns_with turns) (number_at rest) (number_at (rest ++ more)) refl (number_at-append rest more)
-keeps_fields kind.Ack tag turns rest more = keeps_number ack_with (number_at rest) (number_at (rest ++ more)) refl (number_at-append rest more)
+keeps_fields kind.Turns tag turns rest more =
+    keeps_number (turns_with turns) (number_at rest) (number_at (rest ++ more)) refl (number_at-append rest more)
+keeps_fields kind.Ack tag turns rest more =
+    keeps_number ack_with (number_at rest) (number_at (rest ++ more)) refl (number_at-append rest more)
 keeps_fields kind.Enable tag turns rest more = keeps_enable rest more
 keeps_fields kind.Trigger tag turns rest more = keeps_trigger rest more
 keeps_fields kind.Patch tag turns rest more = keeps_patch rest more
 keeps_fields kind.Unknown tag turns rest more = inr refl
 
-pub record_at-append : (form : Form) (turns : ℕ) (bytes more : List ℕ) → Keeps (record_at form turns bytes) (record_at form turns (bytes ++ more))
+pub record_at-append : (form : Form) (turns : ℕ) (bytes more : List ℕ) →
+    Keeps (record_at form turns bytes) (record_at form turns (bytes ++ more))
 record_at-append form turns [] more = inl refl
 record_at-append form turns (tag ∷ rest) more = keeps_fields (kind_of_tag form tag) tag turns rest more
 
@@ -177,7 +185,8 @@ passes_data : (queue : Queue) (status : ℕ) (n : Option ℕ) (count : ℕ) → 
 passes_data queue status None count h = tt
 passes_data queue status (Some n) count h = h
 
-passes_push_if : (b : Bool) (queue : Queue) (status : ℕ) (rest more : List ℕ) → push_if b queue status rest ≡ Cut → Passes (push_if b queue status (rest ++ more)) (suc (suc (length rest)))
+passes_push_if : (b : Bool) (queue : Queue) (status : ℕ) (rest more : List ℕ) → push_if b queue status rest ≡ Cut →
+    Passes (push_if b queue status (rest ++ more)) (suc (suc (length rest)))
 passes_push_if true queue status rest more cut =
     let short = spans_push_if true queue status rest in
     passes_data queue status (number_at (rest ++ more)) (suc (suc (length rest))) (rw cut at short)
@@ -247,7 +256,8 @@ short_turns : (before : ℕ) (n : Option ℕ) (count : ℕ) → HasFour n count 
 short_turns before None count h cut = h
 short_turns before (Some n) count h cut = absurd (whole_turns_if (nat_le (before + n) most_turns) n cut)
 
-passes_turns : (before : ℕ) (rest more : List ℕ) → turns_with before (number_at rest) ≡ Cut → Passes (turns_with before (number_at (rest ++ more))) (suc (length rest))
+passes_turns : (before : ℕ) (rest more : List ℕ) → turns_with before (number_at rest) ≡ Cut →
+    Passes (turns_with before (number_at (rest ++ more))) (suc (length rest))
 passes_turns before rest more cut =
     let short = short_turns before (number_at rest) (length rest) (number_at-four rest) cut in
     passes_turns_with before (number_at (rest ++ more)) (suc (length rest)) (omega arith)
@@ -277,7 +287,8 @@ whole_buffer : (b : Bool) (slot buffer : ℕ) → buffer_if b slot buffer ≡ Cu
 whole_buffer true slot buffer cut = cc
 whole_buffer false slot buffer cut = cc
 
-passes_slot : (b : Bool) (slot : ℕ) (rest more : List ℕ) → slot_if b slot rest ≡ Cut → Passes (slot_if b slot (rest ++ more)) (suc (suc (length rest)))
+passes_slot : (b : Bool) (slot : ℕ) (rest more : List ℕ) → slot_if b slot rest ≡ Cut →
+    Passes (slot_if b slot (rest ++ more)) (suc (suc (length rest)))
 passes_slot true slot [] [] cut = tt
 passes_slot true slot [] (buffer ∷ more) cut = passes_buffer (is_buffer buffer) slot buffer
 passes_slot true slot (buffer ∷ rest) more cut = absurd (whole_buffer (is_buffer buffer) slot buffer cut)
@@ -293,7 +304,8 @@ passes_patch [] [] cut = tt
 passes_patch [] (slot ∷ more) cut = passes_slot_start (nat_lt slot 2) slot more
 passes_patch (slot ∷ rest) more cut = passes_slot (nat_lt slot 2) slot rest more cut
 
-passes_fields : (k : RecordKind) (tag turns : ℕ) (rest more : List ℕ) → fields_at k tag turns rest ≡ Cut → Passes (fields_at k tag turns (rest ++ more)) (suc (length rest))
+passes_fields : (k : RecordKind) (tag turns : ℕ) (rest more : List ℕ) → fields_at k tag turns rest ≡ Cut →
+    Passes (fields_at k tag turns (rest ++ more)) (suc (length rest))
 passes_fields kind.End tag turns rest more cut = absurd (cc)
 passes_fields (kind.Push queue) tag turns rest more cut = passes_push queue rest more cut
 passes_fields kind.Control tag turns rest more cut = passes_control rest more cut
@@ -311,7 +323,8 @@ passes_none (Wrong from to fault) count h = omega arith
 passes_none Last count h = omega arith
 passes_none (Whole step len) count h = h.0
 
-pub record_at-passes : (form : Form) (turns : ℕ) (bytes more : List ℕ) → record_at form turns bytes ≡ Cut → Passes (record_at form turns (bytes ++ more)) (length bytes)
+pub record_at-passes : (form : Form) (turns : ℕ) (bytes more : List ℕ) → record_at form turns bytes ≡ Cut →
+    Passes (record_at form turns (bytes ++ more)) (length bytes)
 record_at-passes form turns [] more cut = passes_none (record_at form turns more) (length more) (record_at-spans form turns more)
 record_at-passes form turns (tag ∷ rest) more cut = passes_fields (kind_of_tag form tag) tag turns rest more cut
 
@@ -341,7 +354,8 @@ sums_data : (before : ℕ) (queue : Queue) (status : ℕ) (n : Option ℕ) → b
 sums_data before queue status None h = tt
 sums_data before queue status (Some n) h = omega arith
 
-sums_push_if : (before : ℕ) (b : Bool) (queue : Queue) (status : ℕ) (rest : List ℕ) → before ≤ most_turns → Sums (push_if b queue status rest) before
+sums_push_if : (before : ℕ) (b : Bool) (queue : Queue) (status : ℕ) (rest : List ℕ) → before ≤ most_turns →
+    Sums (push_if b queue status rest) before
 sums_push_if before true queue status rest h = sums_data before queue status (number_at rest) h
 sums_push_if before false queue status rest h = tt
 
@@ -417,7 +431,8 @@ fits_status true false h = refl
 fits_status false control h = cc
 
 fits_push_if : (b : Bool) (queue : Queue) (status : ℕ) (rest : List ℕ) → is_data status ≡ b → FoundFits (push_if b queue status rest)
-fits_push_if true queue status rest h = fits_data queue status (number_at rest) (fits_status (nat_lt status 16) (is_control (kind_of status)) h)
+fits_push_if true queue status rest h =
+    fits_data queue status (number_at rest) (fits_status (nat_lt status 16) (is_control (kind_of status)) h)
 fits_push_if false queue status rest h = tt
 
 fits_push : (queue : Queue) (rest : List ℕ) → FoundFits (push_at queue rest)
@@ -460,7 +475,8 @@ fits_trigger : (rest : List ℕ) → FoundFits (trigger_at rest)
 fits_trigger [] = tt
 fits_trigger (number ∷ rest) = fits_trigger_if number (nat_lt number 4) refl
 
-is_buffer-true : (buffer : ℕ) (low high : Bool) → nat_lt buffer 2 ≡ low → (buffer == 255) ≡ high → (low || high) ≡ true → (buffer < 2) ⊎ (buffer ≡ 255)
+is_buffer-true : (buffer : ℕ) (low high : Bool) → nat_lt buffer 2 ≡ low → (buffer == 255) ≡ high → (low || high) ≡ true →
+    (buffer < 2) ⊎ (buffer ≡ 255)
 is_buffer-true buffer true high is same h = inl (ltb-true buffer 2 is)
 is_buffer-true buffer false true is same h = inr (eqb-true buffer 255 same)
 is_buffer-true buffer false false is same h = absurd (cc)
@@ -498,7 +514,8 @@ data-six : (queue : Queue) (status : ℕ) (dword : Option ℕ) (step : Step) (le
 data-six queue status None step len e = absurd cc
 data-six queue status (Some number) step len e = cc
 
-push_if-six : (right : Bool) (queue : Queue) (status : ℕ) (rest : List ℕ) (step : Step) (len : ℕ) → push_if right queue status rest ≡ Whole step len → len ≡ 6
+push_if-six : (right : Bool) (queue : Queue) (status : ℕ) (rest : List ℕ) (step : Step) (len : ℕ) →
+    push_if right queue status rest ≡ Whole step len → len ≡ 6
 push_if-six true queue status rest step len e = data-six queue status (number_at rest) step len e
 push_if-six false queue status rest step len e = absurd cc
 
@@ -506,7 +523,8 @@ pub push_six : (queue : Queue) (rest : List ℕ) (step : Step) (len : ℕ) → p
 push_six queue [] step len e = absurd cc
 push_six queue (status ∷ rest) step len e = push_if-six (is_data status) queue status rest step len e
 
-pub tagged_push : (form : Form) (turns : ℕ) (bytes : List ℕ) (queue : Queue) → 1 ≤ length bytes → kind_of_tag form (get_or bytes 0 0) ≡ kind.Push queue →
+pub tagged_push : (form : Form) (turns : ℕ) (bytes : List ℕ) (queue : Queue) → 1 ≤ length bytes →
+    kind_of_tag form (get_or bytes 0 0) ≡ kind.Push queue →
     record_at form turns bytes ≡ push_at queue (take (length bytes - 1) (drop 1 bytes))
 tagged_push form turns [] queue some e = absurd (omega arith)
 tagged_push form turns (tag ∷ rest) queue some e =

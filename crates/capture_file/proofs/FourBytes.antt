@@ -9,7 +9,8 @@ pub number_low : (a b c d : ℕ) (rest : List ℕ) → IsBytes (a ∷ b ∷ c �
 number_low a b c d rest fits = omega (arith, fits 0, fits 1, fits 2, fits 3)
 
 -- four bytes are those of their number
-pub four_back : (a b c d : ℕ) (rest : List ℕ) → IsBytes (a ∷ b ∷ c ∷ d ∷ rest) → little_bytes 4 (little_number 4 (a ∷ b ∷ c ∷ d ∷ [])) ≡ a ∷ b ∷ c ∷ d ∷ []
+pub four_back : (a b c d : ℕ) (rest : List ℕ) → IsBytes (a ∷ b ∷ c ∷ d ∷ rest) →
+    little_bytes 4 (little_number 4 (a ∷ b ∷ c ∷ d ∷ [])) ≡ a ∷ b ∷ c ∷ d ∷ []
 four_back a b c d rest fits =
     let front : List ℕ = a ∷ b ∷ c ∷ d ∷ [] in
     let word : little_number 4 front ≡ from_le_bytes w32 front = omega arith in

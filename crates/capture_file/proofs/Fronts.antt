@@ -9,7 +9,8 @@ use Rattle.capture_file.specs.declared.records.Form.{Form}
 use Rattle.capture_file.specs.declared.records.Found.TheVariants.{Whole}
 use Rattle.capture_file.specs.Records.{StepFits}
 use Rattle.capture_file.specs.Streams.{record_at, turns_of}
-use Rattle.capture_file.specs.Readers.{Phase, Records, Reader, IsReader, Taken, Takes, after_answer, found_taken, record_taken, resumed, taken, taking}
+use Rattle.capture_file.specs.Readers.{Phase, Records, Reader, IsReader, Taken, Takes, after_answer, found_taken, record_taken, resumed}
+use Rattle.capture_file.specs.Readers.{taken, taking}
 use Rattle.capture_file.proofs.Resumed.{reader, taken-goes}
 use Rattle.capture_file.proofs.Answered.{taken-moves, taken-placed}
 
@@ -22,11 +23,13 @@ module _ (limit room turns : ℕ) (chained : Bool) (piece : List ℕ) (form : Fo
       let place : limit - (room - len) ≡ limit - room + len = omega arith in
       let whole : len - 0 ≡ len = omega arith in
       rw place
-      (sym (ap (λ (bytes : List ℕ). found_taken (record_at form turns bytes) (reader limit chained (Records form) (limit - room) turns []) piece) all
+      (sym (ap
+      (λ (bytes : List ℕ). found_taken (record_at form turns bytes) (reader limit chained (Records form) (limit - room) turns []) piece) all
       ∙ ap (λ f. found_taken f (reader limit chained (Records form) (limit - room) turns []) piece) found
       ∙ ap (λ n. taking n (got.Step step) (reader limit chained (Records form) (limit - room + n) (turns + turns_of step) [])) whole))
 
-  pub front-taken : (phase : Phase) (held : List ℕ) (sum : ℕ) → sum ≡ turns + turns_of step → phase ≡ Records form → held ≡ [] → room ≤ limit → length piece ≤ room → len ≤ length piece →
+  pub front-taken : (phase : Phase) (held : List ℕ) (sum : ℕ) → sum ≡ turns + turns_of step → phase ≡ Records form → held ≡ [] →
+      room ≤ limit → length piece ≤ room → len ≤ length piece →
       record_at form turns piece ≡ Whole step len →
       taking len (got.Step step) (reader limit chained phase (limit - (room - len)) sum held)
       ≡ taken (reader limit chained phase (limit - room) turns held) piece
@@ -34,7 +37,8 @@ module _ (limit room turns : ℕ) (chained : Bool) (piece : List ℕ) (form : Fo
   front-taken phase held sum sums is none below fits within found = rw (sums, is, none) (between below fits within found)
 
 -- what follows of a step that was taken
-pub takes-step : (r after : Reader) (piece : List ℕ) (step : Step) (count : ℕ) → IsReader r → taking count (got.Step step) after ≡ taken r piece → StepFits step → Takes step count r piece after
+pub takes-step : (r after : Reader) (piece : List ℕ) (step : Step) (count : ℕ) → IsReader r →
+    taking count (got.Step step) after ≡ taken r piece → StepFits step → Takes step count r piece after
 takes-step r after piece step count is exact fits =
     let moves = taken-moves r piece is in
     record {
@@ -50,7 +54,8 @@ takes-step r after piece step count is exact fits =
     }
 
 pub takes-some : {A : Type 0} (step : A → Step) (count : ℕ) (r after : Reader) (piece : List ℕ) (o : Option A) → IsReader r →
-    IfSome o (λ a. taking count (got.Step (step a)) after ≡ taken r piece) → IfSome o (λ a. StepFits (step a)) → IfSome o (λ a. Takes (step a) count r piece after)
+    IfSome o (λ a. taking count (got.Step (step a)) after ≡ taken r piece) → IfSome o (λ a. StepFits (step a)) →
+    IfSome o (λ a. Takes (step a) count r piece after)
 takes-some step count r after piece None is exact fits = tt
 takes-some step count r after piece (Some a) is exact fits = takes-step r after piece (step a) count is exact fits
 

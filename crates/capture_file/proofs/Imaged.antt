@@ -1,5 +1,6 @@
 -- Two memories with the same image are the same.
-use Rattle.std.proofs.Common.{◌≡◌, ℕ, suc, ◌+◌, ◌%◌, ◌^◌, ◌<◌, ◌≤◌, true, List, [], ◌∷◌, ◌++◌, length, drop, refl, sym, ap, ◌∙◌, arith, append_assoc}
+use Rattle.std.proofs.Common.{◌≡◌, ℕ, suc, ◌+◌, ◌%◌, ◌^◌, ◌<◌, ◌≤◌, true, List, [], ◌∷◌, ◌++◌, length, drop, refl, sym, ap, ◌∙◌, arith}
+use Rattle.std.proofs.Common.{append_assoc}
 use Rattle.std.specs.Prelude.{◌==◌, slice_index}
 use Rattle.std.specs.List.{flat_map, list_all}
 use Rattle.std.proofs.lemmas.Bool.{and_parts, eqb-true}
@@ -14,7 +15,8 @@ use Rattle.capture_file.specs.Programs.{number_field, layout_for}
 use Rattle.capture_file.proofs.Chunks.{ok_is}
 use Rattle.capture_file.proofs.Spelled.{number_again, AreFor, are_for}
 
-number_same : (n m : ℕ) (rest others : List ℕ) → n < 2 ^ 32 → m < 2 ^ 32 → little_bytes 4 n ++ rest ≡ little_bytes 4 m ++ others → (n ≡ m) × (rest ≡ others)
+number_same : (n m : ℕ) (rest others : List ℕ) → n < 2 ^ 32 → m < 2 ^ 32 → little_bytes 4 n ++ rest ≡ little_bytes 4 m ++ others →
+    (n ≡ m) × (rest ≡ others)
 number_same n m rest others low low' e =
     let pair : (n, rest) ≡ (m, others) =
     ok_is (n, rest) (m, others) (sym (number_again 0 n rest low) ∙ ap (number_field 0) e ∙ number_again 0 m others low') in
@@ -44,7 +46,8 @@ AllFit layout (block ∷ rest) = Fits layout block × AllFit layout rest
 block_is : (x y : Block) → x.at ≡ y.at → x.bytes ≡ y.bytes → x ≡ y
 block_is x y at bytes = ap (λ (n : ℕ). record { at = n; bytes = x.bytes }) at ∙ ap (λ (zs : List ℕ). record { at = y.at; bytes = zs }) bytes
 
-block_same : (layout : Layout) (x y : Block) (rest others : List ℕ) → Fits layout x → Fits layout y → block_image layout x ++ rest ≡ block_image layout y ++ others → (x ≡ y) × (rest ≡ others)
+block_same : (layout : Layout) (x y : Block) (rest others : List ℕ) → Fits layout x → Fits layout y →
+    block_image layout x ++ rest ≡ block_image layout y ++ others → (x ≡ y) × (rest ≡ others)
 block_same Paged x y rest others fit fit' e =
     let at = number_same x.at y.at (x.bytes ++ rest) (y.bytes ++ others) fit.0 fit'.0
     (sym (append_assoc (little_bytes 4 x.at) x.bytes rest) ∙ e ∙ append_assoc (little_bytes 4 y.at) y.bytes others) in
@@ -59,7 +62,8 @@ block_same Chunked x y rest others fit fit' e =
     let bytes = bytes_same x.bytes y.bytes rest others len.0 len.1 in
     (block_is x y at.0 bytes.0, bytes.1)
   where
-    regroup : (at len : ℕ) (bytes rest : List ℕ) → ((little_bytes 4 at ++ little_bytes 4 len) ++ bytes) ++ rest ≡ little_bytes 4 at ++ (little_bytes 4 len ++ (bytes ++ rest))
+    regroup : (at len : ℕ) (bytes rest : List ℕ) →
+        ((little_bytes 4 at ++ little_bytes 4 len) ++ bytes) ++ rest ≡ little_bytes 4 at ++ (little_bytes 4 len ++ (bytes ++ rest))
     regroup at len bytes rest =
         append_assoc (little_bytes 4 at ++ little_bytes 4 len) bytes rest
         ∙ append_assoc (little_bytes 4 at) (little_bytes 4 len) (bytes ++ rest)
@@ -74,10 +78,13 @@ blocks_same layout (x ∷ xs) (y ∷ ys) len fit fit' e =
     let rest = blocks_same layout xs ys (omega arith) fit.1 fit'.1 first.1 in
     ap (λ (z : Block). z ∷ xs) first.0 ∙ ap (λ (zs : List Block). y ∷ zs) rest
 
-image_same : (layout : Layout) (memory other : List Block) → length memory < 2 ^ 32 → length other < 2 ^ 32 → AllFit layout memory → AllFit layout other →
+image_same : (layout : Layout) (memory other : List Block) → length memory < 2 ^ 32 → length other < 2 ^ 32 → AllFit layout memory →
+    AllFit layout other →
     image_as layout memory ≡ image_as layout other → memory ≡ other
 image_same layout memory other few few' fit fit' e =
-    let counts = number_same (length memory) (length other) (flat_map (block_image layout) memory) (flat_map (block_image layout) other) few few' (behind_name layout e) in
+    let counts =
+    number_same (length memory) (length other) (flat_map (block_image layout) memory) (flat_map (block_image layout) other) few few'
+    (behind_name layout e) in
     blocks_same layout memory other counts.0 fit fit' counts.1
   where
     behind_name : (l : Layout) → image_as l memory ≡ image_as l other →
@@ -93,7 +100,8 @@ other_name memory other e = two_digits (ap (λ (zs : List ℕ). slice_index zs 3
 
 -- ---- each chunk fits the form
 
-fits_pages : (from : ℕ) (memory : List Block) → AreRising from (chunks_of memory) → list_all is_page (chunks_of memory) ≡ true → AllFit Paged memory
+fits_pages : (from : ℕ) (memory : List Block) → AreRising from (chunks_of memory) → list_all is_page (chunks_of memory) ≡ true →
+    AllFit Paged memory
 fits_pages from [] rising all = tt
 fits_pages from (block ∷ rest) rising all =
     let both = and_parts (is_page (chunk_of block)) (list_all is_page (chunks_of rest)) all in
@@ -102,7 +110,8 @@ fits_pages from (block ∷ rest) rising all =
     let ends = rising.1.ends in
     ((omega arith, eqb-true (length block.bytes) 4096 page.1), fits_pages (block.at + length block.bytes) rest rising.2 both.1)
 
-fits_chunks : (from : ℕ) (memory : List Block) → AreRising from (chunks_of memory) → total (chunks_of memory) ≤ 2 ^ 24 → AllFit Chunked memory
+fits_chunks : (from : ℕ) (memory : List Block) → AreRising from (chunks_of memory) → total (chunks_of memory) ≤ 2 ^ 24 →
+    AllFit Chunked memory
 fits_chunks from [] rising small = tt
 fits_chunks from (block ∷ rest) rising small =
     let some = rising.1.some in
@@ -123,10 +132,16 @@ few_blocks memory is = let few = is.grants.few in let len = blocks_few memory in
 
 pub memory_same : (memory other : List Block) → AreBlocks memory → AreBlocks other → image_of memory ≡ image_of other → memory ≡ other
 unfolding image_of
-memory_same memory other is is' e = by_form (layout_for (chunks_of memory)) (layout_for (chunks_of other)) (are_for (chunks_of memory)) (are_for (chunks_of other)) e
+memory_same memory other is is' e =
+    by_form (layout_for (chunks_of memory)) (layout_for (chunks_of other)) (are_for (chunks_of memory)) (are_for (chunks_of other)) e
   where
-    by_form : (layout layout' : Layout) → AreFor layout (chunks_of memory) → AreFor layout' (chunks_of other) → image_as layout memory ≡ image_as layout' other → memory ≡ other
-    by_form Paged Paged form form' same = image_same Paged memory other (few_blocks memory is) (few_blocks other is') (all_fit Paged memory is form) (all_fit Paged other is' form') same
-    by_form Chunked Chunked form form' same = image_same Chunked memory other (few_blocks memory is) (few_blocks other is') (all_fit Chunked memory is form) (all_fit Chunked other is' form') same
+    by_form : (layout layout' : Layout) → AreFor layout (chunks_of memory) → AreFor layout' (chunks_of other) →
+        image_as layout memory ≡ image_as layout' other → memory ≡ other
+    by_form Paged Paged form form' same =
+        image_same Paged memory other (few_blocks memory is) (few_blocks other is') (all_fit Paged memory is form)
+        (all_fit Paged other is' form') same
+    by_form Chunked Chunked form form' same =
+        image_same Chunked memory other (few_blocks memory is) (few_blocks other is') (all_fit Chunked memory is form)
+        (all_fit Chunked other is' form') same
     by_form Paged Chunked form form' same = absurd (other_name memory other same)
     by_form Chunked Paged form form' same = absurd (other_name other memory (sym same))

@@ -1,5 +1,6 @@
 -- Memory chunk by chunk.
-use Rattle.std.proofs.Common.{◌≡◌, ℕ, zero, suc, ◌+◌, ◌^◌, ◌≤◌, Bool, true, false, ◌&&◌, List, [], ◌∷◌, ◌++◌, length, take, drop, Some, Result, refl, sym, ap, subst, ◌∙◌, arith}
+use Rattle.std.proofs.Common.{◌≡◌, ℕ, zero, suc, ◌+◌, ◌^◌, ◌≤◌, Bool, true, false, ◌&&◌, List, [], ◌∷◌, ◌++◌, length, take, drop, Some}
+use Rattle.std.proofs.Common.{Result, refl, sym, ap, subst, ◌∙◌, arith}
 use Rattle.std.proofs.lemmas.Bool.{and_parts}
 use Rattle.std.specs.Prelude.{slice_get}
 use Rattle.std.specs.List.{flat_map, list_all}
@@ -26,16 +27,20 @@ more_at memory i b e = ap (λ (n : ℕ). take n memory) (let k : i + 1 ≡ suc i
 
 -- ---- pages
 
-all_push : (blocks : List Block) (b : Block) → list_all is_page (chunks_of blocks) ≡ true → is_page (chunk_of b) ≡ true → list_all is_page (chunks_of (blocks ++ b ∷ [])) ≡ true
+all_push : (blocks : List Block) (b : Block) → list_all is_page (chunks_of blocks) ≡ true → is_page (chunk_of b) ≡ true →
+    list_all is_page (chunks_of (blocks ++ b ∷ [])) ≡ true
 all_push [] b h e = rw e refl
 all_push (x ∷ xs) b h e =
     let both = and_parts (is_page (chunk_of x)) (list_all is_page (chunks_of xs)) h in
     rw (both.0, all_push xs b both.1 e) refl
 
-pub pages_more : (memory : List Block) (i : ℕ) (b : Block) → slice_get memory i ≡ Some b → list_all is_page (chunks_of (take i memory)) ≡ true → is_page (chunk_of b) ≡ true → list_all is_page (chunks_of (take (i + 1) memory)) ≡ true
-pages_more memory i b e h page = ap (λ (blocks : List Block). list_all is_page (chunks_of blocks)) (more_at memory i b e) ∙ all_push (take i memory) b h page
+pub pages_more : (memory : List Block) (i : ℕ) (b : Block) → slice_get memory i ≡ Some b → list_all is_page (chunks_of (take i memory))
+    ≡ true → is_page (chunk_of b) ≡ true → list_all is_page (chunks_of (take (i + 1) memory)) ≡ true
+pages_more memory i b e h page =
+    ap (λ (blocks : List Block). list_all is_page (chunks_of blocks)) (more_at memory i b e) ∙ all_push (take i memory) b h page
 
-pub not_all_pages : (memory : List Block) (i : ℕ) (b : Block) → slice_get memory i ≡ Some b → is_page (chunk_of b) ≡ false → list_all is_page (chunks_of memory) ≡ false
+pub not_all_pages : (memory : List Block) (i : ℕ) (b : Block) → slice_get memory i ≡ Some b → is_page (chunk_of b) ≡ false →
+    list_all is_page (chunks_of memory) ≡ false
 not_all_pages [] i b e other = absurd (cc)
 not_all_pages (x ∷ xs) zero b e other = let same : x ≡ b = cc in rw (same, other) refl
 not_all_pages (x ∷ xs) (suc i) b e other = rw (not_all_pages xs i b e other) (and_false (is_page (chunk_of x)))
@@ -44,7 +49,8 @@ not_all_pages (x ∷ xs) (suc i) b e other = rw (not_all_pages xs i b e other) (
     and_false true = refl
     and_false false = refl
 
-pub chunked_for : (memory : List Block) (i : ℕ) (b : Block) → slice_get memory i ≡ Some b → is_page (chunk_of b) ≡ false → layout_for (chunks_of memory) ≡ Chunked
+pub chunked_for : (memory : List Block) (i : ℕ) (b : Block) → slice_get memory i ≡ Some b → is_page (chunk_of b) ≡ false →
+    layout_for (chunks_of memory) ≡ Chunked
 chunked_for memory i b e other = rw (not_all_pages memory i b e other) refl
 
 -- ---- sizes
@@ -59,7 +65,8 @@ block_small memory i b are e = let size = size_at memory i b e in omega (arith, 
 
 -- ---- what is put
 
-module _ (one : Block → List ℕ) (memory : List Block) (i : ℕ) (b : Block) (at : slice_get memory i ≡ Some b) (old mid new : Told) (done : mid ≡ after_write (flat_map one (take i memory)) old) where
+module _ (one : Block → List ℕ) (memory : List Block) (i : ℕ) (b : Block) (at : slice_get memory i ≡ Some b) (old mid new : Told)
+    (done : mid ≡ after_write (flat_map one (take i memory)) old) where
   spelled_more : flat_map one (take i memory) ++ one b ≡ flat_map one (take (i + 1) memory)
   spelled_more =
       ap (λ (zs : List ℕ). flat_map one (take i memory) ++ zs) (sym (append-nil (one b)))
@@ -67,7 +74,8 @@ module _ (one : Block → List ℕ) (memory : List Block) (i : ℕ) (b : Block) 
       ∙ ap (flat_map one) (sym (more_at memory i b at))
 
   pub blocks_more : new ≡ after_write (one b) mid → new ≡ after_write (flat_map one (take (i + 1) memory)) old
-  blocks_more e = puts_after (flat_map one (take i memory)) (one b) old mid new done e ∙ ap (λ (zs : List ℕ). after_write zs old) spelled_more
+  blocks_more e =
+      puts_after (flat_map one (take i memory)) (one b) old mid new done e ∙ ap (λ (zs : List ℕ). after_write zs old) spelled_more
 
   pub blocks_break : Breaks (one b) mid new → Breaks (flat_map one memory) old new
   blocks_break h =
@@ -77,9 +85,12 @@ module _ (one : Block → List ℕ) (memory : List Block) (i : ℕ) (b : Block) 
       (sym (flat_map-append one (take (i + 1) memory) (drop (i + 1) memory)) ∙ ap (flat_map one) (take-append-drop (i + 1) memory))
       (breaks_within (flat_map one (take (i + 1) memory)) (flat_map one (drop (i + 1) memory)) old new d)
 
-pub image_then : {A E : Type 0} (memory : List Block) (layout : Layout) (count : ℕ) (old mid new : Told) (r : Result A E) → layout ≡ layout_for (chunks_of memory) → count ≡ length memory →
-    mid ≡ after_write (image_head layout count) old → Puts (flat_map (block_image layout) memory) r after_write mid new → Puts (image_of memory) r after_write old new
+pub image_then : {A E : Type 0} (memory : List Block) (layout : Layout) (count : ℕ) (old mid new : Told) (r : Result A E) →
+    layout ≡ layout_for (chunks_of memory) → count ≡ length memory →
+    mid ≡ after_write (image_head layout count) old → Puts (flat_map (block_image layout) memory) r after_write mid new →
+    Puts (image_of memory) r after_write old new
 unfolding image_of
 image_then memory layout count old mid new r is len e h =
     subst (λ (l : Layout). Puts (image_as l memory) r after_write old new) is
-    (puts_then (image_head layout (length memory)) (flat_map (block_image layout) memory) old mid new r (e ∙ ap (λ (n : ℕ). after_write (image_head layout n) old) len) h)
+    (puts_then (image_head layout (length memory)) (flat_map (block_image layout) memory) old mid new r
+    (e ∙ ap (λ (n : ℕ). after_write (image_head layout n) old) len) h)

@@ -15,8 +15,10 @@ use Rattle.capture_file.specs.declared.records.RecordKind.TheVariants as kind
 use Rattle.capture_file.specs.declared.records.Found.{Found}
 use Rattle.capture_file.specs.declared.records.Found.TheVariants.{Whole}
 use Rattle.capture_file.specs.declared.Step.TheVariants.{Push, Turns}
-use Rattle.capture_file.specs.Streams.{number_at, kind_of_tag, is_data, push_if, push_at, data_with, control_with, control_at, turns_if, turns_with, most_turns, ack_with}
-use Rattle.capture_file.specs.Streams.{enable_if, enable_at, trigger_in, trigger_if, trigger_at, is_buffer, buffer_if, slot_if, patch_at, patch_in, fields_at, record_at}
+use Rattle.capture_file.specs.Streams.{number_at, kind_of_tag, is_data, push_if, push_at, data_with, control_with, control_at, turns_if}
+use Rattle.capture_file.specs.Streams.{turns_with, most_turns, ack_with}
+use Rattle.capture_file.specs.Streams.{enable_if, enable_at, trigger_in, trigger_if, trigger_at, is_buffer, buffer_if, slot_if, patch_at}
+use Rattle.capture_file.specs.Streams.{patch_in, fields_at, record_at}
 use Rattle.capture_file.specs.Pairs.{AreAll, IsPair, NoPair, push_tag}
 use Rattle.capture_file.specs.Records.{Sums}
 use Rattle.capture_file.proofs.Fields.{record_at-sums}
@@ -68,7 +70,8 @@ shows_data : (tag : ℕ) (rest : List ℕ) (queue : Queue) (status : ℕ) (n : O
 shows_data tag rest queue status None is same = tt
 shows_data tag rest queue status (Some n) is same = (is, same)
 
-shows_push_if : (tag : ℕ) (rest : List ℕ) (b : Bool) (queue : Queue) (status : ℕ) (more : List ℕ) → tag ≡ push_tag queue → get_or rest 0 0 ≡ status →
+shows_push_if : (tag : ℕ) (rest : List ℕ) (b : Bool) (queue : Queue) (status : ℕ) (more : List ℕ) → tag ≡ push_tag queue →
+    get_or rest 0 0 ≡ status →
     Shows tag rest (push_if b queue status more)
 shows_push_if tag rest true queue status more is same = shows_data tag rest queue status (number_at more) is same
 shows_push_if tag rest false queue status more is same = tt
@@ -85,7 +88,8 @@ shows_control : (tag : ℕ) (rest : List ℕ) → Shows tag rest (control_at res
 shows_control tag [] = tt
 shows_control tag (number ∷ rest) = shows_control_with tag (number ∷ rest) number (code_numbered number)
 
-shows_turns_if : (tag : ℕ) (rest : List ℕ) (b : Bool) (count : ℕ) → tag ≡ 5 → number_at rest ≡ Some count → Shows tag rest (turns_if b count)
+shows_turns_if : (tag : ℕ) (rest : List ℕ) (b : Bool) (count : ℕ) → tag ≡ 5 → number_at rest ≡ Some count →
+    Shows tag rest (turns_if b count)
 shows_turns_if tag rest true count is same = (is, same)
 shows_turns_if tag rest false count is same = tt
 
@@ -149,7 +153,8 @@ pub record PairBytes (queue : Queue) (before : ℕ) (bytes : List ℕ) (count : 
   pub number : number_at (drop 7 bytes) ≡ Some count
   pub few : before + count ≤ most_turns
 
-pub pair_bytes : (queue : Queue) (before : ℕ) (bytes : List ℕ) (dword count : ℕ) → before ≤ most_turns → IsPair queue before bytes dword count →
+pub pair_bytes : (queue : Queue) (before : ℕ) (bytes : List ℕ) (dword count : ℕ) → before ≤ most_turns →
+    IsPair queue before bytes dword count →
     PairBytes queue before bytes count
 pair_bytes queue before [] dword count few is = let long = is.whole in absurd (omega (arith, long))
 pair_bytes queue before (t ∷ []) dword count few is = let long = is.whole in absurd (omega (arith, long))

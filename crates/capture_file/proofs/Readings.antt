@@ -8,11 +8,13 @@ use Rattle.capture_file.specs.Records.{Spans}
 use Rattle.capture_file.proofs.Fields.{record_at-spans}
 
 -- bytes that are passed over
-pub records-skip : (form : Form) (turns place skip : ℕ) (bytes : List ℕ) → records form turns place skip bytes ≡ records form turns (place + skip) 0 (drop skip bytes)
+pub records-skip : (form : Form) (turns place skip : ℕ) (bytes : List ℕ) →
+    records form turns place skip bytes ≡ records form turns (place + skip) 0 (drop skip bytes)
 unfolding records
 records-skip form turns place zero [] = refl
 records-skip form turns place (suc skip) [] = refl
-records-skip form turns place zero (tag ∷ rest) = ap (λ (at : ℕ). records form turns at 0 (tag ∷ rest)) (let e : place ≡ place + 0 = omega arith in e)
+records-skip form turns place zero (tag ∷ rest) =
+    ap (λ (at : ℕ). records form turns at 0 (tag ∷ rest)) (let e : place ≡ place + 0 = omega arith in e)
 records-skip form turns place (suc skip) (tag ∷ rest) =
     records-skip form turns (place + 1) skip rest
     ∙ ap (λ (at : ℕ). records form turns at 0 (drop skip rest)) (let e : place + 1 + skip ≡ place + suc skip = omega arith in e)
@@ -32,7 +34,8 @@ cons_of Last form turns place rest = reading [] (after_end (place + 1) rest)
 cons_of (Whole step len) form turns place rest =
     with_step step (records form (turns + turns_of step) (place + 1) (len - 1) rest)
 
-cons-front : (found : Found) (form : Form) (turns place tag : ℕ) (rest : List ℕ) → Spans found (length (tag ∷ rest)) → cons_of found form turns place rest ≡ front_of found form turns place (tag ∷ rest)
+cons-front : (found : Found) (form : Form) (turns place tag : ℕ) (rest : List ℕ) → Spans found (length (tag ∷ rest)) →
+    cons_of found form turns place rest ≡ front_of found form turns place (tag ∷ rest)
 cons-front Cut form turns place tag rest h = refl
 cons-front (Wrong from to kind) form turns place tag rest h = refl
 cons-front Last form turns place tag rest h = refl
@@ -45,7 +48,8 @@ cons-front (Whole step (suc len)) form turns place tag rest h =
     ∙ records-skip form (turns + turns_of step) (place + 1) len rest
     ∙ ap (λ (at : ℕ). records form (turns + turns_of step) at 0 (drop len rest)) on)
 
-pub records-cons : (form : Form) (turns place tag : ℕ) (rest : List ℕ) → records form turns place 0 (tag ∷ rest) ≡ cons_of (record_at form turns (tag ∷ rest)) form turns place rest
+pub records-cons : (form : Form) (turns place tag : ℕ) (rest : List ℕ) →
+    records form turns place 0 (tag ∷ rest) ≡ cons_of (record_at form turns (tag ∷ rest)) form turns place rest
 unfolding records
 records-cons form turns place tag rest =
     elim (record_at form turns (tag ∷ rest)) as
@@ -59,7 +63,8 @@ records-cons form turns place tag rest =
     ≡ cons_of found form turns place rest)
     [ Cut ↦ refl | Wrong from to kind ↦ refl | Last ↦ refl | Whole step len ↦ refl ]
 
-pub records-front : (form : Form) (turns place : ℕ) (bytes : List ℕ) → records form turns place 0 bytes ≡ front_of (record_at form turns bytes) form turns place bytes
+pub records-front : (form : Form) (turns place : ℕ) (bytes : List ℕ) →
+    records form turns place 0 bytes ≡ front_of (record_at form turns bytes) form turns place bytes
 unfolding records
 records-front form turns place [] = refl
 records-front form turns place (tag ∷ rest) =

@@ -1,5 +1,7 @@
 -- Spans one after another, as loops go through them and read them.
-use Rattle.std.proofs.Common.{◌≡◌, ℕ, zero, suc, ◌+◌, ◌-◌, ◌*◌, ◌/◌, ◌<◌, ◌≤◌, ◌⊎◌, inl, inr, Bool, true, false, cond, ◌||◌, List, [], ◌∷◌, ◌++◌, length, drop, get_or, Some, Result, Ok, Err, refl, sym, ap, subst, ◌∙◌, arith, append_assoc, length-append}
+use Rattle.std.proofs.Common.{◌≡◌, ℕ, zero, suc, ◌+◌, ◌-◌, ◌*◌, ◌/◌, ◌<◌, ◌≤◌, ◌⊎◌, inl, inr, Bool, true, false, cond, ◌||◌, List, [], ◌∷◌}
+use Rattle.std.proofs.Common.{◌++◌, length, drop, get_or, Some, Result, Ok, Err, refl, sym, ap, subst, ◌∙◌, arith, append_assoc}
+use Rattle.std.proofs.Common.{length-append}
 use Rattle.std.proofs.lemmas.Bool.{le-leb}
 use Rattle.std.proofs.lemmas.List.{append-nil, drop-drop, drop_more}
 use Rattle.std.specs.Prelude.{IfErr, IsOk, nat_le, slice_index}
@@ -15,8 +17,10 @@ use Rattle.capture_file.specs.declared.program.ProgramError.TheVariants.{File, M
 use Rattle.capture_file.specs.declared.program.ProgramForm.{ProgramForm}
 use Rattle.capture_file.specs.declared.program.ProgramForm.TheVariants.{Based, Spanned}
 use Rattle.capture_file.specs.declared.program.ProgramFile.{ProgramFile}
-use Rattle.capture_file.specs.Programs.{◌>>=◌, Fails, Field, HasWords, chunk_count_field, chunks_field, cut, entry_field, fill_field, first_words_field, form_field, layout_of}
-use Rattle.capture_file.specs.Programs.{passed, placed_field, program_in, program_of, span_address_field, span_field, span_length_field, span_number_fault, span_number_field, spanned_field, spans_field}
+use Rattle.capture_file.specs.Programs.{◌>>=◌, Fails, Field, HasWords, chunk_count_field, chunks_field, cut, entry_field, fill_field}
+use Rattle.capture_file.specs.Programs.{first_words_field, form_field, layout_of}
+use Rattle.capture_file.specs.Programs.{passed, placed_field, program_in, program_of, span_address_field, span_field, span_length_field}
+use Rattle.capture_file.specs.Programs.{span_number_fault, span_number_field, spanned_field, spans_field}
 use Rattle.capture_file.specs.Programs.{with_grants, with_span, with_words, without_grants, words_field, words_in, words_read}
 use Rattle.capture_file.proofs.Chunks.{IsBytes, bind_ok, ok_is}
 use Rattle.capture_file.proofs.Unspelled.{file_read, judged_number, span_number_right}
@@ -29,15 +33,19 @@ module _ (spans : List Span) (i : ℕ) (inside : i < length spans) where
   from_here s is = drop_more spans i s inside ∙ ap (λ (t : Span). t ∷ drop (i + 1) spans) (sym (is s))
 
   module _ (s : Span) (is : (d : Span) → s ≡ get_or spans i d) (address : ℕ) where
-    found_by : (b : Bool) → stands_in s address ≡ b → is_there (word_among (drop i spans) address) ≡ cond b true (is_there (word_among (drop (i + 1) spans) address))
+    found_by : (b : Bool) → stands_in s address ≡ b →
+        is_there (word_among (drop i spans) address) ≡ cond b true (is_there (word_among (drop (i + 1) spans) address))
     found_by true stands =
         ap (λ (zs : List Span). is_there (word_among zs address)) (from_here s is)
-        ∙ ap (λ (b : Bool). is_there (cond b (Some (slice_index s.words ((address - s.at) / 4))) (word_among (drop (i + 1) spans) address))) stands
+        ∙ ap (λ (b : Bool). is_there (cond b (Some (slice_index s.words ((address - s.at) / 4))) (word_among (drop (i + 1) spans) address)))
+        stands
     found_by false stands =
         ap (λ (zs : List Span). is_there (word_among zs address)) (from_here s is)
-        ∙ ap (λ (b : Bool). is_there (cond b (Some (slice_index s.words ((address - s.at) / 4))) (word_among (drop (i + 1) spans) address))) stands
+        ∙ ap (λ (b : Bool). is_there (cond b (Some (slice_index s.words ((address - s.at) / 4))) (word_among (drop (i + 1) spans) address)))
+        stands
 
-    pub is_found : stands_in s address ≡ true → is_there (word_among spans address) ≡ is_there (word_among (drop i spans) address) → is_there (word_among spans address) ≡ true
+    pub is_found : stands_in s address ≡ true → is_there (word_among spans address) ≡ is_there (word_among (drop i spans) address) →
+        is_there (word_among spans address) ≡ true
     is_found stands so_far = so_far ∙ found_by true stands
 
     pub not_found : stands_in s address ≡ false → is_there (word_among spans address) ≡ is_there (word_among (drop i spans) address) →
@@ -51,7 +59,8 @@ module _ (spans : List Span) (i : ℕ) (inside : i < length spans) where
     pub is_any : test s ≡ true → list_any test spans ≡ list_any test (drop i spans) → list_any test spans ≡ true
     is_any holds so_far = so_far ∙ any_by ∙ ap (λ (b : Bool). b || list_any test (drop (i + 1) spans)) holds
 
-    pub not_any : test s ≡ false → list_any test spans ≡ list_any test (drop i spans) → list_any test spans ≡ list_any test (drop (i + 1) spans)
+    pub not_any : test s ≡ false → list_any test spans ≡ list_any test (drop i spans) →
+        list_any test spans ≡ list_any test (drop (i + 1) spans)
     not_any fails so_far = so_far ∙ any_by ∙ ap (λ (b : Bool). b || list_any test (drop (i + 1) spans)) fails
 
 -- a span by its parts
@@ -74,8 +83,10 @@ some_words (s ∷ spans) (suc i) d inside =
 
 -- ---- words that are appended
 
-pub words_pushed : (spans : List Span) (bytes : List ℕ) (count i word : ℕ) (total : List Span) → i < count → word ≡ little_number 4 (drop (4 * i) bytes) →
-    with_words spans (words_in (count - i) (drop (4 * i) bytes)) ≡ total → with_words (with_word spans word) (words_in (count - (i + 1)) (drop (4 * (i + 1)) bytes)) ≡ total
+pub words_pushed : (spans : List Span) (bytes : List ℕ) (count i word : ℕ) (total : List Span) → i < count →
+    word ≡ little_number 4 (drop (4 * i) bytes) →
+    with_words spans (words_in (count - i) (drop (4 * i) bytes)) ≡ total →
+    with_words (with_word spans word) (words_in (count - (i + 1)) (drop (4 * (i + 1)) bytes)) ≡ total
 words_pushed spans bytes count i word total lt is so_far =
     let k : count - i ≡ suc (count - (i + 1)) = omega arith in
     let next : 4 * i + 4 ≡ 4 * (i + 1) = omega arith in
@@ -85,7 +96,8 @@ words_pushed spans bytes count i word total lt is so_far =
     ∙ sym (ap (λ (n : ℕ). with_words spans (words_in n (drop (4 * i) bytes))) k)
     ∙ so_far
 
-words_behind : (front : List Span) (s : Span) (words : List ℕ) → with_words (front ++ s ∷ []) words ≡ front ++ span s.at (s.words ++ words) ∷ []
+words_behind : (front : List Span) (s : Span) (words : List ℕ) →
+    with_words (front ++ s ∷ []) words ≡ front ++ span s.at (s.words ++ words) ∷ []
 words_behind front s [] = ap (λ (ws : List ℕ). front ++ span s.at ws ∷ []) (sym (append-nil s.words))
 words_behind front s (word ∷ words) =
     ap (λ (zs : List Span). with_words zs words) (with_word-last front s word)
@@ -93,7 +105,8 @@ words_behind front s (word ∷ words) =
     ∙ ap (λ (ws : List ℕ). front ++ span s.at ws ∷ []) (append_assoc s.words (word ∷ []) words)
 
 -- a span that began without words
-pub span_filled : (front begun filled : List Span) (at : ℕ) (words : List ℕ) → begun ≡ front ++ span at [] ∷ [] → filled ≡ with_words begun words → filled ≡ front ++ span at words ∷ []
+pub span_filled : (front begun filled : List Span) (at : ℕ) (words : List ℕ) → begun ≡ front ++ span at [] ∷ [] →
+    filled ≡ with_words begun words → filled ≡ front ++ span at words ∷ []
 span_filled front begun filled at words e f = f ∙ ap (λ (zs : List Span). with_words zs words) e ∙ words_behind front (span at []) words
 
 pub words_length : (count : ℕ) (bytes : List ℕ) → length (words_in count bytes) ≡ count
@@ -105,19 +118,26 @@ unfolding words_field
 words_counted size count bytes x e = by_test (nat_le (4 * count) (length bytes)) e
   where
     by_test : (b : Bool) → cond b (Ok (words_in count bytes, drop (4 * count) bytes)) (Err (cut size)) ≡ Ok x → length x.0 ≡ count
-    by_test true is = sym (ap (λ (y : List ℕ × List ℕ). length y.0) (ok_is (words_in count bytes, drop (4 * count) bytes) x is)) ∙ words_length count bytes
+    by_test true is =
+        sym (ap (λ (y : List ℕ × List ℕ). length y.0) (ok_is (words_in count bytes, drop (4 * count) bytes) x is))
+        ∙ words_length count bytes
     by_test false is = absurd (cc)
 
-pub span_words_read : (size count at : ℕ) (bytes rest : List ℕ) (front begun filled : List Span) → 4 * count ≤ length bytes → begun ≡ front ++ span at [] ∷ [] →
-    filled ≡ with_words begun (words_in count bytes) → rest ≡ drop (4 * count) bytes → with_span front at (words_field size count bytes) ≡ Ok (filled, rest)
+pub span_words_read : (size count at : ℕ) (bytes rest : List ℕ) (front begun filled : List Span) → 4 * count ≤ length bytes →
+    begun ≡ front ++ span at [] ∷ [] →
+    filled ≡ with_words begun (words_in count bytes) → rest ≡ drop (4 * count) bytes →
+    with_span front at (words_field size count bytes) ≡ Ok (filled, rest)
 unfolding words_field
 span_words_read size count at bytes rest front begun filled long e f g =
-    ap (λ (b : Bool). with_span front at (cond b (Ok (words_in count bytes, drop (4 * count) bytes)) (Err (cut size)))) (le-leb (4 * count) (length bytes) long)
+    ap (λ (b : Bool). with_span front at (cond b (Ok (words_in count bytes, drop (4 * count) bytes)) (Err (cut size))))
+    (le-leb (4 * count) (length bytes) long)
     ∙ ap (λ (spans : List Span). Ok (spans, drop (4 * count) bytes)) (sym (span_filled front begun filled at (words_in count bytes) e f))
     ∙ ap (λ (zs : List ℕ). Ok (filled, zs)) (sym g)
 
-pub span_passed : (size size' size'' from sum at count next : ℕ) (bytes behind after rest : List ℕ) (front filled : List Span) → size' ≡ size → size'' ≡ size' →
-    span_address_field size from bytes ≡ Ok (at, behind) → span_length_field size' at sum behind ≡ Ok (count, after) → with_span front at (words_field size'' count after) ≡ Ok (filled, rest) →
+pub span_passed : (size size' size'' from sum at count next : ℕ) (bytes behind after rest : List ℕ) (front filled : List Span) →
+    size' ≡ size → size'' ≡ size' →
+    span_address_field size from bytes ≡ Ok (at, behind) → span_length_field size' at sum behind ≡ Ok (count, after) →
+    with_span front at (words_field size'' count after) ≡ Ok (filled, rest) →
     next ≡ at + 4 * count + 1 → passed front sum (span_field size from sum bytes) ≡ Ok (((next, sum + count), filled), rest)
 unfolding span_field
 span_passed size size' size'' from sum at count next bytes behind after rest front filled same same' e f g n =
@@ -125,8 +145,10 @@ span_passed size size' size'' from sum at count next bytes behind after rest fro
     let words = bind_ok (words_field size'' count after) (λ words. Ok (front ++ span at words.0 ∷ [], words.1)) (filled, rest) g in
     let w : words_field size count after ≡ Ok words.0 = subst (λ (n : ℕ). words_field n count after ≡ Ok words.0) (same' ∙ same) words.1 in
     let len = words_counted size count after words.0 w in
-    let is : (front ++ span at words.0.0 ∷ [], words.0.1) ≡ (filled, rest) = ok_is (front ++ span at words.0.0 ∷ [], words.0.1) (filled, rest) words.2 in
-    ap (λ (r : Field ℕ). passed front sum (r >>= λ a. span_length_field size a.0 sum a.1 >>= λ c. words_field size c.0 c.1 >>= λ ws. Ok (span a.0 ws.0, ws.1))) e
+    let is : (front ++ span at words.0.0 ∷ [], words.0.1) ≡ (filled, rest) =
+    ok_is (front ++ span at words.0.0 ∷ [], words.0.1) (filled, rest) words.2 in
+    ap (λ (r : Field ℕ).
+    passed front sum (r >>= λ a. span_length_field size a.0 sum a.1 >>= λ c. words_field size c.0 c.1 >>= λ ws. Ok (span a.0 ws.0, ws.1))) e
     ∙ ap (λ (r : Field ℕ). passed front sum (r >>= λ c. words_field size c.0 c.1 >>= λ ws. Ok (span at ws.0, ws.1))) f'
     ∙ ap (λ (r : Field (List ℕ)). passed front sum (r >>= λ ws. Ok (span at ws.0, ws.1))) w
     ∙ ap (λ (k : ℕ). Ok (((at + 4 * k + 1, sum + k), front ++ span at words.0.0 ∷ []), words.0.1)) len
@@ -139,7 +161,8 @@ span_passed size size' size'' from sum at count next bytes behind after rest fro
 abbrev pub with_first : List Span → Field (List Span) → Field (List Span)
 with_first front read = read >>= λ x. Ok (front ++ x.0, x.1)
 
-regroup : (front : List Span) (s : Span) (read : Field (List Span)) → with_first front (read >>= λ x. Ok (s ∷ x.0, x.1)) ≡ with_first (front ++ s ∷ []) read
+regroup : (front : List Span) (s : Span) (read : Field (List Span)) →
+    with_first front (read >>= λ x. Ok (s ∷ x.0, x.1)) ≡ with_first (front ++ s ∷ []) read
 regroup front s (Ok x) = ap (λ (ss : List Span). Ok (ss, x.1)) (sym (append_assoc front (s ∷ []) x.0))
 regroup front s (Err f) = refl
 
@@ -151,10 +174,12 @@ pub record HasPassed (spans : List Span) (from sum : ℕ) (read : Field Span) (x
   pub words : x.0.0.1 ≡ sum + length s.words
   pub all : x.0.1 ≡ spans ++ s ∷ []
 
-pub has_passed : (spans : List Span) (from sum : ℕ) (read : Field Span) (x : ((ℕ × ℕ) × List Span) × List ℕ) → passed spans sum read ≡ Ok x → HasPassed spans from sum read x
+pub has_passed : (spans : List Span) (from sum : ℕ) (read : Field Span) (x : ((ℕ × ℕ) × List Span) × List ℕ) →
+    passed spans sum read ≡ Ok x → HasPassed spans from sum read x
 has_passed spans from sum read x e =
     let a = bind_ok read (λ s. Ok (((end_of s.0 + 1, sum + length s.0.words), spans ++ s.0 ∷ []), s.1)) x e in
-    let same : (((end_of a.0.0 + 1, sum + length a.0.0.words), spans ++ a.0.0 ∷ []), a.0.1) ≡ x = ok_is (((end_of a.0.0 + 1, sum + length a.0.0.words), spans ++ a.0.0 ∷ []), a.0.1) x a.2 in
+    let same : (((end_of a.0.0 + 1, sum + length a.0.0.words), spans ++ a.0.0 ∷ []), a.0.1) ≡ x =
+    ok_is (((end_of a.0.0 + 1, sum + length a.0.0.words), spans ++ a.0.0 ∷ []), a.0.1) x a.2 in
     record {
       s = a.0.0;
       is = a.1 ∙ ap (λ (y : ((ℕ × ℕ) × List Span) × List ℕ). Ok (a.0.0, y.1)) same;
@@ -167,16 +192,19 @@ passed_err : (spans : List Span) (sum : ℕ) (read : Field Span) (f : FileFault)
 passed_err spans sum (Ok s) f e = absurd (cc)
 passed_err spans sum (Err g) f e = cc
 
-module _ (size : ℕ) (front : List Span) (count i from sum : ℕ) (bytes : List ℕ) (total : Field (List Span)) (so_far : with_first front (spans_field size (count - i) from sum bytes) ≡ total) where
+module _ (size : ℕ) (front : List Span) (count i from sum : ℕ) (bytes : List ℕ) (total : Field (List Span))
+    (so_far : with_first front (spans_field size (count - i) from sum bytes) ≡ total) where
   pub spans_more : (x : ((ℕ × ℕ) × List Span) × List ℕ) → i < count → passed front sum (span_field size from sum bytes) ≡ Ok x →
       with_first x.0.1 (spans_field size (count - (i + 1)) x.0.0.0 x.0.0.1 x.1) ≡ total
   unfolding spans_field
   spans_more x lt e =
       let p = has_passed front from sum (span_field size from sum bytes) x e in
       let k : count - i ≡ suc (count - (i + 1)) = omega arith in
-      let one : with_first front (spans_field size (count - i) from sum bytes) ≡ with_first (front ++ p.s ∷ []) (spans_field size (count - (i + 1)) (end_of p.s + 1) (sum + length p.s.words) x.1) =
+      let one : with_first front (spans_field size (count - i) from sum bytes)
+      ≡ with_first (front ++ p.s ∷ []) (spans_field size (count - (i + 1)) (end_of p.s + 1) (sum + length p.s.words) x.1) =
       ap (λ (n : ℕ). with_first front (spans_field size n from sum bytes)) k
-      ∙ ap (λ (r : Field Span). with_first front (r >>= λ s. spans_field size (count - (i + 1)) (end_of s.0 + 1) (sum + length s.0.words) s.1 >>= λ others. Ok (s.0 ∷ others.0, others.1))) p.is
+      ∙ ap (λ (r : Field Span). with_first front (r >>= λ s.
+      spans_field size (count - (i + 1)) (end_of s.0 + 1) (sum + length s.0.words) s.1 >>= λ others. Ok (s.0 ∷ others.0, others.1))) p.is
       ∙ (regroup front p.s (spans_field size (count - (i + 1)) (end_of p.s + 1) (sum + length p.s.words) x.1)) in
       ap (λ (ss : List Span). with_first ss (spans_field size (count - (i + 1)) x.0.0.0 x.0.0.1 x.1)) p.all
       ∙ ap (λ (n : ℕ). with_first (front ++ p.s ∷ []) (spans_field size (count - (i + 1)) n x.0.0.1 x.1)) p.next
@@ -199,10 +227,12 @@ module _ (size : ℕ) (front : List Span) (count i from sum : ℕ) (bytes : List
   unfolding spans_field
   spans_done le =
       let k : count - i ≡ 0 = omega arith in
-      let one : with_first front (spans_field size (count - i) from sum bytes) ≡ Ok (front, bytes) = rw k (ap (λ (ss : List Span). Ok (ss, bytes)) (append-nil front)) in
+      let one : with_first front (spans_field size (count - i) from sum bytes) ≡ Ok (front, bytes) =
+      rw k (ap (λ (ss : List Span). Ok (ss, bytes)) (append-nil front)) in
       sym so_far ∙ one
 
-pub passed_is_ok : (spans : List Span) (sum : ℕ) (read : Field Span) (x : ((ℕ × ℕ) × List Span) × List ℕ) → passed spans sum read ≡ Ok x → IsOk read
+pub passed_is_ok : (spans : List Span) (sum : ℕ) (read : Field Span) (x : ((ℕ × ℕ) × List Span) × List ℕ) →
+    passed spans sum read ≡ Ok x → IsOk read
 passed_is_ok spans sum (Ok s) x e = refl
 passed_is_ok spans sum (Err f) x e = absurd (cc)
 
@@ -210,39 +240,51 @@ passed_is_ok spans sum (Err f) x e = absurd (cc)
 abbrev pub HasFirst : ℕ → List ℕ → ℕ → ℕ → List ℕ → Type 0
 HasFirst size bytes from sum rest = IsOk (span_field size 0 0 bytes) ⊎ ((from ≡ 0) × (sum ≡ 0) × (rest ≡ bytes))
 
-pub first_read : (size : ℕ) (bytes : List ℕ) (from sum : ℕ) (rest : List ℕ) → HasFirst size bytes from sum rest → IsOk (span_field size from sum rest) → IsOk (span_field size 0 0 bytes)
+pub first_read : (size : ℕ) (bytes : List ℕ) (from sum : ℕ) (rest : List ℕ) → HasFirst size bytes from sum rest →
+    IsOk (span_field size from sum rest) → IsOk (span_field size 0 0 bytes)
 first_read size bytes from sum rest (inl is) ok = is
 first_read size bytes from sum rest (inr at) ok = rw (at.0, at.1, at.2) at ok
 
 -- ---- the whole program
 
-first_of : (size count : ℕ) (bytes : List ℕ) (x : List Span × List ℕ) → 0 < count → spans_field size count 0 0 bytes ≡ Ok x → (s : Span × List ℕ) × (span_field size 0 0 bytes ≡ Ok s)
+first_of : (size count : ℕ) (bytes : List ℕ) (x : List Span × List ℕ) → 0 < count → spans_field size count 0 0 bytes ≡ Ok x →
+    (s : Span × List ℕ) × (span_field size 0 0 bytes ≡ Ok s)
 unfolding spans_field
 first_of size zero bytes x some e = absurd (omega arith)
 first_of size (suc count) bytes x some e =
-    let a = bind_ok (span_field size 0 0 bytes) (λ s. spans_field size count (end_of s.0 + 1) (0 + length s.0.words) s.1 >>= λ others. Ok (s.0 ∷ others.0, others.1)) x e in
+    let a =
+    bind_ok (span_field size 0 0 bytes)
+    (λ s. spans_field size count (end_of s.0 + 1) (0 + length s.0.words) s.1 >>= λ others. Ok (s.0 ∷ others.0, others.1)) x e in
     (a.0, a.1)
 
-first_words : (form : ProgramForm) (size : ℕ) (bytes : List ℕ) (x : RiscProgram × List ℕ) → placed_field form size bytes ≡ Ok x → IsOk (first_words_field form size bytes)
+first_words : (form : ProgramForm) (size : ℕ) (bytes : List ℕ) (x : RiscProgram × List ℕ) → placed_field form size bytes ≡ Ok x →
+    IsOk (first_words_field form size bytes)
 unfolding spanned_field span_number_field
 first_words (Based layout) size bytes x e = rw e refl
 first_words Spanned size bytes x e =
-    let a = bind_ok (span_number_field size bytes) (λ count. spans_field size count.0 0 0 count.1 >>= λ spans. entry_field size spans.0 spans.1 >>= λ entry. Ok (without_grants entry.0 spans.0, entry.1)) x e in
-    let b = bind_ok (spans_field size a.0.0 0 0 a.0.1) (λ spans. entry_field size spans.0 spans.1 >>= λ entry. Ok (without_grants entry.0 spans.0, entry.1)) x a.2 in
+    let a = bind_ok (span_number_field size bytes) (λ count. spans_field size count.0 0 0 count.1 >>= λ spans.
+    entry_field size spans.0 spans.1 >>= λ entry. Ok (without_grants entry.0 spans.0, entry.1)) x e in
+    let b =
+    bind_ok (spans_field size a.0.0 0 0 a.0.1)
+    (λ spans. entry_field size spans.0 spans.1 >>= λ entry. Ok (without_grants entry.0 spans.0, entry.1)) x a.2 in
     let some = span_number_right a.0.0 (judged_number span_number_fault size bytes a.0 a.1).1 in
     let first = first_of size a.0.0 a.0.1 b.0 some.0 b.1 in
     rw (a.1, first.1) refl
 
-pub has_words : (size : ℕ) (form : ProgramForm) (bytes behind : List ℕ) (x : RiscProgram × List ℕ) → size ≡ length bytes → form_field (length bytes) bytes ≡ Ok (form, behind) →
+pub has_words : (size : ℕ) (form : ProgramForm) (bytes behind : List ℕ) (x : RiscProgram × List ℕ) → size ≡ length bytes →
+    form_field (length bytes) bytes ≡ Ok (form, behind) →
     placed_field form size behind ≡ Ok x → HasWords bytes
 unfolding words_read
 has_words size form bytes behind x same e f =
     let f' : placed_field form (length bytes) behind ≡ Ok x = rw same at f in
     rw e (first_words form (length bytes) behind x f')
 
-pub program_made : (form : ProgramForm) (start count fill one two three four : ℕ) (spans : List Span) (chunks grants : List Chunk) (bytes a b c d : List ℕ) → IsBytes bytes →
-    one ≡ length bytes → two ≡ one → three ≡ two → four ≡ three → form_field (length bytes) bytes ≡ Ok (form, a) → placed_field form one a ≡ Ok (without_grants start spans, b) →
-    chunk_count_field two b ≡ Ok (count, c) → chunks_field (layout_of form) three (without_grants start spans) count 0 0 c ≡ Ok (chunks, d) → Ok fill ≡ fill_field form four chunks d → grants ≡ chunks →
+pub program_made : (form : ProgramForm) (start count fill one two three four : ℕ) (spans : List Span) (chunks grants : List Chunk)
+    (bytes a b c d : List ℕ) → IsBytes bytes →
+    one ≡ length bytes → two ≡ one → three ≡ two → four ≡ three → form_field (length bytes) bytes ≡ Ok (form, a) →
+    placed_field form one a ≡ Ok (without_grants start spans, b) →
+    chunk_count_field two b ≡ Ok (count, c) → chunks_field (layout_of form) three (without_grants start spans) count 0 0 c
+    ≡ Ok (chunks, d) → Ok fill ≡ fill_field form four chunks d → grants ≡ chunks →
     IsProgram (with_grants (without_grants start spans) grants)
 unfolding program_in
 program_made form start count fill one two three four spans chunks grants bytes a b c d fits is_one is_two is_three is_four e f g h i same =
@@ -252,7 +294,8 @@ program_made form start count fill one two three four spans chunks grants bytes 
     let g' : chunk_count_field size b ≡ Ok (count, c) = subst (λ (n : ℕ). chunk_count_field n b ≡ Ok (count, c)) (is_two ∙ is_one) g in
     let h' : chunks_field (layout_of form) size placed count 0 0 c ≡ Ok (chunks, d) =
     subst (λ (n : ℕ). chunks_field (layout_of form) n placed count 0 0 c ≡ Ok (chunks, d)) (is_three ∙ is_two ∙ is_one) h in
-    let i' : fill_field form size chunks d ≡ Ok fill = subst (λ (n : ℕ). fill_field form n chunks d ≡ Ok fill) (is_four ∙ is_three ∙ is_two ∙ is_one) (sym i) in
+    let i' : fill_field form size chunks d ≡ Ok fill =
+    subst (λ (n : ℕ). fill_field form n chunks d ≡ Ok fill) (is_four ∙ is_three ∙ is_two ∙ is_one) (sym i) in
     let file : ProgramFile = record { program = with_grants placed chunks; fill = fill } in
     let read : program_of bytes ≡ Ok file = rw (e, f', g', h', i') refl in
     let made = file_read bytes file fits read in

@@ -57,8 +57,10 @@ pub record IsBetween (r : Reader) (piece : List ℕ) : Type 0 where
   pub within : r.place + length piece ≤ r.limit
 
 -- so many pairs were taken off the front of a piece
-pub record TakesPairs (queue : Queue) (count sum : ℕ) (dwords : List ℕ) (r : Reader) (piece : List ℕ) (after : Reader) (pairs : List (ℕ × ℕ)) : Type 0 where
+pub record TakesPairs (queue : Queue) (count sum : ℕ) (dwords : List ℕ) (r : Reader) (piece : List ℕ) (after : Reader)
+    (pairs : List (ℕ × ℕ)) : Type 0 where
   pub copied : AreCopied queue r.turns count sum piece dwords pairs
-  pub whole : (more : List ℕ) → resumed r (piece ++ more) ≡ behind (pair_steps queue pairs) (resumed after (drop (11 * count) piece ++ more))
+  pub whole : (more : List ℕ) →
+      resumed r (piece ++ more) ≡ behind (pair_steps queue pairs) (resumed after (drop (11 * count) piece ++ more))
   pub within : 11 * count ≤ length piece
   pub exact : after ≡ record r { place = r.place + 11 * count; turns = r.turns + sum }

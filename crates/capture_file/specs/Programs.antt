@@ -1,9 +1,11 @@
 -- What the bytes of a program file stand for, and the canonical encoding of a program.
-use Rattle.std.specs.Prelude.{◌≡◌, ℕ, zero, suc, ◌+◌, ◌-◌, ◌*◌, ◌%◌, ◌^◌, ◌<◌, Bool, not, ◌&&◌, List, [], ◌∷◌, ◌++◌, length, drop, Option, Some, None, Result, Ok, Err, IsOk, if◌then◌else◌, ◌==◌, nat_lt, nat_le, codes}
+use Rattle.std.specs.Prelude.{◌≡◌, ℕ, zero, suc, ◌+◌, ◌-◌, ◌*◌, ◌%◌, ◌^◌, ◌<◌, Bool, not, ◌&&◌, List, [], ◌∷◌, ◌++◌, length, drop, Option}
+use Rattle.std.specs.Prelude.{Some, None, Result, Ok, Err, IsOk, if◌then◌else◌, ◌==◌, nat_lt, nat_le, codes}
 use Rattle.std.specs.List.{flat_map, list_all}
 use Rattle.byteorder.specs.Endian.{little_number, little_bytes}
 use Rattle.page_table.specs.Grants.{Chunk, chunk, is_page, max_bytes, max_chunks, page_size}
-use Rattle.machine_model.specs.Paths.{RiscProgram, Span, IsProgram, all_words, begins_at, end_of, is_there, max_spans, max_words, one_span, shares_byte, span, word_among}
+use Rattle.machine_model.specs.Paths.{RiscProgram, Span, IsProgram, all_words, begins_at, end_of, is_there, max_spans, max_words, one_span}
+use Rattle.machine_model.specs.Paths.{shares_byte, span, word_among}
 use Rattle.capture_file.specs.declared.FileKind.{FileKind}
 use Rattle.capture_file.specs.declared.FileKind.TheVariants as fault
 use Rattle.capture_file.specs.declared.FileFault.{FileFault}

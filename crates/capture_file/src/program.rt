@@ -1,17 +1,24 @@
 //! Program files.
 
-ghost use Rattle.capture_file.specs.Programs.{Gives, HasWords, Reads, address_fault, based_field, base_field, base_fault, chunk_count_fault, chunk_count_field};
-ghost use Rattle.capture_file.specs.Programs.{chunk_field, chunks_field, cut, entry_fault, entry_field, fill_fault, fill_field, first_words_field, form_field, is_length, judged, layout_of, length_fault};
-ghost use Rattle.capture_file.specs.Programs.{long_chunk_field, number_field, page_fault, page_field, passed, placed_field, program_of, span_address_fault, span_address_field, span_field, span_length_fault};
-ghost use Rattle.capture_file.specs.Programs.{span_length_field, span_number_fault, span_number_field, spanned_field, spans_field, with_grants, with_span, with_words, without_grants, word_count_fault, word_count_field, words_field, words_in, wrong};
+ghost use Rattle.capture_file.specs.Programs.{Gives, HasWords, Reads, address_fault, based_field, base_field, base_fault};
+ghost use Rattle.capture_file.specs.Programs.{chunk_count_fault, chunk_count_field};
+ghost use Rattle.capture_file.specs.Programs.{chunk_field, chunks_field, cut, entry_fault, entry_field, fill_fault, fill_field};
+ghost use Rattle.capture_file.specs.Programs.{first_words_field, form_field, is_length, judged, layout_of, length_fault};
+ghost use Rattle.capture_file.specs.Programs.{long_chunk_field, number_field, page_fault, page_field, passed, placed_field, program_of};
+ghost use Rattle.capture_file.specs.Programs.{span_address_fault, span_address_field, span_field, span_length_fault};
+ghost use Rattle.capture_file.specs.Programs.{span_length_field, span_number_fault, span_number_field, spanned_field, spans_field};
+ghost use Rattle.capture_file.specs.Programs.{with_grants, with_span, with_words, without_grants, word_count_fault, word_count_field};
+ghost use Rattle.capture_file.specs.Programs.{words_field, words_in, wrong};
 ghost use Rattle.std.specs.List.{All, list_all};
 ghost use Rattle.byteorder.specs.Endian.{little_number};
 ghost use Rattle.page_table.specs.Grants.{AreRising, chunk, is_page, total, max_bytes, max_chunks};
 ghost use Rattle.capture_file.specs.declared.program.ProgramError.TheVariants.{File, Memory};
 ghost use Rattle.capture_file.specs.declared.program.ProgramForm.TheVariants.{Spanned};
 ghost use Rattle.page_table.specs.Taken.{listed, pair_chunk};
-ghost use Rattle.machine_model.specs.Paths.{IsProgram, Span, end_of, is_there, max_spans, max_words, shares_byte, span, spans_of, word_among};
-ghost use Rattle.std.specs.Prelude.{false, nat_le, nat_lt, ◌&&◌, ◌==◌, ◌/◌, ◌%◌, ◌≡◌, ◌+◌, ◌-◌, ◌*◌, ◌^◌, ◌≤◌, ◌<◌, ◌∷◌, ◌++◌, List, ℕ, [], drop, length, slice_index_or, IfOk, IfErr, IsOk, Ok, OnOk};
+ghost use Rattle.machine_model.specs.Paths.{IsProgram, Span, end_of, is_there, max_spans, max_words, shares_byte, span, spans_of};
+ghost use Rattle.machine_model.specs.Paths.{word_among};
+ghost use Rattle.std.specs.Prelude.{false, nat_le, nat_lt, ◌&&◌, ◌==◌, ◌/◌, ◌%◌, ◌≡◌, ◌+◌, ◌-◌, ◌*◌, ◌^◌, ◌≤◌, ◌<◌, ◌∷◌, ◌++◌, List, ℕ, []};
+ghost use Rattle.std.specs.Prelude.{drop, length, slice_index_or, IfOk, IfErr, IsOk, Ok, OnOk};
 
 use super::records::number;
 use super::{FileFault, FileKind};
@@ -511,7 +518,8 @@ impl<'a> Rest<'a> {
     #[tactic(auto, unfolding(crate::specs::Programs::based_field))]
     fn based(self, alloc: Global) -> Result<(Placed, Rest<'a>), ProgramError>
         requires { length self.bytes.now ≤ self.size }
-        ensures value { Gives (λ x. (without_grants x.0.start x.0.spans, x.1.bytes.now)) result (based_field self.entry.size self.entry.bytes.now) }
+        ensures value { Gives (λ x. (without_grants x.0.start x.0.spans, x.1.bytes.now)) result
+            (based_field self.entry.size self.entry.bytes.now) }
         ensures rest { IfOk result (λ x. (x.1.size ≡ self.entry.size) × (length x.1.bytes.now ≤ length self.entry.bytes.now)) }
         ensures memory { IfErr result (λ e. e ≡ Memory → IsOk (based_field self.entry.size self.entry.bytes.now)) }
     {
@@ -560,7 +568,8 @@ impl<'a> Rest<'a> {
     // Appends the words at the front as a span of their own.
     #[tactic(auto, unfolding(crate::specs::Programs::words_field))]
     fn span_words(self, spans: &mut Spans, at: u32, count: u32) -> Result<Rest<'a>, ProgramError>
-        ensures value { Gives (λ x. (spans.new, x.bytes.now)) result (with_span spans.old at (words_field self.entry.size count self.entry.bytes.now)) }
+        ensures value { Gives (λ x. (spans.new, x.bytes.now)) result
+            (with_span spans.old at (words_field self.entry.size count self.entry.bytes.now)) }
         ensures rest { IfOk result (λ x. (x.size ≡ self.entry.size) × (length x.bytes.now ≤ length self.entry.bytes.now)) }
         ensures memory { IfErr result (λ e. e ≡ Memory → IsOk (words_field self.entry.size count self.entry.bytes.now)) }
     {
@@ -607,7 +616,8 @@ impl<'a> Rest<'a> {
     #[tactic(auto, unfolding(crate::specs::Programs::spanned_field))]
     fn spanned(self, alloc: Global) -> Result<(Placed, Rest<'a>), ProgramError>
         requires { length self.bytes.now ≤ self.size }
-        ensures value { Gives (λ x. (without_grants x.0.start x.0.spans, x.1.bytes.now)) result (spanned_field self.entry.size self.entry.bytes.now) }
+        ensures value { Gives (λ x. (without_grants x.0.start x.0.spans, x.1.bytes.now)) result
+            (spanned_field self.entry.size self.entry.bytes.now) }
         ensures rest { IfOk result (λ x. (x.1.size ≡ self.entry.size) × (length x.1.bytes.now ≤ length self.entry.bytes.now)) }
         ensures memory { IfErr result (λ e. e ≡ Memory → IsOk (first_words_field Spanned self.entry.size self.entry.bytes.now)) }
     {
@@ -619,7 +629,8 @@ impl<'a> Rest<'a> {
 
     fn placed(self, alloc: Global, form: ProgramForm) -> Result<(Placed, Rest<'a>), ProgramError>
         requires { length self.bytes.now ≤ self.size }
-        ensures value { Gives (λ x. (without_grants x.0.start x.0.spans, x.1.bytes.now)) result (placed_field form self.entry.size self.entry.bytes.now) }
+        ensures value { Gives (λ x. (without_grants x.0.start x.0.spans, x.1.bytes.now)) result
+            (placed_field form self.entry.size self.entry.bytes.now) }
         ensures rest { IfOk result (λ x. (x.1.size ≡ self.entry.size) × (length x.1.bytes.now ≤ length self.entry.bytes.now)) }
         ensures memory { IfErr result (λ e. e ≡ Memory → IsOk (first_words_field form self.entry.size self.entry.bytes.now)) }
     {
@@ -644,7 +655,8 @@ impl<'a> Rest<'a> {
     #[tactic(auto, unfolding(crate::specs::Programs::page_field))]
     fn page(self, program: &Placed, from: u64) -> Result<((u32, u32), Rest<'a>), FileFault>
         requires inside { length self.bytes.now ≤ self.size }
-        ensures value { Reads (λ x. (pair_chunk x.0, x.1.bytes.now)) result (page_field self.entry.size (without_grants program.now.start program.now.spans) from self.entry.bytes.now) }
+        ensures value { Reads (λ x. (pair_chunk x.0, x.1.bytes.now)) result
+            (page_field self.entry.size (without_grants program.now.start program.now.spans) from self.entry.bytes.now) }
         ensures rest { IfOk result (λ x. (x.1.size ≡ self.entry.size) × (length x.1.bytes.now ≤ length self.entry.bytes.now)) }
         ensures wide { IfOk result (λ x. x.0.1 < 2 ^ 32) }
     {
@@ -661,7 +673,8 @@ impl<'a> Rest<'a> {
     ) -> Result<((u32, u32), Rest<'a>), FileFault>
         requires inside { length self.bytes.now ≤ self.size }
         requires small { before.bytes < 2 ^ 62 }
-        ensures value { Reads (λ x. (pair_chunk x.0, x.1.bytes.now)) result (long_chunk_field self.entry.size (without_grants program.now.start program.now.spans) before.end before.bytes self.entry.bytes.now) }
+        ensures value { Reads (λ x. (pair_chunk x.0, x.1.bytes.now)) result (long_chunk_field self.entry.size
+            (without_grants program.now.start program.now.spans) before.end before.bytes self.entry.bytes.now) }
         ensures rest { IfOk result (λ x. (x.1.size ≡ self.entry.size) × (length x.1.bytes.now ≤ length self.entry.bytes.now)) }
         ensures wide { IfOk result (λ x. x.0.1 < 2 ^ 32) }
     {
@@ -680,7 +693,8 @@ impl<'a> Rest<'a> {
     ) -> Result<((u32, u32), Rest<'a>), FileFault>
         requires inside { length self.bytes.now ≤ self.size }
         requires small { before.bytes < 2 ^ 62 }
-        ensures value { Reads (λ x. (pair_chunk x.0, x.1.bytes.now)) result (chunk_field layout self.entry.size (without_grants program.now.start program.now.spans) before.end before.bytes self.entry.bytes.now) }
+        ensures value { Reads (λ x. (pair_chunk x.0, x.1.bytes.now)) result (chunk_field layout self.entry.size
+            (without_grants program.now.start program.now.spans) before.end before.bytes self.entry.bytes.now) }
         ensures rest { IfOk result (λ x. (x.1.size ≡ self.entry.size) × (length x.1.bytes.now ≤ length self.entry.bytes.now)) }
         ensures wide { IfOk result (λ x. x.0.1 < 2 ^ 32) }
     {
@@ -743,7 +757,8 @@ fn read_chunks<'a>(
 ) -> Result<(Vec<(u32, u32)>, Rest<'a>), ProgramError>
     requires inside { length bytes.now ≤ size }
     requires count { count ≤ max_chunks }
-    ensures value { Gives (λ x. (listed x.0.items, x.1.bytes.now)) result (chunks_field layout size (without_grants program.now.start program.now.spans) count 0 0 bytes.now) }
+    ensures value { Gives (λ x. (listed x.0.items, x.1.bytes.now)) result
+        (chunks_field layout size (without_grants program.now.start program.now.spans) count 0 0 bytes.now) }
     ensures rest { IfOk result (λ x. (x.1.size ≡ size) × (length x.1.bytes.now ≤ length bytes.now)) }
     ensures rising { IfOk result (λ x. AreRising 0 (listed x.0.items)) }
     ensures small { IfOk result (λ x. total (listed x.0.items) ≤ max_bytes) }

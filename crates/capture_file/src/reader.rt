@@ -1,13 +1,15 @@
 //! A reader of streams that come in pieces.
 
-ghost use Rattle.capture_file.specs.Readers.{AnswerFits, Closed, Failed, Opening, Records, Counts, IsReader, PlacedAt, Stays, Uses, after_answer, behind_word, closed_by, closed_taken, ending_in};
+ghost use Rattle.capture_file.specs.Readers.{AnswerFits, Closed, Failed, Opening, Records, Counts, IsReader, PlacedAt, Stays, Uses};
+ghost use Rattle.capture_file.specs.Readers.{after_answer, behind_word, closed_by, closed_taken, ending_in};
 ghost use Rattle.capture_file.specs.Readers.{fresh, record_taken, resumed, room, taken, taking, word_taken, Takes, front_record};
 ghost use Rattle.capture_file.specs.Pairs.{AreAll, IsBetween, TakesPairs};
 ghost use Rattle.capture_file.specs.Records.{FoundFits, HasFour, Passes, Spans, StepFits, Sums, push_in, turns_in};
 ghost use Rattle.capture_file.specs.declared.FileFault.{FileFault};
 ghost use Rattle.capture_file.specs.declared.records.Found.TheVariants.{Cut};
 ghost use Rattle.capture_file.specs.Streams.{Bad, fault_at, most_turns, number_at, reading, record_at, stream_of, turns_of};
-ghost use Rattle.std.specs.Prelude.{◌≡◌, ◌≤◌, ◌<◌, ◌+◌, ◌-◌, ◌*◌, ◌^◌, ◌++◌, List, ℕ, [], None, IfSome, IfNone, take, drop, length, true, false};
+ghost use Rattle.std.specs.Prelude.{◌≡◌, ◌≤◌, ◌<◌, ◌+◌, ◌-◌, ◌*◌, ◌^◌, ◌++◌, List, ℕ, [], None, IfSome, IfNone, take, drop, length, true};
+ghost use Rattle.std.specs.Prelude.{false};
 
 use super::pairs::copy_pairs;
 use super::records::{Form, Found, MOST_TURNS, find, find_push, find_turns, form_named, number};

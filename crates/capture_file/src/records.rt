@@ -1,7 +1,9 @@
 //! The records of a stream.
 
 ghost use Rattle.capture_file.specs.Records.{StepFits, push_in, turns_in};
-ghost use Rattle.capture_file.specs.Streams.{ack_with, buffer_if, control_at, data_with, enable_at, fields_at, form_of, is_buffer, is_data, kind_of_tag, most_turns, number_at, patch_at, push_at, record_at, slot_if, trigger_at, turns_with};
+ghost use Rattle.capture_file.specs.Streams.{ack_with, buffer_if, control_at, data_with, enable_at, fields_at, form_of, is_buffer, is_data};
+ghost use Rattle.capture_file.specs.Streams.{kind_of_tag, most_turns, number_at, patch_at, push_at, record_at, slot_if, trigger_at};
+ghost use Rattle.capture_file.specs.Streams.{turns_with};
 ghost use Rattle.capture_file.specs.declared.records.Form.{Form};
 ghost use Rattle.capture_file.specs.declared.records.Found.TheVariants.{Whole};
 ghost use Rattle.std.specs.Prelude.{◌≡◌, ◌≤◌, ◌+◌, ℕ, IfNone, IfSome, None, length};

@@ -4,7 +4,8 @@ ghost use Rattle.capture_file.specs.declared.program.ProgramForm.TheVariants.{Ba
 ghost use Rattle.machine_model.specs.Paths.{max_spans, max_words, span, words_of};
 ghost use Rattle.byteorder.specs.Endian.{little_bytes};
 ghost use Rattle.capture_desk.specs.Desks.{Puts, WriteCounts, after_write};
-ghost use Rattle.capture_file.specs.Programs.{chunk_in, chunk_numbers, form_for, grants_spelled, layout_for, name_of, numbers_spelled, placed_spelled, span_spelled, spanned_spelled, spelled, spelled_as};
+ghost use Rattle.capture_file.specs.Programs.{chunk_in, chunk_numbers, form_for, grants_spelled, layout_for, name_of, numbers_spelled};
+ghost use Rattle.capture_file.specs.Programs.{placed_spelled, span_spelled, spanned_spelled, spelled, spelled_as};
 ghost use Rattle.page_table.specs.Grants.{chunk_at, is_page, max_chunks};
 ghost use Rattle.std.specs.List.{flat_map, list_all};
 ghost use Rattle.std.specs.Prelude.{◌≡◌, ◌+◌, ◌*◌, ◌≤◌, ◌++◌, List, ℕ, [], drop, length, map, take, IsTrue};

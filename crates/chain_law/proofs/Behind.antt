@@ -27,29 +27,36 @@ module _ (chain : Chain) (part : Option ℕ) where
   own m program e = ap (λ (p : RiscProgram). with_program p m) (sym e)
 
   -- behind the slots the words are the same
-  alike : (patching : Patching) (m : State) → length patching ≡ chain.slots → is_at_slot chain m ≡ false → IsReadAlike (with_program member m) (patched chain patching)
+  alike : (patching : Patching) (m : State) → length patching ≡ chain.slots → is_at_slot chain m ≡ false →
+      IsReadAlike (with_program member m) (patched chain patching)
   alike patching m long behind on idle =
-      let low : nat_lt m.pc (slot_at chain chain.slots) ≡ false = sym (ap (λ job. is_idle job && nat_lt m.pc (slot_at chain chain.slots)) idle) ∙ behind in
+      let low : nat_lt m.pc (slot_at chain chain.slots) ≡ false =
+      sym (ap (λ job. is_idle job && nat_lt m.pc (slot_at chain chain.slots)) idle) ∙ behind in
       behind_alike chain (alone_in chain part) patching (length-alone chain part) long m.pc (ltb-false m.pc (slot_at chain chain.slots) low)
 
-  turn_same : (patching : Patching) (m : State) → m.program ≡ patched chain patching → length patching ≡ chain.slots → is_at_slot chain m ≡ false →
+  turn_same : (patching : Patching) (m : State) → m.program ≡ patched chain patching → length patching ≡ chain.slots →
+      is_at_slot chain m ≡ false →
       with_program member (turn m) ≡ turn (with_program member m)
   turn_same patching m is long behind =
       let there = with_program member m in
-      ap (with_program member) (ap turn (sym (own m (patched chain patching) is)) ∙ turn-with_program there (patched chain patching) (alike patching m long behind))
+      ap (with_program member)
+      (ap turn (sym (own m (patched chain patching) is)) ∙ turn-with_program there (patched chain patching) (alike patching m long behind))
       ∙ own (turn there) member (program-step Turn there)
 
-  other_same : (s : Step) (patching : Patching) (m : State) → ((s ≡ Turn) → ⊥) → m.program ≡ patched chain patching → with_program member (step s m) ≡ step s (with_program member m)
+  other_same : (s : Step) (patching : Patching) (m : State) → ((s ≡ Turn) → ⊥) → m.program ≡ patched chain patching →
+      with_program member (step s m) ≡ step s (with_program member m)
   other_same s patching m other is = sym (step-with member s m other (ap (λ (p : RiscProgram). p.base) is))
 
-  step_same : (s : Step) (patching : Patching) (m : State) → m.program ≡ patched chain patching → length patching ≡ chain.slots → is_at_slot chain m ≡ false →
+  step_same : (s : Step) (patching : Patching) (m : State) → m.program ≡ patched chain patching → length patching ≡ chain.slots →
+      is_at_slot chain m ≡ false →
       with_program member (step s m) ≡ step s (with_program member m)
   step_same Turn patching m is long behind = turn_same patching m is long behind
   step_same (Push q entry) patching m is long behind = other_same (Push q entry) patching m (λ e. cc) is
   step_same (Control code) patching m is long behind = other_same (Control code) patching m (λ e. cc) is
   step_same (Host write) patching m is long behind = other_same (Host write) patching m (λ e. cc) is
 
-  run_same : (live : Live) (steps : List LiveStep) → live.machine.program ≡ patched chain live.patching → length live.patching ≡ chain.slots → AreBehind chain live steps →
+  run_same : (live : Live) (steps : List LiveStep) → live.machine.program ≡ patched chain live.patching →
+      length live.patching ≡ chain.slots → AreBehind chain live steps →
       with_program member (live_run chain live steps).machine ≡ run (with_program member live.machine) (machine_steps steps)
   run_same live [] is long behind = refl
   run_same live (Plain s ∷ steps) is long behind =

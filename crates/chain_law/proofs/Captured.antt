@@ -32,9 +32,11 @@ met_both chain fill steps j i l from to =
     let live = live_of chain fill steps j in
     ap (mets chain live.patching) (range_split j i l steps from to)
     ∙ mets-append chain live (between j i steps) (between i l steps)
-    ∙ ap (λ (now : Live). met_from chain fill steps j i ++ mets chain now.patching (between i l steps)) (live_between chain (first_live chain fill) steps j i from)
+    ∙ ap (λ (now : Live). met_from chain fill steps j i ++ mets chain now.patching (between i l steps))
+    (live_between chain (first_live chain fill) steps j i from)
 
-module _ (chain : Chain) (fill : ℕ) (steps : List LiveStep) (is : IsChain chain) (sound : IsSoundChain chain) (made : All (IsLiveStep chain) steps) where
+module _ (chain : Chain) (fill : ℕ) (steps : List LiveStep) (is : IsChain chain) (sound : IsSoundChain chain)
+    (made : All (IsLiveStep chain) steps) where
   kept : (i : ℕ) → IsLive chain (live_of chain fill steps i)
   kept i = IsLive-at chain is sound fill steps i made
 
@@ -73,7 +75,8 @@ module _ (chain : Chain) (part : ℕ) (d : Desc) (field : Parity) (picture : Pic
   places l arrives =
       subst (HasPlaces d field) (sym kept_here.safe.chunks)
       (grants_places d field begin target picture arrives.brought.skipped (alone chain None) pictured arrives.brought.lines
-      (patched_holds chain part c.is_part d c.fragment c.is_chain c.sound (alone_in chain None) (length-alone chain None) field c.described))
+      (patched_holds chain part c.is_part d c.fragment c.is_chain c.sound (alone_in chain None)
+      (length-alone chain None) field c.described))
 
   pub orderly : IsOrderly live.machine
   orderly = IsOrderly-with_program live.machine.program (with_program (alone chain kept_here.part) live.machine) kept_here.safe.orderly

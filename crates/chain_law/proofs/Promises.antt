@@ -11,8 +11,10 @@ use Rattle.chain_law.specs.Runs.{ArrivesUpTo, IsPartPicture, LiveRunsKeepPromise
 use Rattle.chain_law.proofs.InTime.{live_signals_in_time}
 use Rattle.chain_law.proofs.Shown.{live_shows_no_fault, live_shows_picture, live_tells_field}
 
-module _ (chain : Chain) (fill : ℕ) (steps : List LiveStep) (is : IsChain chain) (sound : IsSoundChain chain) (made : All (IsLiveStep chain) steps) where
-  capture : (part : ℕ) (d : Desc) (field : Parity) (picture : Picture) → IsPartPicture chain part d field picture → IsLiveCapture chain part d field picture steps
+module _ (chain : Chain) (fill : ℕ) (steps : List LiveStep) (is : IsChain chain) (sound : IsSoundChain chain)
+    (made : All (IsLiveStep chain) steps) where
+  capture : (part : ℕ) (d : Desc) (field : Parity) (picture : Picture) → IsPartPicture chain part d field picture →
+      IsLiveCapture chain part d field picture steps
   capture part d field picture of =
       record {
         is_chain = is;
@@ -36,7 +38,9 @@ module _ (chain : Chain) (fill : ℕ) (steps : List LiveStep) (is : IsChain chai
 pub live_runs_keep_promises : LiveRunsKeepPromises
 live_runs_keep_promises chain fill steps is sound made =
     record {
-      inside = λ place. LiveInside-IsLive chain is sound (live_at chain (first_live chain fill) steps place) (IsLive-at chain is sound fill steps place made);
+      inside =
+          λ place. LiveInside-IsLive chain is sound (live_at chain (first_live chain fill) steps place)
+          (IsLive-at chain is sound fill steps place made);
       shown =
           λ part d field picture j k of arrival.
           let s = signalled chain fill steps is sound made part d field picture j k of arrival in
@@ -46,7 +50,8 @@ live_runs_keep_promises chain fill steps is sound made =
           };
       quiet =
           λ part d field picture j k i of arrival.
-          live_shows_no_fault chain part d field picture fill steps j k i (signalled chain fill steps is sound made part d field picture j k of arrival);
+          live_shows_no_fault chain part d field picture fill steps j k i
+          (signalled chain fill steps is sound made part d field picture j k of arrival);
       in_time =
           λ part d field picture j i l of.
           live_signals_in_time chain part d field picture fill steps j i l (capture chain fill steps is sound made part d field picture of);

@@ -59,9 +59,11 @@ module _ (chain : Chain) (part : ℕ) (d : Desc) (field : Parity) (picture : Pic
       let within = s.signal.there in
       cut i (k + 1) from (omega arith)
       ∙ ap (λ (rest : List LiveStep). before i ++ mets chain (live i).patching rest)
-      (range_first i (k + 1) steps (Plain Turn) (omega arith) (omega arith) ∙ ap (λ (st : LiveStep). st ∷ between (i + 1) (k + 1) steps) is_turn)
+      (range_first i (k + 1) steps (Plain Turn) (omega arith) (omega arith)
+      ∙ ap (λ (st : LiveStep). st ∷ between (i + 1) (k + 1) steps) is_turn)
 
-  captured : (i : ℕ) → j ≤ i → i ≤ k → step_at steps i ≡ Plain Turn → Captures d field begin target picture (live j).machine (before i ++ turn_at i ∷ later_from i)
+  captured : (i : ℕ) → j ≤ i → i ≤ k → step_at steps i ≡ Plain Turn →
+      Captures d field begin target picture (live j).machine (before i ++ turn_at i ∷ later_from i)
   captured i from to is_turn = subst (Captures d field begin target picture (live j).machine) (split i from to is_turn) captures
 
   silent_to : (i : ℕ) → j ≤ i → i ≤ k → has_signal there (live j).machine (before i) ≡ false
@@ -71,7 +73,8 @@ module _ (chain : Chain) (part : ℕ) (d : Desc) (field : Parity) (picture : Pic
 
   reached : (i : ℕ) → j ≤ i → (live i).machine ≡ with_program (program_at i) (run_in (live j).machine (before i))
   reached i from =
-      subst (λ (l : Live). l.machine ≡ with_program (patched chain l.patching) (run_in (live j).machine (before i))) (live_between chain (first_live chain fill) steps j i from)
+      subst (λ (l : Live). l.machine ≡ with_program (patched chain l.patching) (run_in (live j).machine (before i)))
+      (live_between chain (first_live chain fill) steps j i from)
       (live_run-mets chain (live j) (between j i steps) (live j).machine
       (own (live j).machine (program_at j) (live_program chain fill steps s.capture.is_chain s.capture.sound s.capture.made j)))
 
@@ -82,14 +85,18 @@ module _ (chain : Chain) (part : ℕ) (d : Desc) (field : Parity) (picture : Pic
   ended =
       let next : live (k + 1) ≡ live_step chain (Plain Turn) (live k) =
       live_next chain (first_live chain fill) steps k s.signal.there ∙ ap (λ (st : LiveStep). live_step chain st (live k)) s.signal.turn in
-      run_in-append (live j).machine (before k) (turn_at k ∷ []) ∙ ap turn (sym (reached k s.signal.later)) ∙ sym (ap (λ (l : Live). l.machine) next)
+      run_in-append (live j).machine (before k) (turn_at k ∷ []) ∙ ap turn (sym (reached k s.signal.later))
+      ∙ sym (ap (λ (l : Live). l.machine) next)
 
 pub live_shows_picture : LiveShowsPicture
 live_shows_picture chain part d field picture fill steps j k s =
     let later = s.signal.later in
-    subst (λ (m : State). After d field picture (live_of chain fill steps j).machine.memory m.memory) (ended chain part d field picture fill steps j k s)
-    (shows_picture d field (section_begin d (head chain part) field) (section_next d (head chain part) (next chain (part_of chain part).slot) field) picture
-    (live_of chain fill steps j).machine (before chain part d field picture fill steps j k s k) (later_from chain part d field picture fill steps j k s k)
+    subst (λ (m : State). After d field picture (live_of chain fill steps j).machine.memory m.memory)
+    (ended chain part d field picture fill steps j k s)
+    (shows_picture d field (section_begin d (head chain part) field)
+    (section_next d (head chain part) (next chain (part_of chain part).slot) field) picture
+    (live_of chain fill steps j).machine (before chain part d field picture fill steps j k s k)
+    (later_from chain part d field picture fill steps j k s k)
     (program_at chain part d field picture fill steps j k s k)
     (captured chain part d field picture fill steps j k s k later (omega arith) s.signal.turn)
     (silent_to chain part d field picture fill steps j k s k later (omega arith)) (signals chain part d field picture fill steps j k s))
@@ -98,8 +105,10 @@ pub live_tells_field : LiveTellsField
 live_tells_field chain part d field picture fill steps j k s =
     let later = s.signal.later in
     subst (TellsField field) (ended chain part d field picture fill steps j k s)
-    (signals_field d field (section_begin d (head chain part) field) (section_next d (head chain part) (next chain (part_of chain part).slot) field) picture
-    (live_of chain fill steps j).machine (before chain part d field picture fill steps j k s k) (later_from chain part d field picture fill steps j k s k)
+    (signals_field d field (section_begin d (head chain part) field)
+    (section_next d (head chain part) (next chain (part_of chain part).slot) field) picture
+    (live_of chain fill steps j).machine (before chain part d field picture fill steps j k s k)
+    (later_from chain part d field picture fill steps j k s k)
     (program_at chain part d field picture fill steps j k s k)
     (captured chain part d field picture fill steps j k s k later (omega arith) s.signal.turn)
     (silent_to chain part d field picture fill steps j k s k later (omega arith)) (signals chain part d field picture fill steps j k s))
@@ -107,7 +116,10 @@ live_tells_field chain part d field picture fill steps j k s =
 pub live_shows_no_fault : LiveShowsNoFault
 live_shows_no_fault chain part d field picture fill steps j k i s from to is_turn =
     ap sets_fdsr (reached chain part d field picture fill steps j k s i from)
-    ∙ shows_no_fault d field (section_begin d (head chain part) field) (section_next d (head chain part) (next chain (part_of chain part).slot) field) picture
-    (live_of chain fill steps j).machine (before chain part d field picture fill steps j k s i) (later_from chain part d field picture fill steps j k s i)
+    ∙ shows_no_fault d field (section_begin d (head chain part) field)
+    (section_next d (head chain part) (next chain (part_of chain part).slot) field) picture
+    (live_of chain fill steps j).machine (before chain part d field picture fill steps j k s i)
+    (later_from chain part d field picture fill steps j k s i)
     (program_at chain part d field picture fill steps j k s i)
-    (captured chain part d field picture fill steps j k s i from to is_turn) (silent_to chain part d field picture fill steps j k s i from to)
+    (captured chain part d field picture fill steps j k s i from to is_turn)
+    (silent_to chain part d field picture fill steps j k s i from to)

@@ -1,5 +1,6 @@
 -- A part that is the fragment of a description is sound alone.
-use Rattle.std.proofs.Common.{◌≡◌, ℕ, zero, suc, ◌+◌, ◌*◌, ◌<◌, ◌≤◌, ◌⊎◌, inl, inr, true, List, [], ◌∷◌, ◌++◌, length, append_assoc, Option, Some, None, Ok, refl, sym, ap, ◌∙◌, subst, arith}
+use Rattle.std.proofs.Common.{◌≡◌, ℕ, zero, suc, ◌+◌, ◌*◌, ◌<◌, ◌≤◌, ◌⊎◌, inl, inr, true, List, [], ◌∷◌, ◌++◌, length, append_assoc, Option}
+use Rattle.std.proofs.Common.{Some, None, Ok, refl, sym, ap, ◌∙◌, subst, arith}
 use Rattle.std.proofs.lemmas.Bool.{cases_eq, cases_lt}
 use Rattle.std.proofs.lemmas.List.{get_or-set_other}
 use Rattle.risc_word.specs.declared.Instr.{Instr}
@@ -10,7 +11,8 @@ use Rattle.page_table.specs.Taken.{in_order}
 use Rattle.pixel_layout.specs.declared.Parity.{Parity}
 use Rattle.pixel_layout.specs.declared.Parity.TheVariants.{Top, Bottom}
 use Rattle.machine_model.specs.declared.Cause.{Cause}
-use Rattle.machine_model.specs.Paths.{RiscProgram, Place, AreWithin, IsSound, cause_at, fetch, instr_cause, is_word, next_by, next_place, path, place_after, place_read, reading_cause, spans_of, target_before}
+use Rattle.machine_model.specs.Paths.{RiscProgram, Place, AreWithin, IsSound, cause_at, fetch, instr_cause, is_word, next_by, next_place}
+use Rattle.machine_model.specs.Paths.{path, place_after, place_read, reading_cause, spans_of, target_before}
 use Rattle.machine_model.proofs.Wider.{data-wider}
 use Rattle.machine_model.proofs.OneSpan.{word_there}
 use Rattle.capture_desc.specs.declared.desc.Desc.{Desc}
@@ -18,12 +20,14 @@ use Rattle.capture_desc.specs.declared.desc.Fields.{Fields}
 use Rattle.capture_desc.specs.declared.desc.Fields.TheVariants as fields
 use Rattle.picture_model.specs.Described.{describes, memory_of}
 use Rattle.picture_model.specs.Programs.{body, closing, opening, section, section_length, sections, sections_by, words_of}
-use Rattle.picture_model.proofs.Circle.{IsAt, IsFineInstr, IsPlain, IsSome, Lead, lead_at, lead_plain, split_length, words_split, goes_after}
+use Rattle.picture_model.proofs.Circle.{IsAt, IsFineInstr, IsPlain, IsSome, Lead, lead_at, lead_plain, split_length, words_split}
+use Rattle.picture_model.proofs.Circle.{goes_after}
 use Rattle.picture_model.proofs.Each.{Each, each_append, each_only}
 use Rattle.picture_model.proofs.FaultlessLines.{IsGoodInstr}
 use Rattle.picture_model.proofs.FaultlessGeometry.{IsRight, IsFrame-IsRight}
 use Rattle.picture_model.proofs.Sections.{closing_fine, good_body, section_long}
-use Rattle.chain_model.specs.Chains.{Chain, IsChain, alone, alone_in, head, jump_word, next, part_at, part_of, patched_words, slot_at, target, unpatched}
+use Rattle.chain_model.specs.Chains.{Chain, IsChain, alone, alone_in, head, jump_word, next, part_at, part_of, patched_words, slot_at}
+use Rattle.chain_model.specs.Chains.{target, unpatched}
 use Rattle.chain_model.proofs.Slots.{jumps_to, length-alone, part_at-own, part_at-unpatched, slot_is_word}
 use Rattle.chain_model.proofs.Words.{back_read, slot_read}
 use Rattle.chain_law.specs.Fragments.{FragmentIsSound, FragmentsAreSound, IsFragment}
@@ -53,7 +57,8 @@ module _ (d : Desc) (at back : ℕ) where
   pub first_at : IsAt at (sections d at back) at
   first_at = first_by d.fields
 
-  middle_by : (which : Fields) → which ≡ fields.Both → (there : IsAt at (sections_by which d at back) middle) × (0 < length (encoded there.instr))
+  middle_by : (which : Fields) → which ≡ fields.Both →
+      (there : IsAt at (sections_by which d at back) middle) × (0 < length (encoded there.instr))
   middle_by fields.Top e = cc
   middle_by fields.Bottom e = cc
   middle_by fields.Both e =
@@ -71,10 +76,12 @@ module _ (d : Desc) (at back : ℕ) where
   pub middle_at : d.fields ≡ fields.Both → (there : IsAt at (sections d at back) middle) × (0 < length (encoded there.instr))
   middle_at e = middle_by d.fields e
 
-  lead_by : (which : Fields) (There : ℕ → Type 0) → ((field : Parity) → describes which field ≡ true → Each IsPlain (opening field ∷ body d field)) → There back →
+  lead_by : (which : Fields) (There : ℕ → Type 0) →
+      ((field : Parity) → describes which field ≡ true → Each IsPlain (opening field ∷ body d field)) → There back →
       (which ≡ fields.Both → There middle) → Lead There (sections_by which d at back)
   lead_by fields.Top There plain last mid = lead_plain There (opening Top ∷ body d Top) (closing Top back) [] (plain Top refl) last tt
-  lead_by fields.Bottom There plain last mid = lead_plain There (opening Bottom ∷ body d Bottom) (closing Bottom back) [] (plain Bottom refl) last tt
+  lead_by fields.Bottom There plain last mid =
+      lead_plain There (opening Bottom ∷ body d Bottom) (closing Bottom back) [] (plain Bottom refl) last tt
   lead_by fields.Both There plain last mid =
       subst (Lead There) (sym (append_assoc (opening Top ∷ body d Top) (closing Top middle ∷ []) (section d Bottom back)))
       (lead_plain There (opening Top ∷ body d Top) (closing Top middle) (section d Bottom back) (plain Top refl) (mid refl)
@@ -85,36 +92,46 @@ module _ (d : Desc) (at back : ℕ) where
     one_fine : (field : Parity) (target : ℕ) → Each (IsFineInstr program) (opening field ∷ body d field) → is_word program target ≡ true →
         Each (IsFineInstr program) (section d field target)
     one_fine field target inner word =
-        each_append (IsFineInstr program) (opening field ∷ body d field) (closing field target ∷ []) inner (closing_fine program field target word, tt)
+        each_append (IsFineInstr program) (opening field ∷ body d field) (closing field target ∷ []) inner
+        (closing_fine program field target word, tt)
 
-    pub fine_by : (which : Fields) → ((field : Parity) → describes which field ≡ true → Each (IsFineInstr program) (opening field ∷ body d field)) → is_word program back ≡ true →
+    pub fine_by : (which : Fields) →
+        ((field : Parity) → describes which field ≡ true → Each (IsFineInstr program) (opening field ∷ body d field)) →
+        is_word program back ≡ true →
         (which ≡ fields.Both → is_word program (middle d at back) ≡ true) → Each (IsFineInstr program) (sections_by which d at back)
     fine_by fields.Top inner last mid = one_fine Top back (inner Top refl) last
     fine_by fields.Bottom inner last mid = one_fine Bottom back (inner Bottom refl) last
     fine_by fields.Both inner last mid =
-        each_append (IsFineInstr program) (section d Top (middle d at back)) (section d Bottom back) (one_fine Top (middle d at back) (inner Top refl) (mid refl))
+        each_append (IsFineInstr program) (section d Top (middle d at back)) (section d Bottom back)
+        (one_fine Top (middle d at back) (inner Top refl) (mid refl))
         (one_fine Bottom back (inner Bottom refl) last)
 
 -- ---- under wider grants
 
-widened : (program : RiscProgram) (grants : List Chunk) → AreWithin grants program.grants → (i : Instr) → IsGoodInstr (record program { grants = grants }) i → IsFineInstr program i
+widened : (program : RiscProgram) (grants : List Chunk) → AreWithin grants program.grants → (i : Instr) →
+    IsGoodInstr (record program { grants = grants }) i → IsFineInstr program i
 widened program grants within i good = record { spelled = good.fine.spelled; some = good.fine.some; fine = fine_of i good }
   where
     fine_of : (i : Instr) → IsGoodInstr (record program { grants = grants }) i → (target : Option ℕ) → instr_cause program i target ≡ None
     fine_of (Jump ctl addr) good target = absurd good.plain
     fine_of (Sync ctl resync code) good target = refl
     fine_of (Write ctl ends off count addr) good target =
-        data-wider grants program.grants within (Write ctl ends off count addr) (target_before (Write ctl ends off count addr) target) (good.fine.fine target)
+        data-wider grants program.grants within (Write ctl ends off count addr) (target_before (Write ctl ends off count addr) target)
+        (good.fine.fine target)
     fine_of (Skip ctl ends count) good target =
         data-wider grants program.grants within (Skip ctl ends count) (target_before (Skip ctl ends count) target) (good.fine.fine target)
     fine_of (WriteC ctl ends off count) good target =
-        data-wider grants program.grants within (WriteC ctl ends off count) (target_before (WriteC ctl ends off count) target) (good.fine.fine target)
+        data-wider grants program.grants within (WriteC ctl ends off count) (target_before (WriteC ctl ends off count) target)
+        (good.fine.fine target)
     fine_of (Write123 ctl ends off counts addrs) good target =
-        data-wider grants program.grants within (Write123 ctl ends off counts addrs) (target_before (Write123 ctl ends off counts addrs) target) (good.fine.fine target)
+        data-wider grants program.grants within (Write123 ctl ends off counts addrs)
+        (target_before (Write123 ctl ends off counts addrs) target) (good.fine.fine target)
     fine_of (Skip123 ctl ends counts) good target =
-        data-wider grants program.grants within (Skip123 ctl ends counts) (target_before (Skip123 ctl ends counts) target) (good.fine.fine target)
+        data-wider grants program.grants within (Skip123 ctl ends counts) (target_before (Skip123 ctl ends counts) target)
+        (good.fine.fine target)
     fine_of (Write1S23 ctl ends off counts addr) good target =
-        data-wider grants program.grants within (Write1S23 ctl ends off counts addr) (target_before (Write1S23 ctl ends off counts addr) target) (good.fine.fine target)
+        data-wider grants program.grants within (Write1S23 ctl ends off counts addr)
+        (target_before (Write1S23 ctl ends off counts addr) target) (good.fine.fine target)
 
 -- ---- the path of a fragment alone
 
@@ -144,15 +161,18 @@ module _ (chain : Chain) (is : IsChain chain) (part : ℕ) (there : part < lengt
   right : IsRight d
   right = IsFrame-IsRight d frag.description frag.frame
 
-  split : patched_words chain (alone_in chain (Some part)) ≡ words_before chain (alone_in chain (Some part)) part ++ (words_of instrs ++ words_after chain (alone_in chain (Some part)) part)
+  split : patched_words chain (alone_in chain (Some part))
+      ≡ words_before chain (alone_in chain (Some part)) part ++ (words_of instrs ++ words_after chain (alone_in chain (Some part)) part)
   split =
       part_split chain (alone_in chain (Some part)) part there
-      ∙ ap (λ (words : List ℕ). words_before chain (alone_in chain (Some part)) part ++ (words ++ words_after chain (alone_in chain (Some part)) part)) frag.words
+      ∙ ap (λ (words : List ℕ).
+      words_before chain (alone_in chain (Some part)) part ++ (words ++ words_after chain (alone_in chain (Some part)) part)) frag.words
 
   at_begin : begin ≡ program.base + 4 * length (words_before chain (alone_in chain (Some part)) part)
   at_begin = head_there chain (alone_in chain (Some part)) part long
 
-  inner : (field : Parity) → describes d.fields field ≡ true → Each (IsGoodInstr (record program { grants = in_order (memory_of d) })) (opening field ∷ body d field)
+  inner : (field : Parity) → describes d.fields field ≡ true →
+      Each (IsGoodInstr (record program { grants = in_order (memory_of d) })) (opening field ∷ body d field)
   inner field is = good_body d right (record program { grants = in_order (memory_of d) }) refl field is
 
   inner_fine : (field : Parity) → describes d.fields field ≡ true → Each (IsFineInstr program) (opening field ∷ body d field)
@@ -162,11 +182,15 @@ module _ (chain : Chain) (is : IsChain chain) (part : ℕ) (there : part < lengt
 
   inner_plain : (field : Parity) → describes d.fields field ≡ true → Each IsPlain (opening field ∷ body d field)
   inner_plain field described =
-      each_only (IsGoodInstr (record program { grants = in_order (memory_of d) })) IsPlain (opening field ∷ body d field) (λ i good. good.plain) (inner field described)
+      each_only (IsGoodInstr (record program { grants = in_order (memory_of d) })) IsPlain (opening field ∷ body d field)
+      (λ i good. good.plain) (inner field described)
 
   -- the words of the fragment are fine, once the way back and the second section are at words
-  size : length (patched_words chain (alone_in chain (Some part))) ≡ length (words_before chain (alone_in chain (Some part)) part) + (length (words_of instrs) + length (words_after chain (alone_in chain (Some part)) part))
-  size = ap length split ∙ split_length (words_before chain (alone_in chain (Some part)) part) (words_of instrs) (words_after chain (alone_in chain (Some part)) part)
+  size : length (patched_words chain (alone_in chain (Some part))) ≡ length (words_before chain (alone_in chain (Some part)) part)
+      + (length (words_of instrs) + length (words_after chain (alone_in chain (Some part)) part))
+  size =
+      ap length split ∙ split_length (words_before chain (alone_in chain (Some part)) part) (words_of instrs)
+      (words_after chain (alone_in chain (Some part)) part)
 
   back_word : is_word program back ≡ true
   back_word =
@@ -180,7 +204,8 @@ module _ (chain : Chain) (is : IsChain chain) (part : ℕ) (there : part < lengt
       let here = mid.at in
       let front = words_before chain (alone_in chain (Some part)) part in
       let all : length (words_of instrs) ≡ length (words_of mid.before) + (length (encoded mid.instr) + length (words_of mid.after)) =
-      ap length (ap words_of mid.split ∙ words_split mid.before mid.instr mid.after) ∙ split_length (words_of mid.before) (encoded mid.instr) (words_of mid.after) in
+      ap length (ap words_of mid.split ∙ words_split mid.before mid.instr mid.after)
+      ∙ split_length (words_of mid.before) (encoded mid.instr) (words_of mid.after) in
       let whole = size in
       let start = at_begin in
       let some = found.1 in
@@ -198,7 +223,9 @@ module _ (chain : Chain) (is : IsChain chain) (part : ℕ) (there : part < lengt
 
   here_word : (address : ℕ) → Here address → is_word program address ≡ true
   here_word address (inl at) = ap (is_word program) at.2 ∙ slot_is_word chain (alone_in chain (Some part)) long at.0 at.1
-  here_word address (inr at) = word_at_there program (words_before chain (alone_in chain (Some part)) part) (words_after chain (alone_in chain (Some part)) part) instrs begin (ap (spans_of chain.base) split) at_begin fine address at
+  here_word address (inr at) =
+      word_at_there program (words_before chain (alone_in chain (Some part)) part)
+      (words_after chain (alone_in chain (Some part)) part) instrs begin (ap (spans_of chain.base) split) at_begin fine address at
 
   leads : Lead Here instrs
   leads =
@@ -216,7 +243,8 @@ module _ (chain : Chain) (is : IsChain chain) (part : ℕ) (there : part < lengt
       subst Here (sym (ap (target chain s) (part_at-own chain s (Some part) lt (there, sym e)))) (inr (first_at d begin back))
   leads_by s lt (inr ne) =
       let on : next chain s ≡ slot_at chain (suc s) = omega arith in
-      let none : part_at (alone_in chain (Some part)) s ≡ None = get_or-set_other (unpatched chain) slot s (Some part) None ne ∙ part_at-unpatched chain s in
+      let none : part_at (alone_in chain (Some part)) s ≡ None =
+      get_or-set_other (unpatched chain) slot s (Some part) None ne ∙ part_at-unpatched chain s in
       subst Here (sym (ap (target chain s) none)) (inl (suc s, omega arith, on))
 
   slot_leads : (s : ℕ) → s ≤ chain.slots → (s < chain.slots) ⊎ (chain.slots ≤ s) → Leads (slot_at chain s)
@@ -243,13 +271,16 @@ module _ (chain : Chain) (is : IsChain chain) (part : ℕ) (there : part < lengt
   slot_on : (place : Place) (s : ℕ) → s ≤ chain.slots → place.pc ≡ slot_at chain s → GoesOn place
   slot_on place s le at =
       let to = slot_leads s le (cases_lt s chain.slots) in
-      let jump = jumps_to program place (control_bits jump_word) to.address 2 (ap (fetch program) at ∙ to.read) (here_word to.address to.leads_to) in
+      let jump =
+      jumps_to program place (control_bits jump_word) to.address 2 (ap (fetch program) at ∙ to.read) (here_word to.address to.leads_to) in
       record { no_cause = jump.fine; onwards = subst (λ (p : Place). Here p.pc) (sym jump.next) to.leads_to }
 
-  more_by : (place : Place) (at : IsAt begin instrs place.pc) (after : List Instr) → at.after ≡ after → IsSome after → Here (place.pc + 4 * length (encoded at.instr))
+  more_by : (place : Place) (at : IsAt begin instrs place.pc) (after : List Instr) → at.after ≡ after → IsSome after →
+      Here (place.pc + 4 * length (encoded at.instr))
   more_by place at [] e some = absurd some
   more_by place at (i ∷ rest) e some =
-      inr (following program (words_before chain (alone_in chain (Some part)) part) (words_after chain (alone_in chain (Some part)) part) instrs begin (ap (spans_of chain.base) split) at_begin fine place.pc at i rest e)
+      inr (following program (words_before chain (alone_in chain (Some part)) part) (words_after chain (alone_in chain (Some part)) part)
+      instrs begin (ap (spans_of chain.base) split) at_begin fine place.pc at i rest e)
 
   instr_on : (place : Place) → IsAt begin instrs place.pc → GoesOn place
   instr_on place at =

@@ -1,5 +1,6 @@
 -- Where a part is in the words of a chain, and which instruction is fetched there.
-use Rattle.std.proofs.Common.{◌≡◌, ℕ, zero, suc, ◌+◌, ◌*◌, ◌<◌, true, List, [], ◌∷◌, ◌++◌, length, take, drop, length-append, append_assoc, Ok, refl, sym, ap, ◌∙◌, subst, arith}
+use Rattle.std.proofs.Common.{◌≡◌, ℕ, zero, suc, ◌+◌, ◌*◌, ◌<◌, true, List, [], ◌∷◌, ◌++◌, length, take, drop, length-append, append_assoc}
+use Rattle.std.proofs.Common.{Ok, refl, sym, ap, ◌∙◌, subst, arith}
 use Rattle.std.specs.Prelude.{slice_index_or}
 use Rattle.risc_word.specs.declared.Instr.{Instr}
 use Rattle.risc_word.specs.Words.{encoded}
@@ -19,7 +20,8 @@ split_parts [] k other lt = absurd (omega arith)
 split_parts (part ∷ rest) zero other lt = refl
 split_parts (part ∷ rest) (suc k) other lt =
     ap (λ (words : List ℕ). part.words ++ words) (split_parts rest k other (omega arith))
-    ∙ sym (append_assoc part.words (words_of_parts (take k rest)) ((slice_index_or rest k other).words ++ words_of_parts (drop (suc k) rest)))
+    ∙ sym
+    (append_assoc part.words (words_of_parts (take k rest)) ((slice_index_or rest k other).words ++ words_of_parts (drop (suc k) rest)))
 
 module _ (chain : Chain) (patching : Patching) (part : ℕ) where
   abbrev pub words_before : List ℕ
@@ -31,7 +33,8 @@ module _ (chain : Chain) (patching : Patching) (part : ℕ) where
   pub part_split : part < length chain.parts → patched_words chain patching ≡ words_before ++ ((part_of chain part).words ++ words_after)
   part_split there =
       ap (λ (words : List ℕ). loop_words chain 0 patching ++ words) (split_parts chain.parts part (record { slot = 0; words = [] }) there)
-      ∙ sym (append_assoc (loop_words chain 0 patching) (words_of_parts (take part chain.parts)) ((part_of chain part).words ++ words_after))
+      ∙ sym
+      (append_assoc (loop_words chain 0 patching) (words_of_parts (take part chain.parts)) ((part_of chain part).words ++ words_after))
 
   pub head_there : length patching ≡ chain.slots → head chain part ≡ chain.base + 4 * length words_before
   head_there long =
@@ -54,7 +57,8 @@ module _ (program : RiscProgram) (before after : List ℕ) (instrs : List Instr)
       program.spans ≡ spans_of program.base ((before ++ words_of at.before) ++ (encoded at.instr ++ (words_of at.after ++ after)))
   words_there address at =
       split
-      ∙ ap (λ (words : List ℕ). spans_of program.base (before ++ (words ++ after))) (ap words_of at.split ∙ words_split at.before at.instr at.after)
+      ∙ ap (λ (words : List ℕ). spans_of program.base (before ++ (words ++ after)))
+      (ap words_of at.split ∙ words_split at.before at.instr at.after)
       ∙ ap (spans_of program.base) (regrouped before (words_of at.before) (encoded at.instr) (words_of at.after) after)
 
   address_there : (address : ℕ) (at : IsAt begin instrs address) → address ≡ program.base + 4 * length (before ++ words_of at.before)
@@ -64,7 +68,8 @@ module _ (program : RiscProgram) (before after : List ℕ) (instrs : List Instr)
 
   pub fetch_there : (address : ℕ) (at : IsAt begin instrs address) → fetch program address ≡ Ok (at.instr, length (encoded at.instr))
   fetch_there address at =
-      fetched_at program (before ++ words_of at.before) (words_of at.after ++ after) at.instr address (words_there address at) (address_there address at)
+      fetched_at program (before ++ words_of at.before) (words_of at.after ++ after) at.instr address (words_there address at)
+      (address_there address at)
       (fine_there address at).spelled
 
   pub word_at_there : (address : ℕ) (at : IsAt begin instrs address) → is_word program address ≡ true
@@ -88,6 +93,7 @@ module _ (program : RiscProgram) (before after : List ℕ) (instrs : List Instr)
         instr = next;
         after = rest;
         split =
-            at.split ∙ ap (λ (after : List Instr). at.before ++ at.instr ∷ after) more ∙ sym (append_assoc at.before (at.instr ∷ []) (next ∷ rest));
+            at.split ∙ ap (λ (after : List Instr). at.before ++ at.instr ∷ after) more
+            ∙ sym (append_assoc at.before (at.instr ∷ []) (next ∷ rest));
         at = omega arith;
       }

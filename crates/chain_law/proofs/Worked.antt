@@ -29,7 +29,8 @@ is_chain =
     record {
       slots = (omega arith, omega arith);
       parts = omega arith;
-      belong = All-from_recursion (λ (p : PartWords). p.slot < 2) two_slots.parts (omega arith, (omega arith, (omega arith, (omega arith, tt))));
+      belong =
+          All-from_recursion (λ (p : PartWords). p.slot < 2) two_slots.parts (omega arith, (omega arith, (omega arith, (omega arith, tt))));
       aligned = refl;
       few = omega arith;
       ends = omega arith;
@@ -39,7 +40,16 @@ is_chain =
 other_described : IsDescription other
 other_described =
     record {
-      formed = record { stride = tt; offset = tt; chroma_first = tt; vbi_skip = tt; pages = omega arith; no_pages = tt; chunks = tt; bytes = tt };
+      formed = record {
+        stride = tt;
+        offset = tt;
+        chroma_first = tt;
+        vbi_skip = tt;
+        pages = omega arith;
+        no_pages = tt;
+        chunks = tt;
+        bytes = tt;
+      };
       pages = All-from_recursion (λ page. page < 2 ^ 32) (0x30000 ∷ []) (omega arith, tt);
       clips = omega arith;
       skipped = omega arith;
@@ -54,10 +64,12 @@ second_of true b h = refl
 second_of false b h = h
 
 grants_first : GrantsAll two_slots smallest
-grants_first address h = first_of (covers (record { at = 0x20000; len = 4096 }) address) (covers (record { at = 0x30000; len = 4096 }) address) h
+grants_first address h =
+    first_of (covers (record { at = 0x20000; len = 4096 }) address) (covers (record { at = 0x30000; len = 4096 }) address) h
 
 grants_other : GrantsAll two_slots other
-grants_other address h = second_of (covers (record { at = 0x20000; len = 4096 }) address) (covers (record { at = 0x30000; len = 4096 }) address) h
+grants_other address h =
+    second_of (covers (record { at = 0x20000; len = 4096 }) address) (covers (record { at = 0x30000; len = 4096 }) address) h
 
 pub fragment_0 : IsFragment two_slots 0 smallest
 fragment_0 = record { description = pictures.described; frame = refl; words = refl }
@@ -105,7 +117,10 @@ made =
                         tt,
                         (
                           tt,
-                          ((omega arith, (omega arith, refl)), (tt, (tt, (tt, (tt, (tt, (refl, (refl, (tt, (tt, (tt, (tt, (tt, (tt, (tt, (tt, (tt, (tt, (tt, (tt, (tt, tt))))))))))))))))))))),
+                          (
+                            (omega arith, (omega arith, refl)),
+                            (tt, (tt, (tt, (tt, (tt, (refl, (refl, (tt, (tt, (tt, (tt, (tt, (tt, (tt, (tt, (tt, (tt, (tt, (tt, (tt, tt)))))))))))))))))))),
+                          ),
                         ),
                       ),
                     ),
@@ -121,14 +136,17 @@ made =
 -- ---- the picture of both fields
 
 second_picture : IsPicture other Top picture
-second_picture = let first = pictures.pictured in record { vbi = first.vbi; rows = first.rows; vbi_bytes = first.vbi_bytes; row_bytes = first.row_bytes }
+second_picture =
+    let first = pictures.pictured in
+    record { vbi = first.vbi; rows = first.rows; vbi_bytes = first.vbi_bytes; row_bytes = first.row_bytes }
 
 abbrev IsOther : Entry → Type 0
 IsOther entry = HasCode Vre entry → ⊥
 
 -- ---- the first field, while the slot is patched
 
-first_order : (q : Queue) → (queue_state q (live_of two_slots 0 steps 7).machine.queues).entries ++ coming (mets two_slots (live_of two_slots 0 steps 7).patching (between 7 20 steps)) q ≡ [] ++ (worked.entries q ++ worked.entries q)
+first_order : (q : Queue) → (queue_state q (live_of two_slots 0 steps 7).machine.queues).entries
+    ++ coming (mets two_slots (live_of two_slots 0 steps 7).patching (between 7 20 steps)) q ≡ [] ++ (worked.entries q ++ worked.entries q)
 first_order One = refl
 first_order Two = refl
 first_order Three = refl
@@ -167,7 +185,8 @@ first_signalled =
 
 -- ---- the second field, in the part that was patched in
 
-second_order : (q : Queue) → (queue_state q (live_of two_slots 0 steps 24).machine.queues).entries ++ coming (mets two_slots (live_of two_slots 0 steps 24).patching (between 24 32 steps)) q ≡ [] ++ (worked.entries q ++ [])
+second_order : (q : Queue) → (queue_state q (live_of two_slots 0 steps 24).machine.queues).entries
+    ++ coming (mets two_slots (live_of two_slots 0 steps 24).patching (between 24 32 steps)) q ≡ [] ++ (worked.entries q ++ [])
 second_order One = refl
 second_order Two = refl
 second_order Three = refl

@@ -30,7 +30,9 @@ machine_steps (Patch slot part ∷ steps) = machine_steps steps
 -- From place j to place k the machine goes on as with a part alone patched in, whatever is patched. So a part in which it
 -- is, and which is patched out, is finished up to where it leads, whatever comes: also a field that is broken off
 abbrev pub LivePartsAreFinished : Type 0
-LivePartsAreFinished = (chain : Chain) (part : Option ℕ) (fill : ℕ) (steps : List LiveStep) (j k : ℕ) → IsChain chain → IsSoundChain chain → All (IsLiveStep chain) steps →
+LivePartsAreFinished =
+    (chain : Chain) (part : Option ℕ) (fill : ℕ) (steps : List LiveStep) (j k : ℕ) → IsChain chain → IsSoundChain chain →
+    All (IsLiveStep chain) steps →
     j ≤ k → AreBehind chain (live_of chain fill steps j) (between j k steps) →
     with_program (alone chain part) (live_of chain fill steps k).machine
     ≡ run (with_program (alone chain part) (live_of chain fill steps j).machine) (machine_steps (between j k steps))

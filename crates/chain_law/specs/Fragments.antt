@@ -20,7 +20,8 @@ abbrev pub GrantsAll : Chain → Desc → Type 0
 GrantsAll chain d = AreWithin (in_order (memory_of d)) chain.grants
 
 abbrev pub FragmentIsSound : Type 0
-FragmentIsSound = (chain : Chain) (part : ℕ) (d : Desc) → IsChain chain → part < length chain.parts → IsFragment chain part d → GrantsAll chain d →
+FragmentIsSound =
+    (chain : Chain) (part : ℕ) (d : Desc) → IsChain chain → part < length chain.parts → IsFragment chain part d → GrantsAll chain d →
     IsSound (alone chain (Some part))
 
 -- each part is such a fragment

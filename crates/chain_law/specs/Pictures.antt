@@ -50,14 +50,16 @@ pub record IsFirstSignal (s : Section) (chain : Chain) (live : Live) (steps : Li
   pub there : k < length steps
   pub turn : step_at steps k ≡ Plain Turn
   pub signal : is_signal s (live_at chain live steps k).machine Turn ≡ true
-  pub silent : has_signal s (live_at chain live steps j).machine (mets chain (live_at chain live steps j).patching (between j k steps)) ≡ false
+  pub silent : has_signal s (live_at chain live steps j).machine
+      (mets chain (live_at chain live steps j).patching (between j k steps)) ≡ false
 
 -- the state at a place of a live run from the first state
 abbrev pub live_of : Chain → ℕ → List LiveStep → ℕ → Live
 live_of chain fill steps place = live_at chain (first_live chain fill) steps place
 
 -- the first signal of the field after place j is step k, and the picture arrives at j over the steps j to k
-pub record IsSignalled (chain : Chain) (part : ℕ) (d : Desc) (field : Parity) (picture : Picture) (fill : ℕ) (steps : List LiveStep) (j k : ℕ) : Type 0 where
+pub record IsSignalled (chain : Chain) (part : ℕ) (d : Desc) (field : Parity) (picture : Picture) (fill : ℕ) (steps : List LiveStep)
+    (j k : ℕ) : Type 0 where
   pub capture : IsLiveCapture chain part d field picture steps
   pub signal : IsFirstSignal (section_in chain part d field) chain (first_live chain fill) steps j k
   pub arrives : ArrivesAt chain part d field picture (live_of chain fill steps j) (between j (k + 1) steps)
@@ -70,7 +72,8 @@ LiveShowsPicture = (chain : Chain) (part : ℕ) (d : Desc) (field : Parity) (pic
 
 -- no turn from j to k sets FDSR, whether or not the bit is set already
 abbrev pub LiveShowsNoFault : Type 0
-LiveShowsNoFault = (chain : Chain) (part : ℕ) (d : Desc) (field : Parity) (picture : Picture) (fill : ℕ) (steps : List LiveStep) (j k i : ℕ) →
+LiveShowsNoFault =
+    (chain : Chain) (part : ℕ) (d : Desc) (field : Parity) (picture : Picture) (fill : ℕ) (steps : List LiveStep) (j k i : ℕ) →
     IsSignalled chain part d field picture fill steps j k → j ≤ i → i ≤ k → step_at steps i ≡ Plain Turn →
     sets_fdsr (live_of chain fill steps i).machine ≡ false
 

@@ -25,7 +25,8 @@ pub record IsPartPicture (chain : Chain) (part : ℕ) (d : Desc) (field : Parity
 
 -- the first signal of the field after place j is step k, and the picture arrives at j over the steps j to k, of which some
 -- may be patches
-pub record ArrivesUpTo (chain : Chain) (part : ℕ) (d : Desc) (field : Parity) (picture : Picture) (fill : ℕ) (steps : List LiveStep) (j k : ℕ) : Type 0 where
+pub record ArrivesUpTo (chain : Chain) (part : ℕ) (d : Desc) (field : Parity) (picture : Picture) (fill : ℕ) (steps : List LiveStep)
+    (j k : ℕ) : Type 0 where
   pub signal : IsFirstSignal (section_in chain part d field) chain (first_live chain fill) steps j k
   pub arrives : ArrivesAt chain part d field picture (live_of chain fill steps j) (between j (k + 1) steps)
 
@@ -61,8 +62,10 @@ LiveRunSignalsInTime chain fill steps =
     j ≤ i → i ≤ l → l ≤ length steps →
     (arrives : ArrivesAt chain part d field picture (live_of chain fill steps j) (between j l steps)) →
     ((q : Queue) → entries_of arrives.before arrives.entries q ≤
-    length (queue_state q (live_of chain fill steps j).machine.queues).entries + length (coming (mets chain (live_of chain fill steps j).patching (between j i steps)) q)) →
-    5 * size d field + over_queues (entries_of arrives.before arrives.entries) ≤ turns_in (mets chain (live_of chain fill steps i).patching (between i l steps)) →
+    length (queue_state q (live_of chain fill steps j).machine.queues).entries + length
+    (coming (mets chain (live_of chain fill steps j).patching (between j i steps)) q)) →
+    5 * size d field + over_queues (entries_of arrives.before arrives.entries) ≤ turns_in (mets chain (live_of chain fill steps i).patching
+    (between i l steps)) →
     (k : ℕ) × IsFirstSignal (section_in chain part d field) chain (first_live chain fill) steps j k × (k < l)
 
 -- all this of one run
@@ -74,4 +77,5 @@ pub record KeepsLivePromises (chain : Chain) (fill : ℕ) (steps : List LiveStep
 
 abbrev pub LiveRunsKeepPromises : Type 0
 LiveRunsKeepPromises =
-    (chain : Chain) (fill : ℕ) (steps : List LiveStep) → IsChain chain → IsSoundChain chain → All (IsLiveStep chain) steps → KeepsLivePromises chain fill steps
+    (chain : Chain) (fill : ℕ) (steps : List LiveStep) →
+    IsChain chain → IsSoundChain chain → All (IsLiveStep chain) steps → KeepsLivePromises chain fill steps

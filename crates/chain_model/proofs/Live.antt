@@ -1,5 +1,6 @@
 -- Live states of a sound chain: whatever the host patches, with some part alone patched in, or none, the machine is safe.
-use Rattle.std.proofs.Common.{◌≡◌, ℕ, ◌<◌, ◌⊎◌, inl, inr, Bool, true, false, All, List, [], ◌∷◌, take, Option, Some, None, Ok, IsTrue, refl, sym, ap, subst, ◌∙◌, arith}
+use Rattle.std.proofs.Common.{◌≡◌, ℕ, ◌<◌, ◌⊎◌, inl, inr, Bool, true, false, All, List, [], ◌∷◌, take, Option, Some, None, Ok, IsTrue, refl}
+use Rattle.std.proofs.Common.{sym, ap, subst, ◌∙◌, arith}
 use Rattle.std.specs.Prelude.{slice_set}
 use Rattle.std.proofs.lemmas.Bool.{cases_eq}
 use Rattle.std.proofs.lemmas.List.{get_or-set_same, get_or-set_other, length-set}
@@ -23,10 +24,12 @@ use Rattle.machine_model.proofs.WritesAndFetches.{fetch-inside, writes-granted}
 use Rattle.machine_model.proofs.Orderly.{IsOrderly-with_program}
 use Rattle.machine_model.proofs.BeforeTurns.{idle-IsFine}
 use Rattle.machine_model.proofs.Safe.{IsSafe-step, IsSafe-first_state}
-use Rattle.chain_model.specs.Chains.{Chain, Patching, IsChain, IsPart, IsSoundChain, Belongs, IsPatching, alone, alone_in, jump_word, part_at, patched, slot_at, target, unpatched}
+use Rattle.chain_model.specs.Chains.{Chain, Patching, IsChain, IsPart, IsSoundChain, Belongs, IsPatching, alone, alone_in, jump_word}
+use Rattle.chain_model.specs.Chains.{part_at, patched, slot_at, target, unpatched}
 use Rattle.chain_model.specs.Live.{Live, LiveStep, Plain, Patch, IsLive, IsLiveStep, LiveInside, first_live, live_at, live_run, live_step}
 use Rattle.chain_model.proofs.Words.{behind_alike, same_words, slot_read}
-use Rattle.chain_model.proofs.Slots.{Stands, alone_sound, length-alone, part_at-own, part_at-unpatched, path_to_part, path_stands, place_of, slot_without_target}
+use Rattle.chain_model.proofs.Slots.{Stands, alone_sound, length-alone, part_at-own, part_at-unpatched, path_to_part, path_stands, place_of}
+use Rattle.chain_model.proofs.Slots.{slot_without_target}
 use Rattle.chain_model.proofs.Stores.{writes-with}
 use Rattle.chain_model.proofs.Others.{step-with}
 
@@ -45,19 +48,22 @@ IsPatching-unpatched chain =
 
 module _ (chain : Chain) (is : IsChain chain) (sound : IsSoundChain chain) where
   -- it can go on with each part of this slot, and with none
-  pub safe_at_slot : (part other : Option ℕ) (slot : ℕ) (m : State) → slot < chain.slots → m.job ≡ Idle → m.pc ≡ slot_at chain slot → IsPart chain part →
+  pub safe_at_slot : (part other : Option ℕ) (slot : ℕ) (m : State) → slot < chain.slots → m.job ≡ Idle → m.pc ≡ slot_at chain slot →
+      IsPart chain part →
       Belongs chain slot other → IsSafe (with_program (alone chain part) m) → IsSafe (with_program (alone chain other) m)
   safe_at_slot part other slot m lt idle at there belongs safe =
       let number = safe.on_path.number in
       let place = path (alone chain part) number in
       let here = idle_there (alone chain part) place m.pc m.skipping m.target m.job idle safe.on_path.there in
       let none = slot_without_target chain is sound part there number slot lt (sym here.0 ∙ at) in
-      let stands : JobAt (alone chain other) (place_of (slot_at chain slot)) m.pc m.skipping m.target Idle = (at, none_at m.skipping m.target place.target none here.1) in
+      let stands : JobAt (alone chain other) (place_of (slot_at chain slot)) m.pc m.skipping m.target Idle =
+      (at, none_at m.skipping m.target place.target none here.1) in
       record {
         on_path = record {
           number = slot;
           there = subst (λ (job : Job). JobAt (alone chain other) (path (alone chain other) slot) m.pc m.skipping m.target job) (sym idle)
-              (subst (λ (p : Place). JobAt (alone chain other) p m.pc m.skipping m.target Idle) (sym (path_to_part chain is sound slot other lt belongs)) stands);
+              (subst (λ (p : Place). JobAt (alone chain other) p m.pc m.skipping m.target Idle)
+              (sym (path_to_part chain is sound slot other lt belongs)) stands);
         };
         chunks = safe.chunks;
         no_error = safe.no_error;
@@ -74,19 +80,22 @@ module _ (chain : Chain) (is : IsChain chain) (sound : IsSoundChain chain) where
     pub alike : IsReadAlike (with_program (alone chain part) m) (patched chain patching)
 
   module _ (patching : Patching) (good : IsPatching chain patching) where
-    pub slot_alike : (slot : ℕ) → slot < chain.slots → AreFetchedAlike (slot_at chain slot) (alone chain (part_at patching slot)) (patched chain patching)
+    pub slot_alike : (slot : ℕ) → slot < chain.slots →
+        AreFetchedAlike (slot_at chain slot) (alone chain (part_at patching slot)) (patched chain patching)
     slot_alike slot lt =
         let part = part_at patching slot in
         record {
           instruction =
               slot_read chain (alone_in chain part) (length-alone chain part) slot lt
-              ∙ ap (λ (p : Option ℕ). Ok (Jump (control_bits jump_word) (target chain slot p), 2)) (part_at-own chain slot part lt (good.belong slot lt))
+              ∙ ap (λ (p : Option ℕ). Ok (Jump (control_bits jump_word) (target chain slot p), 2))
+              (part_at-own chain slot part lt (good.belong slot lt))
               ∙ sym (slot_read chain patching good.long slot lt);
           grants = refl;
           words = same_words chain (alone_in chain part) patching (length-alone chain part) good.long;
         }
 
-    ready_idle : (m : State) (part : Option ℕ) → IsPart chain part → IsSafe (with_program (alone chain part) m) → m.job ≡ Idle → Stands chain is sound m.pc → Ready patching m
+    ready_idle : (m : State) (part : Option ℕ) → IsPart chain part → IsSafe (with_program (alone chain part) m) → m.job ≡ Idle →
+        Stands chain is sound m.pc → Ready patching m
     ready_idle m part there safe idle (inl slot) =
         let chosen = part_at patching slot.0 in
         let belongs = good.belong slot.0 slot.1 in
@@ -94,7 +103,8 @@ module _ (chain : Chain) (is : IsChain chain) (sound : IsSoundChain chain) where
           part = chosen;
           is_part = Belongs-IsPart chain slot.0 chosen belongs;
           safe = safe_at_slot part chosen slot.0 m slot.1 idle slot.2 there belongs safe;
-          alike = λ on e. subst (λ (pc : ℕ). AreFetchedAlike pc (alone chain chosen) (patched chain patching)) (sym slot.2) (slot_alike slot.0 slot.1);
+          alike = λ on e.
+              subst (λ (pc : ℕ). AreFetchedAlike pc (alone chain chosen) (patched chain patching)) (sym slot.2) (slot_alike slot.0 slot.1);
         }
     ready_idle m part there safe idle (inr low) =
         record {
@@ -104,7 +114,8 @@ module _ (chain : Chain) (is : IsChain chain) (sound : IsSoundChain chain) where
           alike = λ on e. behind_alike chain (alone_in chain part) patching (length-alone chain part) good.long m.pc low;
         }
 
-    pub idle_stands : (m : State) (part : Option ℕ) → IsPart chain part → IsSafe (with_program (alone chain part) m) → m.job ≡ Idle → Stands chain is sound m.pc
+    pub idle_stands : (m : State) (part : Option ℕ) → IsPart chain part → IsSafe (with_program (alone chain part) m) → m.job ≡ Idle →
+        Stands chain is sound m.pc
     idle_stands m part there safe idle =
         let number = safe.on_path.number in
         let here = idle_there (alone chain part) (path (alone chain part) number) m.pc m.skipping m.target m.job idle safe.on_path.there in
@@ -115,7 +126,8 @@ module _ (chain : Chain) (is : IsChain chain) (sound : IsSoundChain chain) where
     busy (Waiting ctl resync code) = inl (λ e. cc)
     busy (Running instr ds) = inl (λ e. cc)
 
-    ready_by : (m : State) (part : Option ℕ) → IsPart chain part → IsSafe (with_program (alone chain part) m) → (m.job ≡ Idle → ⊥) ⊎ (m.job ≡ Idle) → Ready patching m
+    ready_by : (m : State) (part : Option ℕ) → IsPart chain part → IsSafe (with_program (alone chain part) m) →
+        (m.job ≡ Idle → ⊥) ⊎ (m.job ≡ Idle) → Ready patching m
     ready_by m part there safe (inr idle) = ready_idle m part there safe idle (idle_stands m part there safe idle)
     ready_by m part there safe (inl other) = record { part = part; is_part = there; safe = safe; alike = λ on e. absurd (other e) }
 
@@ -134,7 +146,8 @@ module _ (chain : Chain) (is : IsChain chain) (sound : IsSoundChain chain) where
       ap turn (sym (own_program m (patched chain patching) same))
       ∙ turn-with_program (with_program (alone chain ready.part) m) (patched chain patching) ready.alike
 
-  safe_turn : (patching : Patching) (m : State) (ready : Ready patching m) → m.program ≡ patched chain patching → IsSafe (with_program (alone chain ready.part) (turn m))
+  safe_turn : (patching : Patching) (m : State) (ready : Ready patching m) → m.program ≡ patched chain patching →
+      IsSafe (with_program (alone chain ready.part) (turn m))
   safe_turn patching m ready same =
       let member = alone chain ready.part in
       let there = with_program member m in
@@ -142,7 +155,8 @@ module _ (chain : Chain) (is : IsChain chain) (sound : IsSoundChain chain) where
       sym (own_program (turn there) member (program-step Turn there)) ∙ sym (ap (with_program member) (turn_ready patching m ready same)) in
       subst IsSafe back (IsSafe-step Turn there tt (alone_sound chain is sound ready.part ready.is_part) ready.safe)
 
-  after_patch : (patching : Patching) (slot k : ℕ) (part : Option ℕ) → IsPatching chain patching → slot < chain.slots → k < chain.slots → Belongs chain slot part →
+  after_patch : (patching : Patching) (slot k : ℕ) (part : Option ℕ) → IsPatching chain patching → slot < chain.slots → k < chain.slots →
+      Belongs chain slot part →
       (k ≡ slot) ⊎ (k ≡ slot → ⊥) → Belongs chain k (part_at (slice_set patching slot part) k)
   after_patch patching slot k part good lt below belongs (inl e) =
       let long = good.long in
@@ -151,7 +165,8 @@ module _ (chain : Chain) (is : IsChain chain) (sound : IsSoundChain chain) where
   after_patch patching slot k part good lt below belongs (inr ne) =
       subst (Belongs chain k) (sym (get_or-set_other patching slot k part None ne)) (good.belong k below)
 
-  pub IsPatching-patch : (patching : Patching) (slot : ℕ) (part : Option ℕ) → IsPatching chain patching → slot < chain.slots → Belongs chain slot part → IsPatching chain (slice_set patching slot part)
+  pub IsPatching-patch : (patching : Patching) (slot : ℕ) (part : Option ℕ) → IsPatching chain patching → slot < chain.slots →
+      Belongs chain slot part → IsPatching chain (slice_set patching slot part)
   IsPatching-patch patching slot part good lt belongs =
       record {
         long = length-set patching slot part ∙ good.long;
@@ -170,7 +185,8 @@ module _ (chain : Chain) (is : IsChain chain) (sound : IsSoundChain chain) where
       }
 
   -- a step that is no turn
-  IsLive-other : (s : Step) (live : Live) → IsStep s → ((s ≡ Turn) → ⊥) → (h : IsLive chain live) → IsLive chain (live_step chain (Plain s) live)
+  IsLive-other : (s : Step) (live : Live) → IsStep s → ((s ≡ Turn) → ⊥) → (h : IsLive chain live) →
+      IsLive chain (live_step chain (Plain s) live)
   IsLive-other s live made other h =
       record {
         patching = h.patching;
@@ -196,7 +212,8 @@ module _ (chain : Chain) (is : IsChain chain) (sound : IsSoundChain chain) where
         safe = h.safe;
       }
 
-  pub IsLive-run : (live : Live) (steps : List LiveStep) → All (IsLiveStep chain) steps → IsLive chain live → IsLive chain (live_run chain live steps)
+  pub IsLive-run : (live : Live) (steps : List LiveStep) → All (IsLiveStep chain) steps → IsLive chain live →
+      IsLive chain (live_run chain live steps)
   IsLive-run live [] made h = h
   IsLive-run live (s ∷ steps) made h =
       IsLive-run (live_step chain s live) steps (All-tail (IsLiveStep chain) s steps made)
@@ -222,7 +239,8 @@ module _ (chain : Chain) (is : IsChain chain) (sound : IsSoundChain chain) where
     idle_inside on idle =
         let member = alone chain r.part in
         let fine = idle-IsFine (with_program member m) (alone_sound chain is sound r.part r.is_part) r.safe idle in
-        let read : fetch (patched chain patching) m.pc ≡ Ok (fine.instr, fine.length_in_words) = sym (r.alike on idle).instruction ∙ fine.stands in
+        let read : fetch (patched chain patching) m.pc ≡ Ok (fine.instr, fine.length_in_words) =
+        sym (r.alike on idle).instruction ∙ fine.stands in
         subst (λ (p : RiscProgram). All (Inside patching) (word_addresses m.pc (words_read p m.pc))) (sym same)
         (fetch-inside (patched chain patching) m.pc fine.instr fine.length_in_words read)
 
@@ -245,7 +263,8 @@ module _ (chain : Chain) (is : IsChain chain) (sound : IsSoundChain chain) where
     stays_inside =
         record {
           written = subst (λ (p : RiscProgram). All (λ address. IsTrue (granted p.grants address)) (writes m)) (sym same) written_inside;
-          read = subst (λ (p : RiscProgram). All (λ address. IsTrue (is_word p address)) (fetches m)) (sym same) (read_inside m.risc_on refl);
+          read =
+              subst (λ (p : RiscProgram). All (λ address. IsTrue (is_word p address)) (fetches m)) (sym same) (read_inside m.risc_on refl);
         }
 
   pub LiveInside-IsLive : (live : Live) → IsLive chain live → LiveInside chain live
@@ -256,6 +275,7 @@ module _ (chain : Chain) (is : IsChain chain) (sound : IsSoundChain chain) where
         no_error = h.safe.no_error;
       }
 
-  pub IsLive-at : (fill : ℕ) (steps : List LiveStep) (number : ℕ) → All (IsLiveStep chain) steps → IsLive chain (live_at chain (first_live chain fill) steps number)
+  pub IsLive-at : (fill : ℕ) (steps : List LiveStep) (number : ℕ) → All (IsLiveStep chain) steps →
+      IsLive chain (live_at chain (first_live chain fill) steps number)
   IsLive-at fill steps number made =
       IsLive-run (first_live chain fill) (take number steps) (All-take (IsLiveStep chain) number steps made) (IsLive-first fill)

@@ -1,5 +1,6 @@
 -- The paths of a chain's programs over the slots: a slot that leads to no part leads on to the next.
-use Rattle.std.proofs.Common.{◌≡◌, ℕ, zero, suc, ◌+◌, ◌-◌, ◌*◌, ◌/◌, ◌%◌, ◌<◌, ◌≤◌, ◌⊎◌, inl, inr, true, length, Option, Some, None, Ok, Err, refl, sym, ap, subst, ◌∙◌, arith}
+use Rattle.std.proofs.Common.{◌≡◌, ℕ, zero, suc, ◌+◌, ◌-◌, ◌*◌, ◌/◌, ◌%◌, ◌<◌, ◌≤◌, ◌⊎◌, inl, inr, true, length, Option, Some, None, Ok}
+use Rattle.std.proofs.Common.{Err, refl, sym, ap, subst, ◌∙◌, arith}
 use Rattle.std.proofs.lemmas.Bool.{cond-true, cases_lt, cases_eq}
 use Rattle.std.proofs.lemmas.List.{get_or-replicate, get_or-set_other, get_or-set_same, get_or_past, length-replicate, length-set}
 use Rattle.risc_word.specs.declared.Ctl.{Ctl}
@@ -9,11 +10,13 @@ use Rattle.risc_word.specs.declared.WordFault.{WordFault}
 use Rattle.risc_word.specs.declared.WordFault.TheVariants.{Reserved}
 use Rattle.risc_word.specs.Words.{Reading, control_bits}
 use Rattle.machine_model.specs.declared.Cause.{Cause}
-use Rattle.machine_model.specs.Paths.{RiscProgram, Place, is_word, fetch, reading_cause, cause_at, next_by, next_place, place_after, place_read, path, IsSound}
+use Rattle.machine_model.specs.Paths.{RiscProgram, Place, is_word, fetch, reading_cause, cause_at, next_by, next_place, place_after}
+use Rattle.machine_model.specs.Paths.{place_read, path, IsSound}
 use Rattle.machine_model.proofs.Places.{place-IsFine, path-suc, jump-is_word, instr-fine}
 use Rattle.machine_model.proofs.BeforeTurns.{fetch-is_word}
 use Rattle.machine_model.proofs.OneSpan.{stands_among, word_there}
-use Rattle.chain_model.specs.Chains.{Chain, Patching, IsChain, IsPart, IsSoundChain, Belongs, alone, alone_in, chain_limit, head, jump_word, next, part_at, part_of, patched, patched_words, slot_at, target, unpatched}
+use Rattle.chain_model.specs.Chains.{Chain, Patching, IsChain, IsPart, IsSoundChain, Belongs, alone, alone_in, chain_limit, head, jump_word}
+use Rattle.chain_model.specs.Chains.{next, part_at, part_of, patched, patched_words, slot_at, target, unpatched}
 use Rattle.chain_model.proofs.Words.{slot_read, back_read, operand_read, length-patched}
 
 -- ---- patchings
@@ -31,27 +34,32 @@ pub part_at-unpatched : (chain : Chain) (slot : ℕ) → part_at (unpatched chai
 part_at-unpatched chain slot = none_by chain slot (cases_lt slot chain.slots)
 
 -- the slot of the part that is patched in alone leads there, and the slots before it lead on
-pub part_at-own : (chain : Chain) (slot : ℕ) (part : Option ℕ) → slot < chain.slots → Belongs chain slot part → part_at (alone_in chain part) slot ≡ part
+pub part_at-own : (chain : Chain) (slot : ℕ) (part : Option ℕ) → slot < chain.slots → Belongs chain slot part →
+    part_at (alone_in chain part) slot ≡ part
 part_at-own chain slot None lt there = part_at-unpatched chain slot
 part_at-own chain slot (Some part) lt there =
     ap (part_at (alone_in chain (Some part))) (sym there.1)
     ∙ get_or-set_same (unpatched chain) (part_of chain part).slot (Some part) None (omega (arith, lt, there.1, length-alone chain None))
 
-pub part_at-before : (chain : Chain) (slot k : ℕ) (part : Option ℕ) → k < slot → Belongs chain slot part → part_at (alone_in chain part) k ≡ None
+pub part_at-before : (chain : Chain) (slot k : ℕ) (part : Option ℕ) → k < slot → Belongs chain slot part →
+    part_at (alone_in chain part) k ≡ None
 part_at-before chain slot k None lt there = part_at-unpatched chain k
 part_at-before chain slot k (Some part) lt there =
     get_or-set_other (unpatched chain) (part_of chain part).slot k (Some part) None (λ e. absurd (omega (arith, lt, there.1, e)))
     ∙ part_at-unpatched chain k
 
-part_by : (chain : Chain) (slot part : ℕ) → part < length chain.parts → (slot ≡ (part_of chain part).slot) ⊎ (slot ≡ (part_of chain part).slot → ⊥) →
+part_by : (chain : Chain) (slot part : ℕ) → part < length chain.parts →
+    (slot ≡ (part_of chain part).slot) ⊎ (slot ≡ (part_of chain part).slot → ⊥) →
     (slot < chain.slots) → IsPart chain (part_at (alone_in chain (Some part)) slot)
 part_by chain slot part is (inl e) lt =
     subst (IsPart chain) (sym (part_at-own chain slot (Some part) lt (is, sym e))) is
 part_by chain slot part is (inr ne) lt =
-    subst (IsPart chain) (sym (get_or-set_other (unpatched chain) (part_of chain part).slot slot (Some part) None ne ∙ part_at-unpatched chain slot)) tt
+    subst (IsPart chain)
+    (sym (get_or-set_other (unpatched chain) (part_of chain part).slot slot (Some part) None ne ∙ part_at-unpatched chain slot)) tt
 
 -- any slot of it leads to none or to a part of the chain
-pub part_at-IsPart : (chain : Chain) (slot : ℕ) (part : Option ℕ) → slot < chain.slots → IsPart chain part → IsPart chain (part_at (alone_in chain part) slot)
+pub part_at-IsPart : (chain : Chain) (slot : ℕ) (part : Option ℕ) → slot < chain.slots → IsPart chain part →
+    IsPart chain (part_at (alone_in chain part) slot)
 part_at-IsPart chain slot None lt is = subst (IsPart chain) (sym (part_at-unpatched chain slot)) tt
 part_at-IsPart chain slot (Some part) lt is = part_by chain slot part is (cases_eq slot (part_of chain part).slot) lt
 
@@ -64,7 +72,8 @@ pub record JumpsTo (program : RiscProgram) (place : Place) (address : ℕ) : Typ
   pub fine : cause_at program place ≡ None
   pub next : next_place program place ≡ place_of address
 
-pub jumps_to : (program : RiscProgram) (place : Place) (ctl : Ctl) (address count : ℕ) → fetch program place.pc ≡ Ok (Jump ctl address, count) →
+pub jumps_to : (program : RiscProgram) (place : Place) (ctl : Ctl) (address count : ℕ) →
+    fetch program place.pc ≡ Ok (Jump ctl address, count) →
     is_word program address ≡ true → JumpsTo program place address
 jumps_to program place ctl address count read word =
     let fine : cause_at program place ≡ None =
@@ -85,14 +94,19 @@ module _ (chain : Chain) (patching : Patching) (long : length patching ≡ chain
       ap (is_word program) (sym here) ∙ word_there program (patched_words chain patching) (2 * slot) refl (omega arith)
 
   -- the path goes over slots that lead to no part
-  pub path_to_slot : (slot : ℕ) → slot ≤ chain.slots → ((k : ℕ) → k < slot → part_at patching k ≡ None) → path program slot ≡ place_of (slot_at chain slot)
+  pub path_to_slot : (slot : ℕ) → slot ≤ chain.slots → ((k : ℕ) → k < slot → part_at patching k ≡ None) →
+      path program slot ≡ place_of (slot_at chain slot)
   path_to_slot zero le none = let same : chain.base ≡ slot_at chain 0 = omega arith in ap place_of same
   path_to_slot (suc slot) le none =
       let before = path_to_slot slot (omega arith) (λ k lt. none k (omega arith)) in
       let on : next chain slot ≡ slot_at chain (suc slot) = omega arith in
-      let leads : target chain slot (part_at patching slot) ≡ slot_at chain (suc slot) = ap (target chain slot) (none slot (omega arith)) ∙ on in
-      let word : is_word program (target chain slot (part_at patching slot)) ≡ true = ap (is_word program) leads ∙ slot_is_word (suc slot) le in
-      let jump = jumps_to program (place_of (slot_at chain slot)) (control_bits jump_word) (target chain slot (part_at patching slot)) 2 (slot_read chain patching long slot (omega arith)) word in
+      let leads : target chain slot (part_at patching slot) ≡ slot_at chain (suc slot) =
+      ap (target chain slot) (none slot (omega arith)) ∙ on in
+      let word : is_word program (target chain slot (part_at patching slot)) ≡ true =
+      ap (is_word program) leads ∙ slot_is_word (suc slot) le in
+      let jump =
+      jumps_to program (place_of (slot_at chain slot)) (control_bits jump_word) (target chain slot (part_at patching slot)) 2
+      (slot_read chain patching long slot (omega arith)) word in
       ap (next_place program) before ∙ jump.next ∙ ap place_of leads
 
 -- ---- the loop without parts
@@ -119,23 +133,28 @@ module _ (chain : Chain) where
         next = (after, le', ap (next_place empty) there ∙ jump.next);
       }
 
-  at_slot : (number slot : ℕ) → slot ≤ chain.slots → path empty number ≡ place_of (slot_at chain slot) → (slot < chain.slots) ⊎ (chain.slots ≤ slot) → AtSlot chain number
+  at_slot : (number slot : ℕ) → slot ≤ chain.slots → path empty number ≡ place_of (slot_at chain slot) →
+      (slot < chain.slots) ⊎ (chain.slots ≤ slot) → AtSlot chain number
   at_slot number slot le there (inl lt) =
       let long = length-alone chain None in
       let on : next chain slot ≡ slot_at chain (suc slot) = omega arith in
-      let leads : target chain slot (part_at (unpatched chain) slot) ≡ slot_at chain (suc slot) = ap (target chain slot) (part_at-unpatched chain slot) ∙ on in
+      let leads : target chain slot (part_at (unpatched chain) slot) ≡ slot_at chain (suc slot) =
+      ap (target chain slot) (part_at-unpatched chain slot) ∙ on in
       let read : fetch empty (slot_at chain slot) ≡ Ok (Jump (control_bits jump_word) (slot_at chain (suc slot)), 2) =
       slot_read chain (unpatched chain) long slot lt ∙ ap (λ (t : ℕ). Ok (Jump (control_bits jump_word) t, 2)) leads in
       goes_on number slot (suc slot) le (omega arith) there
-      (jumps_to empty (place_of (slot_at chain slot)) (control_bits jump_word) (slot_at chain (suc slot)) 2 read (slot_is_word chain (unpatched chain) long (suc slot) (omega arith)))
+      (jumps_to empty (place_of (slot_at chain slot)) (control_bits jump_word) (slot_at chain (suc slot)) 2 read
+      (slot_is_word chain (unpatched chain) long (suc slot) (omega arith)))
   at_slot number slot le there (inr past) =
       let long = length-alone chain None in
       let last : slot ≡ chain.slots = omega arith in
       let base : chain.base ≡ slot_at chain 0 = omega arith in
       let read : fetch empty (slot_at chain slot) ≡ Ok (Jump (control_bits jump_word) (slot_at chain 0), 2) =
-      ap (λ (s : ℕ). fetch empty (slot_at chain s)) last ∙ back_read chain (unpatched chain) long ∙ ap (λ (t : ℕ). Ok (Jump (control_bits jump_word) t, 2)) base in
+      ap (λ (s : ℕ). fetch empty (slot_at chain s)) last ∙ back_read chain (unpatched chain) long
+      ∙ ap (λ (t : ℕ). Ok (Jump (control_bits jump_word) t, 2)) base in
       goes_on number slot 0 le (omega arith) there
-      (jumps_to empty (place_of (slot_at chain slot)) (control_bits jump_word) (slot_at chain 0) 2 read (slot_is_word chain (unpatched chain) long 0 (omega arith)))
+      (jumps_to empty (place_of (slot_at chain slot)) (control_bits jump_word) (slot_at chain 0) 2 read
+      (slot_is_word chain (unpatched chain) long 0 (omega arith)))
 
   round : (number : ℕ) → AtSlot chain number
   round zero =
@@ -166,9 +185,11 @@ module _ (chain : Chain) (is : IsChain chain) (sound : IsSoundChain chain) where
       let empties = length-patched chain (unpatched chain) (length-alone chain None) in omega arith
 
   -- the path of a part alone comes to its slot, and from there to the part
-  pub path_to_part : (slot : ℕ) (part : Option ℕ) → slot < chain.slots → Belongs chain slot part → path (alone chain part) slot ≡ place_of (slot_at chain slot)
+  pub path_to_part : (slot : ℕ) (part : Option ℕ) → slot < chain.slots → Belongs chain slot part →
+      path (alone chain part) slot ≡ place_of (slot_at chain slot)
   path_to_part slot part lt there =
-      path_to_slot chain (alone_in chain part) (length-alone chain part) slot (omega arith) (λ k below. part_at-before chain slot k part below there)
+      path_to_slot chain (alone_in chain part) (length-alone chain part) slot (omega arith)
+      (λ k below. part_at-before chain slot k part below there)
 
   own_read : (slot part : ℕ) → slot < chain.slots → Belongs chain slot (Some part) →
       fetch (alone chain (Some part)) (slot_at chain slot) ≡ Ok (Jump (control_bits jump_word) (head chain part), 2)
@@ -185,13 +206,15 @@ module _ (chain : Chain) (is : IsChain chain) (sound : IsSoundChain chain) where
       (instr-fine (alone chain (Some part)) slot (Jump (control_bits jump_word) (head chain part)) 2 (sound part there)
       (ap (λ (p : Place). fetch (alone chain (Some part)) p.pc) here ∙ own_read slot part lt (there, refl)))
 
-  pub path_to_head : (part : ℕ) → part < length chain.parts → path (alone chain (Some part)) (suc (part_of chain part).slot) ≡ place_of (head chain part)
+  pub path_to_head : (part : ℕ) → part < length chain.parts →
+      path (alone chain (Some part)) (suc (part_of chain part).slot) ≡ place_of (head chain part)
   path_to_head part there =
       let slot = (part_of chain part).slot in
       let lt = slot_below part there in
       let here = path_to_part slot (Some part) lt (there, refl) in
       ap (next_place (alone chain (Some part))) here
-      ∙ (jumps_to (alone chain (Some part)) (place_of (slot_at chain slot)) (control_bits jump_word) (head chain part) 2 (own_read slot part lt (there, refl)) (head_is_word part there)).next
+      ∙ (jumps_to (alone chain (Some part)) (place_of (slot_at chain slot)) (control_bits jump_word) (head chain part) 2
+      (own_read slot part lt (there, refl)) (head_is_word part there)).next
 
   -- where a slot leads is below the limit
   pub target_low : (slot : ℕ) (part : Option ℕ) → slot < chain.slots → IsPart chain part → target chain slot part < chain_limit
@@ -200,7 +223,9 @@ module _ (chain : Chain) (is : IsChain chain) (sound : IsSoundChain chain) where
       let size = length-patched chain (unpatched chain) (length-alone chain None) in omega arith
   target_low slot (Some part) lt there =
       let long = length-alone chain (Some part) in
-      let word = stands_among (alone chain (Some part)) (patched_words chain (alone_in chain (Some part))) (head chain part) refl (head_is_word part there) in
+      let word =
+      stands_among (alone chain (Some part)) (patched_words chain (alone_in chain (Some part))) (head chain part) refl
+      (head_is_word part there) in
       let ends = ends_low (alone_in chain (Some part)) long in
       let begins = word.begins in
       let aligned = word.aligned in
@@ -222,7 +247,8 @@ module _ (chain : Chain) (is : IsChain chain) (sound : IsSoundChain chain) where
     long : length (alone_in chain part) ≡ chain.slots
     long = length-alone chain part
 
-    at_even_or_odd : (address number : ℕ) (instr : Instr) (count : ℕ) → fetch member address ≡ Ok (instr, count) → address ≡ chain.base + 4 * number →
+    at_even_or_odd : (address number : ℕ) (instr : Instr) (count : ℕ) → fetch member address ≡ Ok (instr, count) →
+        address ≡ chain.base + 4 * number →
         number < 2 * chain.slots → (number % 2 ≡ 0) ⊎ (number % 2 ≡ 0 → ⊥) → Stands address
     at_even_or_odd address number instr count read at lt (inl even) = inl (number / 2, omega arith, omega arith)
     at_even_or_odd address number instr count read at lt (inr odd) =
@@ -230,16 +256,19 @@ module _ (chain : Chain) (is : IsChain chain) (sound : IsSoundChain chain) where
         let below : slot < chain.slots = omega arith in
         let here : address ≡ slot_at chain slot + 4 = omega arith in
         let low = target_low slot (part_at (alone_in chain part) slot) below (part_at-IsPart chain slot part below there) in
-        absurd (read_once (fetch member address) (instr, count) (Reserved 0) read (ap (fetch member) here ∙ operand_read chain (alone_in chain part) long slot below low))
+        absurd (read_once (fetch member address) (instr, count) (Reserved 0) read
+        (ap (fetch member) here ∙ operand_read chain (alone_in chain part) long slot below low))
 
-    stands_by : (address number : ℕ) (instr : Instr) (count : ℕ) → fetch member address ≡ Ok (instr, count) → address ≡ chain.base + 4 * number →
+    stands_by : (address number : ℕ) (instr : Instr) (count : ℕ) → fetch member address ≡ Ok (instr, count) →
+        address ≡ chain.base + 4 * number →
         (number < 2 * chain.slots) ⊎ (2 * chain.slots ≤ number) → Stands address
     stands_by address number instr count read at (inl lt) = at_even_or_odd address number instr count read at lt (cases_eq (number % 2) 0)
     stands_by address number instr count read at (inr past) = inr (omega arith)
 
     pub instr_stands : (address : ℕ) (instr : Instr) (count : ℕ) → fetch member address ≡ Ok (instr, count) → Stands address
     instr_stands address instr count read =
-        let word = stands_among member (patched_words chain (alone_in chain part)) address refl (fetch-is_word member address instr count read) in
+        let word =
+        stands_among member (patched_words chain (alone_in chain part)) address refl (fetch-is_word member address instr count read) in
         let begins = word.begins in
         let aligned = word.aligned in
         let number : ℕ = (address - chain.base) / 4 in
@@ -252,7 +281,8 @@ module _ (chain : Chain) (is : IsChain chain) (sound : IsSoundChain chain) where
 
     -- ---- at a slot the path has no target
 
-    none_or_later : (instr : Instr) (count : ℕ) (place : Place) → ((place_after instr count place).target ≡ None) ⊎ (place.pc ≤ (place_after instr count place).pc)
+    none_or_later : (instr : Instr) (count : ℕ) (place : Place) →
+        ((place_after instr count place).target ≡ None) ⊎ (place.pc ≤ (place_after instr count place).pc)
     none_or_later (Jump ctl address) count place = inl refl
     none_or_later instr count place = inr (omega arith)
 
@@ -261,19 +291,24 @@ module _ (chain : Chain) (is : IsChain chain) (sound : IsSoundChain chain) where
     comes_with slot here next lt at low (inl none) = none
     comes_with slot here next lt at low (inr later) = absurd (omega arith)
 
-    comes_by : (number slot : ℕ) → slot < chain.slots → (path member (suc number)).pc ≡ slot_at chain slot → Stands (path member number).pc →
+    comes_by : (number slot : ℕ) → slot < chain.slots → (path member (suc number)).pc ≡ slot_at chain slot →
+        Stands (path member number).pc →
         (path member (suc number)).target ≡ None
     comes_by number slot lt at (inl there') =
         let before = there'.0 in
         let read = ap (fetch member) there'.2 ∙ slot_read chain (alone_in chain part) long before there'.1 in
-        ap (λ (p : Place). p.target) (path-suc member number (Jump (control_bits jump_word) (target chain before (part_at (alone_in chain part) before))) 2 (alone_sound part there) read)
+        ap (λ (p : Place). p.target) (path-suc member number
+        (Jump (control_bits jump_word) (target chain before (part_at (alone_in chain part) before))) 2 (alone_sound part there) read)
     comes_by number slot lt at (inr low) =
         let fine = place-IsFine member number (alone_sound part there) in
         let after : Place = place_after fine.instr fine.length_in_words (path member number) in
-        let next : path member (suc number) ≡ after = path-suc member number fine.instr fine.length_in_words (alone_sound part there) fine.stands in
+        let next : path member (suc number) ≡ after =
+        path-suc member number fine.instr fine.length_in_words (alone_sound part there) fine.stands in
         ap (λ (p : Place). p.target) next
-        ∙ comes_with slot (path member number) after lt (ap (λ (p : Place). p.pc) (sym next) ∙ at) low (none_or_later fine.instr fine.length_in_words (path member number))
+        ∙ comes_with slot (path member number) after lt (ap (λ (p : Place). p.pc) (sym next) ∙ at) low
+        (none_or_later fine.instr fine.length_in_words (path member number))
 
-    pub slot_without_target : (number slot : ℕ) → slot < chain.slots → (path member number).pc ≡ slot_at chain slot → (path member number).target ≡ None
+    pub slot_without_target : (number slot : ℕ) → slot < chain.slots → (path member number).pc ≡ slot_at chain slot →
+        (path member number).target ≡ None
     slot_without_target zero slot lt at = refl
     slot_without_target (suc number) slot lt at = comes_by number slot lt at (path_stands number)

@@ -1,5 +1,6 @@
 -- What a turn stores doesn't depend on the program.
-use Rattle.std.proofs.Common.{◌≡◌, ℕ, zero, suc, Bool, true, false, List, [], ◌++◌, map, Option, Some, None, option_map, refl, ap, ap₂, ◌∙◌, if◌then◌else◌, ◌==◌}
+use Rattle.std.proofs.Common.{◌≡◌, ℕ, zero, suc, Bool, true, false, List, [], ◌++◌, map, Option, Some, None, option_map, refl, ap, ap₂, ◌∙◌}
+use Rattle.std.proofs.Common.{if◌then◌else◌, ◌==◌}
 use Rattle.risc_word.specs.declared.Instr.{Instr}
 use Rattle.sync_status.specs.declared.Verdict.{Verdict}
 use Rattle.sync_status.specs.declared.Verdict.TheVariants.{Take, Discard, Broken, Missing}
@@ -12,8 +13,10 @@ use Rattle.machine_model.specs.declared.Job.TheVariants.{Idle, Waiting, Running}
 use Rattle.machine_model.specs.Paths.{RiscProgram}
 use Rattle.machine_model.specs.States.{State}
 use Rattle.machine_model.specs.Steps.{with_program}
-use Rattle.machine_model.specs.Turns.{Store, demand_on, verdict_at, ended, is_cut_short, took, judged, served, apply_in, apply, lowest_served, is_done, counted}
-use Rattle.machine_model.specs.Accesses.{judged_stores, served_stores, stores_in, burst_stores, burst_stores_of, ran_stores, worked_stores, stores_if, writes}
+use Rattle.machine_model.specs.Turns.{Store, demand_on, verdict_at, ended, is_cut_short, took, judged, served, apply_in, apply}
+use Rattle.machine_model.specs.Turns.{lowest_served, is_done, counted}
+use Rattle.machine_model.specs.Accesses.{judged_stores, served_stores, stores_in, burst_stores, burst_stores_of, ran_stores, worked_stores}
+use Rattle.machine_model.specs.Accesses.{stores_if, writes}
 
 module _ (program : RiscProgram) where
   -- ---- an application
@@ -41,7 +44,8 @@ module _ (program : RiscProgram) where
   served-with (Some entry) q instr ds m =
       asked-with ((demand_on q ds).rest == 0) _ _ (judged-with (verdict_at q ds entry m) q instr ds entry m)
 
-  apply-with : (job : Job) (q : Queue) (m : State) → apply_in job q (with_program program m) ≡ option_map (with_program program) (apply_in job q m)
+  apply-with : (job : Job) (q : Queue) (m : State) →
+      apply_in job q (with_program program m) ≡ option_map (with_program program) (apply_in job q m)
   apply-with Idle q m = refl
   apply-with (Waiting ctl resync code) q m = refl
   apply-with (Running instr ds) q m = served-with (front (queue_state q m.queues)) q instr ds m
@@ -59,7 +63,8 @@ module _ (program : RiscProgram) where
       served_stores top q instr ds (with_program program m) ≡ served_stores top q instr ds m
   served_stores-with None q instr ds m = refl
   served_stores-with (Some entry) q instr ds m =
-      ap (λ (made : List Store). if (demand_on q ds).rest == 0 then [] else made) (judged_stores-with (verdict_at q ds entry m) q instr ds entry m)
+      ap (λ (made : List Store). if (demand_on q ds).rest == 0 then [] else made)
+      (judged_stores-with (verdict_at q ds entry m) q instr ds entry m)
 
   stores_in-with : (job : Job) (q : Queue) (m : State) → stores_in job q (with_program program m) ≡ stores_in job q m
   stores_in-with Idle q m = refl
@@ -79,7 +84,8 @@ module _ (program : RiscProgram) where
   burst_stores-with zero q m = refl
   burst_stores-with (suc count) q m =
       ap₂ (λ (first rest : List Store). first ++ rest) (stores_in-with m.job q m)
-      (ap (λ (next : Option State). elim next as (λ _. List Store) [ None ↦ [] | Some after ↦ burst_stores count q after ]) (apply-with m.job q m)
+      (ap (λ (next : Option State). elim next as (λ _. List Store) [ None ↦ [] | Some after ↦ burst_stores count q after ])
+      (apply-with m.job q m)
       ∙ rest-with count q (apply q m) (burst_stores-with count q))
 
   burst_stores_of-with : (q : Option Queue) (m : State) → burst_stores_of q (with_program program m) ≡ burst_stores_of q m

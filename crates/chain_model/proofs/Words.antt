@@ -1,5 +1,7 @@
 -- The words of a chain: what is read at a slot, and that behind the slots all patchings have the same words.
-use Rattle.std.proofs.Common.{◌≡◌, ℕ, zero, suc, ◌+◌, ◌-◌, ◌*◌, ◌/◌, ◌%◌, ◌<◌, ◌≤◌, Bool, true, false, ◌&&◌, List, [], ◌∷◌, ◌++◌, length, drop, length-append, Option, Some, None, Ok, Err, refl, sym, ap, ◌∙◌, arith, if◌then◌else◌, ◌==◌, nat_lt, nat_le}
+use Rattle.std.proofs.Common.{◌≡◌, ℕ, zero, suc, ◌+◌, ◌-◌, ◌*◌, ◌/◌, ◌%◌, ◌<◌, ◌≤◌, Bool, true, false, ◌&&◌, List, [], ◌∷◌, ◌++◌, length}
+use Rattle.std.proofs.Common.{drop, length-append, Option, Some, None, Ok, Err, refl, sym, ap, ◌∙◌, arith, if◌then◌else◌, ◌==◌, nat_lt}
+use Rattle.std.proofs.Common.{nat_le}
 use Rattle.std.proofs.lemmas.List.{drop-drop}
 use Rattle.bit_field.specs.Bits.{bits}
 use Rattle.risc_word.specs.declared.Instr.TheVariants.{Jump}
@@ -8,10 +10,12 @@ use Rattle.risc_word.specs.Words.{by_opcode, control_bits, first_instr, instr_at
 use Rattle.machine_model.specs.Paths.{RiscProgram, is_there, is_word, word_at, words_from, fetch}
 use Rattle.machine_model.specs.Accesses.{AreFetchedAlike}
 use Rattle.machine_model.proofs.OneSpan.{fetch_there, is_word-there, stands_among}
-use Rattle.chain_model.specs.Chains.{Chain, Patching, chain_limit, jump_word, loop_words, part_at, patched, patched_words, slot_at, target, words_of_parts}
+use Rattle.chain_model.specs.Chains.{Chain, Patching, chain_limit, jump_word, loop_words, part_at, patched, patched_words, slot_at, target}
+use Rattle.chain_model.specs.Chains.{words_of_parts}
 
 -- nothing is fetched where no word is
-without : (program : RiscProgram) (pc : ℕ) (word : Option ℕ) → word_at program pc ≡ word → is_there word ≡ false → fetch program pc ≡ Err Cut
+without : (program : RiscProgram) (pc : ℕ) (word : Option ℕ) → word_at program pc ≡ word → is_there word ≡ false →
+    fetch program pc ≡ Err Cut
 without program pc None e lacks =
     ap (λ (word : Option ℕ). first_instr (elim word as (λ _. List ℕ) [ None ↦ [] | Some word ↦ word ∷ words_from 4 program (pc + 4) ])) e
 without program pc (Some word) e lacks = cc
@@ -27,14 +31,19 @@ module _ (chain : Chain) where
   length-loop first (part ∷ rest) = let more = length-loop (suc first) rest in omega arith
 
   -- the words of a slot, and those after it
-  slot_drop : (first : ℕ) (patching : Patching) (others : List ℕ) (slot n number : ℕ) → slot < length patching → n ≡ 2 * slot → first + slot ≡ number →
-      (rest : List ℕ) × (drop n (loop_words chain first patching ++ others) ≡ jump_word ∷ target chain number (part_at patching slot) ∷ rest)
+  slot_drop : (first : ℕ) (patching : Patching) (others : List ℕ) (slot n number : ℕ) → slot < length patching → n ≡ 2 * slot →
+      first + slot ≡ number →
+      (rest : List ℕ)
+      × (drop n (loop_words chain first patching ++ others) ≡ jump_word ∷ target chain number (part_at patching slot) ∷ rest)
   slot_drop first [] others slot n number lt e at = absurd (omega arith)
   slot_drop first (part ∷ rest) others zero n number lt e at =
       let none : n ≡ 0 = omega arith in
       let same : first ≡ number = omega arith in
-      let more : List ℕ = loop_words chain (suc first) rest ++ others in
-      (more, ap (λ (k : ℕ). drop k (loop_words chain first (part ∷ rest) ++ others)) none ∙ ap (λ (k : ℕ). jump_word ∷ target chain k part ∷ more) same)
+      let more : List ℕ = loop_words chain (suc first) rest ++ others in (
+        more,
+        ap (λ (k : ℕ). drop k (loop_words chain first (part ∷ rest) ++ others)) none
+            ∙ ap (λ (k : ℕ). jump_word ∷ target chain k part ∷ more) same,
+      )
   slot_drop first (part ∷ rest) others (suc slot) n number lt e at =
       let two : n ≡ suc (suc (2 * slot)) = omega arith in
       let later = slot_drop (suc first) rest others slot (2 * slot) number (omega arith) refl (omega arith) in
@@ -47,7 +56,8 @@ module _ (chain : Chain) where
       let same : n ≡ k = omega arith in ap (λ (i : ℕ). drop i (jump_word ∷ chain.base ∷ others)) same
   behind_drop first (part ∷ rest) others k n e =
       let two : n ≡ suc (suc (2 * length rest + k)) = omega arith in
-      ap (λ (i : ℕ). drop i (loop_words chain first (part ∷ rest) ++ others)) two ∙ behind_drop (suc first) rest others k (2 * length rest + k) refl
+      ap (λ (i : ℕ). drop i (loop_words chain first (part ∷ rest) ++ others)) two
+      ∙ behind_drop (suc first) rest others k (2 * length rest + k) refl
 
   -- ---- a patching of the chain's length
 
@@ -120,7 +130,8 @@ module _ (chain : Chain) where
         ∙ sym (behind_drop 0 second (words_of_parts chain.parts) k n (omega arith)))
         ∙ sym (read_there second also n)
         ∙ ap (fetch (patched chain second)) (sym here)
-    read_if false pc there low = not_there (patched chain first) pc there ∙ sym (not_there (patched chain second) pc (sym (same_words pc) ∙ there))
+    read_if false pc there low =
+        not_there (patched chain first) pc there ∙ sym (not_there (patched chain second) pc (sym (same_words pc) ∙ there))
 
     -- behind the slots the same is fetched
     pub behind_alike : (pc : ℕ) → slot_at chain chain.slots ≤ pc → AreFetchedAlike pc (patched chain first) (patched chain second)

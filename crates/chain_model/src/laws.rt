@@ -8,7 +8,8 @@ ghost use Rattle.chain_model.specs.Live.{IsLiveStep, LiveInside, LiveStep, first
 /// At every place of every live run of a sound chain from the first state, whatever the host patches: each byte written is
 /// granted, each word fetched is one of the chain, and OCERR is 0.
 pub fn every_live_run_stays_inside()
-    ensures { (chain : Chain) (fill : ℕ) (steps : List LiveStep) (number : ℕ) → IsChain chain → IsSoundChain chain → All (IsLiveStep chain) steps →
+    ensures { (chain : Chain) (fill : ℕ) (steps : List LiveStep) (number : ℕ) →
+        IsChain chain → IsSoundChain chain → All (IsLiveStep chain) steps →
         LiveInside chain (live_at chain (first_live chain fill) steps number) }
 {}
 

@@ -1,5 +1,6 @@
 -- Between the end of a field and the next one nothing is stored.
-use Rattle.std.proofs.Common.{◌≡◌, ℕ, zero, suc, ◌+◌, ◌-◌, ◌<◌, ◌≤◌, Bool, true, false, ◌==◌, List, take, Option, Some, None, Ok, Err, refl, sym, ap, subst, ◌∙◌, arith, ◌⊎◌, inl, inr}
+use Rattle.std.proofs.Common.{◌≡◌, ℕ, zero, suc, ◌+◌, ◌-◌, ◌<◌, ◌≤◌, Bool, true, false, ◌==◌, List, take, Option, Some, None, Ok, Err, refl}
+use Rattle.std.proofs.Common.{sym, ap, subst, ◌∙◌, arith, ◌⊎◌, inl, inr}
 use Rattle.risc_word.specs.declared.Code.{Code}
 use Rattle.risc_word.specs.declared.Ctl.{Ctl}
 use Rattle.risc_word.specs.declared.Instr.{Instr}
@@ -60,7 +61,8 @@ module _ (program : RiscProgram) (fuel : ℕ) (m : State) (idle : m.job ≡ Idle
   jumps_on true ctl target h = record { memory = refl; quiet = inr (inr (idle, fuel, h)) }
   jumps_on false ctl target h = record { memory = refl; quiet = inl refl }
 
-  fetches_on : (instr : Instr) (count : ℕ) → behind_at instr m.pc (behind fuel program) ≡ None → Stays program m (instr_fetched instr count m)
+  fetches_on : (instr : Instr) (count : ℕ) → behind_at instr m.pc (behind fuel program) ≡ None →
+      Stays program m (instr_fetched instr count m)
   fetches_on (Jump ctl target) count h = jumps_on (is_word m.program target) ctl target h
   fetches_on (Sync ctl resync code) count h = record { memory = refl; quiet = inr (inl refl) }
   fetches_on (Write ctl ends off n addr) count h = absurd (not_behind (m.pc, NothingAwaited) h)
@@ -71,7 +73,10 @@ module _ (program : RiscProgram) (fuel : ℕ) (m : State) (idle : m.job ≡ Idle
   fetches_on (Write1S23 ctl ends off counts addr) count h = absurd (not_behind (m.pc, NothingAwaited) h)
 
   reads_on : (reading : Reading) →
-      elim reading as (λ _. Option (ℕ × Why)) [ Err fault ↦ Some (m.pc, Unread) | Ok read ↦ behind_at read.0 m.pc (behind fuel program) ] ≡ None →
+      elim reading as (λ _. Option (ℕ × Why)) [
+        | Err fault ↦ Some (m.pc, Unread)
+        | Ok read ↦ behind_at read.0 m.pc (behind fuel program)
+      ] ≡ None →
       Stays program m (fetched reading m)
   reads_on (Err fault) h = cc
   reads_on (Ok (instr, count)) h = fetches_on instr count h
@@ -88,19 +93,24 @@ module _ (program : RiscProgram) (m : State) (own : m.program ≡ program) (h : 
       let s = reads_on program fuel (counted m) idle (fetch m.program m.pc)
       (ap
       (λ (p : RiscProgram).
-      elim (fetch p m.pc) as (λ _. Option (ℕ × Why)) [ Err fault ↦ Some (m.pc, Unread) | Ok read ↦ behind_at read.0 m.pc (behind fuel program) ])
+      elim (fetch p m.pc) as (λ _. Option (ℕ × Why)) [
+        | Err fault ↦ Some (m.pc, Unread)
+        | Ok read ↦ behind_at read.0 m.pc (behind fuel program)
+      ])
       own
       ∙ none) in
       record { memory = s.memory; quiet = s.quiet }
 
-  works_on : (is_waiting m.job ≡ true → is_waiting (worked m.job (counted m)).job ≡ true) → m.risc_on ≡ true → Stays program m (worked m.job (counted m))
+  works_on : (is_waiting m.job ≡ true → is_waiting (worked m.job (counted m)).job ≡ true) → m.risc_on ≡ true →
+      Stays program m (worked m.job (counted m))
   works_on waits on = by h
     where
       by : IsQuiet program m → Stays program m (worked m.job (counted m))
       by (inl off) = cc
       by (inr (inl waiting)) = record { memory = waits_memory m.job (counted m) waiting; quiet = inr (inl (waits waiting)) }
       by (inr (inr behind_end)) =
-          subst (λ (job : Job). Stays program m (worked job (counted m))) (sym behind_end.0) (fetches_by behind_end.1 behind_end.0 behind_end.2)
+          subst (λ (job : Job). Stays program m (worked job (counted m))) (sym behind_end.0)
+          (fetches_by behind_end.1 behind_end.0 behind_end.2)
 
   turns_on : (is_waiting m.job ≡ true → is_waiting (turn m).job ≡ true) → Stays program m (turn m)
   turns_on waits = by m.risc_on refl
@@ -135,7 +145,8 @@ module _ (program : RiscProgram) (m : State) (own : m.program ≡ program) (h : 
 
 -- ---- from the end on
 
-module _ (program : RiscProgram) (d : Desc) (field : Parity) (f : Found) (fill : ℕ) (steps : List Step) (k l : ℕ) (b : IsBehind program d field f fill steps k l) where
+module _ (program : RiscProgram) (d : Desc) (field : Parity) (f : Found) (fill : ℕ) (steps : List Step) (k l : ℕ)
+    (b : IsBehind program d field f fill steps k l) where
   abbrev place : ℕ → State
   place i = state_of program fill steps i
 
@@ -173,7 +184,8 @@ module _ (program : RiscProgram) (d : Desc) (field : Parity) (f : Found) (fill :
   goes (suc n) le =
       let there = b.there in
       let so_far = goes n (omega arith) in
-      let next : place (k + n + 1) ≡ step (step_at steps (k + n)) (place (k + n)) = state_next (first_state program fill) steps (k + n) (omega arith) in
+      let next : place (k + n + 1) ≡ step (step_at steps (k + n)) (place (k + n)) =
+      state_next (first_state program fill) steps (k + n) (omega arith) in
       let one = steps_on program (place (k + n)) (own (k + n)) so_far.quiet (step_at steps (k + n)) (enabled_at n (omega arith))
       (λ waits. ap (λ (m : State). is_waiting m.job) (sym next) ∙ unopened_at n (omega arith) waits) in
       let here : k + n + 1 ≡ k + suc n = omega arith in
@@ -193,7 +205,8 @@ nothing_stored_behind program d field f fill steps k l b =
 
 pub run_shows_both : RunShowsBoth
 run_shows_both program d field other f g picture next fill steps j k i l first between second = (
-  subst (After d field picture (state_of program fill steps j).memory) (sym (nothing_stored_behind program d field f fill steps k i between))
+  subst (After d field picture (state_of program fill steps j).memory)
+      (sym (nothing_stored_behind program d field f fill steps k i between))
       (run_shows_picture program d field f picture fill steps j k first),
   run_shows_picture program d other g next fill steps i l second,
 )

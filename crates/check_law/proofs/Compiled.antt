@@ -1,5 +1,7 @@
 -- The program of a description is found to show each field that it describes.
-use Rattle.std.proofs.Common.{◌≡◌, ℕ, zero, suc, ◌+◌, ◌*◌, ◌<◌, ◌≤◌, Bool, true, false, not, ◌&&◌, ◌==◌, if◌then◌else◌, List, [], ◌∷◌, ◌++◌, length, drop, map, Option, Some, None, option_map, Ok, Err, refl, sym, ap, ◌∙◌, arith, append-nil, eq-eqb, ne_eqb, slice_index}
+use Rattle.std.proofs.Common.{◌≡◌, ℕ, zero, suc, ◌+◌, ◌*◌, ◌<◌, ◌≤◌, Bool, true, false, not, ◌&&◌, ◌==◌, if◌then◌else◌, List, [], ◌∷◌, ◌++◌}
+use Rattle.std.proofs.Common.{length, drop, map, Option, Some, None, option_map, Ok, Err, refl, sym, ap, ◌∙◌, arith, append-nil, eq-eqb}
+use Rattle.std.proofs.Common.{ne_eqb, slice_index}
 use Rattle.std.proofs.lemmas.Bool.{cond-false, cond-true}
 use Rattle.std.proofs.Common.{mul-pos}
 use Rattle.std.proofs.Math.Seq.{drop-append_seam}
@@ -25,7 +27,9 @@ use Rattle.capture_desc.specs.declared.desc.Desc.{Desc}
 use Rattle.pixel_layout.specs.declared.Parity.{Parity}
 use Rattle.picture_law.proofs.Program.{piece_plain}
 use Rattle.check_model.specs.ByBytes.{by_bytes, bytes_asked}
-use Rattle.check_model.specs.Checks.{Answer, Awaited, begins_field, behind, behind_at, ended, eol_by, eol_why, first_unlike, first_why, goes_on, instr_asks, instr_why, is_none, is_vertical, left_by, none_left, one_more, order_why, over_queues, queue_why, reach_at, same_ask, same_place, waiting_why, walked, walked_at, walked_by}
+use Rattle.check_model.specs.Checks.{Answer, Awaited, begins_field, behind, behind_at, ended, eol_by, eol_why, first_unlike, first_why}
+use Rattle.check_model.specs.Checks.{goes_on, instr_asks, instr_why, is_none, is_vertical, left_by, none_left, one_more, order_why}
+use Rattle.check_model.specs.Checks.{over_queues, queue_why, reach_at, same_ask, same_place, waiting_why, walked, walked_at, walked_by}
 use Rattle.check_model.specs.Lines.{last_spot}
 use Rattle.check_model.specs.declared.Why.{Why}
 use Rattle.check_model.specs.declared.Why.TheVariants.{NothingAwaited, Unread}
@@ -86,7 +90,8 @@ if_either true one other first later = first
 if_either false one other first later = later
 
 -- EOL and whether the line goes on are checked only where bytes are asked, and there they are right
-right_end : (moves eol goes : Bool) (judged : Bool → Bool → Option Why) → judged true false ≡ None → judged false true ≡ None → (moves ≡ true → eol ≡ not goes) →
+right_end : (moves eol goes : Bool) (judged : Bool → Bool → Option Why) → judged true false ≡ None → judged false true ≡ None →
+    (moves ≡ true → eol ≡ not goes) →
     (if moves then judged eol goes else None) ≡ None
 right_end false eol goes judged ends inner right = refl
 right_end true true false judged ends inner right = ends
@@ -94,7 +99,8 @@ right_end true false true judged ends inner right = inner
 right_end true true true judged ends inner right = let never = right refl in cc
 right_end true false false judged ends inner right = let never = right refl in cc
 
-module _ (d : Desc) (field : Parity) (instr : Instr) (rest : List Instr) (left : Awaited) (is : IsNext instr (after_in rest)) (same : (q : Queue) → left q ≡ by_bytes (asks q (instr ∷ rest))) where
+module _ (d : Desc) (field : Parity) (instr : Instr) (rest : List Instr) (left : Awaited) (is : IsNext instr (after_in rest))
+    (same : (q : Queue) → left q ≡ by_bytes (asks q (instr ∷ rest))) where
   split : (q : Queue) → left q ≡ instr_asks q instr ++ after_in rest q
   split q = same q ∙ ap (λ (first : List Ask). first ++ after_in rest q) (sym (append-nil (bytes_asked (asked q instr))))
 
@@ -112,7 +118,8 @@ module _ (d : Desc) (field : Parity) (instr : Instr) (rest : List Instr) (left :
       let fine = no_queue (queue_why d field instr left) queue_fine in
       if_either (is_data instr) _ _ fine
       (no_first (over_queues (waiting_why d field instr left)) (over_queues (queue_why d field instr left))
-      (no_queue (waiting_why d field instr left) (λ q. if_either (is_none (left q)) None (queue_why d field instr left q) refl (queue_fine q))) fine)
+      (no_queue (waiting_why d field instr left)
+      (λ q. if_either (is_none (left q)) None (queue_why d field instr left q) refl (queue_fine q))) fine)
 
   eol_fine : (q : Queue) → eol_why d field instr left q ≡ None
   eol_fine q =
@@ -121,7 +128,9 @@ module _ (d : Desc) (field : Parity) (instr : Instr) (rest : List Instr) (left :
       (λ some. is.ends q some ∙ ap (λ (later : List Ask). not (goes_on later)) (sym (left_then q)))
 
   fine : first_why (order_why d field instr left) (over_queues (eol_why d field instr left)) ≡ None
-  fine = no_first (order_why d field instr left) (over_queues (eol_why d field instr left)) order_fine (no_queue (eol_why d field instr left) eol_fine)
+  fine =
+      no_first (order_why d field instr left) (over_queues (eol_why d field instr left)) order_fine
+      (no_queue (eol_why d field instr left) eol_fine)
 
 -- nothing is wrong with it
 lanes_plain : (off : ℕ) (lanes other : Option Why) → off ≡ 0 → (if not (off == 0) then lanes else other) ≡ other
@@ -156,24 +165,32 @@ some_first (ask ∷ first) rest e = refl
 
 -- ---- the walk
 
-module _ (program : RiscProgram) (ctl : Ctl) (target : ℕ) (opening : Ctl) (resync : Bool) (code : Code) (count : ℕ) (vertical : is_vertical code ≡ true)
+module _ (program : RiscProgram) (ctl : Ctl) (target : ℕ) (opening : Ctl) (resync : Bool) (code : Code) (count : ℕ)
+    (vertical : is_vertical code ≡ true)
     (next : fetch program target ≡ Ok (Sync opening resync code, count)) where
   -- the closing leads to the next field
   behind_next : (fuel : ℕ) → behind (suc fuel) program target ≡ None
   behind_next fuel =
-      ap (λ (reading : Reading). elim reading as (λ _. Option (ℕ × Why)) [ Err fault ↦ Some (target, Unread) | Ok read ↦ behind_at read.0 target (behind fuel program) ]) next
+      ap (λ (reading : Reading). elim reading as (λ _. Option (ℕ × Why)) [
+        | Err fault ↦ Some (target, Unread)
+        | Ok read ↦ behind_at read.0 target (behind fuel program)
+      ]) next
       ∙ cond-true (is_vertical code) None (Some (target, NothingAwaited)) vertical
 
   behind_closing : (fuel at : ℕ) → fetch program at ≡ Ok (Jump ctl target, 2) → behind (suc (suc fuel)) program at ≡ None
   behind_closing fuel at is =
-      ap (λ (reading : Reading). elim reading as (λ _. Option (ℕ × Why)) [ Err fault ↦ Some (at, Unread) | Ok read ↦ behind_at read.0 at (behind (suc fuel) program) ]) is
+      ap (λ (reading : Reading). elim reading as (λ _. Option (ℕ × Why)) [
+        | Err fault ↦ Some (at, Unread)
+        | Ok read ↦ behind_at read.0 at (behind (suc fuel) program)
+      ]) is
       ∙ behind_next fuel
 
   module _ (d : Desc) (field : Parity) where
     abbrev goes_from : ℕ → ℕ → Awaited → Answer
     goes_from fuel at left = walked fuel program d field at left
 
-    pub walks_all : (body : List Instr) (at fuel : ℕ) (left : Awaited) → StandsFrom program at body ctl target → AreNext body → ((q : Queue) → left q ≡ by_bytes (asks q body)) →
+    pub walks_all : (body : List Instr) (at fuel : ℕ) (left : Awaited) → StandsFrom program at body ctl target → AreNext body →
+        ((q : Queue) → left q ≡ by_bytes (asks q body)) →
         walked (length body + suc (suc fuel)) program d field at left ≡ Ok (at + 4 * words_in body, length body)
     walks_all [] at fuel left stands are same =
         let more : length {A = Instr} [] + suc (suc fuel) ≡ suc (suc fuel) = omega arith in
@@ -186,17 +203,22 @@ module _ (program : RiscProgram) (ctl : Ctl) (target : ℕ) (opening : Ctl) (res
         let is = are.0 in
         let long = length rest + suc (suc fuel) in
         let more : length (instr ∷ rest) + suc (suc fuel) ≡ suc (length rest + suc (suc fuel)) = omega arith in
-        let some : is_none (left One) ≡ false = ap is_none (split d field instr rest left is same One) ∙ some_first (instr_asks One instr) (after_in rest One) is.some in
+        let some : is_none (left One) ≡ false =
+        ap is_none (split d field instr rest left is same One) ∙ some_first (instr_asks One instr) (after_in rest One) is.some in
         let why = no_why d field instr left is.plain is.inner (fine d field instr rest left is same) in
         let step : next_at instr at ≡ at + 4 * length (encoded instr) = plain_next instr at is.plain in
         let end : at + 4 * length (encoded instr) + 4 * words_in rest ≡ at + 4 * words_in (instr ∷ rest) = omega arith in
         ap (λ (fuel : ℕ). goes_from fuel at left) more
         ∙ cond-false (none_left left) _ _ (some_left left some)
-        ∙ ap (λ (reading : Reading). elim reading as (λ _. Answer) [ Err fault ↦ Err (at, Unread) | Ok read ↦ walked_at (begins_field read.0) d field read.0 at left (goes_from long) ]) stands.0
+        ∙ ap (λ (reading : Reading). elim reading as (λ _. Answer) [
+          | Err fault ↦ Err (at, Unread)
+          | Ok read ↦ walked_at (begins_field read.0) d field read.0 at left (goes_from long)
+        ]) stands.0
         ∙ ap (λ (begins : Bool). walked_at begins d field instr at left (goes_from long)) is.inner
         ∙ ap (λ (why : Option Why). walked_by why instr at left (goes_from long)) why
         ∙ ap (λ (pc : ℕ). one_more (goes_from long pc (left_by instr left))) step
-        ∙ ap one_more (walks_all rest (at + 4 * length (encoded instr)) fuel (left_by instr left) stands.2 are.1 (left_then d field instr rest left is same))
+        ∙ ap one_more (walks_all rest (at + 4 * length (encoded instr)) fuel (left_by instr left) stands.2 are.1
+        (left_then d field instr rest left is same))
         ∙ ap (λ (end : ℕ). Ok (end, suc (length rest))) end
 
 -- ---- the instructions of a line
@@ -216,7 +238,8 @@ record Asks (q : Queue) (instr : Instr) (sol : Bool) (count : ℕ) : Type 0 wher
   address : Option ℕ
   is : asked q instr ≡ ask (sol && not (count == 0)) count address
 
-piece_asks : (q : Queue) (planar : Bool) (kind : PieceKind) (p : Piece) → moves planar q ≡ true → Asks q (instr_by planar kind p) p.ends.sol (count_on q p)
+piece_asks : (q : Queue) (planar : Bool) (kind : PieceKind) (p : Piece) → moves planar q ≡ true →
+    Asks q (instr_by planar kind p) p.ends.sol (count_on q p)
 piece_asks One true kinds.Write p m = record { address = _; is = refl }
 piece_asks Two true kinds.Write p m = record { address = _; is = refl }
 piece_asks Three true kinds.Write p m = record { address = _; is = refl }
@@ -232,7 +255,8 @@ piece_asks One false kinds.Skip p m = record { address = _; is = refl }
 piece_asks Two false kind p m = cc
 piece_asks Three false kind p m = cc
 
-idle_piece : (q : Queue) (planar : Bool) (kind : PieceKind) (p : Piece) → moves planar q ≡ false → asked q (instr_by planar kind p) ≡ GoOn 0 None
+idle_piece : (q : Queue) (planar : Bool) (kind : PieceKind) (p : Piece) → moves planar q ≡ false →
+    asked q (instr_by planar kind p) ≡ GoOn 0 None
 idle_piece One planar kind p m = cc
 idle_piece Two true kind p m = cc
 idle_piece Three true kind p m = cc
@@ -272,7 +296,8 @@ not_and false = refl
 
 ask_zero : (sol : Bool) (count : ℕ) (address : Option ℕ) → count ≡ 0 → bytes_asked (ask (sol && not (count == 0)) count address) ≡ []
 ask_zero sol count address e =
-    ap (λ (count : ℕ). bytes_asked (ask (sol && not (count == 0)) count address)) e ∙ ap (λ (begins : Bool). bytes_asked (ask begins 0 address)) (not_and sol)
+    ap (λ (count : ℕ). bytes_asked (ask (sol && not (count == 0)) count address)) e
+    ∙ ap (λ (begins : Bool). bytes_asked (ask begins 0 address)) (not_and sol)
 
 some_not : (sol : Bool) (count : ℕ) → 0 < count → (sol && not (count == 0)) ≡ sol
 some_not sol count some = ap (λ (none : Bool). sol && not none) (ne_eqb count 0 (λ none. omega arith)) ∙ and_true sol
@@ -292,7 +317,8 @@ module _ (q : Queue) (instr : Instr) (sol : Bool) (count : ℕ) (asks_it : Asks 
   asked_some : 0 < count → bytes_asked (asked q instr) ≡ bytes_asked (ask sol count asks_it.address)
   asked_some some = asked_by ∙ ap (λ (begins : Bool). bytes_asked (ask begins count asks_it.address)) (some_not sol count some)
 
-  first_goes : (sol' : Bool) (count' : ℕ) (address : Option ℕ) → 0 < count' → goes_on (bytes_asked (ask sol' count' address) ++ after_in rest q) ≡ not sol'
+  first_goes : (sol' : Bool) (count' : ℕ) (address : Option ℕ) → 0 < count' →
+      goes_on (bytes_asked (ask sol' count' address) ++ after_in rest q) ≡ not sol'
   first_goes sol' zero address some = absurd (omega arith)
   first_goes true (suc count') address some = refl
   first_goes false (suc count') address some = refl
@@ -300,7 +326,8 @@ module _ (q : Queue) (instr : Instr) (sol : Bool) (count : ℕ) (asks_it : Asks 
   goes : 0 < count → goes_on (after_in (instr ∷ rest) q) ≡ not sol
   goes some = ap (λ (first : List Ask). goes_on (first ++ after_in rest q)) (asked_some some) ∙ first_goes sol count asks_it.address some
 
-  asks_something : (sol' : Bool) (count' : ℕ) (address : Option ℕ) → 0 < count' → is_none (bytes_asked (ask sol' count' address) ++ []) ≡ false
+  asks_something : (sol' : Bool) (count' : ℕ) (address : Option ℕ) → 0 < count' →
+      is_none (bytes_asked (ask sol' count' address) ++ []) ≡ false
   asks_something sol' zero address some = absurd (omega arith)
   asks_something true (suc count') address some = refl
   asks_something false (suc count') address some = refl
@@ -309,7 +336,8 @@ module _ (q : Queue) (instr : Instr) (sol : Bool) (count : ℕ) (asks_it : Asks 
   is_some some = ap (λ (first : List Ask). is_none (first ++ [])) (asked_some some) ∙ asks_something sol count asks_it.address some
 
 none_asked : (q : Queue) (instr : Instr) (later : List Ask) → bytes_asked (asked q instr) ≡ [] → EndsRight q instr later
-none_asked q instr later e some = absurd (no_bytes (is_data instr) (is_none (instr_asks q instr)) (ap (λ (first : List Ask). is_none (first ++ [])) e) some)
+none_asked q instr later e some =
+    absurd (no_bytes (is_data instr) (is_none (instr_asks q instr)) (ap (λ (first : List Ask). is_none (first ++ [])) e) some)
 
 -- ---- a line
 
@@ -342,7 +370,9 @@ module _ (memory : List Chunk) (strip : Strip) (some : 0 < strip.one.size) where
   unmoved_idle q m k = ap bytes_asked (idle_piece q strip.planar (piece_of memory strip k).kind (piece_of memory strip k) m)
 
   unsized_idle : (q : Queue) → moves strip.planar q ≡ true → size_on q strip ≡ 0 → IsIdle q
-  unsized_idle q m none k = zero_asked q (instr_at k) (k.at == 0) (k.n * size_on q strip) (cut_asks q k m) [] (let product = ap (λ (n : ℕ). k.n * n) none in omega arith)
+  unsized_idle q m none k =
+      zero_asked q (instr_at k) (k.at == 0) (k.n * size_on q strip) (cut_asks q k m) []
+      (let product = ap (λ (n : ℕ). k.n * n) none in omega arith)
 
   -- by whether the line concerns a queue
   by_queue : (P : Queue → Type 0) (q : Queue) → (IsIdle q → P q) → (moves strip.planar q ≡ true → 0 < size_on q strip → P q) → P q
@@ -355,7 +385,8 @@ module _ (memory : List Chunk) (strip : Strip) (some : 0 < strip.one.size) where
 
   idle_line : (q : Queue) → IsIdle q → (cuts : List Cut) (later : List Instr) → after_in (instrs cuts ++ later) q ≡ after_in later q
   idle_line q idle [] later = refl
-  idle_line q idle (k ∷ rest) later = ap (λ (first : List Ask). first ++ after_in (instrs rest ++ later) q) (idle k) ∙ idle_line q idle rest later
+  idle_line q idle (k ∷ rest) later =
+      ap (λ (first : List Ask). first ++ after_in (instrs rest ++ later) q) (idle k) ∙ idle_line q idle rest later
 
   pub fresh_line : (cuts : List Cut) (later : List Instr) → Follow strip.grains 0 cuts → IsFresh later → IsFresh (instrs cuts ++ later)
   fresh_line [] later follow fresh q = fresh q
@@ -369,7 +400,8 @@ module _ (memory : List Chunk) (strip : Strip) (some : 0 < strip.one.size) where
   eol_is : (k : Cut) → (instr_ends (instr_at k)).eol ≡ (k.at + k.n == strip.grains)
   eol_is k = piece_ends strip.planar (piece_of memory strip k).kind (piece_of memory strip k)
 
-  line_ends : (q : Queue) (at : ℕ) (k : Cut) (rest : List Cut) (later : List Instr) → Follow strip.grains at (k ∷ rest) → IsFresh later → EndsRight q (instr_at k) (after_in (instrs rest ++ later) q)
+  line_ends : (q : Queue) (at : ℕ) (k : Cut) (rest : List Cut) (later : List Instr) → Follow strip.grains at (k ∷ rest) → IsFresh later →
+      EndsRight q (instr_at k) (after_in (instrs rest ++ later) q)
   line_ends q at k [] later follow fresh =
       let last : k.at + k.n ≡ strip.grains = let here = follow.0 in let end = follow.2 in omega arith in
       λ some. eol_is k ∙ eq-eqb (k.at + k.n) strip.grains last ∙ ap not (sym (fresh q))
@@ -385,9 +417,11 @@ module _ (memory : List Chunk) (strip : Strip) (some : 0 < strip.one.size) where
       let end = follow_end strip.grains (at + k.n + k'.n) rest next.2 in
       λ some.
       eol_is k ∙ ne_eqb (k.at + k.n) strip.grains (λ e. omega arith)
-      ∙ ap not (sym (goes q (instr_at k') (k'.at == 0) (k'.n * size_on q strip) (cut_asks q k' m) (instrs rest ++ later) (mul-pos n' size) ∙ ap not (ne_eqb k'.at 0 (λ e. omega arith)))))
+      ∙ ap not (sym (goes q (instr_at k') (k'.at == 0) (k'.n * size_on q strip) (cut_asks q k' m) (instrs rest ++ later) (mul-pos n' size)
+      ∙ ap not (ne_eqb k'.at 0 (λ e. omega arith)))))
 
-  pub line_next : (at : ℕ) (cuts : List Cut) (later : List Instr) → Follow strip.grains at cuts → AreNext later → IsFresh later → AreNext (instrs cuts ++ later)
+  pub line_next : (at : ℕ) (cuts : List Cut) (later : List Instr) → Follow strip.grains at cuts → AreNext later → IsFresh later →
+      AreNext (instrs cuts ++ later)
   line_next at [] later follow are fresh = are
   line_next at (k ∷ rest) later follow are fresh = (
     record {

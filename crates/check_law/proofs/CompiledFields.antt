@@ -1,6 +1,7 @@
 -- The program of a description is found to show each field that it describes: its bodies are awaited, and its path comes
 -- to each opening.
-use Rattle.std.proofs.Common.{◌≡◌, ℕ, zero, suc, ◌+◌, ◌-◌, ◌<◌, ◌≤◌, Bool, true, false, ◌==◌, if◌then◌else◌, List, [], ◌∷◌, ◌++◌, length, map, replicate, Ok, Err, refl, sym, ap, subst, ◌∙◌, arith, append_assoc, append-nil, eq-eqb, length-append}
+use Rattle.std.proofs.Common.{◌≡◌, ℕ, zero, suc, ◌+◌, ◌-◌, ◌<◌, ◌≤◌, Bool, true, false, ◌==◌, if◌then◌else◌, List, [], ◌∷◌, ◌++◌, length}
+use Rattle.std.proofs.Common.{map, replicate, Ok, Err, refl, sym, ap, subst, ◌∙◌, arith, append_assoc, append-nil, eq-eqb, length-append}
 use Rattle.std.specs.Prelude.{nat_le}
 use Rattle.std.specs.List.{range_with_len}
 use Rattle.risc_word.specs.declared.Code.{Code}
@@ -16,7 +17,9 @@ use Rattle.capture_desc.specs.declared.desc.Fields.{Fields}
 use Rattle.capture_desc.specs.declared.desc.Fields.TheVariants as fields
 use Rattle.picture_model.specs.Described.{describes, layout_of, memory_of, rows_of}
 use Rattle.picture_model.specs.Plans.{Strip, cuts_of, row_strip, skipped_strip, vbi_strip}
-use Rattle.picture_model.specs.Programs.{body, closing, compiled, compiled_words, data_code, field_instrs, line_instrs, lines_instrs, next_by, begin_by, no_control, opening, picture_strips, section, section_begin, section_next, signal, sync, vbi_from, vbi_strips, vertical, words_of}
+use Rattle.picture_model.specs.Programs.{body, closing, compiled, compiled_words, data_code, field_instrs, line_instrs, lines_instrs}
+use Rattle.picture_model.specs.Programs.{next_by, begin_by, no_control, opening, picture_strips, section, section_begin, section_next}
+use Rattle.picture_model.specs.Programs.{signal, sync, vbi_from, vbi_strips, vertical, words_of}
 use Rattle.page_table.specs.Taken.{in_order}
 use Rattle.picture_model.proofs.Circle.{split_length, words_split}
 use Rattle.picture_model.proofs.Each.{Each, each_append, each_map, each_range, each_replicate}
@@ -47,7 +50,8 @@ record Lines (instrs : List Instr) : Type 0 where
   fresh : IsFresh instrs
 
 module _ (d : Desc) where
-  lines_Lines : (strips : List Strip) (later : List Instr) → Each (IsStrip (memory_of d)) strips → Each (λ strip. 0 < strip.one.size) strips → Lines later → Lines (lines_instrs d strips ++ later)
+  lines_Lines : (strips : List Strip) (later : List Instr) → Each (IsStrip (memory_of d)) strips →
+      Each (λ strip. 0 < strip.one.size) strips → Lines later → Lines (lines_instrs d strips ++ later)
   lines_Lines [] later fit some h = h
   lines_Lines (strip ∷ rest) later fit some h =
       let behind = lines_Lines rest later fit.1 some.1 h in
@@ -87,16 +91,19 @@ module _ (d : Desc) (right : IsRight d) where
 
   vbi_some : (field : Parity) → Each (λ strip. 0 < strip.one.size) (vbi_strips d field)
   vbi_some field =
-      each_append (λ strip. 0 < strip.one.size) (replicate (vbi_skip d field) (skipped_vbi_strip d)) (map (vbi_strip d field) (range_with_len 0 d.vbi_lines))
+      each_append (λ strip. 0 < strip.one.size) (replicate (vbi_skip d field) (skipped_vbi_strip d))
+      (map (vbi_strip d field) (range_with_len 0 d.vbi_lines))
       (each_replicate (λ strip. 0 < strip.one.size) (vbi_skip d field) (skipped_vbi_strip d) (omega arith))
-      (each_map (λ line. line < d.vbi_lines) (λ strip. 0 < strip.one.size) (vbi_strip d field) (range_with_len 0 d.vbi_lines) (λ line below. omega arith)
+      (each_map (λ line. line < d.vbi_lines) (λ strip. 0 < strip.one.size) (vbi_strip d field) (range_with_len 0 d.vbi_lines)
+      (λ line below. omega arith)
       (each_range 0 d.vbi_lines d.vbi_lines (omega arith)))
 
   picture_some : (field : Parity) → Each (λ strip. 0 < strip.one.size) (picture_strips d field)
   picture_some field =
       each_append (λ strip. 0 < strip.one.size) (replicate d.skip_lines (skipped_strip d)) (map (row_strip d) (rows_of d field))
       (each_replicate (λ strip. 0 < strip.one.size) d.skip_lines (skipped_strip d) luma_some)
-      (each_map (λ row. Unit {0}) (λ strip. 0 < strip.one.size) (row_strip d) (rows_of d field) (λ row any. luma_some) (anything (rows_of d field)))
+      (each_map (λ row. Unit {0}) (λ strip. 0 < strip.one.size) (row_strip d) (rows_of d field) (λ row any. luma_some)
+      (anything (rows_of d field)))
     where
       anything : (rows : List ℕ) → Each (λ row. Unit {0}) rows
       anything [] = tt
@@ -106,13 +113,17 @@ module _ (d : Desc) (right : IsRight d) where
   field_Lines field =
       sync_Lines (data_code (layout_of d).planar) (lines_instrs d (picture_strips d field)) (fm_inner (layout_of d).planar)
       (subst Lines (append-nil (lines_instrs d (picture_strips d field)))
-      (lines_Lines d (picture_strips d field) [] (picture_strips_fit d right field) (picture_some field) (record { next = tt; fresh = λ q. refl })))
+      (lines_Lines d (picture_strips d field) [] (picture_strips_fit d right field) (picture_some field) (record {
+        next = tt;
+        fresh = λ q. refl;
+      })))
 
   vbi_Lines : (lines : ℕ) (field : Parity) → describes d.fields field ≡ true → Lines (vbi_from lines d field ++ field_instrs d field)
   vbi_Lines zero field described = field_Lines field
   vbi_Lines (suc more) field described =
       sync_Lines Fm1 (lines_instrs d (vbi_strips d field) ++ field_instrs d field) refl
-      (lines_Lines d (vbi_strips d field) (field_instrs d field) (vbi_strips_fit d right field described) (vbi_some field) (field_Lines field))
+      (lines_Lines d (vbi_strips d field) (field_instrs d field) (vbi_strips_fit d right field described) (vbi_some field)
+      (field_Lines field))
 
   body_next : (field : Parity) → describes d.fields field ≡ true → AreNext (body d field)
   body_next field described = (vbi_Lines d.vbi_lines field described).next
@@ -144,10 +155,12 @@ module _ (d : Desc) (right : IsRight d) where
     pub stands : StandsFrom (compiled d) (begin field) (opening field ∷ body d field) (signal field) (target field)
     stands =
         let there = section_stands d d.base d.base field is in
-        stands_from (compiled d) (compiled d) (signal field) (target field) (signal_spelled field (target field)) there.after (opening field ∷ body d field) there.before (begin field)
+        stands_from (compiled d) (compiled d) (signal field) (target field) (signal_spelled field (target field)) there.after
+        (opening field ∷ body d field) there.before (begin field)
         (ap (spans_of d.base)
         (there.split
-        ∙ ap (λ (words : List ℕ). there.before ++ (words ++ there.after)) (words_split (opening field ∷ body d field) (closing field (target field)) [])
+        ∙ ap (λ (words : List ℕ). there.before ++ (words ++ there.after))
+        (words_split (opening field ∷ body d field) (closing field (target field)) [])
         ∙ regrouped there.before (words_of (opening field ∷ body d field)) (encoded (closing field (target field))) there.after))
         there.at good (tt, body_plain d field)
       where
@@ -159,26 +172,34 @@ module _ (d : Desc) (right : IsRight d) where
     enough =
         let there = section_stands d d.base d.base field is in
         let part = words_of (section d field (target field)) in
-        let all : length (compiled_words d) ≡ length there.before + (length part + length there.after) = ap length there.split ∙ split_length there.before part there.after in
+        let all : length (compiled_words d) ≡ length there.before + (length part + length there.after) =
+        ap length there.split ∙ split_length there.before part there.after in
         let words = ap length (all_words-one_span d.base (compiled_words d) (in_order (memory_of d))) in
         let split = ap length (words_split (opening field ∷ body d field) (closing field (target field)) []) in
         let parts = length-append (words_of (opening field ∷ body d field)) (encoded (closing field (target field)) ++ []) in
         let few = few_words (compiled d) (opening field ∷ body d field) good in
         (length (compiled_words d) - (length (body d field) + 2), omega arith, omega arith)
 
-  next_opens : (field : Parity) → describes d.fields field ≡ true → (code : Code) × (is_vertical code ≡ true) × (fetch (compiled d) (target field) ≡ Ok (sync true code, 2))
+  next_opens : (field : Parity) → describes d.fields field ≡ true →
+      (code : Code) × (is_vertical code ≡ true) × (fetch (compiled d) (target field) ≡ Ok (sync true code, 2))
   next_opens field is =
       let next = next_field d.fields d d.base field is in
       (vertical next.0, vertical_is next.0, ap (fetch (compiled d)) next.2 ∙ (stands next.0 next.1).0)
 
-  pub found : (field : Parity) → describes d.fields field ≡ true → checked (compiled d) d field (begin field) ≡ Ok (closing_at (section_of d field), length (body d field))
+  pub found : (field : Parity) → describes d.fields field ≡ true →
+      checked (compiled d) d field (begin field) ≡ Ok (closing_at (section_of d field), length (body d field))
   found field is =
       let next = next_opens field is in
       let more = enough field is in
-      ap (λ (reading : Reading). elim reading as (λ _. Answer) [ Err fault ↦ Err (begin field, Unread) | Ok read ↦ opened read.0 (compiled d) d field (begin field) ]) (stands field is).0
-      ∙ opened_walks (code_number (vertical field) == code_number (vertical field)) (Err (begin field, NoSync (vertical field))) (Err (begin field, NoResync)) (walked (fuel (compiled d)) (compiled d) d field (begin field + 8) (awaited d field)) (eq-eqb _ _ refl)
+      ap (λ (reading : Reading). elim reading as (λ _. Answer) [
+        | Err fault ↦ Err (begin field, Unread)
+        | Ok read ↦ opened read.0 (compiled d) d field (begin field)
+      ]) (stands field is).0
+      ∙ opened_walks (code_number (vertical field) == code_number (vertical field)) (Err (begin field, NoSync (vertical field)))
+      (Err (begin field, NoResync)) (walked (fuel (compiled d)) (compiled d) d field (begin field + 8) (awaited d field)) (eq-eqb _ _ refl)
       ∙ ap (λ (fuel : ℕ). walked fuel (compiled d) d field (begin field + 8) (awaited d field)) more.1
-      ∙ walks_all (compiled d) (signal field) (target field) no_control true next.0 2 next.1 next.2 d field (body d field) (begin field + 8) more.0 (awaited d field) (stands field is).2 (body_next d right field is) (λ q. refl)
+      ∙ walks_all (compiled d) (signal field) (target field) no_control true next.0 2 next.1 next.2 d field (body d field)
+      (begin field + 8) more.0 (awaited d field) (stands field is).2 (body_next d right field is) (λ q. refl)
 
   -- the path comes to its opening within as many places as the program has words
   pub record ComesSoon (address : ℕ) : Type 0 where
@@ -187,9 +208,14 @@ module _ (d : Desc) (right : IsRight d) where
     pub soon : number < fuel (compiled d)
 
   at_first : (field : Parity) → describes d.fields field ≡ true → ComesSoon d.base
-  at_first field is = let more = enough field is in let some = more.2 in let long = more.1 in record { number = 0; there = refl; soon = omega arith }
+  at_first field is =
+      let more = enough field is in
+      let some = more.2 in
+      let long = more.1 in
+      record { number = 0; there = refl; soon = omega arith }
 
-  comes_by : (which : Fields) → which ≡ d.fields → (field : Parity) → describes d.fields field ≡ true → describes which field ≡ true → ComesSoon (begin_by which d d.base field)
+  comes_by : (which : Fields) → which ≡ d.fields → (field : Parity) → describes d.fields field ≡ true → describes which field ≡ true →
+      ComesSoon (begin_by which d d.base field)
   comes_by fields.Top e Top described is = at_first Top described
   comes_by fields.Top e Bottom described is = cc
   comes_by fields.Bottom e Top described is = cc
@@ -204,7 +230,9 @@ module _ (d : Desc) (right : IsRight d) where
       let long = more.1 in
       record {
         number = suc (length (opening Top ∷ body d Top) + 0);
-        there = place_behind (compiled d) (compiled_sound d right) (opening Top ∷ body d Top) 0 (begin Top) (signal Top) (target Top) (stands Top top) (sym at) ∙ to;
+        there =
+            place_behind (compiled d) (compiled_sound d right) (opening Top ∷ body d Top) 0 (begin Top) (signal Top) (target Top)
+            (stands Top top) (sym at) ∙ to;
         soon = omega arith;
       }
 

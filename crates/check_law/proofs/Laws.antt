@@ -1,5 +1,6 @@
 -- The law of the picture for programs that are found to show a field, from that of trails.
-use Rattle.std.proofs.Common.{◌≡◌, ℕ, suc, ◌+◌, Bool, true, false, not, ◌==◌, if◌then◌else◌, List, [], ◌∷◌, ◌++◌, All, length, Ok, Err, refl, sym, ap, subst, ◌∙◌, arith, eq-eqb}
+use Rattle.std.proofs.Common.{◌≡◌, ℕ, suc, ◌+◌, Bool, true, false, not, ◌==◌, if◌then◌else◌, List, [], ◌∷◌, ◌++◌, All, length, Ok, Err}
+use Rattle.std.proofs.Common.{refl, sym, ap, subst, ◌∙◌, arith, eq-eqb}
 use Rattle.risc_word.specs.declared.Instr.{Instr}
 use Rattle.risc_word.specs.declared.Instr.TheVariants.{Sync}
 use Rattle.risc_word.specs.Words.{Reading, code_number, encoded}
@@ -45,13 +46,18 @@ module _ (program : RiscProgram) (d : Desc) (field : Parity) (f : Found) (c : Is
   -- the trail of the field in the program
   pub found : Walked program (f.begin + 8) (awaited d field) f.end f.count
   found =
-      let there : fetch program (path program c.number).pc ≡ Ok (Sync f.opening true (vertical field), 2) = ap (fetch program) c.on_path ∙ c.opens in
+      let there : fetch program (path program c.number).pc ≡ Ok (Sync f.opening true (vertical field), 2) =
+      ap (fetch program) c.on_path ∙ c.opens in
       let next : (path program (suc c.number)).pc ≡ f.begin + 8 =
       ap (λ (place : Place). place.pc) (path-suc program c.number (Sync f.opening true (vertical field)) 2 c.sound there)
       ∙ ap (λ (pc : ℕ). pc + 8) c.on_path in
       walks program c.sound d field (fuel program) (f.begin + 8) (suc c.number) (awaited d field) f.end f.count next
-      (sym (opened_walks (code_number (vertical field) == code_number (vertical field)) (Err (f.begin, NoSync (vertical field))) (Err (f.begin, NoResync)) (walked (fuel program) program d field (f.begin + 8) (awaited d field)) (eq-eqb _ _ refl))
-      ∙ sym (ap (λ (reading : Reading). elim reading as (λ _. Answer) [ Err fault ↦ Err (f.begin, Unread) | Ok read ↦ opened read.0 program d field f.begin ]) c.opens)
+      (sym (opened_walks (code_number (vertical field) == code_number (vertical field)) (Err (f.begin, NoSync (vertical field)))
+      (Err (f.begin, NoResync)) (walked (fuel program) program d field (f.begin + 8) (awaited d field)) (eq-eqb _ _ refl))
+      ∙ sym (ap (λ (reading : Reading). elim reading as (λ _. Answer) [
+        | Err fault ↦ Err (f.begin, Unread)
+        | Ok read ↦ opened read.0 program d field f.begin
+      ]) c.opens)
       ∙ c.found)
 
   abbrev trail : Trail
@@ -73,16 +79,20 @@ module _ (program : RiscProgram) (d : Desc) (field : Parity) (f : Found) (c : Is
     tokens = field_tokens d picture skipped
 
     uses : UsesField found.body tokens
-    uses q = same_uses IsUsedUp (asks q found.body) (asks q (body d field)) [] (tokens q) (found.asked q) (section_uses d right field c.described picture is skipped skips 0 0 q)
+    uses q =
+        same_uses IsUsedUp (asks q found.body) (asks q (body d field)) [] (tokens q) (found.asked q)
+        (section_uses d right field c.described picture is skipped skips 0 0 q)
 
     -- it stores what the description's own section stores
     stores : (q : Queue) → body_stores (body d field) tokens q ≡ body_stores found.body tokens q
     stores q = sym (same_planned (asks q found.body) (asks q (body d field)) [] (tokens q) (found.asked q))
 
-    paints : (memory : List Block) (final : ℕ → ℕ) → PaintsField (body d field) tokens memory final → PaintsField found.body tokens memory final
+    paints : (memory : List Block) (final : ℕ → ℕ) → PaintsField (body d field) tokens memory final →
+        PaintsField found.body tokens memory final
     paints memory final p =
         record {
-          within = λ q. subst (λ (made : List Store). All (λ store. granted (chunks_of memory) store.address ≡ true) made) (stores q) (p.within q);
+          within = λ q.
+              subst (λ (made : List Store). All (λ store. granted (chunks_of memory) store.address ≡ true) made) (stores q) (p.within q);
           agree = λ q. subst (λ (made : List Store). All (λ store. final store.address ≡ store.byte) made) (stores q) (p.agree q);
           others = λ address none. p.others address (λ q. ap (is_stored address) (stores q) ∙ none q);
         }
@@ -95,7 +105,8 @@ module _ (program : RiscProgram) (d : Desc) (field : Parity) (f : Found) (c : Is
         (ap (is_stored address) (sym (stores q) ∙ section_makes d right field c.described picture is skipped skips 0 0 q)
         ∙ kept_stored d right field c.described picture is skipped skips byte address kept)
 
-module _ (program : RiscProgram) (d : Desc) (field : Parity) (f : Found) (picture : Picture) (m : State) (steps : List Met) (c : Captures program d field f picture m steps) where
+module _ (program : RiscProgram) (d : Desc) (field : Parity) (f : Found) (picture : Picture) (m : State) (steps : List Met)
+    (c : Captures program d field f picture m steps) where
   abbrev field_of : Queue → List Token
   field_of = field_tokens d picture c.arrives.brought.skipped
 
@@ -104,7 +115,8 @@ module _ (program : RiscProgram) (d : Desc) (field : Parity) (f : Found) (pictur
       record {
         orderly = c.orderly;
         made = c.made;
-        held = λ k other within. subst (Leads (trail program d field f c.shown)) (sym (c.own k other within)) (leads program d field f c.shown);
+        held = λ k other within.
+            subst (Leads (trail program d field f c.shown)) (sym (c.own k other within)) (leads program d field f c.shown);
         uses = uses program d field f c.shown picture c.pictured c.arrives.brought.skipped c.arrives.brought.lines;
         arrives = record {
           fifo_on = c.arrives.fifo_on;
@@ -122,12 +134,14 @@ module _ (program : RiscProgram) (d : Desc) (field : Parity) (f : Found) (pictur
       }
 
 -- the closing is at the end
-closing_is : (program : RiscProgram) (end : ℕ) (body : List Instr) (at : ℕ) (closing instr : Instr) (count : ℕ) → LeadsFrom program end at body closing → fetch program end ≡ Ok (instr, count) → closing ≡ instr
+closing_is : (program : RiscProgram) (end : ℕ) (body : List Instr) (at : ℕ) (closing instr : Instr) (count : ℕ) →
+    LeadsFrom program end at body closing → fetch program end ≡ Ok (instr, count) → closing ≡ instr
 closing_is program end [] at closing instr count leads is =
     let both : Ok (closing, length (encoded closing)) ≡ Ok (instr, count) = sym leads.1 ∙ ap (fetch program) leads.0 ∙ is in
     let pair : (closing, length (encoded closing)) ≡ (instr, count) = cc in
     ap (λ (pair : Instr × ℕ). pair.0) pair
-closing_is program end (first ∷ rest) at closing instr count leads is = closing_is program end rest (next_at first at) closing instr count leads.3 is
+closing_is program end (first ∷ rest) at closing instr count leads is =
+    closing_is program end rest (next_at first at) closing instr count leads.3 is
 
 pub shows_picture : ShowsPicture
 shows_picture program d field f picture m early late c unended ended =
@@ -138,10 +152,12 @@ shows_picture program d field f picture m early late c unended ended =
     let is_right = right program d field f c.shown in
     let described = c.shown.described in
     let is = c.pictured in
-    let there : HasPlaces d field (chunks_of m.memory) = subst (HasPlaces d field) (sym c.chunks) (places program d field f c.shown picture is skipped skips) in
+    let there : HasPlaces d field (chunks_of m.memory) =
+    subst (HasPlaces d field) (sym c.chunks) (places program d field f c.shown picture is skipped skips) in
     let now = painted d is_right field described picture is skipped skips m.memory there in
     let after = painted_after d is_right field described picture is skipped skips m.memory there in
-    after_same d field picture m.memory now (run_in m (early ++ (program, Turn) ∷ [])).memory after (chunks-run_in m (early ++ (program, Turn) ∷ []))
+    after_same d field picture m.memory now (run_in m (early ++ (program, Turn) ∷ [])).memory after
+    (chunks-run_in m (early ++ (program, Turn) ∷ []))
     (λ address.
     proved.trail_shows_picture t (field_tokens d picture skipped) (byte_at now) m early late program
     (receives program d field f picture m steps c)
@@ -151,16 +167,20 @@ shows_picture program d field f picture m early late c unended ended =
 pub shows_no_fault : ShowsNoFault
 shows_no_fault program d field f picture m early late c unended =
     let steps = early ++ (program, Turn) ∷ late in
-    proved.trail_shows_no_fault (trail program d field f c.shown) (field_of program d field f picture m steps c) m early late program (receives program d field f picture m steps c) unended
+    proved.trail_shows_no_fault (trail program d field f c.shown) (field_of program d field f picture m steps c) m early late program
+    (receives program d field f picture m steps c) unended
 
 pub ends_with_closing : EndsWithClosing
 ends_with_closing program d field f picture m early late c unended ended instr count is =
     let steps = early ++ (program, Turn) ∷ late in
     let t = trail program d field f c.shown in
-    proved.trail_ends_with_closing t (field_of program d field f picture m steps c) m early late program (receives program d field f picture m steps c) unended ended
-    ∙ ap (λ (closing : Instr). after_closing closing (run_in m early).interrupts) (closing_is program f.end t.body (f.begin + 8) t.closing instr count (leads program d field f c.shown) is)
+    proved.trail_ends_with_closing t (field_of program d field f picture m steps c) m early late program
+    (receives program d field f picture m steps c) unended ended
+    ∙ ap (λ (closing : Instr). after_closing closing (run_in m early).interrupts)
+    (closing_is program f.end t.body (f.begin + 8) t.closing instr count (leads program d field f c.shown) is)
 
 pub ends_in_time : EndsInTime
 ends_in_time program d field f picture m early late c come many =
     let long = (found program d field f c.shown).long in
-    proved.trail_is_bounded (trail program d field f c.shown) (field_of program d field f picture m (early ++ late) c) m early late (receives program d field f picture m (early ++ late) c) come (omega arith)
+    proved.trail_is_bounded (trail program d field f c.shown) (field_of program d field f picture m (early ++ late) c) m early late
+    (receives program d field f picture m (early ++ late) c) come (omega arith)

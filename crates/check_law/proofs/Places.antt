@@ -1,5 +1,6 @@
 -- The law of the picture over the places of a run, from that over steps that each meet the program.
-use Rattle.std.proofs.Common.{◌≡◌, ℕ, ◌+◌, ◌-◌, ◌*◌, ◌≤◌, true, false, List, [], ◌∷◌, ◌++◌, All, length, take, drop, refl, sym, ap, ◌∙◌, subst, arith}
+use Rattle.std.proofs.Common.{◌≡◌, ℕ, ◌+◌, ◌-◌, ◌*◌, ◌≤◌, true, false, List, [], ◌∷◌, ◌++◌, All, length, take, drop, refl, sym, ap, ◌∙◌}
+use Rattle.std.proofs.Common.{subst, arith}
 use Rattle.std.proofs.lemmas.List.Elements.{All-drop, All-take}
 use Rattle.fifo_model.specs.declared.Queue.{Queue}
 use Rattle.fifo_model.specs.Queues.{queue_state}
@@ -22,7 +23,8 @@ use Rattle.picture_law.proofs.Ends as ends
 use Rattle.field_law.specs.Trails.{after_closing}
 use Rattle.field_law.specs.Arrivals.{Met, meeting, coming, entries_of, over_queues, has_end, is_end, turns_in}
 use Rattle.check_law.specs.Laws.{Found, Captures}
-use Rattle.check_law.specs.Runs.{ArrivesAt, IsCapture, IsEnded, state_of, RunShowsPicture, RunShowsNoFault, RunEndsWithClosing, RunEndsInTime}
+use Rattle.check_law.specs.Runs.{ArrivesAt, IsCapture, IsEnded, state_of, RunShowsPicture, RunShowsNoFault, RunEndsWithClosing}
+use Rattle.check_law.specs.Runs.{RunEndsInTime}
 use Rattle.check_law.proofs.Laws.{shows_picture, shows_no_fault, ends_with_closing, ends_in_time}
 
 module _ (program : RiscProgram) (d : Desc) (field : Parity) (f : Found) (picture : Picture) (fill : ℕ) (steps : List Step) (j : ℕ) where
@@ -37,7 +39,8 @@ module _ (program : RiscProgram) (d : Desc) (field : Parity) (f : Found) (pictur
       (IsOrderly-run start part made (IsOrderly-first_state program fill), chunks-run start part ∙ chunks_of-filled fill program.grants)
 
   -- a picture that arrives over some of the steps from j on
-  abbrev captures : IsCapture program d field f picture steps → (l : ℕ) → ArrivesAt program d field f picture m (between j l steps) → Captures program d field f picture m (meeting program (between j l steps))
+  abbrev captures : IsCapture program d field f picture steps → (l : ℕ) → ArrivesAt program d field f picture m (between j l steps) →
+      Captures program d field f picture m (meeting program (between j l steps))
   captures c l arrives =
       let ran = runs_from (take j steps) (All-take IsStep j steps c.made) in
       record {
@@ -63,7 +66,8 @@ module _ (program : RiscProgram) (d : Desc) (field : Parity) (f : Found) (pictur
 
 -- ---- up to a signal
 
-module _ (program : RiscProgram) (d : Desc) (field : Parity) (f : Found) (picture : Picture) (fill : ℕ) (steps : List Step) (j k : ℕ) (s : IsEnded program d field f picture fill steps j k) where
+module _ (program : RiscProgram) (d : Desc) (field : Parity) (f : Found) (picture : Picture) (fill : ℕ) (steps : List Step) (j k : ℕ)
+    (s : IsEnded program d field f picture fill steps j k) where
   last_turn : step_at steps k ≡ Turn
   last_turn = ends.last_turn program fill steps f.end j k s.signal
 
@@ -71,7 +75,8 @@ module _ (program : RiscProgram) (d : Desc) (field : Parity) (f : Found) (pictur
       Captures program d field f picture (state_of program fill steps j)
       (meeting program (between j i steps) ++ (program, Turn) ∷ meeting program (between (i + 1) (k + 1) steps))
   captured i from to is_turn =
-      subst (Captures program d field f picture (state_of program fill steps j)) (ends.split_at program fill steps f.end j k s.signal i from to is_turn)
+      subst (Captures program d field f picture (state_of program fill steps j))
+      (ends.split_at program fill steps f.end j k s.signal i from to is_turn)
       (captures program d field f picture fill steps j s.capture (k + 1) s.arrives)
 
   unended_to : (i : ℕ) → j ≤ i → i ≤ k → has_end f.end (state_of program fill steps j) (meeting program (between j i steps)) ≡ false
@@ -80,14 +85,16 @@ module _ (program : RiscProgram) (d : Desc) (field : Parity) (f : Found) (pictur
   ends_there : is_end f.end (run_in (state_of program fill steps j) (meeting program (between j k steps))) Turn ≡ true
   ends_there = ends.ends_last program fill steps f.end j k s.signal
 
-  ended : run_in (state_of program fill steps j) (meeting program (between j k steps) ++ (program, Turn) ∷ []) ≡ state_of program fill steps (k + 1)
+  ended : run_in (state_of program fill steps j) (meeting program (between j k steps) ++ (program, Turn) ∷ [])
+      ≡ state_of program fill steps (k + 1)
   ended = ends.ran_through program fill steps f.end j k s.signal
 
 pub run_shows_picture : RunShowsPicture
 run_shows_picture program d field f picture fill steps j k s =
     let later = s.signal.later in
     let turn = last_turn program d field f picture fill steps j k s in
-    subst (λ (m' : State). After d field picture (state_of program fill steps j).memory m'.memory) (ended program d field f picture fill steps j k s)
+    subst (λ (m' : State). After d field picture (state_of program fill steps j).memory m'.memory)
+    (ended program d field f picture fill steps j k s)
     (shows_picture program d field f picture (state_of program fill steps j)
     (meeting program (between j k steps)) (meeting program (between (k + 1) (k + 1) steps))
     (captured program d field f picture fill steps j k s k later (omega arith) turn)
@@ -101,21 +108,27 @@ run_ends_with_closing program d field f picture fill steps j k s instr count is 
     ∙ ends_with_closing program d field f picture (state_of program fill steps j)
     (meeting program (between j k steps)) (meeting program (between (k + 1) (k + 1) steps))
     (captured program d field f picture fill steps j k s k later (omega arith) turn)
-    (unended_to program d field f picture fill steps j k s k later (omega arith)) (ends_there program d field f picture fill steps j k s) instr count is
+    (unended_to program d field f picture fill steps j k s k later (omega arith))
+    (ends_there program d field f picture fill steps j k s) instr count is
     ∙ ap (λ (m' : State). after_closing instr m'.interrupts) (ends.ran_to program fill steps j k later)
 
 pub run_shows_no_fault : RunShowsNoFault
 run_shows_no_fault program d field f picture fill steps j k i s from to is_turn =
-    ap sets_fdsr (own_program (first_state program fill) (take i steps) ∙ ap (with_program program) (sym (ends.ran_to program fill steps j i from)))
+    ap sets_fdsr
+    (own_program (first_state program fill) (take i steps) ∙ ap (with_program program) (sym (ends.ran_to program fill steps j i from)))
     ∙ shows_no_fault program d field f picture (state_of program fill steps j)
     (meeting program (between j i steps)) (meeting program (between (i + 1) (k + 1) steps))
-    (captured program d field f picture fill steps j k s i from to is_turn) (unended_to program d field f picture fill steps j k s i from to)
+    (captured program d field f picture fill steps j k s i from to is_turn)
+    (unended_to program d field f picture fill steps j k s i from to)
 
 pub run_ends_in_time : RunEndsInTime
 run_ends_in_time program d field f picture fill steps j i l c first later within arrives come many =
     let early = meeting program (between j i steps) in
     let late = meeting program (between i l steps) in
     let all : early ++ late ≡ meeting program (between j l steps) =
-    sym (meeting-append program (between j i steps) (between i l steps)) ∙ ap (meeting program) (sym (between_both j i l steps first later)) in
-    let found = in_time program d field f picture fill steps j early late (meeting program (between j l steps)) all (captures program d field f picture fill steps j c l arrives) come many in
+    sym (meeting-append program (between j i steps) (between i l steps))
+    ∙ ap (meeting program) (sym (between_both j i l steps first later)) in
+    let found =
+    in_time program d field f picture fill steps j early late (meeting program (between j l steps)) all
+    (captures program d field f picture fill steps j c l arrives) come many in
     some_end f.end (first_state program fill) steps (l - j) j l (omega arith) within found

@@ -1,5 +1,6 @@
 -- A program that is found to show a field leads along a trail that asks what the description asks.
-use Rattle.std.proofs.Common.{◌≡◌, ℕ, zero, suc, ◌+◌, ◌*◌, Bool, true, false, not, ◌&&◌, ◌==◌, if◌then◌else◌, List, [], ◌∷◌, ◌++◌, length, drop, Option, Some, None, option_map, Ok, Err, refl, sym, ap, ◌∙◌, append-nil, eqb-true}
+use Rattle.std.proofs.Common.{◌≡◌, ℕ, zero, suc, ◌+◌, ◌*◌, Bool, true, false, not, ◌&&◌, ◌==◌, if◌then◌else◌, List, [], ◌∷◌, ◌++◌, length}
+use Rattle.std.proofs.Common.{drop, Option, Some, None, option_map, Ok, Err, refl, sym, ap, ◌∙◌, append-nil, eqb-true}
 use Rattle.std.proofs.lemmas.Bool.{and_parts, both_ways, cond-false, cond-true, not-false}
 use Rattle.risc_word.specs.declared.Ctl.{Ctl}
 use Rattle.risc_word.specs.declared.Instr.{Instr}
@@ -18,7 +19,9 @@ use Rattle.field_law.proofs.Before.{same_code}
 use Rattle.field_law.proofs.OnPath.{granted_demands}
 use Rattle.field_law.specs.Trails.{IsClosing, IsOnTrail, LeadsFrom, next_at}
 use Rattle.check_model.specs.ByBytes.{bytes_asked, by_bytes}
-use Rattle.check_model.specs.Checks.{Answer, Awaited, begins_field, behind, behind_at, ended, eol_why, first_unlike, first_why, instr_asks, instr_why, is_none, is_vertical, left_by, none_left, one_more, order_why, over_queues, queue_why, same_ask, same_place, waiting_why, walked, walked_at, walked_by}
+use Rattle.check_model.specs.Checks.{Answer, Awaited, begins_field, behind, behind_at, ended, eol_why, first_unlike, first_why, instr_asks}
+use Rattle.check_model.specs.Checks.{instr_why, is_none, is_vertical, left_by, none_left, one_more, order_why, over_queues, queue_why}
+use Rattle.check_model.specs.Checks.{same_ask, same_place, waiting_why, walked, walked_at, walked_by}
 use Rattle.check_model.specs.declared.Why.{Why}
 use Rattle.check_model.specs.declared.Why.TheVariants.{LanesOff, NothingAwaited, Unread}
 
@@ -45,7 +48,8 @@ same_asks (GoOn n a) (GoOn m b) h =
     let parts = and_parts (n == m) (same_place a b) h in
     ap (λ (count : ℕ). GoOn count a) (eqb-true n m parts.0) ∙ ap (λ (at : Option ℕ). GoOn m at) (same_places a b parts.1)
 
-if_same : {A : Type 0} (same : Bool) (other : Option A) (unlike : A) → (if same then other else Some unlike) ≡ None → (same ≡ true) × (other ≡ None)
+if_same : {A : Type 0} (same : Bool) (other : Option A) (unlike : A) → (if same then other else Some unlike) ≡ None →
+    (same ≡ true) × (other ≡ None)
 if_same true other unlike h = (refl, h)
 if_same false other unlike h = cc
 
@@ -76,7 +80,9 @@ left_none left h q =
     of Three one two three = none_is (left Three) three
 
 pub none_left_of : (left : Awaited) → ((q : Queue) → left q ≡ []) → none_left left ≡ true
-none_left_of left none = all (is_none (left One)) (is_none (left Two)) (is_none (left Three)) (is_none_of (left One) (none One)) (is_none_of (left Two) (none Two)) (is_none_of (left Three) (none Three))
+none_left_of left none =
+    all (is_none (left One)) (is_none (left Two)) (is_none (left Three)) (is_none_of (left One) (none One))
+    (is_none_of (left Two) (none Two)) (is_none_of (left Three) (none Three))
   where
     all : (a b c : Bool) → a ≡ true → b ≡ true → c ≡ true → (a && b && c) ≡ true
     all true true true ea eb ec = refl
@@ -110,21 +116,27 @@ no_queue on h q =
     of Three one two three = three
 
 module _ (d : Desc) (field : Parity) where
-  in_order : (instr : Instr) (left : Awaited) → order_why d field instr left ≡ None → (q : Queue) → first_unlike (instr_asks q instr) (left q) ≡ None
-  in_order instr left h q = none_mapped _ (first_unlike (instr_asks q instr) (left q)) (no_queue (queue_why d field instr left) (by (is_data instr) h) q)
+  in_order : (instr : Instr) (left : Awaited) → order_why d field instr left ≡ None → (q : Queue) →
+      first_unlike (instr_asks q instr) (left q) ≡ None
+  in_order instr left h q =
+      none_mapped _ (first_unlike (instr_asks q instr) (left q)) (no_queue (queue_why d field instr left) (by (is_data instr) h) q)
     where
       by : (moves : Bool) →
-          (if moves then over_queues (queue_why d field instr left) else first_why (over_queues (waiting_why d field instr left)) (over_queues (queue_why d field instr left))) ≡ None →
+          (if moves then over_queues (queue_why d field instr left)
+          else first_why (over_queues (waiting_why d field instr left)) (over_queues (queue_why d field instr left))) ≡ None →
           over_queues (queue_why d field instr left) ≡ None
       by true h = h
       by false h = (neither (over_queues (waiting_why d field instr left)) (over_queues (queue_why d field instr left)) h).1
 
   lanes_on : (instr : Instr) (left : Awaited) →
-      (if not (instr_off instr == 0) then Some LanesOff else first_why (order_why d field instr left) (over_queues (eol_why d field instr left))) ≡ None →
+      (if not (instr_off instr == 0) then Some LanesOff
+      else first_why (order_why d field instr left) (over_queues (eol_why d field instr left))) ≡ None →
       ((q : Queue) → first_unlike (instr_asks q instr) (left q) ≡ None) × (instr_off instr ≡ 0)
   lanes_on instr left h =
-      let parts = if_none (not (instr_off instr == 0)) LanesOff _ h in
-      (in_order instr left (neither (order_why d field instr left) (over_queues (eol_why d field instr left)) parts.1).0, eqb-true _ _ (not-false _ parts.0))
+      let parts = if_none (not (instr_off instr == 0)) LanesOff _ h in (
+        in_order instr left (neither (order_why d field instr left) (over_queues (eol_why d field instr left)) parts.1).0,
+        eqb-true _ _ (not-false _ parts.0),
+      )
 
   no_why-IsAwaited : (instr : Instr) (left : Awaited) → instr_why d field instr left ≡ None →
       ((q : Queue) → first_unlike (instr_asks q instr) (left q) ≡ None) × (instr_off instr ≡ 0)
@@ -138,18 +150,22 @@ module _ (d : Desc) (field : Parity) where
   no_why-IsAwaited (Write1S23 ctl ends off counts addr) left h = lanes_on (Write1S23 ctl ends off counts addr) left h
 
   -- and it is fine on the path
-  on_trail : (program : RiscProgram) (instr : Instr) (left : Awaited) (target : Option ℕ) → instr_why d field instr left ≡ None → instr_cause program instr target ≡ None → IsOnTrail program instr
+  on_trail : (program : RiscProgram) (instr : Instr) (left : Awaited) (target : Option ℕ) → instr_why d field instr left ≡ None →
+      instr_cause program instr target ≡ None → IsOnTrail program instr
   on_trail program (WriteC ctl ends off count) left target h fine = cc
   on_trail program (Jump ctl to) left target h fine = jump-is_word program ctl to target fine
   on_trail program (Sync ctl resync code) left target h fine = (tt, refl)
   on_trail program (Skip ctl ends count) left target h fine = (tt, granted_demands program (Skip ctl ends count) target tt fine)
   on_trail program (Skip123 ctl ends counts) left target h fine = (tt, granted_demands program (Skip123 ctl ends counts) target tt fine)
   on_trail program (Write ctl ends off count addr) left target h fine =
-      let on = no_why-IsAwaited (Write ctl ends off count addr) left h in (on.1, granted_demands program (Write ctl ends off count addr) target on.1 fine)
+      let on = no_why-IsAwaited (Write ctl ends off count addr) left h in
+      (on.1, granted_demands program (Write ctl ends off count addr) target on.1 fine)
   on_trail program (Write123 ctl ends off counts addrs) left target h fine =
-      let on = no_why-IsAwaited (Write123 ctl ends off counts addrs) left h in (on.1, granted_demands program (Write123 ctl ends off counts addrs) target on.1 fine)
+      let on = no_why-IsAwaited (Write123 ctl ends off counts addrs) left h in
+      (on.1, granted_demands program (Write123 ctl ends off counts addrs) target on.1 fine)
   on_trail program (Write1S23 ctl ends off counts addr) left target h fine =
-      let on = no_why-IsAwaited (Write1S23 ctl ends off counts addr) left h in (on.1, granted_demands program (Write1S23 ctl ends off counts addr) target on.1 fine)
+      let on = no_why-IsAwaited (Write1S23 ctl ends off counts addr) left h in
+      (on.1, granted_demands program (Write1S23 ctl ends off counts addr) target on.1 fine)
 
 -- ---- behind the end
 
@@ -159,9 +175,11 @@ NoneBegins (instr ∷ rest) = (begins_field instr ≡ false) × NoneBegins rest
 
 abbrev FetchedFrom : RiscProgram → ℕ → List Instr → Type 0
 FetchedFrom program at [] = Unit {0}
-FetchedFrom program at (instr ∷ rest) = (fetch program at ≡ Ok (instr, length (encoded instr))) × FetchedFrom program (next_at instr at) rest
+FetchedFrom program at (instr ∷ rest) =
+    (fetch program at ≡ Ok (instr, length (encoded instr))) × FetchedFrom program (next_at instr at) rest
 
-leads-FetchedFrom : (program : RiscProgram) (end at : ℕ) (body : List Instr) (closing : Instr) → LeadsFrom program end at body closing → FetchedFrom program at body
+leads-FetchedFrom : (program : RiscProgram) (end at : ℕ) (body : List Instr) (closing : Instr) → LeadsFrom program end at body closing →
+    FetchedFrom program at body
 leads-FetchedFrom program end at [] closing h = tt
 leads-FetchedFrom program end at (instr ∷ rest) closing h = (h.1, leads-FetchedFrom program end (next_at instr at) rest closing h.3)
 
@@ -176,36 +194,52 @@ not_behind false fault b h = cc
 
 -- what is seen where an instruction was fetched
 seen_behind : (reading : Reading) (instr : Instr) (count at : ℕ) (more : ℕ → Option (ℕ × Why)) → reading ≡ Ok (instr, count) →
-    elim reading as (λ _. Option (ℕ × Why)) [ Err fault ↦ Some (at, Unread) | Ok read ↦ behind_at read.0 at more ] ≡ None → behind_at instr at more ≡ None
+    elim reading as (λ _. Option (ℕ × Why)) [
+      | Err fault ↦ Some (at, Unread)
+      | Ok read ↦ behind_at read.0 at more
+    ] ≡ None → behind_at instr at more ≡ None
 seen_behind reading instr count at more e h =
-    sym (ap (λ (reading : Reading). elim reading as (λ _. Option (ℕ × Why)) [ Err fault ↦ Some (at, Unread) | Ok read ↦ behind_at read.0 at more ]) e) ∙ h
+    sym (ap (λ (reading : Reading). elim reading as (λ _. Option (ℕ × Why)) [
+      | Err fault ↦ Some (at, Unread)
+      | Ok read ↦ behind_at read.0 at more
+    ]) e) ∙ h
 
 -- instructions where only JUMPs lead to the next field ask nothing
 module _ (program : RiscProgram) where
-  quiet : (body : List Instr) (at fuel : ℕ) → FetchedFrom program at body → NoneBegins body → behind fuel program at ≡ None → (q : Queue) → by_bytes (asks q body) ≡ []
+  quiet : (body : List Instr) (at fuel : ℕ) → FetchedFrom program at body → NoneBegins body → behind fuel program at ≡ None → (q : Queue) →
+      by_bytes (asks q body) ≡ []
   quiet [] at fuel fetched none h q = refl
   quiet (instr ∷ rest) at zero fetched none h q = cc
   quiet (Jump ctl target ∷ rest) at (suc fuel) fetched none h q =
-      jump_asks q ctl target (asks q rest) ∙ quiet rest target fuel fetched.1 none.1 (seen_behind (fetch program at) (Jump ctl target) _ at (behind fuel program) fetched.0 h) q
+      jump_asks q ctl target (asks q rest)
+      ∙ quiet rest target fuel fetched.1 none.1 (seen_behind (fetch program at) (Jump ctl target) _ at (behind fuel program) fetched.0 h) q
   quiet (Sync ctl resync code ∷ rest) at (suc fuel) fetched none h q =
-      absurd (not_behind (is_vertical code) (at, NothingAwaited) none.0 (seen_behind (fetch program at) (Sync ctl resync code) _ at (behind fuel program) fetched.0 h))
+      absurd (not_behind (is_vertical code) (at, NothingAwaited) none.0
+      (seen_behind (fetch program at) (Sync ctl resync code) _ at (behind fuel program) fetched.0 h))
   quiet (Write ctl ends off count addr ∷ rest) at (suc fuel) fetched none h q =
-      absurd (not_behind false (at, NothingAwaited) refl (seen_behind (fetch program at) (Write ctl ends off count addr) _ at (behind fuel program) fetched.0 h))
+      absurd (not_behind false (at, NothingAwaited) refl
+      (seen_behind (fetch program at) (Write ctl ends off count addr) _ at (behind fuel program) fetched.0 h))
   quiet (Skip ctl ends count ∷ rest) at (suc fuel) fetched none h q =
-      absurd (not_behind false (at, NothingAwaited) refl (seen_behind (fetch program at) (Skip ctl ends count) _ at (behind fuel program) fetched.0 h))
+      absurd (not_behind false (at, NothingAwaited) refl
+      (seen_behind (fetch program at) (Skip ctl ends count) _ at (behind fuel program) fetched.0 h))
   quiet (WriteC ctl ends off count ∷ rest) at (suc fuel) fetched none h q =
-      absurd (not_behind false (at, NothingAwaited) refl (seen_behind (fetch program at) (WriteC ctl ends off count) _ at (behind fuel program) fetched.0 h))
+      absurd (not_behind false (at, NothingAwaited) refl
+      (seen_behind (fetch program at) (WriteC ctl ends off count) _ at (behind fuel program) fetched.0 h))
   quiet (Write123 ctl ends off counts addrs ∷ rest) at (suc fuel) fetched none h q =
-      absurd (not_behind false (at, NothingAwaited) refl (seen_behind (fetch program at) (Write123 ctl ends off counts addrs) _ at (behind fuel program) fetched.0 h))
+      absurd (not_behind false (at, NothingAwaited) refl
+      (seen_behind (fetch program at) (Write123 ctl ends off counts addrs) _ at (behind fuel program) fetched.0 h))
   quiet (Skip123 ctl ends counts ∷ rest) at (suc fuel) fetched none h q =
-      absurd (not_behind false (at, NothingAwaited) refl (seen_behind (fetch program at) (Skip123 ctl ends counts) _ at (behind fuel program) fetched.0 h))
+      absurd (not_behind false (at, NothingAwaited) refl
+      (seen_behind (fetch program at) (Skip123 ctl ends counts) _ at (behind fuel program) fetched.0 h))
   quiet (Write1S23 ctl ends off counts addr ∷ rest) at (suc fuel) fetched none h q =
-      absurd (not_behind false (at, NothingAwaited) refl (seen_behind (fetch program at) (Write1S23 ctl ends off counts addr) _ at (behind fuel program) fetched.0 h))
+      absurd (not_behind false (at, NothingAwaited) refl
+      (seen_behind (fetch program at) (Write1S23 ctl ends off counts addr) _ at (behind fuel program) fetched.0 h))
 
 -- ---- the walk
 
 -- the next place of the path
-next_pc : (instr : Instr) (count : ℕ) (place : Place) → count ≡ length (encoded instr) → (place_after instr count place).pc ≡ next_at instr place.pc
+next_pc : (instr : Instr) (count : ℕ) (place : Place) → count ≡ length (encoded instr) →
+    (place_after instr count place).pc ≡ next_at instr place.pc
 next_pc (Jump ctl target) count place e = refl
 next_pc (Sync ctl resync code) count place e = ap (λ (count : ℕ). place.pc + 4 * count) e
 next_pc (Write ctl ends off n addr) count place e = ap (λ (count : ℕ). place.pc + 4 * count) e
@@ -216,11 +250,13 @@ next_pc (Skip123 ctl ends counts) count place e = ap (λ (count : ℕ). place.pc
 next_pc (Write1S23 ctl ends off counts addr) count place e = ap (λ (count : ℕ). place.pc + 4 * count) e
 
 -- an instruction that is fetched has as many words as it is spelled with
-pub fetched_length : (program : RiscProgram) (at : ℕ) (instr : Instr) (count : ℕ) → fetch program at ≡ Ok (instr, count) → count ≡ length (encoded instr)
+pub fetched_length : (program : RiscProgram) (at : ℕ) (instr : Instr) (count : ℕ) → fetch program at ≡ Ok (instr, count) →
+    count ≡ length (encoded instr)
 fetched_length program at instr count e = (known_at (words_from 5 program at) 0 instr count e).spelled_is
 
 -- what ends a field
-closing_by : (program : RiscProgram) (instr : Instr) (at : ℕ) (target : Option ℕ) (more : ℕ → Option (ℕ × Why)) → behind_at instr at more ≡ None → instr_cause program instr target ≡ None →
+closing_by : (program : RiscProgram) (instr : Instr) (at : ℕ) (target : Option ℕ) (more : ℕ → Option (ℕ × Why)) →
+    behind_at instr at more ≡ None → instr_cause program instr target ≡ None →
     IsClosing program instr
 closing_by program (Jump ctl to) at target more h fine = jump-is_word program ctl to target fine
 closing_by program (Sync ctl resync code) at target more h fine = tt
@@ -256,18 +292,27 @@ less_one (Ok pair) end count h =
 
 module _ (d : Desc) (field : Parity) where
   walked_on : (instr : Instr) (at : ℕ) (left : Awaited) (more : ℕ → Awaited → Answer) (begins : Bool) (why : Option Why) (end count : ℕ) →
-      begins_field instr ≡ begins → instr_why d field instr left ≡ why → walked_at (begins_field instr) d field instr at left more ≡ Ok (end, count) →
-      (begins_field instr ≡ false) × (instr_why d field instr left ≡ None) × (one_more (more (next_at instr at) (left_by instr left)) ≡ Ok (end, count))
+      begins_field instr ≡ begins → instr_why d field instr left ≡ why →
+      walked_at (begins_field instr) d field instr at left more ≡ Ok (end, count) →
+      (begins_field instr ≡ false) × (instr_why d field instr left ≡ None)
+      × (one_more (more (next_at instr at) (left_by instr left)) ≡ Ok (end, count))
   walked_on instr at left more true why end count b w h =
       let no = sym (ap (λ (begins : Bool). walked_at begins d field instr at left more) b) ∙ h in cc
   walked_on instr at left more false (Some why) end count b w h =
-      let no = sym (ap (λ (begins : Bool). walked_at begins d field instr at left more) b ∙ ap (λ (why : Option Why). walked_by why instr at left more) w) ∙ h in cc
-  walked_on instr at left more false None end count b w h =
-      (b, w, sym (ap (λ (begins : Bool). walked_at begins d field instr at left more) b ∙ ap (λ (why : Option Why). walked_by why instr at left more) w) ∙ h)
+      let no =
+      sym (ap (λ (begins : Bool). walked_at begins d field instr at left more) b
+      ∙ ap (λ (why : Option Why). walked_by why instr at left more) w) ∙ h in cc
+  walked_on instr at left more false None end count b w h = (
+    b,
+    w,
+    sym (ap (λ (begins : Bool). walked_at begins d field instr at left more) b
+        ∙ ap (λ (why : Option Why). walked_by why instr at left more) w) ∙ h,
+  )
 
 module _ (program : RiscProgram) (sound : IsSound program) (d : Desc) (field : Parity) where
   -- the field ends here
-  ends : (fuel at number : ℕ) (left : Awaited) (end count : ℕ) → (path program number).pc ≡ at → none_left left ≡ true → ended (behind fuel program at) at ≡ Ok (end, count) →
+  ends : (fuel at number : ℕ) (left : Awaited) (end count : ℕ) → (path program number).pc ≡ at → none_left left ≡ true →
+      ended (behind fuel program at) at ≡ Ok (end, count) →
       Walked program at left end count
   ends zero at number left end count here none h = let parts = ended_at (behind zero program at) at end count h in let no = parts.0 in cc
   ends (suc fuel) at number left end count here none h =
@@ -293,11 +338,16 @@ module _ (program : RiscProgram) (sound : IsSound program) (d : Desc) (field : P
 
   abbrev Walks : ℕ → Type 0
   Walks fuel =
-      (at number : ℕ) (left : Awaited) (end count : ℕ) → (path program number).pc ≡ at → walked fuel program d field at left ≡ Ok (end, count) → Walked program at left end count
+      (at number : ℕ) (left : Awaited) (end count : ℕ) → (path program number).pc ≡ at →
+      walked fuel program d field at left ≡ Ok (end, count) → Walked program at left end count
 
   -- an instruction that is awaited, and the rest
-  goes : (fuel : ℕ) → Walks fuel → (at number : ℕ) (left : Awaited) (end count : ℕ) → (path program number).pc ≡ at → none_left left ≡ false →
-      elim (fetch program at) as (λ _. Answer) [ Err fault ↦ Err (at, Unread) | Ok read ↦ walked_at (begins_field read.0) d field read.0 at left (walked fuel program d field) ] ≡ Ok (end, count) →
+  goes : (fuel : ℕ) → Walks fuel → (at number : ℕ) (left : Awaited) (end count : ℕ) → (path program number).pc ≡ at →
+      none_left left ≡ false →
+      elim (fetch program at) as (λ _. Answer) [
+        | Err fault ↦ Err (at, Unread)
+        | Ok read ↦ walked_at (begins_field read.0) d field read.0 at left (walked fuel program d field)
+      ] ≡ Ok (end, count) →
       Walked program at left end count
   goes fuel rest at number left end count here some h =
       let fine = place-IsFine program number sound in
@@ -305,8 +355,12 @@ module _ (program : RiscProgram) (sound : IsSound program) (d : Desc) (field : P
       let there = fine.stands in
       let read : fetch program at ≡ Ok (instr, fine.length_in_words) = sym (ap (fetch program) here) ∙ there in
       let long = fetched_length program at instr fine.length_in_words read in
-      let on = walked_on d field instr at left (walked fuel program d field) (begins_field instr) (instr_why d field instr left) end count refl refl
-      (sym (ap (λ (reading : Reading). elim reading as (λ _. Answer) [ Err fault ↦ Err (at, Unread) | Ok read ↦ walked_at (begins_field read.0) d field read.0 at left (walked fuel program d field) ]) read) ∙ h) in
+      let on =
+      walked_on d field instr at left (walked fuel program d field) (begins_field instr) (instr_why d field instr left) end count refl refl
+      (sym (ap (λ (reading : Reading). elim reading as (λ _. Answer) [
+        | Err fault ↦ Err (at, Unread)
+        | Ok read ↦ walked_at (begins_field read.0) d field read.0 at left (walked fuel program d field)
+      ]) read) ∙ h) in
       let less = less_one (walked fuel program d field (next_at instr at) (left_by instr left)) end count on.2 in
       let next : (path program (suc number)).pc ≡ next_at instr at =
       ap (λ (place : Place). place.pc) (path-suc program number instr fine.length_in_words sound there)
@@ -325,7 +379,10 @@ module _ (program : RiscProgram) (sound : IsSound program) (d : Desc) (field : P
         long = ap suc later.long ∙ sym less.1;
         leads = (
           λ is_end.
-              let nothing = quiet program (instr ∷ later.body) at later.fuel_left (spelled, leads-FetchedFrom program end (next_at instr at) later.body later.closing later.leads) (on.0, later.inner)
+              let nothing = quiet program (instr ∷ later.body) at later.fuel_left (
+                spelled,
+                leads-FetchedFrom program end (next_at instr at) later.body later.closing later.leads,
+              ) (on.0, later.inner)
               (ap (behind later.fuel_left program) is_end ∙ later.last) in
               both_ways (none_left left) some (none_left_of left (λ q. sym (all q) ∙ nothing q)),
           spelled,
@@ -338,13 +395,15 @@ module _ (program : RiscProgram) (sound : IsSound program) (d : Desc) (field : P
         last = later.last;
       }
 
-  by_left : (fuel : ℕ) → Walks fuel → (none : Bool) (at number : ℕ) (left : Awaited) (end count : ℕ) → none_left left ≡ none → (path program number).pc ≡ at →
+  by_left : (fuel : ℕ) → Walks fuel → (none : Bool) (at number : ℕ) (left : Awaited) (end count : ℕ) → none_left left ≡ none →
+      (path program number).pc ≡ at →
       walked (suc fuel) program d field at left ≡ Ok (end, count) → Walked program at left end count
   by_left fuel rest true at number left end count none here h =
       ends (suc fuel) at number left end count here none (sym (cond-true (none_left left) _ _ none) ∙ h)
   by_left fuel rest false at number left end count none here h =
       goes fuel rest at number left end count here none (sym (cond-false (none_left left) _ _ none) ∙ h)
 
-  pub walks : (fuel at number : ℕ) (left : Awaited) (end count : ℕ) → (path program number).pc ≡ at → walked fuel program d field at left ≡ Ok (end, count) → Walked program at left end count
+  pub walks : (fuel at number : ℕ) (left : Awaited) (end count : ℕ) → (path program number).pc ≡ at →
+      walked fuel program d field at left ≡ Ok (end, count) → Walked program at left end count
   walks zero at number left end count here h = cc
   walks (suc fuel) at number left end count here h = by_left fuel (walks fuel) (none_left left) at number left end count refl here h

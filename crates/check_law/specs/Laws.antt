@@ -46,7 +46,8 @@ abbrev pub PictureArrives : Desc → Parity → Found → Picture → State → 
 PictureArrives d field f picture m steps = ArrivesAtOpening f.opening (vertical field) (f.begin + 8) (IsField d field picture) m steps
 
 -- all of which meet the program
-pub record Captures (program : RiscProgram) (d : Desc) (field : Parity) (f : Found) (picture : Picture) (m : State) (steps : List Met) : Type 0 where
+pub record Captures (program : RiscProgram) (d : Desc) (field : Parity) (f : Found) (picture : Picture) (m : State)
+    (steps : List Met) : Type 0 where
   pub shown : IsChecked program d field f
   pub pictured : IsPicture d field picture
   pub orderly : IsOrderly m
@@ -79,6 +80,7 @@ EndsWithClosing = (program : RiscProgram) (d : Desc) (field : Parity) (f : Found
 abbrev pub EndsInTime : Type 0
 EndsInTime = (program : RiscProgram) (d : Desc) (field : Parity) (f : Found) (picture : Picture) (m : State) (early late : List Met)
     (captures : Captures program d field f picture m (early ++ late)) →
-    ((q : Queue) → entries_of captures.arrives.before captures.arrives.entries q ≤ length (queue_state q m.queues).entries + length (coming early q)) →
+    ((q : Queue) →
+    entries_of captures.arrives.before captures.arrives.entries q ≤ length (queue_state q m.queues).entries + length (coming early q)) →
     5 * (f.count + 2) + over_queues (entries_of captures.arrives.before captures.arrives.entries) ≤ turns_in late →
     has_end f.end m (early ++ late) ≡ true

@@ -1,5 +1,6 @@
 -- Whether a program shows a field of a description from an opening on, and else the first place at which it doesn't, and why.
-use Rattle.std.specs.Prelude.{ℕ, zero, suc, ◌+◌, ◌-◌, ◌*◌, Bool, true, false, not, ◌&&◌, List, [], ◌∷◌, length, take, drop, Option, Some, None, option_map, Result, Ok, Err, if◌then◌else◌, ◌==◌}
+use Rattle.std.specs.Prelude.{ℕ, zero, suc, ◌+◌, ◌-◌, ◌*◌, Bool, true, false, not, ◌&&◌, List, [], ◌∷◌, length, take, drop, Option, Some}
+use Rattle.std.specs.Prelude.{None, option_map, Result, Ok, Err, if◌then◌else◌, ◌==◌}
 use Rattle.risc_word.specs.declared.Code.{Code}
 use Rattle.risc_word.specs.declared.Code.TheVariants.{Vre, Vro, Fm1, Fm3}
 use Rattle.risc_word.specs.declared.Instr.{Instr}
@@ -132,7 +133,8 @@ eol_by false false spot q d = Some (why.EolAwaited spot.line q)
 abbrev pub eol_why : Desc → Parity → Instr → Awaited → Queue → Option Why
 eol_why d field instr left q =
     if is_data instr && not (is_none (instr_asks q instr))
-    then eol_by (instr_ends instr).eol (goes_on (left_by instr left q)) (last_spot q d field (reach_at q d field (left_by instr left q))) q d
+    then eol_by (instr_ends instr).eol (goes_on (left_by instr left q))
+    (last_spot q d field (reach_at q d field (left_by instr left q))) q d
     else None
 
 -- why an instruction isn't what is awaited

@@ -1,10 +1,12 @@
 -- Pixel x of a row is clipped, together with its unit, exactly where it is in the part of some rectangle.
-use Rattle.std.proofs.Common.{◌≡◌, ℕ, zero, suc, ◌+◌, ◌-◌, ◌*◌, ◌/◌, ◌%◌, ◌<◌, ◌≤◌, Bool, true, false, ◌&&◌, ◌||◌, List, [], ◌∷◌, Option, Some, None, refl, sym, ◌∙◌, ap, arith, inl, inr}
+use Rattle.std.proofs.Common.{◌≡◌, ℕ, zero, suc, ◌+◌, ◌-◌, ◌*◌, ◌/◌, ◌%◌, ◌<◌, ◌≤◌, Bool, true, false, ◌&&◌, ◌||◌, List, [], ◌∷◌, Option}
+use Rattle.std.proofs.Common.{Some, None, refl, sym, ◌∙◌, ap, arith, inl, inr}
 use Rattle.std.specs.Prelude.{nat_le, nat_lt, min, max}
 use Rattle.std.specs.List.{All, cons_option}
 use Rattle.std.proofs.lemmas.List.Elements.{All-cons}
 use Rattle.std.proofs.Math.Nat.{le-div_iff_mul-le}
-use Rattle.std.proofs.lemmas.Bool.{le-leb, lt-leb, lt-ltb, le-ltb, ltb-true, ltb-false, and_from, and_left, and_right, and_parts, and_cases, or_left, or_right, or_from, cases_lt, cond_both}
+use Rattle.std.proofs.lemmas.Bool.{le-leb, lt-leb, lt-ltb, le-ltb, ltb-true, ltb-false, and_from, and_left, and_right, and_parts, and_cases}
+use Rattle.std.proofs.lemmas.Bool.{or_left, or_right, or_from, cases_lt, cond_both}
 use Rattle.clip_spans.specs.Clipping.{meets, covers, pixel_clipped, some_from, clipped_at}
 use Rattle.clip_spans.specs.Parts.{IsPart, inside, is_inside, units, part_of, parts_of}
 use Rattle.clip_spans.specs.declared.Rect.{Rect}
@@ -32,7 +34,8 @@ or_four false true true d = refl
 or_four false true false d = refl
 or_four false false c d = refl
 
-pub some_from-or : (one two : ℕ → Bool) (x count : ℕ) → some_from (λ y. one y || two y) x count ≡ (some_from one x count || some_from two x count)
+pub some_from-or : (one two : ℕ → Bool) (x count : ℕ) →
+    some_from (λ y. one y || two y) x count ≡ (some_from one x count || some_from two x count)
 some_from-or one two x zero = refl
 some_from-or one two x (suc count) =
     ap (λ b. (one x || two x) || b) (some_from-or one two (x + 1) count)
@@ -84,7 +87,8 @@ module _ (rect : Rect) (row width p x : ℕ) (some : 0 < p) (whole : width % p �
   within y from to in_row = and_from _ _ (and_from _ _ (le-leb rect.x y from) (lt-ltb y (rect.x + rect.w) to)) in_row
 
   -- the part ends at the unit after that of pixel `last`
-  in_units : (last : ℕ) → last + 1 ≡ min (rect.x + rect.w) width → 0 < rect.w → meets rect row ≡ true → (nat_le (rect.x / p * p) x && nat_lt x ((last / p + 1) * p)) ≡ some_from (covers rect row) (x / p * p) p
+  in_units : (last : ℕ) → last + 1 ≡ min (rect.x + rect.w) width → 0 < rect.w → meets rect row ≡ true →
+      (nat_le (rect.x / p * p) x && nat_lt x ((last / p + 1) * p)) ≡ some_from (covers rect row) (x / p * p) p
   in_units last e wide in_row =
       let ends = unit_ends p x width some whole below in
       elim (cases_lt (x / p) (rect.x / p)) [
@@ -106,7 +110,8 @@ module _ (rect : Rect) (row width p x : ℕ) (some : 0 < p) (whole : width % p �
               let m = one_more (x / p) p in
               let y = max (x / p * p) rect.x in
               and_from _ _ (le-leb (rect.x / p * p) x low) (lt-ltb x ((last / p + 1) * p) high)
-              ∙ sym (some_from-hit (covers rect row) y (x / p * p) p (omega arith) (omega arith) (within y (omega arith) (omega arith) in_row))
+              ∙ sym
+              (some_from-hit (covers rect row) y (x / p * p) p (omega arith) (omega arith) (within y (omega arith) (omega arith) in_row))
         ]
       ]
 
@@ -125,7 +130,8 @@ module _ (rect : Rect) (row width p x : ℕ) (some : 0 < p) (whole : width % p �
   pub part_says : in_part (part_of row width p rect) x ≡ some_from (covers rect row) (x / p * p) p
   part_says =
       let ends = unit_ends p x width some whole below in
-      cond_both (meets rect row && nat_lt 0 rect.w && nat_lt rect.x width) (Some (units rect.x (min (rect.x + rect.w) width) p)) None (λ o. in_part o x ≡ some_from (covers rect row) (x / p * p) p)
+      cond_both (meets rect row && nat_lt 0 rect.w && nat_lt rect.x width) (Some (units rect.x (min (rect.x + rect.w) width) p)) None
+      (λ o. in_part o x ≡ some_from (covers rect row) (x / p * p) p)
       (λ e.
       let tests = and_parts (meets rect row && nat_lt 0 rect.w) (nat_lt rect.x width) e in
       let first = and_parts (meets rect row) (nat_lt 0 rect.w) tests.0 in
@@ -141,7 +147,8 @@ with_part (Some part) parts x = refl
 none_clipped : (x count : ℕ) → some_from (λ y. false) x count ≡ false
 none_clipped x count = some_from-none (λ y. false) x count (λ y above below. refl)
 
-pub parts_say : (rects : List Rect) (row width pixels x : ℕ) → 0 < pixels → width % pixels ≡ 0 → x < width → is_inside (parts_of rects row width pixels) x ≡ clipped_at rects row pixels x
+pub parts_say : (rects : List Rect) (row width pixels x : ℕ) → 0 < pixels → width % pixels ≡ 0 → x < width →
+    is_inside (parts_of rects row width pixels) x ≡ clipped_at rects row pixels x
 parts_say [] row width pixels x some whole below = sym (none_clipped (x / pixels * pixels) pixels)
 parts_say (rect ∷ rest) row width pixels x some whole below =
     with_part (part_of row width pixels rect) (parts_of rest row width pixels) x
@@ -155,7 +162,8 @@ abbrev pub IsRowPart : ℕ → Option Part → Type 0
 IsRowPart width None = Unit {0}
 IsRowPart width (Some part) = IsPart width part
 
-units-IsPart : (start last p width : ℕ) → 0 < p → width % p ≡ 0 → start ≤ last → last < width → (start / p * p < (last / p + 1) * p) × ((last / p + 1) * p ≤ width)
+units-IsPart : (start last p width : ℕ) → 0 < p → width % p ≡ 0 → start ≤ last → last < width →
+    (start / p * p < (last / p + 1) * p) × ((last / p + 1) * p ≤ width)
 units-IsPart start last p width some whole order below =
     let from = unit_below p (start / p) start some (omega arith) in
     let to = above_unit p (last / p + 1) last some (omega arith) in
@@ -165,7 +173,8 @@ units-IsPart start last p width some whole order below =
 
 pub part_of-IsRowPart : (rect : Rect) (row width p : ℕ) → 0 < p → width % p ≡ 0 → IsRowPart width (part_of row width p rect)
 part_of-IsRowPart rect row width p some whole =
-    cond_both (meets rect row && nat_lt 0 rect.w && nat_lt rect.x width) (Some (units rect.x (min (rect.x + rect.w) width) p)) None (IsRowPart width)
+    cond_both (meets rect row && nat_lt 0 rect.w && nat_lt rect.x width) (Some (units rect.x (min (rect.x + rect.w) width) p)) None
+    (IsRowPart width)
     (λ e.
     let tests = and_parts (meets rect row && nat_lt 0 rect.w) (nat_lt rect.x width) e in
     let first = and_parts (meets rect row) (nat_lt 0 rect.w) tests.0 in
@@ -175,11 +184,13 @@ part_of-IsRowPart rect row width p some whole =
     record { some = both.0; within = both.1 })
     (λ e. tt)
 
-cons-sized : (width : ℕ) (o : Option Part) (parts : List Part) → IsRowPart width o → All (IsPart width) parts → All (IsPart width) (cons_option o parts)
+cons-sized : (width : ℕ) (o : Option Part) (parts : List Part) → IsRowPart width o → All (IsPart width) parts →
+    All (IsPart width) (cons_option o parts)
 cons-sized width None parts one all = all
 cons-sized width (Some part) parts one all = All-cons (IsPart width) _ _ one all
 
 pub parts_sized : (rects : List Rect) (row width p : ℕ) → 0 < p → width % p ≡ 0 → All (IsPart width) (parts_of rects row width p)
 parts_sized [] row width p some whole = λ k d within. absurd (omega arith)
 parts_sized (rect ∷ rest) row width p some whole =
-    cons-sized width (part_of row width p rect) (parts_of rest row width p) (part_of-IsRowPart rect row width p some whole) (parts_sized rest row width p some whole)
+    cons-sized width (part_of row width p rect) (parts_of rest row width p) (part_of-IsRowPart rect row width p some whole)
+    (parts_sized rest row width p some whole)

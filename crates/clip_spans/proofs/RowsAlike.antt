@@ -1,5 +1,6 @@
 -- Rows between which no rectangle begins or ends have the same spans.
-use Rattle.std.proofs.Common.{◌≡◌, ℕ, zero, suc, ◌+◌, ◌/◌, ◌*◌, ◌≤◌, ◌<◌, ◌^◌, Bool, ◌&&◌, ◌||◌, if◌then◌else◌, List, [], ◌∷◌, refl, sym, ◌∙◌, ap, subst, arith, inl, inr}
+use Rattle.std.proofs.Common.{◌≡◌, ℕ, zero, suc, ◌+◌, ◌/◌, ◌*◌, ◌≤◌, ◌<◌, ◌^◌, Bool, ◌&&◌, ◌||◌, if◌then◌else◌, List, [], ◌∷◌, refl, sym}
+use Rattle.std.proofs.Common.{◌∙◌, ap, subst, arith, inl, inr}
 use Rattle.std.specs.Prelude.{nat_le, nat_lt}
 use Rattle.std.proofs.lemmas.Bool.{and_from, and_left, and_right, cases_lt, cond-false, cond-true, le-leb, le-ltb, lt-leb, lt-ltb}
 use Rattle.clip_spans.specs.Clipping.{clipped_at, covers, edge_after, meets, next_edge, pixel_clipped, some_from}
@@ -19,12 +20,15 @@ later_edge [] row few = few
 later_edge (rect ∷ rest) row few =
     let first : row < edge_after row rect =
     elim (cases_lt row rect.y) [
-      | inl before ↦ subst (λ edge. row < edge) (sym (cond-true (nat_lt row rect.y) rect.y (later row rect) (lt-ltb row rect.y before))) before
+      | inl before ↦
+          subst (λ edge. row < edge) (sym (cond-true (nat_lt row rect.y) rect.y (later row rect) (lt-ltb row rect.y before))) before
       | inr begun ↦
           subst (λ edge. row < edge) (sym (cond-false (nat_lt row rect.y) rect.y (later row rect) (le-ltb row rect.y begun)))
           (elim (cases_lt row (rect.y + rect.h)) [
-            | inl within ↦ subst (λ edge. row < edge) (sym (cond-true (nat_lt row (rect.y + rect.h)) (rect.y + rect.h) (2 ^ 32) (lt-ltb row (rect.y + rect.h) within))) within
-            | inr ended ↦ subst (λ edge. row < edge) (sym (cond-false (nat_lt row (rect.y + rect.h)) (rect.y + rect.h) (2 ^ 32) (le-ltb row (rect.y + rect.h) ended))) few
+            | inl within ↦ subst (λ edge. row < edge)
+                (sym (cond-true (nat_lt row (rect.y + rect.h)) (rect.y + rect.h) (2 ^ 32) (lt-ltb row (rect.y + rect.h) within))) within
+            | inr ended ↦ subst (λ edge. row < edge)
+                (sym (cond-false (nat_lt row (rect.y + rect.h)) (rect.y + rect.h) (2 ^ 32) (le-ltb row (rect.y + rect.h) ended))) few
           ])
     ]
     in
@@ -52,10 +56,12 @@ meets_alike rect row other up below =
           ]
     ]
 
-alike_pixels : (rects : List Rect) (row other x : ℕ) → row ≤ other → other < next_edge rects row → pixel_clipped rects row x ≡ pixel_clipped rects other x
+alike_pixels : (rects : List Rect) (row other x : ℕ) → row ≤ other → other < next_edge rects row →
+    pixel_clipped rects row x ≡ pixel_clipped rects other x
 alike_pixels [] row other x up below = refl
 alike_pixels (rect ∷ rest) row other x up below =
-    ap (λ b. (nat_le rect.x x && nat_lt x (rect.x + rect.w) && b) || pixel_clipped rest row x) (meets_alike rect row other up (omega (arith, below)))
+    ap (λ b. (nat_le rect.x x && nat_lt x (rect.x + rect.w) && b) || pixel_clipped rest row x)
+    (meets_alike rect row other up (omega (arith, below)))
     ∙ ap (λ b. covers rect other x || b) (alike_pixels rest row other x up (omega (arith, below)))
 
 some_from-same : (one two : ℕ → Bool) (x count : ℕ) → ((y : ℕ) → one y ≡ two y) → some_from one x count ≡ some_from two x count
@@ -63,9 +69,11 @@ some_from-same one two x zero same = refl
 some_from-same one two x (suc count) same =
     ap (λ b. b || some_from one (x + 1) count) (same x) ∙ ap (λ b. two x || b) (some_from-same one two (x + 1) count same)
 
-pub alike_spans : (rects : List Rect) (row other width pixels : ℕ) → row ≤ other → other < next_edge rects row → spans_of rects row width pixels ≡ spans_of rects other width pixels
+pub alike_spans : (rects : List Rect) (row other width pixels : ℕ) → row ≤ other → other < next_edge rects row →
+    spans_of rects row width pixels ≡ spans_of rects other width pixels
 alike_spans rects row other width pixels up below =
     only_spans rects other width pixels (spans_of rects row width pixels)
     (runs_along (clipped_at rects row pixels) (clipped_at rects other pixels) width 0 (spans_of rects row width pixels)
-    (λ y within. some_from-same (pixel_clipped rects row) (pixel_clipped rects other) (y / pixels * pixels) pixels (λ x. alike_pixels rects row other x up below))
+    (λ y within. some_from-same (pixel_clipped rects row) (pixel_clipped rects other) (y / pixels * pixels) pixels
+    (λ x. alike_pixels rects row other x up below))
     (spans_of-spans rects row width pixels))

@@ -1,5 +1,6 @@
 -- The runs of a test are one list, and alternate.
-use Rattle.std.proofs.Common.{◌≡◌, ℕ, zero, suc, ◌+◌, ◌<◌, ◌≤◌, Bool, true, false, not, List, [], ◌∷◌, refl, sym, ◌∙◌, ap, subst, arith, inl, inr}
+use Rattle.std.proofs.Common.{◌≡◌, ℕ, zero, suc, ◌+◌, ◌<◌, ◌≤◌, Bool, true, false, not, List, [], ◌∷◌, refl, sym, ◌∙◌, ap, subst, arith}
+use Rattle.std.proofs.Common.{inl, inr}
 use Rattle.std.proofs.lemmas.Bool.{cond_both, cases_order}
 use Rattle.std.proofs.Math.Nat.{eq-or-lt_of_le}
 use Rattle.clip_spans.specs.Clipping.{clipped_at, is_same}
@@ -24,7 +25,8 @@ never_both true e = cc
 never_both false e = cc
 
 module _ (test : ℕ → Bool) (end : ℕ) where
-  run_of_one : (x : ℕ) (answer : Bool) → x + 1 ≤ end → answer ≡ test x → (x + 1 < end → test (x + 1) ≡ not answer) → IsRun test end (span x (x + 1) answer)
+  run_of_one : (x : ℕ) (answer : Bool) → x + 1 ≤ end → answer ≡ test x → (x + 1 < end → test (x + 1) ≡ not answer) →
+      IsRun test end (span x (x + 1) answer)
   run_of_one x answer within e next =
       record {
         some = omega arith;
@@ -33,7 +35,8 @@ module _ (test : ℕ → Bool) (end : ℕ) where
         maximal = next;
       }
 
-  run_with_one : (x : ℕ) (answer : Bool) (s : Span) → answer ≡ test x → answer ≡ s.clipped → s.from ≡ x + 1 → IsRun test end s → IsRun test end (span x s.to answer)
+  run_with_one : (x : ℕ) (answer : Bool) (s : Span) → answer ≡ test x → answer ≡ s.clipped → s.from ≡ x + 1 → IsRun test end s →
+      IsRun test end (span x s.to answer)
   run_with_one x answer s e joins begins run =
       record {
         some = let some = run.some in omega arith;
@@ -45,7 +48,8 @@ module _ (test : ℕ → Bool) (end : ℕ) where
         maximal = λ below. run.maximal below ∙ ap not (sym joins);
       }
 
-  pub joined-runs : (x : ℕ) (answer : Bool) (spans : List Span) → answer ≡ test x → x + 1 ≤ end → AreRunsFrom test end (x + 1) spans → AreRunsFrom test end x (joined x answer spans)
+  pub joined-runs : (x : ℕ) (answer : Bool) (spans : List Span) → answer ≡ test x → x + 1 ≤ end → AreRunsFrom test end (x + 1) spans →
+      AreRunsFrom test end x (joined x answer spans)
   joined-runs x answer [] e within runs =
       (refl, run_of_one x answer within e (λ below. absurd (omega arith)), runs)
   joined-runs x answer (s ∷ rest) e within runs =
@@ -107,7 +111,8 @@ module _ (test : ℕ → Bool) (end : ℕ) where
       (sym (first_is t runs.2.1) ∙ ap test runs.2.0 ∙ turns, runs-alternate s.to (t ∷ rest) runs.2)
 
 -- runs of a test are runs of each that gives the same answers below the end
-pub runs_along : (test other : ℕ → Bool) (end x : ℕ) (spans : List Span) → ((y : ℕ) → y < end → test y ≡ other y) → AreRunsFrom test end x spans → AreRunsFrom other end x spans
+pub runs_along : (test other : ℕ → Bool) (end x : ℕ) (spans : List Span) → ((y : ℕ) → y < end → test y ≡ other y) →
+    AreRunsFrom test end x spans → AreRunsFrom other end x spans
 runs_along test other end x [] agree runs = runs
 runs_along test other end x (s ∷ rest) agree runs =
     let within = runs.1.within in (
@@ -124,6 +129,7 @@ runs_along test other end x (s ∷ rest) agree runs =
 pub spans_of-spans : (rects : List Rect) (row width pixels : ℕ) → AreSpans rects row width pixels (spans_of rects row width pixels)
 spans_of-spans rects row width pixels = runs_from-runs (clipped_at rects row pixels) width width 0 (omega arith)
 
-pub only_spans : (rects : List Rect) (row width pixels : ℕ) (spans : List Span) → AreSpans rects row width pixels spans → spans ≡ spans_of rects row width pixels
+pub only_spans : (rects : List Rect) (row width pixels : ℕ) (spans : List Span) → AreSpans rects row width pixels spans →
+    spans ≡ spans_of rects row width pixels
 only_spans rects row width pixels spans are =
     only_runs (clipped_at rects row pixels) width 0 spans (spans_of rects row width pixels) are (spans_of-spans rects row width pixels)

@@ -5,7 +5,8 @@ use Rattle.std.specs.List.Sorted.{IsNonDecreasingBy}
 use Rattle.clip_spans.specs.Parts.{IsPart, AreInOrder}
 use Rattle.clip_spans.specs.declared.Part.{Part}
 
-pub sorted_in_order : (width low : ℕ) (parts : List Part) → IsNonDecreasingBy (λ (p : Part). p.from) parts → All (IsPart width) parts → All (λ (p : Part). low ≤ p.from) parts → AreInOrder width low parts
+pub sorted_in_order : (width low : ℕ) (parts : List Part) → IsNonDecreasingBy (λ (p : Part). p.from) parts → All (IsPart width) parts →
+    All (λ (p : Part). low ≤ p.from) parts → AreInOrder width low parts
 sorted_in_order width low [] sorted are above = tt
 sorted_in_order width low (part ∷ rest) sorted are above = (
   above 0 part (omega arith),

@@ -1,5 +1,6 @@
 -- The parts of a row that single rectangles clip, in whole units.
-use Rattle.std.specs.Prelude.{ℕ, ◌+◌, ◌-◌, ◌*◌, ◌/◌, ◌<◌, ◌≤◌, Bool, ◌&&◌, List, [], ◌∷◌, Option, Some, None, if◌then◌else◌, nat_le, nat_lt, min}
+use Rattle.std.specs.Prelude.{ℕ, ◌+◌, ◌-◌, ◌*◌, ◌/◌, ◌<◌, ◌≤◌, Bool, ◌&&◌, List, [], ◌∷◌, Option, Some, None, if◌then◌else◌, nat_le, nat_lt}
+use Rattle.std.specs.Prelude.{min}
 use Rattle.std.specs.List.{list_any, filter_map}
 use Rattle.clip_spans.specs.Clipping.{meets}
 use Rattle.clip_spans.specs.Runs.{span}

@@ -259,7 +259,8 @@ impl Clips {
     pub fn next_edge(&self, row: u32) -> u64
         ensures value { result ≡ next_edge self.now row }
         ensures later { row < result }
-        ensures spans { (other width unit : ℕ) → row ≤ other → other < result → spans_of self.now other width unit ≡ spans_of self.now row width unit }
+        ensures spans { (other width unit : ℕ) → row ≤ other → other < result →
+            spans_of self.now other width unit ≡ spans_of self.now row width unit }
         ensures few { length self.now ≤ max_rects }
     {
         next_edge(&self.rects, row)
@@ -270,7 +271,9 @@ impl Clips {
 /// them. The function does nothing; its contract is the law.
 pub fn every_row_has_one_list_of_spans()
     ensures list { (rects : List Rect) (row width unit : ℕ) → AreSpans rects row width unit (spans_of rects row width unit) }
-    ensures only { (rects : List Rect) (row width unit : ℕ) (spans : List Span) → AreSpans rects row width unit spans → spans ≡ spans_of rects row width unit }
+    ensures only { (rects : List Rect) (row width unit : ℕ) (spans : List Span) → AreSpans rects row width unit spans →
+        spans ≡ spans_of rects row width unit }
     ensures alternate { (rects : List Rect) (row width unit : ℕ) → Alternate (spans_of rects row width unit) }
-    ensures few { (rects : List Rect) (row width unit : ℕ) → 1 ≤ unit → width % unit ≡ 0 → length (spans_of rects row width unit) ≤ 2 * length rects + 1 }
+    ensures few { (rects : List Rect) (row width unit : ℕ) → 1 ≤ unit → width % unit ≡ 0 →
+        length (spans_of rects row width unit) ≤ 2 * length rects + 1 }
 {}

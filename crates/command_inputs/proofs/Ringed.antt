@@ -15,9 +15,11 @@ use Rattle.command_inputs.proofs.UpToLimit.{of_whole}
 module _ (name : List ℕ) (old new : Seen) where
   is_too_long : (content : List ℕ) → longest_ring < length content → ring_of content ≡ Err (Malformed input.Ring (too_long longest_ring))
   is_too_long content more =
-      ap (λ b. cond b (Err (Malformed input.Ring (too_long longest_ring))) (judged_reading (described content))) (lt-ltb longest_ring (length content) more)
+      ap (λ b. cond b (Err (Malformed input.Ring (too_long longest_ring))) (judged_reading (described content)))
+      (lt-ltb longest_ring (length content) more)
 
-  pub longer_stops : (refusal : Refusal) → StopsAt (IsLonger longest_ring input.Ring) name refusal old new → StopsAt IsBadRing name refusal old new
+  pub longer_stops : (refusal : Refusal) → StopsAt (IsLonger longest_ring input.Ring) name refusal old new →
+      StopsAt IsBadRing name refusal old new
   longer_stops ReadFault h = h
   longer_stops NoMemory h = tt
   longer_stops (Malformed file fault) (file_is, fault_is, long) =
@@ -26,7 +28,9 @@ module _ (name : List ℕ) (old new : Seen) where
       (λ bytes more. is_too_long bytes more ∙ ap (λ x. Err (Malformed input.Ring x)) (sym fault_is)) long)
   longer_stops refusal h = absurd h
 
-  pub refused_stops : (bytes : List ℕ) → OfInput name old.told.inputs (λ content. bytes ≡ content) → (refusal : Refusal) → IsRefused bytes refusal → StopsAt IsBadRing name refusal old new
+  pub refused_stops : (bytes : List ℕ) → OfInput name old.told.inputs (λ content. bytes ≡ content) → (refusal : Refusal) →
+      IsRefused bytes refusal → StopsAt IsBadRing name refusal old new
   refused_stops bytes whole NoMemory h = tt
-  refused_stops bytes whole (BadRing fault) h = of_whole name old.told.inputs bytes whole (λ content. ring_of content ≡ Err (BadRing fault)) h
+  refused_stops bytes whole (BadRing fault) h =
+      of_whole name old.told.inputs bytes whole (λ content. ring_of content ≡ Err (BadRing fault)) h
   refused_stops bytes whole refusal h = absurd h

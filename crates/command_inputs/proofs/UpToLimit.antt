@@ -19,5 +19,6 @@ is_whole most bytes content e few =
     e ∙ take_all (most + 1) content (omega (arith, size, same, few))
 
 -- what is so of the bytes that were read is so of the file
-pub of_whole : (name : List ℕ) (inputs : Option Inputs) (bytes : List ℕ) → OfInput name inputs (λ content. bytes ≡ content) → (P : List ℕ → Type 0) → P bytes → OfInput name inputs P
+pub of_whole : (name : List ℕ) (inputs : Option Inputs) (bytes : List ℕ) → OfInput name inputs (λ content. bytes ≡ content) →
+    (P : List ℕ → Type 0) → P bytes → OfInput name inputs P
 of_whole name inputs bytes whole P h = OfInput-map name inputs (λ content. bytes ≡ content) P (λ content e. subst P e h) whole

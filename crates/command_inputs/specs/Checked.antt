@@ -76,7 +76,13 @@ IsBadShown program_name name refusal told = IsBadDescBy frame_fault name refusal
 
 abbrev pub shown_files : List ℕ → Judge
 shown_files program_name =
-    record { most = longest_description; kept = true; MayGoOn = Always; IsGood = HoldsShownBy program_name; IsBad = IsBadShown program_name }
+    record {
+      most = longest_description;
+      kept = true;
+      MayGoOn = Always;
+      IsGood = HoldsShownBy program_name;
+      IsBad = IsBadShown program_name;
+    }
 
 abbrev pub a_shown_description : List ℕ → List ℕ → Input
 a_shown_description program_name name = record { name = name; judge = shown_files program_name }

@@ -70,9 +70,11 @@ IsRefused fault_in bytes _ = ⊥
 
 -- an input isn't that of such a description
 abbrev pub IsBadDescBy : (Desc → Option BuildFault) → List ℕ → Refusal → Option Inputs → Type 0
-IsBadDescBy fault_in name (Malformed DescFile fault) inputs = OfInput name inputs (λ bytes. description_by fault_in bytes ≡ Err (Malformed DescFile fault))
+IsBadDescBy fault_in name (Malformed DescFile fault) inputs =
+    OfInput name inputs (λ bytes. description_by fault_in bytes ≡ Err (Malformed DescFile fault))
 IsBadDescBy fault_in name (BadDesc fault) inputs = OfInput name inputs (λ bytes. description_by fault_in bytes ≡ Err (BadDesc fault))
-IsBadDescBy fault_in name (BadGeometry fault) inputs = OfInput name inputs (λ bytes. description_by fault_in bytes ≡ Err (BadGeometry fault))
+IsBadDescBy fault_in name (BadGeometry fault) inputs =
+    OfInput name inputs (λ bytes. description_by fault_in bytes ≡ Err (BadGeometry fault))
 IsBadDescBy fault_in name _ inputs = ⊥
 
 abbrev pub IsBadDesc : List ℕ → Refusal → Option Inputs → Type 0

@@ -21,7 +21,8 @@ IsLonger most file name _ inputs = ⊥
 -- ---- as an input
 
 abbrev pub limited_files : ℕ → File → Judge
-limited_files most file = record { most = most; kept = true; MayGoOn = Always; IsGood = ByBytes (λ bytes. length bytes ≤ most); IsBad = IsLonger most file }
+limited_files most file =
+    record { most = most; kept = true; MayGoOn = Always; IsGood = ByBytes (λ bytes. length bytes ≤ most); IsBad = IsLonger most file }
 
 abbrev pub a_limited : ℕ → File → List ℕ → Input
 a_limited most file name = record { name = name; judge = limited_files most file }

@@ -95,7 +95,8 @@ fn judge(alloc: Global, file: ProgramFile) -> Result<Loaded, Refusal>
 /// Reads a program file and checks its program.
 pub fn accept<D: Desk>(alloc: Global, name: &str, desk: &mut D) -> Result<Loaded, Refusal>
     requires { IsAllowed name.now (D.seen desk.old).told.may_open }
-    ensures accepts { IfOk result (λ loaded. OfInput name.now (D.seen desk.old).told.inputs (λ bytes. Accepts (program_of bytes) loaded.accepted loaded.fill)) }
+    ensures accepts { IfOk result
+        (λ loaded. OfInput name.now (D.seen desk.old).told.inputs (λ bytes. Accepts (program_of bytes) loaded.accepted loaded.fill)) }
     ensures takes { Takes (a_sound_program name.now ∷ []) result (D.seen desk.old) (D.seen desk.new) }
 {
     let file = read_file(alloc, name, desk)?;

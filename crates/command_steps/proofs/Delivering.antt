@@ -1,5 +1,6 @@
 -- Outputs that are written one after the other.
-use Rattle.std.proofs.Common.{◌≡◌, ℕ, ◌<◌, ◌≤◌, inl, inr, true, List, [], ◌∷◌, ◌++◌, length, Result, Ok, Err, refl, sym, ap, subst, ◌∙◌, append_assoc, suc, ◌+◌, All, drop, slice_index_or, arith}
+use Rattle.std.proofs.Common.{◌≡◌, ℕ, ◌<◌, ◌≤◌, inl, inr, true, List, [], ◌∷◌, ◌++◌, length, Result, Ok, Err, refl, sym, ap, subst, ◌∙◌}
+use Rattle.std.proofs.Common.{append_assoc, suc, ◌+◌, All, drop, slice_index_or, arith}
 use Rattle.std.proofs.Math.Seq.{drop-cons}
 use Rattle.std.proofs.Math.ListN.{drop_of_length-le}
 use Rattle.capture_desk.specs.declared.calls.Call.{Call}
@@ -25,20 +26,26 @@ abbrev both : List ℕ → List Call
 both name = CreateOut name true ∷ Finish true ∷ []
 
 -- one more is written
-pub one_written : (A E : Type 0) (done : A) (files left : List (List ℕ × List ℕ)) (name bytes : List ℕ) (old mid new : Seen) → IsUnderWay files ((name, bytes) ∷ left) old mid →
-    new.told ≡ after_file (name, bytes) mid.told → SameCounts mid new → Calls (IsFileOf {A = A} {E = E} name (Ok done)) mid new → IsUnderWay files left old new
+pub one_written : (A E : Type 0) (done : A) (files left : List (List ℕ × List ℕ)) (name bytes : List ℕ) (old mid new : Seen) →
+    IsUnderWay files ((name, bytes) ∷ left) old mid →
+    new.told ≡ after_file (name, bytes) mid.told → SameCounts mid new → Calls (IsFileOf {A = A} {E = E} name (Ok done)) mid new →
+    IsUnderWay files left old new
 one_written A E done files left name bytes old mid new h is counts (calls, same, tells) =
     record {
       whole = λ text. ap (delivered left text) is ∙ h.whole text;
       part = λ text t p. h.part text t (inr (inr (subst (λ now. IsPart left text now t) is p)));
       counts = (counts.0 ∙ h.counts.0, counts.1 ∙ h.counts.1);
       made = h.made ++ both name;
-      tells = tells_both h.made (both name) old.calls mid.calls new.calls h.tells (subst (λ made. Tells made mid.calls new.calls) same tells);
+      tells =
+          tells_both h.made (both name) old.calls mid.calls new.calls h.tells (subst (λ made. Tells made mid.calls new.calls) same tells);
       all_made = λ text. append_assoc h.made (both name) (delivery (names_of left) text) ∙ h.all_made text;
-      part_made = λ calls p. subst (IsDeliveryPart (names_of files)) (sym (append_assoc h.made (both name) calls)) (h.part_made (both name ++ calls) (inr (inr (inr (calls, refl, p)))));
+      part_made =
+          λ calls p. subst (IsDeliveryPart (names_of files)) (sym (append_assoc h.made (both name) calls))
+          (h.part_made (both name ++ calls) (inr (inr (inr (calls, refl, p)))));
     }
 
-pub not_written_calls : (A E : Type 0) (failed : E) (files left : List (List ℕ × List ℕ)) (name bytes : List ℕ) (old mid new : Seen) → IsUnderWay files ((name, bytes) ∷ left) old mid →
+pub not_written_calls : (A E : Type 0) (failed : E) (files left : List (List ℕ × List ℕ)) (name bytes : List ℕ) (old mid new : Seen) →
+    IsUnderWay files ((name, bytes) ∷ left) old mid →
     Calls (IsFileOf {A = A} {E = E} name (Err failed)) mid new → Calls (IsDeliveryPart (names_of files)) old new
 not_written_calls A E failed files left name bytes old mid new h (calls, is, tells) =
     (h.made ++ calls, h.part_made calls (a_part is), tells_both h.made calls old.calls mid.calls new.calls h.tells tells)
@@ -50,23 +57,30 @@ not_written_calls A E failed files left name bytes old mid new h (calls, is, tel
 
 -- ---- all are written, and the text is printed
 
-pub text_calls : (files : List (List ℕ × List ℕ)) (text : List ℕ) (old mid new : Seen) → IsUnderWay files [] old mid → OnlySaid text mid new →
+pub text_calls : (files : List (List ℕ × List ℕ)) (text : List ℕ) (old mid new : Seen) → IsUnderWay files [] old mid →
+    OnlySaid text mid new →
     Tells (delivery (names_of files) text) old.calls new.calls
 text_calls files text old mid new h said =
-    subst (λ made. Tells made old.calls new.calls) (h.all_made text) (tells_both h.made (said_by text) old.calls mid.calls new.calls h.tells said.2)
+    subst (λ made. Tells made old.calls new.calls) (h.all_made text)
+    (tells_both h.made (said_by text) old.calls mid.calls new.calls h.tells said.2)
 
-pub part_calls : (files : List (List ℕ × List ℕ)) (old mid new : Seen) → IsUnderWay files [] old mid → Tells (Say ∷ []) mid.calls new.calls →
+pub part_calls : (files : List (List ℕ × List ℕ)) (old mid new : Seen) → IsUnderWay files [] old mid →
+    Tells (Say ∷ []) mid.calls new.calls →
     Calls (IsDeliveryPart (names_of files)) old new
-part_calls files old mid new h tells = (h.made ++ (Say ∷ []), h.part_made (Say ∷ []) refl, tells_both h.made (Say ∷ []) old.calls mid.calls new.calls h.tells tells)
+part_calls files old mid new h tells =
+    (h.made ++ (Say ∷ []), h.part_made (Say ∷ []) refl, tells_both h.made (Say ∷ []) old.calls mid.calls new.calls h.tells tells)
 
-pub said_calls : (A E : Type 0) (r : Result A E) (files : List (List ℕ × List ℕ)) (text said : List ℕ) (old mid new : Seen) → IsUnderWay files [] old mid → said ≡ text → SayCounts said r mid new →
+pub said_calls : (A E : Type 0) (r : Result A E) (files : List (List ℕ × List ℕ)) (text said : List ℕ) (old mid new : Seen) →
+    IsUnderWay files [] old mid → said ≡ text → SayCounts said r mid new →
     Calls (IsDeliveryOf (names_of files) text r) old new
-said_calls A E (Ok done) files text said old mid new h e counts = (delivery (names_of files) text, refl, text_calls files text old mid new h (subst (λ t. OnlySaid t mid new) e counts))
+said_calls A E (Ok done) files text said old mid new h e counts =
+    (delivery (names_of files) text, refl, text_calls files text old mid new h (subst (λ t. OnlySaid t mid new) e counts))
 said_calls A E (Err failed) files text said old mid new h e counts = part_calls files old mid new h counts.1
 
 -- ---- the next output
 
-module _ {C : Type 0} (bytes : C → List ℕ) (outputs : List (Output C)) (i : ℕ) (x : Output C) (few : i < length outputs) (is : x ≡ slice_index_or outputs i x) where
+module _ {C : Type 0} (bytes : C → List ℕ) (outputs : List (Output C)) (i : ℕ) (x : Output C) (few : i < length outputs)
+    (is : x ≡ slice_index_or outputs i x) where
   rest_is : drop i outputs ≡ x ∷ drop (i + 1) outputs
   rest_is =
       let next : suc i ≡ i + 1 = omega arith in
@@ -81,5 +95,6 @@ module _ {C : Type 0} (bytes : C → List ℕ) (outputs : List (Output C)) (i : 
   pub of_later : (P : Output C → Type 0) → All P (drop i outputs) → All P (drop (i + 1) outputs)
   of_later P h = λ k d less. subst (All P) rest_is h (suc k) d (omega (arith, less))
 
-pub none_left : {C : Type 0} (bytes : C → List ℕ) (outputs : List (Output C)) (i : ℕ) → length outputs ≤ i → files_of bytes (drop i outputs) ≡ []
+pub none_left : {C : Type 0} (bytes : C → List ℕ) (outputs : List (Output C)) (i : ℕ) → length outputs ≤ i →
+    files_of bytes (drop i outputs) ≡ []
 none_left bytes outputs i done = ap (files_of bytes) (drop_of_length-le outputs done)

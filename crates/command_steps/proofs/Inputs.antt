@@ -6,7 +6,8 @@ use Rattle.command_texts.specs.declared.refusal.Refusal.TheVariants.{ReadFault}
 use Rattle.command_steps.specs.Inputs.{KeepsReads, OfFile, OfInput, OfRest, apart}
 
 -- what follows for the bytes of an input follows for the input
-pub OfInput-map : (name : List ℕ) (inputs : Option Inputs) (P Q : List ℕ → Type 0) → ((bytes : List ℕ) → P bytes → Q bytes) → OfInput name inputs P → OfInput name inputs Q
+pub OfInput-map : (name : List ℕ) (inputs : Option Inputs) (P Q : List ℕ → Type 0) → ((bytes : List ℕ) → P bytes → Q bytes) →
+    OfInput name inputs P → OfInput name inputs Q
 OfInput-map name None P Q f h = tt
 OfInput-map name (Some inputs) P Q f h = of_file (named name inputs) h
   where
@@ -28,7 +29,8 @@ pub same_inputs : (a b : Told) → apart a ≡ apart b → a.inputs ≡ b.inputs
 same_inputs a b e = ap (λ (t : Told). t.inputs) e
 
 -- an input that was opened is the rest that is read
-pub opened_input : (name : List ℕ) (old opened : Told) (P : List ℕ → Type 0) → is_missing name old.inputs ≡ false → opened ≡ after_open name old →
+pub opened_input : (name : List ℕ) (old opened : Told) (P : List ℕ → Type 0) → is_missing name old.inputs ≡ false →
+    opened ≡ after_open name old →
     OfRest opened.rest P → OfInput name old.inputs P
 opened_input name old opened P there e h = of_inputs old.inputs there (subst (λ (t : Told). OfRest t.rest P) e h)
   where

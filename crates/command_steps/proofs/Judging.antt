@@ -13,7 +13,8 @@ use Rattle.command_steps.proofs.Taking.{last_taken, may_come}
 -- ---- one judge in place of another that reads as far
 
 -- an input that is not checked yet is bad in no way
-pub raw_stops : (IsBad : List ℕ → Refusal → Option Inputs → Type 0) (most : ℕ) (name : List ℕ) (refusal : Refusal) (old new : Seen) → StopsAt (raw_files most).IsBad name refusal old new → StopsAt IsBad name refusal old new
+pub raw_stops : (IsBad : List ℕ → Refusal → Option Inputs → Type 0) (most : ℕ) (name : List ℕ) (refusal : Refusal) (old new : Seen) →
+    StopsAt (raw_files most).IsBad name refusal old new → StopsAt IsBad name refusal old new
 raw_stops IsBad most name ReadFault old new h = h
 raw_stops IsBad most name NoMemory old new h = tt
 raw_stops IsBad most name refusal old new h = absurd h
@@ -32,18 +33,22 @@ module _ (name : List ℕ) (from to : Judge) where
   abbrev IsGoodAfter : Option Inputs → Type 0
   IsGoodAfter told = OfInput name told (to.IsGood told)
 
-  pub took_as : (inputs : List Input) (old new : Seen) → (IsGoodBefore old.told.inputs → IsGoodAfter old.told.inputs) → Took (before ∷ inputs) old new → Took (after ∷ inputs) old new
+  pub took_as : (inputs : List Input) (old new : Seen) → (IsGoodBefore old.told.inputs → IsGoodAfter old.told.inputs) →
+      Took (before ∷ inputs) old new → Took (after ∷ inputs) old new
   took_as inputs old new good h =
       let (x, y, e, whole, was, more) = h.calls.1 in
       record { told = h.told; reads = h.reads; writes = h.writes; calls = (h.calls.0, (x, y, e, whole, good was, more), h.calls.2) }
 
-  as_called : (inputs : List Input) (refusal : Refusal) (told : Option Inputs) (calls : List Call) → (IsGoodBefore told → IsGoodAfter told) → AreTakenUpTo (before ∷ inputs) refusal told calls →
+  as_called : (inputs : List Input) (refusal : Refusal) (told : Option Inputs) (calls : List Call) →
+      (IsGoodBefore told → IsGoodAfter told) → AreTakenUpTo (before ∷ inputs) refusal told calls →
       AreTakenUpTo (after ∷ inputs) refusal told calls
   as_called inputs refusal told calls good (inl h) = inl h
   as_called inputs refusal told calls good (inr (x, y, e, whole, was, may, more)) = inr (x, y, e, whole, good was, may, more)
 
-  pub stopped_as : (inputs : List Input) (refusal : Refusal) (old new : Seen) → (IsGoodBefore old.told.inputs → IsGoodAfter old.told.inputs) →
-      (StopsAt from.IsBad name refusal old new → StopsAt to.IsBad name refusal old new) → Stopped (before ∷ inputs) refusal old new → Stopped (after ∷ inputs) refusal old new
+  pub stopped_as : (inputs : List Input) (refusal : Refusal) (old new : Seen) →
+      (IsGoodBefore old.told.inputs → IsGoodAfter old.told.inputs) →
+      (StopsAt from.IsBad name refusal old new → StopsAt to.IsBad name refusal old new) → Stopped (before ∷ inputs) refusal old new →
+      Stopped (after ∷ inputs) refusal old new
   stopped_as inputs refusal old new good bad h =
       record {
         told = h.told;
@@ -58,8 +63,10 @@ module _ (name : List ℕ) (from to : Judge) where
       by_why (inr (was, why)) = inr (good was, why)
 
   -- by the answer, where what is good by the first judge is good by the second, and what is bad is bad
-  pub takes_as : {A : Type 0} (inputs : List Input) (r : Result A Refusal) (old new : Seen) → (IsGoodBefore old.told.inputs → IsGoodAfter old.told.inputs) →
-      ((refusal : Refusal) → StopsAt from.IsBad name refusal old new → StopsAt to.IsBad name refusal old new) → Takes (before ∷ inputs) r old new → Takes (after ∷ inputs) r old new
+  pub takes_as : {A : Type 0} (inputs : List Input) (r : Result A Refusal) (old new : Seen) →
+      (IsGoodBefore old.told.inputs → IsGoodAfter old.told.inputs) →
+      ((refusal : Refusal) → StopsAt from.IsBad name refusal old new → StopsAt to.IsBad name refusal old new) →
+      Takes (before ∷ inputs) r old new → Takes (after ∷ inputs) r old new
   takes_as inputs (Ok x) old new good bad h = took_as inputs old new good h
   takes_as inputs (Err refusal) old new good bad h = stopped_as inputs refusal old new good (bad refusal) h
 
@@ -68,7 +75,8 @@ module _ (name : List ℕ) (from to : Judge) where
   found_good old new good h = took_as [] old new (λ was. good) h
 
   -- or bad
-  pub found_bad : from.kept ≡ true → (refusal : Refusal) (old new : Seen) → StopsAt to.IsBad name refusal old new → Took (before ∷ []) old new → Stopped (after ∷ []) refusal old new
+  pub found_bad : from.kept ≡ true → (refusal : Refusal) (old new : Seen) → StopsAt to.IsBad name refusal old new →
+      Took (before ∷ []) old new → Stopped (after ∷ []) refusal old new
   found_bad kept refusal old new bad h =
       let (x, y, e, whole, was, none) = h.calls.1 in
       record {
@@ -76,13 +84,24 @@ module _ (name : List ℕ) (from to : Judge) where
         reads = keeps_reads refusal old new h.reads;
         writes = h.writes;
         why = inl bad;
-        calls = (h.calls.0, inl (last_taken before refusal old.told.inputs h.calls.0 x y (may_come refusal from.kept kept) e whole was none), h.calls.2);
+        calls = (
+          h.calls.0,
+          inl (last_taken before refusal old.told.inputs h.calls.0 x y (may_come refusal from.kept kept) e whole was none),
+          h.calls.2,
+        );
       }
 
   -- it was not taken, and so is not checked
-  pub not_taken : (refusal : Refusal) (old new : Seen) → (StopsAt from.IsBad name refusal old new → StopsAt to.IsBad name refusal old new) → Stopped (before ∷ []) refusal old new → Stopped (after ∷ []) refusal old new
+  pub not_taken : (refusal : Refusal) (old new : Seen) → (StopsAt from.IsBad name refusal old new → StopsAt to.IsBad name refusal old new) →
+      Stopped (before ∷ []) refusal old new → Stopped (after ∷ []) refusal old new
   not_taken refusal old new bad h =
-      record { told = h.told; reads = h.reads; writes = h.writes; why = inl (by_why h.why); calls = (h.calls.0, inl (by_calls h.calls.0 h.calls.1), h.calls.2) }
+      record {
+        told = h.told;
+        reads = h.reads;
+        writes = h.writes;
+        why = inl (by_why h.why);
+        calls = (h.calls.0, inl (by_calls h.calls.0 h.calls.1), h.calls.2);
+      }
     where
       no_more : (r : Refusal) → r ≡ NoMemory → StopsAt to.IsBad name r old new
       no_more r is = subst (λ x. StopsAt to.IsBad name x old new) (sym is) tt
@@ -97,12 +116,14 @@ module _ (name : List ℕ) (from to : Judge) where
       by_calls calls (inr (x, y, e, whole, was, may, none)) = last_taken before refusal old.told.inputs calls x y may e whole was none
 
   -- by the answer of its check, once it was taken
-  pub judged : {A : Type 0} → from.kept ≡ true → (r : Result A Refusal) (old new : Seen) → IfOk r (λ _. IsGoodAfter old.told.inputs) → IfErr r (λ refusal. StopsAt to.IsBad name refusal old new) →
+  pub judged : {A : Type 0} → from.kept ≡ true → (r : Result A Refusal) (old new : Seen) → IfOk r (λ _. IsGoodAfter old.told.inputs) →
+      IfErr r (λ refusal. StopsAt to.IsBad name refusal old new) →
       Took (before ∷ []) old new → Takes (after ∷ []) r old new
   judged kept (Ok x) old new good bad h = found_good old new good h
   judged kept (Err refusal) old new good bad h = found_bad kept refusal old new bad h
 
   -- an early return, where it was not taken
   pub not_judged : {A : Type 0} (r : Result A Refusal) (refusal : Refusal) (old new : Seen) → IsErrAnd r (λ y. y ≡ refusal) →
-      (StopsAt from.IsBad name refusal old new → StopsAt to.IsBad name refusal old new) → Stopped (before ∷ []) refusal old new → Takes (after ∷ []) r old new
+      (StopsAt from.IsBad name refusal old new → StopsAt to.IsBad name refusal old new) → Stopped (before ∷ []) refusal old new →
+      Takes (after ∷ []) r old new
   not_judged r refusal old new is bad h = stops_with (after ∷ []) r refusal old new is (not_taken refusal old new bad h)

@@ -1,5 +1,6 @@
 -- The calls by which inputs are taken, and their order.
-use Rattle.std.specs.Prelude.{◌≡◌, ℕ, ◌+◌, ◌-◌, ◌<◌, ◌≤◌, min, ◌⊎◌, ⊤, Bool, true, false, List, [], ◌∷◌, ◌++◌, length, take, Option, Some, None, Result, Ok, Err}
+use Rattle.std.specs.Prelude.{◌≡◌, ℕ, ◌+◌, ◌-◌, ◌<◌, ◌≤◌, min, ◌⊎◌, ⊤, Bool, true, false, List, [], ◌∷◌, ◌++◌, length, take, Option, Some}
+use Rattle.std.specs.Prelude.{None, Result, Ok, Err}
 use Rattle.capture_desk.specs.declared.calls.Call.{Call}
 use Rattle.capture_desk.specs.declared.calls.Call.TheVariants.{OpenIn, Read}
 use Rattle.capture_desk.specs.Desks.{Inputs, Seen, Tells, is_missing, after_open}

@@ -2,7 +2,8 @@
 
 ghost use Rattle.std.specs.Prelude.{All, IsTrue, List, MatchResult, ℕ, ◌≡◌};
 ghost use Rattle.capture_desk.specs.Desks.{IsAllowed, Puts, WriteCounts, after_write};
-ghost use Rattle.command_steps.specs.Outputs.{DeliveryCounts, Finishes, IsDeliveryOf, IsFileOf, IsFilePart, IsPart, after_file, delivered, files_of, names_of};
+ghost use Rattle.command_steps.specs.Outputs.{DeliveryCounts, Finishes, IsDeliveryOf, IsFileOf, IsFilePart, IsPart, after_file, delivered};
+ghost use Rattle.command_steps.specs.Outputs.{files_of, names_of};
 ghost use Rattle.command_steps.specs.Reading.{Calls};
 
 use capture_desk::{Desk, Failed, say_all};

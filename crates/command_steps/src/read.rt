@@ -56,7 +56,8 @@ fn keep_rest<D: Desk, K: Keeps>(
     requires open { IsTrue (D.seen desk.old).told.input_open }
     requires few { most < 2 ^ 32 }
     requires room { length buffer.old ≡ 65536 }
-    ensures bytes { IfOk result (λ _. OfRest (D.seen desk.old).told.rest (λ rest. K.kept keeper.new ≡ K.kept keeper.old ++ take (most + 1) rest)) }
+    ensures bytes { IfOk result
+        (λ _. OfRest (D.seen desk.old).told.rest (λ rest. K.kept keeper.new ≡ K.kept keeper.old ++ take (most + 1) rest)) }
     ensures told { apart (D.seen desk.new).told ≡ apart (D.seen desk.old).told }
     ensures stops { IfErr result (λ refusal. StopsAtRead refusal (D.seen desk.old) (D.seen desk.new)) }
     ensures writes { (D.seen desk.new).writes ≡ (D.seen desk.old).writes }
@@ -89,7 +90,8 @@ fn keep_opened<D: Desk, K: Keeps>(
 ) -> Result<(), Refusal>
     requires open { IsTrue (D.seen desk.old).told.input_open }
     requires few { most < 2 ^ 32 }
-    ensures bytes { IfOk result (λ _. OfRest (D.seen desk.old).told.rest (λ rest. K.kept keeper.new ≡ K.kept keeper.old ++ take (most + 1) rest)) }
+    ensures bytes { IfOk result
+        (λ _. OfRest (D.seen desk.old).told.rest (λ rest. K.kept keeper.new ≡ K.kept keeper.old ++ take (most + 1) rest)) }
     ensures told { apart (D.seen desk.new).told ≡ apart (D.seen desk.old).told }
     ensures stops { IfErr result (λ refusal. StopsAtRead refusal (D.seen desk.old) (D.seen desk.new)) }
     ensures writes { (D.seen desk.new).writes ≡ (D.seen desk.old).writes }
@@ -112,7 +114,8 @@ pub fn read_pieces<D: Desk, K: Keeps>(
 ) -> Result<(), Refusal>
     requires allowed { IsAllowed name.now (D.seen desk.old).told.may_open }
     requires few { most < 2 ^ 32 }
-    ensures bytes { IfOk result (λ _. OfInput name.now (D.seen desk.old).told.inputs (λ content. K.kept keeper.new ≡ K.kept keeper.old ++ take (most + 1) content)) }
+    ensures bytes { IfOk result (λ _.
+        OfInput name.now (D.seen desk.old).told.inputs (λ content. K.kept keeper.new ≡ K.kept keeper.old ++ take (most + 1) content)) }
     ensures takes { Takes (a_raw name.now most ∷ []) result (D.seen desk.old) (D.seen desk.new) }
 {
     open(name, desk)?;
@@ -128,7 +131,8 @@ pub fn read_whole<D: Desk>(
 ) -> Result<Vec<u8>, Refusal>
     requires allowed { IsAllowed name.now (D.seen desk.old).told.may_open }
     requires few { most < 2 ^ 32 }
-    ensures bytes { IfOk result (λ bytes. OfInput name.now (D.seen desk.old).told.inputs (λ content. bytes.items ≡ take (most + 1) content)) }
+    ensures bytes { IfOk result
+        (λ bytes. OfInput name.now (D.seen desk.old).told.inputs (λ content. bytes.items ≡ take (most + 1) content)) }
     ensures takes { Takes (a_raw name.now most ∷ []) result (D.seen desk.old) (D.seen desk.new) }
 {
     let mut bytes = Vec::new(alloc);

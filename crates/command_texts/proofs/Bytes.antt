@@ -25,4 +25,5 @@ byte_digits n small = by_size (nat_le n 15) refl
     by_size false is =
         let high = leb-false n 15 is in
         ap padded (hex_two_digits false n (omega (arith, high)) small)
-        ∙ sym (ap (λ list. list ++ digits 16 false (n % 16)) (hex_one_digit false (n / 16) (omega (arith, small))) ∙ ap (λ list. digit_glyph false (n / 16) ∷ list) (hex_one_digit false (n % 16) (omega arith)))
+        ∙ sym (ap (λ list. list ++ digits 16 false (n % 16)) (hex_one_digit false (n / 16) (omega (arith, small)))
+        ∙ ap (λ list. digit_glyph false (n / 16) ∷ list) (hex_one_digit false (n % 16) (omega arith)))

@@ -1,7 +1,8 @@
 -- The status of each answer, the answer of each refusal, and which texts take memory.
 use Rattle.std.specs.Prelude.{ℕ, ⊤}
 use Rattle.command_texts.specs.declared.answer.Answer.{Answer}
-use Rattle.command_texts.specs.declared.answer.Answer.TheVariants.{Done, Usage, ReadFault, WriteFault, Malformed, BadDesc, BadGeometry, BadChain, BadRing, BadText, Rejected, Differs, NoMemory}
+use Rattle.command_texts.specs.declared.answer.Answer.TheVariants.{Done, Usage, ReadFault, WriteFault, Malformed, BadDesc, BadGeometry}
+use Rattle.command_texts.specs.declared.answer.Answer.TheVariants.{BadChain, BadRing, BadText, Rejected, Differs, NoMemory}
 use Rattle.command_texts.specs.declared.refusal.Refusal.{Refusal}
 use Rattle.command_texts.specs.declared.refusal.Refusal.TheVariants as refusal
 

@@ -27,7 +27,8 @@ use Rattle.ring_compile.specs.declared.fault.RingFault.TheVariants as ring
 use Rattle.ring_compile.specs.Files as ring_keys
 use Rattle.risc_asm.specs.Words.{listing_words}
 use Rattle.command_texts.specs.declared.answer.Answer.{Answer}
-use Rattle.command_texts.specs.declared.answer.Answer.TheVariants.{Done, Usage, ReadFault, WriteFault, Malformed, BadDesc, BadGeometry, BadChain, BadRing, BadText, Rejected, Differs, NoMemory}
+use Rattle.command_texts.specs.declared.answer.Answer.TheVariants.{Done, Usage, ReadFault, WriteFault, Malformed, BadDesc, BadGeometry}
+use Rattle.command_texts.specs.declared.answer.Answer.TheVariants.{BadChain, BadRing, BadText, Rejected, Differs, NoMemory}
 use Rattle.command_texts.specs.declared.texts.RefusalText.{RefusalText}
 use Rattle.command_texts.specs.declared.texts.RefusalText.TheVariants.{Ready, Short, Made}
 

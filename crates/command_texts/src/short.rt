@@ -1,7 +1,8 @@
 //! Short texts, which take no memory.
 
 ghost use Rattle.arrayvec.specs.ArrayString.{array_string_len};
-ghost use Rattle.command_texts.specs.Texts.{answer_text, blocks_text, built_text, byte_text, input_words, kind_words, lost_words, made_text, report_text};
+ghost use Rattle.command_texts.specs.Texts.{answer_text, blocks_text, built_text, byte_text, input_words, kind_words, lost_words};
+ghost use Rattle.command_texts.specs.Texts.{made_text, report_text};
 ghost use Rattle.std.specs.Fmt.{decimal};
 ghost use Rattle.std.specs.Prelude.{◌≡◌, ◌+◌, ◌≤◌, ◌++◌, codes, length};
 
@@ -51,7 +52,8 @@ impl ShortText {
 /// Appends the counts of turns and of bytes stored.
 fn push_counts(text: &mut Lines, report: &Report)
     requires { array_string_len text.old + 60 ≤ 65536 }
-    ensures bytes { text.new.bytes ≡ text.old.bytes ++ (codes "turns " ++ (decimal report.now.turns ++ (codes "\nmoved " ++ decimal report.now.moved))) }
+    ensures bytes { text.new.bytes
+        ≡ text.old.bytes ++ (codes "turns " ++ (decimal report.now.turns ++ (codes "\nmoved " ++ decimal report.now.moved))) }
     ensures long { array_string_len text.new ≤ array_string_len text.old + 60 }
 {
     text.push_str("turns");

@@ -159,7 +159,8 @@ static PACKED_FRAME: [Event; 28] = [
 /// the first chunk ends.
 pub fn packed() -> Subject {
     Subject {
-        description: "format = \"y8\"\nwidth = 10\nheight = 4\nskip_lines = 1\nvbi_lines = 1\nvbi_bytes = 6\nchunks = [[0x20000, 12], [0x20010, 40]]\n",
+        description: "format = \"y8\"\nwidth = 10\nheight = 4\nskip_lines = 1\nvbi_lines = 1\nvbi_bytes = 6\n\
+            chunks = [[0x20000, 12], [0x20010, 40]]\n",
         instructions: &PACKED_INSTRUCTIONS,
         top: Field::new(0, 7, Row::new(5, 1), Row::new(6, 1)),
         bottom: Field::new(8, 16, Row::new(13, 2), Row::new(15, 1)),

@@ -1,6 +1,7 @@
 -- While a field arrives, a burst to a queue only takes bytes, and the last entry of a line is taken to its end exactly
 -- where nothing more is asked of the queue in the line.
-use Rattle.std.proofs.Common.{◌≡◌, ℕ, zero, suc, ◌+◌, ◌-◌, ◌<◌, ◌⊎◌, inl, inr, min, Bool, true, false, ◌&&◌, ◌==◌, List, [], ◌∷◌, ◌++◌, drop, length, length-drop, Option, Some, None, if◌then◌else◌}
+use Rattle.std.proofs.Common.{◌≡◌, ℕ, zero, suc, ◌+◌, ◌-◌, ◌<◌, ◌⊎◌, inl, inr, min, Bool, true, false, ◌&&◌, ◌==◌, List, [], ◌∷◌, ◌++◌}
+use Rattle.std.proofs.Common.{drop, length, length-drop, Option, Some, None, if◌then◌else◌}
 use Rattle.std.proofs.Common.{refl, sym, ap, ◌∙◌, subst, arith, eqb-true}
 use Rattle.std.specs.List.{list_any}
 use Rattle.std.proofs.lemmas.Bool.{eqb-false, or_cases, or_from, or_parts}
@@ -19,7 +20,8 @@ use Rattle.machine_model.specs.declared.Job.{Job}
 use Rattle.machine_model.specs.declared.Job.TheVariants.{Running}
 use Rattle.machine_model.specs.States.{State}
 use Rattle.machine_model.specs.Turns.{Store, apply_in, burst, demand_less, demand_on, ended, judged, served, took, verdict_at, with_demand}
-use Rattle.machine_model.specs.Seen.{Application, application_in, applications, discards_reserved, discards_reserved_by, ends, ends_by, gives_up, gives_up_by, served_application, takes, takes_by}
+use Rattle.machine_model.specs.Seen.{Application, application_in, applications, discards_reserved, discards_reserved_by, ends, ends_by}
+use Rattle.machine_model.specs.Seen.{gives_up, gives_up_by, served_application, takes, takes_by}
 use Rattle.field_law.specs.Arrivals.{is_queue}
 use Rattle.field_law.specs.Fields.{Mark, Row, Token, carried, is_ending}
 use Rattle.field_law.specs.Sections.{Ask, Await, Begin, GoOn, IsUsedUp, UsesTo, ask_of, asks}
@@ -71,7 +73,8 @@ module _ (sol : Bool) (count : ℕ) (address : Option ℕ) (list : List Ask) (st
   long = let enough = f.enough in omega (arith, line_long list (drop count f.line) f.tokens f.uses, length-drop count f.line)
 
   -- a line's last entry to its end
-  line_ends : is_end (kind_of f.entry.status) ≡ true → taken + taking ≡ valid_bytes f.entry.status → (count - taking) + left_in_line list ≡ 0
+  line_ends : is_end (kind_of f.entry.status) ≡ true → taken + taking ≡ valid_bytes f.entry.status →
+      (count - taking) + left_in_line list ≡ 0
   unfolding long
   line_ends last whole =
       let all = long in
@@ -80,7 +83,8 @@ module _ (sol : Bool) (count : ℕ) (address : Option ℕ) (list : List Ask) (st
       omega arith
 
   -- less
-  line_goes : (last whole : Bool) → is_end (kind_of f.entry.status) ≡ last → (taken + taking == valid_bytes f.entry.status) ≡ whole → (last && whole) ≡ false → 0 < (count - taking) + left_in_line list
+  line_goes : (last whole : Bool) → is_end (kind_of f.entry.status) ≡ last → (taken + taking == valid_bytes f.entry.status) ≡ whole →
+      (last && whole) ≡ false → 0 < (count - taking) + left_in_line list
   line_goes true true is_last is_whole on = cc
   line_goes false true is_last is_whole on =
       let all = long in
@@ -116,7 +120,8 @@ demand_apart Three Three d ds apart = cc
 
 -- ---- bursts within a section, behind whose instruction this is its body
 
-module _ (Stands : ℕ → List Instr → Type 0) (Comes : List Block → (Queue → List Store) → Type 0) (later : Queue → List Entry) (comes_made : IsMade Comes)
+module _ (Stands : ℕ → List Instr → Type 0) (Comes : List Block → (Queue → List Store) → Type 0) (later : Queue → List Entry)
+    (comes_made : IsMade Comes)
     (pc : ℕ) (body : List Instr) (only : (other : List Instr) → Stands pc other → other ≡ body) (q : Queue) (instr : Instr) where
   abbrev pub left_on : Demands → ℕ
   left_on ds = left_in_line (ask_of (demand_on q ds) ∷ asks q body)
@@ -150,7 +155,8 @@ module _ (Stands : ℕ → List Instr → Type 0) (Comes : List Block → (Queue
       }
 
   -- one application, and then the others
-  module _ (ds : Demands) (count : ℕ) (a : Application) (takes_it : takes a ≡ true) (keeps_it : discards_reserved a ≡ false) (stays : gives_up a ≡ false) (some_asked : 0 < (demand_on q ds).rest) where
+  module _ (ds : Demands) (count : ℕ) (a : Application) (takes_it : takes a ≡ true) (keeps_it : discards_reserved a ≡ false)
+      (stays : gives_up a ≡ false) (some_asked : 0 < (demand_on q ds).rest) where
     abbrev after_one : Demands
     after_one = with_demand q (demand_less count (demand_on q ds)) ds
 
@@ -160,7 +166,8 @@ module _ (Stands : ℕ → List Instr → Type 0) (Comes : List Block → (Queue
     left_less : left_on after_one ≡ ((demand_on q ds).rest - count) + left_in_line (asks q body)
     left_less = ap (λ (d : Demand). left_in_line (ask_of d ∷ asks q body)) less
 
-    then_others : (after : State) (made : List Application) → (ends a ≡ true → left_on after_one ≡ 0) → (ends a ≡ false → 0 < left_on after_one) → Took after_one after made → Took ds after (a ∷ made)
+    then_others : (after : State) (made : List Application) → (ends a ≡ true → left_on after_one ≡ 0) →
+        (ends a ≡ false → 0 < left_on after_one) → Took after_one after made → Took ds after (a ∷ made)
     then_others after made one_ends one_goes r =
         record {
           left = r.left;
@@ -175,7 +182,8 @@ module _ (Stands : ℕ → List Instr → Type 0) (Comes : List Block → (Queue
           unended = λ any none. goes_by_others (list_any takes made) refl (or_parts (ends a) (list_any ends made) none);
         }
       where
-        ends_by_one : (e later_takes : Bool) → ends a ≡ e → list_any takes made ≡ later_takes → (ends a ≡ true) ⊎ (list_any ends made ≡ true) → left_on r.left ≡ 0
+        ends_by_one : (e later_takes : Bool) → ends a ≡ e → list_any takes made ≡ later_takes →
+            (ends a ≡ true) ⊎ (list_any ends made ≡ true) → left_on r.left ≡ 0
         ends_by_one e later_takes is takes_is (inr last) = r.ended last
         ends_by_one e false is takes_is (inl here) = ap left_on (r.none takes_is).1 ∙ one_ends here
         ends_by_one e true is takes_is (inl here) =
@@ -185,20 +193,25 @@ module _ (Stands : ℕ → List Instr → Type 0) (Comes : List Block → (Queue
             let rest : (demand_on q after_one).rest ≡ (demand_on q ds).rest - count = ap (λ (d : Demand). d.rest) less in
             absurd (omega arith)
 
-        goes_by_others : (later_takes : Bool) → list_any takes made ≡ later_takes → (ends a ≡ false) × (list_any ends made ≡ false) → 0 < left_on r.left
+        goes_by_others : (later_takes : Bool) → list_any takes made ≡ later_takes → (ends a ≡ false) × (list_any ends made ≡ false) →
+            0 < left_on r.left
         goes_by_others false takes_is none = subst (λ (left : Demands). 0 < left_on left) (sym (r.none takes_is).1) (one_goes none.0)
         goes_by_others true takes_is none = r.unended takes_is none.1
 
-  module _ (n : ℕ) (on : (bound : ℕ) (ds : Demands) (m : State) → m.job ≡ Running instr ds → m.pc ≡ pc → IsWithin IsUsedUp AnyRest Stands Comes later bound m → Took ds (burst n q m) (applications n q m))
-      (bound : ℕ) (ds : Demands) (m : State) (j : m.job ≡ Running instr ds) (at : m.pc ≡ pc) (h : WithinJob IsUsedUp AnyRest Stands Comes later bound (Running instr ds) m) where
+  module _ (n : ℕ) (on : (bound : ℕ) (ds : Demands) (m : State) → m.job ≡ Running instr ds → m.pc ≡ pc →
+      IsWithin IsUsedUp AnyRest Stands Comes later bound m → Took ds (burst n q m) (applications n q m))
+      (bound : ℕ) (ds : Demands) (m : State) (j : m.job ≡ Running instr ds) (at : m.pc ≡ pc)
+      (h : WithinJob IsUsedUp AnyRest Stands Comes later bound (Running instr ds) m) where
     abbrev held : QueueState
     held = queue_state q m.queues
 
     abbrev After : List Application → Option State → Type 0
     After made next =
-        Took ds (elim next as (λ _. State) [ None ↦ m | Some after ↦ burst n q after ]) (made ++ (elim next as (λ _. List Application) [ None ↦ [] | Some after ↦ applications n q after ]))
+        Took ds (elim next as (λ _. State) [ None ↦ m | Some after ↦ burst n q after ])
+        (made ++ (elim next as (λ _. List Application) [ None ↦ [] | Some after ↦ applications n q after ]))
 
-    module _ (entry : Entry) (es : List Entry) (there : front held ≡ Some entry) (split : held.entries ≡ entry ∷ es) (some : 0 < (demand_on q ds).rest) where
+    module _ (entry : Entry) (es : List Entry) (there : front held ≡ Some entry) (split : held.entries ≡ entry ∷ es)
+        (some : 0 < (demand_on q ds).rest) where
       abbrev a : Application
       a = record { entry = entry; taken = held.taken; demand = demand_on q ds }
 
@@ -206,18 +219,26 @@ module _ (Stands : ℕ → List Instr → Type 0) (Comes : List Block → (Queue
       same_body = only h.body (subst (λ (n : ℕ). Stands n h.body) at h.stands)
 
       t : Takes IsUsedUp AnyRest (demand_on q ds) (asks q h.body) (h.stores q) (h.left q) held entry (later q)
-      t = application IsUsedUp AnyRest (demand_on q ds) (asks q h.body) (h.stores q) (h.left q) held entry (later q) es split some (h.outlook q)
+      t =
+          application IsUsedUp AnyRest (demand_on q ds) (asks q h.body) (h.stores q) (h.left q) held entry (later q) es split some
+          (h.outlook q)
 
-      f : Front IsUsedUp AnyRest (demand_on q ds).needs_sol (demand_on q ds).rest (demand_on q ds).address (asks q h.body) (h.stores q) (h.left q) held.taken (held.entries ++ later q)
-      f = front_of IsUsedUp AnyRest (demand_on q ds).needs_sol (demand_on q ds).rest (demand_on q ds).address (asks q h.body) (h.stores q) (h.left q) held.taken (held.entries ++ later q) some (h.outlook q)
+      f : Front IsUsedUp AnyRest (demand_on q ds).needs_sol (demand_on q ds).rest (demand_on q ds).address (asks q h.body) (h.stores q)
+          (h.left q) held.taken (held.entries ++ later q)
+      f =
+          front_of IsUsedUp AnyRest (demand_on q ds).needs_sol (demand_on q ds).rest (demand_on q ds).address (asks q h.body) (h.stores q)
+          (h.left q) held.taken (held.entries ++ later q) some (h.outlook q)
 
       same_front : f.entry ≡ entry
       same_front =
-          let seen : entry ∷ (es ++ later q) ≡ f.entry ∷ (f.half ++ (f.entries ++ f.rest)) = sym (ap (λ (entries : List Entry). entries ++ later q) split) ∙ f.order in cc
+          let seen : entry ∷ (es ++ later q) ≡ f.entry ∷ (f.half ++ (f.entries ++ f.rest)) =
+          sym (ap (λ (entries : List Entry). entries ++ later q) split) ∙ f.order in cc
 
       count_is : t.count ≡ min (demand_on q ds).rest (valid_bytes entry.status - held.taken)
       count_is =
-          let verdict = subst (λ (e : Entry). verdict_at q ds e m ≡ Take (min (demand_on q ds).rest (valid_bytes e.status - held.taken))) same_front f.verdict in
+          let verdict =
+          subst (λ (e : Entry). verdict_at q ds e m ≡ Take (min (demand_on q ds).rest (valid_bytes e.status - held.taken))) same_front
+          f.verdict in
           let same : Take t.count ≡ Take (min (demand_on q ds).rest (valid_bytes entry.status - held.taken)) = sym t.verdict ∙ verdict in cc
 
       abbrev after : State
@@ -232,12 +253,15 @@ module _ (Stands : ℕ → List Instr → Type 0) (Comes : List Block → (Queue
       abbrev left_behind : ℕ
       left_behind = ((demand_on q ds).rest - t.count) + left_in_line (asks q body)
 
-      last_of : (last whole : Bool) → is_end (kind_of entry.status) ≡ last → (held.taken + t.count == valid_bytes entry.status) ≡ whole → (last && whole) ≡ true → left_behind ≡ 0
+      last_of : (last whole : Bool) → is_end (kind_of entry.status) ≡ last → (held.taken + t.count == valid_bytes entry.status) ≡ whole →
+          (last && whole) ≡ true → left_behind ≡ 0
       last_of true true is_last is_whole ends_here =
           let same = count_is in
           subst (λ (list : List Instr). ((demand_on q ds).rest - t.count) + left_in_line (asks q list) ≡ 0) same_body
-          (subst (λ (n : ℕ). ((demand_on q ds).rest - n) + left_in_line (asks q h.body) ≡ 0) (ap (λ (e : Entry). min (demand_on q ds).rest (valid_bytes e.status - held.taken)) same_front ∙ sym same)
-          (line_ends (demand_on q ds).needs_sol (demand_on q ds).rest (demand_on q ds).address (asks q h.body) (h.stores q) (h.left q) held.taken (held.entries ++ later q) f
+          (subst (λ (n : ℕ). ((demand_on q ds).rest - n) + left_in_line (asks q h.body) ≡ 0)
+          (ap (λ (e : Entry). min (demand_on q ds).rest (valid_bytes e.status - held.taken)) same_front ∙ sym same)
+          (line_ends (demand_on q ds).needs_sol (demand_on q ds).rest (demand_on q ds).address (asks q h.body) (h.stores q)
+          (h.left q) held.taken (held.entries ++ later q) f
           (ap (λ (e : Entry). is_end (kind_of e.status)) same_front ∙ is_last)
           (let whole = eqb-true (held.taken + t.count) (valid_bytes entry.status) is_whole in
           let fronts : valid_bytes f.entry.status ≡ valid_bytes entry.status = ap (λ (e : Entry). valid_bytes e.status) same_front in
@@ -247,13 +271,17 @@ module _ (Stands : ℕ → List Instr → Type 0) (Comes : List Block → (Queue
 
       goes_of : (is_end (kind_of entry.status) && held.taken + t.count == valid_bytes entry.status) ≡ false → 0 < left_behind
       goes_of goes =
-          let same : min (demand_on q ds).rest (valid_bytes f.entry.status - held.taken) ≡ t.count = ap (λ (e : Entry). min (demand_on q ds).rest (valid_bytes e.status - held.taken)) same_front ∙ sym count_is in
+          let same : min (demand_on q ds).rest (valid_bytes f.entry.status - held.taken) ≡ t.count =
+          ap (λ (e : Entry). min (demand_on q ds).rest (valid_bytes e.status - held.taken)) same_front ∙ sym count_is in
           subst (λ (list : List Instr). 0 < ((demand_on q ds).rest - t.count) + left_in_line (asks q list)) same_body
           (subst (λ (n : ℕ). 0 < ((demand_on q ds).rest - n) + left_in_line (asks q h.body)) same
-          (line_goes (demand_on q ds).needs_sol (demand_on q ds).rest (demand_on q ds).address (asks q h.body) (h.stores q) (h.left q) held.taken (held.entries ++ later q) f
-          (is_end (kind_of f.entry.status)) (held.taken + min (demand_on q ds).rest (valid_bytes f.entry.status - held.taken) == valid_bytes f.entry.status) refl refl
+          (line_goes (demand_on q ds).needs_sol (demand_on q ds).rest (demand_on q ds).address (asks q h.body) (h.stores q)
+          (h.left q) held.taken (held.entries ++ later q) f
+          (is_end (kind_of f.entry.status))
+          (held.taken + min (demand_on q ds).rest (valid_bytes f.entry.status - held.taken) == valid_bytes f.entry.status) refl refl
           (subst (λ (n : ℕ). (is_end (kind_of f.entry.status) && held.taken + n == valid_bytes f.entry.status) ≡ false) (sym same)
-          (subst (λ (e : Entry). (is_end (kind_of e.status) && held.taken + t.count == valid_bytes e.status) ≡ false) (sym same_front) goes))))
+          (subst (λ (e : Entry). (is_end (kind_of e.status) && held.taken + t.count == valid_bytes e.status) ≡ false)
+          (sym same_front) goes))))
 
       next_within : (next : ℕ) × IsWithin IsUsedUp AnyRest Stands Comes later next after
       next_within =
@@ -264,16 +292,20 @@ module _ (Stands : ℕ → List Instr → Type 0) (Comes : List Block → (Queue
       taken_on =
           let within = next_within in
           subst (λ (m' : State). After (a ∷ []) (Some m')) (sym judged_is)
-          (then_others ds t.count a (ap takes_by t.verdict) (ap (λ (v : Verdict). discards_reserved_by v a) t.verdict) (ap (λ (v : Verdict). gives_up_by v a) t.verdict ∙ t.whole) some
+          (then_others ds t.count a (ap takes_by t.verdict) (ap (λ (v : Verdict). discards_reserved_by v a) t.verdict)
+          (ap (λ (v : Verdict). gives_up_by v a) t.verdict ∙ t.whole) some
           (burst n q after) (applications n q after)
-          (λ here. left_less ds t.count a (ap takes_by t.verdict) (ap (λ (v : Verdict). discards_reserved_by v a) t.verdict) (ap (λ (v : Verdict). gives_up_by v a) t.verdict ∙ t.whole) some
+          (λ here. left_less ds t.count a (ap takes_by t.verdict) (ap (λ (v : Verdict). discards_reserved_by v a) t.verdict)
+          (ap (λ (v : Verdict). gives_up_by v a) t.verdict ∙ t.whole) some
           ∙ last_of (is_end (kind_of entry.status)) (held.taken + t.count == valid_bytes entry.status) refl refl (sym ends_is ∙ here))
-          (λ goes. subst (λ (n : ℕ). 0 < n) (sym (left_less ds t.count a (ap takes_by t.verdict) (ap (λ (v : Verdict). discards_reserved_by v a) t.verdict) (ap (λ (v : Verdict). gives_up_by v a) t.verdict ∙ t.whole) some))
+          (λ goes. subst (λ (n : ℕ). 0 < n) (sym (left_less ds t.count a (ap takes_by t.verdict)
+          (ap (λ (v : Verdict). discards_reserved_by v a) t.verdict) (ap (λ (v : Verdict). gives_up_by v a) t.verdict ∙ t.whole) some))
           (goes_of (sym ends_is ∙ goes)))
           (on within.0 (with_demand q (demand_less t.count (demand_on q ds)) ds) after refl at within.1))
 
     at_demand : (entry : Entry) (none : Bool) → front held ≡ Some entry → ((demand_on q ds).rest == 0) ≡ none →
-        After (if none then [] else record { entry = entry; taken = held.taken; demand = demand_on q ds } ∷ []) (if none then None else Some (judged (verdict_at q ds entry m) q instr ds entry m))
+        After (if none then [] else record { entry = entry; taken = held.taken; demand = demand_on q ds } ∷ [])
+        (if none then None else Some (judged (verdict_at q ds entry m) q instr ds entry m))
     at_demand entry true there is = nothing ds m j at
     at_demand entry false there is =
         let split = front_entries held.entries entry there in taken_on entry split.0 there split.1 (some_rest (demand_on q ds).rest is)
@@ -285,7 +317,8 @@ module _ (Stands : ℕ → List Instr → Type 0) (Comes : List Block → (Queue
     one_more : Took ds (burst (suc n) q m) (applications (suc n) q m)
     one_more = subst (λ (job : Job). After (application_in job q m) (apply_in job q m)) (sym j) (at_front (front held) refl)
 
-  pub burst-Took : (n bound : ℕ) (ds : Demands) (m : State) → m.job ≡ Running instr ds → m.pc ≡ pc → IsWithin IsUsedUp AnyRest Stands Comes later bound m → Took ds (burst n q m) (applications n q m)
+  pub burst-Took : (n bound : ℕ) (ds : Demands) (m : State) → m.job ≡ Running instr ds → m.pc ≡ pc →
+      IsWithin IsUsedUp AnyRest Stands Comes later bound m → Took ds (burst n q m) (applications n q m)
   burst-Took zero bound ds m j at h = nothing ds m j at
   burst-Took (suc n) bound ds m j at h =
       one_more n (burst-Took n) bound ds m j at (subst (λ (job : Job). WithinJob IsUsedUp AnyRest Stands Comes later bound job m) j h)

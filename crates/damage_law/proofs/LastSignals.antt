@@ -1,5 +1,6 @@
 -- The answer for a field after all steps is the one right after its last signal.
-use Rattle.std.proofs.Common.{◌≡◌, ℕ, zero, suc, ◌+◌, ◌-◌, ◌<◌, ◌≤◌, Bool, true, false, List, [], ◌∷◌, length, take, drop, Option, Some, None, option_map, ◌⊎◌, inl, inr, refl, sym, ap, ◌∙◌, arith}
+use Rattle.std.proofs.Common.{◌≡◌, ℕ, zero, suc, ◌+◌, ◌-◌, ◌<◌, ◌≤◌, Bool, true, false, List, [], ◌∷◌, length, take, drop, Option, Some}
+use Rattle.std.proofs.Common.{None, option_map, ◌⊎◌, inl, inr, refl, sym, ap, ◌∙◌, arith}
 use Rattle.std.specs.Prelude.{option_and_then}
 use Rattle.std.proofs.lemmas.List.{take-take}
 use Rattle.pixel_layout.specs.declared.Parity.{Parity}
@@ -14,7 +15,8 @@ use Rattle.damage_law.specs.LastSignals.{AnswersStay}
 
 -- ---- the last step of which a test holds
 
-later_is : (here : Bool) (later : Option ℕ) (k : ℕ) → later_or here later ≡ Some k → (later ≡ None) × (k ≡ 0) ⊎ (n : ℕ) × (later ≡ Some n) × (k ≡ suc n)
+later_is : (here : Bool) (later : Option ℕ) (k : ℕ) → later_or here later ≡ Some k →
+    (later ≡ None) × (k ≡ 0) ⊎ (n : ℕ) × (later ≡ Some n) × (k ≡ suc n)
 later_is here (Some n) k e = let same : suc n ≡ k = cc in inr (n, refl, sym same)
 later_is true None k e = let same : 0 ≡ k = cc in inl (refl, sym same)
 later_is false None k e = absurd cc
@@ -33,7 +35,8 @@ first_stays : (here : Bool) (later : Option ℕ) → later_or here later ≡ Som
 first_stays here later e (inl none) = ap (later_or here) (sym none.0) ∙ e
 first_stays here later e (inr next) = let same = next.2 in absurd (omega (arith, same))
 
-next_stays : (here : Bool) (later taken : Option ℕ) (k : ℕ) → (later ≡ Some k → taken ≡ Some k) → Later later (suc k) → later_or here taken ≡ Some (suc k)
+next_stays : (here : Bool) (later taken : Option ℕ) (k : ℕ) → (later ≡ Some k → taken ≡ Some k) → Later later (suc k) →
+    later_or here taken ≡ Some (suc k)
 next_stays here later taken k stays (inl none) = let same = none.1 in absurd (omega (arith, same))
 next_stays here later taken k stays (inr next) =
     let eq = next.2 in
@@ -45,7 +48,8 @@ module _ (test : State → Step → Bool) where
   last_below : (m : State) (steps : List Step) (k : ℕ) → last_step test m steps ≡ Some k → k < length steps
   last_below m [] k e = absurd cc
   last_below m (s ∷ steps) k e =
-      below_later (last_step test (step s m) steps) k (length steps) (last_below (step s m) steps) (later_is (test m s) (last_step test (step s m) steps) k e)
+      below_later (last_step test (step s m) steps) k (length steps) (last_below (step s m) steps)
+      (later_is (test m s) (last_step test (step s m) steps) k e)
 
   -- and is the last of the steps up to it
   last_stays : (m : State) (steps : List Step) (k : ℕ) → last_step test m steps ≡ Some k → last_step test m (take (suc k) steps) ≡ Some k
@@ -54,7 +58,8 @@ module _ (test : State → Step → Bool) where
       let later : Option ℕ = last_step test (step s m) steps in first_stays (test m s) later e (later_is (test m s) later 0 e)
   last_stays m (s ∷ steps) (suc k) e =
       let later : Option ℕ = last_step test (step s m) steps in
-      next_stays (test m s) later (last_step test (step s m) (take (suc k) steps)) k (last_stays (step s m) steps k) (later_is (test m s) later (suc k) e)
+      next_stays (test m s) later (last_step test (step s m) (take (suc k) steps)) k (last_stays (step s m) steps k)
+      (later_is (test m s) later (suc k) e)
 
 -- ---- the marks at a signal depend on the steps up to it
 
@@ -72,7 +77,8 @@ between_front (suc j) zero l (s ∷ steps) first within = absurd (omega (arith, 
 between_front (suc j) (suc k) zero (s ∷ steps) first within = absurd (omega (arith, within))
 between_front (suc j) (suc k) (suc l) (s ∷ steps) first within =
     let less : suc k - suc j ≡ k - j = omega arith in
-    ap (λ (n : ℕ). take n (drop j (take l steps))) less ∙ between_front j k l steps (omega (arith, first)) (omega (arith, within)) ∙ ap (λ (n : ℕ). take n (drop j steps)) (sym less)
+    ap (λ (n : ℕ). take n (drop j (take l steps))) less ∙ between_front j k l steps (omega (arith, first)) (omega (arith, within))
+    ∙ ap (λ (n : ℕ). take n (drop j steps)) (sym less)
 
 module _ (d : Desc) (field : Parity) (m : State) (steps : List Step) (k : ℕ) where
   abbrev marked : List Step → ℕ → List Bool
@@ -80,7 +86,8 @@ module _ (d : Desc) (field : Parity) (m : State) (steps : List Step) (k : ℕ) w
 
   marked_stays : (j : ℕ) → j < k → marked (take (suc k) steps) j ≡ marked steps j
   marked_stays j below =
-      ap (λ (some : List Step). marks d field (run m some) (between j k (take (suc k) steps))) (take-take j (suc k) steps (omega (arith, below)))
+      ap (λ (some : List Step). marks d field (run m some) (between j k (take (suc k) steps)))
+      (take-take j (suc k) steps (omega (arith, below)))
       ∙ ap (marks d field (state_at m steps j)) (between_front j k (suc k) steps (omega (arith, below)) (omega arith))
 
   length_take : (n : ℕ) (some : List Step) → length (take n some) ≤ n
@@ -88,7 +95,8 @@ module _ (d : Desc) (field : Parity) (m : State) (steps : List Step) (k : ℕ) w
   length_take (suc n) [] = omega arith
   length_take (suc n) (s ∷ some) = let less = length_take n some in omega (arith, less)
 
-  marked_alike : (opened : Option ℕ) → last_step (is_opening d field) m (take k steps) ≡ opened → option_map (marked (take (suc k) steps)) opened ≡ option_map (marked steps) opened
+  marked_alike : (opened : Option ℕ) → last_step (is_opening d field) m (take k steps) ≡ opened →
+      option_map (marked (take (suc k) steps)) opened ≡ option_map (marked steps) opened
   marked_alike None e = refl
   marked_alike (Some j) e =
       let among = last_below (is_opening d field) m (take k steps) j e in
@@ -97,12 +105,14 @@ module _ (d : Desc) (field : Parity) (m : State) (steps : List Step) (k : ℕ) w
 
   marks_stay : marks_to d field m (take (suc k) steps) k ≡ marks_to d field m steps k
   marks_stay =
-      ap (λ (some : List Step). option_map (marked (take (suc k) steps)) (last_step (is_opening d field) m some)) (take-take k (suc k) steps (omega arith))
+      ap (λ (some : List Step). option_map (marked (take (suc k) steps)) (last_step (is_opening d field) m some))
+      (take-take k (suc k) steps (omega arith))
       ∙ marked_alike (last_step (is_opening d field) m (take k steps)) refl
 
 pub answers_stay : AnswersStay
 answers_stay d field m steps k last =
-    let up_to : last_step (is_signal (section_of d field)) m (take (suc k) steps) ≡ Some k = last_stays (is_signal (section_of d field)) m steps k last in
+    let up_to : last_step (is_signal (section_of d field)) m (take (suc k) steps) ≡ Some k =
+    last_stays (is_signal (section_of d field)) m steps k last in
     let more : suc k ≡ k + 1 = omega arith in
     ap (option_and_then (marks_to d field m steps)) last
     ∙ sym (marks_stay d field m steps k)

@@ -18,7 +18,8 @@ use Rattle.machine_model.specs.declared.Skipping.{Skipping}
 use Rattle.machine_model.specs.declared.Skipping.TheVariants.{Nothing, ToEol, ToSync}
 use Rattle.machine_model.specs.Paths.{fetch}
 use Rattle.machine_model.specs.States.{State}
-use Rattle.machine_model.specs.Turns.{begun_with, code_seen, data_fetched, ended, fetched, instr_fetched, judged, jumped, met, stray_seen, took, turn, with_fdsr_unless, without_codes}
+use Rattle.machine_model.specs.Turns.{begun_with, code_seen, data_fetched, ended, fetched, instr_fetched, judged, jumped, met, stray_seen}
+use Rattle.machine_model.specs.Turns.{took, turn, with_fdsr_unless, without_codes}
 use Rattle.machine_model.proofs.Turning.{IsKept, turn-kept}
 
 -- the fact stays true where the front leaves a queue, and where more of the front is taken
@@ -29,7 +30,8 @@ pub record IsKeptShrinking (P : QueueState → Type 0) : Type 0 where
 module _ (P : QueueState → Type 0) (kept : IsKeptShrinking P) where
   -- ---- the queues
 
-  with_queue : (p q : Queue) (held : QueueState) (queues : Queues) → P (queue_state p queues) → (P (queue_state q queues) → P held) → P (queue_state p (with_queue_state q held queues))
+  with_queue : (p q : Queue) (held : QueueState) (queues : Queues) → P (queue_state p queues) → (P (queue_state q queues) → P held) →
+      P (queue_state p (with_queue_state q held queues))
   with_queue One One held queues h next = next h
   with_queue One Two held queues h next = h
   with_queue One Three held queues h next = h
@@ -40,7 +42,8 @@ module _ (P : QueueState → Type 0) (kept : IsKeptShrinking P) where
   with_queue Three Two held queues h next = h
   with_queue Three Three held queues h next = next h
 
-  removes : (p q : Queue) (queues : Queues) → P (queue_state p queues) → P (queue_state p (with_queue_state q (removed (queue_state q queues)) queues))
+  removes : (p q : Queue) (queues : Queues) → P (queue_state p queues) →
+      P (queue_state p (with_queue_state q (removed (queue_state q queues)) queues))
   removes p q queues h = with_queue p q (removed (queue_state q queues)) queues h (λ here. kept.removes (queue_state q queues) here)
 
   removes_all : (p : Queue) (queues : Queues) → P (queue_state p queues) → P (queue_state p (all_removed queues))
@@ -48,7 +51,8 @@ module _ (P : QueueState → Type 0) (kept : IsKeptShrinking P) where
   removes_all Two queues h = kept.removes queues.two h
   removes_all Three queues h = kept.removes queues.three h
 
-  takes_if : (whole : Bool) (held : QueueState) (count : ℕ) → P held → P (if whole then removed held else record held { taken = held.taken + count })
+  takes_if : (whole : Bool) (held : QueueState) (count : ℕ) → P held →
+      P (if whole then removed held else record held { taken = held.taken + count })
   takes_if true held count h = kept.removes held h
   takes_if false held count h = kept.takes held count h
 
@@ -56,9 +60,11 @@ module _ (P : QueueState → Type 0) (kept : IsKeptShrinking P) where
   takes_more held count [] h = h
   takes_more held count (entry ∷ rest) h = takes_if (held.taken + count == valid_bytes entry.status) held count h
 
-  takes : (p q : Queue) (count : ℕ) (queues : Queues) → P (queue_state p queues) → P (queue_state p (with_queue_state q (taken_from count (queue_state q queues)) queues))
+  takes : (p q : Queue) (count : ℕ) (queues : Queues) → P (queue_state p queues) →
+      P (queue_state p (with_queue_state q (taken_from count (queue_state q queues)) queues))
   takes p q count queues h =
-      with_queue p q (taken_from count (queue_state q queues)) queues h (λ here. takes_more (queue_state q queues) count (queue_state q queues).entries here)
+      with_queue p q (taken_from count (queue_state q queues)) queues h
+      (λ here. takes_more (queue_state q queues) count (queue_state q queues).entries here)
 
   -- ---- the parts of a turn
 
@@ -66,7 +72,8 @@ module _ (P : QueueState → Type 0) (kept : IsKeptShrinking P) where
     abbrev Holds : State → Type 0
     Holds m = P (queue_state p m.queues)
 
-    begins : (cause : Option Cause) (instr : Instr) (count : ℕ) (target : Option ℕ) (m : State) → Holds m → Holds (begun_with cause instr count target m)
+    begins : (cause : Option Cause) (instr : Instr) (count : ℕ) (target : Option ℕ) (m : State) → Holds m →
+        Holds (begun_with cause instr count target m)
     begins (Some cause) instr count target m h = h
     begins None instr count target m h = h
 
@@ -105,7 +112,8 @@ module _ (P : QueueState → Type 0) (kept : IsKeptShrinking P) where
     sees None ctl resync code m h = h
     sees (Some seen) ctl resync code m h = meets _ ctl resync m h
 
-    waits : (stray : Option Queue) (ctl : Ctl) (resync : Bool) (code : Code) (m : State) → Holds m → Holds (stray_seen stray ctl resync code m)
+    waits : (stray : Option Queue) (ctl : Ctl) (resync : Bool) (code : Code) (m : State) → Holds m →
+        Holds (stray_seen stray ctl resync code m)
     waits None ctl resync code m h = sees _ ctl resync code m h
     waits (Some q) ctl resync code m h = signals resync _ (removes p q m.queues h)
 
@@ -113,7 +121,8 @@ module _ (P : QueueState → Type 0) (kept : IsKeptShrinking P) where
     ends true instr m h = h
     ends false instr m h = h
 
-    judges : (verdict : Verdict) (q : Queue) (instr : Instr) (ds : Demands) (entry : Entry) (m : State) → Holds m → Holds (judged verdict q instr ds entry m)
+    judges : (verdict : Verdict) (q : Queue) (instr : Instr) (ds : Demands) (entry : Entry) (m : State) → Holds m →
+        Holds (judged verdict q instr ds entry m)
     judges Broken q instr ds entry m h = h
     judges Missing q instr ds entry m h = h
     judges Discard q instr ds entry m h = removes p q m.queues h

@@ -1,6 +1,7 @@
 -- What a burst stores are the bytes that it takes, in their order, from the address on where the running instruction goes
 -- on to write.
-use Rattle.std.proofs.Common.{◌≡◌, ℕ, zero, suc, ◌+◌, ◌-◌, ◌≤◌, ◌⊎◌, inl, inr, Bool, true, false, ◌==◌, List, [], ◌∷◌, ◌++◌, append_assoc, drop, length, length-append, length-drop, length-take}
+use Rattle.std.proofs.Common.{◌≡◌, ℕ, zero, suc, ◌+◌, ◌-◌, ◌≤◌, ◌⊎◌, inl, inr, Bool, true, false, ◌==◌, List, [], ◌∷◌, ◌++◌, append_assoc}
+use Rattle.std.proofs.Common.{drop, length, length-append, length-drop, length-take}
 use Rattle.std.proofs.Common.{Option, Some, None, option_map, if◌then◌else◌, refl, sym, ap, ap₂, ◌∙◌, subst, arith}
 use Rattle.std.proofs.lemmas.List.{append-nil}
 use Rattle.risc_word.specs.declared.Instr.{Instr}
@@ -17,7 +18,8 @@ use Rattle.machine_model.specs.declared.Job.TheVariants.{Idle, Running}
 use Rattle.machine_model.specs.Accesses.{burst_stores, judged_stores, served_stores, stores_in}
 use Rattle.risc_word.specs.Parts.{instr_off}
 use Rattle.machine_model.specs.States.{State}
-use Rattle.machine_model.specs.Turns.{Store, apply, apply_in, burst, demand_less, demand_on, ended, is_cut_short, judged, served, stores_at, took, verdict_at, with_demand}
+use Rattle.machine_model.specs.Turns.{Store, apply, apply_in, burst, demand_less, demand_on, ended, is_cut_short, judged, served, stores_at}
+use Rattle.machine_model.specs.Turns.{took, verdict_at, with_demand}
 use Rattle.machine_model.specs.Seen.{Application, application_in, served_application}
 use Rattle.machine_model.proofs.Fronts.{take-Takes}
 use Rattle.field_law.specs.Arrivals.{is_queue}
@@ -56,7 +58,8 @@ moved_nowhere : (address : Option ℕ) → option_map (λ at. at + 0) address �
 moved_nowhere None = refl
 moved_nowhere (Some at) = ap (λ (a : ℕ). Some a) (omega arith)
 
-pub moved_twice : (n k : ℕ) (address : Option ℕ) → option_map (λ at. at + k) (option_map (λ at. at + n) address) ≡ option_map (λ at. at + (n + k)) address
+pub moved_twice : (n k : ℕ) (address : Option ℕ) →
+    option_map (λ at. at + k) (option_map (λ at. at + n) address) ≡ option_map (λ at. at + (n + k)) address
 moved_twice n k None = refl
 moved_twice n k (Some at) = ap (λ (a : ℕ). Some a) (omega arith)
 
@@ -95,12 +98,19 @@ module _ (q : Queue) (instr : Instr) (plain : instr_off instr ≡ 0) (at : ℕ) 
             };
       }
 
-  idle_stops : (n place : ℕ) (m : State) → m.job ≡ Idle → (burst_stores n q m ≡ []) × (burst_takings n q at place m ≡ []) × ((burst n q m).job ≡ Idle)
+  idle_stops : (n place : ℕ) (m : State) → m.job ≡ Idle →
+      (burst_stores n q m ≡ []) × (burst_takings n q at place m ≡ []) × ((burst n q m).job ≡ Idle)
   idle_stops zero place m j = (refl, refl, j)
   idle_stops (suc n) place m j = (
-    ap₂ (λ (made : List Store) (next : Option State). made ++ (elim next as (λ _. List Store) [ None ↦ [] | Some after ↦ burst_stores n q after ])) (ap (λ (job : Job). stores_in job q m) j) none,
+    ap₂ (λ (made : List Store) (next : Option State). made ++ (elim next as (λ _. List Store) [
+      | None ↦ []
+      | Some after ↦ burst_stores n q after
+    ])) (ap (λ (job : Job). stores_in job q m) j) none,
     ap₂ (λ (made : List Application) (next : Option State).
-        takings_of at place made ++ (elim next as (λ _. List Taking) [ None ↦ [] | Some after ↦ burst_takings n q at (place + left q m after) after ]))
+        takings_of at place made ++ (elim next as (λ _. List Taking) [
+          | None ↦ []
+          | Some after ↦ burst_takings n q at (place + left q m after) after
+        ]))
         (ap (λ (job : Job). application_in job q m) j) none,
     ap (λ (next : Option State). (elim next as (λ _. State) [ None ↦ m | Some after ↦ burst n q after ]).job) none ∙ j,
   )
@@ -109,7 +119,8 @@ module _ (q : Queue) (instr : Instr) (plain : instr_off instr ≡ 0) (at : ℕ) 
       none = ap (λ (job : Job). apply_in job q m) j
 
   -- bytes are taken, and then more
-  module _ (ds : Demands) (entry : Entry) (taken count : ℕ) (is : verdict_on (kind_of entry.status) (demand_on q ds).needs_sol taken (demand_on q ds).rest ≡ Take count) where
+  module _ (ds : Demands) (entry : Entry) (taken count : ℕ)
+      (is : verdict_on (kind_of entry.status) (demand_on q ds).needs_sol taken (demand_on q ds).rest ≡ Take count) where
     abbrev taking : ℕ → Taking
     taking place = record { at = at; place = place; entry = entry; taken = taken; count = count }
 
@@ -120,7 +131,8 @@ module _ (q : Queue) (instr : Instr) (plain : instr_off instr ≡ 0) (at : ℕ) 
     first_stores = stores_at (demand_on q ds).address (instr_off instr) taken bytes
 
     first_laid : first_stores ≡ laid (demand_on q ds).address bytes
-    first_laid = ap (λ (off : ℕ). stores_at (demand_on q ds).address off taken bytes) plain ∙ stores_at-laid (demand_on q ds).address taken bytes
+    first_laid =
+        ap (λ (off : ℕ). stores_at (demand_on q ds).address off taken bytes) plain ∙ stores_at-laid (demand_on q ds).address taken bytes
 
     abbrev behind : Demands
     behind = with_demand q (demand_less count (demand_on q ds)) ds
@@ -141,20 +153,23 @@ module _ (q : Queue) (instr : Instr) (plain : instr_off instr ≡ 0) (at : ℕ) 
         }
 
     -- it goes on
-    more_laid : (place : ℕ) (after : State) (stores : List Store) (ts : List Taking) → Laid behind after stores ts → Laid ds after (first_stores ++ stores) (taking place ∷ ts)
+    more_laid : (place : ℕ) (after : State) (stores : List Store) (ts : List Taking) → Laid behind after stores ts →
+        Laid ds after (first_stores ++ stores) (taking place ∷ ts)
     more_laid place after stores ts l =
         let long = bytes_long entry (demand_on q ds).needs_sol taken (demand_on q ds).rest count is in
         let size = long.0 in
         let most = long.1 in
         let rest_there : (demand_on q behind).rest ≡ (demand_on q ds).rest - count = ap (λ (d : Demand). d.rest) there in
-        let address_there : (demand_on q behind).address ≡ option_map (λ at. at + count) (demand_on q ds).address = ap (λ (d : Demand). d.address) there in
+        let address_there : (demand_on q behind).address ≡ option_map (λ at. at + count) (demand_on q ds).address =
+        ap (λ (d : Demand). d.address) there in
         let all = length-append bytes (taken_bytes ts) in
         let few = l.few in
         record {
           ends = l.ends;
           stored =
               ap₂ (λ (xs ys : List Store). xs ++ ys) first_laid
-              (l.stored ∙ ap (λ (address : Option ℕ). laid address (taken_bytes ts)) (address_there ∙ ap (λ (n : ℕ). option_map (λ at. at + n) (demand_on q ds).address) (sym size)))
+              (l.stored ∙ ap (λ (address : Option ℕ). laid address (taken_bytes ts))
+              (address_there ∙ ap (λ (n : ℕ). option_map (λ at. at + n) (demand_on q ds).address) (sym size)))
               ∙ sym (laid-append (demand_on q ds).address bytes (taken_bytes ts));
           few = omega arith;
           goes_on = λ left runs.
@@ -162,27 +177,33 @@ module _ (q : Queue) (instr : Instr) (plain : instr_off instr ≡ 0) (at : ℕ) 
               record {
                 rest = let rest = g.rest in omega arith;
                 address =
-                    g.address ∙ ap (option_map (λ at. at + length (taken_bytes ts))) address_there ∙ moved_twice count (length (taken_bytes ts)) (demand_on q ds).address
+                    g.address ∙ ap (option_map (λ at. at + length (taken_bytes ts))) address_there
+                    ∙ moved_twice count (length (taken_bytes ts)) (demand_on q ds).address
                     ∙ ap (λ (n : ℕ). option_map (λ at. at + n) (demand_on q ds).address) (omega arith);
                 others = λ p apart. g.others p apart ∙ demand_apart p q (demand_less count (demand_on q ds)) ds apart;
               };
         }
 
   abbrev BurstLaid : ℕ → Type 0
-  BurstLaid n = (place : ℕ) (ds : Demands) (m : State) → m.job ≡ Running instr ds → Laid ds (burst n q m) (burst_stores n q m) (burst_takings n q at place m)
+  BurstLaid n =
+      (place : ℕ) (ds : Demands) (m : State) → m.job ≡ Running instr ds →
+      Laid ds (burst n q m) (burst_stores n q m) (burst_takings n q at place m)
 
   module _ (n : ℕ) (on : BurstLaid n) (place : ℕ) (ds : Demands) (m : State) (j : m.job ≡ Running instr ds) where
     abbrev After : List Store → List Application → Option State → Type 0
     After made applied next =
         Laid ds (elim next as (λ _. State) [ None ↦ m | Some after ↦ burst n q after ])
         (made ++ (elim next as (λ _. List Store) [ None ↦ [] | Some after ↦ burst_stores n q after ]))
-        (takings_of at place applied ++ (elim next as (λ _. List Taking) [ None ↦ [] | Some after ↦ burst_takings n q at (place + left q m after) after ]))
+        (takings_of at place applied
+        ++ (elim next as (λ _. List Taking) [ None ↦ [] | Some after ↦ burst_takings n q at (place + left q m after) after ]))
 
     -- one that takes nothing and is the last
-    gives_up : (after : State) → after.job ≡ Idle → Laid ds (burst n q after) (burst_stores n q after) (burst_takings n q at (place + left q m after) after)
+    gives_up : (after : State) → after.job ≡ Idle →
+        Laid ds (burst n q after) (burst_stores n q after) (burst_takings n q at (place + left q m after) after)
     gives_up after idle =
         let stops = idle_stops n (place + left q m after) after idle in
-        subst (λ (stores : List Store). Laid ds (burst n q after) stores (burst_takings n q at (place + left q m after) after)) (sym stops.0)
+        subst (λ (stores : List Store). Laid ds (burst n q after) stores (burst_takings n q at (place + left q m after) after))
+        (sym stops.0)
         (subst (Laid ds (burst n q after) []) (sym stops.1)
         (record {
           ends = inl stops.2;
@@ -197,23 +218,31 @@ module _ (q : Queue) (instr : Instr) (plain : instr_off instr ≡ 0) (at : ℕ) 
 
       abbrev ByVerdict : Verdict → Type 0
       ByVerdict v =
-          Laid ds (burst n q (judged v q instr ds entry m)) (judged_stores v q instr ds entry m ++ burst_stores n q (judged v q instr ds entry m))
-          ((taking_by v at place a ++ []) ++ burst_takings n q at (place + left q m (judged v q instr ds entry m)) (judged v q instr ds entry m))
+          Laid ds (burst n q (judged v q instr ds entry m))
+          (judged_stores v q instr ds entry m ++ burst_stores n q (judged v q instr ds entry m))
+          ((taking_by v at place a ++ [])
+          ++ burst_takings n q at (place + left q m (judged v q instr ds entry m)) (judged v q instr ds entry m))
 
       takes : (count : ℕ) (is : verdict_at q ds entry m ≡ Take count) (cut : Bool) →
           Laid ds (burst n q (ended cut instr (took q count instr ds entry m)))
-          (stores_at (demand_on q ds).address (instr_off instr) (queue_state q m.queues).taken (bytes_taken entry (queue_state q m.queues).taken count) ++ burst_stores n q (ended cut instr (took q count instr ds entry m)))
-          (taking ds entry (queue_state q m.queues).taken count is place ∷ burst_takings n q at (place + left q m (ended cut instr (took q count instr ds entry m))) (ended cut instr (took q count instr ds entry m)))
+          (stores_at (demand_on q ds).address (instr_off instr) (queue_state q m.queues).taken
+          (bytes_taken entry (queue_state q m.queues).taken count) ++ burst_stores n q (ended cut instr (took q count instr ds entry m)))
+          (taking ds entry (queue_state q m.queues).taken count is place ∷ burst_takings n q at
+          (place + left q m (ended cut instr (took q count instr ds entry m))) (ended cut instr (took q count instr ds entry m)))
       takes count is true =
           let after : State = ended true instr (took q count instr ds entry m) in
           let stops = idle_stops n (place + left q m after) after refl in
-          subst (λ (stores : List Store). Laid ds (burst n q after) (first_stores ds entry (queue_state q m.queues).taken count is ++ stores)
-          (taking ds entry (queue_state q m.queues).taken count is place ∷ burst_takings n q at (place + left q m after) after)) (sym stops.0)
-          (subst (λ (ts : List Taking). Laid ds (burst n q after) (first_stores ds entry (queue_state q m.queues).taken count is ++ []) (taking ds entry (queue_state q m.queues).taken count is place ∷ ts)) (sym stops.1)
+          subst
+          (λ (stores : List Store). Laid ds (burst n q after) (first_stores ds entry (queue_state q m.queues).taken count is ++ stores)
+          (taking ds entry (queue_state q m.queues).taken count is place ∷ burst_takings n q at (place + left q m after) after))
+          (sym stops.0)
+          (subst (λ (ts : List Taking). Laid ds (burst n q after) (first_stores ds entry (queue_state q m.queues).taken count is ++ [])
+          (taking ds entry (queue_state q m.queues).taken count is place ∷ ts)) (sym stops.1)
           (last_laid ds entry (queue_state q m.queues).taken count is place (burst n q after) stops.2))
       takes count is false =
           let after : State = took q count instr ds entry m in
-          more_laid ds entry (queue_state q m.queues).taken count is place (burst n q after) (burst_stores n q after) (burst_takings n q at (place + left q m after) after)
+          more_laid ds entry (queue_state q m.queues).taken count is place (burst n q after) (burst_stores n q after)
+          (burst_takings n q at (place + left q m after) after)
           (on (place + left q m after) (with_demand q (demand_less count (demand_on q ds)) ds) after refl)
 
       by_verdict : (v : Verdict) → verdict_at q ds entry m ≡ v → ByVerdict v
@@ -223,7 +252,8 @@ module _ (q : Queue) (instr : Instr) (plain : instr_off instr ≡ 0) (at : ℕ) 
       by_verdict (Take count) is = takes count is (is_cut_short entry (queue_state q m.queues).taken count (demand_on q ds).rest)
 
     at_demand : (entry : Entry) (none : Bool) →
-        After (if none then [] else judged_stores (verdict_at q ds entry m) q instr ds entry m) (if none then [] else record { entry = entry; taken = (queue_state q m.queues).taken; demand = demand_on q ds } ∷ [])
+        After (if none then [] else judged_stores (verdict_at q ds entry m) q instr ds entry m)
+        (if none then [] else record { entry = entry; taken = (queue_state q m.queues).taken; demand = demand_on q ds } ∷ [])
         (if none then None else Some (judged (verdict_at q ds entry m) q instr ds entry m))
     at_demand entry true = nothing ds m j
     at_demand entry false = by_verdict entry (verdict_at q ds entry m) refl
@@ -233,7 +263,9 @@ module _ (q : Queue) (instr : Instr) (plain : instr_off instr ≡ 0) (at : ℕ) 
     at_front (Some entry) = at_demand entry ((demand_on q ds).rest == 0)
 
     one_more : Laid ds (burst (suc n) q m) (burst_stores (suc n) q m) (burst_takings (suc n) q at place m)
-    one_more = subst (λ (job : Job). After (stores_in job q m) (application_in job q m) (apply_in job q m)) (sym j) (at_front (front (queue_state q m.queues)))
+    one_more =
+        subst (λ (job : Job). After (stores_in job q m) (application_in job q m) (apply_in job q m)) (sym j)
+        (at_front (front (queue_state q m.queues)))
 
   -- what a burst stores is what it takes, from where the instruction was to write on; then that many bytes less are asked
   pub burst-Laid : (n : ℕ) → BurstLaid n

@@ -11,14 +11,25 @@ use Rattle.damage_law.specs.Worked.{IsWholeRow, clipped, cut_short}
 described : IsDescription clipped
 described =
     record {
-      formed = record { stride = tt; offset = tt; chroma_first = tt; vbi_skip = tt; pages = omega arith; no_pages = tt; chunks = tt; bytes = tt };
+      formed = record {
+        stride = tt;
+        offset = tt;
+        chroma_first = tt;
+        vbi_skip = tt;
+        pages = omega arith;
+        no_pages = tt;
+        chunks = tt;
+        bytes = tt;
+      };
       pages = All-from_recursion (λ page. page < 2 ^ 32) (0x20000 ∷ []) (omega arith, tt);
       clips = omega arith;
       skipped = omega arith;
     }
 
 made : All IsStep cut_short
-made = All-from_recursion IsStep cut_short (tt, (tt, (refl, (refl, (refl, (refl, (refl, (refl, (tt, (tt, (tt, (tt, (tt, (tt, (tt, (tt, (tt, (tt, (tt, (tt, (tt, (tt, (tt, (tt, (tt, (tt, (tt, (tt, (tt, tt)))))))))))))))))))))))))))))
+made =
+    All-from_recursion IsStep cut_short
+    (tt, (tt, (refl, (refl, (refl, (refl, (refl, (refl, (tt, (tt, (tt, (tt, (tt, (tt, (tt, (tt, (tt, (tt, (tt, (tt, (tt, (tt, (tt, (tt, (tt, (tt, (tt, (tt, (tt, tt)))))))))))))))))))))))))))))
 
 signal : IsSignalSince clipped Top 0x55 cut_short 8 28
 signal =

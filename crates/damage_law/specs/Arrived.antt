@@ -13,5 +13,6 @@ use Rattle.damage_law.specs.Marks.{answer}
 -- over a run of a valid description's program from the first state: right after a signal at step k of a field of which a
 -- picture arrived from place j on, every row of the field is whole
 abbrev pub ArrivedRowsAreWhole : Type 0
-ArrivedRowsAreWhole = (d : Desc) (field : Parity) (picture : Picture) (fill : ℕ) (steps : List Step) (j k : ℕ) → IsSignalled d field picture fill steps j k →
+ArrivedRowsAreWhole =
+    (d : Desc) (field : Parity) (picture : Picture) (fill : ℕ) (steps : List Step) (j k : ℕ) → IsSignalled d field picture fill steps j k →
     answer d field (first_state (compiled d) fill) (take (k + 1) steps) ≡ Some (replicate (field_height d field) true)

@@ -10,5 +10,6 @@ use Rattle.damage_law.specs.Marks.{answer, last_step}
 
 -- where step k is a field's last signal, the answer for the field is the one right after it
 abbrev pub AnswersStay : Type 0
-AnswersStay = (d : Desc) (field : Parity) (m : State) (steps : List Step) (k : ℕ) → last_step (is_signal (section_of d field)) m steps ≡ Some k →
+AnswersStay =
+    (d : Desc) (field : Parity) (m : State) (steps : List Step) (k : ℕ) → last_step (is_signal (section_of d field)) m steps ≡ Some k →
     answer d field m steps ≡ answer d field m (take (k + 1) steps)

@@ -41,7 +41,9 @@ entry_at entries place = slice_index_or entries place no_entry
 
 -- what is taken of a queue over steps is taken of these entries, in their order
 abbrev pub TakesInOrder : Type 0
-TakesInOrder = (q : Queue) (m : State) (steps : List Step) → IsOrderly m → All IsStep steps → AreInOrder (entry_at (stream q m steps)) 0 0 (takings q 0 m steps)
+TakesInOrder =
+    (q : Queue) (m : State) (steps : List Step) → IsOrderly m → All IsStep steps →
+    AreInOrder (entry_at (stream q m steps)) 0 0 (takings q 0 m steps)
 
 -- so what instructions at some addresses take of a queue is a line exactly where the entries of which a byte is taken follow
 -- one another among these, each is taken whole, and they are a line

@@ -42,8 +42,11 @@ pub record StandsAt (entries : List Entry) (x address : ℕ) (m : State) : Type 
 
 -- right after the signal each byte of a row that is whole and isn't clipped is at its place, where it has one
 abbrev pub WholeRowsStand : Type 0
-WholeRowsStand = (d : Desc) (field : Parity) (fill : ℕ) (steps : List Step) (j k : ℕ) → IsSignalSince d field fill steps j k → (q : Queue) (number x address : ℕ) →
-    slice_index_or (marks d field (state_of d fill steps j) (between j k steps)) number false ≡ true → IsKeptAt d field (of_row q number x) address →
+WholeRowsStand =
+    (d : Desc) (field : Parity) (fill : ℕ) (steps : List Step) (j k : ℕ) → IsSignalSince d field fill steps j k →
+    (q : Queue) (number x address : ℕ) →
+    slice_index_or (marks d field (state_of d fill steps j) (between j k steps)) number false ≡ true →
+    IsKeptAt d field (of_row q number x) address →
     StandsAt (row_entries d field number q (state_of d fill steps j) (between j k steps)) x address (state_of d fill steps (k + 1))
 
 -- entries that entered a queue one after another: some of those that it holds and that enter it over steps

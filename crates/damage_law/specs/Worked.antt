@@ -1,5 +1,6 @@
 -- Worked fields of small descriptions, in the top field.
-use Rattle.std.specs.Prelude.{ℕ, Bool, true, false, List, [], ◌∷◌, ◌++◌, ◌≡◌, map, replicate, take, Option, option_and_then, option_map, slice_index_or}
+use Rattle.std.specs.Prelude.{ℕ, Bool, true, false, List, [], ◌∷◌, ◌++◌, ◌≡◌, map, replicate, take, Option, option_and_then, option_map}
+use Rattle.std.specs.Prelude.{slice_index_or}
 use Rattle.risc_word.specs.declared.Code.TheVariants.{Vre, Fm1, Fm3}
 use Rattle.fifo_model.specs.declared.Entry.{Entry}
 use Rattle.fifo_model.specs.declared.Queue.{Queue}
@@ -28,11 +29,13 @@ marks_of d steps = answer d Top (first_state (compiled d) d.fill) steps
 -- the bytes of the entries that a row of it took of the first queue, at the field's last signal
 abbrev pub taken_to : Desc → ℕ → State → List Step → ℕ → Option (List ℕ)
 taken_to d number m steps k =
-    option_map (λ j. carried (row_entries d Top number One (state_at m steps j) (between j k steps))) (last_step (is_opening d Top) m (take k steps))
+    option_map (λ j. carried (row_entries d Top number One (state_at m steps j) (between j k steps)))
+    (last_step (is_opening d Top) m (take k steps))
 
 abbrev pub taken_by : Desc → ℕ → List Step → Option (List ℕ)
 taken_by d number steps =
-    option_and_then (taken_to d number (first_state (compiled d) d.fill) steps) (last_step (is_signal (section_of d Top)) (first_state (compiled d) d.fill) steps)
+    option_and_then (taken_to d number (first_state (compiled d) d.fill) steps)
+    (last_step (is_signal (section_of d Top)) (first_state (compiled d) d.fill) steps)
 
 abbrev pub pushed : List Entry → List Step
 pushed entries = map (Push One) entries
@@ -55,7 +58,8 @@ clipped =
 abbrev pub cut_short : List Step
 cut_short =
     announced
-    ++ pushed (entry 2 0xa3a2a1a0 ∷ entry 13 0xffa6a5a4 ∷ entry 2 0xb3b2b1b0 ∷ entry 0 0xb7b6b5b4 ∷ entry 0 0xbbbab9b8 ∷ entry 1 0xbfbebdbc ∷ [])
+    ++ pushed
+    (entry 2 0xa3a2a1a0 ∷ entry 13 0xffa6a5a4 ∷ entry 2 0xb3b2b1b0 ∷ entry 0 0xb7b6b5b4 ∷ entry 0 0xbbbab9b8 ∷ entry 1 0xbfbebdbc ∷ [])
     ++ turns 21
 
 -- two rows of eight pixels; the first line has 17 bytes
@@ -65,7 +69,8 @@ two_rows = record smallest { height = 2 }
 abbrev pub too_long : List Step
 too_long =
     announced
-    ++ pushed (entry 2 0x03020100 ∷ entry 0 0x07060504 ∷ entry 0 0x0b0a0908 ∷ entry 0 0x0f0e0d0c ∷ entry 5 0x10 ∷ eight 0x23222120 0x27262524)
+    ++ pushed
+    (entry 2 0x03020100 ∷ entry 0 0x07060504 ∷ entry 0 0x0b0a0908 ∷ entry 0 0x0f0e0d0c ∷ entry 5 0x10 ∷ eight 0x23222120 0x27262524)
     ++ turns 16
 
 -- a field of one line, and a whole one after it

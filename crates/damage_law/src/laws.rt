@@ -22,13 +22,16 @@ ghost use Rattle.damage_law.specs.LastSignals.{AnswersStay};
 ghost use Rattle.damage_law.specs.Orders.{LinesAreWhole, TakesInOrder};
 ghost use Rattle.damage_law.specs.Marks.{last_step};
 ghost use Rattle.damage_law.specs.Standing.{WholeRowsEntered};
-ghost use Rattle.damage_law.specs.Worked.{IsWholeRow, chroma_long, chroma_short, clipped, cut_short, emptied_empty, emptied_full, interrupted, marks_of, planar_rows, reserved, restarted, taken_by, too_long, two_rows, unkept_short};
+ghost use Rattle.damage_law.specs.Worked.{IsWholeRow, chroma_long, chroma_short, clipped, cut_short, emptied_empty, emptied_full};
+ghost use Rattle.damage_law.specs.Worked.{interrupted, marks_of, planar_rows, reserved, restarted, taken_by, too_long, two_rows};
+ghost use Rattle.damage_law.specs.Worked.{unkept_short};
 
 /// Takings in their order make a line by their places exactly where the entries of which a byte is taken follow one
 /// another among those that enter the queue, each is taken whole, and they are a line.
 pub fn whole_lines_are_taken_whole()
     ensures line { (entry_at : ℕ → Entry) (ts : List Taking) → AreInOrder entry_at 0 0 ts → are_line ts ≡ true → IsWholeLine entry_at ts }
-    ensures takings { (entry_at : ℕ → Entry) (ts : List Taking) → AreInOrder entry_at 0 0 ts → IsWholeLine entry_at ts → are_line ts ≡ true }
+    ensures takings { (entry_at : ℕ → Entry) (ts : List Taking) → AreInOrder entry_at 0 0 ts → IsWholeLine entry_at ts →
+        are_line ts ≡ true }
 {}
 
 /// What is taken of a queue over steps is taken of the entries that it holds and that enter it, in their order. So what the
@@ -42,7 +45,8 @@ pub fn takings_are_in_order()
 /// What leaves a queue in a turn leaves it at its front. So the entry at a place is the one that so many others left
 /// before.
 pub fn entries_leave_at_the_front()
-    ensures { (q : Queue) (m : State) → (queue_state q (turn m).queues).entries ≡ drop (left q m (turn m)) (queue_state q m.queues).entries }
+    ensures { (q : Queue) (m : State) →
+        (queue_state q (turn m).queues).entries ≡ drop (left q m (turn m)) (queue_state q m.queues).entries }
 {}
 
 /// The marks of a field's rows after all steps are those right after its last signal.

@@ -1,5 +1,6 @@
 -- While a field arrives, a turn keeps every line whole, as the track has it.
-use Rattle.std.proofs.Common.{◌≡◌, ℕ, ◌+◌, ◌*◌, ◌<◌, Bool, true, false, not, ◌&&◌, List, [], ◌∷◌, ◌++◌, length, Option, None, if◌then◌else◌, refl, sym, ap, ap₂, ◌∙◌, subst, arith}
+use Rattle.std.proofs.Common.{◌≡◌, ℕ, ◌+◌, ◌*◌, ◌<◌, Bool, true, false, not, ◌&&◌, List, [], ◌∷◌, ◌++◌, length, Option, None, if◌then◌else◌}
+use Rattle.std.proofs.Common.{refl, sym, ap, ap₂, ◌∙◌, subst, arith}
 use Rattle.std.specs.Prelude.{nat_lt}
 use Rattle.risc_word.specs.declared.Ctl.{Ctl}
 use Rattle.risc_word.specs.declared.Instr.{Instr}
@@ -28,7 +29,8 @@ use Rattle.damage_map.proofs.Visits.{fresh_on}
 pub plain_jump : (i : Instr) (ctl : Ctl) (to : ℕ) → IsPlain i → i ≡ Jump ctl to → ⊥
 plain_jump i ctl to plain is = subst IsPlain is plain
 
-pub same_body : (program : RiscProgram) (at : ℕ) (body other : List Instr) (ctl ctl' : Ctl) (to to' : ℕ) → HoldsFrom program at body ctl to → HoldsFrom program at other ctl' to' →
+pub same_body : (program : RiscProgram) (at : ℕ) (body other : List Instr) (ctl ctl' : Ctl) (to to' : ℕ) →
+    HoldsFrom program at body ctl to → HoldsFrom program at other ctl' to' →
     (body ≡ other) × (Jump ctl to ≡ Jump ctl' to')
 same_body program at [] [] ctl ctl' to to' one two = (refl, same_read (Jump ctl to) (Jump ctl' to') 2 2 (fetch program at) one.0 two.0)
 same_body program at [] (i ∷ rest) ctl ctl' to to' one two =
@@ -37,7 +39,9 @@ same_body program at (i ∷ rest) [] ctl ctl' to to' one two =
     absurd (plain_jump i ctl' to' one.1 (same_read i (Jump ctl' to') (length (encoded i)) 2 (fetch program at) one.0 two.0))
 same_body program at (i ∷ rest) (j ∷ more) ctl ctl' to to' one two =
     let same : i ≡ j = same_read i j (length (encoded i)) (length (encoded j)) (fetch program at) one.0 two.0 in
-    let later = same_body program (at + 4 * length (encoded i)) rest more ctl ctl' to to' one.3 (subst (λ (x : Instr). HoldsFrom program (at + 4 * length (encoded x)) more ctl' to') (sym same) two.3) in
+    let later =
+    same_body program (at + 4 * length (encoded i)) rest more ctl ctl' to to' one.3
+    (subst (λ (x : Instr). HoldsFrom program (at + 4 * length (encoded x)) more ctl' to') (sym same) two.3) in
     (ap₂ (λ (x : Instr) (xs : List Instr). x ∷ xs) same later.0, later.1)
 
 -- ---- where a line ends nothing more is asked in it
@@ -52,35 +56,45 @@ asked_data q (Write123 ctl ends_there off counts addrs) is = refl
 asked_data q (Skip123 ctl ends_there counts) is = refl
 asked_data q (Write1S23 ctl ends_there off counts addr) is = refl
 
-pub left_first : (sol : Bool) (count : ℕ) (address : Option ℕ) (rest : List Ask) → sol ≡ true → left_in_line (ask sol count address ∷ rest) ≡ 0
+pub left_first : (sol : Bool) (count : ℕ) (address : Option ℕ) (rest : List Ask) → sol ≡ true →
+    left_in_line (ask sol count address ∷ rest) ≡ 0
 left_first true count address rest is = refl
 left_first false count address rest is = cc
 
-pub left_later : (sol : Bool) (count : ℕ) (address : Option ℕ) (rest : List Ask) → sol ≡ false → left_in_line (ask sol count address ∷ rest) ≡ count + left_in_line rest
+pub left_later : (sol : Bool) (count : ℕ) (address : Option ℕ) (rest : List Ask) → sol ≡ false →
+    left_in_line (ask sol count address ∷ rest) ≡ count + left_in_line rest
 left_later true count address rest is = cc
 left_later false count address rest is = refl
 
-line_unmoved : (q : Queue) (begins : Bool) (moved : Queue → Bool) (line rest : List Instr) → moved q ≡ false → LineGoes begins moved line → left_in_line (asks q (line ++ rest)) ≡ left_in_line (asks q rest)
+line_unmoved : (q : Queue) (begins : Bool) (moved : Queue → Bool) (line rest : List Instr) → moved q ≡ false → LineGoes begins moved line →
+    left_in_line (asks q (line ++ rest)) ≡ left_in_line (asks q rest)
 line_unmoved q begins moved [] rest still goes = refl
 line_unmoved q begins moved (i ∷ line) rest still goes =
-    ap (λ (a : Ask). left_in_line (a ∷ asks q (line ++ rest))) (asked_data q i goes.0.moves) ∙ by_sol (demand_on q (demands_of i None)).needs_sol refl
+    ap (λ (a : Ask). left_in_line (a ∷ asks q (line ++ rest))) (asked_data q i goes.0.moves)
+    ∙ by_sol (demand_on q (demands_of i None)).needs_sol refl
     ∙ line_unmoved q false moved line rest still goes.1
   where
     none : (demand_on q (demands_of i None)).rest ≡ 0
     none = goes.0.unmoved q None still
 
-    by_sol : (sol : Bool) → (demand_on q (demands_of i None)).needs_sol ≡ sol → left_in_line (ask_of (demand_on q (demands_of i None)) ∷ asks q (line ++ rest)) ≡ left_in_line (asks q (line ++ rest))
+    by_sol : (sol : Bool) → (demand_on q (demands_of i None)).needs_sol ≡ sol →
+        left_in_line (ask_of (demand_on q (demands_of i None)) ∷ asks q (line ++ rest)) ≡ left_in_line (asks q (line ++ rest))
     by_sol true is = let some = (goes.0.first q None is).1 in let zero_is = none in absurd (omega arith)
     by_sol false is =
         let zero_is = none in
-        left_later (demand_on q (demands_of i None)).needs_sol (demand_on q (demands_of i None)).rest (demand_on q (demands_of i None)).address (asks q (line ++ rest)) is ∙ omega arith
+        left_later (demand_on q (demands_of i None)).needs_sol (demand_on q (demands_of i None)).rest
+        (demand_on q (demands_of i None)).address (asks q (line ++ rest)) is ∙ omega arith
 
-line_starts : (q : Queue) (moved : Queue → Bool) (i : Instr) (line : List Instr) (last : Bool) (rest : List Ask) → moved q ≡ true → GoesIn true moved last i → left_in_line (asked q i ∷ rest) ≡ 0
+line_starts : (q : Queue) (moved : Queue → Bool) (i : Instr) (line : List Instr) (last : Bool) (rest : List Ask) → moved q ≡ true →
+    GoesIn true moved last i → left_in_line (asked q i ∷ rest) ≡ 0
 line_starts q moved i line last rest does goes =
     ap (λ (a : Ask). left_in_line (a ∷ rest)) (asked_data q i goes.moves) ∙ by_sol (demand_on q (demands_of i None)).needs_sol refl
   where
-    by_sol : (sol : Bool) → (demand_on q (demands_of i None)).needs_sol ≡ sol → left_in_line (ask_of (demand_on q (demands_of i None)) ∷ rest) ≡ 0
-    by_sol true is = left_first (demand_on q (demands_of i None)).needs_sol (demand_on q (demands_of i None)).rest (demand_on q (demands_of i None)).address rest is
+    by_sol : (sol : Bool) → (demand_on q (demands_of i None)).needs_sol ≡ sol →
+        left_in_line (ask_of (demand_on q (demands_of i None)) ∷ rest) ≡ 0
+    by_sol true is =
+        left_first (demand_on q (demands_of i None)).needs_sol (demand_on q (demands_of i None)).rest
+        (demand_on q (demands_of i None)).address rest is
     by_sol false is = let never : true ≡ false = goes.awaits q None does is in cc
 
 pub parts_left : (q : Queue) (parts : List Part) → AreParts parts → left_in_line (asks q (instrs_of parts)) ≡ 0
@@ -88,7 +102,8 @@ parts_left q [] are = refl
 parts_left q (Await code ∷ rest) are = refl
 parts_left q (Cut moved line ∷ rest) are = by_moved (parts_left q rest are.1) (moved q) refl
   where
-    by_moved : left_in_line (asks q (instrs_of rest)) ≡ 0 → (does : Bool) → moved q ≡ does → left_in_line (asks q (line ++ instrs_of rest)) ≡ 0
+    by_moved : left_in_line (asks q (instrs_of rest)) ≡ 0 → (does : Bool) → moved q ≡ does →
+        left_in_line (asks q (line ++ instrs_of rest)) ≡ 0
     by_moved later false is = line_unmoved q true moved line (instrs_of rest) is are.0.goes ∙ later
     by_moved later true is =
         let goes : LineGoes true moved (are.0.first ∷ are.0.rest) = subst (LineGoes true moved) are.0.some are.0.goes in
@@ -115,7 +130,8 @@ marked_good left Within none marked = absurd (omega arith)
 marked_good left Done none marked = refl
 marked_good left Spoilt none marked = absurd marked
 
-pub marked_taken : (ended : Bool) (before after : ℕ) (mark : LineMark) → IsMarked before mark → (mark ≡ Done → before ≡ 0 → ⊥) → (ended ≡ true → after ≡ 0) → (ended ≡ false → 0 < after) →
+pub marked_taken : (ended : Bool) (before after : ℕ) (mark : LineMark) → IsMarked before mark → (mark ≡ Done → before ≡ 0 → ⊥) →
+    (ended ≡ true → after ≡ 0) → (ended ≡ false → 0 < after) →
     IsMarked after (taken_mark ended mark)
 marked_taken true before after Fresh marked open_line last goes = last refl
 marked_taken true before after Within marked open_line last goes = last refl
@@ -131,14 +147,22 @@ marked_taken false before after Spoilt marked open_line last goes = marked
 pub record GoesWell (program : RiscProgram) (m : State) (t : FieldTrack) : Type 0 where
   pub lines : Each (λ whole. whole ≡ true) t.lines
   pub lost : t.lost ≡ false
-  pub marks : (q : Queue) (ctl : Ctl) (to : ℕ) (body : List Instr) → HoldsFrom program m.pc body ctl to → IsMarked (left_in_line (job_asks q m.job (asks q body))) (mark_on q t.marks)
+  pub marks : (q : Queue) (ctl : Ctl) (to : ℕ) (body : List Instr) → HoldsFrom program m.pc body ctl to →
+      IsMarked (left_in_line (job_asks q m.job (asks q body))) (mark_on q t.marks)
 
 module _ (program : RiscProgram) where
-  pub well_fresh : (after : State) (t : FieldTrack) → Each (λ whole. whole ≡ true) t.lines → t.lost ≡ false → t.marks ≡ fresh → GoesWell program after t
+  pub well_fresh : (after : State) (t : FieldTrack) → Each (λ whole. whole ≡ true) t.lines → t.lost ≡ false → t.marks ≡ fresh →
+      GoesWell program after t
   well_fresh after t lines lost marks =
-      record { lines = lines; lost = lost; marks = λ q ctl to body holds. marked_fresh (left_in_line (job_asks q after.job (asks q body))) (mark_on q t.marks) (ap (mark_on q) marks ∙ fresh_on q) }
+      record {
+        lines = lines;
+        lost = lost;
+        marks = λ q ctl to body holds.
+            marked_fresh (left_in_line (job_asks q after.job (asks q body))) (mark_on q t.marks) (ap (mark_on q) marks ∙ fresh_on q);
+      }
 
-  pub well_still : (m after : State) (t : FieldTrack) → after.job ≡ m.job → after.pc ≡ m.pc → GoesWell program m t → GoesWell program after t
+  pub well_still : (m after : State) (t : FieldTrack) → after.job ≡ m.job → after.pc ≡ m.pc → GoesWell program m t →
+      GoesWell program after t
   well_still m after t job pc g =
       record {
         lines = g.lines;
@@ -151,8 +175,10 @@ module _ (program : RiscProgram) where
 
   -- an instruction is fetched: what it asks was asked before, too
   pub well_fetched : (m after : State) (t : FieldTrack) (i : Instr) → m.job ≡ Idle → after.pc ≡ m.pc + 4 * length (encoded i) →
-      ((rest : List Instr) (ctl : Ctl) (to : ℕ) → HoldsFrom program (m.pc + 4 * length (encoded i)) rest ctl to → HoldsFrom program m.pc (i ∷ rest) ctl to) →
-      ((q : Queue) (rest : List Ask) → left_in_line (job_asks q after.job rest) ≡ left_in_line (asked q i ∷ rest)) → GoesWell program m t → GoesWell program after t
+      ((rest : List Instr) (ctl : Ctl) (to : ℕ) → HoldsFrom program (m.pc + 4 * length (encoded i)) rest ctl to →
+      HoldsFrom program m.pc (i ∷ rest) ctl to) →
+      ((q : Queue) (rest : List Ask) → left_in_line (job_asks q after.job rest) ≡ left_in_line (asked q i ∷ rest)) → GoesWell program m t →
+      GoesWell program after t
   well_fetched m after t i idle pc longer same g =
       record {
         lines = g.lines;
@@ -160,11 +186,13 @@ module _ (program : RiscProgram) where
         marks =
             λ q ctl to body holds.
             let before = g.marks q ctl to (i ∷ body) (longer body ctl to (subst (λ (at : ℕ). HoldsFrom program at body ctl to) pc holds)) in
-            subst (λ (n : ℕ). IsMarked n (mark_on q t.marks)) (sym (same q (asks q body))) (subst (λ (j : Job). IsMarked (left_in_line (job_asks q j (asks q (i ∷ body)))) (mark_on q t.marks)) idle before);
+            subst (λ (n : ℕ). IsMarked n (mark_on q t.marks)) (sym (same q (asks q body)))
+            (subst (λ (j : Job). IsMarked (left_in_line (job_asks q j (asks q (i ∷ body)))) (mark_on q t.marks)) idle before);
       }
 
   -- the line ends: it is whole
-  noted_true : (whole : Bool) (lines : List Bool) → whole ≡ true → Each (λ whole. whole ≡ true) lines → Each (λ whole. whole ≡ true) (noted whole lines)
+  noted_true : (whole : Bool) (lines : List Bool) → whole ≡ true → Each (λ whole. whole ≡ true) lines →
+      Each (λ whole. whole ≡ true) (noted whole lines)
   noted_true whole lines is each = by_room (nat_lt (length lines) max_lines)
     where
       by_room : (room : Bool) → Each (λ whole. whole ≡ true) (if room then lines ++ whole ∷ [] else lines)
@@ -173,9 +201,12 @@ module _ (program : RiscProgram) where
 
   line_whole : (t : FieldTrack) → t.lost ≡ false → ((q : Queue) → is_good (mark_on q t.marks) ≡ true) → is_whole t ≡ true
   line_whole t lost good =
-      ap₂ (λ (x y : Bool). x && y) (ap₂ (λ (x y : Bool). x && y) (ap₂ (λ (x y : Bool). x && y) (ap not lost) (good One)) (good Two)) (good Three)
+      ap₂ (λ (x y : Bool). x && y) (ap₂ (λ (x y : Bool). x && y) (ap₂ (λ (x y : Bool). x && y) (ap not lost) (good One)) (good Two))
+      (good Three)
 
-  pub well_through : (after : State) (t : FieldTrack) → Each (λ whole. whole ≡ true) t.lines → t.lost ≡ false → ((q : Queue) → is_good (mark_on q t.marks) ≡ true) →
+  pub well_through : (after : State) (t : FieldTrack) → Each (λ whole. whole ≡ true) t.lines → t.lost ≡ false →
+      ((q : Queue) → is_good (mark_on q t.marks) ≡ true) →
       GoesWell program after (record t { marks = fresh; lost = false; lines = noted (is_whole t) t.lines })
   well_through after t lines lost good =
-      well_fresh after (record t { marks = fresh; lost = false; lines = noted (is_whole t) t.lines }) (noted_true (is_whole t) t.lines (line_whole t lost good) lines) refl refl
+      well_fresh after (record t { marks = fresh; lost = false; lines = noted (is_whole t) t.lines })
+      (noted_true (is_whole t) t.lines (line_whole t lost good) lines) refl refl

@@ -1,5 +1,6 @@
 -- The section of a field in its description's program, as parts and lines.
-use Rattle.std.proofs.Common.{◌≡◌, ℕ, zero, suc, ◌+◌, ◌*◌, ◌/◌, ◌<◌, ◌≤◌, Bool, true, false, not, ◌&&◌, ◌==◌, List, [], ◌∷◌, ◌++◌, append_assoc, drop, length, length-append, map, Option, refl, sym, ap, ap₂, ◌∙◌, subst, arith, if◌then◌else◌}
+use Rattle.std.proofs.Common.{◌≡◌, ℕ, zero, suc, ◌+◌, ◌*◌, ◌/◌, ◌<◌, ◌≤◌, Bool, true, false, not, ◌&&◌, ◌==◌, List, [], ◌∷◌, ◌++◌}
+use Rattle.std.proofs.Common.{append_assoc, drop, length, length-append, map, Option, refl, sym, ap, ap₂, ◌∙◌, subst, arith, if◌then◌else◌}
 use Rattle.std.specs.Prelude.{replicate}
 use Rattle.std.specs.List.{range_with_len}
 use Rattle.std.proofs.Math.Bool.{and-true}
@@ -22,9 +23,12 @@ use Rattle.capture_desc.specs.declared.desc.Desc.{Desc}
 use Rattle.picture_model.specs.declared.PieceKind.{PieceKind}
 use Rattle.picture_model.specs.declared.PieceKind.TheVariants.{Write, WriteLuma, Skip}
 use Rattle.picture_model.specs.declared.Piece.{Piece}
-use Rattle.picture_model.specs.Described.{IsDescription, both, describes, field_height, layout_of, memory_of, picture_row, rows_of, vbi_skip}
-use Rattle.picture_model.specs.Plans.{Cut, Follow, Strip, cuts_of, grain_bytes, grains_of, kind_of, piece_of, row_strip, skipped_strip, skipped_vbi_strip, vbi_strip}
-use Rattle.picture_model.specs.Programs.{body, data_code, instr_by, instr_of, line_instrs, lines_instrs, section_begin, sync, vbi_from, vbi_instrs, vbi_strips}
+use Rattle.picture_model.specs.Described.{IsDescription, both, describes, field_height, layout_of, memory_of, picture_row, rows_of}
+use Rattle.picture_model.specs.Described.{vbi_skip}
+use Rattle.picture_model.specs.Plans.{Cut, Follow, Strip, cuts_of, grain_bytes, grains_of, kind_of, piece_of, row_strip, skipped_strip}
+use Rattle.picture_model.specs.Plans.{skipped_vbi_strip, vbi_strip}
+use Rattle.picture_model.specs.Programs.{body, data_code, instr_by, instr_of, line_instrs, lines_instrs, section_begin, sync, vbi_from}
+use Rattle.picture_model.specs.Programs.{vbi_instrs, vbi_strips}
 use Rattle.picture_model.proofs.Each.{Each, each_append, each_map, each_range, each_replicate}
 use Rattle.picture_model.proofs.Grains.{row_grains}
 use Rattle.picture_model.proofs.FaultlessGeometry.{IsRight}
@@ -74,7 +78,8 @@ module _ (sol eol : Bool) (clipped : Bool) (one two three a b c : ℕ) where
   moved_sol true q = sol && not (on_queue q one two three == 0)
   moved_sol false q = false
 
-  rest_piece : (planar : Bool) (kind : PieceKind) (q : Queue) (target : Option ℕ) → (demand_on q (demands_of (instr_by planar kind (piece kind)) target)).rest ≡ moved_rest (moves planar q) q
+  rest_piece : (planar : Bool) (kind : PieceKind) (q : Queue) (target : Option ℕ) →
+      (demand_on q (demands_of (instr_by planar kind (piece kind)) target)).rest ≡ moved_rest (moves planar q) q
   rest_piece true Write One target = refl
   rest_piece true Write Two target = refl
   rest_piece true Write Three target = refl
@@ -94,7 +99,8 @@ module _ (sol eol : Bool) (clipped : Bool) (one two three a b c : ℕ) where
   rest_piece false Skip Two target = refl
   rest_piece false Skip Three target = refl
 
-  sol_piece : (planar : Bool) (kind : PieceKind) (q : Queue) (target : Option ℕ) → (demand_on q (demands_of (instr_by planar kind (piece kind)) target)).needs_sol ≡ moved_sol (moves planar q) q
+  sol_piece : (planar : Bool) (kind : PieceKind) (q : Queue) (target : Option ℕ) →
+      (demand_on q (demands_of (instr_by planar kind (piece kind)) target)).needs_sol ≡ moved_sol (moves planar q) q
   sol_piece true Write One target = refl
   sol_piece true Write Two target = refl
   sol_piece true Write Three target = refl
@@ -118,18 +124,21 @@ module _ (sol eol : Bool) (clipped : Bool) (one two three a b c : ℕ) where
   unmoved_by true q is = cc
   unmoved_by false q is = refl
 
-  first_by : (does : Bool) (q : Queue) → (does ≡ true → 0 < on_queue q one two three) → moved_sol does q ≡ true → (sol ≡ true) × (0 < moved_rest does q)
+  first_by : (does : Bool) (q : Queue) → (does ≡ true → 0 < on_queue q one two three) → moved_sol does q ≡ true →
+      (sol ≡ true) × (0 < moved_rest does q)
   first_by true q some is = ((and_parts sol (not (on_queue q one two three == 0)) is).0, some refl)
   first_by false q some is = cc
 
-  awaits_by : (does : Bool) (q : Queue) → (does ≡ true → 0 < on_queue q one two three) → does ≡ true → moved_sol does q ≡ false → sol ≡ false
+  awaits_by : (does : Bool) (q : Queue) → (does ≡ true → 0 < on_queue q one two three) → does ≡ true →
+      moved_sol does q ≡ false → sol ≡ false
   awaits_by true q some is none =
       let more = some refl in
       let nonzero : (on_queue q one two three == 0) ≡ false = ne_eqb (on_queue q one two three) 0 (λ zero_is. absurd (omega arith)) in
       sym (and-true sol) ∙ ap (λ (x : Bool). sol && not x) (sym nonzero) ∙ none
   awaits_by false q some is none = cc
 
-  goes_piece : (planar : Bool) (kind : PieceKind) (begins last : Bool) → begins ≡ sol → eol ≡ last → ((q : Queue) → moves planar q ≡ true → 0 < on_queue q one two three) →
+  goes_piece : (planar : Bool) (kind : PieceKind) (begins last : Bool) → begins ≡ sol → eol ≡ last →
+      ((q : Queue) → moves planar q ≡ true → 0 < on_queue q one two three) →
       GoesIn begins (moves planar) last (instr_by planar kind (piece kind))
   goes_piece planar kind begins last first_is last_is some =
       record {
@@ -152,39 +161,51 @@ pub record IsLaid (memory : List Chunk) (strip : Strip) : Type 0 where
   pub sizes : (q : Queue) → moves strip.planar q ≡ true → 0 < (track_on q strip).size
 
 module _ (memory : List Chunk) (strip : Strip) (laid : IsLaid memory strip) where
-  count_on : (k : Cut) (q : Queue) → on_queue q (k.n * strip.one.size) (k.n * strip.two.size) (k.n * strip.three.size) ≡ k.n * (track_on q strip).size
+  count_on : (k : Cut) (q : Queue) →
+      on_queue q (k.n * strip.one.size) (k.n * strip.two.size) (k.n * strip.three.size) ≡ k.n * (track_on q strip).size
   count_on k One = refl
   count_on k Two = refl
   count_on k Three = refl
 
-  counts_some : (k : Cut) → 0 < k.n → (q : Queue) → moves strip.planar q ≡ true → 0 < on_queue q (k.n * strip.one.size) (k.n * strip.two.size) (k.n * strip.three.size)
+  counts_some : (k : Cut) → 0 < k.n → (q : Queue) → moves strip.planar q ≡ true →
+      0 < on_queue q (k.n * strip.one.size) (k.n * strip.two.size) (k.n * strip.three.size)
   counts_some k some q does = subst (λ (n : ℕ). 0 < n) (sym (count_on k q)) (mul-pos some (laid.sizes q does))
 
   abbrev instrs : List Cut → List Instr
   instrs cuts = map (instr_of strip.planar) (map (piece_of memory strip) cuts)
 
-  last_cut : (at : ℕ) (k : Cut) (rest : List Cut) → k.at ≡ at → Follow strip.grains (at + k.n) rest → (k.at + k.n == strip.grains) ≡ is_none (instrs rest)
+  last_cut : (at : ℕ) (k : Cut) (rest : List Cut) → k.at ≡ at → Follow strip.grains (at + k.n) rest →
+      (k.at + k.n == strip.grains) ≡ is_none (instrs rest)
   last_cut at k [] here follow = eq-eqb (k.at + k.n) strip.grains (ap (λ (n : ℕ). n + k.n) here ∙ follow)
   last_cut at k (next ∷ rest) here follow =
       let some = follow.1 in
       let later = cuts_further strip.grains (at + k.n + next.n) rest follow.2 in
       ne_eqb (k.at + k.n) strip.grains (λ same. absurd (omega arith))
 
-  cuts_go : (begins : Bool) (at : ℕ) (cuts : List Cut) → begins ≡ (at == 0) → Follow strip.grains at cuts → LineGoes begins (moves strip.planar) (instrs cuts)
+  cuts_go : (begins : Bool) (at : ℕ) (cuts : List Cut) → begins ≡ (at == 0) → Follow strip.grains at cuts →
+      LineGoes begins (moves strip.planar) (instrs cuts)
   cuts_go begins at [] first follow = tt
   cuts_go begins at (k ∷ rest) first follow =
       let here = follow.0 in
       let some = follow.1 in
       let p = piece_of memory strip k in (
-        goes_piece (k.at == 0) (k.at + k.n == strip.grains) k.clipped (k.n * strip.one.size) (k.n * strip.two.size) (k.n * strip.three.size) _ _ _ strip.planar (kind_of k.clipped strip.kind)
-            begins (is_none (instrs rest)) (first ∙ ap (λ (n : ℕ). n == 0) (sym here)) (last_cut at k rest here follow.2) (counts_some k some),
+        goes_piece (k.at == 0) (k.at + k.n == strip.grains) k.clipped (k.n * strip.one.size) (k.n * strip.two.size)
+            (k.n * strip.three.size) _ _ _ strip.planar (kind_of k.clipped strip.kind)
+            begins (is_none (instrs rest)) (first ∙ ap (λ (n : ℕ). n == 0) (sym here)) (last_cut at k rest here follow.2)
+            (counts_some k some),
         cuts_go false (at + k.n) rest (sym (ne_eqb (at + k.n) 0 (λ same. absurd (omega arith)))) follow.2,
       )
 
-  cut_line : (cuts : List Cut) → cuts ≡ cuts_of memory strip strip.spans → Follow strip.grains 0 cuts → IsCut (moves strip.planar) (instrs cuts)
+  cut_line : (cuts : List Cut) → cuts ≡ cuts_of memory strip strip.spans → Follow strip.grains 0 cuts →
+      IsCut (moves strip.planar) (instrs cuts)
   cut_line [] same follow = let some = laid.some in absurd (omega arith)
   cut_line (k ∷ rest) same follow =
-      record { first = instr_of strip.planar (piece_of memory strip k); rest = instrs rest; some = refl; goes = cuts_go true 0 (k ∷ rest) (sym (eq-eqb 0 0 refl)) follow }
+      record {
+        first = instr_of strip.planar (piece_of memory strip k);
+        rest = instrs rest;
+        some = refl;
+        goes = cuts_go true 0 (k ∷ rest) (sym (eq-eqb 0 0 refl)) follow;
+      }
 
   pub laid_cut : IsCut (moves strip.planar) (instrs (cuts_of memory strip strip.spans))
   laid_cut = cut_line (cuts_of memory strip strip.spans) refl (cuts_follow memory strip laid.fit)
@@ -202,9 +223,11 @@ module _ (d : Desc) (right : IsRight d) where
       let all = row_grains d 1 plane in
       grains_by (grains_of (layout_of d) d.width) refl (omega arith)
     where
-      grains_by : (n : ℕ) → n ≡ grains_of (layout_of d) d.width → 0 < grains_of (layout_of d) d.width * grain_bytes (layout_of d) 1 → 0 < grains_of (layout_of d) d.width
+      grains_by : (n : ℕ) → n ≡ grains_of (layout_of d) d.width → 0 < grains_of (layout_of d) d.width * grain_bytes (layout_of d) 1 →
+          0 < grains_of (layout_of d) d.width
       grains_by zero is some =
-          let none : grains_of (layout_of d) d.width * grain_bytes (layout_of d) 1 ≡ 0 * grain_bytes (layout_of d) 1 = ap (λ (n : ℕ). n * grain_bytes (layout_of d) 1) (sym is) in
+          let none : grains_of (layout_of d) d.width * grain_bytes (layout_of d) 1 ≡ 0 * grain_bytes (layout_of d) 1 =
+          ap (λ (n : ℕ). n * grain_bytes (layout_of d) 1) (sym is) in
           absurd (omega arith)
       grains_by (suc n) is some = omega arith
 
@@ -215,7 +238,8 @@ module _ (d : Desc) (right : IsRight d) where
         some = grains_some;
         sizes =
             λ q does.
-            subst (λ (n : ℕ). 0 < n) (ap (λ t. t.size) (row_track_on d row q)) (grain_some d right (plane_of q) row (queue_plane d q (has_moved q does)) below);
+            subst (λ (n : ℕ). 0 < n) (ap (λ t. t.size) (row_track_on d row q))
+            (grain_some d right (plane_of q) row (queue_plane d q (has_moved q does)) below);
       }
 
   skipped_size : (q : Queue) → (track_on q (skipped_strip d)).size ≡ grain_bytes (layout_of d) (plane_of q)
@@ -229,7 +253,9 @@ module _ (d : Desc) (right : IsRight d) where
       record {
         fit = skipped-IsStrip d;
         some = grains_some;
-        sizes = λ q does. subst (λ (n : ℕ). 0 < n) (sym (skipped_size q)) (grain_some d right (plane_of q) 0 (queue_plane d q (has_moved q does)) (omega arith));
+        sizes =
+            λ q does. subst (λ (n : ℕ). 0 < n) (sym (skipped_size q))
+            (grain_some d right (plane_of q) 0 (queue_plane d q (has_moved q does)) (omega arith));
       }
 
   vbi_size : (q : Queue) (field : Parity) (line : ℕ) → moves false q ≡ true → 0 < (track_on q (vbi_strip d field line)).size
@@ -247,7 +273,8 @@ module _ (d : Desc) (right : IsRight d) where
       let some = (right.vbi_bytes lines).0 in
       record { fit = skipped_vbi-IsStrip d; some = omega arith; sizes = skipped_vbi_size }
 
-  vbi_laid : (field : Parity) (line : ℕ) → describes d.fields field ≡ true → line < d.vbi_lines → IsLaid (memory_of d) (vbi_strip d field line)
+  vbi_laid : (field : Parity) (line : ℕ) → describes d.fields field ≡ true → line < d.vbi_lines →
+      IsLaid (memory_of d) (vbi_strip d field line)
   vbi_laid field line described below =
       let some = (right.vbi_bytes (omega arith)).0 in
       record { fit = vbi-IsStrip d field line right described below; some = omega arith; sizes = λ q does. vbi_size q field line does }
@@ -274,7 +301,8 @@ module _ (d : Desc) where
 
   -- those before the rows
   abbrev pub parts_before : Parity → List Part
-  parts_before field = vbi_parts_from d.vbi_lines field ++ Await (data_code (layout_of d).planar) ∷ line_parts (replicate d.skip_lines (skipped_strip d))
+  parts_before field =
+      vbi_parts_from d.vbi_lines field ++ Await (data_code (layout_of d).planar) ∷ line_parts (replicate d.skip_lines (skipped_strip d))
 
   abbrev row_parts : Parity → List Part
   row_parts field = line_parts (map (row_strip d) (rows_of d field))
@@ -297,10 +325,13 @@ module _ (d : Desc) where
   vbi_instrs_of field zero = refl
   vbi_instrs_of field (suc more) = ap (λ (is : List Instr). sync false Fm1 ∷ is) (lines_instrs_of (vbi_strips d field))
 
-  pub before_instrs : (field : Parity) → instrs_of (parts_before field) ≡ vbi_instrs d field ++ sync false (data_code (layout_of d).planar) ∷ lines_instrs d (replicate d.skip_lines (skipped_strip d))
+  pub before_instrs : (field : Parity) → instrs_of (parts_before field)
+      ≡ vbi_instrs d field ++ sync false (data_code (layout_of d).planar) ∷ lines_instrs d (replicate d.skip_lines (skipped_strip d))
   before_instrs field =
-      instrs_append (vbi_parts_from d.vbi_lines field) (Await (data_code (layout_of d).planar) ∷ line_parts (replicate d.skip_lines (skipped_strip d)))
-      ∙ ap₂ (λ (xs ys : List Instr). xs ++ sync false (data_code (layout_of d).planar) ∷ ys) (vbi_instrs_of field d.vbi_lines) (lines_instrs_of (replicate d.skip_lines (skipped_strip d)))
+      instrs_append (vbi_parts_from d.vbi_lines field)
+      (Await (data_code (layout_of d).planar) ∷ line_parts (replicate d.skip_lines (skipped_strip d)))
+      ∙ ap₂ (λ (xs ys : List Instr). xs ++ sync false (data_code (layout_of d).planar) ∷ ys) (vbi_instrs_of field d.vbi_lines)
+      (lines_instrs_of (replicate d.skip_lines (skipped_strip d)))
 
   pub body_parts : (field : Parity) → instrs_of (section_parts field) ≡ body d field
   body_parts field =
@@ -317,31 +348,38 @@ module _ (d : Desc) where
   words_append [] ys = omega arith
   words_append (i ∷ xs) ys = let rest = words_append xs ys in omega arith
 
-  pub lines_append : (xs ys : List Part) (here : ℕ) → lines_at here (xs ++ ys) ≡ lines_at here xs ++ lines_at (here + 4 * words_in (instrs_of xs)) ys
+  pub lines_append : (xs ys : List Part) (here : ℕ) →
+      lines_at here (xs ++ ys) ≡ lines_at here xs ++ lines_at (here + 4 * words_in (instrs_of xs)) ys
   lines_append [] ys here = ap (λ (n : ℕ). lines_at n ys) (omega arith)
   lines_append (Await code ∷ xs) ys here =
       let there : here + 8 + 4 * words_in (instrs_of xs) ≡ here + 4 * words_in (instrs_of (Await code ∷ xs)) = omega arith in
       lines_append xs ys (here + 8) ∙ ap (λ (n : ℕ). lines_at (here + 8) xs ++ lines_at n ys) there
   lines_append (parts.Cut moved line ∷ xs) ys here =
       let words = words_append line (instrs_of xs) in
-      let there : here + 4 * words_in line + 4 * words_in (instrs_of xs) ≡ here + 4 * words_in (instrs_of (parts.Cut moved line ∷ xs)) = omega arith in
+      let there : here + 4 * words_in line + 4 * words_in (instrs_of xs) ≡ here + 4 * words_in (instrs_of (parts.Cut moved line ∷ xs)) =
+      omega arith in
       ap (λ (ls : List (List ℕ)). addresses_from here line ∷ ls)
       (lines_append xs ys (here + 4 * words_in line) ∙ ap (λ (n : ℕ). lines_at (here + 4 * words_in line) xs ++ lines_at n ys) there)
 
-  row_lines : (rows : List ℕ) (here : ℕ) → lines_at here (line_parts (map (row_strip d) rows)) ≡ lines_from here (map (λ row. line_instrs d (row_strip d row)) rows)
+  row_lines : (rows : List ℕ) (here : ℕ) →
+      lines_at here (line_parts (map (row_strip d) rows)) ≡ lines_from here (map (λ row. line_instrs d (row_strip d row)) rows)
   row_lines [] here = refl
-  row_lines (row ∷ rows) here = ap (λ (ls : List (List ℕ)). addresses_from here (line_instrs d (row_strip d row)) ∷ ls) (row_lines rows (here + 4 * words_in (line_instrs d (row_strip d row))))
+  row_lines (row ∷ rows) here =
+      ap (λ (ls : List (List ℕ)). addresses_from here (line_instrs d (row_strip d row)) ∷ ls)
+      (row_lines rows (here + 4 * words_in (line_instrs d (row_strip d row))))
 
   many_lines : (strips : List Strip) (here : ℕ) → length (lines_at here (line_parts strips)) ≡ length strips
   many_lines [] here = refl
   many_lines (strip ∷ strips) here = let rest = many_lines strips (here + 4 * words_in (line_instrs d strip)) in omega arith
 
-  many_vbi : (field : Parity) (n here : ℕ) → n ≡ d.vbi_lines → length (lines_at here (vbi_parts_from n field)) ≡ vbi_count n (vbi_skip d field)
+  many_vbi : (field : Parity) (n here : ℕ) → n ≡ d.vbi_lines →
+      length (lines_at here (vbi_parts_from n field)) ≡ vbi_count n (vbi_skip d field)
   many_vbi field zero here is = refl
   many_vbi field (suc more) here is =
       let skipped = length-replicate (vbi_skip d field) (skipped_vbi_strip d) in
       let lines = length-map-range_with_len (vbi_strip d field) 0 d.vbi_lines in
-      let both = length-append (replicate (vbi_skip d field) (skipped_vbi_strip d)) (map (vbi_strip d field) (range_with_len 0 d.vbi_lines)) in
+      let both =
+      length-append (replicate (vbi_skip d field) (skipped_vbi_strip d)) (map (vbi_strip d field) (range_with_len 0 d.vbi_lines)) in
       let all = many_lines (vbi_strips d field) (here + 8) in
       omega arith
 
@@ -359,14 +397,17 @@ module _ (d : Desc) where
   abbrev pub section_lines : Parity → List (List ℕ)
   section_lines field = lines_at (section_begin d d.base field + 8) (section_parts field)
 
-  pub lines_split : (field : Parity) → section_lines field ≡ lines_at (section_begin d d.base field + 8) (parts_before field) ++ row_addresses d field
+  pub lines_split : (field : Parity) →
+      section_lines field ≡ lines_at (section_begin d d.base field + 8) (parts_before field) ++ row_addresses d field
   lines_split field =
       let begin = section_begin d d.base field + 8 in
       let words = ap words_in (before_instrs field) in
-      let there : begin + 4 * words_in (instrs_of (parts_before field)) ≡ section_begin d d.base field + 4 * words_in (before_rows d field) = omega arith in
+      let there : begin + 4 * words_in (instrs_of (parts_before field))
+      ≡ section_begin d d.base field + 4 * words_in (before_rows d field) = omega arith in
       lines_append (parts_before field) (row_parts field) begin
       ∙ ap (λ (ls : List (List ℕ)). lines_at begin (parts_before field) ++ ls)
-      (row_lines (rows_of d field) (begin + 4 * words_in (instrs_of (parts_before field))) ∙ ap (λ (n : ℕ). lines_from n (map (λ row. line_instrs d (row_strip d row)) (rows_of d field))) there)
+      (row_lines (rows_of d field) (begin + 4 * words_in (instrs_of (parts_before field)))
+      ∙ ap (λ (n : ℕ). lines_from n (map (λ row. line_instrs d (row_strip d row)) (rows_of d field))) there)
 
   pub rows_dropped : (field : Parity) → drop (lines_before d field) (section_lines field) ≡ row_addresses d field
   rows_dropped field =
@@ -396,8 +437,11 @@ module _ (d : Desc) where
       let height = height_by (describes d.fields field) (both d) d.height in
       let before = many_before field (section_begin d d.base field + 8) in
       let rows : length (row_addresses d field) ≡ field_height d field =
-      lines_many (rows_of d field) (section_begin d d.base field + 4 * words_in (before_rows d field)) ∙ length-map-range_with_len (picture_row (both d) field) 0 (field_height d field) in
-      let all = ap length (lines_split field) ∙ length-append (lines_at (section_begin d d.base field + 8) (parts_before field)) (row_addresses d field) in
+      lines_many (rows_of d field) (section_begin d d.base field + 4 * words_in (before_rows d field))
+      ∙ length-map-range_with_len (picture_row (both d) field) 0 (field_height d field) in
+      let all =
+      ap length (lines_split field)
+      ∙ length-append (lines_at (section_begin d d.base field + 8) (parts_before field)) (row_addresses d field) in
       omega arith
 
   -- each line is cut
@@ -414,15 +458,20 @@ module _ (d : Desc) where
   vbi_cut field right described zero is = tt
   vbi_cut field right described (suc more) is =
       lines_cut (vbi_strips d field)
-      (each_append (IsLaid (memory_of d)) (replicate (vbi_skip d field) (skipped_vbi_strip d)) (map (vbi_strip d field) (range_with_len 0 d.vbi_lines))
+      (each_append (IsLaid (memory_of d)) (replicate (vbi_skip d field) (skipped_vbi_strip d))
+      (map (vbi_strip d field) (range_with_len 0 d.vbi_lines))
       (each_replicate (IsLaid (memory_of d)) (vbi_skip d field) (skipped_vbi_strip d) (skipped_vbi_laid d right (omega arith)))
-      (each_map (λ line. line < d.vbi_lines) (IsLaid (memory_of d)) (vbi_strip d field) (range_with_len 0 d.vbi_lines) (λ line below. vbi_laid d right field line described below)
+      (each_map (λ line. line < d.vbi_lines) (IsLaid (memory_of d)) (vbi_strip d field) (range_with_len 0 d.vbi_lines)
+      (λ line below. vbi_laid d right field line described below)
       (each_range 0 d.vbi_lines d.vbi_lines (omega arith))))
 
   pub parts_cut : (field : Parity) → IsRight d → describes d.fields field ≡ true → AreParts (section_parts field)
   parts_cut field right described =
       parts_append (parts_before field) (row_parts field)
-      (parts_append (vbi_parts_from d.vbi_lines field) (Await (data_code (layout_of d).planar) ∷ line_parts (replicate d.skip_lines (skipped_strip d))) (vbi_cut field right described d.vbi_lines refl)
-      (lines_cut (replicate d.skip_lines (skipped_strip d)) (each_replicate (IsLaid (memory_of d)) d.skip_lines (skipped_strip d) (skipped_laid d right))))
+      (parts_append (vbi_parts_from d.vbi_lines field) (Await (data_code (layout_of d).planar)
+      ∷ line_parts (replicate d.skip_lines (skipped_strip d))) (vbi_cut field right described d.vbi_lines refl)
+      (lines_cut (replicate d.skip_lines (skipped_strip d))
+      (each_replicate (IsLaid (memory_of d)) d.skip_lines (skipped_strip d) (skipped_laid d right))))
       (lines_cut (map (row_strip d) (rows_of d field))
-      (each_map (λ row. row < d.height) (IsLaid (memory_of d)) (row_strip d) (rows_of d field) (λ row below. row_laid d right row below) (rows_below d field)))
+      (each_map (λ row. row < d.height) (IsLaid (memory_of d)) (row_strip d) (rows_of d field) (λ row below. row_laid d right row below)
+      (rows_below d field)))

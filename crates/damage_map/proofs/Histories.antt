@@ -1,5 +1,6 @@
 -- The marks of a field after a run, kept step by step: the steps since its opening, and the answer at its last signal.
-use Rattle.std.proofs.Common.{◌≡◌, ℕ, suc, ◌-◌, Bool, true, false, List, [], ◌∷◌, ◌++◌, append_assoc, take, drop, Option, Some, None, refl, sym, ap, ◌∙◌, arith, option_map}
+use Rattle.std.proofs.Common.{◌≡◌, ℕ, suc, ◌-◌, Bool, true, false, List, [], ◌∷◌, ◌++◌, append_assoc, take, drop, Option, Some, None, refl}
+use Rattle.std.proofs.Common.{sym, ap, ◌∙◌, arith, option_map}
 use Rattle.std.specs.Prelude.{option_and_then}
 use Rattle.std.proofs.lemmas.List.{append-nil}
 use Rattle.pixel_layout.specs.declared.Parity.{Parity}
@@ -53,12 +54,14 @@ module _ (d : Desc) (field : Parity) where
   by_signal (Some k) open_since told m steps = by_opening (last_opening m steps k) k open_since m steps
 
   longer : (s : Step) (k : ℕ) (steps : List Step) (open_since : Opened) →
-      option_map (λ o. marks d field o.0 (o.1 ++ take k steps)) (option_map (more_steps s) open_since) ≡ option_map (λ o. marks d field o.0 (o.1 ++ s ∷ take k steps)) open_since
+      option_map (λ o. marks d field o.0 (o.1 ++ take k steps)) (option_map (more_steps s) open_since)
+      ≡ option_map (λ o. marks d field o.0 (o.1 ++ s ∷ take k steps)) open_since
   longer s k steps None = refl
   longer s k steps (Some o) = ap (λ (all : List Step). Some (marks d field o.0 all)) (append_assoc o.1 (s ∷ []) (take k steps))
 
   opening_behind : (inner : Option ℕ) (here : Bool) (k : ℕ) (m : State) (s : Step) (steps : List Step) (open_since : Opened) →
-      by_opening inner k (opened_if here m s open_since) (step s m) steps ≡ by_opening (later_or here inner) (suc k) open_since m (s ∷ steps)
+      by_opening inner k (opened_if here m s open_since) (step s m) steps
+      ≡ by_opening (later_or here inner) (suc k) open_since m (s ∷ steps)
   opening_behind (Some j) here k m s steps open_since =
       let fewer : suc k - suc j ≡ k - j = omega arith in
       ap (λ (n : ℕ). Some (marks d field (state_at (step s m) steps j) (take n (drop j steps)))) (sym fewer)
@@ -72,8 +75,10 @@ module _ (d : Desc) (field : Parity) where
   nothing_more (Some o) = ap (λ (all : List Step). Some (marks d field o.0 all)) (sym (append-nil o.1))
 
   behind : (later : Option ℕ) (here : Bool) (m : State) (s : Step) (steps : List Step) (open_since : Opened) (told : Option (List Bool)) →
-      by_signal later (next_opened m s open_since) (told_if here open_since told) (step s m) steps ≡ by_signal (later_or here later) open_since told m (s ∷ steps)
-  behind (Some k) here m s steps open_since told = opening_behind (last_opening (step s m) steps k) (is_opening d field m s) k m s steps open_since
+      by_signal later (next_opened m s open_since) (told_if here open_since told) (step s m) steps
+      ≡ by_signal (later_or here later) open_since told m (s ∷ steps)
+  behind (Some k) here m s steps open_since told =
+      opening_behind (last_opening (step s m) steps k) (is_opening d field m s) k m s steps open_since
   behind None true m s steps open_since told = nothing_more open_since
   behind None false m s steps open_since told = refl
 
@@ -89,7 +94,8 @@ module _ (d : Desc) (field : Parity) where
   opening_or_none None k m steps = refl
   opening_or_none (Some j) k m steps = refl
 
-  signal_or_none : (last : Option ℕ) (m : State) (steps : List Step) → by_signal last None None m steps ≡ option_and_then (marks_to d field m steps) last
+  signal_or_none : (last : Option ℕ) (m : State) (steps : List Step) →
+      by_signal last None None m steps ≡ option_and_then (marks_to d field m steps) last
   signal_or_none None m steps = refl
   signal_or_none (Some k) m steps = opening_or_none (last_opening m steps k) k m steps
 

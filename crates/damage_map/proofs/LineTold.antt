@@ -1,5 +1,6 @@
 -- What a queue's mark means for the line under way, and how applications to the queue's front keep it true.
-use Rattle.std.proofs.Common.{◌≡◌, ℕ, zero, suc, ◌+◌, ◌<◌, ◌≤◌, Bool, true, false, ◌&&◌, ◌||◌, ◌==◌, List, [], ◌∷◌, ◌++◌, append_assoc, Option, Some, None, if◌then◌else◌, refl, sym, ap, ap₂, ◌∙◌, subst, arith}
+use Rattle.std.proofs.Common.{◌≡◌, ℕ, zero, suc, ◌+◌, ◌<◌, ◌≤◌, Bool, true, false, ◌&&◌, ◌||◌, ◌==◌, List, [], ◌∷◌, ◌++◌, append_assoc}
+use Rattle.std.proofs.Common.{Option, Some, None, if◌then◌else◌, refl, sym, ap, ap₂, ◌∙◌, subst, arith}
 use Rattle.std.proofs.Math.Bool.{and-false, and-true}
 use Rattle.std.proofs.lemmas.Bool.{and_left, and_right, cond-true, cond-false, eq-eqb, ne_eqb}
 use Rattle.std.proofs.lemmas.List.{append-nil}
@@ -51,7 +52,8 @@ unfinished zero top = and_right (0 == 0) (shape_from 0 top []) refl
 unfinished (suc taken) top = and_left (suc taken == 0) (shape_from (suc taken) top []) (ne_eqb (suc taken) 0 (λ none. absurd (omega arith)))
 
 -- a queue's takings make a line where its mark is good
-pub tells-good : (place : ℕ) (held : QueueState) (ts : List Taking) (mark : LineMark) → Tells place held ts mark → make_line ts ≡ is_good mark
+pub tells-good : (place : ℕ) (held : QueueState) (ts : List Taking) (mark : LineMark) → Tells place held ts mark →
+    make_line ts ≡ is_good mark
 tells-good place held ts Fresh tells = ap make_line tells
 tells-good place held ts Within tells = ap make_line (sym (append-nil ts)) ∙ tells [] ∙ unfinished held.taken (front held)
 tells-good place held ts Done tells = ap make_line (sym (append-nil ts)) ∙ tells []
@@ -64,13 +66,15 @@ past place behind held [] less all = unfinished held.taken (front held)
 past place behind held (t ∷ rest) less all =
     let later = all.0 in
     and_left (go_on place held.taken (t ∷ rest)) (shape_from held.taken (front held) (t ∷ rest))
-    (and_left (t.place == place && t.taken == held.taken) _ (and_left (t.place == place) (t.taken == held.taken) (ne_eqb t.place place (λ same. absurd (omega arith)))))
+    (and_left (t.place == place && t.taken == held.taken) _
+    (and_left (t.place == place) (t.taken == held.taken) (ne_eqb t.place place (λ same. absurd (omega arith)))))
 
 pub from_later : (place behind : ℕ) (more : List Taking) → place ≤ behind → AllFrom behind more → AllFrom place more
 from_later place behind [] less all = tt
 from_later place behind (t ∷ rest) less all = let here = all.0 in (omega arith, from_later place behind rest less all.1)
 
-pub left-tells : (place behind : ℕ) (held after : QueueState) (ts : List Taking) (mark : LineMark) → place < behind → Tells place held ts mark → Tells behind after ts (left_mark mark)
+pub left-tells : (place behind : ℕ) (held after : QueueState) (ts : List Taking) (mark : LineMark) → place < behind →
+    Tells place held ts mark → Tells behind after ts (left_mark mark)
 left-tells place behind held after ts Fresh less tells = tells
 left-tells place behind held after ts Within less tells = λ more all. tells more ∙ past place behind held more less all
 left-tells place behind held after ts Done less tells = tells
@@ -78,11 +82,13 @@ left-tells place behind held after ts Spoilt less tells = λ more all. tells mor
 
 -- ---- nothing leaves
 
-same_shape : (taken : ℕ) (top other : Option Entry) (more : List Taking) → (0 < taken → other ≡ top) → shape_from taken top more ≡ shape_from taken other more
+same_shape : (taken : ℕ) (top other : Option Entry) (more : List Taking) → (0 < taken → other ≡ top) →
+    shape_from taken top more ≡ shape_from taken other more
 same_shape zero top other more same = refl
 same_shape (suc taken) top other more same = ap (λ (t : Option Entry). shape_from (suc taken) t more) (sym (same (omega arith)))
 
-pub kept-tells : (place : ℕ) (held after : QueueState) (ts : List Taking) (mark : LineMark) → after.taken ≡ held.taken → (0 < held.taken → front after ≡ front held) →
+pub kept-tells : (place : ℕ) (held after : QueueState) (ts : List Taking) (mark : LineMark) → after.taken ≡ held.taken →
+    (0 < held.taken → front after ≡ front held) →
     Tells place held ts mark → Tells place after ts mark
 kept-tells place held after ts Fresh count top tells = tells
 kept-tells place held after ts Within count top tells =
@@ -103,18 +109,22 @@ has_lanes Pixels = true
 has_lanes (End count) = true
 has_lanes Reserved = false
 
-end_alone : (place : ℕ) (more : List Taking) → (go_on place 0 more && ends_line (End 4) (entries_taken more) (is_ending (entries_taken more))) ≡ no_takings more
+end_alone : (place : ℕ) (more : List Taking) →
+    (go_on place 0 more && ends_line (End 4) (entries_taken more) (is_ending (entries_taken more))) ≡ no_takings more
 end_alone place [] = eq-eqb 0 0 refl
 end_alone place (t ∷ rest) = by_taken (t.taken == 0) refl
   where
     by_taken : (begins : Bool) → (t.taken == 0) ≡ begins →
         (go_on place 0 (t ∷ rest) && ends_line (End 4) (entries_taken (t ∷ rest)) (is_ending (entries_taken (t ∷ rest)))) ≡ false
     by_taken true is =
-        and_right (go_on place 0 (t ∷ rest)) _ (ap (λ (es : List Entry). ends_line (End 4) es (is_ending es)) (cond-true (t.taken == 0) (t.entry ∷ entries_taken rest) (entries_taken rest) is))
+        and_right (go_on place 0 (t ∷ rest)) _ (ap (λ (es : List Entry). ends_line (End 4) es (is_ending es))
+        (cond-true (t.taken == 0) (t.entry ∷ entries_taken rest) (entries_taken rest) is))
     by_taken false is =
-        and_left (go_on place 0 (t ∷ rest)) _ (and_left (t.place == place && t.taken == 0) _ (and_right (t.place == place) (t.taken == 0) is))
+        and_left (go_on place 0 (t ∷ rest)) _
+        (and_left (t.place == place && t.taken == 0) _ (and_right (t.place == place) (t.taken == 0) is))
 
-module _ (at place : ℕ) (held : QueueState) (entry : Entry) (count : ℕ) (there : front held ≡ Some entry) (some : 0 < held.taken + count) where
+module _ (at place : ℕ) (held : QueueState) (entry : Entry) (count : ℕ) (there : front held ≡ Some entry)
+    (some : 0 < held.taken + count) where
   abbrev pub taking : Taking
   taking = record { at = at; place = place; entry = entry; taken = held.taken; count = count }
 
@@ -127,42 +137,52 @@ module _ (at place : ℕ) (held : QueueState) (entry : Entry) (count : ℕ) (the
   abbrev goes_behind : Bool → List Taking → Bool
   goes_behind whole more = if whole then go_on (place + 1) 0 more else go_on place (held.taken + count) more
 
-  go_here : (more : List Taking) → go_on place held.taken (taking ∷ more) ≡ goes_behind (held.taken + count == valid_bytes entry.status) more
+  go_here : (more : List Taking) →
+      go_on place held.taken (taking ∷ more) ≡ goes_behind (held.taken + count == valid_bytes entry.status) more
   go_here more =
-      ap₂ (λ (p q : Bool). p && q && goes_behind (held.taken + count == valid_bytes entry.status) more) (eq-eqb place place refl) (eq-eqb held.taken held.taken refl)
+      ap₂ (λ (p q : Bool). p && q && goes_behind (held.taken + count == valid_bytes entry.status) more) (eq-eqb place place refl)
+      (eq-eqb held.taken held.taken refl)
 
-  shape_behind : (kind : StatusKind) (rest : List Entry) → has_lanes kind ≡ true → (kind ≡ Start → ⊥) → ends_line kind rest (is_ending rest) ≡ shape_after kind rest
+  shape_behind : (kind : StatusKind) (rest : List Entry) → has_lanes kind ≡ true → (kind ≡ Start → ⊥) →
+      ends_line kind rest (is_ending rest) ≡ shape_after kind rest
   shape_behind Start rest lanes begins = absurd (begins refl)
   shape_behind (Control code) rest lanes begins = refl
   shape_behind Pixels rest lanes begins = refl
   shape_behind (End count) rest lanes begins = refl
   shape_behind Reserved rest lanes begins = refl
 
-  shape_here : (taken : ℕ) (top : Option Entry) (more : List Taking) → held.taken ≡ taken → top ≡ Some entry → has_lanes (kind_of entry.status) ≡ true →
-      (taken ≡ 0 → kind_of entry.status ≡ Start → ⊥) → shape_from taken top (taking ∷ more) ≡ shape_after (kind_of entry.status) (entries_taken more)
+  shape_here : (taken : ℕ) (top : Option Entry) (more : List Taking) → held.taken ≡ taken → top ≡ Some entry →
+      has_lanes (kind_of entry.status) ≡ true →
+      (taken ≡ 0 → kind_of entry.status ≡ Start → ⊥) →
+      shape_from taken top (taking ∷ more) ≡ shape_after (kind_of entry.status) (entries_taken more)
   shape_here zero top more same is lanes begins =
       ap is_ending (cond-true (held.taken == 0) (entry ∷ entries_taken more) (entries_taken more) (eq-eqb held.taken 0 same))
       ∙ shape_behind (kind_of entry.status) (entries_taken more) lanes (begins refl)
   shape_here (suc taken) top more same is lanes begins =
       ap (λ (t : Option Entry). shape_from (suc taken) t (taking ∷ more)) is
-      ∙ ap (shape_after (kind_of entry.status)) (cond-false (held.taken == 0) (entry ∷ entries_taken more) (entries_taken more) (ne_eqb held.taken 0 (λ none. absurd (omega arith))))
+      ∙ ap (shape_after (kind_of entry.status))
+      (cond-false (held.taken == 0) (entry ∷ entries_taken more) (entries_taken more) (ne_eqb held.taken 0 (λ none. absurd (omega arith))))
 
   -- the takings go on behind this one
   abbrev GoesOn : List Taking → StatusKind → Bool → Type 0
-  GoesOn ts kind whole = (more : List Taking) → make_line (ts ++ taking ∷ more) ≡ (goes_behind whole more && shape_after kind (entries_taken more))
+  GoesOn ts kind whole =
+      (more : List Taking) → make_line (ts ++ taking ∷ more) ≡ (goes_behind whole more && shape_after kind (entries_taken more))
 
   regrouped : (ts more : List Taking) → make_line ((ts ++ taking ∷ []) ++ more) ≡ make_line (ts ++ taking ∷ more)
   regrouped ts more = ap make_line (append_assoc ts (taking ∷ []) more)
 
-  shape_positive : (taken : ℕ) (more : List Taking) → 0 < taken → shape_from taken (front held) more ≡ shape_after (kind_of entry.status) (entries_taken more)
+  shape_positive : (taken : ℕ) (more : List Taking) → 0 < taken →
+      shape_from taken (front held) more ≡ shape_after (kind_of entry.status) (entries_taken more)
   shape_positive zero more less = absurd (omega arith)
   shape_positive (suc taken) more less = ap (λ (t : Option Entry). shape_from (suc taken) t more) there
 
   part_of : (ts : List Taking) → GoesOn ts (kind_of entry.status) false → Tells place (held_after false) (ts ++ taking ∷ []) Within
   part_of ts on =
-      λ more. regrouped ts more ∙ on more ∙ ap (λ (shape : Bool). go_on place (held.taken + count) more && shape) (sym (shape_positive (held.taken + count) more some))
+      λ more. regrouped ts more ∙ on more
+      ∙ ap (λ (shape : Bool). go_on place (held.taken + count) more && shape) (sym (shape_positive (held.taken + count) more some))
 
-  whole_of : (ts : List Taking) (kind : StatusKind) → has_lanes kind ≡ true → GoesOn ts kind true → Tells (place + 1) (held_after true) (ts ++ taking ∷ []) (taken_mark (is_end kind) Within)
+  whole_of : (ts : List Taking) (kind : StatusKind) → has_lanes kind ≡ true → GoesOn ts kind true →
+      Tells (place + 1) (held_after true) (ts ++ taking ∷ []) (taken_mark (is_end kind) Within)
   whole_of ts Start lanes on = λ more. regrouped ts more ∙ on more
   whole_of ts (Control code) lanes on = cc
   whole_of ts Pixels lanes on = λ more. regrouped ts more ∙ on more
@@ -172,21 +192,26 @@ module _ (at place : ℕ) (held : QueueState) (entry : Entry) (count : ℕ) (the
   ended_if : (whole : Bool) (ts : List Taking) → has_lanes (kind_of entry.status) ≡ true → GoesOn ts (kind_of entry.status) whole →
       Tells (place_after whole) (held_after whole) (ts ++ taking ∷ []) (taken_mark (is_end (kind_of entry.status) && whole) Within)
   ended_if true ts lanes on =
-      subst (λ (ends : Bool). Tells (place + 1) (held_after true) (ts ++ taking ∷ []) (taken_mark ends Within)) (sym (and-true (is_end (kind_of entry.status))))
+      subst (λ (ends : Bool). Tells (place + 1) (held_after true) (ts ++ taking ∷ []) (taken_mark ends Within))
+      (sym (and-true (is_end (kind_of entry.status))))
       (whole_of ts (kind_of entry.status) lanes on)
   ended_if false ts lanes on =
-      subst (λ (ends : Bool). Tells place (held_after false) (ts ++ taking ∷ []) (taken_mark ends Within)) (sym (and-false (is_end (kind_of entry.status)))) (part_of ts on)
+      subst (λ (ends : Bool). Tells place (held_after false) (ts ++ taking ∷ []) (taken_mark ends Within))
+      (sym (and-false (is_end (kind_of entry.status)))) (part_of ts on)
 
   first_goes_on : (more : List Taking) → held.taken ≡ 0 → kind_of entry.status ≡ Start →
-      make_line (taking ∷ more) ≡ (goes_behind (held.taken + count == valid_bytes entry.status) more && shape_after (kind_of entry.status) (entries_taken more))
+      make_line (taking ∷ more)
+      ≡ (goes_behind (held.taken + count == valid_bytes entry.status) more && shape_after (kind_of entry.status) (entries_taken more))
   first_goes_on more none start =
       ap₂ (λ (a b : Bool). a && b) (ap (λ (taken : ℕ). go_on place taken (taking ∷ more)) (sym none) ∙ go_here more)
       (ap is_line (cond-true (held.taken == 0) (entry ∷ entries_taken more) (entries_taken more) (eq-eqb held.taken 0 none))
       ∙ ap (λ (kind : StatusKind). begins_line kind (is_ending (entries_taken more))) start
       ∙ ap (λ (kind : StatusKind). shape_after kind (entries_taken more)) (sym start))
 
-  within_goes_on : (ts more : List Taking) → has_lanes (kind_of entry.status) ≡ true → (held.taken ≡ 0 → kind_of entry.status ≡ Start → ⊥) → Tells place held ts Within →
-      make_line (ts ++ taking ∷ more) ≡ (goes_behind (held.taken + count == valid_bytes entry.status) more && shape_after (kind_of entry.status) (entries_taken more))
+  within_goes_on : (ts more : List Taking) → has_lanes (kind_of entry.status) ≡ true → (held.taken ≡ 0 → kind_of entry.status ≡ Start → ⊥) →
+      Tells place held ts Within →
+      make_line (ts ++ taking ∷ more)
+      ≡ (goes_behind (held.taken + count == valid_bytes entry.status) more && shape_after (kind_of entry.status) (entries_taken more))
   within_goes_on ts more lanes begins tells =
       tells (taking ∷ more) ∙ ap₂ (λ (a b : Bool). a && b) (go_here more) (shape_here held.taken (front held) more refl there lanes begins)
 
@@ -207,12 +232,15 @@ module _ (at place : ℕ) (held : QueueState) (entry : Entry) (count : ℕ) (the
   after_from false more all = all
 
   -- the mark that follows is true of what is taken of a front
-  pub taken-tells : (whole : Bool) (ts : List Taking) (mark : LineMark) → (held.taken + count == valid_bytes entry.status) ≡ whole → has_lanes (kind_of entry.status) ≡ true →
-      (mark ≡ Fresh → (held.taken ≡ 0) × (kind_of entry.status ≡ Start)) → ((mark ≡ Fresh → ⊥) → held.taken ≡ 0 → kind_of entry.status ≡ Start → ⊥) → Tells place held ts mark →
+  pub taken-tells : (whole : Bool) (ts : List Taking) (mark : LineMark) → (held.taken + count == valid_bytes entry.status) ≡ whole →
+      has_lanes (kind_of entry.status) ≡ true →
+      (mark ≡ Fresh → (held.taken ≡ 0) × (kind_of entry.status ≡ Start)) →
+      ((mark ≡ Fresh → ⊥) → held.taken ≡ 0 → kind_of entry.status ≡ Start → ⊥) → Tells place held ts mark →
       Tells (place_after whole) (held_after whole) (ts ++ taking ∷ []) (taken_mark (is_end (kind_of entry.status) && whole) mark)
   taken-tells whole ts Fresh is lanes first begins tells =
       let starts = first refl in
-      subst (λ (mark : LineMark). Tells (place_after whole) (held_after whole) (ts ++ taking ∷ []) mark) (sym (fresh_alike (is_end (kind_of entry.status) && whole)))
+      subst (λ (mark : LineMark). Tells (place_after whole) (held_after whole) (ts ++ taking ∷ []) mark)
+      (sym (fresh_alike (is_end (kind_of entry.status) && whole)))
       (ended_if whole ts lanes
       (λ more.
       ap (λ (some_taken : List Taking). make_line (some_taken ++ taking ∷ more)) tells ∙ first_goes_on more starts.0 starts.1
@@ -220,12 +248,15 @@ module _ (at place : ℕ) (held : QueueState) (entry : Entry) (count : ℕ) (the
   taken-tells whole ts Within is lanes first begins tells =
       ended_if whole ts lanes
       (λ more.
-      within_goes_on ts more lanes (begins (λ same. cc)) tells ∙ ap (λ (b : Bool). goes_behind b more && shape_after (kind_of entry.status) (entries_taken more)) is)
+      within_goes_on ts more lanes (begins (λ same. cc)) tells
+      ∙ ap (λ (b : Bool). goes_behind b more && shape_after (kind_of entry.status) (entries_taken more)) is)
   taken-tells whole ts Done is lanes first begins tells =
-      subst (λ (mark : LineMark). Tells (place_after whole) (held_after whole) (ts ++ taking ∷ []) mark) (sym (done_spoilt (is_end (kind_of entry.status) && whole)))
+      subst (λ (mark : LineMark). Tells (place_after whole) (held_after whole) (ts ++ taking ∷ []) mark)
+      (sym (done_spoilt (is_end (kind_of entry.status) && whole)))
       (λ more all. regrouped ts more ∙ tells (taking ∷ more))
   taken-tells whole ts Spoilt is lanes first begins tells =
-      subst (λ (mark : LineMark). Tells (place_after whole) (held_after whole) (ts ++ taking ∷ []) mark) (sym (spoilt_spoilt (is_end (kind_of entry.status) && whole)))
+      subst (λ (mark : LineMark). Tells (place_after whole) (held_after whole) (ts ++ taking ∷ []) mark)
+      (sym (spoilt_spoilt (is_end (kind_of entry.status) && whole)))
       (λ more all. regrouped ts more ∙ tells (taking ∷ more) (omega arith, after_from whole more all))
 
 -- ---- one turn's marks are those of its applications, one after the other
@@ -233,7 +264,8 @@ module _ (at place : ℕ) (held : QueueState) (entry : Entry) (count : ℕ) (the
 pub marks_follow : (took left ended took_later left_later ended_later : Bool) (mark : LineMark) →
     (took ≡ true → left ≡ false) → (took ≡ false → ended ≡ false) → (took_later ≡ false → ended_later ≡ false) →
     (ended ≡ true → (took_later ≡ false) × (left_later ≡ false)) → (left ≡ true → mark ≡ Fresh → ⊥) →
-    met_mark took_later left_later ended_later (met_mark took left ended mark) ≡ met_mark (took || took_later) (left || left_later) (ended || ended_later) mark
+    met_mark took_later left_later ended_later (met_mark took left ended mark)
+    ≡ met_mark (took || took_later) (left || left_later) (ended || ended_later) mark
 marks_follow true true ended tl ll el mark one two three four five = let no : true ≡ false = one refl in cc
 marks_follow true false true true ll el mark one two three four five = let no : true ≡ false = (four refl).0 in cc
 marks_follow true false true false true el mark one two three four five = let no : true ≡ false = (four refl).1 in cc

@@ -1,5 +1,6 @@
 -- Where the lines of a field are in its section.
-use Rattle.std.proofs.Common.{◌≡◌, ℕ, zero, suc, ◌+◌, ◌*◌, ◌<◌, ◌⊎◌, inl, inr, List, [], ◌∷◌, ◌++◌, append_assoc, length, map, replicate, true, false, Ok, Err, refl, sym, ap, ap₂, ◌∙◌, subst, arith}
+use Rattle.std.proofs.Common.{◌≡◌, ℕ, zero, suc, ◌+◌, ◌*◌, ◌<◌, ◌⊎◌, inl, inr, List, [], ◌∷◌, ◌++◌, append_assoc, length, map, replicate}
+use Rattle.std.proofs.Common.{true, false, Ok, Err, refl, sym, ap, ap₂, ◌∙◌, subst, arith}
 use Rattle.std.specs.List.{flat_map, range_with_len}
 use Rattle.std.proofs.lemmas.Grind.{flat_map-append}
 use Rattle.std.proofs.lemmas.List.{append-nil, map-append}
@@ -12,14 +13,16 @@ use Rattle.machine_model.specs.Paths.{RiscProgram, fetch}
 use Rattle.capture_desc.specs.declared.desc.Desc.{Desc}
 use Rattle.picture_model.specs.Described.{both, describes, field_height, layout_of, memory_of, picture_row, rows_of, vbi_skip}
 use Rattle.picture_model.specs.Plans.{Cut, Strip, piece_of, row_strip, skipped_strip, skipped_vbi_strip, vbi_strip}
-use Rattle.picture_model.specs.Programs.{body, compiled, data_code, instr_of, line_instrs, lines_instrs, section_begin, section_next, signal, sync, vbi_from, vbi_instrs, vbi_strips}
+use Rattle.picture_model.specs.Programs.{body, compiled, data_code, instr_of, line_instrs, lines_instrs, section_begin, section_next}
+use Rattle.picture_model.specs.Programs.{signal, sync, vbi_from, vbi_instrs, vbi_strips}
 use Rattle.picture_model.proofs.Each.{Each, each_append, each_map, each_range, each_replicate}
 use Rattle.picture_model.proofs.FaultlessGeometry.{IsRight}
 use Rattle.field_law.specs.Sections.{HoldsFrom, words_in}
 use Rattle.picture_law.proofs.Program.{section_holds}
 use Rattle.damage_law.specs.Marks.{addresses_from, before_rows, lines_from, row_addresses}
 use Rattle.damage_law.proofs.Pieces.{IsLineOf, IsPlace, Kind, OfVbi, OfSkippedVbi, OfSkipped, OfRow, PieceAt, cuts_on, strip_of}
-use Rattle.damage_map.proofs.Compiled.{line_parts, lines_append, lines_instrs_of, lines_split, parts_before, section_lines, vbi_parts_from, words_append}
+use Rattle.damage_map.proofs.Compiled.{line_parts, lines_append, lines_instrs_of, lines_split, parts_before, section_lines, vbi_parts_from}
+use Rattle.damage_map.proofs.Compiled.{words_append}
 use Rattle.damage_map.proofs.Sections.{Part, Await, instrs_of, lines_at}
 
 -- ---- lists
@@ -46,8 +49,11 @@ address_split x (i ∷ instrs) (a ∷ done) more here is =
     let there = later.4 in
     (i ∷ later.0, later.1, later.2, ap (λ (l : List Instr). i ∷ l) later.3, omega arith)
 
-pub holds_behind : (program : RiscProgram) (at : ℕ) (first later : List Instr) (ctl : Ctl) (to : ℕ) → HoldsFrom program at (first ++ later) ctl to → HoldsFrom program (at + 4 * words_in first) later ctl to
-holds_behind program at [] later ctl to holds = let same : at ≡ at + 4 * 0 = omega arith in subst (λ (n : ℕ). HoldsFrom program n later ctl to) same holds
+pub holds_behind : (program : RiscProgram) (at : ℕ) (first later : List Instr) (ctl : Ctl) (to : ℕ) →
+    HoldsFrom program at (first ++ later) ctl to → HoldsFrom program (at + 4 * words_in first) later ctl to
+holds_behind program at [] later ctl to holds =
+    let same : at ≡ at + 4 * 0 = omega arith in
+    subst (λ (n : ℕ). HoldsFrom program n later ctl to) same holds
 holds_behind program at (i ∷ first) later ctl to holds =
     let same : at + 4 * length (encoded i) + 4 * words_in first ≡ at + 4 * words_in (i ∷ first) = omega arith in
     subst (λ (n : ℕ). HoldsFrom program n later ctl to) same (holds_behind program (at + 4 * length (encoded i)) first later ctl to holds.3)
@@ -56,7 +62,8 @@ abbrev read_or : Instr → Reading → Instr
 read_or other (Ok (i, n)) = i
 read_or other (Err fault) = other
 
-pub instr_of_read : (i j : Instr) (n k : ℕ) (program : RiscProgram) (at : ℕ) → fetch program at ≡ Ok (i, n) → fetch program at ≡ Ok (j, k) → i ≡ j
+pub instr_of_read : (i j : Instr) (n k : ℕ) (program : RiscProgram) (at : ℕ) → fetch program at ≡ Ok (i, n) →
+    fetch program at ≡ Ok (j, k) → i ≡ j
 instr_of_read i j n k program at one two = ap (read_or i) (sym one ∙ two)
 
 module _ (d : Desc) (right : IsRight d) (field : Parity) (described : describes d.fields field ≡ true) where
@@ -88,7 +95,9 @@ module _ (d : Desc) (right : IsRight d) (field : Parity) (described : describes 
   begin_of (OfRow row) = rows_begin + 4 * words_to (λ n. line_of (OfRow n)) row
 
   abbrev pub words_before : Kind → List Cut → ℕ
-  words_before kind cuts = 4 * words_in (map (instr_of (strip_of d right field described kind).planar) (map (piece_of (memory_of d) (strip_of d right field described kind)) cuts))
+  words_before kind cuts =
+      4 * words_in (map (instr_of (strip_of d right field described kind).planar)
+      (map (piece_of (memory_of d) (strip_of d right field described kind)) cuts))
 
   abbrev pub PieceThere : ℕ → Instr → Type 0
   PieceThere a i = PieceAt d right field described begin_of words_before a i
@@ -99,24 +108,32 @@ module _ (d : Desc) (right : IsRight d) (field : Parity) (described : describes 
   IsBegin (OfVbi line) x = x ≡ begin_of (OfVbi line)
   IsBegin (OfRow row) x = x ≡ begin_of (OfRow row)
 
-  place_by : (kind : Kind) (x here : ℕ) (before : List Cut) → IsBegin kind x → here ≡ x + words_before kind before → IsPlace d right field described begin_of words_before kind here before
+  place_by : (kind : Kind) (x here : ℕ) (before : List Cut) → IsBegin kind x → here ≡ x + words_before kind before →
+      IsPlace d right field described begin_of words_before kind here before
   place_by OfSkippedVbi x here before begins is = tt
   place_by OfSkipped x here before begins is = tt
   place_by (OfVbi line) x here before begins is = is ∙ ap (λ (n : ℕ). n + words_before (OfVbi line) before) begins
   place_by (OfRow row) x here before begins is = is ∙ ap (λ (n : ℕ). n + words_before (OfRow row) before) begins
 
   -- an instruction of a line
-  pub on_line : (kind : Kind) (x : ℕ) (tail : List Instr) (ctl : Ctl) (to : ℕ) (done more : List ℕ) (here : ℕ) (instr : Instr) → IsOne kind → IsBegin kind x →
-      HoldsFrom (compiled d) x (line_of kind ++ tail) ctl to → addresses_from x (line_of kind) ≡ done ++ here ∷ more → fetch (compiled d) here ≡ Ok (instr, length (encoded instr)) → PieceThere here instr
+  pub on_line : (kind : Kind) (x : ℕ) (tail : List Instr) (ctl : Ctl) (to : ℕ) (done more : List ℕ) (here : ℕ) (instr : Instr) →
+      IsOne kind → IsBegin kind x →
+      HoldsFrom (compiled d) x (line_of kind ++ tail) ctl to → addresses_from x (line_of kind) ≡ done ++ here ∷ more →
+      fetch (compiled d) here ≡ Ok (instr, length (encoded instr)) → PieceThere here instr
   on_line kind x tail ctl to done more here instr within begins holds is read =
       let strip = strip_of d right field described kind in
       let at = address_split x (line_of kind) done more here is in
-      let pieces = map_split (instr_of strip.planar) (map (piece_of (memory_of d) strip) (cuts_on d right field described kind)) at.0 at.1 at.2 at.3 in
+      let pieces =
+      map_split (instr_of strip.planar) (map (piece_of (memory_of d) strip) (cuts_on d right field described kind)) at.0 at.1 at.2 at.3 in
       let cuts = map_split (piece_of (memory_of d) strip) (cuts_on d right field described kind) pieces.0 pieces.1 pieces.2 pieces.3 in
-      let pre : at.0 ≡ map (instr_of strip.planar) (map (piece_of (memory_of d) strip) cuts.0) = sym pieces.5 ∙ ap (map (instr_of strip.planar)) (sym cuts.5) in
+      let pre : at.0 ≡ map (instr_of strip.planar) (map (piece_of (memory_of d) strip) cuts.0) =
+      sym pieces.5 ∙ ap (map (instr_of strip.planar)) (sym cuts.5) in
       let there = holds_behind (compiled d) x at.0 (at.1 ∷ at.2 ++ tail) ctl to
-      (subst (λ (l : List Instr). HoldsFrom (compiled d) x l ctl to) (ap (λ (l : List Instr). l ++ tail) at.3 ∙ append_assoc at.0 (at.1 ∷ at.2) tail) holds) in
-      let same : instr ≡ at.1 = instr_of_read instr at.1 (length (encoded instr)) (length (encoded at.1)) (compiled d) here read (ap (fetch (compiled d)) at.4 ∙ there.0) in
+      (subst (λ (l : List Instr). HoldsFrom (compiled d) x l ctl to)
+      (ap (λ (l : List Instr). l ++ tail) at.3 ∙ append_assoc at.0 (at.1 ∷ at.2) tail) holds) in
+      let same : instr ≡ at.1 =
+      instr_of_read instr at.1 (length (encoded instr)) (length (encoded at.1)) (compiled d) here read
+      (ap (fetch (compiled d)) at.4 ∙ there.0) in
       record {
         kind = kind;
         within = within;
@@ -137,8 +154,10 @@ module _ (d : Desc) (right : IsRight d) (field : Parity) (described : describes 
   abbrev pub lines_of : List Kind → List Instr
   lines_of kinds = flat_map line_of kinds
 
-  on_lines : (kinds : List Kind) (x : ℕ) (tail : List Instr) (ctl : Ctl) (to : ℕ) (lines later : List (List ℕ)) (done more : List ℕ) (here : ℕ) (instr : Instr) → Each IsOne kinds → BeginAt x kinds →
-      HoldsFrom (compiled d) x (lines_of kinds ++ tail) ctl to → lines_from x (map line_of kinds) ≡ lines ++ (done ++ here ∷ more) ∷ later → fetch (compiled d) here ≡ Ok (instr, length (encoded instr)) → PieceThere here instr
+  on_lines : (kinds : List Kind) (x : ℕ) (tail : List Instr) (ctl : Ctl) (to : ℕ) (lines later : List (List ℕ)) (done more : List ℕ)
+      (here : ℕ) (instr : Instr) → Each IsOne kinds → BeginAt x kinds →
+      HoldsFrom (compiled d) x (lines_of kinds ++ tail) ctl to → lines_from x (map line_of kinds) ≡ lines ++ (done ++ here ∷ more) ∷ later →
+      fetch (compiled d) here ≡ Ok (instr, length (encoded instr)) → PieceThere here instr
   on_lines [] x tail ctl to [] later done more here instr each begins holds is read = cc
   on_lines [] x tail ctl to (line ∷ lines) later done more here instr each begins holds is read = cc
   on_lines (kind ∷ kinds) x tail ctl to [] later done more here instr each begins holds is read =
@@ -160,8 +179,13 @@ module _ (d : Desc) (right : IsRight d) (field : Parity) (described : describes 
   rows_begin_at n zero = tt
   rows_begin_at n (suc count) =
       let next : suc n ≡ n + 1 = omega arith in
-      let there : rows_begin + 4 * words_to (λ k. line_of (OfRow k)) (suc n) ≡ rows_begin + 4 * words_to (λ k. line_of (OfRow k)) n + 4 * words_in (line_of (OfRow n)) = omega arith in
-      (refl, subst (λ (x : ℕ). BeginAt x (rows_from (n + 1) count)) there (subst (λ (k : ℕ). BeginAt (rows_begin + 4 * words_to (λ k. line_of (OfRow k)) k) (rows_from (n + 1) count)) (sym next) (rows_begin_at (n + 1) count)))
+      let there : rows_begin + 4 * words_to (λ k. line_of (OfRow k)) (suc n)
+      ≡ rows_begin + 4 * words_to (λ k. line_of (OfRow k)) n + 4 * words_in (line_of (OfRow n)) = omega arith in (
+        refl,
+        subst (λ (x : ℕ). BeginAt x (rows_from (n + 1) count)) there
+            (subst (λ (k : ℕ). BeginAt (rows_begin + 4 * words_to (λ k. line_of (OfRow k)) k) (rows_from (n + 1) count)) (sym next)
+            (rows_begin_at (n + 1) count)),
+      )
 
   abbrev vbi_from_line : ℕ → ℕ → List Kind
   vbi_from_line n count = map OfVbi (range_with_len n count)
@@ -170,19 +194,27 @@ module _ (d : Desc) (right : IsRight d) (field : Parity) (described : describes 
   vbi_begin_at n zero = tt
   vbi_begin_at n (suc count) =
       let next : suc n ≡ n + 1 = omega arith in
-      let there : vbi_begin + 4 * words_to (λ k. line_of (OfVbi k)) (suc n) ≡ vbi_begin + 4 * words_to (λ k. line_of (OfVbi k)) n + 4 * words_in (line_of (OfVbi n)) = omega arith in
-      (refl, subst (λ (x : ℕ). BeginAt x (vbi_from_line (n + 1) count)) there (subst (λ (k : ℕ). BeginAt (vbi_begin + 4 * words_to (λ k. line_of (OfVbi k)) k) (vbi_from_line (n + 1) count)) (sym next) (vbi_begin_at (n + 1) count)))
+      let there : vbi_begin + 4 * words_to (λ k. line_of (OfVbi k)) (suc n)
+      ≡ vbi_begin + 4 * words_to (λ k. line_of (OfVbi k)) n + 4 * words_in (line_of (OfVbi n)) = omega arith in (
+        refl,
+        subst (λ (x : ℕ). BeginAt x (vbi_from_line (n + 1) count)) there
+            (subst (λ (k : ℕ). BeginAt (vbi_begin + 4 * words_to (λ k. line_of (OfVbi k)) k) (vbi_from_line (n + 1) count)) (sym next)
+            (vbi_begin_at (n + 1) count)),
+      )
 
   skipped_begin_at : (x count : ℕ) → BeginAt x (replicate count OfSkipped)
   skipped_begin_at x zero = tt
   skipped_begin_at x (suc count) = (tt, skipped_begin_at (x + 4 * words_in (line_of OfSkipped)) count)
 
-  skipped_vbi_begin_at : (x count : ℕ) (rest : List Kind) → BeginAt (x + 4 * words_in (lines_instrs d (replicate count (skipped_vbi_strip d)))) rest → BeginAt x (replicate count OfSkippedVbi ++ rest)
+  skipped_vbi_begin_at : (x count : ℕ) (rest : List Kind) →
+      BeginAt (x + 4 * words_in (lines_instrs d (replicate count (skipped_vbi_strip d)))) rest →
+      BeginAt x (replicate count OfSkippedVbi ++ rest)
   skipped_vbi_begin_at x zero rest begins = let same : x + 4 * 0 ≡ x = omega arith in subst (λ (n : ℕ). BeginAt n rest) same begins
   skipped_vbi_begin_at x (suc count) rest begins =
       let more = lines_instrs d (replicate count (skipped_vbi_strip d)) in
       let words = words_append d (line_of OfSkippedVbi) more in
-      let there : x + 4 * words_in (line_of OfSkippedVbi ++ more) ≡ x + 4 * words_in (line_of OfSkippedVbi) + 4 * words_in more = omega arith in
+      let there : x + 4 * words_in (line_of OfSkippedVbi ++ more) ≡ x + 4 * words_in (line_of OfSkippedVbi) + 4 * words_in more =
+      omega arith in
       (tt, skipped_vbi_begin_at (x + 4 * words_in (line_of OfSkippedVbi)) count rest (subst (λ (n : ℕ). BeginAt n rest) there begins))
 
 -- ---- lists of lines
@@ -205,14 +237,17 @@ append_member (x ∷ xs) ys (l ∷ lines) line later is =
 
 parts_lines : (d : Desc) (strips : List Strip) (x : ℕ) → lines_at x (line_parts d strips) ≡ lines_from x (map (line_instrs d) strips)
 parts_lines d [] x = refl
-parts_lines d (strip ∷ strips) x = ap (λ (ls : List (List ℕ)). addresses_from x (line_instrs d strip) ∷ ls) (parts_lines d strips (x + 4 * words_in (line_instrs d strip)))
+parts_lines d (strip ∷ strips) x =
+    ap (λ (ls : List (List ℕ)). addresses_from x (line_instrs d strip) ∷ ls) (parts_lines d strips (x + 4 * words_in (line_instrs d strip)))
 
 module _ (d : Desc) (right : IsRight d) (field : Parity) (described : describes d.fields field ≡ true) (kind : Kind) where
-  map_replicate : (count : ℕ) → map (line_of d right field described) (replicate count kind) ≡ map (line_instrs d) (replicate count (strip_of d right field described kind))
+  map_replicate : (count : ℕ) → map (line_of d right field described) (replicate count kind)
+      ≡ map (line_instrs d) (replicate count (strip_of d right field described kind))
   map_replicate zero = refl
   map_replicate (suc count) = ap (λ (ls : List (List Instr)). line_of d right field described kind ∷ ls) (map_replicate count)
 
-  flat_replicate : (count : ℕ) → lines_instrs d (replicate count (strip_of d right field described kind)) ≡ lines_of d right field described (replicate count kind)
+  flat_replicate : (count : ℕ) →
+      lines_instrs d (replicate count (strip_of d right field described kind)) ≡ lines_of d right field described (replicate count kind)
   flat_replicate zero = refl
   flat_replicate (suc count) = ap (λ (is : List Instr). line_of d right field described kind ++ is) (flat_replicate count)
 
@@ -236,7 +271,8 @@ module _ (d : Desc) (right : IsRight d) (field : Parity) (described : describes 
 
   rows_flat : lines_instrs d (map (row_strip d) (rows_of d field)) ≡ lines_of d right field described row_kinds
   rows_flat =
-      lines_by (line_instrs d) (row_strip d) (rows_of d field) ∙ lines_by (λ row. line_instrs d (row_strip d row)) (picture_row (both d) field) (range_with_len 0 (field_height d field))
+      lines_by (line_instrs d) (row_strip d) (rows_of d field)
+      ∙ lines_by (λ row. line_instrs d (row_strip d row)) (picture_row (both d) field) (range_with_len 0 (field_height d field))
       ∙ sym (lines_by (line_of d right field described) OfRow (range_with_len 0 (field_height d field)))
 
   pub rows_map : map (λ row. line_instrs d (row_strip d row)) (rows_of d field) ≡ map (line_of d right field described) row_kinds
@@ -245,50 +281,68 @@ module _ (d : Desc) (right : IsRight d) (field : Parity) (described : describes 
       ∙ sym (map-map (line_of d right field described) OfRow (range_with_len 0 (field_height d field)))
 
   -- what is behind the opening
-  body_split : body d field ≡ (vbi_instrs d field ++ code_sync ∷ lines_instrs d (replicate d.skip_lines (skipped_strip d))) ++ lines_of d right field described row_kinds
+  body_split : body d field ≡ (vbi_instrs d field ++ code_sync ∷ lines_instrs d (replicate d.skip_lines (skipped_strip d)))
+      ++ lines_of d right field described row_kinds
   body_split =
-      ap (λ (is : List Instr). vbi_instrs d field ++ code_sync ∷ is) (flat_map-append (line_instrs d) (replicate d.skip_lines (skipped_strip d)) (map (row_strip d) (rows_of d field)))
-      ∙ ap (λ (is : List Instr). vbi_instrs d field ++ code_sync ∷ (lines_instrs d (replicate d.skip_lines (skipped_strip d)) ++ is)) rows_flat
-      ∙ sym (append_assoc (vbi_instrs d field) (code_sync ∷ lines_instrs d (replicate d.skip_lines (skipped_strip d))) (lines_of d right field described row_kinds))
+      ap (λ (is : List Instr). vbi_instrs d field ++ code_sync ∷ is)
+      (flat_map-append (line_instrs d) (replicate d.skip_lines (skipped_strip d)) (map (row_strip d) (rows_of d field)))
+      ∙ ap
+      (λ (is : List Instr). vbi_instrs d field ++ code_sync ∷ (lines_instrs d (replicate d.skip_lines (skipped_strip d)) ++ is)) rows_flat
+      ∙ sym (append_assoc (vbi_instrs d field) (code_sync ∷ lines_instrs d (replicate d.skip_lines (skipped_strip d)))
+      (lines_of d right field described row_kinds))
 
-  pub rows_hold : HoldsFrom (compiled d) (rows_begin d right field described) (lines_of d right field described row_kinds ++ []) (signal field) to
+  pub rows_hold : HoldsFrom (compiled d) (rows_begin d right field described) (lines_of d right field described row_kinds ++ [])
+      (signal field) to
   rows_hold =
       let first = vbi_instrs d field ++ code_sync ∷ lines_instrs d (replicate d.skip_lines (skipped_strip d)) in
       let there : begin + 8 + 4 * words_in first ≡ rows_begin d right field described = omega arith in
-      subst (λ (is : List Instr). HoldsFrom (compiled d) (rows_begin d right field described) is (signal field) to) (sym (append-nil (lines_of d right field described row_kinds)))
+      subst (λ (is : List Instr). HoldsFrom (compiled d) (rows_begin d right field described) is (signal field) to)
+      (sym (append-nil (lines_of d right field described row_kinds)))
       (subst (λ (x : ℕ). HoldsFrom (compiled d) x (lines_of d right field described row_kinds) (signal field) to) there
       (holds_behind (compiled d) (begin + 8) first (lines_of d right field described row_kinds) (signal field) to
-      (subst (λ (is : List Instr). HoldsFrom (compiled d) (begin + 8) is (signal field) to) body_split (section_holds d field right described))))
+      (subst (λ (is : List Instr). HoldsFrom (compiled d) (begin + 8) is (signal field) to) body_split
+      (section_holds d field right described))))
 
-  in_rows : (lines later : List (List ℕ)) (done more : List ℕ) (here : ℕ) (instr : Instr) → row_addresses d field ≡ lines ++ (done ++ here ∷ more) ∷ later →
+  in_rows : (lines later : List (List ℕ)) (done more : List ℕ) (here : ℕ) (instr : Instr) →
+      row_addresses d field ≡ lines ++ (done ++ here ∷ more) ∷ later →
       fetch (compiled d) here ≡ Ok (instr, length (encoded instr)) → PieceThere d right field described here instr
   in_rows lines later done more here instr is read =
       let start : rows_begin d right field described + 4 * 0 ≡ rows_begin d right field described = omega arith in
       on_lines d right field described row_kinds (rows_begin d right field described) [] (signal field) to lines later done more here instr
-      (each_map (λ k. k < field_height d field) (IsLineOf d right field described) OfRow (range_with_len 0 (field_height d field)) (λ k less. less) (each_range 0 (field_height d field) (field_height d field) (omega arith)))
-      (subst (λ (x : ℕ). BeginAt d right field described x row_kinds) start (rows_begin_at d right field described 0 (field_height d field)))
+      (each_map (λ k. k < field_height d field) (IsLineOf d right field described) OfRow (range_with_len 0 (field_height d field))
+      (λ k less. less) (each_range 0 (field_height d field) (field_height d field) (omega arith)))
+      (subst (λ (x : ℕ). BeginAt d right field described x row_kinds) start
+      (rows_begin_at d right field described 0 (field_height d field)))
       rows_hold (ap (lines_from (rows_begin d right field described)) (sym rows_map) ∙ is) read
 
   -- ---- the lines before them
 
   abbrev behind_vbi : List Instr
-  behind_vbi = code_sync ∷ (lines_instrs d (replicate d.skip_lines (skipped_strip d)) ++ lines_instrs d (map (row_strip d) (rows_of d field)))
+  behind_vbi =
+      code_sync ∷ (lines_instrs d (replicate d.skip_lines (skipped_strip d)) ++ lines_instrs d (map (row_strip d) (rows_of d field)))
 
   body_holds : HoldsFrom (compiled d) (begin + 8) (vbi_instrs d field ++ behind_vbi) (signal field) to
   body_holds =
       subst (λ (is : List Instr). HoldsFrom (compiled d) (begin + 8) (vbi_instrs d field ++ code_sync ∷ is) (signal field) to)
-      (flat_map-append (line_instrs d) (replicate d.skip_lines (skipped_strip d)) (map (row_strip d) (rows_of d field))) (section_holds d field right described)
+      (flat_map-append (line_instrs d) (replicate d.skip_lines (skipped_strip d)) (map (row_strip d) (rows_of d field)))
+      (section_holds d field right described)
 
   abbrev skipped_parts : List Part
   skipped_parts = line_parts d (replicate d.skip_lines (skipped_strip d))
 
-  in_skipped : (x : ℕ) (lines later : List (List ℕ)) (done more : List ℕ) (here : ℕ) (instr : Instr) → HoldsFrom (compiled d) x behind_vbi (signal field) to →
-      lines_at x (Await (data_code (layout_of d).planar) ∷ skipped_parts) ≡ lines ++ (done ++ here ∷ more) ∷ later → fetch (compiled d) here ≡ Ok (instr, length (encoded instr)) → PieceThere d right field described here instr
+  in_skipped : (x : ℕ) (lines later : List (List ℕ)) (done more : List ℕ) (here : ℕ) (instr : Instr) →
+      HoldsFrom (compiled d) x behind_vbi (signal field) to →
+      lines_at x (Await (data_code (layout_of d).planar) ∷ skipped_parts) ≡ lines ++ (done ++ here ∷ more) ∷ later →
+      fetch (compiled d) here ≡ Ok (instr, length (encoded instr)) → PieceThere d right field described here instr
   in_skipped x lines later done more here instr holds is read =
-      on_lines d right field described skipped_kinds (x + 8) (lines_instrs d (map (row_strip d) (rows_of d field))) (signal field) to lines later done more here instr
-      (each_replicate (IsLineOf d right field described) d.skip_lines OfSkipped tt) (skipped_begin_at d right field described (x + 8) d.skip_lines)
-      (subst (λ (is : List Instr). HoldsFrom (compiled d) (x + 8) (is ++ lines_instrs d (map (row_strip d) (rows_of d field))) (signal field) to) (flat_replicate d right field described OfSkipped d.skip_lines) holds.3)
-      (ap (lines_from (x + 8)) (map_replicate d right field described OfSkipped d.skip_lines) ∙ sym (parts_lines d (replicate d.skip_lines (skipped_strip d)) (x + 8)) ∙ is) read
+      on_lines d right field described skipped_kinds (x + 8) (lines_instrs d (map (row_strip d) (rows_of d field)))
+      (signal field) to lines later done more here instr
+      (each_replicate (IsLineOf d right field described) d.skip_lines OfSkipped tt)
+      (skipped_begin_at d right field described (x + 8) d.skip_lines)
+      (subst (λ (is : List Instr). HoldsFrom (compiled d) (x + 8) (is ++ lines_instrs d (map (row_strip d) (rows_of d field)))
+      (signal field) to) (flat_replicate d right field described OfSkipped d.skip_lines) holds.3)
+      (ap (lines_from (x + 8)) (map_replicate d right field described OfSkipped d.skip_lines)
+      ∙ sym (parts_lines d (replicate d.skip_lines (skipped_strip d)) (x + 8)) ∙ is) read
 
   abbrev skipped_vbi_kinds : List Kind
   skipped_vbi_kinds = replicate (vbi_skip d field) OfSkippedVbi
@@ -309,29 +363,36 @@ module _ (d : Desc) (right : IsRight d) (field : Parity) (described : describes 
   vbi_flat =
       flat_map-append (line_instrs d) skipped_vbi_strips kept_vbi_strips
       ∙ ap₂ (λ (xs ys : List Instr). xs ++ ys) (flat_replicate d right field described OfSkippedVbi (vbi_skip d field))
-      (lines_by (line_instrs d) (vbi_strip d field) (range_with_len 0 d.vbi_lines) ∙ sym (lines_by (line_of d right field described) OfVbi (range_with_len 0 d.vbi_lines)))
+      (lines_by (line_instrs d) (vbi_strip d field) (range_with_len 0 d.vbi_lines)
+      ∙ sym (lines_by (line_of d right field described) OfVbi (range_with_len 0 d.vbi_lines)))
       ∙ sym (flat_map-append (line_of d right field described) skipped_vbi_kinds kept_vbi_kinds)
 
   vbi_map : map (line_instrs d) (vbi_strips d field) ≡ map (line_of d right field described) vbi_kinds
   vbi_map =
       map-append (line_instrs d) skipped_vbi_strips kept_vbi_strips
       ∙ ap₂ (λ (xs ys : List (List Instr)). xs ++ ys) (sym (map_replicate d right field described OfSkippedVbi (vbi_skip d field)))
-      (map-map (line_instrs d) (vbi_strip d field) (range_with_len 0 d.vbi_lines) ∙ sym (map-map (line_of d right field described) OfVbi (range_with_len 0 d.vbi_lines)))
+      (map-map (line_instrs d) (vbi_strip d field) (range_with_len 0 d.vbi_lines)
+      ∙ sym (map-map (line_of d right field described) OfVbi (range_with_len 0 d.vbi_lines)))
       ∙ sym (map-append (line_of d right field described) skipped_vbi_kinds kept_vbi_kinds)
 
   vbi_are_lines : Each (IsLineOf d right field described) vbi_kinds
   vbi_are_lines =
-      each_append (IsLineOf d right field described) skipped_vbi_kinds kept_vbi_kinds (each_replicate (IsLineOf d right field described) (vbi_skip d field) OfSkippedVbi tt)
-      (each_map (λ k. k < d.vbi_lines) (IsLineOf d right field described) OfVbi (range_with_len 0 d.vbi_lines) (λ k less. less) (each_range 0 d.vbi_lines d.vbi_lines (omega arith)))
+      each_append (IsLineOf d right field described) skipped_vbi_kinds kept_vbi_kinds
+      (each_replicate (IsLineOf d right field described) (vbi_skip d field) OfSkippedVbi tt)
+      (each_map (λ k. k < d.vbi_lines) (IsLineOf d right field described) OfVbi (range_with_len 0 d.vbi_lines) (λ k less. less)
+      (each_range 0 d.vbi_lines d.vbi_lines (omega arith)))
 
   vbi_begin_there : BeginAt d right field described (begin + 16) vbi_kinds
   vbi_begin_there =
-      let start : vbi_begin d right field described + 4 * 0 ≡ begin + 16 + 4 * words_in (skipped_vbi_instrs d right field described) = omega arith in
+      let start : vbi_begin d right field described + 4 * 0 ≡ begin + 16 + 4 * words_in (skipped_vbi_instrs d right field described) =
+      omega arith in
       skipped_vbi_begin_at d right field described (begin + 16) (vbi_skip d field) kept_vbi_kinds
       (subst (λ (at : ℕ). BeginAt d right field described at kept_vbi_kinds) start (vbi_begin_at d right field described 0 d.vbi_lines))
 
-  in_before : (n : ℕ) (lines later : List (List ℕ)) (done more : List ℕ) (here : ℕ) (instr : Instr) → HoldsFrom (compiled d) (begin + 8) (vbi_from n d field ++ behind_vbi) (signal field) to →
-      lines_at (begin + 8) (vbi_parts_from d n field ++ Await (data_code (layout_of d).planar) ∷ skipped_parts) ≡ lines ++ (done ++ here ∷ more) ∷ later → fetch (compiled d) here ≡ Ok (instr, length (encoded instr)) →
+  in_before : (n : ℕ) (lines later : List (List ℕ)) (done more : List ℕ) (here : ℕ) (instr : Instr) →
+      HoldsFrom (compiled d) (begin + 8) (vbi_from n d field ++ behind_vbi) (signal field) to →
+      lines_at (begin + 8) (vbi_parts_from d n field ++ Await (data_code (layout_of d).planar) ∷ skipped_parts)
+      ≡ lines ++ (done ++ here ∷ more) ∷ later → fetch (compiled d) here ≡ Ok (instr, length (encoded instr)) →
       PieceThere d right field described here instr
   in_before zero lines later done more here instr holds is read = in_skipped (begin + 8) lines later done more here instr holds is read
   in_before (suc n) lines later done more here instr holds is read =
@@ -341,24 +402,29 @@ module _ (d : Desc) (right : IsRight d) (field : Parity) (described : describes 
       let there : begin + 8 + 8 ≡ x = omega arith in
       let behind : HoldsFrom (compiled d) x (lines_instrs d (vbi_strips d field) ++ behind_vbi) (signal field) to =
       subst (λ (at : ℕ). HoldsFrom (compiled d) at (lines_instrs d (vbi_strips d field) ++ behind_vbi) (signal field) to) there holds.3 in
-      let both : lines_at x first ++ lines_at (x + 4 * words_in (instrs_of first)) (code ∷ skipped_parts) ≡ lines ++ (done ++ here ∷ more) ∷ later =
+      let both : lines_at x first ++ lines_at (x + 4 * words_in (instrs_of first)) (code ∷ skipped_parts)
+      ≡ lines ++ (done ++ here ∷ more) ∷ later =
       sym (lines_append d first (code ∷ skipped_parts) x) ∙ ap (λ (at : ℕ). lines_at at (first ++ code ∷ skipped_parts)) (sym there) ∙ is in
-      elim (append_member (lines_at x first) (lines_at (x + 4 * words_in (instrs_of first)) (code ∷ skipped_parts)) lines (done ++ here ∷ more) later both) [
+      elim (append_member (lines_at x first) (lines_at (x + 4 * words_in (instrs_of first)) (code ∷ skipped_parts)) lines
+      (done ++ here ∷ more) later both) [
         | inl found ↦ on_lines d right field described vbi_kinds x behind_vbi (signal field) to lines found.0 done more here instr
             vbi_are_lines vbi_begin_there
             (subst (λ (is : List Instr). HoldsFrom (compiled d) x (is ++ behind_vbi) (signal field) to) vbi_flat behind)
             (ap (lines_from x) (sym vbi_map) ∙ sym (parts_lines d (vbi_strips d field) x) ∙ found.1) read
         | inr found ↦ in_skipped (x + 4 * words_in (instrs_of first)) found.0 later done more here instr
-            (subst (λ (is : List Instr). HoldsFrom (compiled d) (x + 4 * words_in is) behind_vbi (signal field) to) (sym (lines_instrs_of d (vbi_strips d field)))
+            (subst (λ (is : List Instr). HoldsFrom (compiled d) (x + 4 * words_in is) behind_vbi (signal field) to)
+            (sym (lines_instrs_of d (vbi_strips d field)))
             (holds_behind (compiled d) x (lines_instrs d (vbi_strips d field)) behind_vbi (signal field) to behind))
             found.1 read
       ]
 
   -- an instruction whose address is among those of the section's lines
-  pub piece_there : (lines later : List (List ℕ)) (done more : List ℕ) (here : ℕ) (instr : Instr) → section_lines d field ≡ lines ++ (done ++ here ∷ more) ∷ later →
+  pub piece_there : (lines later : List (List ℕ)) (done more : List ℕ) (here : ℕ) (instr : Instr) →
+      section_lines d field ≡ lines ++ (done ++ here ∷ more) ∷ later →
       fetch (compiled d) here ≡ Ok (instr, length (encoded instr)) → PieceThere d right field described here instr
   piece_there lines later done more here instr is read =
-      elim (append_member (lines_at (begin + 8) (parts_before d field)) (row_addresses d field) lines (done ++ here ∷ more) later (sym (lines_split d field) ∙ is)) [
+      elim (append_member (lines_at (begin + 8) (parts_before d field)) (row_addresses d field) lines (done ++ here ∷ more) later
+      (sym (lines_split d field) ∙ is)) [
         | inl found ↦ in_before d.vbi_lines lines found.0 done more here instr body_holds found.1 read
         | inr found ↦ in_rows found.0 later done more here instr found.1 read
       ]

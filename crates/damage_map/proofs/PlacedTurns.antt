@@ -1,5 +1,6 @@
 -- Within a section memory keeps the bytes that the section's instructions took.
-use Rattle.std.proofs.Common.{◌≡◌, ℕ, zero, suc, ◌+◌, ◌-◌, ◌*◌, ◌≤◌, Bool, true, false, ◌==◌, List, [], ◌∷◌, ◌++◌, length, Option, Some, None, option_map, if◌then◌else◌, refl, sym, ap, ◌∙◌, subst, arith}
+use Rattle.std.proofs.Common.{◌≡◌, ℕ, zero, suc, ◌+◌, ◌-◌, ◌*◌, ◌≤◌, Bool, true, false, ◌==◌, List, [], ◌∷◌, ◌++◌, length, Option, Some}
+use Rattle.std.proofs.Common.{None, option_map, if◌then◌else◌, refl, sym, ap, ◌∙◌, subst, arith}
 use Rattle.std.proofs.lemmas.Bool.{cond-false, ne_eqb, or_from}
 use Rattle.risc_word.specs.declared.Instr.{Instr}
 use Rattle.risc_word.specs.declared.Instr.TheVariants.{Write, Skip, WriteC, Jump, Sync, Write123, Skip123, Write1S23}
@@ -23,7 +24,8 @@ use Rattle.machine_model.specs.Paths.{demands_of}
 use Rattle.risc_word.specs.Parts.{instr_off}
 use Rattle.machine_model.specs.Seen.{Application, address_before, application}
 use Rattle.machine_model.specs.States.{State}
-use Rattle.machine_model.specs.Turns.{apply, apply_in, begun_with, burst, counted, data_fetched, demand_on, ended, instr_fetched, is_cut_short, judged, served, took, verdict_at}
+use Rattle.machine_model.specs.Turns.{apply, apply_in, begun_with, burst, counted, data_fetched, demand_on, ended, instr_fetched}
+use Rattle.machine_model.specs.Turns.{is_cut_short, judged, served, took, verdict_at}
 use Rattle.capture_desc.specs.declared.desc.Desc.{Desc}
 use Rattle.picture_model.specs.Described.{describes}
 use Rattle.picture_model.specs.Programs.{compiled}
@@ -42,7 +44,8 @@ use Rattle.damage_map.proofs.Sections.{Past, TakenBelow, none_yet, taken_more, t
 pub burst_ats : (q : Queue) (at n place : ℕ) (m : State) → Each (λ t. t.at ≡ at) (burst_takings n q at place m)
 burst_ats q at zero place m = tt
 burst_ats q at (suc n) place m =
-    each_append (λ t. t.at ≡ at) (takings_of at place (application q m)) (elim (apply q m) as (λ _. List Taking) [ None ↦ [] | Some after ↦ burst_takings n q at (place + left q m after) after ])
+    each_append (λ t. t.at ≡ at) (takings_of at place (application q m))
+    (elim (apply q m) as (λ _. List Taking) [ None ↦ [] | Some after ↦ burst_takings n q at (place + left q m after) after ])
     (made_ats (application q m)) (next_ats (apply q m) (λ after. burst_ats q at n (place + left q m after) after))
   where
     by_verdict : (v : Verdict) (a : Application) → Each (λ t. t.at ≡ at) (taking_by v at place a)
@@ -56,7 +59,8 @@ burst_ats q at (suc n) place m =
     made_ats (a ∷ made) = each_append (λ t. t.at ≡ at) _ (takings_of at place made) (by_verdict _ a) (made_ats made)
 
     next_ats : (next : Option State) → ((after : State) → Each (λ t. t.at ≡ at) (burst_takings n q at (place + left q m after) after)) →
-        Each (λ t. t.at ≡ at) (elim next as (λ _. List Taking) [ None ↦ [] | Some after ↦ burst_takings n q at (place + left q m after) after ])
+        Each (λ t. t.at ≡ at)
+        (elim next as (λ _. List Taking) [ None ↦ [] | Some after ↦ burst_takings n q at (place + left q m after) after ])
     next_ats None on = tt
     next_ats (Some after) on = on after
 
@@ -91,7 +95,8 @@ pub burst_pc : (n : ℕ) (q : Queue) (m : State) → (burst n q m).pc ≡ m.pc
 burst_pc zero q m = refl
 burst_pc (suc n) q m = by_next (apply q m) (applied_pc m.job q m) (burst_pc n q)
   where
-    by_next : (next : Option State) → PcAfter m next → ((after : State) → (burst n q after).pc ≡ after.pc) → (elim next as (λ _. State) [ None ↦ m | Some after ↦ burst n q after ]).pc ≡ m.pc
+    by_next : (next : Option State) → PcAfter m next → ((after : State) → (burst n q after).pc ≡ after.pc) →
+        (elim next as (λ _. State) [ None ↦ m | Some after ↦ burst n q after ]).pc ≡ m.pc
     by_next None same on = refl
     by_next (Some after) same on = on after ∙ same
 
@@ -113,26 +118,33 @@ Sorted (t ∷ rest) = Each (λ u. t.at ≤ u.at) rest × Sorted rest
 
 sorted_at : (here : ℕ) (new : List Taking) → Each (λ t. t.at ≡ here) new → Sorted new
 sorted_at here [] at = tt
-sorted_at here (t ∷ new) at = (each_only (λ u. u.at ≡ here) (λ u. t.at ≤ u.at) new (λ u same. let first = at.0 in omega arith) at.1, sorted_at here new at.1)
+sorted_at here (t ∷ new) at =
+    (each_only (λ u. u.at ≡ here) (λ u. t.at ≤ u.at) new (λ u same. let first = at.0 in omega arith) at.1, sorted_at here new at.1)
 
-pub sorted_more : (here : ℕ) (ts new : List Taking) → Sorted ts → TakenBelow (here + 1) ts → Each (λ t. t.at ≡ here) new → Sorted (ts ++ new)
+pub sorted_more : (here : ℕ) (ts new : List Taking) → Sorted ts → TakenBelow (here + 1) ts → Each (λ t. t.at ≡ here) new →
+    Sorted (ts ++ new)
 sorted_more here [] new sorted below at = sorted_at here new at
 sorted_more here (t ∷ ts) new sorted below at = (
-  each_append (λ u. t.at ≤ u.at) ts new sorted.0 (each_only (λ u. u.at ≡ here) (λ u. t.at ≤ u.at) new (λ u same. let low = below.0 in omega arith) at),
+  each_append (λ u. t.at ≤ u.at) ts new sorted.0
+      (each_only (λ u. u.at ≡ here) (λ u. t.at ≤ u.at) new (λ u same. let low = below.0 in omega arith) at),
   sorted_more here ts new sorted.1 below.1 at,
 )
 
 none_at : (a here : ℕ) (new : List Taking) → (a ≡ here → ⊥) → Each (λ t. t.at ≡ here) new → takes_in (a ∷ []) new ≡ []
 none_at a here [] different at = refl
 none_at a here (t ∷ new) different at =
-    cond-false (is_among (a ∷ []) t.at) (t ∷ takes_in (a ∷ []) new) (takes_in (a ∷ []) new) (or_from (t.at == a) false (ne_eqb t.at a (λ same. let first = at.0 in different (omega arith))) refl)
+    cond-false (is_among (a ∷ []) t.at) (t ∷ takes_in (a ∷ []) new) (takes_in (a ∷ []) new)
+    (or_from (t.at == a) false (ne_eqb t.at a (λ same. let first = at.0 in different (omega arith))) refl)
     ∙ none_at a here new different at.1
 
-pub takes_apart : (a here : ℕ) (ts new : List Taking) → (a ≡ here → ⊥) → Each (λ t. t.at ≡ here) new → takes_in (a ∷ []) (ts ++ new) ≡ takes_in (a ∷ []) ts
+pub takes_apart : (a here : ℕ) (ts new : List Taking) → (a ≡ here → ⊥) → Each (λ t. t.at ≡ here) new →
+    takes_in (a ∷ []) (ts ++ new) ≡ takes_in (a ∷ []) ts
 takes_apart a here [] new different at = none_at a here new different at
 takes_apart a here (t ∷ ts) new different at = by_test (is_among (a ∷ []) t.at) (takes_apart a here ts new different at)
   where
-    by_test : (b : Bool) → takes_in (a ∷ []) (ts ++ new) ≡ takes_in (a ∷ []) ts → (if b then t ∷ takes_in (a ∷ []) (ts ++ new) else takes_in (a ∷ []) (ts ++ new)) ≡ (if b then t ∷ takes_in (a ∷ []) ts else takes_in (a ∷ []) ts)
+    by_test : (b : Bool) → takes_in (a ∷ []) (ts ++ new) ≡ takes_in (a ∷ []) ts →
+        (if b then t ∷ takes_in (a ∷ []) (ts ++ new) else takes_in (a ∷ []) (ts ++ new))
+        ≡ (if b then t ∷ takes_in (a ∷ []) ts else takes_in (a ∷ []) ts)
     by_test true same = ap (λ (l : List Taking). t ∷ l) same
     by_test false same = same
 
@@ -151,13 +163,15 @@ module _ (d : Desc) (right : IsRight d) (field : Parity) (described : describes 
 
   abbrev pub PlacedIn : List Block → (ℕ → Queue → List ℕ) → Type 0
   PlacedIn memory had =
-      Placed IsIn (compiled d).grants (pieces_apart d right field described (begin_of d right field described) (words_before d right field described))
+      Placed IsIn (compiled d).grants
+      (pieces_apart d right field described (begin_of d right field described) (words_before d right field described))
       (pieces_granted d right field described (begin_of d right field described) (words_before d right field described)) memory had
 
   -- what is still asked by the instruction that runs, and from where on it goes on to write
   abbrev pub RunsFrom : ℕ → Instr → Demands → Past → Queue → Type 0
   RunsFrom at runs ds past q =
-      ((demand_on q ds).rest + length (had_of past at q) ≡ count_on q runs) × ((demand_on q ds).address ≡ option_map (λ s. s + length (had_of past at q)) (address_on q runs))
+      ((demand_on q ds).rest + length (had_of past at q) ≡ count_on q runs)
+      × ((demand_on q ds).address ≡ option_map (λ s. s + length (had_of past at q)) (address_on q runs))
 
   abbrev pub JobHas : ℕ → Job → Past → Type 0
   JobHas pc Idle past = (q : Queue) → TakenBelow pc (past.takes q)
@@ -171,7 +185,8 @@ module _ (d : Desc) (right : IsRight d) (field : Parity) (described : describes 
     pub sorted : (q : Queue) → Sorted (past.takes q)
     pub job : JobHas m.pc m.job past
 
-  pub bytes_with : (m after : State) (past : Past) → after.memory ≡ m.memory → JobHas after.pc after.job past → KeepsBytes m past → KeepsBytes after past
+  pub bytes_with : (m after : State) (past : Past) → after.memory ≡ m.memory → JobHas after.pc after.job past → KeepsBytes m past →
+      KeepsBytes after past
   bytes_with m after past memory job k =
       record {
         chunks = ap chunks_of memory ∙ k.chunks;
@@ -187,8 +202,10 @@ module _ (d : Desc) (right : IsRight d) (field : Parity) (described : describes 
     further : (n : ℕ) (q : Queue) → TakenBelow (m.pc + n) (past.takes q)
     further n q = taken_more m.pc (m.pc + n) (past.takes q) (omega arith) (below q)
 
-    begun_has : (cause : Option Cause) (target : Option ℕ) (i : Instr) → ((q : Queue) → demand_on q (demands_of i target) ≡ demand_on q (demands_of i None)) →
-        JobHas (begun_with cause i (length (encoded i)) target (counted m)).pc (begun_with cause i (length (encoded i)) target (counted m)).job past
+    begun_has : (cause : Option Cause) (target : Option ℕ) (i : Instr) →
+        ((q : Queue) → demand_on q (demands_of i target) ≡ demand_on q (demands_of i None)) →
+        JobHas (begun_with cause i (length (encoded i)) target (counted m)).pc
+        (begun_with cause i (length (encoded i)) target (counted m)).job past
     begun_has (Some cause) target i same = subst (λ (job : Job). JobHas m.pc job past) (sym idle) below
     begun_has None target i same =
         λ q.
@@ -196,16 +213,24 @@ module _ (d : Desc) (right : IsRight d) (field : Parity) (described : describes 
         let none : had_of past m.pc q ≡ [] = ap taken_bytes (none_yet m.pc (m.pc ∷ []) (past.takes q) (below q) (omega arith, tt)) in
         let empty = ap (λ (bytes : List ℕ). length bytes) none in
         let rest = ap (λ (x : Demand). x.rest) (same q) in
-        subst (λ (a : ℕ). RunsFrom a i (demands_of i target) past q) (sym at)
-        (omega arith, ap (λ (x : Demand). x.address) (same q) ∙ moved_nowhere (address_on q i) ∙ ap (λ (n : ℕ). option_map (λ s. s + n) (address_on q i)) (sym empty))
+        subst (λ (a : ℕ). RunsFrom a i (demands_of i target) past q) (sym at) (
+          omega arith,
+          ap (λ (x : Demand). x.address) (same q) ∙ moved_nowhere (address_on q i)
+              ∙ ap (λ (n : ℕ). option_map (λ s. s + n) (address_on q i)) (sym empty),
+        )
 
-    data_has : (skipping : Skipping) (i : Instr) → ((target : Option ℕ) (q : Queue) → demand_on q (demands_of i target) ≡ demand_on q (demands_of i None)) →
-        JobHas (data_fetched skipping i (length (encoded i)) (counted m)).pc (data_fetched skipping i (length (encoded i)) (counted m)).job past
+    data_has : (skipping : Skipping) (i : Instr) →
+        ((target : Option ℕ) (q : Queue) → demand_on q (demands_of i target) ≡ demand_on q (demands_of i None)) →
+        JobHas (data_fetched skipping i (length (encoded i)) (counted m)).pc
+        (data_fetched skipping i (length (encoded i)) (counted m)).job past
     data_has Nothing i same = begun_has _ _ i (same _)
-    data_has ToEol i same = subst (λ (job : Job). JobHas (m.pc + 4 * length (encoded i)) job past) (sym idle) (further (4 * length (encoded i)))
-    data_has ToSync i same = subst (λ (job : Job). JobHas (m.pc + 4 * length (encoded i)) job past) (sym idle) (further (4 * length (encoded i)))
+    data_has ToEol i same =
+        subst (λ (job : Job). JobHas (m.pc + 4 * length (encoded i)) job past) (sym idle) (further (4 * length (encoded i)))
+    data_has ToSync i same =
+        subst (λ (job : Job). JobHas (m.pc + 4 * length (encoded i)) job past) (sym idle) (further (4 * length (encoded i)))
 
-    pub fetched_has : (i : Instr) → IsPlain i → JobHas (instr_fetched i (length (encoded i)) (counted m)).pc (instr_fetched i (length (encoded i)) (counted m)).job past
+    pub fetched_has : (i : Instr) → IsPlain i →
+        JobHas (instr_fetched i (length (encoded i)) (counted m)).pc (instr_fetched i (length (encoded i)) (counted m)).job past
     fetched_has (Jump ctl to) plain = absurd plain
     fetched_has (WriteC ctl ends off count) plain = absurd plain
     fetched_has (Sync ctl resync code) plain = further (4 * length (encoded (Sync ctl resync code)))

@@ -1,5 +1,6 @@
 -- The lines of a section, and what they keep while the machine goes on behind them.
-use Rattle.std.proofs.Common.{◌≡◌, ℕ, ◌+◌, ◌*◌, ◌<◌, ◌≤◌, Bool, true, false, ◌&&◌, ◌||◌, ◌==◌, List, [], ◌∷◌, ◌++◌, length, map, Option, refl, ap, ap₂, ◌∙◌, arith}
+use Rattle.std.proofs.Common.{◌≡◌, ℕ, ◌+◌, ◌*◌, ◌<◌, ◌≤◌, Bool, true, false, ◌&&◌, ◌||◌, ◌==◌, List, [], ◌∷◌, ◌++◌, length, map, Option}
+use Rattle.std.proofs.Common.{refl, ap, ap₂, ◌∙◌, arith}
 use Rattle.std.specs.Prelude.{filter}
 use Rattle.std.specs.List.{list_all}
 use Rattle.std.proofs.Math.Bool.{or-false}
@@ -43,7 +44,8 @@ pub record GoesIn (begins : Bool) (moved : Queue → Bool) (last : Bool) (instr 
   pub moves : is_data instr ≡ true
   pub ends : (instr_ends instr).eol ≡ last
   pub unmoved : (q : Queue) (target : Option ℕ) → moved q ≡ false → (demand_on q (demands_of instr target)).rest ≡ 0
-  pub first : (q : Queue) (target : Option ℕ) → (demand_on q (demands_of instr target)).needs_sol ≡ true → (begins ≡ true) × (0 < (demand_on q (demands_of instr target)).rest)
+  pub first : (q : Queue) (target : Option ℕ) → (demand_on q (demands_of instr target)).needs_sol ≡ true →
+      (begins ≡ true) × (0 < (demand_on q (demands_of instr target)).rest)
   pub awaits : (q : Queue) (target : Option ℕ) → moved q ≡ true → (demand_on q (demands_of instr target)).needs_sol ≡ false → begins ≡ false
 
 abbrev pub is_none : List Instr → Bool
@@ -75,7 +77,8 @@ takes_in addresses ts = filter (λ t. is_among addresses t.at) ts
 
 abbrev pub whole_over : Past → List ℕ → Bool
 whole_over past addresses =
-    list_all (is_among past.retired) addresses && make_line (takes_in addresses (past.takes One)) && make_line (takes_in addresses (past.takes Two))
+    list_all (is_among past.retired) addresses && make_line (takes_in addresses (past.takes One))
+    && make_line (takes_in addresses (past.takes Two))
     && make_line (takes_in addresses (past.takes Three))
 
 abbrev pub AreBelow : ℕ → List ℕ → Type 0
@@ -106,12 +109,14 @@ addresses_from_here here instrs = addresses_above here here instrs (omega arith)
 pub not_below : (here at : ℕ) (addresses : List ℕ) → here ≤ at → AreBelow here addresses → is_among addresses at ≡ false
 not_below here at [] less below = refl
 not_below here at (a ∷ rest) less below =
-    let lt = below.0 in or_from (at == a) (is_among rest at) (ne_eqb at a (λ same. absurd (omega arith))) (not_below here at rest less below.1)
+    let lt = below.0 in
+    or_from (at == a) (is_among rest at) (ne_eqb at a (λ same. absurd (omega arith))) (not_below here at rest less below.1)
 
 not_above : (here at : ℕ) (addresses : List ℕ) → at < here → AreFrom here addresses → is_among addresses at ≡ false
 not_above here at [] less above = refl
 not_above here at (a ∷ rest) less above =
-    let le = above.0 in or_from (at == a) (is_among rest at) (ne_eqb at a (λ same. absurd (omega arith))) (not_above here at rest less above.1)
+    let le = above.0 in
+    or_from (at == a) (is_among rest at) (ne_eqb at a (λ same. absurd (omega arith))) (not_above here at rest less above.1)
 
 is_there : (at : ℕ) (before after : List ℕ) → is_among (before ++ at ∷ after) at ≡ true
 is_there at [] after = ap (λ (b : Bool). b || is_among after at) (eq-eqb at at refl)
@@ -125,24 +130,29 @@ is_there at (a ∷ before) after = or_true (at == a) (is_among (before ++ at ∷
 
 none_taken : (addresses : List ℕ) (ts : List Taking) → Each (λ t. is_among addresses t.at ≡ false) ts → takes_in addresses ts ≡ []
 none_taken addresses [] none = refl
-none_taken addresses (t ∷ rest) none = cond-false (is_among addresses t.at) (t ∷ takes_in addresses rest) (takes_in addresses rest) none.0 ∙ none_taken addresses rest none.1
+none_taken addresses (t ∷ rest) none =
+    cond-false (is_among addresses t.at) (t ∷ takes_in addresses rest) (takes_in addresses rest) none.0 ∙ none_taken addresses rest none.1
 
 all_taken : (addresses : List ℕ) (ts : List Taking) → Each (λ t. is_among addresses t.at ≡ true) ts → takes_in addresses ts ≡ ts
 all_taken addresses [] all = refl
 all_taken addresses (t ∷ rest) all =
-    cond-true (is_among addresses t.at) (t ∷ takes_in addresses rest) (takes_in addresses rest) all.0 ∙ ap (λ (r : List Taking). t ∷ r) (all_taken addresses rest all.1)
+    cond-true (is_among addresses t.at) (t ∷ takes_in addresses rest) (takes_in addresses rest) all.0
+    ∙ ap (λ (r : List Taking). t ∷ r) (all_taken addresses rest all.1)
 
 -- of a line that is still to come nothing is taken
 pub none_yet : (here : ℕ) (addresses : List ℕ) (ts : List Taking) → TakenBelow here ts → AreFrom here addresses → takes_in addresses ts ≡ []
 none_yet here addresses ts below above =
-    none_taken addresses ts (each_only (λ t. t.at < here) (λ t. is_among addresses t.at ≡ false) ts (λ t lt. not_above here t.at addresses lt above) below)
+    none_taken addresses ts
+    (each_only (λ t. t.at < here) (λ t. is_among addresses t.at ≡ false) ts (λ t lt. not_above here t.at addresses lt above) below)
 
 -- of a line that is through nothing more is taken
-pub none_more : (here : ℕ) (addresses : List ℕ) (ts new : List Taking) → Each (λ t. t.at ≡ here) new → AreBelow here addresses → takes_in addresses (ts ++ new) ≡ takes_in addresses ts
+pub none_more : (here : ℕ) (addresses : List ℕ) (ts new : List Taking) → Each (λ t. t.at ≡ here) new → AreBelow here addresses →
+    takes_in addresses (ts ++ new) ≡ takes_in addresses ts
 none_more here addresses ts new at below =
     filter-append (λ t. is_among addresses t.at) ts new
     ∙ ap (λ (r : List Taking). takes_in addresses ts ++ r)
-    (none_taken addresses new (each_only (λ t. t.at ≡ here) (λ t. is_among addresses t.at ≡ false) new (λ t same. not_below here t.at addresses (omega arith) below) at))
+    (none_taken addresses new (each_only (λ t. t.at ≡ here) (λ t. is_among addresses t.at ≡ false) new
+    (λ t same. not_below here t.at addresses (omega arith) below) at))
     ∙ append-nil (takes_in addresses ts)
 
 -- what is taken at an instruction of a line is taken of the line
@@ -163,25 +173,31 @@ retired_more here retired new [] at below = refl
 retired_more here retired new (a ∷ rest) at below =
     let lt = below.0 in
     ap₂ (λ (x y : Bool). x && y)
-    (list_any-append (λ other. a == other) retired new ∙ ap (λ (b : Bool). is_among retired a || b) (none_here new at) ∙ or-false (is_among retired a))
+    (list_any-append (λ other. a == other) retired new ∙ ap (λ (b : Bool). is_among retired a || b) (none_here new at)
+    ∙ or-false (is_among retired a))
     (retired_more here retired new rest at below.1)
   where
     none_here : (new : List ℕ) → Each (λ a. a ≡ here) new → is_among new a ≡ false
     none_here [] at = refl
     none_here (r ∷ rest) at =
-        let same = at.0 in let lt = below.0 in or_from (a == r) (is_among rest a) (ne_eqb a r (λ is. absurd (omega arith))) (none_here rest at.1)
+        let same = at.0 in
+        let lt = below.0 in
+        or_from (a == r) (is_among rest a) (ne_eqb a r (λ is. absurd (omega arith))) (none_here rest at.1)
 
 -- an instruction that retires
-pub retired_here : (here : ℕ) (retired done : List ℕ) → list_all (is_among retired) done ≡ true → AreBelow here done → list_all (is_among (retired ++ here ∷ [])) (done ++ here ∷ []) ≡ true
+pub retired_here : (here : ℕ) (retired done : List ℕ) → list_all (is_among retired) done ≡ true → AreBelow here done →
+    list_all (is_among (retired ++ here ∷ [])) (done ++ here ∷ []) ≡ true
 retired_here here retired done all below =
     list_all-append (is_among (retired ++ here ∷ [])) done (here ∷ [])
     ∙ and_from (list_all (is_among (retired ++ here ∷ [])) done) (list_all (is_among (retired ++ here ∷ [])) (here ∷ []))
-    (retired_more here retired (here ∷ []) done (refl, tt) below ∙ all) (and_from (is_among (retired ++ here ∷ []) here) true (is_there here retired []) refl)
+    (retired_more here retired (here ∷ []) done (refl, tt) below ∙ all)
+    (and_from (is_among (retired ++ here ∷ []) here) true (is_there here retired []) refl)
 
 -- one that doesn't
 pub unretired_here : (here : ℕ) (retired done : List ℕ) → AreBelow here retired → list_all (is_among retired) (done ++ here ∷ []) ≡ false
 unretired_here here retired [] below = ap (λ (b : Bool). b && true) (not_below here here retired (omega arith) below)
-unretired_here here retired (d ∷ done) below = and_no (is_among retired d) (list_all (is_among retired) (done ++ here ∷ [])) (unretired_here here retired done below)
+unretired_here here retired (d ∷ done) below =
+    and_no (is_among retired d) (list_all (is_among retired) (done ++ here ∷ [])) (unretired_here here retired done below)
   where
     and_no : (x y : Bool) → y ≡ false → (x && y) ≡ false
     and_no true y is = is
@@ -197,18 +213,23 @@ pub record GoesOn (here : ℕ) (past next : Past) : Type 0 where
   pub retired : next.retired ≡ past.retired ++ retires
   pub retires_at : Each (λ a. a ≡ here) retires
 
-line_stays : (here : ℕ) (past next : Past) (addresses : List ℕ) → GoesOn here past next → AreBelow here addresses → whole_over next addresses ≡ whole_over past addresses
+line_stays : (here : ℕ) (past next : Past) (addresses : List ℕ) → GoesOn here past next → AreBelow here addresses →
+    whole_over next addresses ≡ whole_over past addresses
 line_stays here past next addresses on below =
     ap₂ (λ (x y : Bool). x && y)
     (ap₂ (λ (x y : Bool). x && y)
     (ap₂ (λ (x y : Bool). x && y)
-    (ap (λ (r : List ℕ). list_all (is_among r) addresses) on.retired ∙ retired_more here past.retired on.retires addresses on.retires_at below)
+    (ap (λ (r : List ℕ). list_all (is_among r) addresses) on.retired
+    ∙ retired_more here past.retired on.retires addresses on.retires_at below)
     (same One)) (same Two)) (same Three)
   where
     same : (q : Queue) → make_line (takes_in addresses (next.takes q)) ≡ make_line (takes_in addresses (past.takes q))
-    same q = ap (λ (ts : List Taking). make_line (takes_in addresses ts)) (on.takes q) ∙ ap make_line (none_more here addresses (past.takes q) (on.new q) (on.at q) below)
+    same q =
+        ap (λ (ts : List Taking). make_line (takes_in addresses ts)) (on.takes q)
+        ∙ ap make_line (none_more here addresses (past.takes q) (on.new q) (on.at q) below)
 
-pub lines_stay : (here : ℕ) (past next : Past) (lines : List (List ℕ)) → GoesOn here past next → Each (AreBelow here) lines → map (whole_over next) lines ≡ map (whole_over past) lines
+pub lines_stay : (here : ℕ) (past next : Past) (lines : List (List ℕ)) → GoesOn here past next → Each (AreBelow here) lines →
+    map (whole_over next) lines ≡ map (whole_over past) lines
 lines_stay here past next [] on below = refl
 lines_stay here past next (line ∷ rest) on below =
     ap₂ (λ (x : Bool) (xs : List Bool). x ∷ xs) (line_stays here past next line on below.0) (lines_stay here past next rest on below.1)

@@ -1,5 +1,6 @@
 -- A machine within a section of a field: what the track holds of the lines so far, and how a turn keeps it.
-use Rattle.std.proofs.Common.{◌≡◌, ℕ, suc, ◌+◌, ◌*◌, ◌<◌, ◌≤◌, ◌⊎◌, inl, inr, Bool, true, false, not, ◌&&◌, List, [], ◌∷◌, ◌++◌, append_assoc, length, length-append, map, refl, sym, ap, ap₂, ◌∙◌, subst, arith}
+use Rattle.std.proofs.Common.{◌≡◌, ℕ, suc, ◌+◌, ◌*◌, ◌<◌, ◌≤◌, ◌⊎◌, inl, inr, Bool, true, false, not, ◌&&◌, List, [], ◌∷◌, ◌++◌}
+use Rattle.std.proofs.Common.{append_assoc, length, length-append, map, refl, sym, ap, ap₂, ◌∙◌, subst, arith}
 use Rattle.std.specs.Prelude.{nat_lt}
 use Rattle.std.specs.List.{list_all}
 use Rattle.std.proofs.lemmas.Bool.{cond-true, lt-ltb}
@@ -28,7 +29,8 @@ use Rattle.damage_map.specs.declared.mark.LineMarks.{LineMarks}
 use Rattle.damage_map.specs.Tracks.{FieldTrack, fresh, is_good, is_whole, mark_on, max_lines, noted, through}
 use Rattle.damage_map.proofs.LineTold.{Tells, tells-good}
 use Rattle.damage_map.proofs.Bursts.{Needs}
-use Rattle.damage_map.proofs.Sections.{AreBelow, AreParts, IsCut, LineGoes, Part, Cut, Past, TakenBelow, addresses_from_here, below_more, instrs_of, is_none, lines_at, none_yet, taken_more, takes_in, whole_over}
+use Rattle.damage_map.proofs.Sections.{AreBelow, AreParts, IsCut, LineGoes, Part, Cut, Past, TakenBelow, addresses_from_here, below_more}
+use Rattle.damage_map.proofs.Sections.{instrs_of, is_none, lines_at, none_yet, taken_more, takes_in, whole_over}
 
 -- before a line's first instruction no queue is moved; before a later one each that the line moves is
 abbrev pub IsBegun : Bool → Bool → LineMark → Type 0
@@ -61,14 +63,19 @@ LineJob here begins moved instr pc skipping lost marks Idle =
     (pc ≡ here) × (skipping ≡ Nothing → lost ≡ false) × (lost ≡ false → (q : Queue) → IsBegun begins (moved q) (mark_on q marks))
 LineJob here begins moved instr pc skipping lost marks (Waiting ctl resync code) = ⊥
 LineJob here begins moved instr pc skipping lost marks (Running runs ds) =
-    (runs ≡ instr) × (pc ≡ here + 4 * length (encoded instr)) × (lost ≡ false) × ((q : Queue) → Needs (moved q) (mark_on q marks) (demand_on q ds))
+    (runs ≡ instr) × (pc ≡ here + 4 * length (encoded instr)) × (lost ≡ false)
+    × ((q : Queue) → Needs (moved q) (mark_on q marks) (demand_on q ds))
 
 -- with the same job at the same place
-pub gap_job-same : (here : ℕ) (m after : State) → after.job ≡ m.job → after.pc ≡ m.pc → GapJob here m.pc m.job → GapJob here after.pc after.job
-gap_job-same here m after j p job = subst (λ (job : Job). GapJob here after.pc job) (sym j) (subst (λ (pc : ℕ). GapJob here pc m.job) (sym p) job)
+pub gap_job-same : (here : ℕ) (m after : State) → after.job ≡ m.job → after.pc ≡ m.pc → GapJob here m.pc m.job →
+    GapJob here after.pc after.job
+gap_job-same here m after j p job =
+    subst (λ (job : Job). GapJob here after.pc job) (sym j) (subst (λ (pc : ℕ). GapJob here pc m.job) (sym p) job)
 
-pub line_job-same : (here : ℕ) (begins : Bool) (moved : Queue → Bool) (instr : Instr) (lost : Bool) (marks : LineMarks) (m after : State) → after.job ≡ m.job → after.pc ≡ m.pc → after.skipping ≡ m.skipping →
-    LineJob here begins moved instr m.pc m.skipping lost marks m.job → LineJob here begins moved instr after.pc after.skipping lost marks after.job
+pub line_job-same : (here : ℕ) (begins : Bool) (moved : Queue → Bool) (instr : Instr) (lost : Bool) (marks : LineMarks) (m after : State) →
+    after.job ≡ m.job → after.pc ≡ m.pc → after.skipping ≡ m.skipping →
+    LineJob here begins moved instr m.pc m.skipping lost marks m.job →
+    LineJob here begins moved instr after.pc after.skipping lost marks after.job
 line_job-same here begins moved instr lost marks m after j p s job =
     subst (λ (job : Job). LineJob here begins moved instr after.pc after.skipping lost marks job) (sym j)
     (subst (λ (pc : ℕ). LineJob here begins moved instr pc after.skipping lost marks m.job) (sym p)
@@ -117,7 +124,8 @@ module _ (program : RiscProgram) (closing : Ctl) (target end : ℕ) (all : List 
 
   -- ---- the machine stays where it is
 
-  pub gap_stays : (m after : State) (t : FieldTrack) (marks : LineMarks) (past : Past) (g : InGap m t past) → marks ≡ fresh → GapJob g.here after.pc after.job →
+  pub gap_stays : (m after : State) (t : FieldTrack) (marks : LineMarks) (past : Past) (g : InGap m t past) → marks ≡ fresh →
+      GapJob g.here after.pc after.job →
       InGap after (record t { marks = marks }) past
   gap_stays m after t marks past g are_fresh job =
       record {
@@ -134,8 +142,10 @@ module _ (program : RiscProgram) (closing : Ctl) (target end : ℕ) (all : List 
         job = job;
       }
 
-  pub line_stays : (m after : State) (t : FieldTrack) (marks : LineMarks) (past next : Past) (gone next_gone : Queue → ℕ) (l : InLine m t past gone) → Through next t.lines l.lines l.here (l.here + 1) →
-      IsTold t.lost next next_gone after.queues marks l.done (l.done ++ addresses_from l.here (l.instr ∷ l.rest)) → LineJob l.here l.begins l.moved l.instr after.pc after.skipping t.lost marks after.job →
+  pub line_stays : (m after : State) (t : FieldTrack) (marks : LineMarks) (past next : Past) (gone next_gone : Queue → ℕ)
+      (l : InLine m t past gone) → Through next t.lines l.lines l.here (l.here + 1) →
+      IsTold t.lost next next_gone after.queues marks l.done (l.done ++ addresses_from l.here (l.instr ∷ l.rest)) →
+      LineJob l.here l.begins l.moved l.instr after.pc after.skipping t.lost marks after.job →
       InLine after (record t { marks = marks }) next next_gone
   line_stays m after t marks past next gone next_gone l through told job =
       record {
@@ -160,7 +170,8 @@ module _ (program : RiscProgram) (closing : Ctl) (target end : ℕ) (all : List 
 
   -- ---- a line begins
 
-  pub enters : (m : State) (t : FieldTrack) (past : Past) (gone : Queue → ℕ) (g : InGap m t past) (moved : Queue → Bool) (line : List Instr) (rest : List Part) → m.job ≡ Idle →
+  pub enters : (m : State) (t : FieldTrack) (past : Past) (gone : Queue → ℕ) (g : InGap m t past) (moved : Queue → Bool) (line : List Instr)
+      (rest : List Part) → m.job ≡ Idle →
       g.parts ≡ Cut moved line ∷ rest → InLine m t past gone
   enters m t past gone g moved line rest j is =
       entered g.here g.lines (subst (λ (ps : List Part). all ≡ g.lines ++ lines_at g.here ps) is g.whole)
@@ -169,7 +180,8 @@ module _ (program : RiscProgram) (closing : Ctl) (target end : ℕ) (all : List 
       (subst (λ (job : Job). GapJob g.here m.pc job) j g.job)
     where
       entered : (here : ℕ) (lines : List (List ℕ)) → all ≡ lines ++ (addresses_from here line ∷ lines_at (here + 4 * words_in line) rest) →
-          HoldsFrom program here (line ++ instrs_of rest) closing target → here + 4 * words_in (line ++ instrs_of rest) ≡ end → IsCut moved line × AreParts rest → Through past t.lines lines here here → m.pc ≡ here → InLine m t past gone
+          HoldsFrom program here (line ++ instrs_of rest) closing target → here + 4 * words_in (line ++ instrs_of rest) ≡ end →
+          IsCut moved line × AreParts rest → Through past t.lines lines here here → m.pc ≡ here → InLine m t past gone
       entered here lines whole stands ends are through there =
           let first = are.0.first in
           let more = are.0.rest in
@@ -202,7 +214,8 @@ module _ (program : RiscProgram) (closing : Ctl) (target end : ℕ) (all : List 
                   refl,
                   λ q.
                       subst (λ (mark : LineMark). Tells (gone q) (queue_state q m.queues) (takes_in addresses (past.takes q)) mark)
-                      (sym (ap (mark_on q) g.fresh ∙ fresh_on q)) (none_yet here addresses (past.takes q) (through.taken q) (addresses_from_here here (first ∷ more))),
+                      (sym (ap (mark_on q) g.fresh ∙ fresh_on q))
+                      (none_yet here addresses (past.takes q) (through.taken q) (addresses_from_here here (first ∷ more))),
                 );
             job =
                 subst (λ (job : Job). LineJob here true moved first m.pc m.skipping t.lost t.marks job) (sym j)
@@ -212,7 +225,8 @@ module _ (program : RiscProgram) (closing : Ctl) (target end : ℕ) (all : List 
   -- ---- an instruction is done with
 
   -- what is known behind it, before a line that it ends is noted
-  pub record Behind (after : State) (t : FieldTrack) (past : Past) (gone : Queue → ℕ) (here : ℕ) (lines : List (List ℕ)) (done : List ℕ) (moved : Queue → Bool) (instr : Instr) (line : List ℕ) : Type 0 where
+  pub record Behind (after : State) (t : FieldTrack) (past : Past) (gone : Queue → ℕ) (here : ℕ) (lines : List (List ℕ)) (done : List ℕ)
+      (moved : Queue → Bool) (instr : Instr) (line : List ℕ) : Type 0 where
     pub idle : after.job ≡ Idle
     pub there : after.pc ≡ here + 4 * length (encoded instr)
     pub unskipped : (instr_ends instr).eol ≡ false → after.skipping ≡ Nothing → t.lost ≡ false
@@ -222,21 +236,26 @@ module _ (program : RiscProgram) (closing : Ctl) (target end : ℕ) (all : List 
     pub told : IsTold t.lost past gone after.queues t.marks (done ++ here ∷ []) line
     pub begun : t.lost ≡ false → (q : Queue) → moved q ≡ true → mark_on q t.marks ≡ Fresh → ⊥
 
-  whole_line : (lost : Bool) (t : FieldTrack) (past : Past) (gone : Queue → ℕ) (queues : Queues) (line : List ℕ) → t.lost ≡ lost → IsTold lost past gone queues t.marks line line → is_whole t ≡ whole_over past line
+  whole_line : (lost : Bool) (t : FieldTrack) (past : Past) (gone : Queue → ℕ) (queues : Queues) (line : List ℕ) → t.lost ≡ lost →
+      IsTold lost past gone queues t.marks line line → is_whole t ≡ whole_over past line
   whole_line true t past gone queues line is told =
       ap (λ (b : Bool). not b && is_good t.marks.one && is_good t.marks.two && is_good t.marks.three) is
-      ∙ sym (ap (λ (b : Bool). b && make_line (takes_in line (past.takes One)) && make_line (takes_in line (past.takes Two)) && make_line (takes_in line (past.takes Three))) told)
+      ∙ sym (ap (λ (b : Bool). b && make_line (takes_in line (past.takes One)) && make_line (takes_in line (past.takes Two))
+      && make_line (takes_in line (past.takes Three))) told)
   whole_line false t past gone queues line is told =
-      let good = λ (q : Queue). sym (tells-good (gone q) (queue_state q queues) (takes_in line (past.takes q)) (mark_on q t.marks) (told.1 q)) in
+      let good =
+      λ (q : Queue). sym (tells-good (gone q) (queue_state q queues) (takes_in line (past.takes q)) (mark_on q t.marks) (told.1 q)) in
       ap₂ (λ (x y : Bool). x && y)
       (ap₂ (λ (x y : Bool). x && y)
       (ap₂ (λ (x y : Bool). x && y) (ap not is ∙ sym told.0) (good One)) (good Two)) (good Three)
 
-  few_through : (lines more : List (List ℕ)) (line : List ℕ) → length all ≤ max_lines → all ≡ lines ++ (line ∷ more) → length lines < max_lines
+  few_through : (lines more : List (List ℕ)) (line : List ℕ) → length all ≤ max_lines → all ≡ lines ++ (line ∷ more) →
+      length lines < max_lines
   few_through lines more line few whole =
       let count : length all ≡ length lines + suc (length more) = ap length whole ∙ length-append lines (line ∷ more) in omega arith
 
-  noted_whole : (t : FieldTrack) (past : Past) (lines : List (List ℕ)) (line : List ℕ) → t.lines ≡ map (whole_over past) lines → length lines < max_lines → is_whole t ≡ whole_over past line →
+  noted_whole : (t : FieldTrack) (past : Past) (lines : List (List ℕ)) (line : List ℕ) → t.lines ≡ map (whole_over past) lines →
+      length lines < max_lines → is_whole t ≡ whole_over past line →
       noted (is_whole t) t.lines ≡ map (whole_over past) (lines ++ line ∷ [])
   noted_whole t past lines line told few is =
       let count : length t.lines ≡ length lines = ap length told ∙ length-map lines (whole_over past) in
@@ -244,10 +263,13 @@ module _ (program : RiscProgram) (closing : Ctl) (target end : ℕ) (all : List 
       ∙ ap₂ (λ (ls : List Bool) (b : Bool). ls ++ b ∷ []) told is ∙ sym (map-append (whole_over past) lines (line ∷ []))
 
   each_below_more : (here more : ℕ) (lines : List (List ℕ)) → here ≤ more → Each (AreBelow here) lines → Each (AreBelow more) lines
-  each_below_more here more lines less below = each_only (AreBelow here) (AreBelow more) lines (λ line is. below_more here more line less is) below
+  each_below_more here more lines less below =
+      each_only (AreBelow here) (AreBelow more) lines (λ line is. below_more here more line less is) below
 
-  module _ (few : length all ≤ max_lines) (after : State) (t : FieldTrack) (past : Past) (gone : Queue → ℕ) (here : ℕ) (lines : List (List ℕ)) (done : List ℕ) (moved : Queue → Bool) (instr : Instr)
-      (parts : List Part) (are : AreParts parts) (below : Each (AreBelow here) lines) (before : AreBelow here done) (some : 0 < length (encoded instr)) where
+  module _ (few : length all ≤ max_lines) (after : State) (t : FieldTrack) (past : Past) (gone : Queue → ℕ) (here : ℕ)
+      (lines : List (List ℕ)) (done : List ℕ) (moved : Queue → Bool) (instr : Instr)
+      (parts : List Part) (are : AreParts parts) (below : Each (AreBelow here) lines) (before : AreBelow here done)
+      (some : 0 < length (encoded instr)) where
     abbrev next : ℕ
     next = here + 4 * length (encoded instr)
 
@@ -256,7 +278,8 @@ module _ (program : RiscProgram) (closing : Ctl) (target end : ℕ) (all : List 
 
     -- it ended its line
     ends_there : Behind after t past gone here lines done moved instr (done ++ addresses_from here (instr ∷ [])) →
-        all ≡ lines ++ ((done ++ addresses_from here (instr ∷ [])) ∷ lines_at (here + 4 * words_in (instr ∷ [])) parts) → HoldsFrom program next (instrs_of parts) closing target →
+        all ≡ lines ++ ((done ++ addresses_from here (instr ∷ [])) ∷ lines_at (here + 4 * words_in (instr ∷ [])) parts) →
+        HoldsFrom program next (instrs_of parts) closing target →
         next + 4 * words_in (instrs_of parts) ≡ end → InGap after (through true t) past
     ends_there b whole stands ends =
         let line = done ++ here ∷ [] in
@@ -265,12 +288,17 @@ module _ (program : RiscProgram) (closing : Ctl) (target end : ℕ) (all : List 
           here = next;
           lines = lines ++ line ∷ [];
           parts = parts;
-          whole = subst (λ (n : ℕ). all ≡ lines ++ (line ∷ lines_at n parts)) same whole ∙ sym (append_assoc lines (line ∷ []) (lines_at next parts));
+          whole =
+              subst (λ (n : ℕ). all ≡ lines ++ (line ∷ lines_at n parts)) same whole
+              ∙ sym (append_assoc lines (line ∷ []) (lines_at next parts));
           stands = stands;
           ends = ends;
           are = are;
           through = record {
-            told = noted_whole t past lines line b.told_lines (few_through lines (lines_at (here + 4 * words_in (instr ∷ [])) parts) line few whole) (whole_line t.lost t past gone after.queues line refl b.told);
+            told =
+                noted_whole t past lines line b.told_lines
+                (few_through lines (lines_at (here + 4 * words_in (instr ∷ [])) parts) line few whole)
+                (whole_line t.lost t past gone after.queues line refl b.told);
             below = each_append (AreBelow next) lines (line ∷ []) (each_below_more here next lines (omega arith) below) (done_below, tt);
             taken = λ q. taken_more (here + 1) next (past.takes q) (omega arith) (b.taken q);
             retired = below_more (here + 1) next past.retired (omega arith) b.retired;
@@ -281,13 +309,18 @@ module _ (program : RiscProgram) (closing : Ctl) (target end : ℕ) (all : List 
         }
 
     -- the line goes on
-    goes_there : (instr' : Instr) (rest : List Instr) → Behind after t past gone here lines done moved instr (done ++ addresses_from here (instr ∷ instr' ∷ rest)) → (instr_ends instr).eol ≡ false →
-        all ≡ lines ++ ((done ++ addresses_from here (instr ∷ instr' ∷ rest)) ∷ lines_at (here + 4 * words_in (instr ∷ instr' ∷ rest)) parts) →
-        HoldsFrom program next (instr' ∷ (rest ++ instrs_of parts)) closing target → next + 4 * words_in (instr' ∷ (rest ++ instrs_of parts)) ≡ end → LineGoes false moved (instr' ∷ rest) →
+    goes_there : (instr' : Instr) (rest : List Instr) →
+        Behind after t past gone here lines done moved instr (done ++ addresses_from here (instr ∷ instr' ∷ rest)) →
+        (instr_ends instr).eol ≡ false →
+        all
+        ≡ lines ++ ((done ++ addresses_from here (instr ∷ instr' ∷ rest)) ∷ lines_at (here + 4 * words_in (instr ∷ instr' ∷ rest)) parts) →
+        HoldsFrom program next (instr' ∷ (rest ++ instrs_of parts)) closing target →
+        next + 4 * words_in (instr' ∷ (rest ++ instrs_of parts)) ≡ end → LineGoes false moved (instr' ∷ rest) →
         InLine after t past gone
     goes_there instr' rest b on whole stands ends goes =
         let same : here + 4 * words_in (instr ∷ instr' ∷ rest) ≡ next + 4 * words_in (instr' ∷ rest) = omega arith in
-        let line : done ++ addresses_from here (instr ∷ instr' ∷ rest) ≡ (done ++ here ∷ []) ++ addresses_from next (instr' ∷ rest) = sym (append_assoc done (here ∷ []) (addresses_from next (instr' ∷ rest))) in
+        let line : done ++ addresses_from here (instr ∷ instr' ∷ rest) ≡ (done ++ here ∷ []) ++ addresses_from next (instr' ∷ rest) =
+        sym (append_assoc done (here ∷ []) (addresses_from next (instr' ∷ rest))) in
         record {
           here = next;
           lines = lines;
@@ -310,11 +343,15 @@ module _ (program : RiscProgram) (closing : Ctl) (target end : ℕ) (all : List 
           };
           before = done_below;
           told = subst (λ (l : List ℕ). IsTold t.lost past gone after.queues t.marks (done ++ here ∷ []) l) line b.told;
-          job = subst (λ (job : Job). LineJob next false moved instr' after.pc after.skipping t.lost t.marks job) (sym b.idle) (b.there, b.unskipped on, b.begun);
+          job =
+              subst (λ (job : Job). LineJob next false moved instr' after.pc after.skipping t.lost t.marks job) (sym b.idle)
+              (b.there, b.unskipped on, b.begun);
         }
 
-    pub advance : (rest : List Instr) → Behind after t past gone here lines done moved instr (done ++ addresses_from here (instr ∷ rest)) → (instr_ends instr).eol ≡ is_none rest →
-        all ≡ lines ++ ((done ++ addresses_from here (instr ∷ rest)) ∷ lines_at (here + 4 * words_in (instr ∷ rest)) parts) → HoldsFrom program next (rest ++ instrs_of parts) closing target →
+    pub advance : (rest : List Instr) → Behind after t past gone here lines done moved instr (done ++ addresses_from here (instr ∷ rest)) →
+        (instr_ends instr).eol ≡ is_none rest →
+        all ≡ lines ++ ((done ++ addresses_from here (instr ∷ rest)) ∷ lines_at (here + 4 * words_in (instr ∷ rest)) parts) →
+        HoldsFrom program next (rest ++ instrs_of parts) closing target →
         next + 4 * words_in (rest ++ instrs_of parts) ≡ end → LineGoes false moved rest → Visit after (through (is_none rest) t) past gone
     advance [] b last whole stands ends goes = inl (ends_there b whole stands ends)
     advance (instr' ∷ rest) b last whole stands ends goes = inr (goes_there instr' rest b last whole stands ends goes)

@@ -20,10 +20,15 @@ map_after d fill steps = watched track_notes steps (watching (first_state (compi
 
 -- it keeps the marks of a field's rows that the definition states at the field's last signal
 abbrev pub KeepsAnswers : Type 0
-KeepsAnswers = (d : Desc) (field : Parity) (fill : ℕ) (steps : List Step) → IsDescription d → IsValid d → describes d.fields field ≡ true → All IsStep steps →
+KeepsAnswers =
+    (d : Desc) (field : Parity) (fill : ℕ) (steps : List Step) → IsDescription d → IsValid d → describes d.fields field ≡ true →
+    All IsStep steps →
     rows_of field (map_after d fill steps) ≡ answer d field (first_state (compiled d) fill) steps
 
 -- it keeps no marks of a field exactly where no step was a signal of it
 abbrev pub TellsSignals : Type 0
-TellsSignals = (d : Desc) (field : Parity) (fill : ℕ) (steps : List Step) → IsDescription d → IsValid d → describes d.fields field ≡ true → All IsStep steps →
-    (rows_of field (map_after d fill steps) ≡ None) ↔ (last_step (is_signal (section_of d field)) (first_state (compiled d) fill) steps ≡ None)
+TellsSignals =
+    (d : Desc) (field : Parity) (fill : ℕ) (steps : List Step) → IsDescription d → IsValid d → describes d.fields field ≡ true →
+    All IsStep steps →
+    (rows_of field (map_after d fill steps) ≡ None)
+    ↔ (last_step (is_signal (section_of d field)) (first_state (compiled d) fill) steps ≡ None)

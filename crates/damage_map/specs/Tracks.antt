@@ -1,5 +1,6 @@
 -- What is kept of a field under way, and how each step changes it.
-use Rattle.std.specs.Prelude.{◌≡◌, ℕ, Bool, true, false, not, ◌&&◌, ◌==◌, List, [], ◌∷◌, ◌++◌, drop, length, Option, Some, None, option_map, Ok, Err, if◌then◌else◌, nat_lt}
+use Rattle.std.specs.Prelude.{◌≡◌, ℕ, Bool, true, false, not, ◌&&◌, ◌==◌, List, [], ◌∷◌, ◌++◌, drop, length, Option, Some, None, option_map}
+use Rattle.std.specs.Prelude.{Ok, Err, if◌then◌else◌, nat_lt}
 use Rattle.std.proofs.Common.{ap, refl}
 use Rattle.risc_word.specs.declared.Instr.TheVariants.{Jump, Sync}
 use Rattle.risc_word.specs.Words.{Reading}
@@ -174,7 +175,8 @@ taken_twice Spoilt = refl
 pub later_tell_nothing : FirstTellsIf true track_notes
 later_tell_nothing first later One at next t = ap (λ mark. record t { marks = record t.marks { one = mark } }) (taken_twice t.marks.one)
 later_tell_nothing first later Two at next t = ap (λ mark. record t { marks = record t.marks { two = mark } }) (taken_twice t.marks.two)
-later_tell_nothing first later Three at next t = ap (λ mark. record t { marks = record t.marks { three = mark } }) (taken_twice t.marks.three)
+later_tell_nothing first later Three at next t =
+    ap (λ mark. record t { marks = record t.marks { three = mark } }) (taken_twice t.marks.three)
 
 -- what each step makes of it, from the state that the step meets
 abbrev pub track_next : State → Step → FieldTrack → FieldTrack

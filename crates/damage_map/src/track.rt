@@ -1,6 +1,7 @@
 //! What is kept of a field under way.
 ghost use Rattle.std.specs.Prelude.{◌≡◌, ◌∷◌, ℕ, Bool, List, Option, false, true, option_map, IfOk};
-ghost use Rattle.damage_map.specs.Tracks.{fresh, is_good, is_whole, later_tell_nothing, left_mark, mark_on, met, met_mark, opened, rows_kept, signalled, still_tells_nothing, taken_mark, through, track_notes, untold, with_mark};
+ghost use Rattle.damage_map.specs.Tracks.{fresh, is_good, is_whole, later_tell_nothing, left_mark, mark_on, met, met_mark, opened};
+ghost use Rattle.damage_map.specs.Tracks.{rows_kept, signalled, still_tells_nothing, taken_mark, through, track_notes, untold, with_mark};
 
 use crate::before::{LinesBefore, before_rows};
 use crate::lines::{Lines, Told};

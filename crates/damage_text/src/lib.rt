@@ -106,7 +106,8 @@ fn push_field(text: &mut Lines, desc: &Desc, field: Parity, marks: Option<&[bool
 pub fn push_damage(text: &mut Lines, desc: &Desc, top: Option<&[bool]>, bottom: Option<&[bool]>)
     requires few { desc.now.height ≤ 1024 }
     requires room { array_string_len text.old + 51320 ≤ 65536 }
-    ensures { text.new.bytes ≡ text.old.bytes ++ damage_text desc.now (by_field (option_map (λ m. m.now) top.entry) (option_map (λ m. m.now) bottom.entry)) }
+    ensures { text.new.bytes
+        ≡ text.old.bytes ++ damage_text desc.now (by_field (option_map (λ m. m.now) top.entry) (option_map (λ m. m.now) bottom.entry)) }
 {
     if desc.fields != Fields::Bottom {
         push_field(text, desc, Parity::Top, top);

@@ -7,7 +7,9 @@ use std::test::Fail;
 const PLAIN: &str = "format = \"y8\"\nwidth = 8\nheight = 1\nfields = \"top\"\npages = [0x20000]\n";
 
 const FULL: &str =
-    "fill = -0\nbase = 0x1_0000\nchunks = [[131072, 8], [196_608, 0x10,],]\nformat = \"yuv422p\"\nwidth = +12\nheight = 4\nstride = [12, 6, 7]\noffset = [0, 48, 4294967295]\nskip_lines = 255\nvbi_lines = 2\nvbi_bytes = 0b101\nvbi_stride = 0x10\nvbi_offset = 0o17\nvbi_skip = [0, 255]\nchroma_first = [0, 0,]\nclip = [[0, 1, 4, 4294967295], [20, 0, 0, 1]]\n";
+    "fill = -0\nbase = 0x1_0000\nchunks = [[131072, 8], [196_608, 0x10,],]\nformat = \"yuv422p\"\nwidth = +12\nheight = 4\n\
+        stride = [12, 6, 7]\noffset = [0, 48, 4294967295]\nskip_lines = 255\nvbi_lines = 2\nvbi_bytes = 0b101\nvbi_stride = 0x10\n\
+        vbi_offset = 0o17\nvbi_skip = [0, 255]\nchroma_first = [0, 0,]\nclip = [[0, 1, 4, 4294967295], [20, 0, 0, 1]]\n";
 
 // Whether the keys that PLAIN leaves out have their defaults.
 fn has_defaults(desc: &Desc) -> bool {

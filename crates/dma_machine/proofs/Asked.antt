@@ -28,15 +28,19 @@ front_written grants (Some address) count all le h =
     IsRange-written grants address count (record { ends = omega arith; whole = front_granted grants address count all le range.whole })
 
 -- the first bytes of what is asked of a queue
-pub part-written : (grants : List Chunk) (q : Queue) (ds : Demands) (count : ℕ) → count ≤ (demand_on q ds).rest → demands_cause grants ds ≡ None →
+pub part-written : (grants : List Chunk) (q : Queue) (ds : Demands) (count : ℕ) → count ≤ (demand_on q ds).rest →
+    demands_cause grants ds ≡ None →
     range_cause grants (demand_on q ds).address count ≡ None
-part-written grants q ds count le h = front_written grants (demand_on q ds).address count (demand_on q ds).rest le (demand-granted grants q ds h)
+part-written grants q ds count le h =
+    front_written grants (demand_on q ds).address count (demand_on q ds).rest le (demand-granted grants q ds h)
 
 -- what is left to ask
-pub rest-granted : (memory after : List Block) (stores : List Store) (q : Queue) (ds : Demands) (count : ℕ) → after ≡ stored_all memory stores →
+pub rest-granted : (memory after : List Block) (stores : List Store) (q : Queue) (ds : Demands) (count : ℕ) →
+    after ≡ stored_all memory stores →
     count ≤ (demand_on q ds).rest → demands_cause (chunks_of memory) ds ≡ None →
     demands_cause (chunks_of after) (with_demand q (demand_less count (demand_on q ds)) ds) ≡ None
 rest-granted memory after stores q ds count made le h =
-    ap (λ grants. demands_cause grants (with_demand q (demand_less count (demand_on q ds)) ds)) (ap chunks_of made ∙ chunks-stored_all memory stores)
+    ap (λ grants. demands_cause grants (with_demand q (demand_less count (demand_on q ds)) ds))
+    (ap chunks_of made ∙ chunks-stored_all memory stores)
     ∙ with_demand-granted (chunks_of memory) q (demand_less count (demand_on q ds)) ds
     (demand_less-granted (chunks_of memory) (demand_on q ds) count le (demand-granted (chunks_of memory) q ds h)) h

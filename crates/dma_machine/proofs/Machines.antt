@@ -57,11 +57,13 @@ IsMachine-pc m h =
     omega arith
 
 -- with another program that can be made and is sound
-pub IsMachine-program : (program : RiscProgram) (m : State) → IsProgram program → IsSound program → CanGoOn program m → IsMachine (with_program program m)
+pub IsMachine-program : (program : RiscProgram) (m : State) → IsProgram program → IsSound program → CanGoOn program m →
+    IsMachine (with_program program m)
 IsMachine-program program m made sound h = record { made = made; sound = sound; safe = h.safe }
 
 module _ (m : State) (h : IsMachine m) where
-  can_begin : (skipping : Skipping) (instr : Instr) (count : ℕ) → m.job ≡ Idle → m.skipping ≡ skipping → fetch m.program m.pc ≡ Ok (instr, count) →
+  can_begin : (skipping : Skipping) (instr : Instr) (count : ℕ) → m.job ≡ Idle → m.skipping ≡ skipping →
+      fetch m.program m.pc ≡ Ok (instr, count) →
       is_data instr ≡ true → CanBegin skipping m.program.grants instr m.target
   can_begin Nothing instr count e s f d = idle-data m h.sound h.safe instr count e s f d
   can_begin ToEol instr count e s f d = tt

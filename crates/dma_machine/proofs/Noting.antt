@@ -1,5 +1,6 @@
 -- What is noted of a burst, application by application, is what is seen of it.
-use Rattle.std.proofs.Common.{◌≡◌, ℕ, zero, suc, ◌-◌, ◌<◌, ◌++◌, Bool, true, false, not, List, [], ◌∷◌, Option, Some, None, refl, sym, ap, ◌∙◌, arith, if◌then◌else◌}
+use Rattle.std.proofs.Common.{◌≡◌, ℕ, zero, suc, ◌-◌, ◌<◌, ◌++◌, Bool, true, false, not, List, [], ◌∷◌, Option, Some, None, refl, sym, ap}
+use Rattle.std.proofs.Common.{◌∙◌, arith, if◌then◌else◌}
 use Rattle.std.specs.Prelude.{◌&&◌, ◌||◌, ◌==◌, ◌+◌}
 use Rattle.std.specs.List.{list_any}
 use Rattle.std.proofs.lemmas.List.Sums.{sum_by-append}
@@ -11,7 +12,8 @@ use Rattle.machine_model.specs.declared.Seen.{Seen}
 use Rattle.sync_status.specs.declared.Verdict.{Verdict}
 use Rattle.sync_status.specs.declared.Verdict.TheVariants.{Take}
 use Rattle.sync_status.specs.Statuses.{is_end, kind_of, valid_bytes}
-use Rattle.machine_model.specs.Seen.{Application, application, applications, bytes_taken, discards_reserved, discards_reserved_by, ends, ends_by, gives_up, gives_up_by, seen_alone, seen_burst, taken_by, takes, takes_by, verdict_of}
+use Rattle.machine_model.specs.Seen.{Application, application, applications, bytes_taken, discards_reserved, discards_reserved_by, ends}
+use Rattle.machine_model.specs.Seen.{ends_by, gives_up, gives_up_by, seen_alone, seen_burst, taken_by, takes, takes_by, verdict_of}
 use Rattle.machine_model.specs.States.{State}
 use Rattle.machine_model.specs.Turns.{apply}
 use Rattle.dma_machine.specs.Needs.{Applied}
@@ -19,11 +21,13 @@ use Rattle.dma_machine.specs.Noted.{all_noted, noted}
 use Rattle.dma_machine.specs.WholeTakes.{takes_whole}
 use Rattle.dma_machine.proofs.WholeTakes.{IsWhole, plain_whole}
 
-all_noted-append : (q : Queue) (first rest : List Application) (seen : Seen) → all_noted q (first ++ rest) seen ≡ all_noted q rest (all_noted q first seen)
+all_noted-append : (q : Queue) (first rest : List Application) (seen : Seen) →
+    all_noted q (first ++ rest) seen ≡ all_noted q rest (all_noted q first seen)
 all_noted-append q [] rest seen = refl
 all_noted-append q (a ∷ first) rest seen = all_noted-append q first rest (noted q a seen)
 
-continued : (wanted : Option State) (left : ℕ) (q : Queue) (made : Bool) (after before : State) (seen : Seen) → Applied wanted made after before →
+continued : (wanted : Option State) (left : ℕ) (q : Queue) (made : Bool) (after before : State) (seen : Seen) →
+    Applied wanted made after before →
     all_noted q (elim wanted as (λ _. List Application) [ None ↦ [] | Some next ↦ applications left q next ]) seen
     ≡ (if made then all_noted q (applications left q after) seen else seen)
 continued None left q true after before seen h = let e = h.0 in cc
@@ -32,19 +36,23 @@ continued (Some next) left q true after before seen h = ap (λ m. all_noted q (a
 continued (Some next) left q false after before seen h = let e = h.0 in cc
 
 -- what is left to note of a burst after an application, or after none
-pub noted-applied : (left : ℕ) (q : Queue) (made : Bool) (after before : State) (seen : Seen) → 0 < left → Applied (apply q before) made after before →
+pub noted-applied : (left : ℕ) (q : Queue) (made : Bool) (after before : State) (seen : Seen) → 0 < left →
+    Applied (apply q before) made after before →
     all_noted q (applications left q before) seen
-    ≡ (if made then all_noted q (applications (left - 1) q after) (all_noted q (application q before) seen) else all_noted q (application q before) seen)
+    ≡ (if made then all_noted q (applications (left - 1) q after) (all_noted q (application q before) seen)
+    else all_noted q (application q before) seen)
 noted-applied zero q made after before seen some h = absurd (omega arith)
 noted-applied (suc left) q made after before seen some h =
     let one_less : suc left - 1 ≡ left = omega arith in
     all_noted-append q (application q before) _ seen
     ∙ continued (apply q before) left q made after before (all_noted q (application q before) seen) h
-    ∙ ap (λ n. if made then all_noted q (applications n q after) (all_noted q (application q before) seen) else all_noted q (application q before) seen)
+    ∙ ap (λ n. if made then all_noted q (applications n q after) (all_noted q (application q before) seen)
+    else all_noted q (application q before) seen)
     (sym one_less)
 
 continued_taken : (wanted : Option State) (left : ℕ) (q : Queue) (made : Bool) (after before : State) → Applied wanted made after before →
-    bytes_taken (elim wanted as (λ _. List Application) [ None ↦ [] | Some next ↦ applications left q next ]) ≡ (if made then bytes_taken (applications left q after) else 0)
+    bytes_taken (elim wanted as (λ _. List Application) [ None ↦ [] | Some next ↦ applications left q next ])
+    ≡ (if made then bytes_taken (applications left q after) else 0)
 continued_taken None left q true after before h = let e = h.0 in cc
 continued_taken None left q false after before h = refl
 continued_taken (Some next) left q true after before h = ap (λ m. bytes_taken (applications left q m)) (sym h.1)
@@ -52,7 +60,8 @@ continued_taken (Some next) left q false after before h = let e = h.0 in cc
 
 -- how many bytes what is left of a burst takes, with an application or none
 pub taken-applied : (left : ℕ) (q : Queue) (made : Bool) (after before : State) → 0 < left → Applied (apply q before) made after before →
-    bytes_taken (applications left q before) ≡ bytes_taken (application q before) + (if made then bytes_taken (applications (left - 1) q after) else 0)
+    bytes_taken (applications left q before)
+    ≡ bytes_taken (application q before) + (if made then bytes_taken (applications (left - 1) q after) else 0)
 taken-applied zero q made after before some h = absurd (omega arith)
 taken-applied (suc left) q made after before some h =
     let one_less : suc left - 1 ≡ left = omega arith in
@@ -60,7 +69,8 @@ taken-applied (suc left) q made after before some h =
     ∙ ap (λ n. bytes_taken (application q before) + n) (continued_taken (apply q before) left q made after before h)
     ∙ ap (λ n. bytes_taken (application q before) + (if made then bytes_taken (applications n q after) else 0)) (sym one_less)
 
-either : (one other : Bool) (given otherwise : Did) → (if other then given else (if one then given else otherwise)) ≡ (if one || other then given else otherwise)
+either : (one other : Bool) (given otherwise : Did) →
+    (if other then given else (if one then given else otherwise)) ≡ (if one || other then given else otherwise)
 either true true given otherwise = refl
 either true false given otherwise = refl
 either false other given otherwise = refl
@@ -90,12 +100,14 @@ all_noted-with_all q (a ∷ made) seen =
     (or_assoc seen.ended (ends a) (list_any ends made))
     (or_assoc seen.reserved (discards_reserved a) (list_any discards_reserved made))
 
-pub all_noted-seen_burst : (q : Queue) (at : ℕ) (made : List Application) → all_noted q made (seen_alone (Moved q) at) ≡ seen_burst q at made
+pub all_noted-seen_burst : (q : Queue) (at : ℕ) (made : List Application) →
+    all_noted q made (seen_alone (Moved q) at) ≡ seen_burst q at made
 all_noted-seen_burst q at made = all_noted-with_all q made (seen_alone (Moved q) at)
 
 -- what is noted of a front that is taken whole
 
-pub whole_noted : (q : Queue) (a : Application) (seen : Seen) → takes_whole (kind_of a.entry.status) a.demand.needs_sol a.taken a.demand.rest ≡ true →
+pub whole_noted : (q : Queue) (a : Application) (seen : Seen) →
+    takes_whole (kind_of a.entry.status) a.demand.needs_sol a.taken a.demand.rest ≡ true →
     record seen { took = true } ≡ noted q a seen
 whole_noted q a seen e =
     let whole : IsWhole (kind_of a.entry.status) a.demand.needs_sol a.taken a.demand.rest = plain_whole _ _ _ _ e in
@@ -105,10 +117,12 @@ whole_noted q a seen e =
     (ap (λ (b : Bool). if b && a.taken + 4 == valid_bytes a.entry.status && not (a.demand.rest == 4) then GivenUp q else seen.did) no_end
     ∙ ap (λ (v : Verdict). if gives_up_by v a then GivenUp q else seen.did) verdict)
     (sym (or-true seen.took) ∙ ap (λ (v : Verdict). seen.took || takes_by v) verdict)
-    (sym (or-false seen.ended) ∙ ap (λ (b : Bool). seen.ended || (b && a.taken + 4 == valid_bytes a.entry.status)) no_end ∙ ap (λ (v : Verdict). seen.ended || ends_by v a) verdict)
+    (sym (or-false seen.ended) ∙ ap (λ (b : Bool). seen.ended || (b && a.taken + 4 == valid_bytes a.entry.status)) no_end
+    ∙ ap (λ (v : Verdict). seen.ended || ends_by v a) verdict)
     (sym (or-false seen.reserved) ∙ ap (λ (v : Verdict). seen.reserved || discards_reserved_by v a) verdict)
 
-pub whole_taken : (a : Application) → takes_whole (kind_of a.entry.status) a.demand.needs_sol a.taken a.demand.rest ≡ true → 4 ≡ taken_by (verdict_of a)
+pub whole_taken : (a : Application) → takes_whole (kind_of a.entry.status) a.demand.needs_sol a.taken a.demand.rest ≡ true →
+    4 ≡ taken_by (verdict_of a)
 whole_taken a e =
     let whole : IsWhole (kind_of a.entry.status) a.demand.needs_sol a.taken a.demand.rest = plain_whole _ _ _ _ e in
     let verdict : Take 4 ≡ verdict_of a = sym whole.verdict in

@@ -1,5 +1,6 @@
 -- Plain entries that fall through one after the other are stored by one run of bytes.
-use Rattle.std.proofs.Common.{◌≡◌, ℕ, zero, suc, ◌+◌, ◌*◌, ◌-◌, ◌<◌, ◌≤◌, ◌^◌, Bool, true, false, not, List, [], ◌∷◌, ◌++◌, length, replicate, Option, Some, None, refl, sym, ap, subst, ◌∙◌, arith, if◌then◌else◌, ◌==◌}
+use Rattle.std.proofs.Common.{◌≡◌, ℕ, zero, suc, ◌+◌, ◌*◌, ◌-◌, ◌<◌, ◌≤◌, ◌^◌, Bool, true, false, not, List, [], ◌∷◌, ◌++◌, length}
+use Rattle.std.proofs.Common.{replicate, Option, Some, None, refl, sym, ap, subst, ◌∙◌, arith, if◌then◌else◌, ◌==◌}
 use Rattle.std.specs.Prelude.{◌&&◌, ◌||◌, is_none, nat_le}
 use Rattle.std.specs.List.{list_any}
 use Rattle.std.specs.Option.{option_map}
@@ -53,7 +54,8 @@ asked_last One early late ds = refl
 asked_last Two early late ds = refl
 asked_last Three early late ds = refl
 
-address_less : (a b : ℕ) (address : Option ℕ) → option_map (λ at. at + b) (option_map (λ at. at + a) address) ≡ option_map (λ at. at + (a + b)) address
+address_less : (a b : ℕ) (address : Option ℕ) →
+    option_map (λ at. at + b) (option_map (λ at. at + a) address) ≡ option_map (λ at. at + (a + b)) address
 address_less a b None = refl
 address_less a b (Some address) = let e : address + a + b ≡ address + (a + b) = omega arith in ap Some e
 
@@ -65,14 +67,17 @@ less_less a b d =
 
 -- after two takes
 asked_after : (q : Queue) (a b : ℕ) (ds : Demands) →
-    with_demand q (demand_less b (demand_on q (with_demand q (demand_less a (demand_on q ds)) ds))) (with_demand q (demand_less a (demand_on q ds)) ds)
+    with_demand q (demand_less b (demand_on q (with_demand q (demand_less a (demand_on q ds)) ds)))
+    (with_demand q (demand_less a (demand_on q ds)) ds)
     ≡ with_demand q (demand_less (a + b) (demand_on q ds)) ds
 asked_after q a b ds =
-    ap (λ d. with_demand q (demand_less b d) (with_demand q (demand_less a (demand_on q ds)) ds)) (asked_now q (demand_less a (demand_on q ds)) ds)
+    ap (λ d. with_demand q (demand_less b d) (with_demand q (demand_less a (demand_on q ds)) ds))
+    (asked_now q (demand_less a (demand_on q ds)) ds)
     ∙ asked_last q (demand_less a (demand_on q ds)) (demand_less b (demand_less a (demand_on q ds))) ds
     ∙ ap (λ d. with_demand q d ds) (less_less a b (demand_on q ds))
 
-all_less : (q : Queue) (n : ℕ) (ds : Demands) → n ≤ (demand_on q ds).rest → asked_of_all (with_demand q (demand_less n (demand_on q ds)) ds) ≡ asked_of_all ds - n
+all_less : (q : Queue) (n : ℕ) (ds : Demands) → n ≤ (demand_on q ds).rest →
+    asked_of_all (with_demand q (demand_less n (demand_on q ds)) ds) ≡ asked_of_all ds - n
 all_less One n ds le = omega (arith, le)
 all_less Two n ds le = omega (arith, le)
 all_less Three n ds le = omega (arith, le)
@@ -94,26 +99,30 @@ abbrev count_at : Option ℕ → List ℕ → ℕ
 count_at None bytes = 0
 count_at (Some address) bytes = length bytes
 
-put_all : (memory : List Block) (off : ℕ) (address : Option ℕ) (bytes : List ℕ) → off ≡ 0 → stored_all memory (stores_at address off 0 bytes) ≡ put_at memory address bytes
+put_all : (memory : List Block) (off : ℕ) (address : Option ℕ) (bytes : List ℕ) → off ≡ 0 →
+    stored_all memory (stores_at address off 0 bytes) ≡ put_at memory address bytes
 put_all memory off None bytes e = refl
 put_all memory off (Some address) bytes e =
     ap (λ n. stored_all memory (stores_at (Some address) n 0 bytes)) e ∙ (all_stored memory 0 address bytes).stores
 
-count_all : (memory : List Block) (off : ℕ) (address : Option ℕ) (bytes : List ℕ) → off ≡ 0 → length (stores_at address off 0 bytes) ≡ count_at address bytes
+count_all : (memory : List Block) (off : ℕ) (address : Option ℕ) (bytes : List ℕ) → off ≡ 0 →
+    length (stores_at address off 0 bytes) ≡ count_at address bytes
 count_all memory off None bytes e = refl
 count_all memory off (Some address) bytes e =
     ap (λ n. length (stores_at (Some address) n 0 bytes)) e ∙ (all_stored memory 0 address bytes).many
 
 -- behind the four of an entry
 put_next : (memory : List Block) (address : Option ℕ) (dword : ℕ) (bytes : List ℕ) →
-    put_at (put_at memory address (lane_bytes dword)) (option_map (λ at. at + 4) address) bytes ≡ put_at memory address (lane_bytes dword ++ bytes)
+    put_at (put_at memory address (lane_bytes dword)) (option_map (λ at. at + 4) address) bytes
+    ≡ put_at memory address (lane_bytes dword ++ bytes)
 put_next memory None dword bytes = refl
 put_next memory (Some address) dword bytes =
     let e : address + 4 ≡ address + 1 + 1 + 1 + 1 = omega arith in
     ap (λ at. stored_run (put_at memory (Some address) (lane_bytes dword)) at bytes) e
 
 count_next : (moved : ℕ) (address : Option ℕ) (dword : ℕ) (bytes : List ℕ) →
-    more (more moved (count_at address (lane_bytes dword))) (count_at (option_map (λ at. at + 4) address) bytes) ≡ more moved (count_at address (lane_bytes dword ++ bytes))
+    more (more moved (count_at address (lane_bytes dword))) (count_at (option_map (λ at. at + 4) address) bytes)
+    ≡ more moved (count_at address (lane_bytes dword ++ bytes))
 count_next moved None dword bytes = omega arith
 count_next moved (Some address) dword bytes = omega arith
 
@@ -142,9 +151,11 @@ not_both false b e = refl
 -- of a queue that is empty nothing is served, whatever is asked of it
 not_ready : (held : QueueState) (trigger : ℕ) → trigger ≡ 1 → held.entries ≡ [] → is_ready trigger held ≡ false
 not_ready held trigger one none =
-    ap (λ n. is_ready n held) one ∙ ap (λ entries. nat_le 1 (length entries) || list_any (λ (entry : Entry). wakes (kind_of entry.status)) entries) none
+    ap (λ n. is_ready n held) one
+    ∙ ap (λ entries. nat_le 1 (length entries) || list_any (λ (entry : Entry). wakes (kind_of entry.status)) entries) none
 
-still_none : (q : Queue) (d : Demand) (ds : Demands) (m : State) → is_ready m.trigger (queue_state q m.queues) ≡ false → none_served ds m ≡ true → none_served (with_demand q d ds) m ≡ true
+still_none : (q : Queue) (d : Demand) (ds : Demands) (m : State) → is_ready m.trigger (queue_state q m.queues) ≡ false →
+    none_served ds m ≡ true → none_served (with_demand q d ds) m ≡ true
 still_none One d ds m empty none =
     let three = and_parts (not (is_served One ds m) && not (is_served Two ds m)) (not (is_served Three ds m)) none in
     let two = and_parts (not (is_served One ds m)) (not (is_served Two ds m)) three.0 in
@@ -207,7 +218,8 @@ module _ (q : Queue) (dword count : ℕ) (m : State) (instr : Instr) (ds : Deman
         none = h.none;
         sol = ap (λ (d : Demand). d.needs_sol) now;
         off = h.off;
-        still = still_none q (demand_less 4 (demand_on q ds)) ds m (not_ready (queue_state q m.queues) m.trigger h.one empty.entries) h.still;
+        still =
+            still_none q (demand_less 4 (demand_on q ds)) ds m (not_ready (queue_state q m.queues) m.trigger h.one empty.entries) h.still;
         rest = omega (arith, left, rest);
         all = omega (arith, less, all, four);
       }
@@ -220,7 +232,8 @@ module _ (q : Queue) (dword count : ℕ) (m : State) (instr : Instr) (ds : Deman
       ∙ both _ _ (ap not (none_asked asked.one.rest asked.two.rest asked.three.rest (omega (arith, some)))) left.still
 
   -- with the turns behind it
-  pub first_run : (turns : ℕ) → m.turns ≤ 2 ^ 64 - 1 → 1 ≤ turns → run (push q (plain_entry dword) m) (replicate turns Turn) ≡ with_turns (more m.turns turns) fallen
+  pub first_run : (turns : ℕ) → m.turns ≤ 2 ^ 64 - 1 → 1 ≤ turns →
+      run (push q (plain_entry dword) m) (replicate turns Turn) ≡ with_turns (more m.turns turns) fallen
   first_run zero few some = absurd (omega (arith, some))
   first_run (suc turns) few some =
       let pushed : State = push q (plain_entry dword) m in
@@ -229,7 +242,8 @@ module _ (q : Queue) (dword count : ℕ) (m : State) (instr : Instr) (ds : Deman
       let still : is_still (with_turns count fallen) ≡ true = is_still-turns count fallen ∙ fallen_still in
       run_counted (suc turns) pushed (omega (arith, same, few))
       ∙ ap (λ n. acted_times turns (acted (with_turns (more n (suc turns)) pushed))) same
-      ∙ ap (acted_times turns) (acted-turns count pushed ∙ ap (with_turns count) (entry_falls q (plain_entry dword) m instr ds h.fifo h.job falls))
+      ∙ ap (acted_times turns)
+      (acted-turns count pushed ∙ ap (with_turns count) (entry_falls q (plain_entry dword) m instr ds h.fifo h.job falls))
       ∙ still_times turns (with_turns count fallen) (still_acted (with_turns count fallen) still)
 
   -- the first turn takes it, and those behind it do nothing
@@ -239,7 +253,8 @@ module _ (q : Queue) (dword count : ℕ) (m : State) (instr : Instr) (ds : Deman
   pub turned_still : is_still (turn (push q (plain_entry dword) m)) ≡ true
   turned_still =
       let pushed : State = push q (plain_entry dword) m in
-      ap is_still (turn-acted pushed ∙ ap (with_turns (more pushed.turns 1)) (entry_falls q (plain_entry dword) m instr ds h.fifo h.job falls))
+      ap is_still
+      (turn-acted pushed ∙ ap (with_turns (more pushed.turns 1)) (entry_falls q (plain_entry dword) m instr ds h.fifo h.job falls))
       ∙ is_still-turns (more pushed.turns 1) fallen
       ∙ fallen_still
 
@@ -247,7 +262,8 @@ module _ (q : Queue) (dword count : ℕ) (m : State) (instr : Instr) (ds : Deman
 
 -- their bytes are stored, and no longer asked for
 abbrev all_put : Queue → Instr → Demands → List (ℕ × ℕ) → State → State
-all_put q instr ds entries m = with_turns (more m.turns (turns_behind entries)) (put_down q (length entries * 4) instr ds 0 (dwords_of entries) m)
+all_put q instr ds entries m =
+    with_turns (more m.turns (turns_behind entries)) (put_down q (length entries * 4) instr ds 0 (dwords_of entries) m)
 
 module _ (q : Queue) (instr : Instr) (ds : Demands) (m : State) (off : instr_off instr ≡ 0) where
   abbrev made : Demands → List Block → ℕ → ℕ → State
@@ -259,7 +275,8 @@ module _ (q : Queue) (instr : Instr) (ds : Demands) (m : State) (off : instr_off
   -- an entry, and others behind it
   put_both : (dword turns : ℕ) (count later : ℕ) (bytes : List ℕ) →
       with_turns (more (more m.turns turns) later)
-      (put_down q count instr (with_demand q (demand_less 4 (demand_on q ds)) ds) 0 bytes (with_turns (more m.turns turns) (fallen_through q instr ds (plain_entry dword) m)))
+      (put_down q count instr (with_demand q (demand_less 4 (demand_on q ds)) ds) 0 bytes
+      (with_turns (more m.turns turns) (fallen_through q instr ds (plain_entry dword) m)))
       ≡ with_turns (more m.turns (turns + later)) (put_down q (4 + count) instr ds 0 (lane_bytes dword ++ bytes) m)
   put_both dword turns count later bytes =
       let less : Demands = with_demand q (demand_less 4 (demand_on q ds)) ds in
@@ -270,19 +287,26 @@ module _ (q : Queue) (instr : Instr) (ds : Demands) (m : State) (off : instr_off
       let memory : stored_all (stored_all m.memory first) next ≡ stored_all m.memory whole =
       put_all (stored_all m.memory first) (instr_off instr) (demand_on q less).address bytes off
       ∙ ap (λ at. put_at (stored_all m.memory first) at bytes) now
-      ∙ ap (λ before. put_at before (option_map (λ at. at + 4) address) bytes) (put_all m.memory (instr_off instr) address (lane_bytes dword) off)
+      ∙ ap (λ before. put_at before (option_map (λ at. at + 4) address) bytes)
+      (put_all m.memory (instr_off instr) address (lane_bytes dword) off)
       ∙ put_next m.memory address dword bytes
       ∙ sym (put_all m.memory (instr_off instr) address (lane_bytes dword ++ bytes) off) in
       let moved : more (more m.moved (length first)) (length next) ≡ more m.moved (length whole) =
-      ap (λ n. more (more m.moved (length first)) n) (count_all m.memory (instr_off instr) (demand_on q less).address bytes off ∙ ap (λ at. count_at at bytes) now)
-      ∙ ap (λ n. more (more m.moved n) (count_at (option_map (λ at. at + 4) address) bytes)) (count_all m.memory (instr_off instr) address (lane_bytes dword) off)
+      ap (λ n. more (more m.moved (length first)) n)
+      (count_all m.memory (instr_off instr) (demand_on q less).address bytes off ∙ ap (λ at. count_at at bytes) now)
+      ∙ ap (λ n. more (more m.moved n) (count_at (option_map (λ at. at + 4) address) bytes))
+      (count_all m.memory (instr_off instr) address (lane_bytes dword) off)
       ∙ count_next m.moved address dword bytes
       ∙ ap (more m.moved) (sym (count_all m.memory (instr_off instr) address (lane_bytes dword ++ bytes) off)) in
       let counted : more (more m.turns turns) later ≡ more m.turns (turns + later) = omega arith in
-      ap (λ left. made left (stored_all (stored_all m.memory first) next) (more (more m.moved (length first)) (length next)) (more (more m.turns turns) later)) (asked_after q 4 count ds)
-      ∙ ap (λ memory. made (with_demand q (demand_less (4 + count) (demand_on q ds)) ds) memory (more (more m.moved (length first)) (length next)) (more (more m.turns turns) later)) memory
-      ∙ ap (λ n. made (with_demand q (demand_less (4 + count) (demand_on q ds)) ds) (stored_all m.memory whole) n (more (more m.turns turns) later)) moved
-      ∙ ap (λ n. made (with_demand q (demand_less (4 + count) (demand_on q ds)) ds) (stored_all m.memory whole) (more m.moved (length whole)) n) counted
+      ap (λ left. made left (stored_all (stored_all m.memory first) next) (more (more m.moved (length first)) (length next))
+      (more (more m.turns turns) later)) (asked_after q 4 count ds)
+      ∙ ap (λ memory. made (with_demand q (demand_less (4 + count) (demand_on q ds)) ds) memory
+      (more (more m.moved (length first)) (length next)) (more (more m.turns turns) later)) memory
+      ∙ ap (λ n. made (with_demand q (demand_less (4 + count) (demand_on q ds)) ds) (stored_all m.memory whole) n
+      (more (more m.turns turns) later)) moved
+      ∙ ap (λ n. made (with_demand q (demand_less (4 + count) (demand_on q ds)) ds) (stored_all m.memory whole)
+      (more m.moved (length whole)) n) counted
 
 -- an entry alone is as it fell through
 alone : (q : Queue) (instr : Instr) (ds : Demands) (m : State) (dword turns : ℕ) →
@@ -292,7 +316,8 @@ alone q instr ds m dword turns =
     let e : turns ≡ turns + 0 = omega arith in
     ap (λ n. with_turns (more m.turns n) (put_down q 4 instr ds 0 (lane_bytes dword) m)) e
 
-all_run : (q : Queue) (instr : Instr) (ds : Demands) (entry : ℕ × ℕ) (entries : List (ℕ × ℕ)) (m : State) → Takes q (length (entry ∷ entries)) instr ds m → m.turns ≤ 2 ^ 64 - 1 →
+all_run : (q : Queue) (instr : Instr) (ds : Demands) (entry : ℕ × ℕ) (entries : List (ℕ × ℕ)) (m : State) →
+    Takes q (length (entry ∷ entries)) instr ds m → m.turns ≤ 2 ^ 64 - 1 →
     HaveTurns (entry ∷ entries) →
     run m (plain_steps q (entry ∷ entries)) ≡ all_put q instr ds (entry ∷ entries) m
 all_run q instr ds entry [] m h few each =
@@ -309,10 +334,12 @@ all_run q instr ds entry (next ∷ entries) m h few each =
     ∙ ap (λ s. run s (plain_steps q (next ∷ entries))) (first_run q entry.0 (suc (length entries)) m instr ds h entry.1 few each.0)
     ∙ all_run q instr less next entries after (others q entry.0 (suc (length entries)) m instr ds h turns) still_few each.1
     ∙ put_both q instr ds m h.off entry.0 entry.1 (length (next ∷ entries) * 4) (turns_behind (next ∷ entries)) (dwords_of (next ∷ entries))
-    ∙ ap (λ n. with_turns (more m.turns (turns_behind (entry ∷ next ∷ entries))) (put_down q n instr ds 0 (dwords_of (entry ∷ next ∷ entries)) m)) all
+    ∙ ap (λ n.
+    with_turns (more m.turns (turns_behind (entry ∷ next ∷ entries))) (put_down q n instr ds 0 (dwords_of (entry ∷ next ∷ entries)) m)) all
 
 -- and each is seen to be taken
-all_taken : (q : Queue) (instr : Instr) (ds : Demands) (entries : List (ℕ × ℕ)) (m : State) → Takes q (length entries) instr ds m → m.turns ≤ 2 ^ 64 - 1 → HaveTurns entries → AreTaken q entries m
+all_taken : (q : Queue) (instr : Instr) (ds : Demands) (entries : List (ℕ × ℕ)) (m : State) → Takes q (length entries) instr ds m →
+    m.turns ≤ 2 ^ 64 - 1 → HaveTurns entries → AreTaken q entries m
 all_taken q instr ds [] m h few each = tt
 all_taken q instr ds (entry ∷ entries) m h few each =
     let still_few : more m.turns entry.1 ≤ 2 ^ 64 - 1 = omega arith in (
@@ -321,7 +348,8 @@ all_taken q instr ds (entry ∷ entries) m h few each =
       subst
           (AreTaken q entries)
           (sym (first_run q entry.0 (length entries) m instr ds h entry.1 few each.0))
-          (all_taken q instr (asked q entry.0 (length entries) m instr ds h) entries (with_turns (more m.turns entry.1) (fallen q entry.0 (length entries) m instr ds h))
+          (all_taken q instr (asked q entry.0 (length entries) m instr ds h) entries
+          (with_turns (more m.turns entry.1) (fallen q entry.0 (length entries) m instr ds h))
           (others q entry.0 (length entries) m instr ds h (more m.turns entry.1)) still_few each.1),
     )
 
@@ -342,8 +370,13 @@ takes_room q count m instr ds job fifo some le =
     let on = and_parts m.fifo_on m.risc_on works.true_is in
     let lets = chosen (lets_plain q instr ds m) (whole_entries q ds) count some (subst (λ job. count ≤ room_in job q m) job works.within) in
     let within = lets.within in
-    let one = and_parts (m.trigger == 1) (is_none (front (queue_state q m.queues)) && (not (demand_on q ds).needs_sol && ((instr_off instr == 0) && none_served ds m))) lets.true_is in
-    let none = and_parts (is_none (front (queue_state q m.queues))) (not (demand_on q ds).needs_sol && ((instr_off instr == 0) && none_served ds m)) one.1 in
+    let one =
+    and_parts (m.trigger == 1)
+    (is_none (front (queue_state q m.queues)) && (not (demand_on q ds).needs_sol && ((instr_off instr == 0) && none_served ds m)))
+    lets.true_is in
+    let none =
+    and_parts (is_none (front (queue_state q m.queues)))
+    (not (demand_on q ds).needs_sol && ((instr_off instr == 0) && none_served ds m)) one.1 in
     let sol = and_parts (not (demand_on q ds).needs_sol) ((instr_off instr == 0) && none_served ds m) none.1 in
     let off = and_parts (instr_off instr == 0) (none_served ds m) sol.1 in
     record {
@@ -361,7 +394,8 @@ takes_room q count m instr ds job fifo some le =
     }
 
 -- an instruction runs there
-pub room_running : (at : Phase) (wait : Wait) (instr : Instr) (ds : Demands) (q : Queue) (count : ℕ) (m : State) → m.job ≡ job_of at wait instr ds →
+pub room_running : (at : Phase) (wait : Wait) (instr : Instr) (ds : Demands) (q : Queue) (count : ℕ) (m : State) →
+    m.job ≡ job_of at wait instr ds →
     0 < count → count ≤ plain_room q m → at ≡ phase.Running
 room_running at wait instr ds q count m is some le =
     by_phase at (subst (λ job. count ≤ room_in job q m) is (chosen (m.fifo_on && m.risc_on) (room_in m.job q m) count some le).within)
@@ -378,27 +412,34 @@ length_dwords [] = refl
 length_dwords (entry ∷ entries) = let rest = length_dwords entries in omega (arith, rest)
 
 pub plain_run : (q : Queue) (instr : Instr) (ds : Demands) (m after : State) (count turns : ℕ) (dwords : List ℕ) (entries : List (ℕ × ℕ)) →
-    m.job ≡ Running instr ds → IsFifo m.queues → m.turns ≤ 2 ^ 64 - 1 → 0 < length dwords → count ≡ length dwords → length dwords ≤ 4 * plain_room q m → ArePlain dwords turns entries →
+    m.job ≡ Running instr ds → IsFifo m.queues → m.turns ≤ 2 ^ 64 - 1 → 0 < length dwords → count ≡ length dwords →
+    length dwords ≤ 4 * plain_room q m → ArePlain dwords turns entries →
     after ≡ with_turns (more m.turns turns) (put_down q count instr ds 0 dwords m) → after ≡ run m (plain_steps q entries)
-plain_run q instr ds m after count turns dwords [] job fifo few some all room plain made = let none = ap length plain.dwords in absurd (omega (arith, some, none))
+plain_run q instr ds m after count turns dwords [] job fifo few some all room plain made =
+    let none = ap length plain.dwords in
+    absurd (omega (arith, some, none))
 plain_run q instr ds m after count turns dwords (entry ∷ entries) job fifo few some all room plain made =
     let many = length_dwords (entry ∷ entries) in
     let same = ap length plain.dwords in
-    let takes = takes_room q (length (entry ∷ entries)) m instr ds job fifo (omega (arith, many, same, some)) (omega (arith, many, same, room)) in
+    let takes =
+    takes_room q (length (entry ∷ entries)) m instr ds job fifo (omega (arith, many, same, some)) (omega (arith, many, same, room)) in
     let count_is : count ≡ length (entry ∷ entries) * 4 = all ∙ sym same ∙ many in
     made
     ∙ ap (λ n. with_turns (more m.turns turns) (put_down q n instr ds 0 dwords m)) count_is
     ∙ ap (λ bytes. with_turns (more m.turns turns) (put_down q (length (entry ∷ entries) * 4) instr ds 0 bytes m)) (sym plain.dwords)
-    ∙ ap (λ n. with_turns (more m.turns n) (put_down q (length (entry ∷ entries) * 4) instr ds 0 (dwords_of (entry ∷ entries)) m)) (sym plain.turns)
+    ∙ ap (λ n. with_turns (more m.turns n) (put_down q (length (entry ∷ entries) * 4) instr ds 0 (dwords_of (entry ∷ entries)) m))
+    (sym plain.turns)
     ∙ sym (all_run q instr ds entry entries m takes few plain.each)
 
-pub plain_taken : (q : Queue) (instr : Instr) (ds : Demands) (m : State) (sum : ℕ) (dwords : List ℕ) (entries : List (ℕ × ℕ)) → m.job ≡ Running instr ds → IsFifo m.queues → m.turns ≤ 2 ^ 64 - 1 →
+pub plain_taken : (q : Queue) (instr : Instr) (ds : Demands) (m : State) (sum : ℕ) (dwords : List ℕ) (entries : List (ℕ × ℕ)) →
+    m.job ≡ Running instr ds → IsFifo m.queues → m.turns ≤ 2 ^ 64 - 1 →
     length dwords ≤ 4 * plain_room q m → ArePlain dwords sum entries → AreTaken q entries m
 plain_taken q instr ds m sum dwords [] job fifo few room plain = tt
 plain_taken q instr ds m sum dwords (entry ∷ entries) job fifo few room plain =
     let many = length_dwords (entry ∷ entries) in
     let same = ap length plain.dwords in
-    all_taken q instr ds (entry ∷ entries) m (takes_room q (length (entry ∷ entries)) m instr ds job fifo (omega arith) (omega (arith, many, same, room))) few plain.each
+    all_taken q instr ds (entry ∷ entries) m
+    (takes_room q (length (entry ∷ entries)) m instr ds job fifo (omega arith) (omega (arith, many, same, room))) few plain.each
 
 -- ---- whatever the program is
 
@@ -419,7 +460,8 @@ turns_leave (suc count) m h = turns_leave count (step Turn m) (IsMachine-step Tu
 pub plain_leave : (q : Queue) (entries : List (ℕ × ℕ)) (m : State) → IsMachine m → IsMachine (run m (plain_steps q entries))
 plain_leave q [] m h = h
 plain_leave q (entry ∷ entries) m h =
-    let pushed : IsMachine (push q (plain_entry entry.0) m) = IsMachine-step (Push q (plain_entry entry.0)) m (push q (plain_entry entry.0) m) refl refl h in
+    let pushed : IsMachine (push q (plain_entry entry.0) m) =
+    IsMachine-step (Push q (plain_entry entry.0)) m (push q (plain_entry entry.0) m) refl refl h in
     let turned = turns_leave entry.1 (push q (plain_entry entry.0) m) pushed in
     subst IsMachine (sym (run-append (push q (plain_entry entry.0) m) (replicate entry.1 Turn) (plain_steps q entries)))
     (plain_leave q entries (run (push q (plain_entry entry.0) m) (replicate entry.1 Turn)) turned)

@@ -13,7 +13,8 @@ use Rattle.machine_model.specs.declared.Job.TheVariants.{Idle, Waiting, Running}
 use Rattle.machine_model.specs.declared.Skipping.{Skipping}
 use Rattle.machine_model.specs.declared.Skipping.TheVariants.{Nothing, ToEol, ToSync}
 use Rattle.machine_model.specs.Paths.{fetch}
-use Rattle.machine_model.specs.Seen.{address_before, applications, code_did, data_did, fetched_did, gives_up, instr_did, seen, seen_if, seen_in, seen_running, seen_served, waited_did}
+use Rattle.machine_model.specs.Seen.{address_before, applications, code_did, data_did, fetched_did, gives_up, instr_did, seen, seen_if}
+use Rattle.machine_model.specs.Seen.{seen_in, seen_running, seen_served, waited_did}
 use Rattle.machine_model.specs.States.{State}
 use Rattle.machine_model.specs.Turns.{common_code, is_done, lowest_served, lowest_stray}
 use Rattle.machine_model.proofs.InstrSeen.{seen-StandsAt}

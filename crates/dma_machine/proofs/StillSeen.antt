@@ -15,7 +15,8 @@ use Rattle.machine_model.specs.declared.Job.TheVariants.{Idle, Waiting, Running}
 use Rattle.machine_model.specs.declared.Skipping.{Skipping}
 use Rattle.machine_model.specs.declared.Skipping.TheVariants.{Nothing, ToEol, ToSync}
 use Rattle.machine_model.specs.Paths.{fetch}
-use Rattle.machine_model.specs.Seen.{address_before, applications, data_did, fetched_did, gives_up, instr_did, seen, seen_if, seen_in, seen_running, seen_served, waited_did}
+use Rattle.machine_model.specs.Seen.{address_before, applications, data_did, fetched_did, gives_up, instr_did, seen, seen_if, seen_in}
+use Rattle.machine_model.specs.Seen.{seen_running, seen_served, waited_did}
 use Rattle.machine_model.specs.States.{State}
 use Rattle.machine_model.specs.Turns.{common_code, counted, is_done, is_served, lowest_stray, turn}
 use Rattle.machine_model.proofs.BeforeTurns.{idle-IsFine}
@@ -36,14 +37,16 @@ instr_acts (Sync ctl resync code) skipping e = cc
 instr_acts instr skipping e = data_acts skipping e
 
 -- what is fetched does something
-fetched_acts : (reading : Reading) (skipping : Skipping) (instr : Instr) (count : ℕ) → reading ≡ Ok (instr, count) → fetched_did reading skipping ≡ Still → ⊥
+fetched_acts : (reading : Reading) (skipping : Skipping) (instr : Instr) (count : ℕ) → reading ≡ Ok (instr, count) →
+    fetched_did reading skipping ≡ Still → ⊥
 fetched_acts reading skipping instr count is e = instr_acts instr skipping (ap (λ r. fetched_did r skipping) (sym is) ∙ e)
 
 met_acts : (awaited : Bool) → (if awaited then Matched else Missed) ≡ Still → ⊥
 met_acts true e = cc
 met_acts false e = cc
 
-waits : (stray : Option Queue) (code : Option Code) (awaited : Code) → waited_did stray code awaited ≡ Still → (is_none stray && is_none code) ≡ true
+waits : (stray : Option Queue) (code : Option Code) (awaited : Code) → waited_did stray code awaited ≡ Still →
+    (is_none stray && is_none code) ≡ true
 waits (Some q) code awaited e = cc
 waits None (Some code) awaited e = absurd (met_acts (code_number code == code_number awaited) e)
 waits None None awaited e = refl
@@ -63,7 +66,8 @@ none_of false true three at m e = absurd (served_acts Two at m e)
 none_of false false true at m e = absurd (served_acts Three at m e)
 none_of false false false at m e = refl
 
-running : (done : Bool) (at : ℕ) (ds : Demands) (m : State) → (seen_running done at ds m).did ≡ Still → (not done && none_served ds m) ≡ true
+running : (done : Bool) (at : ℕ) (ds : Demands) (m : State) → (seen_running done at ds m).did ≡ Still →
+    (not done && none_served ds m) ≡ true
 running true at ds m e = cc
 running false at ds m e = none_of (is_served One ds m) (is_served Two ds m) (is_served Three ds m) at m e
 
@@ -84,14 +88,17 @@ module _ (m : State) (machine : IsMachine m) where
 
 -- where it stands still
 
-waiting_still : (stray : Option Queue) (code : Option Code) (awaited : Code) → (is_none stray && is_none code) ≡ true → waited_did stray code awaited ≡ Still
+waiting_still : (stray : Option Queue) (code : Option Code) (awaited : Code) → (is_none stray && is_none code) ≡ true →
+    waited_did stray code awaited ≡ Still
 waiting_still (Some q) code awaited e = absurd cc
 waiting_still None (Some code) awaited e = absurd cc
 waiting_still None None awaited e = refl
 
-running_still : (done : Bool) (at : ℕ) (ds : Demands) (m : State) → (not done && none_served ds m) ≡ true → (seen_running done at ds m).did ≡ Still
+running_still : (done : Bool) (at : ℕ) (ds : Demands) (m : State) → (not done && none_served ds m) ≡ true →
+    (seen_running done at ds m).did ≡ Still
 running_still true at ds m e = absurd cc
-running_still false at ds m e = ap (λ q. (seen_served q at m).did) (none_lowest (is_served One ds m) (is_served Two ds m) (is_served Three ds m) e)
+running_still false at ds m e =
+    ap (λ q. (seen_served q at m).did) (none_lowest (is_served One ds m) (is_served Two ds m) (is_served Three ds m) e)
 
 job_still : (job : Job) (m : State) → works_still job m ≡ true → (seen_in job m).did ≡ Still
 job_still Idle m e = absurd cc

@@ -1,5 +1,6 @@
 -- Storing bytes one by one.
-use Rattle.std.proofs.Common.{◌≡◌, ℕ, ◌+◌, ◌%◌, ◌<◌, ◌^◌, ◌==◌, Bool, true, false, List, [], ◌∷◌, length, drop, refl, get_or, ap, ◌∙◌, arith, add-one, drop-cons, if◌then◌else◌}
+use Rattle.std.proofs.Common.{◌≡◌, ℕ, ◌+◌, ◌%◌, ◌<◌, ◌^◌, ◌==◌, Bool, true, false, List, [], ◌∷◌, length, drop, refl, get_or, ap, ◌∙◌}
+use Rattle.std.proofs.Common.{arith, add-one, drop-cons, if◌then◌else◌}
 use Rattle.std.proofs.Math.Nat.{zero-div}
 use Rattle.machine_model.specs.Turns.{Store, is_off, stored_all, stores_from}
 use Rattle.page_table.specs.Blocks.{Block, stored, stored_run}
@@ -12,9 +13,15 @@ stores_then false off lane address k bytes =
 
 stores_cons : (here : Bool) (off lane address : ℕ) (byte : ℕ) (rest : List ℕ) → is_off off lane ≡ here →
     stores_from off lane address (byte ∷ rest)
-    ≡ (if here then stores_from off (lane + 1) (address + 1) rest else record { address = address; byte = byte } ∷ stores_from off (lane + 1) (address + 1) rest)
+    ≡ (if here then stores_from off (lane + 1) (address + 1) rest else record {
+      address = address;
+      byte = byte;
+    } ∷ stores_from off (lane + 1) (address + 1) rest)
 stores_cons here off lane address byte rest e =
-    ap (λ b. if b then stores_from off (lane + 1) (address + 1) rest else record { address = address; byte = byte } ∷ stores_from off (lane + 1) (address + 1) rest) e
+    ap (λ b. if b then stores_from off (lane + 1) (address + 1) rest else record {
+      address = address;
+      byte = byte;
+    } ∷ stores_from off (lane + 1) (address + 1) rest) e
 
 next_byte : (k : ℕ) (bytes : List ℕ) → k < length bytes → drop k bytes ≡ get_or bytes k 0 ∷ drop (k + 1) bytes
 next_byte k bytes h = rw add-one (drop-cons bytes k 0 h)

@@ -67,7 +67,8 @@ impl<R: Ram> Engine<R> {
     ghost use Rattle.dma_machine.specs.Views.{state_of};
     ghost use Rattle.machine_model.specs.Paths.{is_word};
     ghost use Rattle.risc_word.specs.Parts.{instr_ctl};
-    ghost use Rattle.machine_model.specs.Turns.{begun, dropped, given_up, halted, jumped, met, passed, retired, synced, with_fdsr, with_fdsr_unless};
+    ghost use Rattle.machine_model.specs.Turns.{begun, dropped, given_up, halted, jumped, met, passed, retired, synced, with_fdsr};
+    ghost use Rattle.machine_model.specs.Turns.{with_fdsr_unless};
     ghost use Rattle.std.specs.Prelude.{◌≡◌, ◌<◌, ◌^◌, IsSome, None};
     ghost use Rattle.fifo_model.specs.Queues.{front, front_code, queue_state};
 

@@ -13,7 +13,8 @@ impl<R: Ram> Engine<R> {
     ghost use Rattle.fifo_model.specs.Queues.{front_code, queue_state};
     ghost use Rattle.machine_model.specs.Paths.{fetch};
     ghost use Rattle.risc_word.specs.Parts.{instr_ctl};
-    ghost use Rattle.machine_model.specs.Turns.{code_seen, common_code, data_fetched, fetched, instr_fetched, is_stray, lowest_stray, waited};
+    ghost use Rattle.machine_model.specs.Turns.{code_seen, common_code, data_fetched, fetched, instr_fetched, is_stray, lowest_stray};
+    ghost use Rattle.machine_model.specs.Turns.{waited};
     ghost use Rattle.std.specs.Prelude.{◌≡◌, ◌<◌, ◌^◌, IfSome, IsSome};
 
     /// What a data instruction does that was fetched.
@@ -103,7 +104,8 @@ impl<R: Ram> Engine<R> {
     #[inline]
     pub fn common_code(&self) -> Option<Code>
         ensures code { result ≡ common_code self.now.queues }
-        ensures there { IfSome result (λ _. IsSome (front_code self.now.queues.one) × IsSome (front_code self.now.queues.two) × IsSome (front_code self.now.queues.three)) }
+        ensures there { IfSome result (λ _. IsSome (front_code self.now.queues.one) × IsSome (front_code self.now.queues.two)
+            × IsSome (front_code self.now.queues.three)) }
     {
         let one = self.front_code(Queue::One)?;
         self.front_code(Queue::Two)?;
@@ -113,7 +115,8 @@ impl<R: Ram> Engine<R> {
 
     #[inline]
     fn see_codes(&mut self)
-        ensures { state_of R.memory self.new ≡ code_seen (common_code self.old.queues) self.old.wait.ctl self.old.wait.resync self.old.wait.code (state_of R.memory self.old) }
+        ensures { state_of R.memory self.new ≡ code_seen
+            (common_code self.old.queues) self.old.wait.ctl self.old.wait.resync self.old.wait.code (state_of R.memory self.old) }
     {
         if let Some(seen) = self.common_code() {
             self.meet(seen.nibble() == self.wait.code.nibble());
@@ -124,7 +127,8 @@ impl<R: Ram> Engine<R> {
     #[cold]
     #[inline(never)]
     pub fn wait(&mut self)
-        ensures { state_of R.memory self.new ≡ waited self.old.wait.ctl self.old.wait.resync self.old.wait.code (state_of R.memory self.old) }
+        ensures { state_of R.memory self.new
+            ≡ waited self.old.wait.ctl self.old.wait.resync self.old.wait.code (state_of R.memory self.old) }
     {
         match self.lowest_stray() {
             Some(q) => self.drop_front(q),

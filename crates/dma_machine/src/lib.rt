@@ -82,7 +82,8 @@ impl<R: Ram> Model for Machine<R> {
 
     ghost view = { λ machine. state_of R.memory machine.engine };
 
-    ghost invariant = { λ machine. IsMachine (state_of R.memory machine.engine) × StillIf machine.engine.still (state_of R.memory machine.engine) };
+    ghost invariant = { λ machine. IsMachine (state_of R.memory machine.engine)
+        × StillIf machine.engine.still (state_of R.memory machine.engine) };
 }
 
 impl<R: Ram> Machine<R> {
@@ -322,7 +323,8 @@ impl<R: Ram> Machine<R> {
         requires room { length dwords.now ≤ 4 * plain_room q self.old }
         requires plain { (entries : List (ℕ × ℕ)) × ArePlain dwords.now turns entries }
         ensures state { (entries : List (ℕ × ℕ)) → ArePlain dwords.now turns entries → self.new ≡ run self.old (plain_steps q entries) }
-        ensures others { (program : RiscProgram) (entries : List (ℕ × ℕ)) → ArePlain dwords.now turns entries → with_program program self.new ≡ run (with_program program self.old) (plain_steps q entries) }
+        ensures others { (program : RiscProgram) (entries : List (ℕ × ℕ)) → ArePlain dwords.now turns entries →
+            with_program program self.new ≡ run (with_program program self.old) (plain_steps q entries) }
         ensures taken { (entries : List (ℕ × ℕ)) → ArePlain dwords.now turns entries → AreTaken q entries self.old }
         ensures facts { IsMachine self.new }
     {

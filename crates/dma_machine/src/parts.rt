@@ -1,7 +1,8 @@
 //! Parts of an instruction, and what it asks of the queues.
 
 ghost use Rattle.dma_machine.specs.Needs.{IsAddress};
-ghost use Rattle.machine_model.specs.Paths.{demand, demands_of, first_demand, no_demand, target_after, target_before, target_moved, three_demands};
+ghost use Rattle.machine_model.specs.Paths.{demand, demands_of, first_demand, no_demand, target_after, target_before, target_moved};
+ghost use Rattle.machine_model.specs.Paths.{three_demands};
 ghost use Rattle.machine_model.specs.Turns.{demand_less, demand_on, is_cut_short, is_done, rest_of_line, skipping_after, with_demand};
 ghost use Rattle.dma_machine.specs.Plain.{whole_entries};
 ghost use Rattle.dma_machine.specs.WholeTakes.{takes_whole};

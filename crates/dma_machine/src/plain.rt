@@ -53,7 +53,8 @@ impl<R: Ram> Engine<R> {
         requires on { self.old.off ≡ 0 }
         requires asked { length bytes.now ≤ (demand_on q self.old.demands).rest }
         requires within { demands_cause (chunks_of (R.memory self.old.ram)) self.old.demands ≡ None }
-        ensures { state_of R.memory self.new ≡ put_down q (length bytes.now) self.old.instr self.old.demands 0 bytes.now (state_of R.memory self.old) }
+        ensures { state_of R.memory self.new
+            ≡ put_down q (length bytes.now) self.old.instr self.old.demands 0 bytes.now (state_of R.memory self.old) }
     {
         let demand = demand_on(&self.demands, q);
         let stored = store_run_at(&mut self.ram, demand.address, bytes);
@@ -69,8 +70,10 @@ impl<R: Ram> Engine<R> {
         requires some { 0 < length dwords.now }
         requires room { length dwords.now ≤ 4 * plain_room q (state_of R.memory self.old) }
         requires plain { (entries : List (ℕ × ℕ)) × ArePlain dwords.now turns entries }
-        ensures state { (entries : List (ℕ × ℕ)) → ArePlain dwords.now turns entries → state_of R.memory self.new ≡ run (state_of R.memory self.old) (plain_steps q entries) }
-        ensures others { (program : RiscProgram) (entries : List (ℕ × ℕ)) → ArePlain dwords.now turns entries → with_program program (state_of R.memory self.new) ≡ run (with_program program (state_of R.memory self.old)) (plain_steps q entries) }
+        ensures state { (entries : List (ℕ × ℕ)) → ArePlain dwords.now turns entries →
+            state_of R.memory self.new ≡ run (state_of R.memory self.old) (plain_steps q entries) }
+        ensures others { (program : RiscProgram) (entries : List (ℕ × ℕ)) → ArePlain dwords.now turns entries → with_program program
+            (state_of R.memory self.new) ≡ run (with_program program (state_of R.memory self.old)) (plain_steps q entries) }
         ensures taken { (entries : List (ℕ × ℕ)) → ArePlain dwords.now turns entries → AreTaken q entries (state_of R.memory self.old) }
         ensures still { StillIf self.new.still (state_of R.memory self.new) }
     {

@@ -17,7 +17,8 @@ impl<R: Ram> Engine<R> {
     ghost use Rattle.fifo_model.specs.Queues.{IsFifo, front, front_code, queue_state, removed};
     ghost use Rattle.machine_model.specs.Paths.{demands_cause};
     ghost use Rattle.machine_model.specs.Steps.{push};
-    ghost use Rattle.machine_model.specs.Turns.{apply, burst, burst_of, demand_on, is_cut_short, is_done, is_served, judged, lowest_served, ran, served, taking, took, verdict_at, with_fdsr, with_queue};
+    ghost use Rattle.machine_model.specs.Turns.{apply, burst, burst_of, demand_on, is_cut_short, is_done, is_served, judged, lowest_served};
+    ghost use Rattle.machine_model.specs.Turns.{ran, served, taking, took, verdict_at, with_fdsr, with_queue};
     ghost use Rattle.page_table.specs.Blocks.{chunks_of};
     ghost use Rattle.dma_machine.specs.Stills.{StillIf, none_served, runs_still};
     ghost use Rattle.std.specs.Prelude.{◌≡◌, ◌+◌, ◌≤◌, length, IsSome, None, Some, false, true};
@@ -31,7 +32,8 @@ impl<R: Ram> Engine<R> {
         requires lanes { lane + count ≤ 4 }
         requires asked { count ≤ (demand_on q self.old.demands).rest }
         requires within { demands_cause (chunks_of (R.memory self.old.ram)) self.old.demands ≡ None }
-        ensures state { state_of R.memory self.new ≡ put_down q count self.old.instr self.old.demands lane bytes.now (state_of R.memory self.old) }
+        ensures state { state_of R.memory self.new
+            ≡ put_down q count self.old.instr self.old.demands lane bytes.now (state_of R.memory self.old) }
         ensures running { self.new.phase ≡ Phase.Running }
         ensures same { self.new.instr ≡ self.old.instr }
         ensures within { demands_cause (chunks_of (R.memory self.new.ram)) self.new.demands ≡ None }
@@ -86,7 +88,8 @@ impl<R: Ram> Engine<R> {
     fn discard(&mut self, q: Queue)
         requires there { IsSome (front (queue_state q self.old.queues)) }
         requires no_code { front_code (queue_state q self.old.queues) ≡ None }
-        ensures state { state_of R.memory self.new ≡ with_fdsr (with_queue q (removed (queue_state q self.old.queues)) (state_of R.memory self.old)) }
+        ensures state { state_of R.memory self.new
+            ≡ with_fdsr (with_queue q (removed (queue_state q self.old.queues)) (state_of R.memory self.old)) }
         ensures same { (self.new.ram ≡ self.old.ram) × (self.new.demands ≡ self.old.demands) }
     {
         self.queues.discard(q);
@@ -101,7 +104,8 @@ impl<R: Ram> Engine<R> {
         requires front { front (queue_state q self.old.queues) ≡ Some entry }
         requires asked { 1 ≤ (demand_on q self.old.demands).rest }
         requires within { demands_cause (chunks_of (R.memory self.old.ram)) self.old.demands ≡ None }
-        ensures state { state_of R.memory self.new ≡ judged (verdict_at q self.old.demands entry (state_of R.memory self.old)) q self.old.instr self.old.demands entry (state_of R.memory self.old) }
+        ensures state { state_of R.memory self.new ≡ judged (verdict_at q self.old.demands entry (state_of R.memory self.old)) q
+            self.old.instr self.old.demands entry (state_of R.memory self.old) }
         ensures within { demands_cause (chunks_of (R.memory self.new.ram)) self.new.demands ≡ None }
     {
         let demand = demand_on(&self.demands, q);
@@ -125,7 +129,8 @@ impl<R: Ram> Engine<R> {
         requires front { front (queue_state q self.old.queues) ≡ Some entry }
         requires asked { 1 ≤ (demand_on q self.old.demands).rest }
         requires within { demands_cause (chunks_of (R.memory self.old.ram)) self.old.demands ≡ None }
-        ensures state { state_of R.memory self.new ≡ judged (verdict_at q self.old.demands entry (state_of R.memory self.old)) q self.old.instr self.old.demands entry (state_of R.memory self.old) }
+        ensures state { state_of R.memory self.new ≡ judged (verdict_at q self.old.demands entry (state_of R.memory self.old)) q
+            self.old.instr self.old.demands entry (state_of R.memory self.old) }
         ensures within { demands_cause (chunks_of (R.memory self.new.ram)) self.new.demands ≡ None }
     {
         let demand = demand_on(&self.demands, q);
@@ -142,7 +147,9 @@ impl<R: Ram> Engine<R> {
     fn serve(&mut self, q: Queue) -> bool
         requires running { self.old.phase ≡ Phase.Running }
         requires within { demands_cause (chunks_of (R.memory self.old.ram)) self.old.demands ≡ None }
-        ensures applied { Applied (served (front (queue_state q self.old.queues)) q self.old.instr self.old.demands (state_of R.memory self.old)) result (state_of R.memory self.new) (state_of R.memory self.old) }
+        ensures applied { Applied
+            (served (front (queue_state q self.old.queues)) q self.old.instr self.old.demands (state_of R.memory self.old)) result
+            (state_of R.memory self.new) (state_of R.memory self.old) }
         ensures within { demands_cause (chunks_of (R.memory self.new.ram)) self.new.demands ≡ None }
     {
         match self.queues.front(q) {
@@ -225,7 +232,8 @@ impl<R: Ram> Engine<R> {
     #[inline(always)]
     fn burst_lowest(&mut self) -> bool
         requires { demands_cause (chunks_of (R.memory self.old.ram)) self.old.demands ≡ None }
-        ensures state { state_of R.memory self.new ≡ burst_of (lowest_served self.old.demands (state_of R.memory self.old)) (state_of R.memory self.old) }
+        ensures state { state_of R.memory self.new
+            ≡ burst_of (lowest_served self.old.demands (state_of R.memory self.old)) (state_of R.memory self.old) }
         ensures none { result ≡ false → (self.new ≡ self.old) × (none_served self.old.demands (state_of R.memory self.old) ≡ true) }
     {
         match self.lowest_served() {
@@ -242,7 +250,8 @@ impl<R: Ram> Engine<R> {
     pub fn run(&mut self) -> bool
         requires target { IsAddress self.old.target }
         requires within { demands_cause (chunks_of (R.memory self.old.ram)) self.old.demands ≡ None }
-        ensures state { state_of R.memory self.new ≡ ran (is_done self.old.demands) self.old.instr self.old.demands (state_of R.memory self.old) }
+        ensures state { state_of R.memory self.new
+            ≡ ran (is_done self.old.demands) self.old.instr self.old.demands (state_of R.memory self.old) }
         ensures still { result ≡ false → (self.new ≡ self.old) × (runs_still self.old.demands (state_of R.memory self.old) ≡ true) }
     {
         if is_done(&self.demands) {

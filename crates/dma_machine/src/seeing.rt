@@ -152,7 +152,8 @@ impl<R: Ram> Engine<R> {
     ghost use Rattle.dma_machine.specs.Stills.{StillIf};
     ghost use Rattle.dma_machine.specs.Views.{state_of};
     ghost use Rattle.machine_model.specs.Paths.{demands_cause, fetch};
-    ghost use Rattle.machine_model.specs.Seen.{address_before, application, applications, bytes_taken, fetched_did, seen, seen_burst, seen_in, seen_running, taken, taken_in, taken_running, waited_did};
+    ghost use Rattle.machine_model.specs.Seen.{address_before, application, applications, bytes_taken, fetched_did, seen, seen_burst};
+    ghost use Rattle.machine_model.specs.Seen.{seen_in, seen_running, taken, taken_in, taken_running, waited_did};
     ghost use Rattle.machine_model.specs.Turns.{apply, burst, common_code, is_done, lowest_stray, ran, worked};
     ghost use Rattle.page_table.specs.Blocks.{chunks_of};
     ghost use Rattle.std.specs.Prelude.{◌≡◌, ◌*◌, ◌-◌, ◌^◌, None};
@@ -287,7 +288,8 @@ impl<R: Ram> Engine<R> {
     fn run_told(&mut self, at: u32) -> Told
         requires target { IsAddress self.old.target }
         requires within { demands_cause (chunks_of (R.memory self.old.ram)) self.old.demands ≡ None }
-        ensures state { state_of R.memory self.new ≡ ran (is_done self.old.demands) self.old.instr self.old.demands (state_of R.memory self.old) }
+        ensures state { state_of R.memory self.new
+            ≡ ran (is_done self.old.demands) self.old.instr self.old.demands (state_of R.memory self.old) }
         ensures seen { result.seen ≡ seen_running (is_done self.old.demands) at self.old.demands (state_of R.memory self.old) }
         ensures taken { result.taken ≡ taken_running (is_done self.old.demands) self.old.demands (state_of R.memory self.old) }
     {

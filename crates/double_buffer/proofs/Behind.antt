@@ -13,7 +13,8 @@ use Rattle.double_buffer.proofs.Standing.{at_0, at_1, at_2, at_3, part_0, part_1
 
 module _ (first second : Desc) where
   -- an address with so many words of parts before it is beyond the limit
-  long_from : (at words : ℕ) (e : DoubleBufferError) → words ≤ length (words_of_parts (fragments_of_two first second)) → at ≡ first.base + 24 + 4 * words → IsBeyond at e → IsLong first second e
+  long_from : (at words : ℕ) (e : DoubleBufferError) → words ≤ length (words_of_parts (fragments_of_two first second)) →
+      at ≡ first.base + 24 + 4 * words → IsBeyond at e → IsLong first second e
   long_from at words (Fault Base) most is beyond = absurd beyond
   long_from at words (Fault (Shared number)) most is beyond = absurd beyond
   long_from at words (Fault TooMany) most is beyond = absurd beyond
@@ -53,7 +54,8 @@ module _ (first second : Desc) where
         pub long_2 : (e : DoubleBufferError) → IsBeyond a2 e → IsLong first second e
         long_2 e beyond =
             let all = words_of_all first second in
-            let here = here_2 in long_from a2 (length (part_0 first second).words + length (part_1 first second).words) e (omega arith) (omega arith) beyond
+            let here = here_2 in
+            long_from a2 (length (part_0 first second).words + length (part_1 first second).words) e (omega arith) (omega arith) beyond
 
         module _ (p2 : PartWords) (p2_is : p2 ≡ fragment_of base a2 1 first) (a3 : ℕ) (a3_is : a3 ≡ a2 + 4 * length p2.words) where
           same_2 : p2 ≡ part_2 first second
@@ -66,7 +68,8 @@ module _ (first second : Desc) where
           long_3 e beyond =
               let all = words_of_all first second in
               let here = here_3 in
-              long_from a3 (length (part_0 first second).words + length (part_1 first second).words + length (part_2 first second).words) e (omega arith) (omega arith) beyond
+              long_from a3 (length (part_0 first second).words + length (part_1 first second).words + length (part_2 first second).words) e
+              (omega arith) (omega arith) beyond
 
           pub all_parts : (p3 : PartWords) → p3 ≡ fragment_of base a3 1 second → p0 ∷ p1 ∷ p2 ∷ p3 ∷ [] ≡ fragments_of_two first second
           all_parts p3 p3_is =

@@ -1,5 +1,6 @@
 -- What there is where two descriptions have no fault, and what follows for them from a chain that isn't made.
-use Rattle.std.proofs.Common.{◌≡◌, ℕ, zero, suc, ◌+◌, ◌*◌, ◌%◌, ◌<◌, ◌≤◌, Bool, true, false, ◌||◌, List, [], ◌++◌, length, Option, Some, None, IsTrue, refl, sym, ap, ◌∙◌, subst, arith, if◌then◌else◌, ◌==◌}
+use Rattle.std.proofs.Common.{◌≡◌, ℕ, zero, suc, ◌+◌, ◌*◌, ◌%◌, ◌<◌, ◌≤◌, Bool, true, false, ◌||◌, List, [], ◌++◌, length, Option, Some}
+use Rattle.std.proofs.Common.{None, IsTrue, refl, sym, ap, ◌∙◌, subst, arith, if◌then◌else◌, ◌==◌}
 use Rattle.std.specs.Prelude.{nat_lt}
 use Rattle.std.proofs.lemmas.Bool.{eq-eqb, eqb-true, le-ltb, lt-ltb, or_from, or_right, or_left}
 use Rattle.std.proofs.lemmas.List.Elements.{All-from_recursion}
@@ -56,13 +57,16 @@ module _ (first second : Desc) where
       refuses_long Memory why = tt
 
       abbrev place_by : Bool → Bool → Bool → Option ChainError
-      place_by right long page = if right then (if long then Some error.TooLong else (if page then Some error.OnPage else None)) else Some error.Base
+      place_by right long page =
+          if right then (if long then Some error.TooLong else (if page then Some error.OnPage else None)) else Some error.Base
 
       place_is : (long page : Bool) → is_too_long whole ≡ long → is_on_page whole ≡ page → chain.place_fault whole ≡ place_by true long page
       place_is long page one two =
-          ap (λ (b : Bool). place_by b (is_too_long whole) (is_on_page whole)) right ∙ ap (λ (b : Bool). place_by true b (is_on_page whole)) one ∙ ap (place_by true long) two
+          ap (λ (b : Bool). place_by b (is_too_long whole) (is_on_page whole)) right
+          ∙ ap (λ (b : Bool). place_by true b (is_on_page whole)) one ∙ ap (place_by true long) two
 
-      told_by : (long page : Bool) (e : ChainError) → is_too_long whole ≡ long → is_on_page whole ≡ page → IsOfFragments e → chain.Refuses whole e → Refuses (chain_fault first second) (told e)
+      told_by : (long page : Bool) (e : ChainError) → is_too_long whole ≡ long → is_on_page whole ≡ page → IsOfFragments e →
+          chain.Refuses whole e → Refuses (chain_fault first second) (told e)
       told_by long page error.Base one two of why = absurd (no_base long page (sym (place_is long page one two) ∙ why))
         where
           no_base : (long page : Bool) → place_by true long page ≡ Some error.Base → ⊥
@@ -90,7 +94,8 @@ module _ (first second : Desc) where
       pub refuses_told : (e : ChainError) → IsOfFragments e → chain.Refuses whole e → Refuses (chain_fault first second) (told e)
       refuses_told e of why = told_by (is_too_long whole) (is_on_page whole) e refl refl of why
 
-      none_by : (long page : Bool) → is_too_long whole ≡ long → is_on_page whole ≡ page → chain.place_fault whole ≡ None → chain_fault first second ≡ None
+      none_by : (long page : Bool) → is_too_long whole ≡ long → is_on_page whole ≡ page → chain.place_fault whole ≡ None →
+          chain_fault first second ≡ None
       none_by true page one two none = absurd (not_none (sym (place_is true page one two) ∙ none))
         where
           not_none : Some error.TooLong ≡ None → ⊥
@@ -106,10 +111,12 @@ module _ (first second : Desc) where
 
 -- ---- a chain that ends beyond the limit
 
-pub too_long_from : (c : Chain) (words : ℕ) → words ≤ 2 * c.slots + 2 + length (words_of_parts c.parts) → chain_limit < c.base + 4 * words → is_too_long c ≡ true
+pub too_long_from : (c : Chain) (words : ℕ) → words ≤ 2 * c.slots + 2 + length (words_of_parts c.parts) → chain_limit < c.base + 4 * words →
+    is_too_long c ≡ true
 too_long_from c words most beyond =
     let count = word_count_is c in
-    or_right (nat_lt max_words (word_count c)) (nat_lt chain_limit (c.base + 4 * word_count c)) (lt-ltb chain_limit (c.base + 4 * word_count c) (omega arith))
+    or_right (nat_lt max_words (word_count c)) (nat_lt chain_limit (c.base + 4 * word_count c))
+    (lt-ltb chain_limit (c.base + 4 * word_count c) (omega arith))
 
 -- ---- no fault
 
@@ -120,7 +127,8 @@ record IsClear (aligned : Bool) (shared : Option ℕ) (many long page : Bool) : 
   short : long ≡ false
   beside : page ≡ false
 
-clear_by : (aligned : Bool) (shared : Option ℕ) (many long page : Bool) → fault_by aligned shared many long page ≡ None → IsClear aligned shared many long page
+clear_by : (aligned : Bool) (shared : Option ℕ) (many long page : Bool) → fault_by aligned shared many long page ≡ None →
+    IsClear aligned shared many long page
 clear_by false shared many long page e = absurd cc
 clear_by true (Some number) many long page e = absurd cc
 clear_by true None true long page e = absurd cc
@@ -136,9 +144,11 @@ is_short c is =
 is_beside : (c : Chain) → IsChain c → is_on_page c ≡ false
 is_beside c is = list_any_none (shares_byte (alone c None)) c.grants is.apart
 
-pub no_fault : (first second : Desc) → first.base % 4 ≡ 0 → shared_chunk first second ≡ None → are_too_many first second ≡ false → IsChain (chain_of_two first second) → chain_fault first second ≡ None
+pub no_fault : (first second : Desc) → first.base % 4 ≡ 0 → shared_chunk first second ≡ None → are_too_many first second ≡ false →
+    IsChain (chain_of_two first second) → chain_fault first second ≡ None
 no_fault first second aligned apart few is =
-    fault_is first second true None false false false (eq-eqb (first.base % 4) 0 aligned) apart few (is_short (chain_of_two first second) is) (is_beside (chain_of_two first second) is)
+    fault_is first second true None false false false (eq-eqb (first.base % 4) 0 aligned) apart few
+    (is_short (chain_of_two first second) is) (is_beside (chain_of_two first second) is)
 
 -- ---- what is granted
 
@@ -153,7 +163,8 @@ module _ (address : ℕ) where
   in_first one two is = both_granted one two ∙ or_left (granted one address) (granted two address) (sym (any-all_placed there [] one) ∙ is)
 
   in_second : (one two : List Chunk) → IsTrue (granted (in_order two) address) → IsTrue (granted (in_order (one ++ two)) address)
-  in_second one two is = both_granted one two ∙ or_right (granted one address) (granted two address) (sym (any-all_placed there [] two) ∙ is)
+  in_second one two is =
+      both_granted one two ∙ or_right (granted one address) (granted two address) (sym (any-all_placed there [] two) ∙ is)
 
 -- ---- pairs
 
@@ -162,7 +173,9 @@ module _ (first second : Desc) (pair : IsPair first second) where
   chain_is = chain_of_two first second
 
   clear : IsClear (first.base % 4 == 0) (shared_chunk first second) (are_too_many first second) (is_too_long chain_is) (is_on_page chain_is)
-  clear = clear_by (first.base % 4 == 0) (shared_chunk first second) (are_too_many first second) (is_too_long chain_is) (is_on_page chain_is) pair.no_fault
+  clear =
+      clear_by (first.base % 4 == 0) (shared_chunk first second) (are_too_many first second) (is_too_long chain_is)
+      (is_on_page chain_is) pair.no_fault
 
   well_placed : chain.place_fault chain_is ≡ None
   well_placed = place_is first second (eqb-true (first.base % 4) 0 clear.right) clear.apart clear.few false false clear.short clear.beside
@@ -170,10 +183,12 @@ module _ (first second : Desc) (pair : IsPair first second) where
   pub is : IsChain chain_is
   is =
       is_chain chain_is (omega arith, omega arith) (omega arith)
-      (All-from_recursion (λ (p : PartWords). p.slot < 2) chain_is.parts (omega arith, (omega arith, (omega arith, (omega arith, tt))))) well_placed
+      (All-from_recursion (λ (p : PartWords). p.slot < 2) chain_is.parts (omega arith, (omega arith, (omega arith, (omega arith, tt)))))
+      well_placed
 
   fragment : (slot buffer : ℕ) → slot < 2 → buffer < 2 → IsFragment chain_is (part_for slot buffer) (shown_by first second buffer)
-  fragment slot buffer low few = is_fragment first second pair.first_description pair.first_frame pair.second_description pair.second_frame slot buffer low few
+  fragment slot buffer low few =
+      is_fragment first second pair.first_description pair.first_frame pair.second_description pair.second_frame slot buffer low few
 
   grants_first : GrantsAll chain_is first
   grants_first address = in_first address (memory_of first) (memory_of second)
@@ -202,13 +217,15 @@ module _ (first second : Desc) (pair : IsPair first second) where
 
 -- ---- what the code makes
 
-pub chain_same : (first second : Desc) (base : ℕ) (parts : List PartWords) (grants : List Chunk) → base ≡ first.base → parts ≡ fragments_of_two first second →
+pub chain_same : (first second : Desc) (base : ℕ) (parts : List PartWords) (grants : List Chunk) → base ≡ first.base →
+    parts ≡ fragments_of_two first second →
     grants ≡ in_order (memory_of_two first second) → chain_of base slot_count parts grants ≡ chain_of_two first second
 chain_same first second base parts grants one two three =
     ap (λ (b : ℕ). chain_of b slot_count parts grants) one ∙ ap (λ (ps : List PartWords). chain_of first.base slot_count ps grants) two
     ∙ ap (chain_of first.base slot_count (fragments_of_two first second)) three
 
-module _ (first second : Desc) (one : IsFramed first) (two : IsFramed second) (three : IsDescription first) (four : IsDescription second) (aligned : first.base % 4 ≡ 0)
+module _ (first second : Desc) (one : IsFramed first) (two : IsFramed second) (three : IsDescription first) (four : IsDescription second)
+    (aligned : first.base % 4 ≡ 0)
     (apart : shared_chunk first second ≡ None) (few : are_too_many first second ≡ false) where
   pair_by : chain_fault first second ≡ None → IsPair first second
   pair_by none =
@@ -239,7 +256,8 @@ module _ (first second : Desc) (one : IsFramed first) (two : IsFramed second) (t
   pub of_fragments : (c : Chain) (e : ChainError) → c ≡ chain_of_two first second → chain.Refuses c e → IsOfFragments e
   of_fragments c e same why = none_bad e (subst (λ (other : Chain). chain.Refuses other e) same why)
 
-  pub refuses_with : (c : Chain) (e : ChainError) → c ≡ chain_of_two first second → chain.Refuses c e → Refuses (chain_fault first second) (told e)
+  pub refuses_with : (c : Chain) (e : ChainError) → c ≡ chain_of_two first second → chain.Refuses c e →
+      Refuses (chain_fault first second) (told e)
   refuses_with c e same why =
       let of = subst (λ (other : Chain). chain.Refuses other e) same why in
       refuses_told first second aligned apart few e (none_bad e of) of

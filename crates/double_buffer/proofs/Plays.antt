@@ -22,7 +22,8 @@ module _ (chain : Chain) (has : HasBuffers chain) where
       subst (Belongs chain slot) (sym (cond-false (buffer == no_buffer) None (Some (part_for slot buffer)) (ne_eqb buffer no_buffer other)))
       (omega arith, has.own slot buffer low few)
   belongs slot buffer low (inr none) =
-      subst (Belongs chain slot) (sym (cond-true (buffer == no_buffer) None (Some (part_for slot buffer)) (eq-eqb buffer no_buffer none))) tt
+      subst (Belongs chain slot)
+      (sym (cond-true (buffer == no_buffer) None (Some (part_for slot buffer)) (eq-eqb buffer no_buffer none))) tt
 
   pub exists : (slot : ℕ) → slot < 2 → slot < chain.slots
   exists slot low = let two = has.slots in omega arith
@@ -43,8 +44,11 @@ module _ (chain : Chain) (has : HasBuffers chain) where
       All-append (IsLiveStep chain) (live_steps step) (all_live_steps steps) (are_live step (All-head StepFits step steps fits))
       (all_live steps (All-tail StepFits step steps fits))
 
-pub plays_run : (steps : List Step) (state : ChainState) → played steps state ≡ record state { live = live_run state.chain state.live (all_live_steps steps) }
+pub plays_run : (steps : List Step) (state : ChainState) → played steps state ≡ record state {
+  live = live_run state.chain state.live (all_live_steps steps);
+}
 plays_run [] state = refl
 plays_run (step ∷ steps) state =
     plays_run steps (chain_act step state)
-    ∙ ap (λ (live : Live). record state { live = live }) (sym (live_run-append state.chain state.live (live_steps step) (all_live_steps steps)))
+    ∙ ap (λ (live : Live). record state { live = live })
+    (sym (live_run-append state.chain state.live (live_steps step) (all_live_steps steps)))

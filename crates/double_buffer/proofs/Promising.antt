@@ -9,5 +9,6 @@ use Rattle.double_buffer.proofs.Standing.{has_buffers}
 
 pub plays_keep_promises : PlaysKeepPromises
 plays_keep_promises first second steps pair fits =
-    live_runs_keep_promises (chain_of_two first second) first.fill (all_live_steps steps) (is first second pair) (is_sound first second pair)
+    live_runs_keep_promises (chain_of_two first second) first.fill (all_live_steps steps) (is first second pair)
+    (is_sound first second pair)
     (all_live (chain_of_two first second) (has_buffers first second) steps fits)

@@ -20,7 +20,8 @@ module _ (first second : Desc) where
   abbrev pub whole : Chain
   whole = chain_of_two first second
 
-  pub fault_is : (aligned : Bool) (shared : Option ℕ) (many long page : Bool) → (first.base % 4 == 0) ≡ aligned → shared_chunk first second ≡ shared → are_too_many first second ≡ many →
+  pub fault_is : (aligned : Bool) (shared : Option ℕ) (many long page : Bool) → (first.base % 4 == 0) ≡ aligned →
+      shared_chunk first second ≡ shared → are_too_many first second ≡ many →
       is_too_long whole ≡ long → is_on_page whole ≡ page → chain_fault first second ≡ fault_by aligned shared many long page
   fault_is aligned shared many long page one two three four five =
       ap (λ (b : Bool). fault_by b (shared_chunk first second) (are_too_many first second) (is_too_long whole) (is_on_page whole)) one
@@ -29,16 +30,21 @@ module _ (first second : Desc) where
       ∙ ap (λ (b : Bool). fault_by aligned shared many b (is_on_page whole)) four ∙ ap (fault_by aligned shared many long) five
 
   pub base_fault : (first.base % 4 ≡ 0 → ⊥) → chain_fault first second ≡ Some Base
-  base_fault other = fault_is false (shared_chunk first second) (are_too_many first second) (is_too_long whole) (is_on_page whole) (ne_eqb (first.base % 4) 0 other) refl refl refl refl
+  base_fault other =
+      fault_is false (shared_chunk first second) (are_too_many first second) (is_too_long whole) (is_on_page whole)
+      (ne_eqb (first.base % 4) 0 other) refl refl refl refl
 
   pub shared_fault : (number : ℕ) → shared_chunk first second ≡ Some number → memory_fault first second ≡ Some (Shared number)
   shared_fault number shared =
-      ap (λ (s : Option ℕ). unless_shared s (if are_too_many first second then Some TooMany else (if is_too_long whole then Some TooLong else (if is_on_page whole then Some OnPage else None)))) shared
+      ap (λ (s : Option ℕ). unless_shared s (if are_too_many first second then Some TooMany
+      else (if is_too_long whole then Some TooLong else (if is_on_page whole then Some OnPage else None)))) shared
 
   pub many_fault : shared_chunk first second ≡ None → are_too_many first second ≡ true → memory_fault first second ≡ Some TooMany
   many_fault apart many =
-      ap (λ (s : Option ℕ). unless_shared s (if are_too_many first second then Some TooMany else (if is_too_long whole then Some TooLong else (if is_on_page whole then Some OnPage else None)))) apart
-      ∙ ap (λ (b : Bool). if b then Some TooMany else (if is_too_long whole then Some TooLong else (if is_on_page whole then Some OnPage else None))) many
+      ap (λ (s : Option ℕ). unless_shared s (if are_too_many first second then Some TooMany
+      else (if is_too_long whole then Some TooLong else (if is_on_page whole then Some OnPage else None)))) apart
+      ∙ ap (λ (b : Bool). if b then Some TooMany
+      else (if is_too_long whole then Some TooLong else (if is_on_page whole then Some OnPage else None))) many
 
   module _ (aligned : first.base % 4 ≡ 0) where
     pub no_rest : (first.base % 4 == 0) ≡ true

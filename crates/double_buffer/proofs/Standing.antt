@@ -38,7 +38,8 @@ module _ (first second : Desc) where
   part_3 = fragment_of first.base at_3 1 second
 
   -- how many words the parts have
-  pub words_of_all : length (words_of_parts (fragments_of_two first second)) ≡ length part_0.words + (length part_1.words + (length part_2.words + length part_3.words))
+  pub words_of_all : length (words_of_parts (fragments_of_two first second))
+      ≡ length part_0.words + (length part_1.words + (length part_2.words + length part_3.words))
   words_of_all =
       let zero_on = length-append part_0.words (words_of_parts (part_1 ∷ part_2 ∷ part_3 ∷ [])) in
       let one_on = length-append part_1.words (words_of_parts (part_2 ∷ part_3 ∷ [])) in
@@ -62,7 +63,8 @@ module _ (first second : Desc) where
       let one_on = length-append part_1.words (words_of_parts (part_2 ∷ [])) in
       let two_on = length-append part_2.words [] in omega arith
 
-  words_at : (d : Desc) (slot at begin : ℕ) → at ≡ begin → sections_words d at (after_slot first.base slot) ≡ sections_words d begin (after_slot first.base slot)
+  words_at : (d : Desc) (slot at begin : ℕ) → at ≡ begin →
+      sections_words d at (after_slot first.base slot) ≡ sections_words d begin (after_slot first.base slot)
   words_at d slot at begin e = ap (λ (a : ℕ). sections_words d a (after_slot first.base slot)) e
 
   pub has_buffers : HasBuffers chain
@@ -83,6 +85,7 @@ module _ (first second : Desc) where
     is_fragment zero (suc zero) low few = record { description = three; frame = four; words = words_at second 0 at_1 (head chain 1) head_1 }
     is_fragment zero (suc (suc more)) low few = absurd (omega arith)
     is_fragment (suc zero) zero low few = record { description = one; frame = two; words = words_at first 1 at_2 (head chain 2) head_2 }
-    is_fragment (suc zero) (suc zero) low few = record { description = three; frame = four; words = words_at second 1 at_3 (head chain 3) head_3 }
+    is_fragment (suc zero) (suc zero) low few =
+        record { description = three; frame = four; words = words_at second 1 at_3 (head chain 3) head_3 }
     is_fragment (suc zero) (suc (suc more)) low few = absurd (omega arith)
     is_fragment (suc (suc more)) buffer low few = absurd (omega arith)

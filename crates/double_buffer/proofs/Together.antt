@@ -1,12 +1,14 @@
 -- The memory of two descriptions as grants, or its fault.
-use Rattle.std.proofs.Common.{◌≡◌, ℕ, ◌^◌, ◌<◌, ◌≤◌, Bool, true, false, not, ◌||◌, All, List, [], ◌++◌, length, Option, Some, None, Ok, Err, refl, sym, ap, ◌∙◌, subst, arith, if◌then◌else◌, IfSome}
+use Rattle.std.proofs.Common.{◌≡◌, ℕ, ◌^◌, ◌<◌, ◌≤◌, Bool, true, false, not, ◌||◌, All, List, [], ◌++◌, length, Option, Some, None, Ok, Err}
+use Rattle.std.proofs.Common.{refl, sym, ap, ◌∙◌, subst, arith, if◌then◌else◌, IfSome}
 use Rattle.std.specs.Prelude.{nat_lt}
 use Rattle.std.specs.List.{list_any, position}
 use Rattle.std.proofs.lemmas.List.{length-map, map-append}
 use Rattle.std.proofs.lemmas.List.Elements.{All-append}
 use Rattle.page_table.specs.Grants.{Chunk, max_bytes, max_chunks, total}
 use Rattle.page_table.specs.declared.PageFault.TheVariants.{TooMany, Unaligned, Twice, Memory}
-use Rattle.page_table.specs.Taken.{Answers, Taking, first_shared, in_order, is_aligned, listed, page_at, pair_chunk, shares, taken_chunks, unless_many, unless_shared}
+use Rattle.page_table.specs.Taken.{Answers, Taking, first_shared, in_order, is_aligned, listed, page_at, pair_chunk, shares, taken_chunks}
+use Rattle.page_table.specs.Taken.{unless_many, unless_shared}
 use Rattle.capture_desc.specs.declared.desc.Desc.{Desc}
 use Rattle.picture_model.specs.Described.{memory_from, memory_of}
 use Rattle.picture_model.proofs.FaultlessGeometry.{IsFrame-memory, aligned_memory as aligned_chunks}
@@ -17,7 +19,8 @@ use Rattle.double_buffer.proofs.Granting.{all_aligned, apart_both, shared-listed
 
 -- ---- the memory of one description
 
-few_by : (chunks : Option (List (ℕ × ℕ))) (pages : List ℕ) → length pages ≤ max_chunks → IfSome chunks (λ cs. length cs ≤ max_chunks) → length (memory_from chunks pages) ≤ max_chunks
+few_by : (chunks : Option (List (ℕ × ℕ))) (pages : List ℕ) → length pages ≤ max_chunks → IfSome chunks (λ cs. length cs ≤ max_chunks) →
+    length (memory_from chunks pages) ≤ max_chunks
 few_by None pages few short = let size = length-map pages page_at in omega arith
 few_by (Some pairs) pages few short = let size = length-map pairs pair_chunk in omega arith
 
@@ -53,7 +56,8 @@ ok chunks = Ok chunks
 ok_same : (one two : List Chunk) → ok one ≡ ok two → one ≡ two
 ok_same one two e = cc
 
-taken_by : (many : Bool) (grants : List Chunk) (result : Taking) → Answers (if many then Err TooMany else Ok grants) result → IsTaken many grants result
+taken_by : (many : Bool) (grants : List Chunk) (result : Taking) → Answers (if many then Err TooMany else Ok grants) result →
+    IsTaken many grants result
 taken_by true grants (Ok found) e = absurd cc
 taken_by true grants (Err TooMany) e = refl
 taken_by true grants (Err (Unaligned place)) e = cc
@@ -65,8 +69,10 @@ taken_by false grants (Err (Unaligned place)) e = cc
 taken_by false grants (Err (Twice place)) e = cc
 taken_by false grants (Err Memory) e = tt
 
-module _ (first second e f : Desc) (one_framed : IsFramed first) (two_framed : IsFramed second) (e_is : e ≡ first) (f_is : f ≡ second) (kept later one two : List (ℕ × ℕ))
-    (kept_is : listed kept ≡ memory_of e) (later_is : listed later ≡ memory_of f) (one_same : one ≡ kept) (two_same : two ≡ later) (found : Option ℕ)
+module _ (first second e f : Desc) (one_framed : IsFramed first) (two_framed : IsFramed second) (e_is : e ≡ first) (f_is : f ≡ second)
+    (kept later one two : List (ℕ × ℕ))
+    (kept_is : listed kept ≡ memory_of e) (later_is : listed later ≡ memory_of f) (one_same : one ≡ kept) (two_same : two ≡ later)
+    (found : Option ℕ)
     (is : found ≡ position (λ pair. list_any (λ other. shares (pair_chunk pair) (pair_chunk other)) one) two) where
   one_is : listed one ≡ memory_of first
   one_is = ap listed one_same ∙ kept_is ∙ ap memory_of e_is
@@ -83,20 +89,23 @@ module _ (first second e f : Desc) (one_framed : IsFramed first) (two_framed : I
   pub small : (number : ℕ) → number < length two → number < 2 ^ 32
   small number within = let few = few_chunks second two_framed two two_is in omega arith
 
-  module _ (none : found ≡ None) (more both all : List (ℕ × ℕ)) (more_same : more ≡ later) (both_are : both ≡ kept ++ more) (all_same : all ≡ both) where
+  module _ (none : found ≡ None) (more both all : List (ℕ × ℕ)) (more_same : more ≡ later) (both_are : both ≡ kept ++ more)
+      (all_same : all ≡ both) where
     apart : shared_chunk first second ≡ None
     apart = shared_is ∙ none
 
     listed_both : listed all ≡ memory_of_two first second
     listed_both =
-        ap listed (all_same ∙ both_are) ∙ map-append pair_chunk kept more ∙ ap (λ (cs : List Chunk). cs ++ listed more) (kept_is ∙ ap memory_of e_is)
+        ap listed (all_same ∙ both_are) ∙ map-append pair_chunk kept more
+        ∙ ap (λ (cs : List Chunk). cs ++ listed more) (kept_is ∙ ap memory_of e_is)
         ∙ ap (λ (cs : List Chunk). memory_of first ++ cs) (ap listed more_same ∙ later_is ∙ ap memory_of f_is)
 
     aligned_both : position (λ pair. not (is_aligned (pair_chunk pair))) all ≡ None
     aligned_both =
         all_aligned all
         (subst (All (λ c. is_aligned c ≡ true)) (sym listed_both)
-        (All-append (λ c. is_aligned c ≡ true) (memory_of first) (memory_of second) (aligned_memory first one_framed) (aligned_memory second two_framed)))
+        (All-append (λ c. is_aligned c ≡ true) (memory_of first) (memory_of second) (aligned_memory first one_framed)
+        (aligned_memory second two_framed)))
 
     apart_all : first_shared [] (memory_of_two first second) ≡ None
     apart_all = apart_both (memory_of first) (memory_of second) (apart_memory first one_framed) (apart_memory second two_framed) apart
@@ -111,8 +120,11 @@ module _ (first second e f : Desc) (one_framed : IsFramed first) (two_framed : I
         ap (λ (b : Bool). unless_many b (position (λ pair. not (is_aligned (pair_chunk pair))) all) (listed all)) many_is
         ∙ ap (λ (place : Option ℕ). unless_many (are_too_many first second) place (listed all)) aligned_both
         ∙ ap (λ (cs : List Chunk). unless_many (are_too_many first second) None cs) listed_both
-        ∙ ap (λ (place : Option ℕ). if are_too_many first second then Err TooMany else unless_shared place (memory_of_two first second)) apart_all
+        ∙ ap (λ (place : Option ℕ). if are_too_many first second then Err TooMany else unless_shared place (memory_of_two first second))
+        apart_all
 
-    pub is_taken : (result : Taking) → Answers (taken_chunks all) result → IsTaken (are_too_many first second) (in_order (memory_of_two first second)) result
+    pub is_taken : (result : Taking) → Answers (taken_chunks all) result →
+        IsTaken (are_too_many first second) (in_order (memory_of_two first second)) result
     is_taken result answer =
-        taken_by (are_too_many first second) (in_order (memory_of_two first second)) result (subst (λ (wanted : Taking). Answers wanted result) taken_both answer)
+        taken_by (are_too_many first second) (in_order (memory_of_two first second)) result
+        (subst (λ (wanted : Taking). Answers wanted result) taken_both answer)

@@ -30,7 +30,8 @@ pub record ShowsDescription (chain : Chain) (part : ℕ) (d : Desc) : Type 0 whe
 
 -- they make a sound chain
 abbrev pub PairsMakeChains : Type 0
-PairsMakeChains = (first second : Desc) → IsPair first second → IsChain (chain_of_two first second) × IsSoundChain (chain_of_two first second)
+PairsMakeChains =
+    (first second : Desc) → IsPair first second → IsChain (chain_of_two first second) × IsSoundChain (chain_of_two first second)
 
 -- whose part for a slot and a buffer is the fragment of the buffer's description
 abbrev pub BuffersShowDescriptions : Type 0
@@ -49,7 +50,9 @@ played (step ∷ steps) state = played steps (chain_act step state)
 
 abbrev pub PlaysAreLiveRuns : Type 0
 PlaysAreLiveRuns =
-    (steps : List Step) (state : ChainState) → played steps state ≡ record state { live = live_run state.chain state.live (all_live_steps steps) }
+    (steps : List Step) (state : ChainState) → played steps state ≡ record state {
+      live = live_run state.chain state.live (all_live_steps steps);
+    }
 
 -- so what holds of live runs holds of every stream that the chain of two descriptions plays
 abbrev pub PlaysKeepPromises : Type 0

@@ -1,5 +1,6 @@
 -- The choice among the openings on the path.
-use Rattle.std.proofs.Common.{◌≡◌, ℕ, suc, ◌+◌, ◌*◌, Bool, true, false, List, ◌∷◌, length, map, Option, Some, None, Ok, Err, refl, sym, ap, ◌∙◌, arith, cond}
+use Rattle.std.proofs.Common.{◌≡◌, ℕ, suc, ◌+◌, ◌*◌, Bool, true, false, List, ◌∷◌, length, map, Option, Some, None, Ok, Err, refl, sym, ap}
+use Rattle.std.proofs.Common.{◌∙◌, arith, cond}
 use Rattle.std.specs.Prelude.{filter, find, slice_index_or, unwrap_or}
 use Rattle.std.specs.List.{range_with_len}
 use Rattle.std.proofs.lemmas.Bool.{cond-false, cond-true}
@@ -20,7 +21,8 @@ use Rattle.check_model.specs.declared.Why.TheVariants.{NoSync}
 use Rattle.field_check.specs.Walks.{chosen_from, kept, said_from}
 
 -- the next place of the path
-pub next_pc : (instr : Instr) (count : ℕ) (place : Place) → count ≡ length (encoded instr) → (place_after instr count place).pc ≡ next_at instr place.pc
+pub next_pc : (instr : Instr) (count : ℕ) (place : Place) → count ≡ length (encoded instr) →
+    (place_after instr count place).pc ≡ next_at instr place.pc
 next_pc (Jump ctl target) count place e = refl
 next_pc (Sync ctl resync code) count place e = ap (λ (count : ℕ). place.pc + 4 * count) e
 next_pc (Write ctl ends off n addr) count place e = ap (λ (count : ℕ). place.pc + 4 * count) e
@@ -35,13 +37,16 @@ module _ (program : RiscProgram) (sound : IsSound program) (k at : ℕ) (here : 
   pub readable : (fault : WordFault) → fetch program at ≡ Err fault → ⊥
   readable fault is = let fine = place-IsFine program k sound in let both = sym is ∙ ap (fetch program) here ∙ fine.stands in cc
 
-  pub next_there : (instr : Instr) (count : ℕ) → fetch program at ≡ Ok (instr, count) → count ≡ length (encoded instr) → next_at instr at ≡ (path program (k + 1)).pc
+  pub next_there : (instr : Instr) (count : ℕ) → fetch program at ≡ Ok (instr, count) → count ≡ length (encoded instr) →
+      next_at instr at ≡ (path program (k + 1)).pc
   next_there instr count is long =
       let more : k + 1 ≡ suc k = omega arith in
       ap (next_at instr) here ∙ sym (next_pc instr count (path program k) long)
-      ∙ sym (ap (λ (place : Place). place.pc) (ap (path program) more ∙ path-suc program k instr count sound (ap (fetch program) (sym here) ∙ is)))
+      ∙ sym (ap (λ (place : Place). place.pc)
+      (ap (path program) more ∙ path-suc program k instr count sound (ap (fetch program) (sym here) ∙ is)))
 
-  module _ (d : Desc) (field : Parity) (instr : Instr) (count : ℕ) (is : fetch program at ≡ Ok (instr, count)) (n m : ℕ) (long : n ≡ suc m) where
+  module _ (d : Desc) (field : Parity) (instr : Instr) (count : ℕ) (is : fetch program at ≡ Ok (instr, count)) (n m : ℕ)
+      (long : n ≡ suc m) where
     opens_is : opens_at program field (path program k).pc ≡ is_opening field instr
     opens_is =
         ap (opens_at program field) (sym here)
@@ -55,7 +60,8 @@ module _ (program : RiscProgram) (sound : IsSound program) (k at : ℕ) (here : 
     pub passed : is_opening field instr ≡ false → said_from program d field k n ≡ said_from program d field (k + 1) m
     passed other = listed ∙ ap (map (said program d field)) (cond-false (opens_at program field (path program k).pc) _ _ (opens_is ∙ other))
 
-    pub opened : is_opening field instr ≡ true → said_from program d field k n ≡ said program d field at ∷ said_from program d field (k + 1) m
+    pub opened : is_opening field instr ≡ true →
+        said_from program d field k n ≡ said program d field at ∷ said_from program d field (k + 1) m
     opened opening =
         listed ∙ ap (map (said program d field)) (cond-true (opens_at program field (path program k).pc) _ _ (opens_is ∙ opening))
         ∙ ap (λ (at : ℕ). said program d field at ∷ said_from program d field (k + 1) m) (sym here)
@@ -67,8 +73,11 @@ module _ (program : RiscProgram) (field : Parity) (first : Option Verdict) (foun
   pub found_shown : is_shown found ≡ true → chosen_from program field first (found ∷ rest) ≡ found
   found_shown is = ap (λ (o : Option Verdict). unwrap_or o other) (cond-true (is_shown found) (Some found) (find is_shown rest) is)
 
-  pub found_more : is_shown found ≡ false → chosen_from program field first (found ∷ rest) ≡ chosen_from program field (kept first found) rest
-  found_more is = ap (λ (o : Option Verdict). unwrap_or o other) (cond-false (is_shown found) (Some found) (find is_shown rest) is) ∙ ap (unwrap_or (find is_shown rest)) (by first)
+  pub found_more : is_shown found ≡ false →
+      chosen_from program field first (found ∷ rest) ≡ chosen_from program field (kept first found) rest
+  found_more is =
+      ap (λ (o : Option Verdict). unwrap_or o other) (cond-false (is_shown found) (Some found) (find is_shown rest) is)
+      ∙ ap (unwrap_or (find is_shown rest)) (by first)
     where
       by : (first : Option Verdict) → unwrap_or first (slice_index_or (found ∷ rest) 0 (Differs program.base (NoSync (vertical field))))
           ≡ unwrap_or (kept first found) (slice_index_or rest 0 (Differs program.base (NoSync (vertical field))))

@@ -1,5 +1,6 @@
 -- What an instruction asks, by its demand.
-use Rattle.std.proofs.Common.{◌≡◌, ◌<◌, Bool, true, false, List, ◌++◌, length, None, refl, sym, ap, ◌∙◌, append-nil, ◌&&◌, not, if◌then◌else◌}
+use Rattle.std.proofs.Common.{◌≡◌, ◌<◌, Bool, true, false, List, ◌++◌, length, None, refl, sym, ap, ◌∙◌, append-nil, ◌&&◌, not}
+use Rattle.std.proofs.Common.{if◌then◌else◌}
 use Rattle.risc_word.specs.declared.Instr.{Instr}
 use Rattle.risc_word.specs.declared.Instr.TheVariants.{Write, Skip, WriteC, Jump, Sync, Write123, Skip123, Write1S23}
 use Rattle.fifo_model.specs.declared.Queue.{Queue}
@@ -45,13 +46,15 @@ something Nothing left other is = absurd (other refl)
 something (Marked code) left other is = sym (ap is_none is.1)
 something (Bytes d) left other is = sym (ap is_none (is.2 ∙ ap (λ (asks : List Ask). asks ++ is.1) (first_ask d is.0).1))
 
-pub eol_is : (d : Desc) (field : Parity) (q : Queue) (instr : Instr) (after : List Ask) → is_data instr ≡ true → is_none (instr_asks q instr) ≡ false →
+pub eol_is : (d : Desc) (field : Parity) (q : Queue) (instr : Instr) (after : List Ask) → is_data instr ≡ true →
+    is_none (instr_asks q instr) ≡ false →
     eol_by (instr_ends instr).eol (goes_on after) (last_spot q d field (reach_at q d field after)) q d ≡ eol_at d field q instr after
 eol_is d field q instr after is some = by (is_data instr) (is_none (instr_asks q instr)) is some
   where
     by : (moves none : Bool) → moves ≡ true → none ≡ false →
         eol_by (instr_ends instr).eol (goes_on after) (last_spot q d field (reach_at q d field after)) q d
-        ≡ (if moves && not none then eol_by (instr_ends instr).eol (goes_on after) (last_spot q d field (reach_at q d field after)) q d else None)
+        ≡ (if moves && not none
+        then eol_by (instr_ends instr).eol (goes_on after) (last_spot q d field (reach_at q d field after)) q d else None)
     by true false is some = refl
     by true true is some = cc
     by false none is some = cc

@@ -32,26 +32,34 @@ module _ (d : Desc) (field : Parity) (ctl : Ctl) (resync : Bool) (code : Code) (
       ap (λ (w : Option Why). first_why (first_why w (waits Three)) asks) two
       ∙ ap (λ (w : Option Why). first_why (first_why w (first_why (waits Two) (waits Three))) asks) one
 
-  pub third_waits : (why : Why) → None ≡ waits One → None ≡ waits Two → Some why ≡ waits Three → Some why ≡ order_why d field (Sync ctl resync code) left
+  pub third_waits : (why : Why) → None ≡ waits One → None ≡ waits Two → Some why ≡ waits Three →
+      Some why ≡ order_why d field (Sync ctl resync code) left
   third_waits why one two three =
       ap (λ (w : Option Why). first_why w asks) three
       ∙ ap (λ (w : Option Why). first_why (first_why w (waits Three)) asks) two
       ∙ ap (λ (w : Option Why). first_why (first_why w (first_why (waits Two) (waits Three))) asks) one
 
-  missing : (q : Queue) (asks : List Ask) → None ≡ code_why d field q code asks → none_why q asks ≡ queue_why d field (Sync ctl resync code) (λ _. asks) q
+  missing : (q : Queue) (asks : List Ask) → None ≡ code_why d field q code asks →
+      none_why q asks ≡ queue_why d field (Sync ctl resync code) (λ _. asks) q
   missing q [] none = refl
   missing q (next ∷ rest) none = none
 
-  pub none_waits : (nothing : Option Why) → None ≡ waits One → None ≡ waits Two → None ≡ waits Three → nothing ≡ over_queues (λ q. none_why q (left q)) →
+  pub none_waits : (nothing : Option Why) → None ≡ waits One → None ≡ waits Two → None ≡ waits Three →
+      nothing ≡ over_queues (λ q. none_why q (left q)) →
       nothing ≡ order_why d field (Sync ctl resync code) left
   none_waits nothing one two three is =
       is
-      ∙ ap (λ (w : Option Why). first_why w (first_why (none_why Two (left Two)) (none_why Three (left Three)))) (missing One (left One) one)
-      ∙ ap (λ (w : Option Why). first_why (queue_why d field (Sync ctl resync code) left One) (first_why w (none_why Three (left Three)))) (missing Two (left Two) two)
-      ∙ ap (λ (w : Option Why). first_why (queue_why d field (Sync ctl resync code) left One) (first_why (queue_why d field (Sync ctl resync code) left Two) w)) (missing Three (left Three) three)
+      ∙ ap (λ (w : Option Why). first_why w (first_why (none_why Two (left Two)) (none_why Three (left Three))))
+      (missing One (left One) one)
+      ∙ ap (λ (w : Option Why). first_why (queue_why d field (Sync ctl resync code) left One) (first_why w (none_why Three (left Three))))
+      (missing Two (left Two) two)
+      ∙ ap (λ (w : Option Why). first_why (queue_why d field (Sync ctl resync code) left One)
+      (first_why (queue_why d field (Sync ctl resync code) left Two) w)) (missing Three (left Three) three)
       ∙ ap (λ (w : Option Why). first_why w asks) three
       ∙ ap (λ (w : Option Why). first_why (first_why w (waits Three)) asks) two
       ∙ ap (λ (w : Option Why). first_why (first_why w (first_why (waits Two) (waits Three))) asks) one
 
-  pub sync_only : (instr : Instr) → instr ≡ Sync ctl resync code → order_why d field (Sync ctl resync code) left ≡ instr_why d field instr left
-  sync_only instr is = sym (ap (λ (instr : Instr). instr_why d field instr left) is ∙ why_alone (order_why d field (Sync ctl resync code) left))
+  pub sync_only : (instr : Instr) → instr ≡ Sync ctl resync code →
+      order_why d field (Sync ctl resync code) left ≡ instr_why d field instr left
+  sync_only instr is =
+      sym (ap (λ (instr : Instr). instr_why d field instr left) is ∙ why_alone (order_why d field (Sync ctl resync code) left))

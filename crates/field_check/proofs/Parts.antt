@@ -1,5 +1,7 @@
 -- Bytes that are asked one by one, and some of them taken.
-use Rattle.std.proofs.Common.{◌≡◌, ℕ, zero, suc, ◌+◌, ◌-◌, ◌*◌, ◌<◌, ◌≤◌, ◌^◌, Bool, true, false, ◌&&◌, ◌==◌, List, [], ◌∷◌, ◌++◌, length, drop, Option, Some, None, option_map, refl, sym, ap, subst, ◌∙◌, arith, eq-eqb, ne_eqb, append_assoc, drop-drop, eqb-true}
+use Rattle.std.proofs.Common.{◌≡◌, ℕ, zero, suc, ◌+◌, ◌-◌, ◌*◌, ◌<◌, ◌≤◌, ◌^◌, Bool, true, false, ◌&&◌, ◌==◌, List, [], ◌∷◌, ◌++◌, length}
+use Rattle.std.proofs.Common.{drop, Option, Some, None, option_map, refl, sym, ap, subst, ◌∙◌, arith, eq-eqb, ne_eqb, append_assoc}
+use Rattle.std.proofs.Common.{drop-drop, eqb-true}
 use Rattle.std.specs.Prelude.{IfSome, IsTrue}
 use Rattle.std.proofs.lemmas.Bool.{cond-false, cond-true, false_from_ne_true}
 use Rattle.std.proofs.lemmas.List.{append-nil}
@@ -30,7 +32,8 @@ pub going_long : (count : ℕ) (address : Option ℕ) → length (going_on count
 going_long zero address = refl
 going_long (suc count) address = ap suc (going_long count (option_map (λ at. at + 1) address))
 
-moved : (address : Option ℕ) (a b c : ℕ) → a + b ≡ c → option_map (λ at. at + b) (option_map (λ at. at + a) address) ≡ option_map (λ at. at + c) address
+moved : (address : Option ℕ) (a b c : ℕ) → a + b ≡ c →
+    option_map (λ at. at + b) (option_map (λ at. at + a) address) ≡ option_map (λ at. at + c) address
 moved None a b c e = refl
 moved (Some at) a b c e = let same : at + a + b ≡ at + c = omega arith in ap Some same
 
@@ -42,7 +45,8 @@ pub going_drop : (n count : ℕ) (address : Option ℕ) (more : List Ask) → n 
     drop n (going_on count address ++ more) ≡ going_on (count - n) (option_map (λ at. at + n) address) ++ more
 going_drop zero count address more le =
     let same : count ≡ count - 0 = omega arith in
-    ap (λ (count : ℕ). going_on count address ++ more) same ∙ ap (λ (address : Option ℕ). going_on (count - 0) address ++ more) (unmoved address)
+    ap (λ (count : ℕ). going_on count address ++ more) same
+    ∙ ap (λ (address : Option ℕ). going_on (count - 0) address ++ more) (unmoved address)
 going_drop (suc n) zero address more le = absurd (omega arith)
 going_drop (suc n) (suc count) address more le =
     let same : count - n ≡ suc count - suc n = omega arith in
@@ -57,7 +61,8 @@ part_long true zero address some = let no = some refl in absurd (omega arith)
 part_long true (suc count) address some = ap suc (going_long count (option_map (λ at. at + 1) address))
 
 part_drop : (n : ℕ) (sol : Bool) (count : ℕ) (address : Option ℕ) (more : List Ask) → n < count →
-    drop n (bytes_asked (ask sol count address) ++ more) ≡ bytes_asked (ask (sol && n == 0) (count - n) (option_map (λ at. at + n) address)) ++ more
+    drop n (bytes_asked (ask sol count address) ++ more)
+    ≡ bytes_asked (ask (sol && n == 0) (count - n) (option_map (λ at. at + n) address)) ++ more
 part_drop zero sol count address more lt =
     let same : count ≡ count - 0 = omega arith in
     ap (λ (count : ℕ). bytes_asked (ask sol count address) ++ more) same
@@ -80,7 +85,8 @@ part_drop (suc n) true (suc count) address more lt =
 pub demand_long : (d : Demand) → (d.needs_sol ≡ true → 0 < d.rest) → length (bytes_asked (ask_of d)) ≡ d.rest
 demand_long d some = part_long d.needs_sol d.rest d.address some
 
-pub demand_next : (d : Demand) (n : ℕ) → n < d.rest → (more : List Ask) → IsNext (Bytes (rest_of d n)) (drop n (bytes_asked (ask_of d) ++ more))
+pub demand_next : (d : Demand) (n : ℕ) → n < d.rest → (more : List Ask) →
+    IsNext (Bytes (rest_of d n)) (drop n (bytes_asked (ask_of d) ++ more))
 demand_next d n lt more = (omega arith, more, part_drop n d.needs_sol d.rest d.address more lt)
 
 -- ---- an instruction
@@ -88,11 +94,16 @@ demand_next d n lt more = (omega arith, more, part_drop n d.needs_sol d.rest d.a
 pub sync_here : (instr : Instr) (ctl : Ctl) (resync : Bool) (code : Code) (q : Queue) (done : ℕ) → instr ≡ Sync ctl resync code → done ≡ 0 →
     IsHere (Some (Marked code)) done (bytes_asked (asked q instr))
 sync_here instr ctl resync code q done is none = (
-  λ more. (more, ap (λ (instr : Instr). drop done (bytes_asked (asked q instr) ++ more)) is ∙ ap (λ (done : ℕ). drop done (Await code ∷ more)) none),
-  let long : length (bytes_asked (asked q instr)) ≡ 1 = ap (λ (instr : Instr). length (bytes_asked (asked q instr))) is in (omega arith, omega arith),
+  λ more. (
+    more,
+    ap (λ (instr : Instr). drop done (bytes_asked (asked q instr) ++ more)) is ∙ ap (λ (done : ℕ). drop done (Await code ∷ more)) none,
+  ),
+  let long : length (bytes_asked (asked q instr)) ≡ 1 = ap (λ (instr : Instr). length (bytes_asked (asked q instr))) is in
+      (omega arith, omega arith),
 )
 
-data_asked : (q : Queue) (instr : Instr) → ((ctl : Ctl) (resync : Bool) (code : Code) → instr ≡ Sync ctl resync code → ⊥) → asked q instr ≡ ask_of (demand_on q (demands_of instr None))
+data_asked : (q : Queue) (instr : Instr) → ((ctl : Ctl) (resync : Bool) (code : Code) → instr ≡ Sync ctl resync code → ⊥) →
+    asked q instr ≡ ask_of (demand_on q (demands_of instr None))
 data_asked q (Sync ctl resync code) other = absurd (other ctl resync code refl)
 data_asked q (Write ctl ends off count addr) other = refl
 data_asked q (Skip ctl ends count) other = refl
@@ -102,7 +113,8 @@ data_asked q (Write123 ctl ends off counts addrs) other = refl
 data_asked q (Skip123 ctl ends counts) other = refl
 data_asked q (Write1S23 ctl ends off counts addr) other = refl
 
-module _ (q : Queue) (instr : Instr) (other : (ctl : Ctl) (resync : Bool) (code : Code) → instr ≡ Sync ctl resync code → ⊥) (d : Demand) (is : d ≡ demand_on q (demands_of instr None))
+module _ (q : Queue) (instr : Instr) (other : (ctl : Ctl) (resync : Bool) (code : Code) → instr ≡ Sync ctl resync code → ⊥) (d : Demand)
+    (is : d ≡ demand_on q (demands_of instr None))
     (some : d.needs_sol ≡ true → 0 < d.rest) where
   same : bytes_asked (asked q instr) ≡ bytes_asked (ask_of d)
   same = ap bytes_asked (data_asked q instr other ∙ ap ask_of (sym is))
@@ -110,7 +122,8 @@ module _ (q : Queue) (instr : Instr) (other : (ctl : Ctl) (resync : Bool) (code 
   long_is : length (bytes_asked (asked q instr)) ≡ d.rest
   long_is = ap (λ (asks : List Ask). length asks) same ∙ demand_long d some
 
-  pub data_here : (n : ℕ) (rest : Demand) → d.rest < 2 ^ 16 → n < d.rest → rest ≡ rest_of d n → IsHere (Some (Bytes rest)) n (bytes_asked (asked q instr))
+  pub data_here : (n : ℕ) (rest : Demand) → d.rest < 2 ^ 16 → n < d.rest → rest ≡ rest_of d n →
+      IsHere (Some (Bytes rest)) n (bytes_asked (asked q instr))
   data_here n rest small lt e = (
     λ more.
         subst (λ (rest : Demand). IsNext (Bytes rest) (drop n (bytes_asked (asked q instr) ++ more))) (sym e)
@@ -135,18 +148,24 @@ module _ (plan : RiscProgram) (q : Queue) (at done : ℕ) (instr : Instr) (count
   done_fits h = subst (λ (asks : List Ask). done ≤ length asks) first_is h
 
   asks_are : (more : ℕ) → asks_from (suc more) plan q at ≡ bytes_asked (asked q instr) ++ asks_from more plan q (at + 4 * count)
-  asks_are more = ap (λ (reading : Reading). elim reading as (λ _. List Ask) [ Err fault ↦ [] | Ok read ↦ bytes_asked (asked q read.0) ++ asks_from more plan q (at + 4 * read.1) ]) is
+  asks_are more = ap (λ (reading : Reading). elim reading as (λ _. List Ask) [
+    | Err fault ↦ []
+    | Ok read ↦ bytes_asked (asked q read.0) ++ asks_from more plan q (at + 4 * read.1)
+  ]) is
 
   -- something of the instruction is left
-  pub next_is : (more : ℕ) (next : Next) → 0 < more → IsHere (Some next) done (bytes_asked (asked q instr)) → IsNext next (drop done (asks_from more plan q at))
+  pub next_is : (more : ℕ) (next : Next) → 0 < more → IsHere (Some next) done (bytes_asked (asked q instr)) →
+      IsNext next (drop done (asks_from more plan q at))
   next_is zero next some h = absurd (omega arith)
-  next_is (suc more) next some h = subst (λ (asks : List Ask). IsNext next (drop done asks)) (sym (asks_are more)) (h.0 (asks_from more plan q (at + 4 * count)))
+  next_is (suc more) next some h =
+      subst (λ (asks : List Ask). IsNext next (drop done asks)) (sym (asks_are more)) (h.0 (asks_from more plan q (at + 4 * count)))
 
   pub room_is : (next : Next) → IsHere (Some next) done (bytes_asked (asked q instr)) → HasRoom next done (first_asks plan q at)
   room_is next h = subst (λ (asks : List Ask). HasRoom next done asks) (sym first_is) h.1
 
   -- or nothing
-  pub passed_is : (more : ℕ) → 0 < more → length (bytes_asked (asked q instr)) ≡ done → drop 0 (asks_from (more - 1) plan q (at + 4 * count)) ≡ drop done (asks_from more plan q at)
+  pub passed_is : (more : ℕ) → 0 < more → length (bytes_asked (asked q instr)) ≡ done →
+      drop 0 (asks_from (more - 1) plan q (at + 4 * count)) ≡ drop done (asks_from more plan q at)
   passed_is zero some h = absurd (omega arith)
   passed_is (suc more) some h =
       let less : suc more - 1 ≡ more = omega arith in
@@ -159,10 +178,14 @@ drop_none : (n : ℕ) → drop {A = Ask} n [] ≡ []
 drop_none zero = refl
 drop_none (suc n) = refl
 
-pub unread_left : (plan : RiscProgram) (q : Queue) (at done more : ℕ) (fault : WordFault) → fetch plan at ≡ Err fault → drop done (asks_from more plan q at) ≡ []
+pub unread_left : (plan : RiscProgram) (q : Queue) (at done more : ℕ) (fault : WordFault) → fetch plan at ≡ Err fault →
+    drop done (asks_from more plan q at) ≡ []
 unread_left plan q at done zero fault is = drop_none done
 unread_left plan q at done (suc more) fault is =
-    ap (λ (reading : Reading). drop done (elim reading as (λ _. List Ask) [ Err fault ↦ [] | Ok read ↦ bytes_asked (asked q read.0) ++ asks_from more plan q (at + 4 * read.1) ])) is
+    ap (λ (reading : Reading). drop done (elim reading as (λ _. List Ask) [
+      | Err fault ↦ []
+      | Ok read ↦ bytes_asked (asked q read.0) ++ asks_from more plan q (at + 4 * read.1)
+    ])) is
     ∙ drop_none done
 
 pub none_left : (plan : RiscProgram) (q : Queue) (at done more : ℕ) → more ≡ 0 → drop done (asks_from more plan q at) ≡ []
@@ -209,7 +232,8 @@ module _ (plan : RiscProgram) (q : Queue) (number at : ℕ) (instr : Instr) (cou
 
 -- ---- what an instruction asks against what is left
 
-going_split : (k count : ℕ) (address : Option ℕ) → k ≤ count → going_on count address ≡ going_on k address ++ going_on (count - k) (option_map (λ at. at + k) address)
+going_split : (k count : ℕ) (address : Option ℕ) → k ≤ count →
+    going_on count address ≡ going_on k address ++ going_on (count - k) (option_map (λ at. at + k) address)
 going_split zero count address le =
     let same : count ≡ count - 0 = omega arith in
     ap (λ (count : ℕ). going_on count address) same ∙ ap (λ (address : Option ℕ). going_on (count - 0) address) (unmoved address)
@@ -218,11 +242,14 @@ going_split (suc k) (suc count) address le =
     let same : count - k ≡ suc count - suc k = omega arith in
     ap (λ (rest : List Ask). GoOn 1 address ∷ rest)
     (going_split k count (option_map (λ at. at + 1) address) (omega arith)
-    ∙ ap (λ (count : ℕ). going_on k (option_map (λ at. at + 1) address) ++ going_on count (option_map (λ at. at + k) (option_map (λ at. at + 1) address))) same
-    ∙ ap (λ (later : Option ℕ). going_on k (option_map (λ at. at + 1) address) ++ going_on (suc count - suc k) later) (moved address 1 k (suc k) (omega arith)))
+    ∙ ap (λ (count : ℕ).
+    going_on k (option_map (λ at. at + 1) address) ++ going_on count (option_map (λ at. at + k) (option_map (λ at. at + 1) address))) same
+    ∙ ap (λ (later : Option ℕ). going_on k (option_map (λ at. at + 1) address) ++ going_on (suc count - suc k) later)
+    (moved address 1 k (suc k) (omega arith)))
 
 part_split : (sol : Bool) (k count : ℕ) (address : Option ℕ) → 0 < k → k ≤ count →
-    bytes_asked (ask sol count address) ≡ bytes_asked (ask sol k address) ++ bytes_asked (ask (sol && k == 0) (count - k) (option_map (λ at. at + k) address))
+    bytes_asked (ask sol count address)
+    ≡ bytes_asked (ask sol k address) ++ bytes_asked (ask (sol && k == 0) (count - k) (option_map (λ at. at + k) address))
 part_split sol zero count address some le = absurd (omega arith)
 part_split sol (suc k) zero address some le = absurd (omega arith)
 part_split false (suc k) (suc count) address some le = going_split (suc k) (suc count) address le
@@ -231,9 +258,12 @@ part_split true (suc k) (suc count) address some le =
     let later : (suc k == 0) ≡ false = ne_eqb (suc k) 0 (λ none. omega arith) in
     ap (λ (rest : List Ask). Begin 1 address ∷ rest)
     (going_split k count (option_map (λ at. at + 1) address) (omega arith)
-    ∙ ap (λ (count : ℕ). going_on k (option_map (λ at. at + 1) address) ++ going_on count (option_map (λ at. at + k) (option_map (λ at. at + 1) address))) same
-    ∙ ap (λ (later : Option ℕ). going_on k (option_map (λ at. at + 1) address) ++ going_on (suc count - suc k) later) (moved address 1 k (suc k) (omega arith))
-    ∙ ap (λ (begins : Bool). going_on k (option_map (λ at. at + 1) address) ++ bytes_asked (ask begins (suc count - suc k) (option_map (λ at. at + suc k) address))) (sym later))
+    ∙ ap (λ (count : ℕ).
+    going_on k (option_map (λ at. at + 1) address) ++ going_on count (option_map (λ at. at + k) (option_map (λ at. at + 1) address))) same
+    ∙ ap (λ (later : Option ℕ). going_on k (option_map (λ at. at + 1) address) ++ going_on (suc count - suc k) later)
+    (moved address 1 k (suc k) (omega arith))
+    ∙ ap (λ (begins : Bool). going_on k (option_map (λ at. at + 1) address)
+    ++ bytes_asked (ask begins (suc count - suc k) (option_map (λ at. at + suc k) address))) (sym later))
 
 same_place_refl : (a : Option ℕ) → same_place a a ≡ true
 same_place_refl None = refl
@@ -253,7 +283,8 @@ alike_behind : (first x y : List Ask) → first_unlike (first ++ x) (first ++ y)
 alike_behind [] x y = refl
 alike_behind (a ∷ first) x y = cond-true (same_ask a a) _ _ (same_ask_refl a) ∙ alike_behind first x y
 
-module _ (d n : Demand) (k : ℕ) (left rest : List Ask) (sol : n.needs_sol ≡ d.needs_sol) (place : n.address ≡ d.address) (some : 0 < k) (in_d : k ≤ d.rest) (in_n : k ≤ n.rest) (is : left ≡ bytes_asked (ask_of n) ++ rest) where
+module _ (d n : Demand) (k : ℕ) (left rest : List Ask) (sol : n.needs_sol ≡ d.needs_sol) (place : n.address ≡ d.address) (some : 0 < k)
+    (in_d : k ≤ d.rest) (in_n : k ≤ n.rest) (is : left ≡ bytes_asked (ask_of n) ++ rest) where
   abbrev pub part : List Ask
   part = bytes_asked (ask d.needs_sol k d.address)
 
@@ -269,7 +300,8 @@ module _ (d n : Demand) (k : ℕ) (left rest : List Ask) (sol : n.needs_sol ≡ 
   split_n : left ≡ part ++ (later_n ++ rest)
   unfolding later_n
   split_n =
-      is ∙ ap (λ (sol : Bool). bytes_asked (ask sol n.rest n.address) ++ rest) sol ∙ ap (λ (place : Option ℕ). bytes_asked (ask d.needs_sol n.rest place) ++ rest) place
+      is ∙ ap (λ (sol : Bool). bytes_asked (ask sol n.rest n.address) ++ rest) sol
+      ∙ ap (λ (place : Option ℕ). bytes_asked (ask d.needs_sol n.rest place) ++ rest) place
       ∙ ap (λ (asks : List Ask). asks ++ rest) (part_split d.needs_sol k n.rest d.address some in_n) ∙ append_assoc part later_n rest
 
   dropped : drop k left ≡ later_n ++ rest
@@ -283,7 +315,8 @@ module _ (d n : Demand) (k : ℕ) (left rest : List Ask) (sol : n.needs_sol ≡ 
   unfolding later_d
   both_go =
       let split_d : bytes_asked (ask_of d) ≡ part ++ later_d = part_split d.needs_sol k d.rest d.address some in_d in
-      ap (λ (asks : List Ask). first_unlike asks left) split_d ∙ ap (first_unlike (part ++ later_d)) split_n ∙ alike_behind part later_d (later_n ++ rest)
+      ap (λ (asks : List Ask). first_unlike asks left) split_d ∙ ap (first_unlike (part ++ later_d)) split_n
+      ∙ alike_behind part later_d (later_n ++ rest)
       ∙ ap (first_unlike later_d) (sym dropped)
 
 -- where something else comes, or nothing
@@ -295,12 +328,15 @@ first_ask d some = of d.needs_sol d.rest some
     of true (suc count) some = (going_on count (option_map (λ at. at + 1) d.address), refl)
     of false (suc count) some = (going_on count (option_map (λ at. at + 1) d.address), refl)
 
-differs_none : (d : Demand) (left : List Ask) → 0 < d.rest → left ≡ [] → first_unlike (bytes_asked (ask_of d)) left ≡ Some (first_of d, left)
+differs_none : (d : Demand) (left : List Ask) → 0 < d.rest → left ≡ [] →
+    first_unlike (bytes_asked (ask_of d)) left ≡ Some (first_of d, left)
 differs_none d left some none =
     let first = first_ask d some in
-    ap (λ (asks : List Ask). first_unlike asks left) first.1 ∙ ap (first_unlike (first_of d ∷ first.0)) none ∙ ap (λ (left : List Ask). Some (first_of d, left)) (sym none)
+    ap (λ (asks : List Ask). first_unlike asks left) first.1 ∙ ap (first_unlike (first_of d ∷ first.0)) none
+    ∙ ap (λ (left : List Ask). Some (first_of d, left)) (sym none)
 
-differs_at : (d : Demand) (b : Ask) (left y : List Ask) → 0 < d.rest → left ≡ b ∷ y → same_ask (first_of d) b ≡ false → first_unlike (bytes_asked (ask_of d)) left ≡ Some (first_of d, left)
+differs_at : (d : Demand) (b : Ask) (left y : List Ask) → 0 < d.rest → left ≡ b ∷ y → same_ask (first_of d) b ≡ false →
+    first_unlike (bytes_asked (ask_of d)) left ≡ Some (first_of d, left)
 differs_at d b left y some is e =
     let first = first_ask d some in
     ap (λ (asks : List Ask). first_unlike asks left) first.1 ∙ ap (first_unlike (first_of d ∷ first.0)) is
@@ -328,7 +364,8 @@ same_parts false false a b h = (refl, same_places a b h)
 same_parts true false a b h = cc
 same_parts false true a b h = cc
 
-pub differs_byte : (d n : Demand) (left : List Ask) → 0 < d.rest → IsNext (Bytes n) left → (n.needs_sol ≡ d.needs_sol → n.address ≡ d.address → ⊥) →
+pub differs_byte : (d n : Demand) (left : List Ask) → 0 < d.rest → IsNext (Bytes n) left →
+    (n.needs_sol ≡ d.needs_sol → n.address ≡ d.address → ⊥) →
     first_unlike (bytes_asked (ask_of d)) left ≡ Some (first_of d, left)
 differs_byte d n left some is other =
     let next = first_ask n is.0 in
@@ -337,7 +374,8 @@ differs_byte d n left some is other =
     (λ same. let parts = same_parts d.needs_sol n.needs_sol d.address n.address same in other parts.0 parts.1))
 
 -- nothing is asked any more
-pub differs_done : (d : Demand) (left : List Ask) → d.rest ≡ 0 → (d.needs_sol ≡ true → 0 < d.rest) → first_unlike (bytes_asked (ask_of d)) left ≡ None
+pub differs_done : (d : Demand) (left : List Ask) → d.rest ≡ 0 → (d.needs_sol ≡ true → 0 < d.rest) →
+    first_unlike (bytes_asked (ask_of d)) left ≡ None
 differs_done d left none some = by d.needs_sol refl
   where
     by : (sol : Bool) → d.needs_sol ≡ sol → first_unlike (bytes_asked (ask sol d.rest d.address)) left ≡ None
@@ -345,7 +383,8 @@ differs_done d left none some = by d.needs_sol refl
     by false e = ap (λ (count : ℕ). first_unlike (going_on count d.address) left) none
 
 -- taken later
-pub taken_more : (plan : RiscProgram) (q : Queue) (c : Cursor) (k : ℕ) → left_of plan q (record c { done = c.done + k }) ≡ drop k (left_of plan q c)
+pub taken_more : (plan : RiscProgram) (q : Queue) (c : Cursor) (k : ℕ) →
+    left_of plan q (record c { done = c.done + k }) ≡ drop k (left_of plan q c)
 taken_more plan q c k =
     let same : k + c.done ≡ c.done + k = omega arith in
     sym (drop-drop k c.done (asks_from c.more plan q c.at) ∙ ap (λ (n : ℕ). drop n (asks_from c.more plan q c.at)) (omega arith))
@@ -366,7 +405,8 @@ module _ (d d' : Demand) (k : ℕ) (e : d' ≡ rest_of d k) (some : 0 < k) where
   pub later_below : k ≤ d.rest → IfSome d.address (λ at. at + d.rest < 2 ^ 40) → IfSome d'.address (λ at. at + d'.rest < 2 ^ 40)
   later_below le below = subst (λ (d : Demand). IfSome d.address (λ at. at + d.rest < 2 ^ 40)) (sym e) (by d.address below)
     where
-      by : (address : Option ℕ) → IfSome address (λ at. at + d.rest < 2 ^ 40) → IfSome (option_map (λ at. at + k) address) (λ at. at + (d.rest - k) < 2 ^ 40)
+      by : (address : Option ℕ) → IfSome address (λ at. at + d.rest < 2 ^ 40) →
+          IfSome (option_map (λ at. at + k) address) (λ at. at + (d.rest - k) < 2 ^ 40)
       by None h = tt
       by (Some at) h = omega arith
 
@@ -380,13 +420,17 @@ module _ (d d' : Demand) (k : ℕ) (e : d' ≡ rest_of d k) (some : 0 < k) where
 pub code_differs : (code next : Code) (left rest : List Ask) → left ≡ Await next ∷ rest → (code_number code == code_number next) ≡ false →
     first_unlike (Await code ∷ []) left ≡ Some (Await code, left)
 code_differs code next left rest is e =
-    ap (first_unlike (Await code ∷ [])) is ∙ cond-false (code_number code == code_number next) _ _ e ∙ ap (λ (left : List Ask). Some (Await code, left)) (sym is)
+    ap (first_unlike (Await code ∷ [])) is ∙ cond-false (code_number code == code_number next) _ _ e
+    ∙ ap (λ (left : List Ask). Some (Await code, left)) (sym is)
 
-code_other_at : (code : Code) (sol : Bool) (count : ℕ) (address : Option ℕ) (left rest : List Ask) → 0 < count → left ≡ bytes_asked (ask sol count address) ++ rest →
+code_other_at : (code : Code) (sol : Bool) (count : ℕ) (address : Option ℕ) (left rest : List Ask) → 0 < count →
+    left ≡ bytes_asked (ask sol count address) ++ rest →
     first_unlike (Await code ∷ []) left ≡ Some (Await code, left)
 code_other_at code sol zero address left rest some is = absurd (omega arith)
-code_other_at code true (suc count) address left rest some is = ap (first_unlike (Await code ∷ [])) is ∙ ap (λ (left : List Ask). Some (Await code, left)) (sym is)
-code_other_at code false (suc count) address left rest some is = ap (first_unlike (Await code ∷ [])) is ∙ ap (λ (left : List Ask). Some (Await code, left)) (sym is)
+code_other_at code true (suc count) address left rest some is =
+    ap (first_unlike (Await code ∷ [])) is ∙ ap (λ (left : List Ask). Some (Await code, left)) (sym is)
+code_other_at code false (suc count) address left rest some is =
+    ap (first_unlike (Await code ∷ [])) is ∙ ap (λ (left : List Ask). Some (Await code, left)) (sym is)
 
 pub code_other : (code : Code) (next : Next) (left : List Ask) → ((n : Code) → next ≡ Marked n → ⊥) → IsNext next left →
     first_unlike (Await code ∷ []) left ≡ Some (Await code, left)

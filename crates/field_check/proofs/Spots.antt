@@ -1,5 +1,6 @@
 -- What is reported at a place of a field.
-use Rattle.std.proofs.Common.{◌≡◌, ℕ, ◌+◌, ◌-◌, Bool, true, false, List, ◌∷◌, ◌++◌, length, take, Option, Some, None, refl, sym, ap, ◌∙◌, arith, length-append, not}
+use Rattle.std.proofs.Common.{◌≡◌, ℕ, ◌+◌, ◌-◌, Bool, true, false, List, ◌∷◌, ◌++◌, length, take, Option, Some, None, refl, sym, ap, ◌∙◌}
+use Rattle.std.proofs.Common.{arith, length-append, not}
 use mathlib.Core.Bool.{beq}
 use Rattle.std.proofs.Math.Seq.{take-append_seam}
 use Rattle.fifo_model.specs.declared.Queue.{Queue}
@@ -19,7 +20,8 @@ use Rattle.field_check.specs.declared.cursors.Next.TheVariants.{Bytes}
 use Rattle.field_check.proofs.Parts.{first_ask}
 
 -- how far a queue has come is what its track counts
-pub reach_is : (d : Desc) (field : Parity) (plan : RiscProgram) (q : Queue) (t : Track) → IsIn d field plan q t → reach_at q d field (left_of plan q t.cursor) ≡ reach_of t
+pub reach_is : (d : Desc) (field : Parity) (plan : RiscProgram) (q : Queue) (t : Track) → IsIn d field plan q t →
+    reach_at q d field (left_of plan q t.cursor) ≡ reach_of t
 reach_is d field plan q t is =
     let full = awaited d field q in
     let left = left_of plan q t.cursor in
@@ -35,7 +37,8 @@ module _ (d : Desc) (field : Parity) (q : Queue) (met : Ask) where
   at_byte true address rest = refl
   at_byte false address rest = refl
 
-  pub unlike_byte : (plan : RiscProgram) (t : Track) (next : Demand) (left : List Ask) → IsIn d field plan q t → left ≡ left_of plan q t.cursor → IsNext (Bytes next) left →
+  pub unlike_byte : (plan : RiscProgram) (t : Track) (next : Demand) (left : List Ask) → IsIn d field plan q t →
+      left ≡ left_of plan q t.cursor → IsNext (Bytes next) left →
       byte_why (next_spot q d field (reach_of t) (first_of next)) q met (first_of next) ≡ unlike_why d field q met left
   unlike_byte plan t next left is same comes =
       let first = first_ask next comes.0 in
@@ -60,7 +63,9 @@ bytes_go_on next left b comes e =
 module _ (spot s : Spot) (same : s ≡ spot) (q : Queue) (d : Desc) where
   pub early_eol : (eol goes : Bool) (bytes : ℕ) → beq eol goes ≡ true → eol ≡ true → bytes ≡ line_bytes q d s.line →
       Some (EarlyEol s.line q s.number bytes) ≡ eol_by eol goes spot q d
-  early_eol true true bytes h e is = ap (λ (bytes : ℕ). Some (EarlyEol s.line q s.number bytes)) is ∙ ap (λ (s : Spot). Some (EarlyEol s.line q s.number (line_bytes q d s.line))) same
+  early_eol true true bytes h e is =
+      ap (λ (bytes : ℕ). Some (EarlyEol s.line q s.number bytes)) is
+      ∙ ap (λ (s : Spot). Some (EarlyEol s.line q s.number (line_bytes q d s.line))) same
   early_eol true false bytes h e is = cc
   early_eol false goes bytes h e is = cc
 

@@ -1,5 +1,6 @@
 -- Instructions whose words are in a program are asked one after another.
-use Rattle.std.proofs.Common.{◌≡◌, ℕ, zero, suc, ◌+◌, ◌*◌, ◌<◌, ◌≤◌, true, List, [], ◌∷◌, ◌++◌, length, length-append, append_assoc, Ok, Err, refl, sym, ap, ◌∙◌, arith}
+use Rattle.std.proofs.Common.{◌≡◌, ℕ, zero, suc, ◌+◌, ◌*◌, ◌<◌, ◌≤◌, true, List, [], ◌∷◌, ◌++◌, length, length-append, append_assoc, Ok}
+use Rattle.std.proofs.Common.{Err, refl, sym, ap, ◌∙◌, arith}
 use Rattle.std.proofs.lemmas.List.{append-nil}
 use Rattle.std.proofs.lemmas.Grind.{flat_map-append}
 use Rattle.std.proofs.Math.Seq.{drop-append_seam}
@@ -18,7 +19,8 @@ use Rattle.capture_desc.specs.declared.desc.Desc.{Desc}
 use Rattle.capture_desc.specs.declared.desc.Fields.{Fields}
 use Rattle.capture_desc.specs.declared.desc.Fields.TheVariants as fields
 use Rattle.picture_model.specs.Described.{IsDescription, describes}
-use Rattle.picture_model.specs.Programs.{body, closing, compiled, field_instrs, field_words, opening, section, section_length, sections_by, vbi_instrs, vbi_words, words_of}
+use Rattle.picture_model.specs.Programs.{body, closing, compiled, field_instrs, field_words, opening, section, section_length, sections_by}
+use Rattle.picture_model.specs.Programs.{vbi_instrs, vbi_words, words_of}
 use Rattle.picture_model.proofs.Each.{Each}
 use Rattle.picture_model.proofs.FaultlessLines.{IsGoodInstr}
 use Rattle.picture_model.proofs.FaultlessGeometry.{IsRight, IsFrame-IsRight}
@@ -32,7 +34,8 @@ use Rattle.field_check.specs.Cursors.{asks_from}
 use Rattle.field_check.specs.Plans.{IsPlan}
 
 -- an instruction is read where its words are
-fetched_at : (program : RiscProgram) (before after : List ℕ) (i : Instr) (address : ℕ) → program.spans ≡ spans_of program.base (before ++ (encoded i ++ after)) →
+fetched_at : (program : RiscProgram) (before after : List ℕ) (i : Instr) (address : ℕ) →
+    program.spans ≡ spans_of program.base (before ++ (encoded i ++ after)) →
     address ≡ program.base + 4 * length before → IsInstr i → fetch program address ≡ Ok (i, length (encoded i))
 fetched_at program before after i address words at is =
     ap (fetch program) at
@@ -41,17 +44,22 @@ fetched_at program before after i address words at is =
     ∙ reads_back i is before after
 
 -- and none is behind the last word
-none_behind : (program : RiscProgram) (before : List ℕ) (address : ℕ) → program.spans ≡ spans_of program.base (before ++ []) → address ≡ program.base + 4 * length before →
+none_behind : (program : RiscProgram) (before : List ℕ) (address : ℕ) → program.spans ≡ spans_of program.base (before ++ []) →
+    address ≡ program.base + 4 * length before →
     fetch program address ≡ Err Cut
 none_behind program before address words at =
     ap (fetch program) at ∙ fetch_there program (before ++ []) (length before) words ∙ ap first_instr (drop-append_seam before [])
 
 module _ (plan other : RiscProgram) (q : Queue) where
-  asks_stand : (instrs : List Instr) (before : List ℕ) (n address : ℕ) → plan.spans ≡ spans_of plan.base (before ++ words_of instrs) → address ≡ plan.base + 4 * length before →
+  asks_stand : (instrs : List Instr) (before : List ℕ) (n address : ℕ) → plan.spans ≡ spans_of plan.base (before ++ words_of instrs) →
+      address ≡ plan.base + 4 * length before →
       Each (IsGoodInstr other) instrs → length (words_of instrs) ≤ n → asks_from n plan q address ≡ by_bytes (asks q instrs)
   asks_stand [] before zero address words at good le = refl
   asks_stand [] before (suc n) address words at good le =
-      ap (λ (reading : Reading). elim reading as (λ _. List Ask) [ Err fault ↦ [] | Ok read ↦ bytes_asked (asked q read.0) ++ asks_from n plan q (address + 4 * read.1) ]) (none_behind plan before address words at)
+      ap (λ (reading : Reading). elim reading as (λ _. List Ask) [
+        | Err fault ↦ []
+        | Ok read ↦ bytes_asked (asked q read.0) ++ asks_from n plan q (address + 4 * read.1)
+      ]) (none_behind plan before address words at)
   asks_stand (i ∷ rest) before zero address words at good le =
       let there = fetched_at plan before (words_of rest) i address words at good.0.fine.spelled in
       let some = (known_at (words_from 5 plan address) 0 i (length (encoded i)) there).positive in
@@ -60,10 +68,14 @@ module _ (plan other : RiscProgram) (q : Queue) where
       let there = fetched_at plan before (words_of rest) i address words at good.0.fine.spelled in
       let some = (known_at (words_from 5 plan address) 0 i (length (encoded i)) there).positive in
       let long = length-append (encoded i) (words_of rest) in
-      ap (λ (reading : Reading). elim reading as (λ _. List Ask) [ Err fault ↦ [] | Ok read ↦ bytes_asked (asked q read.0) ++ asks_from n plan q (address + 4 * read.1) ])
+      ap (λ (reading : Reading). elim reading as (λ _. List Ask) [
+        | Err fault ↦ []
+        | Ok read ↦ bytes_asked (asked q read.0) ++ asks_from n plan q (address + 4 * read.1)
+      ])
       there
       ∙ ap (λ (more : List Ask). bytes_asked (asked q i) ++ more)
-      (asks_stand rest (before ++ encoded i) n (address + 4 * length (encoded i)) (words ∙ ap (spans_of plan.base) (sym (append_assoc before (encoded i) (words_of rest))))
+      (asks_stand rest (before ++ encoded i) n (address + 4 * length (encoded i))
+      (words ∙ ap (spans_of plan.base) (sym (append_assoc before (encoded i) (words_of rest))))
       (omega (arith, length-append before (encoded i))) good.1 (omega arith))
 
 in_section : (d : Desc) (field : Parity) (target : ℕ) → length (words_of (body d field)) ≤ length (words_of (section d field target))
@@ -71,7 +83,8 @@ in_section d field target =
     let parts = ap (λ (ws : List ℕ). length ws) (words_split (opening field ∷ body d field) (closing field target) []) in
     let long = split_length (words_of (opening field ∷ body d field)) (encoded (closing field target)) [] in omega arith
 
-in_both : (d : Desc) (top back : ℕ) → length (words_of (section d Top top ++ section d Bottom back)) ≡ length (words_of (section d Top top)) + length (words_of (section d Bottom back))
+in_both : (d : Desc) (top back : ℕ) → length (words_of (section d Top top ++ section d Bottom back))
+    ≡ length (words_of (section d Top top)) + length (words_of (section d Bottom back))
 in_both d top back =
     ap (λ (ws : List ℕ). length ws) (flat_map-append encoded (section d Top top) (section d Bottom back))
     ∙ length-append (words_of (section d Top top)) (words_of (section d Bottom back))
@@ -87,7 +100,8 @@ in_sections d Top fields.Both shown at back =
 in_sections d Bottom fields.Both shown at back =
     let whole = in_both d (at + 4 * section_length d Top) back in let le = in_section d Bottom back in omega arith
 
-module _ (d : Desc) (framed : IsFramed d) (description : IsDescription d) (field : Parity) (described : describes d.fields field ≡ true) where
+module _ (d : Desc) (framed : IsFramed d) (description : IsDescription d) (field : Parity)
+    (described : describes d.fields field ≡ true) where
   right : IsRight d
   right = IsFrame-IsRight d description framed.geometry
 
@@ -97,11 +111,14 @@ module _ (d : Desc) (framed : IsFramed d) (description : IsDescription d) (field
   pub words_plan : (plan : RiscProgram) → plan ≡ one_span 0 (words_of (body d field)) [] → IsPlan d field plan
   words_plan plan is =
       let spans : plan.spans ≡ spans_of plan.base ([] ++ words_of (body d field)) =
-      ap (λ (p : RiscProgram). p.spans) is ∙ ap (λ (base : ℕ). spans_of base (words_of (body d field))) (sym (ap (λ (p : RiscProgram). p.base) is)) in
+      ap (λ (p : RiscProgram). p.spans) is
+      ∙ ap (λ (base : ℕ). spans_of base (words_of (body d field))) (sym (ap (λ (p : RiscProgram). p.base) is)) in
       let base : plan.base ≡ 0 = ap (λ (p : RiscProgram). p.base) is in
       let many : length (all_words plan) ≡ length (words_of (body d field)) =
       ap (λ (p : RiscProgram). length (all_words p)) is ∙ ap (λ (ws : List ℕ). length ws) (one_words (words_of (body d field))) in
-      record { asked = λ q. asks_stand plan (compiled d) q (body d field) [] (length (all_words plan)) 0 spans (omega arith) good (omega arith) }
+      record {
+        asked = λ q. asks_stand plan (compiled d) q (body d field) [] (length (all_words plan)) 0 spans (omega arith) good (omega arith);
+      }
     where
       one_words : (ws : List ℕ) → paths.words_of (spans_of 0 ws) ≡ ws
       one_words [] = refl

@@ -1,5 +1,6 @@
 -- The walk, step by step.
-use Rattle.std.proofs.Common.{◌≡◌, ℕ, suc, ◌+◌, ◌≤◌, Bool, true, false, length, Option, Some, None, Ok, Err, refl, sym, ap, ◌∙◌, arith, if◌then◌else◌}
+use Rattle.std.proofs.Common.{◌≡◌, ℕ, suc, ◌+◌, ◌≤◌, Bool, true, false, length, Option, Some, None, Ok, Err, refl, sym, ap, ◌∙◌, arith}
+use Rattle.std.proofs.Common.{if◌then◌else◌}
 use Rattle.risc_word.specs.declared.Ctl.{Ctl}
 use Rattle.risc_word.specs.declared.Instr.{Instr}
 use Rattle.risc_word.specs.declared.Instr.TheVariants.{Write, Skip, WriteC, Jump, Sync, Write123, Skip123, Write1S23}
@@ -9,7 +10,8 @@ use Rattle.risc_word.proofs.ReadInstructions.{known_at}
 use Rattle.pixel_layout.specs.declared.Parity.{Parity}
 use Rattle.capture_desc.specs.declared.desc.Desc.{Desc}
 use Rattle.machine_model.specs.Paths.{RiscProgram, fetch, words_from}
-use Rattle.check_model.specs.Checks.{Answer, Awaited, begins_field, behind, behind_at, ended, instr_why, left_by, none_left, one_more, short_why, walked, walked_at, walked_by}
+use Rattle.check_model.specs.Checks.{Answer, Awaited, begins_field, behind, behind_at, ended, instr_why, left_by, none_left, one_more}
+use Rattle.check_model.specs.Checks.{short_why, walked, walked_at, walked_by}
 use Rattle.field_law.specs.Trails.{next_at}
 use Rattle.check_model.specs.declared.Why.{Why}
 use Rattle.check_model.specs.declared.Why.TheVariants.{NothingAwaited, Unread}
@@ -20,7 +22,8 @@ use Rattle.field_check.specs.declared.cursors.Track.{Track}
 use Rattle.field_check.specs.declared.judge.Tracks.{Tracks}
 
 -- an instruction that is fetched has as many words as it is spelled with
-pub fetched_long : (program : RiscProgram) (at : ℕ) (instr : Instr) (count : ℕ) → fetch program at ≡ Ok (instr, count) → count ≡ length (encoded instr)
+pub fetched_long : (program : RiscProgram) (at : ℕ) (instr : Instr) (count : ℕ) → fetch program at ≡ Ok (instr, count) →
+    count ≡ length (encoded instr)
 fetched_long program at instr count e = (known_at (words_from 5 program at) 0 instr count e).spelled_is
 
 module _ (program : RiscProgram) (at : ℕ) where
@@ -35,7 +38,8 @@ module _ (program : RiscProgram) (at : ℕ) where
   unfolding seen
   behind_unread n m fault e is = behind_is n m e ∙ ap (λ (reading : Reading). seen reading m) is
 
-  pub behind_read : (n m : ℕ) (instr : Instr) (count : ℕ) → n ≡ suc m → fetch program at ≡ Ok (instr, count) → behind n program at ≡ behind_at instr at (behind m program)
+  pub behind_read : (n m : ℕ) (instr : Instr) (count : ℕ) → n ≡ suc m → fetch program at ≡ Ok (instr, count) →
+      behind n program at ≡ behind_at instr at (behind m program)
   unfolding seen
   behind_read n m instr count e is = behind_is n m e ∙ ap (λ (reading : Reading). seen reading m) is
 
@@ -55,7 +59,10 @@ module _ (program : RiscProgram) (d : Desc) (field : Parity) (at : ℕ) (left : 
   go : Bool → Reading → Answer
   go none reading =
       if none then ended (behind (suc m) program at) at
-      else elim reading [ Err fault ↦ Err (at, Unread) | Ok read ↦ walked_at (begins_field read.0) d field read.0 at left (walked m program d field) ]
+      else elim reading [
+        | Err fault ↦ Err (at, Unread)
+        | Ok read ↦ walked_at (begins_field read.0) d field read.0 at left (walked m program d field)
+      ]
 
   is_go : walked n program d field at left ≡ go (none_left left) (fetch program at)
   unfolding go
@@ -86,7 +93,8 @@ module _ (program : RiscProgram) (d : Desc) (field : Parity) (at : ℕ) (left : 
         pub walked_why : (why : Why) → instr_why d field instr left ≡ Some why → walked n program d field at left ≡ Err (at, why)
         walked_why why w = by_is ∙ ap (λ (w : Option Why). walked_by w instr at left (walked m program d field)) w
 
-        pub walked_on : instr_why d field instr left ≡ None → walked n program d field at left ≡ one_more (walked m program d field (next_at instr at) (left_by instr left))
+        pub walked_on : instr_why d field instr left ≡ None →
+            walked n program d field at left ≡ one_more (walked m program d field (next_at instr at) (left_by instr left))
         walked_on w = by_is ∙ ap (λ (w : Option Why). walked_by w instr at left (walked m program d field)) w
 
 -- ---- counts
@@ -104,7 +112,10 @@ ended_here at count = let same : count ≡ count + 0 = omega arith in ap (λ (n 
 
 one_up : (before after : Track) (n more m : ℕ) → CountsUpTo before n → CountsMore before after more → n + more ≤ m → CountsUpTo after m
 one_up before after n more m up add le =
-    record { lines = (let a = up.lines in let b = add.lines in omega arith); bytes = (let a = up.bytes in let b = add.bytes in omega arith) }
+    record {
+      lines = (let a = up.lines in let b = add.lines in omega arith);
+      bytes = (let a = up.bytes in let b = add.bytes in omega arith);
+    }
 
 pub counts_up : (before after : Tracks) (n more m : ℕ) → CountUpTo before n → CountMore before after more → n + more ≤ m → CountUpTo after m
 counts_up before after n more m up add le =

@@ -1,5 +1,6 @@
 -- What instructions that are one after another still ask of a queue.
-use Rattle.std.specs.Prelude.{◌≡◌, ℕ, zero, suc, ◌+◌, ◌*◌, ◌<◌, ◌≤◌, ◌^◌, List, [], ◌∷◌, ◌++◌, length, drop, ◌-◌, ◌&&◌, ◌==◌, Option, Some, None, option_map, Ok, Err}
+use Rattle.std.specs.Prelude.{◌≡◌, ℕ, zero, suc, ◌+◌, ◌*◌, ◌<◌, ◌≤◌, ◌^◌, List, [], ◌∷◌, ◌++◌, length, drop, ◌-◌, ◌&&◌, ◌==◌, Option, Some}
+use Rattle.std.specs.Prelude.{None, option_map, Ok, Err}
 use Rattle.fifo_model.specs.declared.Queue.{Queue}
 use Rattle.machine_model.specs.declared.Demand.{Demand}
 use Rattle.machine_model.specs.Paths.{RiscProgram, fetch}

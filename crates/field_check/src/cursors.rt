@@ -1,12 +1,14 @@
 //! Places among the instructions of a description's section, as each queue sees them.
 
-ghost use Rattle.std.specs.Prelude.{◌≡◌, ◌↔◌, ◌<◌, ◌≤◌, ◌^◌, ◌+◌, ◌*◌, ◌∷◌, [], ◌==◌, List, ℕ, IfSome, IsTrue, None, Option, Some, drop, if◌then◌else◌, length, option_map};
+ghost use Rattle.std.specs.Prelude.{◌≡◌, ◌↔◌, ◌<◌, ◌≤◌, ◌^◌, ◌+◌, ◌*◌, ◌∷◌, [], ◌==◌, List, ℕ, IfSome, IsTrue, None, Option, Some, drop};
+ghost use Rattle.std.specs.Prelude.{if◌then◌else◌, length, option_map};
 ghost use Rattle.risc_word.specs.Words.{code_number};
 ghost use Rattle.field_law.specs.Sections.{Ask, Await, ask, ask_of, asked};
 ghost use Rattle.check_model.specs.ByBytes.{bytes_asked};
 ghost use Rattle.check_model.specs.Checks.{first_unlike};
 ghost use Rattle.check_model.specs.Lines.{reach_by};
-ghost use Rattle.field_check.specs.Cursors.{CountsMore, CountsUpTo, Fits, HasRoom, IsAt, IsHere, IsNext, first_asks, first_of, left_of, reach_of, rest_of};
+ghost use Rattle.field_check.specs.Cursors.{CountsMore, CountsUpTo, Fits, HasRoom, IsAt, IsHere, IsNext, first_asks, first_of, left_of};
+ghost use Rattle.field_check.specs.Cursors.{reach_of, rest_of};
 
 use crate::demands::{demand_of, rest_of};
 use fifo_model::Queue;
@@ -120,7 +122,8 @@ pub fn takes(plan: &Program, q: Queue, track: &mut Track, asked: Demand) -> Opti
     requires below { IfSome asked.address (λ at. at + asked.rest < 2 ^ 40) }
     requires small { asked.rest < 2 ^ 16 }
     requires few { CountsUpTo track.old (2 ^ 61) }
-    ensures unlike { option_map (λ more. (first_of more, left_of plan.now q track.new.cursor)) result ≡ first_unlike (bytes_asked (ask_of asked)) (left_of plan.now q track.old.cursor) }
+    ensures unlike { option_map (λ more. (first_of more, left_of plan.now q track.new.cursor)) result
+        ≡ first_unlike (bytes_asked (ask_of asked)) (left_of plan.now q track.old.cursor) }
     ensures left { result ≡ None → left_of plan.now q track.new.cursor ≡ drop asked.rest (left_of plan.now q track.old.cursor) }
     ensures at { (full : List Ask) → IsAt full plan.now q track.old → IsAt full plan.now q track.new }
     ensures few { CountsMore track.old track.new asked.rest }
@@ -151,8 +154,10 @@ pub(crate) fn is_same_code(a: Code, b: Code) -> bool
 /// Takes a code of a queue, if that is what it awaits.
 pub fn takes_code(plan: &Program, q: Queue, track: &mut Track, code: Code) -> bool
     requires fits { Fits plan.now q track.old.cursor }
-    ensures unlike { (if result then None else Some (Await code, left_of plan.now q track.new.cursor)) ≡ first_unlike (Await code ∷ []) (left_of plan.now q track.old.cursor) }
-    ensures left { left_of plan.now q track.new.cursor ≡ (if result then drop 1 (left_of plan.now q track.old.cursor) else left_of plan.now q track.old.cursor) }
+    ensures unlike { (if result then None else Some (Await code, left_of plan.now q track.new.cursor))
+        ≡ first_unlike (Await code ∷ []) (left_of plan.now q track.old.cursor) }
+    ensures left { left_of plan.now q track.new.cursor
+        ≡ (if result then drop 1 (left_of plan.now q track.old.cursor) else left_of plan.now q track.old.cursor) }
     ensures at { (full : List Ask) → IsAt full plan.now q track.old → IsAt full plan.now q track.new }
     ensures lines { track.new.lines ≡ track.old.lines }
     ensures bytes { track.new.bytes ≡ track.old.bytes }

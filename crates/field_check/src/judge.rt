@@ -7,7 +7,8 @@ ghost use Rattle.fifo_model.specs.declared.Queue.{Queue as AnyQueue};
 ghost use Rattle.pixel_layout.specs.declared.Parity.{Parity as AnyParity};
 ghost use Rattle.capture_desc.specs.declared.desc.Desc.{Desc};
 ghost use Rattle.machine_model.specs.Paths.{is_data};
-ghost use Rattle.check_model.specs.Checks.{eol_why, first_why, instr_asks, instr_why, is_none, left_by, none_left, order_why, over_queues, queue_why, short_why};
+ghost use Rattle.check_model.specs.Checks.{eol_why, first_why, instr_asks, instr_why, is_none, left_by, none_left, order_why, over_queues};
+ghost use Rattle.check_model.specs.Checks.{queue_why, short_why};
 ghost use Rattle.field_check.specs.Cursors.{CountsMore, CountsUpTo, Fits, left_of};
 ghost use Rattle.field_check.specs.Tracks.{AreFit, AreIn, CountMore, CountUpTo, IsIn, code_why, eol_at, lefts, met_why, none_why};
 
@@ -45,7 +46,8 @@ fn take_of(
     requires at { IsIn frame.now field plan.now q track.old }
     requires few { CountsUpTo track.old (2 ^ 60) }
     ensures why { result ≡ met_why frame.now field q instr.now (left_of plan.now q track.old.cursor) }
-    ensures left { result ≡ None → left_of plan.now q track.new.cursor ≡ drop (length (instr_asks q instr.now)) (left_of plan.now q track.old.cursor) }
+    ensures left { result ≡ None →
+        left_of plan.now q track.new.cursor ≡ drop (length (instr_asks q instr.now)) (left_of plan.now q track.old.cursor) }
     ensures at { result ≡ None → IsIn frame.now field plan.now q track.new }
     ensures few { result ≡ None → CountsMore track.old track.new (2 ^ 16) }
 {
@@ -136,7 +138,8 @@ fn data_why(
     requires data { is_data instr.now ≡ true }
     requires at { AreIn frame.now field plan.now tracks.old }
     requires few { CountUpTo tracks.old (2 ^ 60) }
-    ensures why { result ≡ first_why (over_queues (queue_why frame.now field instr.now (lefts plan.now tracks.old))) (over_queues (eol_why frame.now field instr.now (lefts plan.now tracks.old))) }
+    ensures why { result ≡ first_why (over_queues (queue_why frame.now field instr.now (lefts plan.now tracks.old)))
+        (over_queues (eol_why frame.now field instr.now (lefts plan.now tracks.old))) }
     ensures left { result ≡ None → (q : AnyQueue) → lefts plan.now tracks.new q ≡ left_by instr.now (lefts plan.now tracks.old) q }
     ensures at { result ≡ None → AreIn frame.now field plan.now tracks.new }
     ensures few { result ≡ None → CountMore tracks.old tracks.new (2 ^ 16) }
@@ -213,7 +216,8 @@ fn sync_why(
     requires at { AreIn frame.now field plan.now tracks.old }
     requires few { CountUpTo tracks.old (2 ^ 60) }
     ensures why { (ctl : Ctl) (resync : Bool) → result ≡ order_why frame.now field (Sync ctl resync code) (lefts plan.now tracks.old) }
-    ensures left { result ≡ None → (ctl : Ctl) (resync : Bool) (q : AnyQueue) → lefts plan.now tracks.new q ≡ left_by (Sync ctl resync code) (lefts plan.now tracks.old) q }
+    ensures left { result ≡ None → (ctl : Ctl) (resync : Bool) (q : AnyQueue) →
+        lefts plan.now tracks.new q ≡ left_by (Sync ctl resync code) (lefts plan.now tracks.old) q }
     ensures at { result ≡ None → AreIn frame.now field plan.now tracks.new }
     ensures few { result ≡ None → CountMore tracks.old tracks.new 0 }
 {

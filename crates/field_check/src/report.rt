@@ -40,7 +40,8 @@ fn push_field(
     text: &mut String,
 ) -> Result<bool, AllocError>
     requires { describes frame.now.fields field ≡ true }
-    ensures text { IfOk result (λ _. string_bytes text.new ≡ string_bytes text.old ++ verdict_line field (verdict program.now frame.now field)) }
+    ensures text { IfOk result
+        (λ _. string_bytes text.new ≡ string_bytes text.old ++ verdict_line field (verdict program.now frame.now field)) }
     ensures shown { IfOk result (λ shown. shown ≡ is_shown (verdict program.now frame.now field)) }
 {
     let found = verdict(alloc, program, frame, field)?;

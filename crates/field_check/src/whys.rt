@@ -93,7 +93,8 @@ pub(crate) fn take_bytes(
     requires below { IfSome asked.address (λ at. at + asked.rest < 2 ^ 40) }
     requires small { asked.rest < 2 ^ 16 }
     requires few { CountsUpTo track.old (2 ^ 60) }
-    ensures why { result ≡ option_map (λ unlike. unlike_why frame.now field q unlike.0 unlike.1) (first_unlike (bytes_asked (ask_of asked)) (left_of plan.now q track.old.cursor)) }
+    ensures why { result ≡ option_map (λ unlike. unlike_why frame.now field q unlike.0 unlike.1)
+        (first_unlike (bytes_asked (ask_of asked)) (left_of plan.now q track.old.cursor)) }
     ensures left { result ≡ None → left_of plan.now q track.new.cursor ≡ drop asked.rest (left_of plan.now q track.old.cursor) }
     ensures at { result ≡ None → IsIn frame.now field plan.now q track.new }
     ensures few { result ≡ None → CountsMore track.old track.new asked.rest }
@@ -113,7 +114,8 @@ pub(crate) fn take_code(
 ) -> Option<Why>
     requires at { IsIn frame.now field plan.now q track.old }
     requires few { CountsUpTo track.old (2 ^ 60) }
-    ensures why { result ≡ option_map (λ unlike. unlike_why frame.now field q unlike.0 unlike.1) (first_unlike (Await code ∷ []) (left_of plan.now q track.old.cursor)) }
+    ensures why { result ≡ option_map (λ unlike. unlike_why frame.now field q unlike.0 unlike.1)
+        (first_unlike (Await code ∷ []) (left_of plan.now q track.old.cursor)) }
     ensures left { result ≡ None → left_of plan.now q track.new.cursor ≡ drop 1 (left_of plan.now q track.old.cursor) }
     ensures at { result ≡ None → IsIn frame.now field plan.now q track.new }
     ensures few { result ≡ None → CountsMore track.old track.new 0 }
@@ -148,7 +150,8 @@ pub(crate) fn eol_why(
     eol: bool,
 ) -> Option<Why>
     requires { IsIn frame.now field plan.now q track.old }
-    ensures why { result ≡ eol_by eol (goes_on (left_of plan.now q track.old.cursor)) (last_spot q frame.now field (reach_at q frame.now field (left_of plan.now q track.old.cursor))) q frame.now }
+    ensures why { result ≡ eol_by eol (goes_on (left_of plan.now q track.old.cursor))
+        (last_spot q frame.now field (reach_at q frame.now field (left_of plan.now q track.old.cursor))) q frame.now }
     ensures left { left_of plan.now q track.new.cursor ≡ left_of plan.now q track.old.cursor }
     ensures at { IsIn frame.now field plan.now q track.new }
     ensures few { CountsMore track.old track.new 0 }

@@ -26,7 +26,8 @@ pub all_left : (old : List ℕ) (all : List Instr) → IsLeft old old all all
 all_left old all = record { kept = begins_here old; whole = refl }
 
 -- some instructions more
-pub fewer_left : (old out new : List ℕ) (next rest all : List Instr) → IsLeft old out (next ++ rest) all → BeginsWith out new → new ≡ out ++ words_of next → IsLeft old new rest all
+pub fewer_left : (old out new : List ℕ) (next rest all : List Instr) → IsLeft old out (next ++ rest) all → BeginsWith out new →
+    new ≡ out ++ words_of next → IsLeft old new rest all
 fewer_left old out new next rest all left kept added =
     record {
       kept = begins_then old out new left.kept kept;

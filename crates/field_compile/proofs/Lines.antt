@@ -12,8 +12,10 @@ use Rattle.field_compile.specs.Kept.{BeginsWith}
 use Rattle.field_compile.proofs.Appending.{IsLeft, fewer_left}
 
 -- one line more
-pub fewer_lines : (d : Desc) (old out new : List ℕ) (strip : Strip) (rest : List Strip) (all : List Instr) (planar : Bool) (pieces : List Piece) → IsLeft old out (lines_instrs d (strip ∷ rest)) all →
-    planar ≡ strip.planar → pieces ≡ plan (memory_of d) strip → BeginsWith out new → new ≡ out ++ words_of (map (instr_of planar) pieces) → IsLeft old new (lines_instrs d rest) all
+pub fewer_lines : (d : Desc) (old out new : List ℕ) (strip : Strip) (rest : List Strip) (all : List Instr) (planar : Bool)
+    (pieces : List Piece) → IsLeft old out (lines_instrs d (strip ∷ rest)) all →
+    planar ≡ strip.planar → pieces ≡ plan (memory_of d) strip → BeginsWith out new → new ≡ out ++ words_of (map (instr_of planar) pieces) →
+    IsLeft old new (lines_instrs d rest) all
 fewer_lines d old out new strip rest all planar pieces left form is kept added =
     fewer_left old out new (line_instrs d strip) (lines_instrs d rest) all left kept
     (added

@@ -22,7 +22,8 @@ use words::{ROW_WORDS, push_spans};
 
 // Appends the lines that are skipped, which are all the same.
 fn push_skipped_lines(alloc: Global, frame: &Frame, out: &mut Vec<u32>) -> Result<(), AllocError>
-    ensures words { OnOk result (out.new.items ≡ out.old.items ++ words_of (lines_instrs frame.now (replicate frame.now.skip_lines (skipped_strip frame.now)))) }
+    ensures words { OnOk result
+        (out.new.items ≡ out.old.items ++ words_of (lines_instrs frame.now (replicate frame.now.skip_lines (skipped_strip frame.now)))) }
     ensures kept { BeginsWith out.old.items out.new.items }
 {
     let pieces = frame.plan_skip_line(alloc)?;
@@ -72,7 +73,8 @@ fn push_rows(
     out: &mut Vec<u32>,
 ) -> Result<(), AllocError>
     requires { describes frame.now.fields field ≡ true }
-    ensures words { OnOk result (out.new.items ≡ out.old.items ++ words_of (lines_instrs frame.now (map (row_strip frame.now) (rows_of frame.now field)))) }
+    ensures words { OnOk result
+        (out.new.items ≡ out.old.items ++ words_of (lines_instrs frame.now (map (row_strip frame.now) (rows_of frame.now field)))) }
     ensures kept { BeginsWith out.old.items out.new.items }
     ensures description { OnOk result (IsDescription frame.now) }
 {

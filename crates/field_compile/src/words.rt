@@ -215,7 +215,8 @@ pub(crate) fn push_spans(
 ) -> Result<(), AllocError>
     requires few { length spans.now ≤ 129 }
     requires within { AreWithin row.now.line.grains spans.now }
-    ensures words { OnOk result (out.new.items ≡ out.old.items ++ words_of (map (instr_of planar) (flat_map (pieces_in row.now) spans.now))) }
+    ensures words { OnOk result
+        (out.new.items ≡ out.old.items ++ words_of (map (instr_of planar) (flat_map (pieces_in row.now) spans.now))) }
     ensures kept { BeginsWith out.old.items out.new.items }
 {
     let count = spell_row(planar, row, spans, words);

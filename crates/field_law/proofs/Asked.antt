@@ -1,5 +1,6 @@
 -- One queue: the turns that take no bytes of it.
-use Rattle.std.proofs.Common.{◌≡◌, ℕ, zero, suc, ◌+◌, ◌<◌, Bool, true, false, List, [], ◌∷◌, ◌++◌, length, drop, Option, Some, None, refl, sym, ap, subst, ◌∙◌, arith, ◌⊎◌, inl, inr, append_assoc}
+use Rattle.std.proofs.Common.{◌≡◌, ℕ, zero, suc, ◌+◌, ◌<◌, Bool, true, false, List, [], ◌∷◌, ◌++◌, length, drop, Option, Some, None, refl}
+use Rattle.std.proofs.Common.{sym, ap, subst, ◌∙◌, arith, ◌⊎◌, inl, inr, append_assoc}
 use Rattle.std.proofs.lemmas.List.Folds.{list_any-append}
 use Rattle.std.proofs.lemmas.Bool.{or_left}
 use Rattle.risc_word.specs.declared.Code.{Code}
@@ -15,7 +16,8 @@ use Rattle.field_law.proofs.AskedAndToCome.{Outlook, front as front_of, between}
 
 module _ (Ends : List ℕ → List Token → Type 0) (Rests : List Entry → Type 0) where
   -- where the field begins
-  pub outlook_at_start : (asks : List Ask) (field : List Token) (entries rest : List Entry) → Rests rest → UsesTo Ends asks [] field → Brings field entries →
+  pub outlook_at_start : (asks : List Ask) (field : List Token) (entries rest : List Entry) → Rests rest → UsesTo Ends asks [] field →
+      Brings field entries →
       Outlook Ends Rests asks (planned asks [] field) (length entries) 0 (entries ++ rest)
   outlook_at_start asks field entries rest rests uses brings =
       record {
@@ -34,7 +36,8 @@ module _ (Ends : List ℕ → List Token → Type 0) (Rests : List Entry → Typ
       }
 
   -- more entries may come after the field
-  pub outlook_with : (asks : List Ask) (stores : List Store) (left taken : ℕ) (ahead more : List Entry) → ((rest : List Entry) → Rests rest → Rests (rest ++ more)) → Outlook Ends Rests asks stores left taken ahead →
+  pub outlook_with : (asks : List Ask) (stores : List Store) (left taken : ℕ) (ahead more : List Entry) →
+      ((rest : List Entry) → Rests rest → Rests (rest ++ more)) → Outlook Ends Rests asks stores left taken ahead →
       Outlook Ends Rests asks stores left taken (ahead ++ more)
   outlook_with asks stores left taken ahead more grows h =
       record {
@@ -55,12 +58,14 @@ module _ (Ends : List ℕ → List Token → Type 0) (Rests : List Entry → Typ
       }
 
   -- nothing is asked any more, so nothing is stored any more
-  pub outlook_at_end : (stores : List Store) (left taken : ℕ) (ahead : List Entry) → Outlook Ends Rests [] stores left taken ahead → stores ≡ []
+  pub outlook_at_end : (stores : List Store) (left taken : ℕ) (ahead : List Entry) →
+      Outlook Ends Rests [] stores left taken ahead → stores ≡ []
   outlook_at_end stores left taken ahead h = sym h.stored
 
   -- an ask of no bytes
   no_bytes : (sol : Bool) (count : ℕ) (address : Option ℕ) (asks : List Ask) (line : List ℕ) (tokens : List Token) → count ≡ 0 →
-      UsesTo Ends (ask sol count address ∷ asks) line tokens → UsesTo Ends asks line tokens × (planned (ask sol count address ∷ asks) line tokens ≡ planned asks line tokens)
+      UsesTo Ends (ask sol count address ∷ asks) line tokens →
+      UsesTo Ends asks line tokens × (planned (ask sol count address ∷ asks) line tokens ≡ planned asks line tokens)
   no_bytes false zero address asks line tokens e h = (h.1, no_stores address)
     where
       no_stores : (address : Option ℕ) → laid address [] ++ planned asks line tokens ≡ planned asks line tokens
@@ -71,7 +76,8 @@ module _ (Ends : List ℕ → List Token → Type 0) (Rests : List Entry → Typ
   no_bytes true count address asks line (Mark code ∷ tokens) e h = absurd h
   no_bytes true count address asks line (Row bytes ∷ tokens) e h = let some = h.1 in absurd (omega arith)
 
-  pub outlook_done : (d : Demand) (asks : List Ask) (stores : List Store) (left taken : ℕ) (ahead : List Entry) → d.rest ≡ 0 → Outlook Ends Rests (ask_of d ∷ asks) stores left taken ahead →
+  pub outlook_done : (d : Demand) (asks : List Ask) (stores : List Store) (left taken : ℕ) (ahead : List Entry) → d.rest ≡ 0 →
+      Outlook Ends Rests (ask_of d ∷ asks) stores left taken ahead →
       Outlook Ends Rests asks stores left taken ahead
   outlook_done d asks stores left taken ahead e h =
       let less = no_bytes d.needs_sol d.rest d.address asks h.line h.tokens e h.uses in
@@ -104,11 +110,13 @@ module _ (Ends : List ℕ → List Token → Type 0) (Rests : List Entry → Typ
     pub stored : planned asks [] tokens ≡ stores
     pub counted : suc (length entries) ≡ left
 
-  awaits : (code : Code) (asks : List Ask) (stores : List Store) (left taken : ℕ) (ahead : List Entry) (line : List ℕ) (tokens : List Token) (half entries rest : List Entry) → Rests rest →
+  awaits : (code : Code) (asks : List Ask) (stores : List Store) (left taken : ℕ) (ahead : List Entry) (line : List ℕ) (tokens : List Token)
+      (half entries rest : List Entry) → Rests rest →
       ahead ≡ half ++ (entries ++ rest) → UnderWay taken line half → Brings tokens entries → UsesTo Ends (Await code ∷ asks) line tokens →
       planned (Await code ∷ asks) line tokens ≡ stores → length half + length entries ≡ left → Awaits code asks stores left ahead
   awaits code asks stores left taken ahead line [] half entries rest rests order way brings uses stored counted = absurd uses
-  awaits code asks stores left taken ahead line (Row bytes ∷ tokens) half entries rest rests order way brings uses stored counted = absurd uses
+  awaits code asks stores left taken ahead line (Row bytes ∷ tokens) half entries rest rests order way brings uses stored counted =
+      absurd uses
   awaits code asks stores left taken ahead line (Mark seen ∷ tokens) half entries rest rests order way brings uses stored counted =
       let none = between taken line half way uses.0 in
       let no_half = ap (λ (entries : List Entry). length entries) none.1 in
@@ -119,7 +127,8 @@ module _ (Ends : List ℕ → List Token → Type 0) (Rests : List Entry → Typ
         rest = rest;
         rests = rests;
         tokens = tokens;
-        order = order ∙ ap (λ (half : List Entry). half ++ (entries ++ rest)) none.1 ∙ ap (λ (entries : List Entry). entries ++ rest) brings.2;
+        order =
+            order ∙ ap (λ (half : List Entry). half ++ (entries ++ rest)) none.1 ∙ ap (λ (entries : List Entry). entries ++ rest) brings.2;
         is_code = brings.3 ∙ ap Some uses.1;
         brings = brings.4;
         uses = uses.2;
@@ -127,10 +136,12 @@ module _ (Ends : List ℕ → List Token → Type 0) (Rests : List Entry → Typ
         counted = omega arith;
       }
 
-  pub outlook_awaits : (code : Code) (asks : List Ask) (stores : List Store) (left taken : ℕ) (ahead : List Entry) → Outlook Ends Rests (Await code ∷ asks) stores left taken ahead →
+  pub outlook_awaits : (code : Code) (asks : List Ask) (stores : List Store) (left taken : ℕ) (ahead : List Entry) →
+      Outlook Ends Rests (Await code ∷ asks) stores left taken ahead →
       Awaits code asks stores left ahead
   outlook_awaits code asks stores left taken ahead h =
-      awaits code asks stores left taken ahead h.line h.tokens h.half h.entries h.rest h.rests h.order h.under_way h.brings h.uses h.stored h.counted
+      awaits code asks stores left taken ahead h.line h.tokens h.half h.entries h.rest h.rests h.order h.under_way h.brings h.uses
+      h.stored h.counted
 
   -- what the queue shows: nothing yet, or the code, and then it goes on without it
   pub record Shows (code : Code) (asks : List Ask) (stores : List Store) (left : ℕ) (held : QueueState) (later : List Entry) : Type 0 where
@@ -139,7 +150,8 @@ module _ (Ends : List ℕ → List Token → Type 0) (Rests : List Entry → Typ
     pub less : suc entries_left ≡ left
     pub next : Outlook Ends Rests asks stores entries_left 0 ((removed held).entries ++ later)
 
-  shows_in : (code : Code) (asks : List Ask) (stores : List Store) (left : ℕ) (held : QueueState) (later now : List Entry) → held.entries ≡ now →
+  shows_in : (code : Code) (asks : List Ask) (stores : List Store) (left : ℕ) (held : QueueState) (later now : List Entry) →
+      held.entries ≡ now →
       Awaits code asks stores left (now ++ later) → (now ≡ []) ⊎ Shows code asks stores left held later
   shows_in code asks stores left held later [] e h = inl refl
   shows_in code asks stores left held later (entry ∷ es) e h =
@@ -148,23 +160,29 @@ module _ (Ends : List ℕ → List Token → Type 0) (Rests : List Entry → Typ
       let behind : es ++ later ≡ h.entries ++ h.rest = cc in
       let without : drop 1 held.entries ≡ es = ap (λ (entries : List Entry). drop 1 entries) e in
       inr (record {
-        is_code = ap (λ (entries : List Entry). front_code_of (first entries)) e ∙ ap (λ (entry : Entry). code_of_kind (kind_of entry.status)) same ∙ h.is_code;
+        is_code =
+            ap (λ (entries : List Entry). front_code_of (first entries)) e
+            ∙ ap (λ (entry : Entry). code_of_kind (kind_of entry.status)) same ∙ h.is_code;
         entries_left = length h.entries;
         less = h.counted;
         next =
-            subst (λ (ahead : List Entry). Outlook Ends Rests asks stores (length h.entries) 0 ahead) (sym behind ∙ ap (λ (es : List Entry). es ++ later) (sym without))
-            (subst (λ (stores : List Store). Outlook Ends Rests asks stores (length h.entries) 0 (h.entries ++ h.rest)) h.stored (outlook_at_start asks h.tokens h.entries h.rest h.rests h.uses h.brings));
+            subst (λ (ahead : List Entry). Outlook Ends Rests asks stores (length h.entries) 0 ahead)
+            (sym behind ∙ ap (λ (es : List Entry). es ++ later) (sym without))
+            (subst (λ (stores : List Store). Outlook Ends Rests asks stores (length h.entries) 0 (h.entries ++ h.rest)) h.stored
+            (outlook_at_start asks h.tokens h.entries h.rest h.rests h.uses h.brings));
       })
 
   pub outlook_shows : (code : Code) (asks : List Ask) (stores : List Store) (left taken : ℕ) (held : QueueState) (later : List Entry) →
-      Outlook Ends Rests (Await code ∷ asks) stores left taken (held.entries ++ later) → (held.entries ≡ []) ⊎ Shows code asks stores left held later
+      Outlook Ends Rests (Await code ∷ asks) stores left taken (held.entries ++ later) →
+      (held.entries ≡ []) ⊎ Shows code asks stores left held later
   outlook_shows code asks stores left taken held later h =
       shows_in code asks stores left held later held.entries refl (outlook_awaits code asks stores left taken (held.entries ++ later) h)
 
   -- ---- once all of the field is there
 
   -- the queue is ready where bytes are asked of it
-  pub outlook_wakes : (d : Demand) (asks : List Ask) (stores : List Store) (left taken : ℕ) (ahead : List Entry) → 0 < d.rest → Outlook Ends Rests (ask_of d ∷ asks) stores left taken ahead →
+  pub outlook_wakes : (d : Demand) (asks : List Ask) (stores : List Store) (left taken : ℕ) (ahead : List Entry) → 0 < d.rest →
+      Outlook Ends Rests (ask_of d ∷ asks) stores left taken ahead →
       has_waking ahead ≡ true
   outlook_wakes d asks stores left taken ahead some h =
       let f = front_of Ends Rests d.needs_sol d.rest d.address asks stores left taken ahead some h in

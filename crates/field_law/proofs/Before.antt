@@ -1,5 +1,6 @@
 -- One queue while the opening waits: entries before the field, then the field.
-use Rattle.std.proofs.Common.{◌≡◌, suc, ◌+◌, true, false, not, All, List, [], ◌∷◌, ◌++◌, length, drop, Option, Some, None, refl, sym, ap, ◌∙◌, arith}
+use Rattle.std.proofs.Common.{◌≡◌, suc, ◌+◌, true, false, not, All, List, [], ◌∷◌, ◌++◌, length, drop, Option, Some, None, refl, sym, ap}
+use Rattle.std.proofs.Common.{◌∙◌, arith}
 use Rattle.std.proofs.lemmas.List.Elements.{All-head, All-tail}
 use Rattle.risc_word.specs.declared.Code.{Code}
 use Rattle.risc_word.specs.Words.{code_number, code_numbered}
@@ -23,7 +24,8 @@ pub record HasFront (held : QueueState) (code : Option Code) : Type 0 where
   pub same : held.entries ≡ entry ∷ behind
   pub is_code : code_of_kind (kind_of entry.status) ≡ code
 
-coded : (entries : List Entry) (held : QueueState) (code : Code) → held.entries ≡ entries → front_code_of (first entries) ≡ Some code → HasFront held (Some code)
+coded : (entries : List Entry) (held : QueueState) (code : Code) → held.entries ≡ entries → front_code_of (first entries) ≡ Some code →
+    HasFront held (Some code)
 coded [] held code e h = cc
 coded (entry ∷ behind) held code e h = record { entry = entry; behind = behind; same = e; is_code = h }
 
@@ -45,7 +47,8 @@ control_code (End count) h = cc
 control_code Reserved h = cc
 
 -- a queue that is not stray and not empty has a code in front
-pub held_code : (entries : List Entry) → no_code (first entries) ≡ false → (entries ≡ [] → ⊥) → (code : Code) × (front_code_of (first entries) ≡ Some code)
+pub held_code : (entries : List Entry) → no_code (first entries) ≡ false → (entries ≡ [] → ⊥) →
+    (code : Code) × (front_code_of (first entries) ≡ Some code)
 held_code [] h some = absurd (some refl)
 held_code (entry ∷ behind) h some = control_code (kind_of entry.status) h
 
@@ -57,7 +60,8 @@ same_code one two h =
     cc
 
 -- the codes in front of two queues are the same
-fronts_agree : (one two : List Entry) (a b : Code) → codes_of two ≡ codes_of one → front_code_of (first one) ≡ Some a → front_code_of (first two) ≡ Some b → b ≡ a
+fronts_agree : (one two : List Entry) (a b : Code) → codes_of two ≡ codes_of one → front_code_of (first one) ≡ Some a →
+    front_code_of (first two) ≡ Some b → b ≡ a
 fronts_agree one two a b same ea eb =
     let first = codes-without_code one a ea in
     let second = codes-without_code two b eb in
@@ -68,13 +72,15 @@ pub record Common (queues : Queues) (code : Code) : Type 0 where
   pub two : front_code queues.two ≡ Some code
   pub three : front_code queues.three ≡ Some code
 
-parts_of : (one two three : Option Code) (seen : Code) → code_if one two three ≡ Some seen → (one ≡ Some seen) × ((b : Code) × (two ≡ Some b)) × ((c : Code) × (three ≡ Some c))
+parts_of : (one two three : Option Code) (seen : Code) → code_if one two three ≡ Some seen →
+    (one ≡ Some seen) × ((b : Code) × (two ≡ Some b)) × ((c : Code) × (three ≡ Some c))
 parts_of (Some a) (Some b) (Some c) seen h = (h, (b, refl), (c, refl))
 parts_of (Some a) (Some b) None seen h = cc
 parts_of (Some a) None three seen h = cc
 parts_of None two three seen h = cc
 
-pub code-Common : (queues : Queues) (seen : Code) → IsFifo queues → code_if (front_code queues.one) (front_code queues.two) (front_code queues.three) ≡ Some seen → Common queues seen
+pub code-Common : (queues : Queues) (seen : Code) → IsFifo queues →
+    code_if (front_code queues.one) (front_code queues.two) (front_code queues.three) ≡ Some seen → Common queues seen
 code-Common queues seen fifo h =
     let parts = parts_of (front_code queues.one) (front_code queues.two) (front_code queues.three) seen h in
     let two = fronts_agree queues.one.entries queues.two.entries seen parts.1.0 fifo.second parts.0 parts.1.1 in
@@ -100,8 +106,10 @@ pub record Opened (tokens : List Token) (held : QueueState) (later before entrie
   pub order : drop 1 held.entries ++ later ≡ field ++ rest
   pub brings : Brings tokens field
 
-pub drops : (code : Code) (tokens : List Token) (held : QueueState) (later before entries rest : List Entry) (front : Option Code) (h : HasFront held front) →
-    (front ≡ Some code → ⊥) → held.entries ++ later ≡ before ++ (entries ++ rest) → Brings (Mark code ∷ tokens) entries → IsUnmarked code before →
+pub drops : (code : Code) (tokens : List Token) (held : QueueState) (later before entries rest : List Entry) (front : Option Code)
+    (h : HasFront held front) →
+    (front ≡ Some code → ⊥) → held.entries ++ later ≡ before ++ (entries ++ rest) → Brings (Mark code ∷ tokens) entries →
+    IsUnmarked code before →
     Dropped code held later before entries rest
 drops code tokens held later [] entries rest front h other order brings unmarked =
     let split = brings.2 in
@@ -110,7 +118,8 @@ drops code tokens held later [] entries rest front h other order brings unmarked
     let same : h.entry ≡ brings.0 = cc in
     absurd (other (sym h.is_code ∙ ap (λ (entry : Entry). code_of_kind (kind_of entry.status)) same ∙ brings.3))
 drops code tokens held later (top ∷ before) entries rest front h other order brings unmarked =
-    let seen : h.entry ∷ (h.behind ++ later) ≡ top ∷ (before ++ (entries ++ rest)) = sym (ap (λ (held : List Entry). held ++ later) h.same) ∙ order in
+    let seen : h.entry ∷ (h.behind ++ later) ≡ top ∷ (before ++ (entries ++ rest)) =
+    sym (ap (λ (held : List Entry). held ++ later) h.same) ∙ order in
     let behind : h.behind ++ later ≡ before ++ (entries ++ rest) = cc in
     record {
       after = before;
@@ -119,7 +128,8 @@ drops code tokens held later (top ∷ before) entries rest front h other order b
       unmarked = All-tail (λ entry. HasCode code entry → ⊥) top before unmarked;
     }
 
-pub opens : (code : Code) (tokens : List Token) (held : QueueState) (later before entries rest : List Entry) (h : HasFront held (Some code)) →
+pub opens : (code : Code) (tokens : List Token) (held : QueueState) (later before entries rest : List Entry)
+    (h : HasFront held (Some code)) →
     held.entries ++ later ≡ before ++ (entries ++ rest) → Brings (Mark code ∷ tokens) entries → IsUnmarked code before →
     Opened tokens held later before entries rest
 opens code tokens held later [] entries rest h order brings unmarked =
@@ -135,6 +145,8 @@ opens code tokens held later [] entries rest h order brings unmarked =
       brings = brings.4;
     }
 opens code tokens held later (top ∷ before) entries rest h order brings unmarked =
-    let seen : h.entry ∷ (h.behind ++ later) ≡ top ∷ (before ++ (entries ++ rest)) = sym (ap (λ (held : List Entry). held ++ later) h.same) ∙ order in
+    let seen : h.entry ∷ (h.behind ++ later) ≡ top ∷ (before ++ (entries ++ rest)) =
+    sym (ap (λ (held : List Entry). held ++ later) h.same) ∙ order in
     let same : h.entry ≡ top = cc in
-    absurd (All-head (λ entry. HasCode code entry → ⊥) top before unmarked (sym (ap (λ (entry : Entry). code_of_kind (kind_of entry.status)) same) ∙ h.is_code))
+    absurd (All-head (λ entry. HasCode code entry → ⊥) top before unmarked
+    (sym (ap (λ (entry : Entry). code_of_kind (kind_of entry.status)) same) ∙ h.is_code))

@@ -38,7 +38,8 @@ each_changed P Three new old all one Two = all Two
 each_changed P Three new old all one Three = one
 
 -- and the other way round
-pub each_unchanged : {A : Type 0} (P : Queue → A → Type 0) (q : Queue) (new : A) (old : Queue → A) → ((p : Queue) → P p (changed q new old p)) → P q (old q) →
+pub each_unchanged : {A : Type 0} (P : Queue → A → Type 0) (q : Queue) (new : A) (old : Queue → A) →
+    ((p : Queue) → P p (changed q new old p)) → P q (old q) →
     (p : Queue) → P p (old p)
 each_unchanged P One new old all one One = one
 each_unchanged P One new old all one Two = all Two
@@ -51,10 +52,12 @@ each_unchanged P Three new old all one Two = all Two
 each_unchanged P Three new old all one Three = one
 
 -- a queue changes with what is asked of it, its stores and its entries left
-pub each_served : (P : Queue → QueueState → Demand → List Store → ℕ → Type 0) (q : Queue) (held : QueueState) (d : Demand) (stores : List Store) (left : ℕ)
+pub each_served : (P : Queue → QueueState → Demand → List Store → ℕ → Type 0) (q : Queue) (held : QueueState) (d : Demand)
+    (stores : List Store) (left : ℕ)
     (queues : Queues) (ds : Demands) (all_stores : Queue → List Store) (all_left : Queue → ℕ) →
     ((p : Queue) → P p (queue_state p queues) (demand_on p ds) (all_stores p) (all_left p)) → P q held d stores left →
-    (p : Queue) → P p (queue_state p (with_queue_state q held queues)) (demand_on p (with_demand q d ds)) (changed q stores all_stores p) (changed q left all_left p)
+    (p : Queue) → P p (queue_state p (with_queue_state q held queues)) (demand_on p (with_demand q d ds)) (changed q stores all_stores p)
+    (changed q left all_left p)
 each_served P One held d stores left queues ds all_stores all_left all one One = one
 each_served P One held d stores left queues ds all_stores all_left all one Two = all Two
 each_served P One held d stores left queues ds all_stores all_left all one Three = all Three
@@ -66,8 +69,10 @@ each_served P Three held d stores left queues ds all_stores all_left all one Two
 each_served P Three held d stores left queues ds all_stores all_left all one Three = one
 
 -- a queue changes, and with it something else that belongs to it
-pub each_queue : {A : Type 0} (P : Queue → QueueState → A → Type 0) (q : Queue) (held : QueueState) (new : A) (queues : Queues) (old : Queue → A) →
-    ((p : Queue) → P p (queue_state p queues) (old p)) → P q held new → (p : Queue) → P p (queue_state p (with_queue_state q held queues)) (changed q new old p)
+pub each_queue : {A : Type 0} (P : Queue → QueueState → A → Type 0) (q : Queue) (held : QueueState) (new : A) (queues : Queues)
+    (old : Queue → A) →
+    ((p : Queue) → P p (queue_state p queues) (old p)) → P q held new → (p : Queue) →
+    P p (queue_state p (with_queue_state q held queues)) (changed q new old p)
 each_queue P One held new queues old all one One = one
 each_queue P One held new queues old all one Two = all Two
 each_queue P One held new queues old all one Three = all Three

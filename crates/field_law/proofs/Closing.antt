@@ -52,7 +52,8 @@ closing_memory (Write123 ctl ends off counts addrs) count m is = absurd is
 closing_memory (Skip123 ctl ends counts) count m is = absurd is
 closing_memory (Write1S23 ctl ends off counts addr) count m is = absurd is
 
-closing_interrupts : (closing : Instr) (count : ℕ) (m : State) → IsClosing m.program closing → (instr_fetched closing count m).interrupts ≡ after_closing closing m.interrupts
+closing_interrupts : (closing : Instr) (count : ℕ) (m : State) → IsClosing m.program closing →
+    (instr_fetched closing count m).interrupts ≡ after_closing closing m.interrupts
 closing_interrupts (Jump ctl target) count m is = ap (λ (inside : Bool). (jumped inside ctl target m).interrupts) is
 closing_interrupts (Sync ctl resync code) count m is = refl
 closing_interrupts (Write ctl ends off count' addr) count m is = absurd is
@@ -79,7 +80,8 @@ module _ (t : Trail) (given : Type 0) (chunks : List Chunk) (final : ℕ → ℕ
     pub interrupts : (turn m).interrupts ≡ after_closing t.closing m.interrupts
     pub settled : given → (address : ℕ) → byte_at m.memory address ≡ final address
 
-  closes : (bound : ℕ) (body : List Instr) (m : State) → FetchesOn t (Leads t) (StandsOn t) (along_on t) given chunks final later bound body m → Leads t m.program → AtEnd t.end m → Closes m
+  closes : (bound : ℕ) (body : List Instr) (m : State) →
+      FetchesOn t (Leads t) (StandsOn t) (along_on t) given chunks final later bound body m → Leads t m.program → AtEnd t.end m → Closes m
   closes bound (instr ∷ rest) m h held ends = absurd ((h.stands.leads m.program held).0 ends.there)
   closes bound [] m h held ends =
       let leads = h.stands.leads m.program held in
@@ -88,15 +90,18 @@ module _ (t : Trail) (given : Type 0) (chunks : List Chunk) (final : ℕ → ℕ
       ∙ ap (λ (reading : Reading). fetched reading (counted m)) leads.1 in
       record {
         memory = ap (λ (m' : State). m'.memory) turns ∙ closing_memory t.closing (length (encoded t.closing)) (counted m) leads.2;
-        interrupts = ap (λ (m' : State). m'.interrupts) turns ∙ closing_interrupts t.closing (length (encoded t.closing)) (counted m) leads.2;
+        interrupts =
+            ap (λ (m' : State). m'.interrupts) turns ∙ closing_interrupts t.closing (length (encoded t.closing)) (counted m) leads.2;
         settled =
             λ known address.
             (h.comes known).settled address
             (λ q.
-            ap (is_stored address) (outlook_at_end IsUsedUp AnyRest (h.stores q) (h.left q) (queue_state q m.queues).taken ((queue_state q m.queues).entries ++ later q) (h.outlook q)));
+            ap (is_stored address) (outlook_at_end IsUsedUp AnyRest (h.stores q) (h.left q) (queue_state q m.queues).taken
+            ((queue_state q m.queues).entries ++ later q) (h.outlook q)));
       }
 
-  pub end-Closes : (bound : ℕ) (m : State) → IsOnTrailAt t (Leads t) (StandsOn t) (along_on t) given chunks final later bound m → Leads t m.program → is_end t.end m Turn ≡ true → Closes m
+  pub end-Closes : (bound : ℕ) (m : State) → IsOnTrailAt t (Leads t) (StandsOn t) (along_on t) given chunks final later bound m →
+      Leads t m.program → is_end t.end m Turn ≡ true → Closes m
   end-Closes bound m h held ended =
       let ends = end-AtEnd t.end m ended in
       let f = idle-Fetches IsUsedUp AnyRest (StandsOn t) (Settling given chunks final) later bound m ends.idle h in

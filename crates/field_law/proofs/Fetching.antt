@@ -29,7 +29,8 @@ use Rattle.field_law.proofs.Running.{Turned}
 few_asked : (ds : Demands) → asked_turns ds ≤ 3
 few_asked ds = omega arith
 
-module _ (Ends : List ℕ → List Token → Type 0) (Rests : List Entry → Type 0) (Stands : ℕ → List Instr → Type 0) (Comes : List Block → (Queue → List Store) → Type 0) (later : Queue → List Entry) where
+module _ (Ends : List ℕ → List Token → Type 0) (Rests : List Entry → Type 0) (Stands : ℕ → List Instr → Type 0)
+    (Comes : List Block → (Queue → List Store) → Type 0) (later : Queue → List Entry) where
   -- the machine about to fetch the first of these instructions
   pub record Fetches (bound : ℕ) (body : List Instr) (m : State) : Type 0 where
     pub idle : m.job ≡ Idle
@@ -38,11 +39,13 @@ module _ (Ends : List ℕ → List Token → Type 0) (Rests : List Entry → Typ
     pub stands : Stands m.pc body
     pub stores : Queue → List Store
     pub left : Queue → ℕ
-    pub outlook : (q : Queue) → Outlook Ends Rests (asks q body) (stores q) (left q) (queue_state q m.queues).taken ((queue_state q m.queues).entries ++ later q)
+    pub outlook : (q : Queue) →
+        Outlook Ends Rests (asks q body) (stores q) (left q) (queue_state q m.queues).taken ((queue_state q m.queues).entries ++ later q)
     pub comes : Comes m.memory stores
     pub bounded : 5 * suc (length body) + over_queues left ≤ bound
 
-  module _ (Stands' : ℕ → List Instr → Type 0) (bound : ℕ) (instr : Instr) (rest : List Instr) (m : State) (h : Fetches bound (instr ∷ rest) m)
+  module _ (Stands' : ℕ → List Instr → Type 0) (bound : ℕ) (instr : Instr) (rest : List Instr) (m : State)
+      (h : Fetches bound (instr ∷ rest) m)
       (stands : Stands' (m.pc + 4 * length (encoded instr)) rest) where
     -- a data instruction begins
     begins : (cause : Option Cause) (target : Option ℕ) → cause ≡ None → instr_off instr ≡ 0 →
@@ -65,7 +68,8 @@ module _ (Ends : List ℕ → List Token → Type 0) (Rests : List Entry → Typ
                 left = h.left;
                 outlook =
                     λ q.
-                    subst (λ ask. Outlook Ends Rests (ask ∷ asks q rest) (h.stores q) (h.left q) (queue_state q m.queues).taken ((queue_state q m.queues).entries ++ later q)) (sym (same q)) (h.outlook q);
+                    subst (λ ask. Outlook Ends Rests (ask ∷ asks q rest) (h.stores q) (h.left q) (queue_state q m.queues).taken
+                    ((queue_state q m.queues).entries ++ later q)) (sym (same q)) (h.outlook q);
                 comes = h.comes;
                 bounded = omega arith;
               };
@@ -74,11 +78,13 @@ module _ (Ends : List ℕ → List Token → Type 0) (Rests : List Entry → Typ
           quiet = refl;
         }
 
-    data_begins : (skipping : Skipping) → m.skipping ≡ skipping → data_cause m.program.grants instr (target_before instr m.target) ≡ None → instr_off instr ≡ 0 →
+    data_begins : (skipping : Skipping) → m.skipping ≡ skipping → data_cause m.program.grants instr (target_before instr m.target) ≡ None →
+        instr_off instr ≡ 0 →
         ((q : Queue) → ask_of (demand_on q (demands_of instr (target_before instr m.target))) ≡ asked q instr) →
         Turned Ends Rests Stands' Comes later bound m.interrupts (data_fetched m.skipping instr (length (encoded instr)) m)
     data_begins skipping e fine off same =
-        subst (λ (skipping : Skipping). Turned Ends Rests Stands' Comes later bound m.interrupts (data_fetched skipping instr (length (encoded instr)) m)) (sym h.unskipped)
+        subst (λ (skipping : Skipping).
+        Turned Ends Rests Stands' Comes later bound m.interrupts (data_fetched skipping instr (length (encoded instr)) m)) (sym h.unskipped)
         (begins (data_cause m.program.grants instr (target_before instr m.target)) (target_before instr m.target) fine off same)
 
     -- a SYNC begins to wait
@@ -99,7 +105,8 @@ module _ (Ends : List ℕ → List Token → Type 0) (Rests : List Entry → Typ
                 left = h.left;
                 outlook =
                     λ q.
-                    subst (λ (instr : Instr). Outlook Ends Rests (asked q instr ∷ asks q rest) (h.stores q) (h.left q) (queue_state q m.queues).taken ((queue_state q m.queues).entries ++ later q)) e (h.outlook q);
+                    subst (λ (instr : Instr). Outlook Ends Rests (asked q instr ∷ asks q rest) (h.stores q) (h.left q)
+                    (queue_state q m.queues).taken ((queue_state q m.queues).entries ++ later q)) e (h.outlook q);
                 comes = h.comes;
                 bounded = omega arith;
               };
@@ -109,21 +116,30 @@ module _ (Ends : List ℕ → List Token → Type 0) (Rests : List Entry → Typ
         }
 
   -- one that plainly follows the one before it; its user states where the machine is behind it
-  pub executes-Turned : (Stands' : ℕ → List Instr → Type 0) (bound : ℕ) (instr : Instr) (rest : List Instr) (m : State) → Fetches bound (instr ∷ rest) m → Stands' (m.pc + 4 * length (encoded instr)) rest →
+  pub executes-Turned : (Stands' : ℕ → List Instr → Type 0) (bound : ℕ) (instr : Instr) (rest : List Instr) (m : State) →
+      Fetches bound (instr ∷ rest) m → Stands' (m.pc + 4 * length (encoded instr)) rest →
       IsPlain instr → demands_cause m.program.grants (demands_of instr None) ≡ None →
       Turned Ends Rests Stands' Comes later bound m.interrupts (instr_fetched instr (length (encoded instr)) m)
-  executes-Turned Stands' bound (Sync ctl resync code) rest m h stands plain fine = syncs Stands' bound (Sync ctl resync code) rest m h stands ctl resync code refl
+  executes-Turned Stands' bound (Sync ctl resync code) rest m h stands plain fine =
+      syncs Stands' bound (Sync ctl resync code) rest m h stands ctl resync code refl
   executes-Turned Stands' bound (Jump ctl addr) rest m h stands plain fine = absurd plain
   executes-Turned Stands' bound (WriteC ctl ends off count) rest m h stands plain fine = absurd plain
-  executes-Turned Stands' bound (Write ctl ends off count addr) rest m h stands plain fine = data_begins Stands' bound (Write ctl ends off count addr) rest m h stands m.skipping refl fine plain (λ q. refl)
-  executes-Turned Stands' bound (Skip ctl ends count) rest m h stands plain fine = data_begins Stands' bound (Skip ctl ends count) rest m h stands m.skipping refl fine refl (λ q. refl)
-  executes-Turned Stands' bound (Write123 ctl ends off counts addrs) rest m h stands plain fine = data_begins Stands' bound (Write123 ctl ends off counts addrs) rest m h stands m.skipping refl fine plain (λ q. refl)
-  executes-Turned Stands' bound (Skip123 ctl ends counts) rest m h stands plain fine = data_begins Stands' bound (Skip123 ctl ends counts) rest m h stands m.skipping refl fine refl (λ q. refl)
-  executes-Turned Stands' bound (Write1S23 ctl ends off counts addr) rest m h stands plain fine = data_begins Stands' bound (Write1S23 ctl ends off counts addr) rest m h stands m.skipping refl fine plain (λ q. refl)
+  executes-Turned Stands' bound (Write ctl ends off count addr) rest m h stands plain fine =
+      data_begins Stands' bound (Write ctl ends off count addr) rest m h stands m.skipping refl fine plain (λ q. refl)
+  executes-Turned Stands' bound (Skip ctl ends count) rest m h stands plain fine =
+      data_begins Stands' bound (Skip ctl ends count) rest m h stands m.skipping refl fine refl (λ q. refl)
+  executes-Turned Stands' bound (Write123 ctl ends off counts addrs) rest m h stands plain fine =
+      data_begins Stands' bound (Write123 ctl ends off counts addrs) rest m h stands m.skipping refl fine plain (λ q. refl)
+  executes-Turned Stands' bound (Skip123 ctl ends counts) rest m h stands plain fine =
+      data_begins Stands' bound (Skip123 ctl ends counts) rest m h stands m.skipping refl fine refl (λ q. refl)
+  executes-Turned Stands' bound (Write1S23 ctl ends off counts addr) rest m h stands plain fine =
+      data_begins Stands' bound (Write1S23 ctl ends off counts addr) rest m h stands m.skipping refl fine plain (λ q. refl)
 
-  pub idle-Fetches : (bound : ℕ) (m : State) → m.job ≡ Idle → IsWithin Ends Rests Stands Comes later bound m → (body : List Instr) × Fetches bound body m
+  pub idle-Fetches : (bound : ℕ) (m : State) → m.job ≡ Idle → IsWithin Ends Rests Stands Comes later bound m →
+      (body : List Instr) × Fetches bound body m
   idle-Fetches bound m j h =
-      let idle : WithinJob Ends Rests Stands Comes later bound Idle m = subst (λ (job : Job). WithinJob Ends Rests Stands Comes later bound job m) j h in
+      let idle : WithinJob Ends Rests Stands Comes later bound Idle m =
+      subst (λ (job : Job). WithinJob Ends Rests Stands Comes later bound job m) j h in
       let bounded = idle.bounded in (
         idle.body,
         record {

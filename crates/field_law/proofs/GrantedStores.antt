@@ -12,7 +12,8 @@ use Rattle.machine_model.specs.Turns.{Store}
 use Rattle.machine_model.proofs.Demanded.{written-IsRange, demand-granted}
 use Rattle.machine_model.proofs.Ranges.{granted_at}
 use Rattle.field_law.specs.Fields.{Token, Mark, Row}
-use Rattle.field_law.specs.Sections.{Section, Holds, Ask, Await, Begin, GoOn, ask, ask_of, asked, asks, laid, planned, body_stores, section_stores}
+use Rattle.field_law.specs.Sections.{Section, Holds, Ask, Await, Begin, GoOn, ask, ask_of, asked, asks, laid, planned, body_stores}
+use Rattle.field_law.specs.Sections.{section_stores}
 use Rattle.field_law.specs.Trails.{Trail, IsOnTrail, Leads, LeadsFrom, next_at, trail_of}
 use Rattle.field_law.proofs.CutLines.{laid_each}
 use Rattle.field_law.proofs.InSection.{section_leads}
@@ -21,7 +22,8 @@ module _ (grants : List Chunk) where
   abbrev pub IsGranted : Store → Type 0
   IsGranted store = granted grants store.address ≡ true
 
-  laid_granted : (address : Option ℕ) (count : ℕ) (bytes : List ℕ) → range_cause grants address count ≡ None → All IsGranted (laid address (take count bytes))
+  laid_granted : (address : Option ℕ) (count : ℕ) (bytes : List ℕ) → range_cause grants address count ≡ None →
+      All IsGranted (laid address (take count bytes))
   laid_granted None count bytes fine = All-nil IsGranted
   laid_granted (Some at) count bytes fine =
       laid_each IsGranted at (take count bytes)
@@ -59,13 +61,16 @@ module _ (grants : List Chunk) where
 
   asked_fine : (q : Queue) (instr : Instr) → demands_cause grants (demands_of instr None) ≡ None → IsFine (asked q instr)
   asked_fine q (Sync ctl resync code) fine = tt
-  asked_fine q (Write ctl ends off count addr) fine = fine_of _ (demand-granted grants q (demands_of (Write ctl ends off count addr) None) fine)
+  asked_fine q (Write ctl ends off count addr) fine =
+      fine_of _ (demand-granted grants q (demands_of (Write ctl ends off count addr) None) fine)
   asked_fine q (Skip ctl ends count) fine = fine_of _ (demand-granted grants q (demands_of (Skip ctl ends count) None) fine)
   asked_fine q (WriteC ctl ends off count) fine = fine_of _ (demand-granted grants q (demands_of (WriteC ctl ends off count) None) fine)
   asked_fine q (Jump ctl addr) fine = fine_of _ (demand-granted grants q (demands_of (Jump ctl addr) None) fine)
-  asked_fine q (Write123 ctl ends off counts addrs) fine = fine_of _ (demand-granted grants q (demands_of (Write123 ctl ends off counts addrs) None) fine)
+  asked_fine q (Write123 ctl ends off counts addrs) fine =
+      fine_of _ (demand-granted grants q (demands_of (Write123 ctl ends off counts addrs) None) fine)
   asked_fine q (Skip123 ctl ends counts) fine = fine_of _ (demand-granted grants q (demands_of (Skip123 ctl ends counts) None) fine)
-  asked_fine q (Write1S23 ctl ends off counts addr) fine = fine_of _ (demand-granted grants q (demands_of (Write1S23 ctl ends off counts addr) None) fine)
+  asked_fine q (Write1S23 ctl ends off counts addr) fine =
+      fine_of _ (demand-granted grants q (demands_of (Write1S23 ctl ends off counts addr) None) fine)
 
 on_trail_fine : (program : RiscProgram) (q : Queue) (instr : Instr) → IsOnTrail program instr → IsFine program.grants (asked q instr)
 on_trail_fine program One (Jump ctl target) on = refl
@@ -79,7 +84,8 @@ on_trail_fine program q (Write123 ctl ends off counts addrs) on = asked_fine pro
 on_trail_fine program q (Skip123 ctl ends counts) on = asked_fine program.grants q (Skip123 ctl ends counts) on.1
 on_trail_fine program q (Write1S23 ctl ends off counts addr) on = asked_fine program.grants q (Write1S23 ctl ends off counts addr) on.1
 
-asks_fine : (program : RiscProgram) (q : Queue) (end at : ℕ) (body : List Instr) (closing : Instr) → LeadsFrom program end at body closing → AreFine program.grants (asks q body)
+asks_fine : (program : RiscProgram) (q : Queue) (end at : ℕ) (body : List Instr) (closing : Instr) → LeadsFrom program end at body closing →
+    AreFine program.grants (asks q body)
 asks_fine program q end at [] closing h = tt
 asks_fine program q end at (instr ∷ rest) closing h =
     (on_trail_fine program q instr h.2, asks_fine program q end (next_at instr at) rest closing h.3)

@@ -30,7 +30,8 @@ plain_next (Write123 ctl ends off counts addrs) at plain = refl
 plain_next (Skip123 ctl ends counts) at plain = refl
 plain_next (Write1S23 ctl ends off counts addr) at plain = refl
 
-plain_on_trail : (program : RiscProgram) (instr : Instr) → IsPlain instr → demands_cause program.grants (demands_of instr None) ≡ None → IsOnTrail program instr
+plain_on_trail : (program : RiscProgram) (instr : Instr) → IsPlain instr → demands_cause program.grants (demands_of instr None) ≡ None →
+    IsOnTrail program instr
 plain_on_trail program (Write ctl ends off count addr) plain fine = (plain, fine)
 plain_on_trail program (Skip ctl ends count) plain fine = (plain, fine)
 plain_on_trail program (WriteC ctl ends off count) plain fine = absurd plain
@@ -41,21 +42,24 @@ plain_on_trail program (Skip123 ctl ends counts) plain fine = (plain, fine)
 plain_on_trail program (Write1S23 ctl ends off counts addr) plain fine = (plain, fine)
 
 -- the closing is behind the body, and no instruction of the body is
-holds_closing : (program : RiscProgram) (at : ℕ) (body : List Instr) (closing : Ctl) (target : ℕ) → HoldsFrom program at body closing target →
+holds_closing : (program : RiscProgram) (at : ℕ) (body : List Instr) (closing : Ctl) (target : ℕ) →
+    HoldsFrom program at body closing target →
     fetch program (at + 4 * words_in body) ≡ Ok (Jump closing target, 2)
 holds_closing program at [] closing target h = let same : at + 4 * 0 ≡ at = omega arith in ap (fetch program) same ∙ h.0
 holds_closing program at (instr ∷ rest) closing target h =
     let same : at + 4 * (length (encoded instr) + words_in rest) ≡ at + 4 * length (encoded instr) + 4 * words_in rest = omega arith in
     ap (fetch program) same ∙ holds_closing program (at + 4 * length (encoded instr)) rest closing target h.3
 
-no_jump : (instr : Instr) (count : ℕ) (closing : Ctl) (target : ℕ) (reading : Reading) → reading ≡ Ok (instr, count) → reading ≡ Ok (Jump closing target, 2) → IsPlain instr → ⊥
+no_jump : (instr : Instr) (count : ℕ) (closing : Ctl) (target : ℕ) (reading : Reading) → reading ≡ Ok (instr, count) →
+    reading ≡ Ok (Jump closing target, 2) → IsPlain instr → ⊥
 no_jump instr count closing target reading a b plain =
     let both : Ok (instr, count) ≡ Ok (Jump closing target, 2) = sym a ∙ b in
     let pair : (instr, count) ≡ (Jump closing target, 2) = cc in
     let same : instr ≡ Jump closing target = ap (λ (pair : Instr × ℕ). pair.0) pair in
     subst IsPlain same plain
 
-holds_leads : (program : RiscProgram) (end at : ℕ) (body : List Instr) (closing : Ctl) (target : ℕ) → at + 4 * words_in body ≡ end → HoldsFrom program at body closing target →
+holds_leads : (program : RiscProgram) (end at : ℕ) (body : List Instr) (closing : Ctl) (target : ℕ) → at + 4 * words_in body ≡ end →
+    HoldsFrom program at body closing target →
     LeadsFrom program end at body (Jump closing target)
 holds_leads program end at [] closing target there h = (omega arith, h.0, h.1)
 holds_leads program end at (instr ∷ rest) closing target there h = (
@@ -76,7 +80,8 @@ pub along_in : (s : Section) → IsAlong (trail_of s) (Holds s) (StandsIn s)
 along_in s =
     record {
       begins = begins_in s;
-      leads = λ program held at body stands. holds_leads program (closing_at s) at body s.closing s.target stands.there (stands.holds program held);
+      leads = λ program held at body stands.
+          holds_leads program (closing_at s) at body s.closing s.target stands.there (stands.holds program held);
       goes = λ program held at instr rest stands.
           let there = stands.there in
           subst (λ (next : ℕ). StandsIn s next rest) (sym (plain_next instr at (stands.holds program held).1))

@@ -20,11 +20,14 @@ use Rattle.field_law.proofs.TrailLaws.{trail_shows_picture, trail_shows_no_fault
 each_leads : (s : Section) (steps : List Met) → All (λ met. Holds s met.0) steps → All (λ met. Leads (trail_of s) met.0) steps
 each_leads s [] held = All-nil (λ (met : Met). Leads (trail_of s) met.0)
 each_leads s (met ∷ steps) held =
-    All-cons (λ (met : Met). Leads (trail_of s) met.0) met steps (section_leads s met.0 (All-head (λ (met : Met). Holds s met.0) met steps held))
+    All-cons (λ (met : Met). Leads (trail_of s) met.0) met steps
+    (section_leads s met.0 (All-head (λ (met : Met). Holds s met.0) met steps held))
     (each_leads s steps (All-tail (λ (met : Met). Holds s met.0) met steps held))
 
-abbrev along : (s : Section) (field : Queue → List Token) (m : State) (steps : List Met) → Receives s field m steps → TrailReceives (trail_of s) field m steps
-along s field m steps r = record { orderly = r.orderly; made = r.made; held = each_leads s steps r.held; uses = r.uses; arrives = r.arrives }
+abbrev along : (s : Section) (field : Queue → List Token) (m : State) (steps : List Met) → Receives s field m steps →
+    TrailReceives (trail_of s) field m steps
+along s field m steps r =
+    record { orderly = r.orderly; made = r.made; held = each_leads s steps r.held; uses = r.uses; arrives = r.arrives }
 
 pub shows_picture : ShowsPicture
 shows_picture s field final m early late program r = trail_shows_picture (trail_of s) field final m early late program (along s field m _ r)

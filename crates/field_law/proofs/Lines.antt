@@ -1,5 +1,6 @@
 -- A line of which some bytes were taken.
-use Rattle.std.proofs.Common.{rules, tests, ◌≡◌, ℕ, zero, suc, ◌+◌, ◌-◌, ◌<◌, ◌≤◌, ◌||◌, Bool, true, false, List, [], ◌∷◌, ◌++◌, length, take, drop, refl, sym, ap, subst, ◌∙◌, arith, inr, min}
+use Rattle.std.proofs.Common.{rules, tests, ◌≡◌, ℕ, zero, suc, ◌+◌, ◌-◌, ◌<◌, ◌≤◌, ◌||◌, Bool, true, false, List, [], ◌∷◌, ◌++◌, length}
+use Rattle.std.proofs.Common.{take, drop, refl, sym, ap, subst, ◌∙◌, arith, inr, min}
 use Rattle.std.proofs.Common.{take-take, drop-drop, length-take, length-drop, length-append, slice_index_or}
 use Rattle.std.specs.List.{list_any}
 use Rattle.std.proofs.lemmas.List.{drop-take, take-append-le, drop-append-le, drop_all}
@@ -37,7 +38,8 @@ length-valid_part entry =
     omega (arith, length-take (valid_bytes entry.status) (lane_bytes entry.dword))
 
 -- bytes taken of an entry are bytes of its valid part
-taken_part : (lanes : List ℕ) (valid taken count : ℕ) → taken + count ≤ valid → take count (drop taken (take valid lanes)) ≡ take count (drop taken lanes)
+taken_part : (lanes : List ℕ) (valid taken count : ℕ) → taken + count ≤ valid →
+    take count (drop taken (take valid lanes)) ≡ take count (drop taken lanes)
 taken_part lanes valid taken count le =
     let parts : valid ≡ taken + (valid - taken) = omega arith in
     ap (λ (n : ℕ). take count (drop taken (take n lanes))) parts ∙ ap (take count) (drop-take taken (valid - taken) lanes)
@@ -72,7 +74,8 @@ abbrev pub UnderWay : ℕ → List ℕ → List Entry → Type 0
 UnderWay taken line [] = (taken ≡ 0) × (line ≡ [])
 UnderWay taken line (entry ∷ rest) = Moving (kind_of entry.status) taken × Part taken line entry rest
 
-pub moving-verdict : (kind : StatusKind) (taken rest : ℕ) → Moving kind taken → verdict_on kind false taken rest ≡ Take (min rest (valid_lanes kind - taken))
+pub moving-verdict : (kind : StatusKind) (taken rest : ℕ) → Moving kind taken →
+    verdict_on kind false taken rest ≡ Take (min rest (valid_lanes kind - taken))
 moving-verdict (Control code) taken rest h = absurd h
 moving-verdict Start zero rest h = absurd (omega arith)
 moving-verdict Start (suc taken) rest h = search (rules, tests)
@@ -142,13 +145,15 @@ line-Started bytes entries h = started bytes entries h.shape h.valid
 length_left : (entry : Entry) (taken count : ℕ) → taken + count ≤ valid_bytes entry.status → count ≤ length (drop taken (valid_part entry))
 length_left entry taken count le = omega (arith, length-drop taken (valid_part entry), length-valid_part entry)
 
-pub part-take : (taken count : ℕ) (line : List ℕ) (entry : Entry) (rest : List Entry) → Part taken line entry rest → taken + count ≤ valid_bytes entry.status →
+pub part-take : (taken count : ℕ) (line : List ℕ) (entry : Entry) (rest : List Entry) → Part taken line entry rest →
+    taken + count ≤ valid_bytes entry.status →
     take count line ≡ bytes_taken entry taken count
 part-take taken count line entry rest h le =
     ap (take count) h.bytes ∙ take-append-le count (drop taken (valid_part entry)) h.more (length_left entry taken count le)
     ∙ sym (bytes_taken-part entry taken count le)
 
-part_drop : (taken count : ℕ) (line : List ℕ) (entry : Entry) (rest : List Entry) (h : Part taken line entry rest) → taken + count ≤ valid_bytes entry.status →
+part_drop : (taken count : ℕ) (line : List ℕ) (entry : Entry) (rest : List Entry) (h : Part taken line entry rest) →
+    taken + count ≤ valid_bytes entry.status →
     drop count line ≡ drop (taken + count) (valid_part entry) ++ h.more
 part_drop taken count line entry rest h le =
     ap (drop count) h.bytes ∙ drop-append-le count (drop taken (valid_part entry)) h.more (length_left entry taken count le)
@@ -159,11 +164,14 @@ follows_under_way true more rest h = subst (λ rest. UnderWay 0 more rest) (sym 
 follows_under_way false more rest h = subst (λ more. UnderWay 0 more rest) h.1 (ending-UnderWay rest h.0)
 
 -- all of the entry: it goes
-pub part-whole : (taken count : ℕ) (line : List ℕ) (entry : Entry) (rest : List Entry) → Part taken line entry rest → taken + count ≡ valid_bytes entry.status →
+pub part-whole : (taken count : ℕ) (line : List ℕ) (entry : Entry) (rest : List Entry) → Part taken line entry rest →
+    taken + count ≡ valid_bytes entry.status →
     UnderWay 0 (drop count line) rest
 part-whole taken count line entry rest h e =
-    let none : drop (taken + count) (valid_part entry) ≡ [] = drop_all (taken + count) (valid_part entry) (omega (arith, length-valid_part entry)) in
-    let left : drop count line ≡ h.more = part_drop taken count line entry rest h (omega arith) ∙ ap (λ (bytes : List ℕ). bytes ++ h.more) none in
+    let none : drop (taken + count) (valid_part entry) ≡ [] =
+    drop_all (taken + count) (valid_part entry) (omega (arith, length-valid_part entry)) in
+    let left : drop count line ≡ h.more =
+    part_drop taken count line entry rest h (omega arith) ∙ ap (λ (bytes : List ℕ). bytes ++ h.more) none in
     subst (λ line. UnderWay 0 line rest) (sym left) (follows_under_way (is_end (kind_of entry.status)) h.more rest h.follows)
 
 more_taken : (kind : StatusKind) (taken count : ℕ) → 0 < count → 0 < valid_lanes kind → Moving kind (taken + count)
@@ -194,7 +202,8 @@ last_length true more rest e h = ap (λ (bytes : List ℕ). length bytes) h.0
 last_length false more rest e h = cc
 
 -- after an EOL nothing
-pub part-last : (taken : ℕ) (line : List ℕ) (entry : Entry) (rest : List Entry) → Part taken line entry rest → is_end (kind_of entry.status) ≡ true →
+pub part-last : (taken : ℕ) (line : List ℕ) (entry : Entry) (rest : List Entry) → Part taken line entry rest →
+    is_end (kind_of entry.status) ≡ true →
     length line ≡ valid_bytes entry.status - taken
 part-last taken line entry rest h e =
     omega (arith, part-length taken line entry rest h, last_length (is_end (kind_of entry.status)) h.more rest e h.follows)
@@ -204,7 +213,8 @@ part-last taken line entry rest h e =
 abbrev pub has_waking : List Entry → Bool
 has_waking entries = list_any (λ entry. wakes (kind_of entry.status)) entries
 
-kind_waking : (kind : StatusKind) (rest : List Entry) → ends_line kind rest (is_ending rest) ≡ true → (is_ending rest ≡ true → has_waking rest ≡ true) →
+kind_waking : (kind : StatusKind) (rest : List Entry) → ends_line kind rest (is_ending rest) ≡ true →
+    (is_ending rest ≡ true → has_waking rest ≡ true) →
     (wakes kind || has_waking rest) ≡ true
 kind_waking (Control code) rest h more = cc
 kind_waking Start rest h more = cc
@@ -216,12 +226,14 @@ ending_waking : (rest : List Entry) → is_ending rest ≡ true → has_waking r
 ending_waking [] h = cc
 ending_waking (entry ∷ rest) h = kind_waking (kind_of entry.status) rest h (λ ending. ending_waking rest ending)
 
-follows_waking : (kind : StatusKind) (more : List ℕ) (rest : List Entry) → Follows (is_end kind) more rest → 1 ≤ valid_lanes kind → (wakes kind || has_waking rest) ≡ true
+follows_waking : (kind : StatusKind) (more : List ℕ) (rest : List Entry) → Follows (is_end kind) more rest → 1 ≤ valid_lanes kind →
+    (wakes kind || has_waking rest) ≡ true
 follows_waking (Control code) more rest h v = absurd (omega arith)
 follows_waking Start more rest h v = ending_waking rest h.0
 follows_waking Pixels more rest h v = ending_waking rest h.0
 follows_waking (End count) more rest h v = refl
 follows_waking Reserved more rest h v = absurd (omega arith)
 
-pub part-waking : (taken : ℕ) (line : List ℕ) (entry : Entry) (rest : List Entry) → Part taken line entry rest → has_waking (entry ∷ rest) ≡ true
+pub part-waking : (taken : ℕ) (line : List ℕ) (entry : Entry) (rest : List Entry) → Part taken line entry rest →
+    has_waking (entry ∷ rest) ≡ true
 part-waking taken line entry rest h = let some = h.some in follows_waking (kind_of entry.status) h.more rest h.follows (omega arith)

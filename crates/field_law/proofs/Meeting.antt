@@ -8,7 +8,8 @@ use Rattle.machine_model.specs.Paths.{RiscProgram}
 use Rattle.machine_model.specs.Steps.{Step}
 use Rattle.field_law.specs.Arrivals.{Met, meeting, pushed_by, pushed_in, coming}
 
-pub meeting-append : (program : RiscProgram) (early late : List Step) → meeting program (early ++ late) ≡ meeting program early ++ meeting program late
+pub meeting-append : (program : RiscProgram) (early late : List Step) →
+    meeting program (early ++ late) ≡ meeting program early ++ meeting program late
 meeting-append program early late = map-append (λ step. (program, step)) early late
 
 -- they push what the steps push
@@ -16,7 +17,8 @@ pub coming-meeting : (program : RiscProgram) (steps : List Step) (q : Queue) →
 coming-meeting program [] q = refl
 coming-meeting program (first ∷ steps) q = ap (λ (rest : List Entry). pushed_by first q ++ rest) (coming-meeting program steps q)
 
-pub each-meets : (P : RiscProgram → Type 0) (program : RiscProgram) (steps : List Step) → P program → All (λ met. P met.0) (meeting program steps)
+pub each-meets : (P : RiscProgram → Type 0) (program : RiscProgram) (steps : List Step) → P program →
+    All (λ met. P met.0) (meeting program steps)
 each-meets P program [] holds = All-nil (λ (met : Met). P met.0)
 each-meets P program (first ∷ steps) holds =
     All-cons (λ (met : Met). P met.0) (program, first) (meeting program steps) holds (each-meets P program steps holds)

@@ -17,13 +17,16 @@ use Rattle.field_law.proofs.Pushes.{Adds, step-IsSaid, step-Within}
 use Rattle.risc_word.specs.declared.Instr.{Instr}
 use Rattle.machine_model.specs.Turns.{Store}
 
-module _ (t : Trail) (field : Queue → List Token) (uses : UsesField t.body field) (Rests : List Entry → Type 0) (Stands : ℕ → List Instr → Type 0) (Comes : List Block → (Queue → List Store) → Type 0)
+module _ (t : Trail) (field : Queue → List Token) (uses : UsesField t.body field) (Rests : List Entry → Type 0)
+    (Stands : ℕ → List Instr → Type 0) (Comes : List Block → (Queue → List Store) → Type 0)
     (begins : Stands t.at t.body) where
-  module _ (later later' more : Queue → List Entry) (queues queues' : Queues) (taken : (q : Queue) → (queue_state q queues').taken ≡ (queue_state q queues).taken)
+  module _ (later later' more : Queue → List Entry) (queues queues' : Queues)
+      (taken : (q : Queue) → (queue_state q queues').taken ≡ (queue_state q queues).taken)
       (grows : (q : Queue) (rest : List Entry) → Rests rest → Rests (rest ++ more q))
       (ahead : (q : Queue) → (queue_state q queues').entries ++ later' q ≡ ((queue_state q queues).entries ++ later q) ++ more q)
       (bound : ℕ) (risc_on : Bool) (pc : ℕ) (skipping : Skipping) (job : Job) (memory : List Block) where
-    pub opening_moved : Opening t field Rests Comes later bound risc_on pc skipping job queues memory → Opening t field Rests Comes later' bound risc_on pc skipping job queues' memory
+    pub opening_moved : Opening t field Rests Comes later bound risc_on pc skipping job queues memory →
+        Opening t field Rests Comes later' bound risc_on pc skipping job queues' memory
     opening_moved h =
         record {
           on = h.on;
@@ -36,7 +39,8 @@ module _ (t : Trail) (field : Queue → List Token) (uses : UsesField t.body fie
           rests = λ q. grows q (h.rest q) (h.rests q);
           order =
               λ q.
-              ahead q ∙ ap (λ (ahead : List Entry). ahead ++ more q) (h.order q) ∙ append_assoc (h.before q) (h.entries q ++ h.rest q) (more q)
+              ahead q ∙ ap (λ (ahead : List Entry). ahead ++ more q) (h.order q)
+              ∙ append_assoc (h.before q) (h.entries q ++ h.rest q) (more q)
               ∙ ap (λ (entries : List Entry). h.before q ++ entries) (append_assoc (h.entries q) (h.rest q) (more q));
           unmarked = h.unmarked;
           brings = h.brings;
@@ -45,11 +49,16 @@ module _ (t : Trail) (field : Queue → List Token) (uses : UsesField t.body fie
         }
 
   -- a step that is no turn
-  pub step-IsReached : (later later' more : Queue → List Entry) (grows : (q : Queue) (rest : List Entry) → Rests rest → Rests (rest ++ more q)) (bound : ℕ) (st : Step) (m : State) → IsKept m st → turn_count st ≡ 0 →
-      ((after : Queues) → Adds m.queues after (pushed_by st) → (q : Queue) → (queue_state q after).entries ++ later' q ≡ ((queue_state q m.queues).entries ++ later q) ++ more q) →
-      IsReached t field uses Rests Stands Comes begins later bound m → IsReached t field uses Rests Stands Comes begins later' bound (step st m)
+  pub step-IsReached : (later later' more : Queue → List Entry)
+      (grows : (q : Queue) (rest : List Entry) → Rests rest → Rests (rest ++ more q)) (bound : ℕ) (st : Step) (m : State) → IsKept m st →
+      turn_count st ≡ 0 →
+      ((after : Queues) → Adds m.queues after (pushed_by st) → (q : Queue) →
+      (queue_state q after).entries ++ later' q ≡ ((queue_state q m.queues).entries ++ later q) ++ more q) →
+      IsReached t field uses Rests Stands Comes begins later bound m →
+      IsReached t field uses Rests Stands Comes begins later' bound (step st m)
   step-IsReached later later' more grows bound st m kept no_turn ahead (inl h) =
       inl (step-IsSaid (Opening t field Rests Comes later' bound) st m kept no_turn
-      (λ after adds. opening_moved later later' more m.queues after adds.taken grows (ahead after adds) bound m.risc_on m.pc m.skipping m.job m.memory h))
+      (λ after adds.
+      opening_moved later later' more m.queues after adds.taken grows (ahead after adds) bound m.risc_on m.pc m.skipping m.job m.memory h))
   step-IsReached later later' more grows bound st m kept no_turn ahead (inr h) =
       inr (step-Within IsUsedUp Rests Stands Comes later later' more grows bound st m kept no_turn ahead h)

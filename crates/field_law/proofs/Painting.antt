@@ -16,7 +16,8 @@ use Rattle.field_law.proofs.Within.{IsMade}
 -- ---- stores one after another
 
 -- an address to which nothing is stored keeps its byte
-pub byte_at-unstored : (memory : List Block) (stores : List Store) (address : ℕ) → is_stored address stores ≡ false → byte_at (stored_all memory stores) address ≡ byte_at memory address
+pub byte_at-unstored : (memory : List Block) (stores : List Store) (address : ℕ) → is_stored address stores ≡ false →
+    byte_at (stored_all memory stores) address ≡ byte_at memory address
 byte_at-unstored memory [] address none = refl
 byte_at-unstored memory (store ∷ stores) address none =
     let parts = or_parts (store.address == address) (is_stored address stores) none in
@@ -28,7 +29,8 @@ abbrev pub IsAgreed : (ℕ → ℕ) → Store → Type 0
 IsAgreed final store = final store.address ≡ store.byte
 
 -- an address to which something is stored has the byte that is to be there
-pub byte_at-stored_all : (chunks : List Chunk) (final : ℕ → ℕ) (memory : List Block) (stores : List Store) (address : ℕ) → chunks_of memory ≡ chunks →
+pub byte_at-stored_all : (chunks : List Chunk) (final : ℕ → ℕ) (memory : List Block) (stores : List Store) (address : ℕ) →
+    chunks_of memory ≡ chunks →
     All (λ store. granted chunks store.address ≡ true) stores → All (λ store. final store.address ≡ store.byte) stores →
     is_stored address stores ≡ true → byte_at (stored_all memory stores) address ≡ final address
 byte_at-stored_all chunks final memory [] address same within agree some = cc
@@ -37,11 +39,14 @@ byte_at-stored_all chunks final memory (store ∷ stores) address same within ag
     ⊎_elim
     (λ later.
     byte_at-stored_all chunks final after stores address (chunks_of-stored memory store.address store.byte ∙ same)
-    (All-tail (λ store. granted chunks store.address ≡ true) store stores within) (All-tail (λ store. final store.address ≡ store.byte) store stores agree) later)
+    (All-tail (λ store. granted chunks store.address ≡ true) store stores within)
+    (All-tail (λ store. final store.address ≡ store.byte) store stores agree) later)
     (λ last.
     let here = ⊎_elim (λ here. here) (λ later. cc) (or_cases (store.address == address) (is_stored address stores) some) in
     let at = eqb-true store.address address here in
-    let allowed : granted (chunks_of memory) store.address ≡ true = ap (λ (chunks : List Chunk). granted chunks store.address) same ∙ All-head (λ store. granted chunks store.address ≡ true) store stores within in
+    let allowed : granted (chunks_of memory) store.address ≡ true =
+    ap (λ (chunks : List Chunk). granted chunks store.address) same
+    ∙ All-head (λ store. granted chunks store.address ≡ true) store stores within in
     byte_at-unstored after stores address last ∙ ap (byte_at after) (sym at) ∙ byte_at-stored_same memory store.address store.byte allowed
     ∙ sym (All-head (λ store. final store.address ≡ store.byte) store stores agree) ∙ ap final at)
     (cases_Bool (is_stored address stores))
@@ -54,7 +59,8 @@ all_right : (P : Store → Type 0) (xs ys : List Store) → All P (xs ++ ys) →
 all_right P [] ys h = h
 all_right P (x ∷ xs) ys h = all_right P xs ys (All-tail P x (xs ++ ys) h)
 
-stored_in_neither : (address : ℕ) (xs ys : List Store) → is_stored address xs ≡ false → is_stored address ys ≡ false → is_stored address (xs ++ ys) ≡ false
+stored_in_neither : (address : ℕ) (xs ys : List Store) → is_stored address xs ≡ false → is_stored address ys ≡ false →
+    is_stored address (xs ++ ys) ≡ false
 stored_in_neither address xs ys none none' =
     list_any-append (λ store. store.address == address) xs ys ∙ or_from (is_stored address xs) (is_stored address ys) none none'
 
@@ -77,15 +83,18 @@ module _ (chunks : List Chunk) (final : ℕ → ℕ) (memory : List Block) (stor
   both_agree : All (IsAgreed final) (made ++ rest)
   both_agree = subst (λ (stores : List Store). All (IsAgreed final) stores) split (h.agree q)
 
-  settled : (address : ℕ) → ((p : Queue) → is_stored address (changed q rest stores p) ≡ false) → byte_at (stored_all memory made) address ≡ final address
+  settled : (address : ℕ) → ((p : Queue) → is_stored address (changed q rest stores p) ≡ false) →
+      byte_at (stored_all memory made) address ≡ final address
   settled address none =
       let none_left : is_stored address rest ≡ false = sym (ap (is_stored address) (changed_here q rest stores)) ∙ none q in
       ⊎_elim
-      (λ some. byte_at-stored_all chunks final memory made address h.same (all_left IsWithin made rest both_within) (all_left (IsAgreed final) made rest both_agree) some)
+      (λ some. byte_at-stored_all chunks final memory made address h.same (all_left IsWithin made rest both_within)
+      (all_left (IsAgreed final) made rest both_agree) some)
       (λ unstored.
       byte_at-unstored memory made address unstored
       ∙ h.settled address (each_unchanged (λ _ stores. is_stored address stores ≡ false) q rest stores none
-      (subst (λ (stores : List Store). is_stored address stores ≡ false) (sym split) (stored_in_neither address made rest unstored none_left))))
+      (subst (λ (stores : List Store). is_stored address stores ≡ false) (sym split)
+      (stored_in_neither address made rest unstored none_left))))
       (cases_Bool (is_stored address made))
 
   -- some of the stores of a queue are made
@@ -94,7 +103,8 @@ module _ (chunks : List Chunk) (final : ℕ → ℕ) (memory : List Block) (stor
       record {
         same = chunks-stored_all memory made ∙ h.same;
         within = each_changed (λ _ stores. All IsWithin stores) q rest stores h.within (all_right IsWithin made rest both_within);
-        agree = each_changed (λ _ stores. All (IsAgreed final) stores) q rest stores h.agree (all_right (IsAgreed final) made rest both_agree);
+        agree =
+            each_changed (λ _ stores. All (IsAgreed final) stores) q rest stores h.agree (all_right (IsAgreed final) made rest both_agree);
         settled = settled;
       }
 
@@ -103,4 +113,5 @@ abbrev pub Settling : Type 0 → List Chunk → (ℕ → ℕ) → List Block →
 Settling given chunks final memory stores = given → Settles chunks final memory stores
 
 pub settling_made : (given : Type 0) (chunks : List Chunk) (final : ℕ → ℕ) → IsMade (Settling given chunks final)
-settling_made given chunks final memory stores q made rest split settling = λ known. settles_made chunks final memory stores q made rest split (settling known)
+settling_made given chunks final memory stores q made rest split settling =
+    λ known. settles_made chunks final memory stores q made rest split (settling known)

@@ -21,6 +21,7 @@ module _ (s : Section) (field : Queue → List Token) (uses : Uses s field) (giv
   Ran later late bound m = trail.Ran (trail_of s) (Holds s) (StandsIn s) (along_in s) field uses given chunks final later late bound m
 
   -- `later` are steps to come, as many as are seen ahead
-  pub runs : (early late later : List Met) (bound : ℕ) (m : State) → IsOrderly m → All (λ met. IsStep met.1) (early ++ late) → All (λ met. Holds s met.0) (early ++ late) → AreKept m (early ++ late) →
+  pub runs : (early late later : List Met) (bound : ℕ) (m : State) → IsOrderly m → All (λ met. IsStep met.1) (early ++ late) →
+      All (λ met. Holds s met.0) (early ++ late) → AreKept m (early ++ late) →
       has_signal s m early ≡ false → ReachedWith (coming (early ++ later)) bound m → Ran later late bound (run_in m early)
   runs = trail.runs (trail_of s) (Holds s) (StandsIn s) (along_in s) field uses given chunks final

@@ -1,5 +1,6 @@
 -- The law of the picture for trails.
-use Rattle.std.proofs.Common.{◌≡◌, ℕ, suc, ◌+◌, ◌*◌, ◌≤◌, true, false, All, List, [], ◌∷◌, ◌++◌, length, take, drop, refl, sym, ap, subst, ◌∙◌, arith, inl, inr}
+use Rattle.std.proofs.Common.{◌≡◌, ℕ, suc, ◌+◌, ◌*◌, ◌≤◌, true, false, All, List, [], ◌∷◌, ◌++◌, length, take, drop, refl, sym, ap, subst}
+use Rattle.std.proofs.Common.{◌∙◌, arith, inl, inr}
 use Rattle.std.proofs.Common.{⊎_elim, append_assoc, append-nil, length-append, take-append-drop, take_at}
 use Rattle.std.proofs.lemmas.Bool.{cases_Bool, or_parts, or_from, true_from_ne_false}
 use Rattle.std.proofs.lemmas.List.{take-append-le}
@@ -38,7 +39,8 @@ all_first P (met ∷ early) late h = all_first P early late (All-tail P met (ear
 pub coming-append : (early late : List Met) (q : Queue) → coming (early ++ late) q ≡ coming early q ++ coming late q
 coming-append [] late q = refl
 coming-append (met ∷ early) late q =
-    ap (λ (entries : List Entry). pushed_by met.1 q ++ entries) (coming-append early late q) ∙ sym (append_assoc (pushed_by met.1 q) (coming early q) (coming late q))
+    ap (λ (entries : List Entry). pushed_by met.1 q ++ entries) (coming-append early late q)
+    ∙ sym (append_assoc (pushed_by met.1 q) (coming early q) (coming late q))
 
 pub end-append : (address : ℕ) (m : State) (early late : List Met) → has_end address m (early ++ late) ≡ false →
     (has_end address m early ≡ false) × (has_end address (run_in m early) late ≡ false)
@@ -50,15 +52,18 @@ end-append address m (met ∷ early) late h =
 
 -- ---- the beginning
 
-module _ (t : Trail) (field : Queue → List Token) (m : State) (steps : List Met) (r : TrailReceives t field m steps) (given : Type 0) (chunks : List Chunk) (final : ℕ → ℕ)
+module _ (t : Trail) (field : Queue → List Token) (m : State) (steps : List Met) (r : TrailReceives t field m steps) (given : Type 0)
+    (chunks : List Chunk) (final : ℕ → ℕ)
     (painted : given → Settles chunks final m.memory (body_stores t.body field)) where
   abbrev first_bound : ℕ
   first_bound = 5 * suc (length t.body) + 1 + over_queues (entries_of r.arrives.before r.arrives.entries)
 
-  starts : (later rest : Queue → List Entry) → ((q : Queue) → (queue_state q m.queues).entries ++ later q ≡ r.arrives.before q ++ (r.arrives.entries q ++ rest q)) →
+  starts : (later rest : Queue → List Entry) →
+      ((q : Queue) → (queue_state q m.queues).entries ++ later q ≡ r.arrives.before q ++ (r.arrives.entries q ++ rest q)) →
       ReachedWith t (Leads t) (StandsOn t) (along_on t) field r.uses given chunks final later first_bound m
   starts later rest order =
-      let fits : JobFits m.skipping m.target (Waiting t.opening true t.code) = subst (λ (job : Job). JobFits m.skipping m.target job) r.arrives.waits r.orderly.job in
+      let fits : JobFits m.skipping m.target (Waiting t.opening true t.code) =
+      subst (λ (job : Job). JobFits m.skipping m.target job) r.arrives.waits r.orderly.job in
       inl (record {
         on = r.arrives.risc_on;
         unskipped = fits.0;
@@ -77,7 +82,8 @@ module _ (t : Trail) (field : Queue → List Token) (m : State) (steps : List Me
 
 -- ---- up to a turn
 
-module _ (t : Trail) (field : Queue → List Token) (m : State) (early late : List Met) (program : RiscProgram) (r : TrailReceives t field m (early ++ (program, Turn) ∷ late))
+module _ (t : Trail) (field : Queue → List Token) (m : State) (early late : List Met) (program : RiscProgram)
+    (r : TrailReceives t field m (early ++ (program, Turn) ∷ late))
     (unended : has_end t.end m early ≡ false) (given : Type 0) (chunks : List Chunk) (final : ℕ → ℕ)
     (painted : given → Settles chunks final m.memory (body_stores t.body field)) where
   abbrev seen : Queue → List Entry
@@ -90,8 +96,10 @@ module _ (t : Trail) (field : Queue → List Token) (m : State) (early late : Li
       (first_bound t field m (early ++ (program, Turn) ∷ late) r given chunks final painted) (run_in m early)
   ran =
       runs t (Leads t) (StandsOn t) (along_on t) field r.uses given chunks final early ((program, Turn) ∷ late) ((program, Turn) ∷ late)
-      (first_bound t field m (early ++ (program, Turn) ∷ late) r given chunks final painted) m r.orderly r.made r.held r.arrives.kept unended
-      (starts t field m (early ++ (program, Turn) ∷ late) r given chunks final painted (coming (early ++ (program, Turn) ∷ late)) r.arrives.rest r.arrives.order)
+      (first_bound t field m (early ++ (program, Turn) ∷ late) r given chunks final painted) m r.orderly r.made r.held
+      r.arrives.kept unended
+      (starts t field m (early ++ (program, Turn) ∷ late) r given chunks final painted
+      (coming (early ++ (program, Turn) ∷ late)) r.arrives.rest r.arrives.order)
 
   held : Leads t program
   held = All-head (λ met. Leads t met.0) (program, Turn) late (all_first (λ met. Leads t met.0) early ((program, Turn) ∷ late) r.held)
@@ -99,7 +107,8 @@ module _ (t : Trail) (field : Queue → List Token) (m : State) (early late : Li
   turned : run_in m (early ++ (program, Turn) ∷ []) ≡ turn before
   turned = run_in-append m early ((program, Turn) ∷ [])
 
-  closes_by : (now : State) (bound : ℕ) → ReachedWith t (Leads t) (StandsOn t) (along_on t) field r.uses given chunks final seen bound now → Leads t now.program → is_end t.end now Turn ≡ true →
+  closes_by : (now : State) (bound : ℕ) → ReachedWith t (Leads t) (StandsOn t) (along_on t) field r.uses given chunks final seen bound now →
+      Leads t now.program → is_end t.end now Turn ≡ true →
       Closes t given chunks final seen now
   closes_by now bound (inl opening) held ended =
       let idle = (end-AtEnd t.end now ended).idle in
@@ -121,7 +130,8 @@ module _ (t : Trail) (field : Queue → List Token) (m : State) (early late : Li
   quiet =
       ⊎_elim
       (λ ended. let c = closes_by acted ran.next ran.reached held ended in ap (has fdsr) c.interrupts ∙ closing_quiet t.closing 0)
-      (λ none. let reaches = turn-Reaches t (Leads t) (StandsOn t) (along_on t) field r.uses given chunks final seen ran.next acted orderly held ran.reached none in reaches.quiet)
+      (λ none. let reaches = turn-Reaches t (Leads t) (StandsOn t)
+      (along_on t) field r.uses given chunks final seen ran.next acted orderly held ran.reached none in reaches.quiet)
       (cases_Bool (is_end t.end before Turn))
 
 -- ---- the laws
@@ -133,13 +143,16 @@ paints_settles t field final m h = record { same = refl; within = h.within; agre
 pub trail_shows_picture : TrailShowsPicture
 trail_shows_picture t field final m early late program r paints unended ended address =
     let c =
-    closed t field m early late program r unended (PaintsField t.body field m.memory final) (chunks_of m.memory) final (λ known. paints_settles t field final m known) ended in
+    closed t field m early late program r unended (PaintsField t.body field m.memory final) (chunks_of m.memory) final
+    (λ known. paints_settles t field final m known) ended in
     ap (λ (m' : State). byte_at m'.memory address)
-    (turned t field m early late program r unended (PaintsField t.body field m.memory final) (chunks_of m.memory) final (λ known. paints_settles t field final m known))
+    (turned t field m early late program r unended (PaintsField t.body field m.memory final) (chunks_of m.memory) final
+    (λ known. paints_settles t field final m known))
     ∙ ap (λ memory. byte_at memory address) c.memory ∙ c.settled paints address
 
 pub trail_shows_no_fault : TrailShowsNoFault
-trail_shows_no_fault t field m early late program r unended = quiet t field m early late program r unended ⊥ [] (λ _. 0) (λ none. absurd none)
+trail_shows_no_fault t field m early late program r unended =
+    quiet t field m early late program r unended ⊥ [] (λ _. 0) (λ none. absurd none)
 
 pub trail_ends_with_closing : TrailEndsWithClosing
 trail_ends_with_closing t field m early late program r unended ended =
@@ -155,10 +168,12 @@ beginning a b c d e le =
     sym (take-append-drop (length c) a) ∙ ap (λ (first : List Entry). first ++ drop (length c) a) first
 
 module _ (t : Trail) (field : Queue → List Token) (m : State) (early late : List Met) (r : TrailReceives t field m (early ++ late))
-    (come : (q : Queue) → entries_of r.arrives.before r.arrives.entries q ≤ length (queue_state q m.queues).entries + length (coming early q)) where
+    (come : (q : Queue) →
+    entries_of r.arrives.before r.arrives.entries q ≤ length (queue_state q m.queues).entries + length (coming early q)) where
   -- the field is among what is there and comes early
   there : (q : Queue) → (queue_state q m.queues).entries ++ coming (early ++ []) q
-      ≡ r.arrives.before q ++ (r.arrives.entries q ++ drop (length (r.arrives.before q ++ r.arrives.entries q)) ((queue_state q m.queues).entries ++ coming early q))
+      ≡ r.arrives.before q ++ (r.arrives.entries q
+      ++ drop (length (r.arrives.before q ++ r.arrives.entries q)) ((queue_state q m.queues).entries ++ coming early q))
   there q =
       let held = (queue_state q m.queues).entries in
       let before = r.arrives.before q in
@@ -167,19 +182,26 @@ module _ (t : Trail) (field : Queue → List Token) (m : State) (early late : Li
       append_assoc held (coming early q) (coming late q) ∙ sym (ap (λ (more : List Entry). held ++ more) (coming-append early late q))
       ∙ r.arrives.order q ∙ sym (append_assoc before entries (r.arrives.rest q)) in
       let known = come q in
-      let long : length (before ++ entries) ≤ length (held ++ coming early q) = omega (arith, length-append before entries, length-append held (coming early q)) in
+      let long : length (before ++ entries) ≤ length (held ++ coming early q) =
+      omega (arith, length-append before entries, length-append held (coming early q)) in
       ap (λ (steps : List Met). held ++ coming steps q) (append-nil early)
       ∙ beginning (held ++ coming early q) (coming late q) (before ++ entries) (r.arrives.rest q) all long
       ∙ append_assoc before entries (drop (length (before ++ entries)) (held ++ coming early q))
 
-  in_time : has_end t.end m (early ++ late) ≡ false → turns_in late ≤ 5 * suc (length t.body) + 1 + over_queues (entries_of r.arrives.before r.arrives.entries)
+  in_time : has_end t.end m (early ++ late) ≡ false →
+      turns_in late ≤ 5 * suc (length t.body) + 1 + over_queues (entries_of r.arrives.before r.arrives.entries)
   in_time unended =
       let parts = end-append t.end m early late unended in
-      let first : Ran t (Leads t) (StandsOn t) (along_on t) field r.uses ⊥ [] (λ _. 0) [] late (5 * suc (length t.body) + 1 + over_queues (entries_of r.arrives.before r.arrives.entries)) (run_in m early) =
-      runs t (Leads t) (StandsOn t) (along_on t) field r.uses ⊥ [] (λ _. 0) early late [] (5 * suc (length t.body) + 1 + over_queues (entries_of r.arrives.before r.arrives.entries)) m r.orderly r.made r.held r.arrives.kept parts.0
+      let first : Ran t (Leads t) (StandsOn t) (along_on t) field r.uses ⊥ [] (λ _. 0) [] late
+      (5 * suc (length t.body) + 1 + over_queues (entries_of r.arrives.before r.arrives.entries)) (run_in m early) =
+      runs t (Leads t) (StandsOn t) (along_on t) field r.uses ⊥ [] (λ _. 0) early late []
+      (5 * suc (length t.body) + 1 + over_queues (entries_of r.arrives.before r.arrives.entries)) m r.orderly r.made r.held
+      r.arrives.kept parts.0
       (starts t field m (early ++ late) r ⊥ [] (λ _. 0) (λ none. absurd none) (coming (early ++ []))
       (λ q. drop (length (r.arrives.before q ++ r.arrives.entries q)) ((queue_state q m.queues).entries ++ coming early q)) there) in
-      let last = counted_runs t (Leads t) (StandsOn t) (along_on t) field r.uses ⊥ [] (λ _. 0) late first.next (run_in m early) first.orderly first.made (all_first (λ met. Leads t met.0) early late r.held) first.kept parts.1 first.reached in
+      let last =
+      counted_runs t (Leads t) (StandsOn t) (along_on t) field r.uses ⊥ [] (λ _. 0) late first.next
+      (run_in m early) first.orderly first.made (all_first (λ met. Leads t met.0) early late r.held) first.kept parts.1 first.reached in
       let first_most = first.most in
       let last_most = last.most in
       omega arith

@@ -26,7 +26,8 @@ use Rattle.field_law.proofs.AskedAndToCome.{AnyRest}
 pub IsOrderly-after : (m : State) (met : Met) → IsStep met.1 → IsOrderly m → IsOrderly (after m met)
 IsOrderly-after m met made orderly = IsOrderly-step met.1 (with_program met.0 m) made (IsOrderly-with_program met.0 m orderly)
 
-module _ (t : Trail) (IsHeld : RiscProgram → Type 0) (Stands : ℕ → List Instr → Type 0) (along : IsAlong t IsHeld Stands) (field : Queue → List Token) (uses : UsesField t.body field) (given : Type 0)
+module _ (t : Trail) (IsHeld : RiscProgram → Type 0) (Stands : ℕ → List Instr → Type 0) (along : IsAlong t IsHeld Stands)
+    (field : Queue → List Token) (uses : UsesField t.body field) (given : Type 0)
     (chunks : List Chunk) (final : ℕ → ℕ) where
   abbrev pub ReachedWith : (Queue → List Entry) → ℕ → State → Type 0
   ReachedWith later bound m = IsReached t field uses AnyRest Stands (Settling given chunks final) along.begins later bound m
@@ -38,16 +39,21 @@ module _ (t : Trail) (IsHeld : RiscProgram → Type 0) (Stands : ℕ → List In
     pub reached : ReachedWith later next m
     pub most : next ≤ bound
 
-  steps_on : (later : Queue → List Entry) (bound : ℕ) (m : State) (met : Met) (st : Step) → IsOrderly m → IsHeld met.0 → IsKept (with_program met.0 m) st →
-      is_end t.end m st ≡ false → ReachedWith (λ q. pushed_by st q ++ later q) bound m → Stepped later bound (step st (with_program met.0 m))
+  steps_on : (later : Queue → List Entry) (bound : ℕ) (m : State) (met : Met) (st : Step) → IsOrderly m → IsHeld met.0 →
+      IsKept (with_program met.0 m) st →
+      is_end t.end m st ≡ false → ReachedWith (λ q. pushed_by st q ++ later q) bound m →
+      Stepped later bound (step st (with_program met.0 m))
   steps_on later bound m met Turn orderly held kept unended h =
-      let r = turn-Reaches t IsHeld Stands along field uses given chunks final later bound (with_program met.0 m) (IsOrderly-with_program met.0 m orderly) held h unended in
+      let r =
+      turn-Reaches t IsHeld Stands along field uses given chunks final later bound (with_program met.0 m)
+      (IsOrderly-with_program met.0 m orderly) held h unended in
       record { next = r.next; reached = r.reached; most = r.most }
   steps_on later bound m met st orderly held kept unended h =
       record {
         next = bound;
         reached =
-            step-IsReached t field uses AnyRest Stands (Settling given chunks final) along.begins (λ q. pushed_by st q ++ later q) later (λ q. []) (λ q rest any. any) bound st (with_program met.0 m) kept refl
+            step-IsReached t field uses AnyRest Stands (Settling given chunks final) along.begins (λ q. pushed_by st q ++ later q) later
+            (λ q. []) (λ q rest any. any) bound st (with_program met.0 m) kept refl
             (λ after adds. ahead_there m.queues after (pushed_by st) later adds) h;
         most = omega arith;
       }
@@ -65,14 +71,17 @@ module _ (t : Trail) (IsHeld : RiscProgram → Type 0) (Stands : ℕ → List In
   counts_on : (bound : ℕ) (m : State) (met : Met) (st : Step) → IsOrderly m → IsHeld met.0 → IsKept (with_program met.0 m) st →
       is_end t.end m st ≡ false → ReachedWith none bound m → Counted bound (turn_count st) (step st (with_program met.0 m))
   counts_on bound m met Turn orderly held kept unended h =
-      let r = turn-Reaches t IsHeld Stands along field uses given chunks final none bound (with_program met.0 m) (IsOrderly-with_program met.0 m orderly) held h unended in
+      let r =
+      turn-Reaches t IsHeld Stands along field uses given chunks final none bound (with_program met.0 m)
+      (IsOrderly-with_program met.0 m orderly) held h unended in
       let less = r.less (λ q. refl) in
       record { next = r.next; reached = r.reached; most = omega arith }
   counts_on bound m met st orderly held kept unended h =
       record {
         next = bound;
         reached =
-            step-IsReached t field uses AnyRest Stands (Settling given chunks final) along.begins none none (pushed_by st) (λ q rest any. any) bound st (with_program met.0 m) kept refl
+            step-IsReached t field uses AnyRest Stands (Settling given chunks final) along.begins none none (pushed_by st)
+            (λ q rest any. any) bound st (with_program met.0 m) kept refl
             (λ after adds. ahead_more m.queues after (pushed_by st) adds) h;
         most = omega arith;
       }
@@ -88,19 +97,26 @@ module _ (t : Trail) (IsHeld : RiscProgram → Type 0) (Stands : ℕ → List In
     pub kept : AreKept m late
 
   -- `later` are steps to come, as many as are seen ahead
-  pub runs : (early late later : List Met) (bound : ℕ) (m : State) → IsOrderly m → All (λ met. IsStep met.1) (early ++ late) → All (λ met. IsHeld met.0) (early ++ late) → AreKept m (early ++ late) →
+  pub runs : (early late later : List Met) (bound : ℕ) (m : State) → IsOrderly m → All (λ met. IsStep met.1) (early ++ late) →
+      All (λ met. IsHeld met.0) (early ++ late) → AreKept m (early ++ late) →
       has_end t.end m early ≡ false → ReachedWith (coming (early ++ later)) bound m → Ran later late bound (run_in m early)
-  runs [] late later bound m orderly made held kept unended h = record { next = bound; reached = h; most = omega arith; orderly = orderly; made = made; kept = kept }
+  runs [] late later bound m orderly made held kept unended h =
+      record { next = bound; reached = h; most = omega arith; orderly = orderly; made = made; kept = kept }
   runs (met ∷ early) late later bound m orderly made held kept unended h =
       let parts = or_parts (is_end t.end m met.1) (has_end t.end (after m met) early) unended in
-      let one = steps_on (coming (early ++ later)) bound m met met.1 orderly (All-head (λ met. IsHeld met.0) met (early ++ late) held) kept.0 parts.0 h in
-      let rest = runs early late later one.next (after m met) (IsOrderly-after m met (All-head (λ met. IsStep met.1) met (early ++ late) made) orderly)
-      (All-tail (λ met. IsStep met.1) met (early ++ late) made) (All-tail (λ met. IsHeld met.0) met (early ++ late) held) kept.1 parts.1 one.reached in
+      let one =
+      steps_on (coming (early ++ later)) bound m met met.1 orderly
+      (All-head (λ met. IsHeld met.0) met (early ++ late) held) kept.0 parts.0 h in
+      let rest =
+      runs early late later one.next (after m met) (IsOrderly-after m met (All-head (λ met. IsStep met.1) met (early ++ late) made) orderly)
+      (All-tail (λ met. IsStep met.1) met (early ++ late) made)
+      (All-tail (λ met. IsHeld met.0) met (early ++ late) held) kept.1 parts.1 one.reached in
       let first_most = one.most in
       let rest_most = rest.most in
       record { next = rest.next; reached = rest.reached; most = omega arith; orderly = rest.orderly; made = rest.made; kept = rest.kept }
 
-  pub counted_runs : (steps : List Met) (bound : ℕ) (m : State) → IsOrderly m → All (λ met. IsStep met.1) steps → All (λ met. IsHeld met.0) steps → AreKept m steps →
+  pub counted_runs : (steps : List Met) (bound : ℕ) (m : State) → IsOrderly m → All (λ met. IsStep met.1) steps →
+      All (λ met. IsHeld met.0) steps → AreKept m steps →
       has_end t.end m steps ≡ false → ReachedWith none bound m → Counted bound (turns_in steps) (run_in m steps)
   counted_runs [] bound m orderly made held kept unended h = record { next = bound; reached = h; most = omega arith }
   counted_runs (met ∷ steps) bound m orderly made held kept unended h =

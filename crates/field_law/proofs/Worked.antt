@@ -105,7 +105,9 @@ orderly : IsOrderly machine
 orderly = IsOrderly-run (first_state program 0) begun begun_made (IsOrderly-first_state program 0)
 
 steps_made : All IsMade (early ++ (program, Turn) ∷ [])
-steps_made = All-from_recursion IsMade (early ++ (program, Turn) ∷ []) (tt, (tt, (tt, (tt, (refl, (tt, (tt, (tt, (tt, (refl, (tt, (tt, (tt, tt)))))))))))))
+steps_made =
+    All-from_recursion IsMade (early ++ (program, Turn) ∷ [])
+    (tt, (tt, (tt, (tt, (refl, (tt, (tt, (tt, (tt, (refl, (tt, (tt, (tt, tt)))))))))))))
 
 pub receives : Receives section field machine (early ++ (program, Turn) ∷ [])
 receives = record { orderly = orderly; made = steps_made; held = steps_hold (moves ++ Turn ∷ []); uses = uses; arrives = arrives }
@@ -114,12 +116,15 @@ abbrev IsWithin : Store → Type 0
 IsWithin store = granted (chunks_of machine.memory) store.address ≡ true
 
 within : (q : Queue) → All IsWithin (section_stores section field q)
-within One = All-from_recursion IsWithin (section_stores section field One) (refl, (refl, (refl, (refl, (refl, (refl, (refl, (refl, tt))))))))
+within One =
+    All-from_recursion IsWithin (section_stores section field One) (refl, (refl, (refl, (refl, (refl, (refl, (refl, (refl, tt))))))))
 within Two = All-nil IsWithin
 within Three = All-nil IsWithin
 
 agree : (q : Queue) → All (IsAgreed final) (section_stores section field q)
-agree One = All-from_recursion (IsAgreed final) (section_stores section field One) (refl, (refl, (refl, (refl, (refl, (refl, (refl, (refl, tt))))))))
+agree One =
+    All-from_recursion (IsAgreed final) (section_stores section field One)
+    (refl, (refl, (refl, (refl, (refl, (refl, (refl, (refl, tt))))))))
 agree Two = All-nil (IsAgreed final)
 agree Three = All-nil (IsAgreed final)
 

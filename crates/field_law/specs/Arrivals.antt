@@ -71,7 +71,8 @@ BringsAfter code field entries = (q : Queue) → Brings (Mark code ∷ field q) 
 
 -- the machine waits for a code in an opening of which `at` is the address behind it; each queue holds and is brought some
 -- entries without that code, then those of a field, then any others; `IsField` holds of the entries of the field
-pub record ArrivesAtOpening (opening : Ctl) (code : Code) (at : ℕ) (IsField : (Queue → List Entry) → Type 0) (m : State) (steps : List Met) : Type 0 where
+pub record ArrivesAtOpening (opening : Ctl) (code : Code) (at : ℕ) (IsField : (Queue → List Entry) → Type 0) (m : State)
+    (steps : List Met) : Type 0 where
   pub fifo_on : m.fifo_on ≡ true
   pub risc_on : m.risc_on ≡ true
   pub waits : m.job ≡ Waiting opening true code

@@ -27,7 +27,8 @@ pub record Receives (s : Section) (field : Queue → List Token) (m : State) (st
 abbrev pub ShowsPicture : Type 0
 ShowsPicture = (s : Section) (field : Queue → List Token) (final : ℕ → ℕ) (m : State) (early late : List Met) (program : RiscProgram) →
     Receives s field m (early ++ (program, Turn) ∷ late) → Paints s field m.memory final → has_signal s m early ≡ false →
-    is_signal s (run_in m early) Turn ≡ true → (address : ℕ) → byte_at (run_in m (early ++ (program, Turn) ∷ [])).memory address ≡ final address
+    is_signal s (run_in m early) Turn ≡ true → (address : ℕ) →
+    byte_at (run_in m (early ++ (program, Turn) ∷ [])).memory address ≡ final address
 
 -- no turn up to it sets FDSR, whether or not the bit is set already
 abbrev pub ShowsNoFault : Type 0
@@ -51,6 +52,7 @@ SignalsClosing = (s : Section) (field : Queue → List Token) (m : State) (early
 -- once all entries were pushed, a signal comes within so many turns
 abbrev pub IsBounded : Type 0
 IsBounded = (s : Section) (field : Queue → List Token) (m : State) (early late : List Met) (receives : Receives s field m (early ++ late)) →
-    ((q : Queue) → entries_of receives.arrives.before receives.arrives.entries q ≤ length (queue_state q m.queues).entries + length (coming early q)) →
+    ((q : Queue) →
+    entries_of receives.arrives.before receives.arrives.entries q ≤ length (queue_state q m.queues).entries + length (coming early q)) →
     5 * (length s.body + 2) + over_queues (entries_of receives.arrives.before receives.arrives.entries) ≤ turns_in late →
     has_signal s m (early ++ late) ≡ true

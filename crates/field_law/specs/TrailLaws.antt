@@ -26,7 +26,8 @@ pub record TrailReceives (t : Trail) (field : Queue → List Token) (m : State) 
 abbrev pub TrailShowsPicture : Type 0
 TrailShowsPicture = (t : Trail) (field : Queue → List Token) (final : ℕ → ℕ) (m : State) (early late : List Met) (program : RiscProgram) →
     TrailReceives t field m (early ++ (program, Turn) ∷ late) → PaintsField t.body field m.memory final → has_end t.end m early ≡ false →
-    is_end t.end (run_in m early) Turn ≡ true → (address : ℕ) → byte_at (run_in m (early ++ (program, Turn) ∷ [])).memory address ≡ final address
+    is_end t.end (run_in m early) Turn ≡ true → (address : ℕ) →
+    byte_at (run_in m (early ++ (program, Turn) ∷ [])).memory address ≡ final address
 
 -- no turn up to it sets FDSR, whether or not the bit is set already
 abbrev pub TrailShowsNoFault : Type 0
@@ -42,7 +43,9 @@ TrailEndsWithClosing = (t : Trail) (field : Queue → List Token) (m : State) (e
 
 -- once all entries were pushed, an end comes within so many turns
 abbrev pub TrailIsBounded : Type 0
-TrailIsBounded = (t : Trail) (field : Queue → List Token) (m : State) (early late : List Met) (receives : TrailReceives t field m (early ++ late)) →
-    ((q : Queue) → entries_of receives.arrives.before receives.arrives.entries q ≤ length (queue_state q m.queues).entries + length (coming early q)) →
+TrailIsBounded =
+    (t : Trail) (field : Queue → List Token) (m : State) (early late : List Met) (receives : TrailReceives t field m (early ++ late)) →
+    ((q : Queue) →
+    entries_of receives.arrives.before receives.arrives.entries q ≤ length (queue_state q m.queues).entries + length (coming early q)) →
     5 * (length t.body + 2) + over_queues (entries_of receives.arrives.before receives.arrives.entries) ≤ turns_in late →
     has_end t.end m (early ++ late) ≡ true

@@ -58,7 +58,8 @@ machine = run (first_state program 0) begun
 -- the field is pushed between turns; the turn after these is the signal
 abbrev pub moves : List Step
 moves =
-    Turn ∷ Control Vre ∷ Turn ∷ Control Fm1 ∷ Push One (entry 2 0x13121110) ∷ Turn ∷ Turn ∷ Turn ∷ Turn ∷ Push One (entry 1 0x17161514) ∷ Turn ∷ Turn ∷ []
+    Turn ∷ Control Vre ∷ Turn ∷ Control Fm1 ∷ Push One (entry 2 0x13121110) ∷ Turn ∷ Turn ∷ Turn ∷ Turn ∷ Push One (entry 1 0x17161514)
+    ∷ Turn ∷ Turn ∷ []
 
 abbrev pub early : List Met
 early = meeting program moves

@@ -67,7 +67,8 @@ pub fn run_meets_its_program()
 
 /// A sound program holds each section whose instructions are on its path.
 pub fn section_on_the_path_is_held()
-    ensures { (s : Section) (program : RiscProgram) (number : ℕ) → IsSound program → (path program number).pc ≡ s.at → Stands s program → Holds s program }
+    ensures { (s : Section) (program : RiscProgram) (number : ℕ) → IsSound program → (path program number).pc ≡ s.at → Stands s program →
+        Holds s program }
 {}
 
 /// A program that holds a section grants what it stores, whatever field it uses up.
@@ -85,7 +86,8 @@ pub fn cut_lines_are_used_up()
         planned (lines_asks lines ++ later) [] (lines_rows lines ++ tokens) ≡ lines_stores lines ++ planned later [] tokens }
     ensures each { (test : Store → Bool) (lines : List CutLine) → All IsCovered lines → All (EachByte (λ store. test store ≡ true)) lines →
         All (λ store. test store ≡ true) (lines_stores lines) }
-    ensures stored { (lines : List CutLine) (line : CutLine) (number x address : ℕ) → All IsCovered lines → number < length lines → slice_index_or lines number line ≡ line →
+    ensures stored { (lines : List CutLine) (line : CutLine) (number x address : ℕ) → All IsCovered lines → number < length lines →
+        slice_index_or lines number line ≡ line →
         x < length line.bytes → address_in line.line_parts x ≡ Some address → is_stored address (lines_stores lines) ≡ true }
 {}
 

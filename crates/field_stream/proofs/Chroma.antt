@@ -1,5 +1,6 @@
 -- The chroma of a line: what follows its entries of luma is its entries of chroma, one index after another.
-use Rattle.std.proofs.Common.{◌≡◌, ℕ, zero, suc, ◌+◌, ◌-◌, ◌*◌, ◌/◌, ◌%◌, ◌≤◌, ◌<◌, List, [], ◌∷◌, ◌++◌, sym, ap, ◌∙◌, arith, ⊎_elim, eq-eqb}
+use Rattle.std.proofs.Common.{◌≡◌, ℕ, zero, suc, ◌+◌, ◌-◌, ◌*◌, ◌/◌, ◌%◌, ◌≤◌, ◌<◌, List, [], ◌∷◌, ◌++◌, sym, ap, ◌∙◌, arith, ⊎_elim}
+use Rattle.std.proofs.Common.{eq-eqb}
 use Rattle.std.specs.Prelude.{◌==◌}
 use Rattle.std.specs.List.{flat_map, range_with_len}
 use Rattle.std.proofs.lemmas.Bool.{and_from, and_left, and_right, cases_eq, cases_lt, cond-false, cond-true, le-ltb, lt-ltb, ne_eqb}
@@ -33,7 +34,8 @@ module _ (chroma across : ℕ) (some : 0 < across) where
 
   left_next : (done : ℕ) → done < many → left done ≡ chroma_at chroma done ++ left (done + 1)
   left_next done less =
-      let more : many - done ≡ suc (many - (done + 1)) = omega arith in ap (λ (n : ℕ). flat_map (chroma_at chroma) (range_with_len done n)) more
+      let more : many - done ≡ suc (many - (done + 1)) = omega arith in
+      ap (λ (n : ℕ). flat_map (chroma_at chroma) (range_with_len done n)) more
 
   left_none : (done : ℕ) → many ≤ done → left done ≡ []
   left_none done none =
@@ -54,7 +56,8 @@ module _ (chroma across : ℕ) (some : 0 < across) where
       let below : done < from / across + 1 = lt_of_mul-lt-mul_right across (omega (arith, place, even, high)) in
       let next : (done + 1) * across ≡ done * across + across = omega arith in
       let same : from / across ≡ done = omega (arith, above, below) in
-      let here : done * across ≡ from = ap (λ (q : ℕ). q * across) (sym same) ∙ (let whole : from / across * across ≡ from = omega (arith, place, even) in whole) in
+      let here : done * across ≡ from =
+      ap (λ (q : ℕ). q * across) (sym same) ∙ (let whole : from / across * across ≡ from = omega (arith, place, even) in whole) in
       let more = left_from (from + 1) n (done + 1) (omega (arith, next, here, some)) (omega (arith, next, here)) (omega (arith, last)) in
       ⊎_elim
       (λ less.
@@ -66,7 +69,8 @@ module _ (chroma across : ℕ) (some : 0 < across) where
       (cases_lt (from / across) many))
       (λ odd.
       let apart : from ≡ done * across → ⊥ = λ same. odd (ap (λ (k : ℕ). k % across) same ∙ mul-mod_left done across) in
-      let before : from < done * across = ⊎_elim (λ less. less) (λ more. absurd (apart (omega (arith, low, more)))) (cases_lt from (done * across)) in
+      let before : from < done * across =
+      ⊎_elim (λ less. less) (λ more. absurd (apart (omega (arith, low, more)))) (cases_lt from (done * across)) in
       ap (λ (first : List Push). first ++ later) (none_between from odd)
       ∙ left_from (from + 1) n done (omega (arith, before)) (omega (arith, high)) (omega (arith, last)))
       (cases_eq (from % across) 0)

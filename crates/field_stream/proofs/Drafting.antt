@@ -31,4 +31,5 @@ pub flat_map_more : (f : ℕ → List Push) (n : ℕ) (d e : Drafted) → d ≡ 
 flat_map_more f n d e is =
     ap (pushed_all (f n)) is
     ∙ sym (pushed_all-append (flat_map f (range_with_len 0 n)) (f n) e)
-    ∙ ap (λ (ps : List Push). pushed_all ps e) (sym (ap (flat_map f) (range_next n) ∙ flat_map-append f (range_with_len 0 n) (n ∷ []) ∙ ap (λ (ps : List Push). flat_map f (range_with_len 0 n) ++ ps) (append-nil (f n))))
+    ∙ ap (λ (ps : List Push). pushed_all ps e) (sym (ap (flat_map f) (range_next n) ∙ flat_map-append f (range_with_len 0 n) (n ∷ [])
+    ∙ ap (λ (ps : List Push). flat_map f (range_with_len 0 n) ++ ps) (append-nil (f n))))

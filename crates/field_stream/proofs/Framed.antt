@@ -1,5 +1,6 @@
 -- What follows from the geometry of a frame for the sizes of its picture and its VBI lines.
-use Rattle.std.proofs.Common.{◌≡◌, ℕ, zero, suc, ◌/◌, ◌≤◌, ◌<◌, Bool, true, false, if◌then◌else◌, List, [], ◌∷◌, Option, Some, None, refl, arith}
+use Rattle.std.proofs.Common.{◌≡◌, ℕ, zero, suc, ◌/◌, ◌≤◌, ◌<◌, Bool, true, false, if◌then◌else◌, List, [], ◌∷◌, Option, Some, None, refl}
+use Rattle.std.proofs.Common.{arith}
 use Rattle.pixel_layout.specs.declared.Parity.{Parity}
 use Rattle.capture_desc.specs.declared.desc.Desc.{Desc}
 use Rattle.picture_model.specs.declared.BuildFault.{BuildFault}
@@ -18,7 +19,8 @@ none_found : (found : Option BuildFault) (checks : List Check) (d : Desc) → fi
 none_found None checks d e = refl
 none_found (Some fault) checks d e = e
 
-clear_at : (k : ℕ) (found : Option BuildFault) (checks : List Check) (d : Desc) → first_after found checks d ≡ None → check_at checks k d ≡ None
+clear_at : (k : ℕ) (found : Option BuildFault) (checks : List Check) (d : Desc) → first_after found checks d ≡ None →
+    check_at checks k d ≡ None
 clear_at k (Some fault) checks d e = cc
 clear_at k None [] d e = refl
 clear_at zero None (check ∷ rest) d e = none_found (check d) rest d e

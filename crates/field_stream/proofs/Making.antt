@@ -27,7 +27,8 @@ pub begun_as : (seed : ℕ) (first draft : Drafted) → first ≡ record { bytes
     draft ≡ record first { bytes = first.bytes ++ codes "BFS1" } → draft ≡ begun seed
 begun_as seed first draft e f = f ∙ ap (λ (d : Drafted). record d { bytes = d.bytes ++ codes "BFS1" }) e
 
-pub made_whole : (d : Desc) (seed frames : ℕ) (draft : Drafted) → draft ≡ begun seed → (pushed_all (stream_pushes d frames) draft).bytes ++ 0 ∷ [] ≡ made d seed frames
+pub made_whole : (d : Desc) (seed frames : ℕ) (draft : Drafted) → draft ≡ begun seed →
+    (pushed_all (stream_pushes d frames) draft).bytes ++ 0 ∷ [] ≡ made d seed frames
 made_whole d seed frames draft e =
     ap (λ (first : Drafted). (pushed_all (stream_pushes d frames) first).bytes ++ 0 ∷ []) e
     ∙ ap (λ (bs : List ℕ). bs ++ 0 ∷ []) (pushed_all-bytes (stream_pushes d frames) (begun seed))

@@ -48,10 +48,12 @@ come_round number small =
     same_number (number_after number (2 ^ 16)) number (number_after-below number (2 ^ 16) small) small (grown 16 number)
 
 -- a step from a place in a turn, which may end in the next
-pub number_after-turn : (number at step : ℕ) → number < 65537 → at < 65536 → step ≤ 65536 → number_after number ((at + step) % 65536) ≡ number_after (number_after number at) step
+pub number_after-turn : (number at step : ℕ) → number < 65537 → at < 65536 → step ≤ 65536 →
+    number_after number ((at + step) % 65536) ≡ number_after (number_after number at) step
 number_after-turn number at step small inside few =
     ⊎_elim
-    (λ below. ap (number_after number) (let same : (at + step) % 65536 ≡ at + step = omega (arith, below) in same) ∙ number_after-add number at step)
+    (λ below. ap (number_after number) (let same : (at + step) % 65536 ≡ at + step = omega (arith, below) in same)
+    ∙ number_after-add number at step)
     (λ above.
     let rest = (at + step) % 65536 in
     let whole : 2 ^ 16 + rest ≡ at + step = omega (arith, above, inside, few) in
@@ -62,7 +64,8 @@ number_after-turn number at step small inside few =
     (cases_lt (at + step) 65536)
 
 -- a byte some places on
-pub byte_at : (first at i k : ℕ) (bytes : List ℕ) → IsDrawn first bytes → at + i ≡ k → k < length bytes → slice_index bytes k ≡ number_after (number_after first at) (i + 1) % 256
+pub byte_at : (first at i k : ℕ) (bytes : List ℕ) → IsDrawn first bytes → at + i ≡ k → k < length bytes →
+    slice_index bytes k ≡ number_after (number_after first at) (i + 1) % 256
 byte_at first at i k bytes is place inside =
     is k inside
     ∙ ap (λ (n : ℕ). number_after first n % 256) (let same : k + 1 ≡ at + (i + 1) = omega (arith, place) in same)

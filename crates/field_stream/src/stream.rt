@@ -58,7 +58,8 @@ fn put_line<D: Desk>(draft: &mut Draft, desk: &mut D, line: Line) -> Result<(), 
 fn put_lines<D: Desk>(draft: &mut Draft, desk: &mut D, count: u32, line: Line) -> Result<(), Failed>
     requires open { IsTrue (D.seen desk.old).told.output_open }
     requires short { IsShort line }
-    ensures moves { Moves (pushed_all (repeated count (line_pushes line)) draft.old) result draft.new (D.seen desk.old).told (D.seen desk.new).told }
+    ensures moves { Moves (pushed_all (repeated count (line_pushes line)) draft.old) result draft.new (D.seen desk.old).told
+        (D.seen desk.new).told }
     ensures counts { WriteCounts result (D.seen desk.old) (D.seen desk.new) }
 {
     for _done in 0..count {
@@ -75,7 +76,8 @@ fn put_vbi<D: Desk>(
     field: Parity,
 ) -> Result<(), Failed>
     requires open { IsTrue (D.seen desk.old).told.output_open }
-    ensures moves { Moves (pushed_all (vbi_pushes frame.now.vbi_lines (vbi_skip frame.now field) frame.now.vbi_bytes) draft.old) result draft.new
+    ensures moves { Moves
+        (pushed_all (vbi_pushes frame.now.vbi_lines (vbi_skip frame.now field) frame.now.vbi_bytes) draft.old) result draft.new
         (D.seen desk.old).told (D.seen desk.new).told }
     ensures counts { WriteCounts result (D.seen desk.old) (D.seen desk.new) }
 {
@@ -96,7 +98,8 @@ fn put_picture<D: Desk>(
     field: Parity,
 ) -> Result<(), Failed>
     requires open { IsTrue (D.seen desk.old).told.output_open }
-    ensures moves { Moves (pushed_all (picture_pushes frame.now field) draft.old) result draft.new (D.seen desk.old).told (D.seen desk.new).told }
+    ensures moves { Moves (pushed_all (picture_pushes frame.now field) draft.old) result draft.new (D.seen desk.old).told
+        (D.seen desk.new).told }
     ensures counts { WriteCounts result (D.seen desk.old) (D.seen desk.new) }
 {
     put_mark(draft, desk, data_code(frame.format().is_planar()))?;
@@ -111,7 +114,8 @@ fn put_field<D: Desk>(
     field: Parity,
 ) -> Result<(), Failed>
     requires open { IsTrue (D.seen desk.old).told.output_open }
-    ensures moves { Moves (pushed_all (field_pushes frame.now field) draft.old) result draft.new (D.seen desk.old).told (D.seen desk.new).told }
+    ensures moves { Moves (pushed_all (field_pushes frame.now field) draft.old) result draft.new (D.seen desk.old).told
+        (D.seen desk.new).told }
     ensures counts { WriteCounts result (D.seen desk.old) (D.seen desk.new) }
 {
     put_mark(draft, desk, vertical(field))?;
@@ -142,7 +146,8 @@ fn put_frames<D: Desk>(
     frames: u8,
 ) -> Result<(), Failed>
     requires open { IsTrue (D.seen desk.old).told.output_open }
-    ensures moves { Moves (pushed_all (stream_pushes frame.now frames) draft.old) result draft.new (D.seen desk.old).told (D.seen desk.new).told }
+    ensures moves { Moves (pushed_all (stream_pushes frame.now frames) draft.old) result draft.new (D.seen desk.old).told
+        (D.seen desk.new).told }
     ensures counts { WriteCounts result (D.seen desk.old) (D.seen desk.new) }
 {
     for _done in 0..frames {

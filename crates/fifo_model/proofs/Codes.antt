@@ -34,7 +34,8 @@ codes-append (entry ∷ rest) ys =
     ap (code_before code) (codes-append rest ys) ∙ before-append code (codes_of rest) (codes_of ys)
 
 -- the codes after a data entry, and after a control entry
-pub codes-entered : (entries : List Entry) (entry : Entry) → is_control (kind_of entry.status) ≡ false → codes_of (entries ++ entry ∷ []) ≡ codes_of entries
+pub codes-entered : (entries : List Entry) (entry : Entry) → is_control (kind_of entry.status) ≡ false →
+    codes_of (entries ++ entry ∷ []) ≡ codes_of entries
 codes-entered [] entry none = ap (λ code. code_before code []) (code-data (kind_of entry.status) none)
 codes-entered (front ∷ rest) entry none = ap (code_before (code_of_kind (kind_of front.status))) (codes-entered rest entry none)
 
@@ -43,7 +44,8 @@ pub codes-without_data : (entries : List Entry) → front_code_of (first entries
 codes-without_data [] none = refl
 codes-without_data (entry ∷ rest) none = sym (ap (λ code. code_before code (codes_of rest)) none)
 
-pub codes-without_code : (entries : List Entry) (code : Code) → front_code_of (first entries) ≡ Some code → codes_of entries ≡ code ∷ codes_of (drop 1 entries)
+pub codes-without_code : (entries : List Entry) (code : Code) → front_code_of (first entries) ≡ Some code →
+    codes_of entries ≡ code ∷ codes_of (drop 1 entries)
 codes-without_code [] code some = cc
 codes-without_code (entry ∷ rest) code some = ap (λ found. code_before found (codes_of rest)) some
 

@@ -5,7 +5,8 @@ use Rattle.fifo_model.specs.declared.Queue.TheVariants.{One, Two, Three}
 use Rattle.fifo_model.specs.Queues.{QueueState, Queues, queue_state, with_queue_state}
 
 -- the queue that was changed
-pub queue_state-with_queue_state : (queue : Queue) (held : QueueState) (queues : Queues) → queue_state queue (with_queue_state queue held queues) ≡ held
+pub queue_state-with_queue_state : (queue : Queue) (held : QueueState) (queues : Queues) →
+    queue_state queue (with_queue_state queue held queues) ≡ held
 queue_state-with_queue_state One held queues = refl
 queue_state-with_queue_state Two held queues = refl
 queue_state-with_queue_state Three held queues = refl
@@ -17,7 +18,8 @@ with_queue_state-same Two queues = refl
 with_queue_state-same Three queues = refl
 
 -- the later of two changes
-pub with_queue_state-twice : (queue : Queue) (early late : QueueState) (queues : Queues) → with_queue_state queue late (with_queue_state queue early queues) ≡ with_queue_state queue late queues
+pub with_queue_state-twice : (queue : Queue) (early late : QueueState) (queues : Queues) →
+    with_queue_state queue late (with_queue_state queue early queues) ≡ with_queue_state queue late queues
 with_queue_state-twice One early late queues = refl
 with_queue_state-twice Two early late queues = refl
 with_queue_state-twice Three early late queues = refl

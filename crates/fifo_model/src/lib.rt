@@ -3,8 +3,10 @@
 
 ghost use Rattle.std.specs.Prelude.{◌≡◌, ◌+◌, ◌<◌, ◌≤◌, ◌⊎◌, ◌++◌, drop, length, slice_index, All, IfOk, IsSome, false};
 ghost use Rattle.sync_status.specs.Statuses.{kind_of, is_control};
-ghost use Rattle.fifo_model.specs.Queues.{queue_state, with_queue_state, empty_queues, max_capacity, push_answer, pushed, control_entry, control_answer, control_pushed, front, front_valid};
-ghost use Rattle.fifo_model.specs.Queues.{front_bytes, taken_from, removed, is_ready, front_code, all_removed, cleared, overruns_of, IsFifo};
+ghost use Rattle.fifo_model.specs.Queues.{queue_state, with_queue_state, empty_queues, max_capacity, push_answer, pushed, control_entry};
+ghost use Rattle.fifo_model.specs.Queues.{control_answer, control_pushed, front, front_valid};
+ghost use Rattle.fifo_model.specs.Queues.{front_bytes, taken_from, removed, is_ready, front_code, all_removed, cleared, overruns_of};
+ghost use Rattle.fifo_model.specs.Queues.{IsFifo};
 ghost use Rattle.fifo_model.specs.Rings.{place_of};
 
 mod ring;

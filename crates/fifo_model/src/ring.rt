@@ -1,7 +1,8 @@
 //! One queue: a ring of entries of which nothing but `new` takes memory.
 ghost use Rattle.std.specs.Prelude.{◌≡◌, ◌+◌, ◌<◌, ◌≤◌, ◌||◌, ◌++◌, length, take, drop, IfOk, IsSome, if◌then◌else◌, nat_le};
 ghost use Rattle.sync_status.specs.Statuses.{kind_of};
-ghost use Rattle.fifo_model.specs.Queues.{empty_queue, max_capacity, is_full, entered, overrun, front, front_code, removed, taken_from, front_valid, front_bytes, lane_bytes, wakes, is_ready, emptied};
+ghost use Rattle.fifo_model.specs.Queues.{empty_queue, max_capacity, is_full, entered, overrun, front, front_code, removed, taken_from};
+ghost use Rattle.fifo_model.specs.Queues.{front_valid, front_bytes, lane_bytes, wakes, is_ready, emptied};
 
 use crate::{Entry, Pushed};
 use circular_buffer::HeapCircularBuffer;
@@ -26,7 +27,12 @@ impl Model for Ring {
 
     ghost Value = { QueueState };
 
-    ghost view = { λ ring. record { entries = ring.entries.items; capacity = ring.entries.capacity; taken = ring.taken; overruns = ring.overruns } };
+    ghost view = { λ ring. record {
+      entries = ring.entries.items;
+      capacity = ring.entries.capacity;
+      taken = ring.taken;
+      overruns = ring.overruns;
+    } };
 
     ghost invariant = { λ ring. IsRing ring.entries.items ring.entries.capacity ring.wakers };
 }

@@ -1,5 +1,6 @@
 -- The bytes in the valid lanes of entries are those that are drawn.
-use Rattle.std.proofs.Common.{◌≡◌, ℕ, zero, suc, ◌+◌, ◌-◌, ◌/◌, ◌%◌, ◌^◌, ◌<◌, ◌≤◌, List, [], ◌∷◌, ◌++◌, length, take, replicate, refl, sym, ap, ◌∙◌, arith}
+use Rattle.std.proofs.Common.{◌≡◌, ℕ, zero, suc, ◌+◌, ◌-◌, ◌/◌, ◌%◌, ◌^◌, ◌<◌, ◌≤◌, List, [], ◌∷◌, ◌++◌, length, take, replicate, refl, sym}
+use Rattle.std.proofs.Common.{ap, ◌∙◌, arith}
 use Rattle.std.proofs.Math.Seq.{take-append_seam}
 use Rattle.byteorder.specs.Endian.{little_number}
 use Rattle.sync_status.specs.Statuses.{valid_bytes}
@@ -22,7 +23,8 @@ drawn_long number zero = refl
 drawn_long number (suc count) = ap suc (drawn_long (next number) count)
 
 -- the lanes of four bytes are these bytes
-lanes_of_bytes : (a b c e : ℕ) → a < 256 → b < 256 → c < 256 → e < 256 → lane_bytes (little_number 4 (a ∷ b ∷ c ∷ e ∷ [])) ≡ a ∷ b ∷ c ∷ e ∷ []
+lanes_of_bytes : (a b c e : ℕ) → a < 256 → b < 256 → c < 256 → e < 256 →
+    lane_bytes (little_number 4 (a ∷ b ∷ c ∷ e ∷ [])) ≡ a ∷ b ∷ c ∷ e ∷ []
 lanes_of_bytes a b c e first second third fourth =
     let whole = little_number 4 (a ∷ b ∷ c ∷ e ∷ []) in
     let one : whole % 256 ≡ a = omega arith in

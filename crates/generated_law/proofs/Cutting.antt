@@ -1,5 +1,6 @@
 -- The bytes that entries carry, cut into the lines that they bring.
-use Rattle.std.proofs.Common.{◌≡◌, ℕ, zero, suc, ◌+◌, ◌*◌, List, [], ◌∷◌, ◌++◌, length, take, drop, Some, refl, sym, ap, ◌∙◌, arith, length-append}
+use Rattle.std.proofs.Common.{◌≡◌, ℕ, zero, suc, ◌+◌, ◌*◌, List, [], ◌∷◌, ◌++◌, length, take, drop, Some, refl, sym, ap, ◌∙◌, arith}
+use Rattle.std.proofs.Common.{length-append}
 use Rattle.std.specs.List.{concat}
 use Rattle.std.proofs.Math.Seq.{take-append_seam, drop-append_seam}
 use Rattle.std.proofs.lemmas.List.{append_assoc, nil_from_length}
@@ -56,7 +57,8 @@ bytes_in-lines (line ∷ lines) = ap (λ (rest : List ℕ). line ++ rest) (bytes
 
 -- ---- cutting
 
-lines_head : (count long : ℕ) (line : List ℕ) (lines : List (List ℕ)) → AreLines (suc count) long (line ∷ lines) → (length line ≡ long) × AreLines count long lines
+lines_head : (count long : ℕ) (line : List ℕ) (lines : List (List ℕ)) → AreLines (suc count) long (line ∷ lines) →
+    (length line ≡ long) × AreLines count long lines
 lines_head count long line lines are =
     let many = are.many in (
       All-head (λ line. length line ≡ long) line lines are.long,
@@ -69,13 +71,15 @@ take_first long line rest is = ap (λ (n : ℕ). take n (line ++ rest)) (sym is)
 pub drop_first : (long : ℕ) (line rest : List ℕ) → length line ≡ long → drop long (line ++ rest) ≡ rest
 drop_first long line rest is = ap (λ (n : ℕ). drop n (line ++ rest)) (sym is) ∙ drop-append_seam line rest
 
-pub cut-concat : (count long : ℕ) (lines : List (List ℕ)) (more : List ℕ) → AreLines count long lines → cut count long (concat lines ++ more) ≡ lines
+pub cut-concat : (count long : ℕ) (lines : List (List ℕ)) (more : List ℕ) → AreLines count long lines →
+    cut count long (concat lines ++ more) ≡ lines
 cut-concat zero long lines more are = sym (nil_from_length lines are.many)
 cut-concat (suc count) long [] more are = let many = are.many in absurd (omega arith)
 cut-concat (suc count) long (line ∷ lines) more are =
     let parts = lines_head count long line lines are in
     ap (cut (suc count) long) (append_assoc line (concat lines) more)
-    ∙ ap (λ (first : List ℕ). first ∷ cut count long (drop long (line ++ (concat lines ++ more)))) (take_first long line (concat lines ++ more) parts.0)
+    ∙ ap (λ (first : List ℕ). first ∷ cut count long (drop long (line ++ (concat lines ++ more))))
+    (take_first long line (concat lines ++ more) parts.0)
     ∙ ap (λ (rest : List ℕ). line ∷ cut count long rest) (drop_first long line (concat lines ++ more) parts.0)
     ∙ ap (λ (rest : List (List ℕ)). line ∷ rest) (cut-concat count long lines more parts.1)
 
@@ -90,7 +94,8 @@ length-concat (suc count) long (line ∷ lines) are =
     omega (arith, length-append line (concat lines))
 
 -- behind bytes that come first
-pub drop_both : (a b : ℕ) (first second rest : List ℕ) → length first ≡ a → length second ≡ b → drop (a + b) (first ++ (second ++ rest)) ≡ rest
+pub drop_both : (a b : ℕ) (first second rest : List ℕ) → length first ≡ a → length second ≡ b →
+    drop (a + b) (first ++ (second ++ rest)) ≡ rest
 drop_both a b first second rest one two =
     ap (drop (a + b)) (sym (append_assoc first second rest))
     ∙ drop_first (a + b) (first ++ second) rest (length-append first second ∙ omega arith)

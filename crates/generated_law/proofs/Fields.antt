@@ -1,5 +1,6 @@
 -- What is pushed for a field brings the picture that is drawn.
-use Rattle.std.proofs.Common.{◌≡◌, ℕ, zero, suc, ◌+◌, ◌*◌, ◌<◌, ◌≤◌, false, List, [], ◌∷◌, ◌++◌, length, drop, replicate, refl, sym, ap, ◌∙◌, subst, arith}
+use Rattle.std.proofs.Common.{◌≡◌, ℕ, zero, suc, ◌+◌, ◌*◌, ◌<◌, ◌≤◌, false, List, [], ◌∷◌, ◌++◌, length, drop, replicate, refl, sym, ap}
+use Rattle.std.proofs.Common.{◌∙◌, subst, arith}
 use Rattle.std.specs.List.{concat}
 use Rattle.std.proofs.lemmas.List.{append-nil, length-replicate}
 use Rattle.std.proofs.lemmas.List.Elements.{All-nil, All-replicate}
@@ -14,15 +15,18 @@ use Rattle.picture_model.proofs.FaultlessGeometry.{IsRight, IsFrame-IsRight}
 use Rattle.field_law.specs.Arrivals.{is_queue, pushed_in}
 use Rattle.field_law.specs.Fields.{Token, Mark, Brings}
 use Rattle.field_law.proofs.Bringing.{mark_brings, brings-append}
-use Rattle.picture_law.specs.Pictures.{AreLines, AreRows, HoldBytes, IsField, IsPicture, Picture, SkippedLines, field_tokens, lines_of, lines_on, picture_tokens, plane_of, rows_on, skipped_vbi_on, vbi_on, vbi_tokens}
+use Rattle.picture_law.specs.Pictures.{AreLines, AreRows, HoldBytes, IsField, IsPicture, Picture, SkippedLines, field_tokens, lines_of}
+use Rattle.picture_law.specs.Pictures.{lines_on, picture_tokens, plane_of, rows_on, skipped_vbi_on, vbi_on, vbi_tokens}
 use Rattle.field_stream.specs.Pushes.{Push, packed_line, picture_line, picture_pushes, repeated, vbi_pushes}
 use Rattle.field_stream.proofs.Moving.{repeated_split}
-use Rattle.generated_law.specs.Drawn.{BringsPicture, DrawsPicture, bytes_before, cut, drawn_bytes, drawn_entries, drawn_picture, drawn_steps, number_behind, vbi_bytes_on}
+use Rattle.generated_law.specs.Drawn.{BringsPicture, DrawsPicture, bytes_before, cut, drawn_bytes, drawn_entries, drawn_picture}
+use Rattle.generated_law.specs.Drawn.{drawn_steps, number_behind, vbi_bytes_on}
 use Rattle.generated_law.specs.Drawn as drawn
 use Rattle.generated_law.proofs.Statuses.{pushed_in-drawn, packed_nothing, packed_statuses}
 use Rattle.generated_law.proofs.WholeLines.{AreBytes}
 use Rattle.generated_law.proofs.Repeated.{AreDrawn, lines_drawn, nothing_drawn, rows_drawn}
-use Rattle.generated_law.proofs.Cutting.{bytes_in, bytes_in-append, bytes_in-lines, carried-brings, cut-concat, cut-vbi, drop_both, length-concat, length-no_vbi, length-vbi}
+use Rattle.generated_law.proofs.Cutting.{bytes_in, bytes_in-append, bytes_in-lines, carried-brings, cut-concat, cut-vbi, drop_both}
+use Rattle.generated_law.proofs.Cutting.{length-concat, length-no_vbi, length-vbi}
 
 -- ---- VBI lines
 
@@ -74,7 +78,8 @@ vbi_drawn (suc more) skip bytes number some =
           (pushed_in (drawn_steps behind (repeated (suc more) line)) One) first.brings later.brings));
     }
 
-no_vbi : (lines skip bytes number : ℕ) (q : Queue) → is_queue One q ≡ false → Brings (vbi_tokens lines [] []) (pushed_in (drawn_steps number (vbi_pushes lines skip bytes)) q)
+no_vbi : (lines skip bytes number : ℕ) (q : Queue) → is_queue One q ≡ false →
+    Brings (vbi_tokens lines [] []) (pushed_in (drawn_steps number (vbi_pushes lines skip bytes)) q)
 no_vbi zero skip bytes number q other = refl
 no_vbi (suc more) skip bytes number q other =
     mark_brings Fm1 [] (pushed_in (drawn_steps number (repeated (skip + suc more) (packed_line bytes))) q)
@@ -96,10 +101,12 @@ module _ (d : Desc) (field : Parity) (number : ℕ) (right : IsRight d) where
   vbi : AreVbi d.vbi_lines (vbi_skip d field) d.vbi_bytes number
   vbi = vbi_drawn d.vbi_lines (vbi_skip d field) d.vbi_bytes number (λ some. (right.vbi_bytes some).0)
 
-  skipped : (q : Queue) → AreDrawn (lines_on d q d.skip_lines) (plane_row_bytes d (plane_of q)) (pushed_in (drawn_steps behind_vbi (repeated d.skip_lines (picture_line d))) q)
+  skipped : (q : Queue) → AreDrawn (lines_on d q d.skip_lines) (plane_row_bytes d (plane_of q))
+      (pushed_in (drawn_steps behind_vbi (repeated d.skip_lines (picture_line d))) q)
   skipped q = rows_drawn d d.skip_lines behind_vbi q right
 
-  rows : (q : Queue) → AreDrawn (lines_on d q (field_height d field)) (plane_row_bytes d (plane_of q)) (pushed_in (drawn_steps behind_skipped (repeated (field_height d field) (picture_line d))) q)
+  rows : (q : Queue) → AreDrawn (lines_on d q (field_height d field)) (plane_row_bytes d (plane_of q))
+      (pushed_in (drawn_steps behind_skipped (repeated (field_height d field) (picture_line d))) q)
   rows q = rows_drawn d (field_height d field) behind_skipped q right
 
   abbrev picture : Picture
@@ -119,21 +126,26 @@ module _ (d : Desc) (field : Parity) (number : ℕ) (right : IsRight d) where
   vbi_brings Two = no_vbi d.vbi_lines (vbi_skip d field) d.vbi_bytes number Two refl
   vbi_brings Three = no_vbi d.vbi_lines (vbi_skip d field) d.vbi_bytes number Three refl
 
-  rows_brings : (q : Queue) → Brings (lines_of (rows_on picture q)) (pushed_in (drawn_steps behind_skipped (repeated (field_height d field) (picture_line d))) q)
+  rows_brings : (q : Queue) →
+      Brings (lines_of (rows_on picture q)) (pushed_in (drawn_steps behind_skipped (repeated (field_height d field) (picture_line d))) q)
   rows_brings One = (rows One).brings
   rows_brings Two = (rows Two).brings
   rows_brings Three = (rows Three).brings
 
-  lines_bring : (q : Queue) → Brings (lines_of (skipped_lines.rows q) ++ lines_of (rows_on picture q)) (pushed_in (drawn_steps behind_vbi (repeated (d.skip_lines + field_height d field) (picture_line d))) q)
+  lines_bring : (q : Queue) → Brings (lines_of (skipped_lines.rows q) ++ lines_of (rows_on picture q))
+      (pushed_in (drawn_steps behind_vbi (repeated (d.skip_lines + field_height d field) (picture_line d))) q)
   lines_bring q =
       let line = picture_line d in
-      let both = ap (λ (pushes : List Push). pushed_in (drawn_steps behind_vbi pushes) q) (repeated_split d.skip_lines (field_height d field) line)
+      let both =
+      ap (λ (pushes : List Push). pushed_in (drawn_steps behind_vbi pushes) q) (repeated_split d.skip_lines (field_height d field) line)
       ∙ pushed_in-drawn behind_vbi (repeated d.skip_lines line) (repeated (field_height d field) line) q in
       subst (Brings (lines_of (skipped_lines.rows q) ++ lines_of (rows_on picture q))) (sym both)
-      (brings-append (lines_of (skipped_lines.rows q)) (lines_of (rows_on picture q)) (pushed_in (drawn_steps behind_vbi (repeated d.skip_lines line)) q)
+      (brings-append (lines_of (skipped_lines.rows q)) (lines_of (rows_on picture q))
+      (pushed_in (drawn_steps behind_vbi (repeated d.skip_lines line)) q)
       (pushed_in (drawn_steps behind_skipped (repeated (field_height d field) line)) q) (skipped q).brings (rows_brings q))
 
-  picture_brings : (q : Queue) → Brings (picture_tokens (layout_of d).planar (skipped_lines.rows q) (rows_on picture q)) (pushed_in (drawn_steps behind_vbi (picture_pushes d field)) q)
+  picture_brings : (q : Queue) → Brings (picture_tokens (layout_of d).planar (skipped_lines.rows q) (rows_on picture q))
+      (pushed_in (drawn_steps behind_vbi (picture_pushes d field)) q)
   picture_brings q =
       mark_brings (data_code (layout_of d).planar) (lines_of (skipped_lines.rows q) ++ lines_of (rows_on picture q))
       (pushed_in (drawn_steps behind_vbi (repeated (d.skip_lines + field_height d field) (picture_line d))) q) (lines_bring q)
@@ -144,7 +156,8 @@ module _ (d : Desc) (field : Parity) (number : ℕ) (right : IsRight d) where
       let picture_part = picture_tokens (layout_of d).planar (skipped_lines.rows q) (rows_on picture q) in
       mark_brings (vertical field) (vbi_part q ++ picture_part) (pushed_in (drawn_steps number (vbi_first ++ picture_pushes d field)) q)
       (subst (Brings (vbi_part q ++ picture_part)) (sym (pushed_in-drawn number vbi_first (picture_pushes d field) q))
-      (brings-append (vbi_part q) picture_part (pushed_in (drawn_steps number vbi_first) q) (pushed_in (drawn_steps behind_vbi (picture_pushes d field)) q) (vbi_brings q) (picture_brings q)))
+      (brings-append (vbi_part q) picture_part (pushed_in (drawn_steps number vbi_first) q)
+      (pushed_in (drawn_steps behind_vbi (picture_pushes d field)) q) (vbi_brings q) (picture_brings q)))
 
   -- ---- the lines are those of the picture that is drawn
 
@@ -153,7 +166,8 @@ module _ (d : Desc) (field : Parity) (number : ℕ) (right : IsRight d) where
   vbi_long Two = length-no_vbi d.vbi_lines
   vbi_long Three = length-no_vbi d.vbi_lines
 
-  bytes_are : (q : Queue) → drawn_bytes d field number q ≡ bytes_in (vbi_part q) ++ (concat (skipped_lines.rows q) ++ concat (rows_on picture q))
+  bytes_are : (q : Queue) →
+      drawn_bytes d field number q ≡ bytes_in (vbi_part q) ++ (concat (skipped_lines.rows q) ++ concat (rows_on picture q))
   bytes_are q =
       let skips = lines_of (skipped_lines.rows q) in
       let rest = lines_of (rows_on picture q) in
@@ -166,7 +180,8 @@ module _ (d : Desc) (field : Parity) (number : ℕ) (right : IsRight d) where
   vbi_same : cut d.vbi_lines d.vbi_bytes (drop (vbi_skip d field * d.vbi_bytes) (drawn_bytes d field number One)) ≡ vbi.rows
   vbi_same =
       ap (λ (bytes : List ℕ). cut d.vbi_lines d.vbi_bytes (drop (vbi_skip d field * d.vbi_bytes) bytes)) (bytes_are One)
-      ∙ cut-vbi d.vbi_lines (vbi_skip d field) d.vbi_bytes vbi.skipped vbi.rows (concat (skipped_lines.rows One) ++ concat (rows_on picture One)) vbi.passed vbi.are
+      ∙ cut-vbi d.vbi_lines (vbi_skip d field) d.vbi_bytes vbi.skipped vbi.rows
+      (concat (skipped_lines.rows One) ++ concat (rows_on picture One)) vbi.passed vbi.are
 
   rows_are : (q : Queue) → AreRows d q (field_height d field) (rows_on picture q)
   rows_are One = (rows One).are
@@ -179,7 +194,8 @@ module _ (d : Desc) (field : Parity) (number : ℕ) (right : IsRight d) where
       let long = plane_row_bytes d (plane_of q) in
       let all = rows_on picture q in
       ap (λ (bytes : List ℕ). cut many long (drop (bytes_before d field q) bytes)) (bytes_are q)
-      ∙ ap (cut many long) (drop_both (vbi_bytes_on d field q) (lines_on d q d.skip_lines * long) (bytes_in (vbi_part q)) (concat (skipped_lines.rows q)) (concat all)
+      ∙ ap (cut many long) (drop_both (vbi_bytes_on d field q) (lines_on d q d.skip_lines * long) (bytes_in (vbi_part q))
+      (concat (skipped_lines.rows q)) (concat all)
       (vbi_long q) (length-concat (lines_on d q d.skip_lines) long (skipped_lines.rows q) (skipped q).are))
       ∙ ap (cut many long) (sym (append-nil (concat all)))
       ∙ cut-concat many long all [] (rows_are q)
@@ -193,7 +209,8 @@ module _ (d : Desc) (field : Parity) (number : ℕ) (right : IsRight d) where
   rows_hold Three = (rows Three).hold
 
   pub right_pictured : IsPicture d field (drawn_picture d field number)
-  right_pictured = subst (IsPicture d field) (sym drawn_same) (record { vbi = vbi.are; rows = rows_are; vbi_bytes = vbi.hold; row_bytes = rows_hold })
+  right_pictured =
+      subst (IsPicture d field) (sym drawn_same) (record { vbi = vbi.are; rows = rows_are; vbi_bytes = vbi.hold; row_bytes = rows_hold })
 
   pub right_brought : IsField d field (drawn_picture d field number) (drawn_entries d field number)
   right_brought =

@@ -14,9 +14,11 @@ use Rattle.generated_law.proofs.Statuses.{line_statuses, status_if, statuses, st
 
 no_luma : (chroma across index : ℕ) → statuses One (chroma_after chroma across index) ≡ []
 no_luma chroma across index =
-    cond_both (index % across == 0 && nat_lt (index / across) (line_entries chroma)) _ [] (λ pushes. statuses One pushes ≡ []) (λ due. refl) (λ none. refl)
+    cond_both (index % across == 0 && nat_lt (index / across) (line_entries chroma)) _ [] (λ pushes. statuses One pushes ≡ []) (λ due. refl)
+    (λ none. refl)
 
-luma_from : (luma chroma across from count : ℕ) → statuses One (flat_map (planar_at luma chroma across) (range_with_len from count)) ≡ map (status_at luma) (range_with_len from count)
+luma_from : (luma chroma across from count : ℕ) →
+    statuses One (flat_map (planar_at luma chroma across) (range_with_len from count)) ≡ map (status_at luma) (range_with_len from count)
 luma_from luma chroma across from zero = refl
 luma_from luma chroma across from (suc count) =
     let more = flat_map (planar_at luma chroma across) (range_with_len (from + 1) count) in
@@ -32,7 +34,8 @@ luma_statuses luma chroma across = luma_from luma chroma across 0 (line_entries 
 
 -- over another queue come the entries of chroma alone
 chroma_alone : (q : Queue) (luma chroma across from count : ℕ) → is_queue One q ≡ false →
-    statuses q (flat_map (planar_at luma chroma across) (range_with_len from count)) ≡ statuses q (flat_map (chroma_after chroma across) (range_with_len from count))
+    statuses q (flat_map (planar_at luma chroma across) (range_with_len from count))
+    ≡ statuses q (flat_map (chroma_after chroma across) (range_with_len from count))
 chroma_alone q luma chroma across from zero other = refl
 chroma_alone q luma chroma across from (suc count) other =
     let here = chroma_after chroma across from in
@@ -47,9 +50,11 @@ chroma_each : (q : Queue) (chroma from count : ℕ) → is_queue One q ≡ false
     statuses q (flat_map (chroma_at chroma) (range_with_len from count)) ≡ map (status_at chroma) (range_with_len from count)
 chroma_each One chroma from count other = cc
 chroma_each Two chroma from zero other = refl
-chroma_each Two chroma from (suc count) other = ap (λ (list : List ℕ). status_at chroma from ∷ list) (chroma_each Two chroma (from + 1) count other)
+chroma_each Two chroma from (suc count) other =
+    ap (λ (list : List ℕ). status_at chroma from ∷ list) (chroma_each Two chroma (from + 1) count other)
 chroma_each Three chroma from zero other = refl
-chroma_each Three chroma from (suc count) other = ap (λ (list : List ℕ). status_at chroma from ∷ list) (chroma_each Three chroma (from + 1) count other)
+chroma_each Three chroma from (suc count) other =
+    ap (λ (list : List ℕ). status_at chroma from ∷ list) (chroma_each Three chroma (from + 1) count other)
 
 pub chroma_statuses : (q : Queue) (luma chroma across : ℕ) → is_queue One q ≡ false → 0 < across → luma ≡ chroma * across →
     statuses q (planar_line luma chroma across) ≡ line_statuses chroma

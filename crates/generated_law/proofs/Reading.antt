@@ -1,5 +1,6 @@
 -- The bytes of a generated stream, read back.
-use Rattle.std.proofs.Common.{◌≡◌, ℕ, zero, suc, ◌+◌, ◌-◌, ◌*◌, ◌≤◌, Bool, true, false, not, ◌&&◌, List, [], ◌∷◌, ◌++◌, length, take, replicate, Some, Ok, refl, sym, ap, ◌∙◌, arith, length-append}
+use Rattle.std.proofs.Common.{◌≡◌, ℕ, zero, suc, ◌+◌, ◌-◌, ◌*◌, ◌≤◌, Bool, true, false, not, ◌&&◌, List, [], ◌∷◌, ◌++◌, length, take}
+use Rattle.std.proofs.Common.{replicate, Some, Ok, refl, sym, ap, ◌∙◌, arith, length-append}
 use Rattle.std.specs.Prelude.{codes, nat_le}
 use Rattle.std.proofs.lemmas.Bool.{le-ltb, lt-ltb}
 use Rattle.std.proofs.lemmas.Bool.Decides.{nat_tests}
@@ -18,7 +19,8 @@ use Rattle.capture_file.specs.declared.records.Form.TheVariants.{Bfs1}
 use Rattle.capture_file.specs.declared.records.Found.{Found}
 use Rattle.capture_file.specs.declared.records.Found.TheVariants.{Whole}
 use Rattle.capture_file.specs.Streams as file
-use Rattle.capture_file.specs.Streams.{Ended, Reading, atomic, data_with, is_data, judged, most_turns, number_at, push_if, reading, record_at, steps_of, steps_run, stream_of, turns_if, whole_file, with_step, within_if}
+use Rattle.capture_file.specs.Streams.{Ended, Reading, atomic, data_with, is_data, judged, most_turns, number_at, push_if, reading}
+use Rattle.capture_file.specs.Streams.{record_at, steps_of, steps_run, stream_of, turns_if, whole_file, with_step, within_if}
 use Rattle.capture_file.proofs.Readings.{cons_of, records-cons, records-skip}
 use Rattle.field_law.proofs.Lines.{valid-most}
 use Rattle.field_stream.specs.Generator.{lanes}
@@ -52,15 +54,18 @@ run_same number (push ∷ rest) =
 -- ---- one record
 
 -- a whole record in front of other bytes
-front_read : (turns place tag len : ℕ) (step : Step) (first rest : List ℕ) → record_at Bfs1 turns (tag ∷ (first ++ rest)) ≡ Whole step (suc len) → length first ≡ len →
-    file.records Bfs1 turns place 0 (tag ∷ (first ++ rest)) ≡ with_step step (file.records Bfs1 (turns + file.turns_of step) (place + 1 + len) 0 rest)
+front_read : (turns place tag len : ℕ) (step : Step) (first rest : List ℕ) →
+    record_at Bfs1 turns (tag ∷ (first ++ rest)) ≡ Whole step (suc len) → length first ≡ len →
+    file.records Bfs1 turns place 0 (tag ∷ (first ++ rest))
+    ≡ with_step step (file.records Bfs1 (turns + file.turns_of step) (place + 1 + len) 0 rest)
 front_read turns place tag len step first rest is long =
     let less : suc len - 1 ≡ len = omega arith in
     records-cons Bfs1 turns place tag (first ++ rest)
     ∙ ap (λ (found : Found). cons_of found Bfs1 turns place (first ++ rest)) is
     ∙ ap (λ (n : ℕ). with_step step (file.records Bfs1 (turns + file.turns_of step) (place + 1) n (first ++ rest))) less
     ∙ ap (with_step step) (records-skip Bfs1 (turns + file.turns_of step) (place + 1) len (first ++ rest))
-    ∙ ap (λ (bytes : List ℕ). with_step step (file.records Bfs1 (turns + file.turns_of step) (place + 1 + len) 0 bytes)) (drop_first len first rest long)
+    ∙ ap (λ (bytes : List ℕ). with_step step (file.records Bfs1 (turns + file.turns_of step) (place + 1 + len) 0 bytes))
+    (drop_first len first rest long)
 
 turns_fit : (turns : ℕ) → turns + 16 ≤ most_turns → nat_le (turns + 16) most_turns ≡ true
 turns_fit turns few = grind (arith, nat_tests)
@@ -104,10 +109,12 @@ entry_read : (turns : ℕ) (queue : Queue) (status number : ℕ) (rest : List �
     push_if (is_data status) queue status (lanes number (valid_bytes status) ++ rest) ≡ Whole (file_step number (Fill queue status)) 6
 entry_read turns queue status number rest is =
     ap (λ (test : Bool). push_if test queue status (lanes number (valid_bytes status) ++ rest)) (is_data_status status is)
-    ∙ ap (data_with queue status) (lanes_read (lanes number (valid_bytes status)) rest (four_lanes number (valid_bytes status) (valid-most status)))
+    ∙ ap (data_with queue status)
+    (lanes_read (lanes number (valid_bytes status)) rest (four_lanes number (valid_bytes status) (valid-most status)))
 
 tag_read : (turns : ℕ) (queue : Queue) (status number : ℕ) (rest : List ℕ) → IsData status →
-    record_at Bfs1 turns (tag_of queue ∷ status ∷ (lanes number (valid_bytes status) ++ rest)) ≡ Whole (file_step number (Fill queue status)) 6
+    record_at Bfs1 turns (tag_of queue ∷ status ∷ (lanes number (valid_bytes status) ++ rest))
+    ≡ Whole (file_step number (Fill queue status)) 6
 tag_read turns One status number rest is = entry_read turns One status number rest is
 tag_read turns Two status number rest is = entry_read turns Two status number rest is
 tag_read turns Three status number rest is = entry_read turns Three status number rest is
@@ -126,7 +133,8 @@ len_of (Mark code) = 1
 len_of (Fill queue status) = 5
 
 read_push : (turns place number : ℕ) (push : pushes.Push) (rest : List ℕ) → IsPushData push →
-    file.records Bfs1 turns place 0 (push_record number push ++ rest) ≡ with_step (file_step number push) (file.records Bfs1 (turns + 0) (place + 1 + len_of push) 0 rest)
+    file.records Bfs1 turns place 0 (push_record number push ++ rest)
+    ≡ with_step (file_step number push) (file.records Bfs1 (turns + 0) (place + 1 + len_of push) 0 rest)
 read_push turns place number (Mark code) rest is =
     front_read turns place 4 1 (Control code) (code_number code ∷ []) rest (code_read turns code rest) refl
 read_push turns place number (Fill queue status) rest is =
@@ -178,7 +186,8 @@ pub read_back : (limit number : ℕ) (all : List pushes.Push) → AreData all �
     length (codes "BFS1" ++ records number all ++ 0 ∷ []) ≤ limit →
     steps_of limit false (codes "BFS1" ++ records number all ++ 0 ∷ []) ≡ Ok (file_steps number all)
 read_back limit number all are few short =
-    ap (λ (read : Reading). whole_file (length (codes "BFS1" ++ records number all ++ 0 ∷ [])) read.steps read.ending) (stream_read limit number all are few short)
+    ap (λ (read : Reading). whole_file (length (codes "BFS1" ++ records number all ++ 0 ∷ [])) read.steps read.ending)
+    (stream_read limit number all are few short)
 
 -- how long the records are
 push_long : (number : ℕ) (push : pushes.Push) → length (records_of number push) ≤ 11

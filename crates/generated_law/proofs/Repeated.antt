@@ -33,7 +33,8 @@ drawn_none long entries none =
       brings = none;
     }
 
-drawn_more : (count long : ℕ) (line rest : List Entry) → 5 ≤ long → statuses_of line ≡ line_statuses long → AreDrawn count long rest → AreDrawn (suc count) long (line ++ rest)
+drawn_more : (count long : ℕ) (line rest : List Entry) → 5 ≤ long → statuses_of line ≡ line_statuses long → AreDrawn count long rest →
+    AreDrawn (suc count) long (line ++ rest)
 drawn_more count long line rest some same more =
     let whole = whole_line long line some same in
     let many = more.are.many in
@@ -49,18 +50,21 @@ pub lines_drawn : (count long number : ℕ) (pushes : List Push) (q : Queue) →
 lines_drawn zero long number pushes q some same = drawn_none long [] refl
 lines_drawn (suc count) long number pushes q some same =
     subst (AreDrawn (suc count) long) (sym (pushed_in-drawn number pushes (repeated count pushes) q))
-    (drawn_more count long (pushed_in (drawn_steps number pushes) q) (pushed_in (drawn_steps (number_behind number pushes) (repeated count pushes)) q) some
+    (drawn_more count long (pushed_in (drawn_steps number pushes) q)
+    (pushed_in (drawn_steps (number_behind number pushes) (repeated count pushes)) q) some
     (statuses-pushed_in number pushes q ∙ same) (lines_drawn count long (number_behind number pushes) pushes q some same))
 
 no_entries : (entries : List Entry) → statuses_of entries ≡ [] → entries ≡ []
 no_entries [] none = refl
 no_entries (entry ∷ rest) none = cc
 
-pub nothing_drawn : (count number : ℕ) (pushes : List Push) (q : Queue) → statuses q pushes ≡ [] → pushed_in (drawn_steps number (repeated count pushes)) q ≡ []
+pub nothing_drawn : (count number : ℕ) (pushes : List Push) (q : Queue) → statuses q pushes ≡ [] →
+    pushed_in (drawn_steps number (repeated count pushes)) q ≡ []
 nothing_drawn zero number pushes q none = refl
 nothing_drawn (suc count) number pushes q none =
     pushed_in-drawn number pushes (repeated count pushes) q
-    ∙ ap (λ (entries : List Entry). entries ++ pushed_in (drawn_steps (number_behind number pushes) (repeated count pushes)) q) (no_entries (pushed_in (drawn_steps number pushes) q) (statuses-pushed_in number pushes q ∙ none))
+    ∙ ap (λ (entries : List Entry). entries ++ pushed_in (drawn_steps (number_behind number pushes) (repeated count pushes)) q)
+    (no_entries (pushed_in (drawn_steps number pushes) q) (statuses-pushed_in number pushes q ∙ none))
     ∙ nothing_drawn count (number_behind number pushes) pushes q none
 
 -- lines of a picture over each queue

@@ -5,7 +5,8 @@ use Rattle.std.proofs.lemmas.Bool.{cond-true, cond-false, cases_Bool}
 use Rattle.fifo_model.specs.declared.Queue.{Queue}
 use Rattle.fifo_model.specs.declared.Queue.TheVariants.{One, Two, Three}
 use Rattle.pixel_layout.specs.declared.Format.{Format}
-use Rattle.pixel_layout.specs.declared.Format.TheVariants.{Rgb32, Rgb24, Rgb16, Rgb15, Yuy2, Y8, Rgb8, BtYuv, Yuv422p, Yuv411p, Yuv420p, Yuv410p}
+use Rattle.pixel_layout.specs.declared.Format.TheVariants.{Rgb32, Rgb24, Rgb16, Rgb15, Yuy2, Y8, Rgb8, BtYuv, Yuv422p, Yuv411p, Yuv420p}
+use Rattle.pixel_layout.specs.declared.Format.TheVariants.{Yuv410p}
 use Rattle.pixel_layout.specs.Layouts.{layout}
 use Rattle.capture_desc.specs.declared.desc.Desc.{Desc}
 use Rattle.picture_model.specs.Described.{layout_of, plane_row_bytes}
@@ -43,12 +44,14 @@ luma_long d is =
 
 -- queue 1 gets its line, and each other queue the line of its plane, where there is one
 planar_row : (d : Desc) (q : Queue) → (layout_of d).planar ≡ true →
-    statuses q (planar_line (plane_row_bytes d 1) (plane_row_bytes d 2) (layout_of d).across) ≡ line_statuses (plane_row_bytes d (plane_of q))
+    statuses q (planar_line (plane_row_bytes d 1) (plane_row_bytes d 2) (layout_of d).across)
+    ≡ line_statuses (plane_row_bytes d (plane_of q))
 planar_row d One is = luma_statuses (plane_row_bytes d 1) (plane_row_bytes d 2) (layout_of d).across
 planar_row d Two is =
     chroma_statuses Two (plane_row_bytes d 1) (plane_row_bytes d 2) (layout_of d).across refl (planar_is d.format is).some (luma_long d is)
 planar_row d Three is =
-    chroma_statuses Three (plane_row_bytes d 1) (plane_row_bytes d 2) (layout_of d).across refl (planar_is d.format is).some (luma_long d is)
+    chroma_statuses Three (plane_row_bytes d 1) (plane_row_bytes d 2) (layout_of d).across refl (planar_is d.format is).some
+    (luma_long d is)
 
 abbrev planes_if : Bool → ℕ
 planes_if planar = if planar then 3 else 1
@@ -58,7 +61,8 @@ packed_only One is = refl
 packed_only Two is = cc
 packed_only Three is = cc
 
-packed_row : (d : Desc) (q : Queue) → q ≡ One → statuses q (packed_line (plane_row_bytes d 1)) ≡ line_statuses (plane_row_bytes d (plane_of q))
+packed_row : (d : Desc) (q : Queue) → q ≡ One →
+    statuses q (packed_line (plane_row_bytes d 1)) ≡ line_statuses (plane_row_bytes d (plane_of q))
 packed_row d One is = packed_statuses (plane_row_bytes d 1)
 packed_row d Two is = cc
 packed_row d Three is = cc
@@ -69,7 +73,8 @@ planar_push d = planar_line (plane_row_bytes d 1) (plane_row_bytes d 2) (layout_
 abbrev packed_push : Desc → List Push
 packed_push d = packed_line (plane_row_bytes d 1)
 
-pub row_statuses : (d : Desc) (q : Queue) → has_plane d q ≡ true → statuses q (picture_line d) ≡ line_statuses (plane_row_bytes d (plane_of q))
+pub row_statuses : (d : Desc) (q : Queue) → has_plane d q ≡ true →
+    statuses q (picture_line d) ≡ line_statuses (plane_row_bytes d (plane_of q))
 row_statuses d q has =
     ⊎_elim
     (λ is. ap (statuses q) (cond-true (layout_of d).planar (planar_push d) (packed_push d) is) ∙ planar_row d q is)

@@ -1,5 +1,6 @@
 -- The pushes of a description are of data, so they are steps that a decoder makes.
-use Rattle.std.proofs.Common.{◌≡◌, ℕ, zero, suc, ◌+◌, ◌-◌, ◌/◌, ◌%◌, ◌<◌, Bool, true, false, ◌&&◌, List, [], ◌∷◌, ◌++◌, map, All, refl, arith, if◌then◌else◌, slice_index, replicate}
+use Rattle.std.proofs.Common.{◌≡◌, ℕ, zero, suc, ◌+◌, ◌-◌, ◌/◌, ◌%◌, ◌<◌, Bool, true, false, ◌&&◌, List, [], ◌∷◌, ◌++◌, map, All, refl}
+use Rattle.std.proofs.Common.{arith, if◌then◌else◌, slice_index, replicate}
 use Rattle.std.specs.Prelude.{◌==◌, nat_lt}
 use Rattle.std.specs.List.{flat_map, range_with_len}
 use Rattle.std.proofs.lemmas.Bool.{cond_both}
@@ -12,7 +13,8 @@ use Rattle.machine_model.specs.Safety.{IsStep}
 use Rattle.capture_desc.specs.declared.desc.Desc.{Desc}
 use Rattle.picture_model.specs.Described.{field_height, fields_of, layout_of, plane_row_bytes, vbi_skip}
 use Rattle.field_stream.specs.Made.{after}
-use Rattle.field_stream.specs.Pushes.{Push, Mark, Fill, chroma_after, end_status, end_statuses, field_pushes, frame_pushes, line_entries, packed_line, picture_line, picture_pushes, planar_at}
+use Rattle.field_stream.specs.Pushes.{Push, Mark, Fill, chroma_after, end_status, end_statuses, field_pushes, frame_pushes, line_entries}
+use Rattle.field_stream.specs.Pushes.{packed_line, picture_line, picture_pushes, planar_at}
 use Rattle.field_stream.specs.Pushes.{planar_line, repeated, status_at, stream_pushes, vbi_pushes}
 use Rattle.generated_law.specs.Drawn.{drawn_step, drawn_steps}
 
@@ -85,12 +87,14 @@ vbi_data (suc more) skip bytes = data_repeated (skip + suc more) (packed_line by
 
 field_data : (d : Desc) (field : Parity) → AreData (field_pushes d field)
 field_data d field =
-    data-append (vbi_pushes d.vbi_lines (vbi_skip d field) d.vbi_bytes) (picture_pushes d field) (vbi_data d.vbi_lines (vbi_skip d field) d.vbi_bytes)
+    data-append (vbi_pushes d.vbi_lines (vbi_skip d field) d.vbi_bytes) (picture_pushes d field)
+    (vbi_data d.vbi_lines (vbi_skip d field) d.vbi_bytes)
     (data_repeated (d.skip_lines + field_height d field) (picture_line d) (line_data d))
 
 fields_data : (d : Desc) (fields : List Parity) → AreData (flat_map (field_pushes d) fields)
 fields_data d [] = tt
-fields_data d (field ∷ fields) = data-append (field_pushes d field) (flat_map (field_pushes d) fields) (field_data d field) (fields_data d fields)
+fields_data d (field ∷ fields) =
+    data-append (field_pushes d field) (flat_map (field_pushes d) fields) (field_data d field) (fields_data d fields)
 
 pub stream_data : (d : Desc) (frames : ℕ) → AreData (stream_pushes d frames)
 stream_data d frames = data_repeated frames (frame_pushes d) (fields_data d (fields_of d.fields))
@@ -98,13 +102,18 @@ stream_data d frames = data_repeated frames (frame_pushes d) (fields_data d (fie
 -- ---- steps
 
 turns_made : All IsStep (replicate 16 Turn)
-turns_made = All-from_recursion IsStep (replicate 16 Turn) (tt, (tt, (tt, (tt, (tt, (tt, (tt, (tt, (tt, (tt, (tt, (tt, (tt, (tt, (tt, (tt, tt))))))))))))))))
+turns_made =
+    All-from_recursion IsStep (replicate 16 Turn)
+    (tt, (tt, (tt, (tt, (tt, (tt, (tt, (tt, (tt, (tt, (tt, (tt, (tt, (tt, (tt, (tt, tt))))))))))))))))
 
 more_made : (first : Step) (rest : List Step) → IsStep first → All IsStep rest → All IsStep (first ∷ (replicate 16 Turn ++ rest))
-more_made first rest is are = All-cons IsStep first (replicate 16 Turn ++ rest) is (All-append IsStep (replicate 16 Turn) rest turns_made are)
+more_made first rest is are =
+    All-cons IsStep first (replicate 16 Turn ++ rest) is (All-append IsStep (replicate 16 Turn) rest turns_made are)
 
 pub steps_made : (number : ℕ) (pushes : List Push) → AreData pushes → All IsStep (drawn_steps number pushes)
 steps_made number [] are = All-nil IsStep
-steps_made number (Mark code ∷ rest) are = more_made (drawn_step number (Mark code)) (drawn_steps number rest) tt (steps_made number rest are)
+steps_made number (Mark code ∷ rest) are =
+    more_made (drawn_step number (Mark code)) (drawn_steps number rest) tt (steps_made number rest are)
 steps_made number (Fill queue status ∷ rest) are =
-    more_made (drawn_step number (Fill queue status)) (drawn_steps (after number (Fill queue status)) rest) are.0.1 (steps_made (after number (Fill queue status)) rest are.1)
+    more_made (drawn_step number (Fill queue status)) (drawn_steps (after number (Fill queue status)) rest) are.0.1
+    (steps_made (after number (Fill queue status)) rest are.1)

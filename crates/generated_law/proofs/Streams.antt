@@ -1,5 +1,6 @@
 -- The fields of a stream, and their arrival.
-use Rattle.std.proofs.Common.{◌≡◌, ℕ, suc, ◌+◌, ◌-◌, ◌*◌, ◌<◌, ◌≤◌, true, List, [], ◌∷◌, ◌++◌, length, take, drop, replicate, refl, sym, ap, ◌∙◌, subst, arith, length-append}
+use Rattle.std.proofs.Common.{◌≡◌, ℕ, suc, ◌+◌, ◌-◌, ◌*◌, ◌<◌, ◌≤◌, true, List, [], ◌∷◌, ◌++◌, length, take, drop, replicate, refl, sym, ap}
+use Rattle.std.proofs.Common.{◌∙◌, subst, arith, length-append}
 use Rattle.std.specs.List.{flat_map}
 use Rattle.std.proofs.Math.Seq.{take-append-add, take-append_seam, drop-append_seam}
 use Rattle.std.proofs.lemmas.List.{append_assoc, append-nil}
@@ -27,7 +28,8 @@ use Rattle.picture_law.specs.Runs.{ArrivesAt, between, state_of}
 use Rattle.picture_law.proofs.Between.{between_both}
 use Rattle.picture_law.proofs.Places.{run_shows_picture}
 use Rattle.generated_law.specs.Drawn.{drawn_entries, drawn_step, drawn_steps, number_behind}
-use Rattle.generated_law.specs.Streams.{Awaits, FieldsArrive, FieldsAreSignalled, FieldsStand, HasField, PicturesAreShown, fields_before, place_behind, place_of, pushes_before, stream_picture, stream_steps}
+use Rattle.generated_law.specs.Streams.{Awaits, FieldsArrive, FieldsAreSignalled, FieldsStand, HasField, PicturesAreShown, fields_before}
+use Rattle.generated_law.specs.Streams.{place_behind, place_of, pushes_before, stream_picture, stream_steps}
 use Rattle.generated_law.proofs.Statuses.{drawn_steps-append}
 use Rattle.field_stream.proofs.Moving.{repeated_split}
 use Rattle.generated_law.proofs.Fields.{brings_picture, draws_picture}
@@ -60,13 +62,15 @@ stands d frames frame field described within =
     let later = flat_map each here.later in
     let more = repeated (frames - (frame + 1)) all in
     let parts : frames ≡ frame + suc (frames - (frame + 1)) = omega arith in
-    let split : all ≡ first ++ (each field ++ later) = ap (flat_map each) here.same ∙ flat_map-append each (fields_before d.fields field) (field ∷ here.later) in
+    let split : all ≡ first ++ (each field ++ later) =
+    ap (flat_map each) here.same ∙ flat_map-append each (fields_before d.fields field) (field ∷ here.later) in
     record {
       rest = later ++ more;
       same = ap (λ (n : ℕ). repeated n all) parts
           ∙ repeated_split frame (suc (frames - (frame + 1))) all
           ∙ ap (λ (pushes : List Push). repeated frame all ++ (pushes ++ more)) split
-          ∙ ap (λ (pushes : List Push). repeated frame all ++ pushes) (append_assoc first (each field ++ later) more ∙ ap (λ (pushes : List Push). first ++ pushes) (append_assoc (each field) later more))
+          ∙ ap (λ (pushes : List Push). repeated frame all ++ pushes) (append_assoc first (each field ++ later) more
+          ∙ ap (λ (pushes : List Push). first ++ pushes) (append_assoc (each field) later more))
           ∙ sym (append_assoc (repeated frame all) first (each field ++ (later ++ more)));
     }
 
@@ -100,7 +104,8 @@ record Comes (q : Queue) (steps : List Step) (count : ℕ) (more : List Step) : 
   rest : List Entry
   same : pushed_in (take count (steps ++ more)) q ≡ pushed_in steps q ++ rest
 
-comes_front : (q : Queue) (front : List Step) (count : ℕ) (more : List Step) → length front ≤ count → Comes q (front ++ replicate 16 Turn) count more
+comes_front : (q : Queue) (front : List Step) (count : ℕ) (more : List Step) → length front ≤ count →
+    Comes q (front ++ replicate 16 Turn) count more
 comes_front q front count more enough =
     let turns = replicate 16 Turn in
     let parts : count ≡ length front + (count - length front) = omega arith in
@@ -111,10 +116,12 @@ comes_front q front count more enough =
           ∙ ap (λ (steps : List Step). pushed_in (take (length front + (count - length front)) steps) q) (append_assoc front turns more)
           ∙ ap (λ (steps : List Step). pushed_in steps q) (take-append-add front (turns ++ more) (count - length front))
           ∙ pushed_in-append front behind q
-          ∙ ap (λ (entries : List Entry). entries ++ pushed_in behind q) (sym (pushed_in-append front turns q ∙ append-nil (pushed_in front q)));
+          ∙ ap (λ (entries : List Entry). entries ++ pushed_in behind q)
+          (sym (pushed_in-append front turns q ∙ append-nil (pushed_in front q)));
     }
 
-comes : (q : Queue) (steps : List Step) (count : ℕ) (more : List Step) → EndsInTurns steps → length steps ≤ count + 16 → Comes q steps count more
+comes : (q : Queue) (steps : List Step) (count : ℕ) (more : List Step) → EndsInTurns steps → length steps ≤ count + 16 →
+    Comes q steps count more
 comes q steps count more ends enough =
     let long = ap (λ (steps : List Step). length steps) ends.same in
     subst (λ (steps : List Step). Comes q steps count more) (sym ends.same)
@@ -147,7 +154,8 @@ module _ (d : Desc) (seed frames frame : ℕ) (field : Parity) (has : HasField d
     same : pushed_in (between (place_of d frame field) l (stream_steps d seed frames)) q ≡ drawn_entries d field number q ++ rest
 
   -- from the place of the field on are its steps and those behind it
-  from_here : (l : ℕ) → between (place_of d frame field) l (stream_steps d seed frames) ≡ take (l - place_of d frame field) (steps_of ++ steps_behind)
+  from_here : (l : ℕ) →
+      between (place_of d frame field) l (stream_steps d seed frames) ≡ take (l - place_of d frame field) (steps_of ++ steps_behind)
   from_here l =
       let place = place_of d frame field in
       let long = steps_long (first_number seed) (pushes_before d frame field) in
@@ -166,11 +174,13 @@ module _ (d : Desc) (seed frames frame : ℕ) (field : Parity) (has : HasField d
   comes_to q l enough =
       let place = place_of d frame field in
       let long = steps_long number (field_pushes d field) in
-      let ends = ends_in_turns number (Mark (vertical field)) (vbi_pushes d.vbi_lines (vbi_skip d field) d.vbi_bytes ++ picture_pushes d field) in
+      let ends =
+      ends_in_turns number (Mark (vertical field)) (vbi_pushes d.vbi_lines (vbi_skip d field) d.vbi_bytes ++ picture_pushes d field) in
       let found = comes q steps_of (l - place) steps_behind ends (omega arith) in
       record { rest = found.rest; same = whole found.rest found.same }
     where
-      whole : (rest : List Entry) → pushed_in (take (l - place_of d frame field) (steps_of ++ steps_behind)) q ≡ drawn_entries d field number q ++ rest →
+      whole : (rest : List Entry) →
+          pushed_in (take (l - place_of d frame field) (steps_of ++ steps_behind)) q ≡ drawn_entries d field number q ++ rest →
           pushed_in (between (place_of d frame field) l (stream_steps d seed frames)) q ≡ drawn_entries d field number q ++ rest
       whole rest same = ap (λ (steps : List Step). pushed_in steps q) (from_here l) ∙ same
 
@@ -190,7 +200,8 @@ module _ (d : Desc) (seed frames frame : ℕ) (field : Parity) (has : HasField d
         ∙ ap (λ (steps : List Step). pushed_in steps q) (sym (between_both place j l steps late on))
         ∙ (comes_to q l enough).same)
 
-    arrival : AreKept m (meeting (compiled d) (between j l (stream_steps d seed frames))) → ArrivesAt d field (stream_picture d seed frame field) m (between j l (stream_steps d seed frames))
+    arrival : AreKept m (meeting (compiled d) (between j l (stream_steps d seed frames))) →
+        ArrivesAt d field (stream_picture d seed frame field) m (between j l (stream_steps d seed frames))
     arrival kept =
         record {
           fifo_on = awaits.fifo_on;
@@ -201,7 +212,9 @@ module _ (d : Desc) (seed frames frame : ℕ) (field : Parity) (has : HasField d
           before = awaits.before;
           entries = drawn_entries d field number;
           rest = λ q. (comes_to q l enough).rest;
-          order = λ q. ap (λ (entries : List Entry). (queue_state q m.queues).entries ++ entries) (coming-meeting (compiled d) (between j l (stream_steps d seed frames)) q) ∙ in_order q;
+          order =
+              λ q. ap (λ (entries : List Entry). (queue_state q m.queues).entries ++ entries)
+              (coming-meeting (compiled d) (between j l (stream_steps d seed frames)) q) ∙ in_order q;
           unmarked = awaits.unmarked;
           brought = brings_picture d field number has.description (IsValid-IsFrame d has.valid);
         }
@@ -210,7 +223,8 @@ pub fields_stand : FieldsStand
 fields_stand = stands_there
 
 pub fields_arrive : FieldsArrive
-fields_arrive d seed frames frame field m j l has late on enough awaits kept = arrival d seed frames frame field has m j l late on enough awaits kept
+fields_arrive d seed frames frame field m j l has late on enough awaits kept =
+    arrival d seed frames frame field has m j l late on enough awaits kept
 
 pub fields_are_signalled : FieldsAreSignalled
 fields_are_signalled d seed frames frame field fill j k taken =
@@ -221,13 +235,18 @@ fields_are_signalled d seed frames frame field fill j k taken =
         description = taken.has.description;
         valid = taken.has.valid;
         described = taken.has.described;
-        pictured = draws_picture d field (number_behind (first_number seed) (pushes_before d frame field)) taken.has.description (IsValid-IsFrame d taken.has.valid);
+        pictured =
+            draws_picture d field (number_behind (first_number seed) (pushes_before d frame field)) taken.has.description
+            (IsValid-IsFrame d taken.has.valid);
         made = steps_made (first_number seed) (stream_pushes d frames) (stream_data d frames);
       };
       signal = taken.signal;
-      arrives = fields_arrive d seed frames frame field (state_of d fill (stream_steps d seed frames) j) j (k + 1) taken.has taken.later (omega arith) (omega arith) taken.awaits taken.kept;
+      arrives =
+          fields_arrive d seed frames frame field (state_of d fill (stream_steps d seed frames) j) j (k + 1) taken.has taken.later
+          (omega arith) (omega arith) taken.awaits taken.kept;
     }
 
 pub pictures_are_shown : PicturesAreShown
 pictures_are_shown d seed frames frame field fill j k taken =
-    run_shows_picture d field (stream_picture d seed frame field) fill (stream_steps d seed frames) j k (fields_are_signalled d seed frames frame field fill j k taken)
+    run_shows_picture d field (stream_picture d seed frame field) fill (stream_steps d seed frames) j k
+    (fields_are_signalled d seed frames frame field fill j k taken)

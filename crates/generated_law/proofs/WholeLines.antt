@@ -1,5 +1,6 @@
 -- Entries with the statuses of a line are a whole line of so many bytes.
-use Rattle.std.proofs.Common.{◌≡◌, ℕ, zero, suc, ◌+◌, ◌-◌, ◌*◌, ◌%◌, ◌<◌, ◌≤◌, true, false, List, [], ◌∷◌, map, length, All, refl, ap, ◌∙◌, arith, length-append, slice_index}
+use Rattle.std.proofs.Common.{◌≡◌, ℕ, zero, suc, ◌+◌, ◌-◌, ◌*◌, ◌%◌, ◌<◌, ◌≤◌, true, false, List, [], ◌∷◌, map, length, All, refl, ap, ◌∙◌}
+use Rattle.std.proofs.Common.{arith, length-append, slice_index}
 use Rattle.std.specs.List.{range_with_len}
 use Rattle.std.proofs.lemmas.Bool.Decides.{nat_tests}
 use Rattle.std.proofs.lemmas.List.Elements.{All-nil, All-append, All-take, All-from_recursion}
@@ -57,7 +58,8 @@ same_head x y xs ys same = (cc, cc)
 carried_length : (entry : Entry) (rest : List Entry) → length (carried (entry ∷ rest)) ≡ valid_bytes entry.status + length (carried rest)
 carried_length entry rest = omega (arith, length-append (valid_part entry) (carried rest), length-valid_part entry)
 
-last_entry : (bytes from : ℕ) (entry : Entry) → 5 ≤ bytes → from + 1 ≡ line_entries bytes → kind_of entry.status ≡ End ((bytes - 1) % 4 + 1) → IsRest bytes from (entry ∷ [])
+last_entry : (bytes from : ℕ) (entry : Entry) → 5 ≤ bytes → from + 1 ≡ line_entries bytes →
+    kind_of entry.status ≡ End ((bytes - 1) % 4 + 1) → IsRest bytes from (entry ∷ [])
 last_entry bytes from entry some last kind =
     let valid : valid_bytes entry.status ≡ (bytes - 1) % 4 + 1 = ap valid_lanes kind in
     record {
@@ -65,7 +67,8 @@ last_entry bytes from entry some last kind =
       long = omega (arith, carried_length entry []);
     }
 
-middle_entry : (bytes from : ℕ) (entry : Entry) (rest : List Entry) → kind_of entry.status ≡ Pixels → IsRest bytes (from + 1) rest → IsRest bytes from (entry ∷ rest)
+middle_entry : (bytes from : ℕ) (entry : Entry) (rest : List Entry) → kind_of entry.status ≡ Pixels → IsRest bytes (from + 1) rest →
+    IsRest bytes from (entry ∷ rest)
 middle_entry bytes from entry rest kind more =
     let valid : valid_bytes entry.status ≡ 4 = ap valid_lanes kind in
     let long = more.long in
@@ -82,7 +85,8 @@ rest_of_line bytes from zero (entry ∷ []) some begun last same =
     last_entry bytes from entry some (omega arith) (ap kind_of (parts.0 ∙ last_status bytes from begun (omega arith)) ∙ end_kind bytes)
 rest_of_line bytes from zero (entry ∷ other ∷ rest) some begun last same = cc
 rest_of_line bytes from (suc count) (entry ∷ rest) some begun last same =
-    let parts = same_head entry.status (status_at bytes from) (statuses_of rest) (map (status_at bytes) (range_with_len (from + 1) (suc count))) same in
+    let parts =
+    same_head entry.status (status_at bytes from) (statuses_of rest) (map (status_at bytes) (range_with_len (from + 1) (suc count))) same in
     middle_entry bytes from entry rest (ap kind_of (parts.0 ∙ middle_status bytes from begun (omega arith)))
     (rest_of_line bytes (from + 1) count rest some (omega arith) (omega arith) parts.1)
 

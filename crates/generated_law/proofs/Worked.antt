@@ -42,7 +42,8 @@ awaits =
     }
 
 kept : AreKept (state_of smallest 0 steps 2) (meeting (compiled smallest) (between 2 55 steps))
-kept = (tt, (tt, (tt, (tt, (tt, (tt, (tt, (tt, (tt, (tt, (tt, (tt, (tt, (tt, (tt, (refl, (tt, (tt, (tt, (tt, (tt, (tt, (tt, (tt, (tt, (tt, (tt, (tt, (tt, (tt, (tt, (tt, (refl, (tt, (tt, (tt, (tt, (tt, (tt, (tt, (tt, (tt, (tt, (tt, (tt, (tt, (tt, (tt, (tt, (refl, (tt, (tt, (tt, tt)))))))))))))))))))))))))))))))))))))))))))))))))))))
+kept =
+    (tt, (tt, (tt, (tt, (tt, (tt, (tt, (tt, (tt, (tt, (tt, (tt, (tt, (tt, (tt, (refl, (tt, (tt, (tt, (tt, (tt, (tt, (tt, (tt, (tt, (tt, (tt, (tt, (tt, (tt, (tt, (tt, (refl, (tt, (tt, (tt, (tt, (tt, (tt, (tt, (tt, (tt, (tt, (tt, (tt, (tt, (tt, (tt, (tt, (refl, (tt, (tt, (tt, tt)))))))))))))))))))))))))))))))))))))))))))))))))))))
 
 first_signal : IsFirstSignal (section_of smallest Top) (first_state (compiled smallest) 0) steps 2 54
 first_signal =
@@ -50,7 +51,8 @@ first_signal =
       later = omega arith;
       there = omega arith;
       signal = refl;
-      first = λ i from to. silent_at (section_of smallest Top) (first_state (compiled smallest) 0) steps 52 2 54 i refl (omega arith) refl from to;
+      first = λ i from to.
+          silent_at (section_of smallest Top) (first_state (compiled smallest) 0) steps 52 2 54 i refl (omega arith) refl from to;
     }
 
 pub taken : IsTaken smallest 1 1 0 Top 0 2 54

@@ -62,7 +62,8 @@ bytes_before d field q = vbi_bytes_on d field q + lines_on d q d.skip_lines * pl
 -- the picture of a field that is drawn from a number on: what each queue brings, cut into its lines
 abbrev pub rows_drawn : Desc → Parity → ℕ → Queue → List (List ℕ)
 rows_drawn d field number q =
-    cut (lines_on d q (field_height d field)) (plane_row_bytes d (plane_of q)) (drop (bytes_before d field q) (drawn_bytes d field number q))
+    cut (lines_on d q (field_height d field)) (plane_row_bytes d (plane_of q))
+    (drop (bytes_before d field q) (drawn_bytes d field number q))
 
 abbrev pub drawn_picture : Desc → Parity → ℕ → Picture
 drawn_picture d field number =

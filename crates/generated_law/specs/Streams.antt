@@ -74,7 +74,8 @@ FieldsStand = (d : Desc) (seed frames frame : ℕ) (field : Parity) → HasField
 abbrev pub FieldsArrive : Type 0
 FieldsArrive = (d : Desc) (seed frames frame : ℕ) (field : Parity) (m : State) (j l : ℕ) → HasField d frames frame field →
     place_of d frame field ≤ j → j ≤ l → place_behind d frame field ≤ l + 16 →
-    Awaits d field m (between (place_of d frame field) j (stream_steps d seed frames)) → AreKept m (meeting (compiled d) (between j l (stream_steps d seed frames))) →
+    Awaits d field m (between (place_of d frame field) j (stream_steps d seed frames)) →
+    AreKept m (meeting (compiled d) (between j l (stream_steps d seed frames))) →
     ArrivesAt d field (stream_picture d seed frame field) m (between j l (stream_steps d seed frames))
 
 -- the same in a run of the compiled program from the first state, where step k is the first signal of the field after j
@@ -82,8 +83,10 @@ pub record IsTaken (d : Desc) (seed frames frame : ℕ) (field : Parity) (fill j
   pub has : HasField d frames frame field
   pub later : place_of d frame field ≤ j
   pub pushed : place_behind d frame field ≤ k + 17
-  pub awaits : Awaits d field (state_of d fill (stream_steps d seed frames) j) (between (place_of d frame field) j (stream_steps d seed frames))
-  pub kept : AreKept (state_of d fill (stream_steps d seed frames) j) (meeting (compiled d) (between j (k + 1) (stream_steps d seed frames)))
+  pub awaits : Awaits d field (state_of d fill (stream_steps d seed frames) j)
+      (between (place_of d frame field) j (stream_steps d seed frames))
+  pub kept : AreKept (state_of d fill (stream_steps d seed frames) j)
+      (meeting (compiled d) (between j (k + 1) (stream_steps d seed frames)))
   pub signal : IsFirstSignal (section_of d field) (first_state (compiled d) fill) (stream_steps d seed frames) j k
 
 abbrev pub FieldsAreSignalled : Type 0
@@ -93,4 +96,5 @@ FieldsAreSignalled = (d : Desc) (seed frames frame : ℕ) (field : Parity) (fill
 -- so memory after step k is that at place j with the picture that was drawn
 abbrev pub PicturesAreShown : Type 0
 PicturesAreShown = (d : Desc) (seed frames frame : ℕ) (field : Parity) (fill j k : ℕ) → IsTaken d seed frames frame field fill j k →
-    After d field (stream_picture d seed frame field) (state_of d fill (stream_steps d seed frames) j).memory (state_of d fill (stream_steps d seed frames) (k + 1)).memory
+    After d field (stream_picture d seed frame field) (state_of d fill (stream_steps d seed frames) j).memory
+    (state_of d fill (stream_steps d seed frames) (k + 1)).memory

@@ -1,11 +1,13 @@
 -- Laws of the interrupt status register.
-use Rattle.std.proofs.Common.{ℕ, ◌+◌, ◌-◌, ◌*◌, ◌/◌, ◌%◌, ◌^◌, ◌<◌, max, Bool, true, false, ◌==◌, ◌||◌, bit_and, bit_or, ◌≡◌, refl, sym, ap, ◌∙◌, arith}
+use Rattle.std.proofs.Common.{ℕ, ◌+◌, ◌-◌, ◌*◌, ◌/◌, ◌%◌, ◌^◌, ◌<◌, max, Bool, true, false, ◌==◌, ◌||◌, bit_and, bit_or, ◌≡◌, refl, sym, ap}
+use Rattle.std.proofs.Common.{◌∙◌, arith}
 use Rattle.std.proofs.lemmas.Nat.{and_mask, and_block, or_block, or_lt}
 use Rattle.std.proofs.lemmas.Nat.Bits.{bit_at_and, bit_at_or, bit_at-lt, bit_at_cat_low, same_from_bits}
 use Rattle.std.specs.Int.{bit_at}
 use Rattle.std.specs.Int.Bits.{or_zero_r}
 use Rattle.risc_word.specs.declared.Ctl.{Ctl}
-use Rattle.irq_status.specs.Register.{IsKnown, acknowledged, applied, below_status, fdsr, has, has_ocerr, interrupts, irq_bit, ocerr, raised, risc_status, risci, status_after}
+use Rattle.irq_status.specs.Register.{IsKnown, acknowledged, applied, below_status, fdsr, has, has_ocerr, interrupts, irq_bit, ocerr}
+use Rattle.irq_status.specs.Register.{raised, risc_status, risci, status_after}
 
 -- ---- which bits there are
 
@@ -63,16 +65,20 @@ stated_blocks register set reset h =
     let low = register % 2 ^ 28 in
     let parts : register ≡ high * 2 ^ 28 + low = omega arith in
     let mask : 2 ^ 32 - 1 - reset * 2 ^ 28 ≡ (15 - reset) * 2 ^ 28 + (2 ^ 28 - 1) = omega arith in
-    let cleared : bit_and (high * 2 ^ 28 + low) ((15 - reset) * 2 ^ 28 + (2 ^ 28 - 1)) ≡ bit_and high (15 - reset) * 2 ^ 28 + bit_and low (2 ^ 28 - 1) =
+    let cleared : bit_and (high * 2 ^ 28 + low) ((15 - reset) * 2 ^ 28 + (2 ^ 28 - 1))
+    ≡ bit_and high (15 - reset) * 2 ^ 28 + bit_and low (2 ^ 28 - 1) =
     and_block 28 high (15 - reset) low (2 ^ 28 - 1) (omega arith) (omega arith) in
     let kept : bit_and low (2 ^ 28 - 1) ≡ low = and_mask low 28 ∙ omega arith in
     let whole : set * 2 ^ 28 ≡ set * 2 ^ 28 + 0 = omega arith in
-    let joined : bit_or (bit_and high (15 - reset) * 2 ^ 28 + low) (set * 2 ^ 28 + 0) ≡ bit_or (bit_and high (15 - reset)) set * 2 ^ 28 + bit_or low 0 =
+    let joined : bit_or (bit_and high (15 - reset) * 2 ^ 28 + low) (set * 2 ^ 28 + 0)
+    ≡ bit_or (bit_and high (15 - reset)) set * 2 ^ 28 + bit_or low 0 =
     or_block 28 (bit_and high (15 - reset)) set low 0 (omega arith) (omega arith) in
     let none : bit_or low 0 ≡ low = or_zero_r low in
     let first : bit_and register (2 ^ 32 - 1 - reset * 2 ^ 28) ≡ bit_and high (15 - reset) * 2 ^ 28 + low =
-    ap (λ x. bit_and x (2 ^ 32 - 1 - reset * 2 ^ 28)) parts ∙ ap (bit_and (high * 2 ^ 28 + low)) mask ∙ cleared ∙ ap (λ x. bit_and high (15 - reset) * 2 ^ 28 + x) kept in
-    ap (λ x. bit_or x (set * 2 ^ 28)) first ∙ ap (bit_or (bit_and high (15 - reset) * 2 ^ 28 + low)) whole ∙ joined ∙ ap (λ x. bit_or (bit_and high (15 - reset)) set * 2 ^ 28 + x) none
+    ap (λ x. bit_and x (2 ^ 32 - 1 - reset * 2 ^ 28)) parts ∙ ap (bit_and (high * 2 ^ 28 + low)) mask ∙ cleared
+    ∙ ap (λ x. bit_and high (15 - reset) * 2 ^ 28 + x) kept in
+    ap (λ x. bit_or x (set * 2 ^ 28)) first ∙ ap (bit_or (bit_and high (15 - reset) * 2 ^ 28 + low)) whole ∙ joined
+    ∙ ap (λ x. bit_or (bit_and high (15 - reset)) set * 2 ^ 28 + x) none
 
 applied_irq : (irq : Bool) (register set reset : ℕ) → reset < 16 →
     bit_or (stated register set reset) (irq_bit irq)
@@ -83,7 +89,8 @@ applied_irq irq register set reset h =
     let whole : irq_bit irq ≡ 0 * 2 ^ 28 + irq_bit irq = omega arith in
     let joined : bit_or (status * 2 ^ 28 + low) (0 * 2 ^ 28 + irq_bit irq) ≡ bit_or status 0 * 2 ^ 28 + bit_or low (irq_bit irq) =
     or_block 28 status 0 low (irq_bit irq) (omega arith) (small_irq irq) in
-    ap (λ x. bit_or x (irq_bit irq)) (stated_blocks register set reset h) ∙ ap (bit_or (status * 2 ^ 28 + low)) whole ∙ joined ∙ ap (λ x. x * 2 ^ 28 + bit_or low (irq_bit irq)) (or_zero_r status)
+    ap (λ x. bit_or x (irq_bit irq)) (stated_blocks register set reset h) ∙ ap (bit_or (status * 2 ^ 28 + low)) whole ∙ joined
+    ∙ ap (λ x. x * 2 ^ 28 + bit_or low (irq_bit irq)) (or_zero_r status)
 
 applied_stated : (ctl : Ctl) (register : ℕ) → ctl.reset < 16 →
     bit_or (stated register ctl.set ctl.reset) (irq_bit ctl.irq) ≡ applied ctl register
@@ -99,7 +106,8 @@ applied_by ctl irq register set reset removed inserted hs hr hi es er e f =
     let b : set * 2 ^ 28 % 2 ^ 32 ≡ ctl.set * 2 ^ 28 = omega arith in
     let both : inserted ≡ stated register ctl.set ctl.reset =
     f ∙ ap (bit_or removed) b ∙ ap (λ x. bit_or x (ctl.set * 2 ^ 28)) (e ∙ ap (λ x. bit_and register (2 ^ 32 - 1 - x)) a) in
-    ap (λ x. bit_or x (irq_bit irq)) both ∙ ap (λ x. bit_or (stated register ctl.set ctl.reset) (irq_bit x)) (sym hi) ∙ applied_stated ctl register hr
+    ap (λ x. bit_or x (irq_bit irq)) both ∙ ap (λ x. bit_or (stated register ctl.set ctl.reset) (irq_bit x)) (sym hi)
+    ∙ applied_stated ctl register hr
 
 pub IsKnown-applied : (ctl : Ctl) (register : ℕ) → ctl.set < 16 → ctl.reset < 16 → IsKnown register → IsKnown (applied ctl register)
 IsKnown-applied ctl register s r h =
@@ -109,12 +117,14 @@ IsKnown-applied ctl register s r h =
 
 -- ---- the RISC status
 
-pub risc_status-applied : (ctl : Ctl) (register : ℕ) → risc_status (applied ctl register) ≡ status_after (risc_status register) ctl.set ctl.reset
+pub risc_status-applied : (ctl : Ctl) (register : ℕ) →
+    risc_status (applied ctl register) ≡ status_after (risc_status register) ctl.set ctl.reset
 risc_status-applied ctl register = omega (arith, or_lt 28 (below_status register) (irq_bit ctl.irq) (omega arith) (small_irq ctl.irq))
 
 -- ---- one bit
 
-bit_at-applied : (ctl : Ctl) (register i : ℕ) → i < 28 → bit_at (applied ctl register) i ≡ max (bit_at register i) (bit_at (irq_bit ctl.irq) i)
+bit_at-applied : (ctl : Ctl) (register i : ℕ) → i < 28 →
+    bit_at (applied ctl register) i ≡ max (bit_at register i) (bit_at (irq_bit ctl.irq) i)
 bit_at-applied ctl register i h =
     let parts : register / 2 ^ 28 * 2 ^ 28 + register % 2 ^ 28 ≡ register = omega arith in
     let low : bit_at (register % 2 ^ 28) i ≡ bit_at register i =
@@ -149,7 +159,8 @@ ocerr-raised register flags h k =
 pub ocerr-acknowledged : (register mask : ℕ) → has_ocerr register ≡ false → has_ocerr (acknowledged register mask) ≡ false
 ocerr-acknowledged register mask h =
     let a = zero_of (bit_at register 18) (bit_at-lt register 18) h in
-    let none : bit_at (acknowledged register mask) 18 ≡ 0 = omega (arith, a, bit_at_and register (2 ^ 32 - 1 - bit_and mask interrupts) 18) in
+    let none : bit_at (acknowledged register mask) 18 ≡ 0 =
+    omega (arith, a, bit_at_and register (2 ^ 32 - 1 - bit_and mask interrupts) 18) in
     ap (λ x. x == 1) none
 
 risci_or : (irq : Bool) (n : ℕ) → n < 2 → (max n (bit_at (irq_bit irq) 11) == 1) ≡ (irq || (n == 1))

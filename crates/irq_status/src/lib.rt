@@ -53,7 +53,8 @@ impl Flags for StatusBits {
 
     ghost exact = { ⊤ };
 
-    ghost table = { (codes "RISCI", 2 ^ 11) ∷ (codes "FBUS", 2 ^ 12) ∷ (codes "FDSR", 2 ^ 14) ∷ (codes "OCERR", 2 ^ 18) ∷ (codes "RISCS", 15 * 2 ^ 28) ∷ [] };
+    ghost table = { (codes "RISCI", 2 ^ 11) ∷ (codes "FBUS", 2 ^ 12) ∷ (codes "FDSR", 2 ^ 14) ∷ (codes "OCERR", 2 ^ 18)
+        ∷ (codes "RISCS", 15 * 2 ^ 28) ∷ [] };
 
     ghost set_of = { λ status. status.0 };
 

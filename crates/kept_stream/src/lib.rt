@@ -50,9 +50,11 @@ impl KeptStream {
 /// Uses the front of a piece, as `take` does, quick where a data push or turns are there, as mostly.
 #[inline(always)]
 fn use_front(reader: &mut StepReader, piece: &[u8]) -> (usize, Got)
-    ensures whole { (more : List ℕ) → resumed reader.old (piece.now ++ more) ≡ after_answer result.1 (resumed reader.new (drop result.0 piece.now ++ more)) }
+    ensures whole { (more : List ℕ) →
+        resumed reader.old (piece.now ++ more) ≡ after_answer result.1 (resumed reader.new (drop result.0 piece.now ++ more)) }
     ensures used { Uses result.1 result.0 (length piece.now) }
-    ensures moves { (before : ℕ) → PlacedAt reader.old.phase reader.old.place before → PlacedAt reader.new.phase reader.new.place (before + result.0) }
+    ensures moves { (before : ℕ) → PlacedAt reader.old.phase reader.old.place before →
+        PlacedAt reader.new.phase reader.new.place (before + result.0) }
 {
     if let Some((queue, entry)) = reader.take_push(piece) {
         return (6, Got::Step(Step::Push(queue, entry)));

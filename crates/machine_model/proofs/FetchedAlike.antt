@@ -1,5 +1,6 @@
 -- Programs that agree on the words that a turn fetches are read alike.
-use Rattle.std.proofs.Common.{◌≡◌, ℕ, zero, suc, ◌+◌, ◌*◌, ◌<◌, ◌≤◌, ◌⊎◌, inl, inr, List, [], ◌∷◌, Option, length, All, Some, None, refl, sym, ap, subst, ◌∙◌, arith}
+use Rattle.std.proofs.Common.{◌≡◌, ℕ, zero, suc, ◌+◌, ◌*◌, ◌<◌, ◌≤◌, ◌⊎◌, inl, inr, List, [], ◌∷◌, Option, length, All, Some, None, refl}
+use Rattle.std.proofs.Common.{sym, ap, subst, ◌∙◌, arith}
 use Rattle.std.proofs.Common.{slice_index}
 use Rattle.std.proofs.lemmas.List.{get_or_past}
 use Rattle.std.proofs.lemmas.Bool.{cases_lt}
@@ -15,7 +16,8 @@ use Rattle.machine_model.proofs.SameTurn.{IsReadAlike, turn-with_program}
 
 -- as many words are read, where words are at the same addresses
 long_by : (first second : Option ℕ) (a b : List ℕ) → is_there first ≡ is_there second → length a ≡ length b →
-    length (elim first as (λ _. List ℕ) [ None ↦ [] | Some word ↦ word ∷ a ]) ≡ length (elim second as (λ _. List ℕ) [ None ↦ [] | Some word ↦ word ∷ b ])
+    length (elim first as (λ _. List ℕ) [ None ↦ [] | Some word ↦ word ∷ a ])
+    ≡ length (elim second as (λ _. List ℕ) [ None ↦ [] | Some word ↦ word ∷ b ])
 long_by None None a b e h = refl
 long_by None (Some y) a b e h = cc
 long_by (Some x) None a b e h = cc
@@ -25,7 +27,8 @@ long_same : (count : ℕ) (first second : RiscProgram) (address : ℕ) → ((add
     length (words_from count first address) ≡ length (words_from count second address)
 long_same zero first second address same = refl
 long_same (suc count) first second address same =
-    long_by (word_at first address) (word_at second address) (words_from count first (address + 4)) (words_from count second (address + 4)) (same address) (long_same count first second (address + 4) same)
+    long_by (word_at first address) (word_at second address) (words_from count first (address + 4)) (words_from count second (address + 4))
+    (same address) (long_same count first second (address + 4) same)
 
 some-same : {A : Type 0} (one two : A) → Some one ≡ Some two → one ≡ two
 some-same one two h = cc
@@ -49,9 +52,12 @@ module _ (pc : ℕ) (first second : RiscProgram) (agree : AgreeAt (word_addresse
   same_here k lt (inl inside) =
       let same = long in
       some-same _ _
-      (sym (word_read 5 k first pc inside) ∙ word-among (λ at. word_at first at ≡ word_at second at) pc (words_read first pc) k lt agree.words
+      (sym (word_read 5 k first pc inside)
+      ∙ word-among (λ at. word_at first at ≡ word_at second at) pc (words_read first pc) k lt agree.words
       ∙ word_read 5 k second pc (omega arith))
-  same_here k lt (inr past) = let same = long in get_or_past (words_from 5 first pc) k 0 past ∙ sym (get_or_past (words_from 5 second pc) k 0 (omega arith))
+  same_here k lt (inr past) =
+      let same = long in
+      get_or_past (words_from 5 first pc) k 0 past ∙ sym (get_or_past (words_from 5 second pc) k 0 (omega arith))
 
   fetched-alike : AreFetchedAlike pc first second
   fetched-alike =
@@ -73,5 +79,6 @@ AgreeAt-fetches m program agree on idle =
     fetched-alike m.pc m.program program
     (subst (λ job. AgreeAt (fetched_by job m) m.program program) idle (subst (λ on. AgreeAt (fetches_if on m) m.program program) on agree))
 
-pub turn-fetches : (m : State) (program : RiscProgram) → AgreeAt (fetches m) m.program program → turn (with_program program m) ≡ with_program program (turn m)
+pub turn-fetches : (m : State) (program : RiscProgram) → AgreeAt (fetches m) m.program program →
+    turn (with_program program m) ≡ with_program program (turn m)
 turn-fetches m program agree = turn-with_program m program (AgreeAt-fetches m program agree)

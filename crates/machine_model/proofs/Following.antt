@@ -1,5 +1,6 @@
 -- A machine that runs a sound program stays on its path, and never sets OCERR.
-use Rattle.std.proofs.Common.{◌≡◌, ℕ, suc, ◌+◌, ◌*◌, ◌≤◌, Bool, true, false, Option, Some, None, Ok, IsTrue, refl, sym, ap, ap₂, subst, ◌∙◌, arith, if◌then◌else◌}
+use Rattle.std.proofs.Common.{◌≡◌, ℕ, suc, ◌+◌, ◌*◌, ◌≤◌, Bool, true, false, Option, Some, None, Ok, IsTrue, refl, sym, ap, ap₂, subst, ◌∙◌}
+use Rattle.std.proofs.Common.{arith, if◌then◌else◌}
 use Rattle.risc_word.specs.declared.Code.{Code}
 use Rattle.risc_word.specs.declared.Ctl.{Ctl}
 use Rattle.risc_word.specs.declared.Instr.{Instr}
@@ -20,12 +21,15 @@ use Rattle.machine_model.specs.declared.Job.{Job}
 use Rattle.machine_model.specs.declared.Job.TheVariants.{Idle, Waiting, Running}
 use Rattle.machine_model.specs.declared.Skipping.{Skipping}
 use Rattle.machine_model.specs.declared.Skipping.TheVariants.{Nothing, ToEol, ToSync}
-use Rattle.machine_model.specs.Paths.{RiscProgram, Place, is_word, fetch, is_data, instr_cause, data_cause, target_before, target_after, target_moved, place_after, path, IsSound}
+use Rattle.machine_model.specs.Paths.{RiscProgram, Place, is_word, fetch, is_data, instr_cause, data_cause, target_before, target_after}
+use Rattle.machine_model.specs.Paths.{target_moved, place_after, path, IsSound}
 use Rattle.risc_word.specs.Parts.{instr_ctl, instr_ends}
 use Rattle.machine_model.specs.States.{State}
-use Rattle.machine_model.specs.Turns.{given_up, rest_of_line, jumped, skipping_after, begun_with, data_fetched, instr_fetched, fetched, with_fdsr_unless, met, code_seen, stray_seen, demand_on}
+use Rattle.machine_model.specs.Turns.{given_up, rest_of_line, jumped, skipping_after, begun_with, data_fetched, instr_fetched, fetched}
+use Rattle.machine_model.specs.Turns.{with_fdsr_unless, met, code_seen, stray_seen, demand_on}
 use Rattle.machine_model.specs.Turns.{demand_less, with_demand, verdict_at, took, ended, judged, retired, turn}
-use Rattle.machine_model.specs.Steps.{Step, Push, Control, Turn, Host, with_fbus_if, push_if, push_control_if, with_fifo, with_risc, host, step}
+use Rattle.machine_model.specs.Steps.{Step, Push, Control, Turn, Host, with_fbus_if, push_if, push_control_if, with_fifo, with_risc, host}
+use Rattle.machine_model.specs.Steps.{step}
 use Rattle.machine_model.specs.Safety.{TargetAt, RunsAt, JobAt}
 use Rattle.machine_model.proofs.Fronts.{take-Takes}
 use Rattle.machine_model.proofs.Places.{place-IsFine, path-suc, place_after-data, cause-data, jump-is_word, first-none}
@@ -45,16 +49,19 @@ pub idle_there : (program : RiscProgram) (place : Place) (pc : ℕ) (skipping : 
     JobAt program place pc skipping target job → (pc ≡ place.pc) × TargetAt skipping target place.target
 idle_there program place pc skipping target job e h = subst (λ j. JobAt program place pc skipping target j) e h
 
-pub waits_there : (program : RiscProgram) (place : Place) (pc : ℕ) (skipping : Skipping) (target : Option ℕ) (job : Job) (ctl : Ctl) (resync : Bool) (code : Code) →
+pub waits_there : (program : RiscProgram) (place : Place) (pc : ℕ) (skipping : Skipping) (target : Option ℕ) (job : Job) (ctl : Ctl)
+    (resync : Bool) (code : Code) →
     job ≡ Waiting ctl resync code → JobAt program place pc skipping target job →
     (pc ≡ place.pc) × (skipping ≡ Nothing) × (target ≡ None) × (place.target ≡ None)
 waits_there program place pc skipping target job ctl resync code e h = subst (λ j. JobAt program place pc skipping target j) e h
 
-pub runs_there : (program : RiscProgram) (place : Place) (pc : ℕ) (skipping : Skipping) (target : Option ℕ) (job : Job) (instr : Instr) (ds : Demands) →
+pub runs_there : (program : RiscProgram) (place : Place) (pc : ℕ) (skipping : Skipping) (target : Option ℕ) (job : Job) (instr : Instr)
+    (ds : Demands) →
     job ≡ Running instr ds → JobAt program place pc skipping target job → RunsAt program place pc skipping target instr ds
 runs_there program place pc skipping target job instr ds e h = subst (λ j. JobAt program place pc skipping target j) e h
 
-idle_at : (program : RiscProgram) (place next : Place) (pc : ℕ) (skipping : Skipping) (target : Option ℕ) (job : Job) → job ≡ Idle → next ≡ place →
+idle_at : (program : RiscProgram) (place next : Place) (pc : ℕ) (skipping : Skipping) (target : Option ℕ) (job : Job) → job ≡ Idle →
+    next ≡ place →
     pc ≡ place.pc → TargetAt skipping target place.target → JobAt program next pc skipping target job
 idle_at program place next pc skipping target job e n p t =
     subst (λ j. JobAt program next pc skipping target j) (sym e)
@@ -79,16 +86,19 @@ module _ (program : RiscProgram) (sound : IsSound program) where
         same = h.same;
         number = suc h.number;
         there =
-            idle_at program (place_after (Jump ctl addr) count (path program h.number)) (path program (suc h.number)) addr m.skipping None m.job e
+            idle_at program (place_after (Jump ctl addr) count (path program h.number))
+            (path program (suc h.number)) addr m.skipping None m.job e
             (path-suc program h.number (Jump ctl addr) count sound f) refl (no_target m.skipping);
         no_error = ocerr-applied ctl m.interrupts ∙ h.no_error;
       }
 
   syncs : (ctl : Ctl) (resync : Bool) (code : Code) (count : ℕ) (m : State) (h : Follows program m) → m.job ≡ Idle →
-      fetch program (path program h.number).pc ≡ Ok (Sync ctl resync code, count) → Follows program (instr_fetched (Sync ctl resync code) count m)
+      fetch program (path program h.number).pc ≡ Ok (Sync ctl resync code, count) →
+      Follows program (instr_fetched (Sync ctl resync code) count m)
   syncs ctl resync code count m h e f =
       let place = path program h.number in
-      let next : path program (suc h.number) ≡ place_after (Sync ctl resync code) count place = path-suc program h.number (Sync ctl resync code) count sound f in
+      let next : path program (suc h.number) ≡ place_after (Sync ctl resync code) count place =
+      path-suc program h.number (Sync ctl resync code) count sound f in
       let at = idle_there program place m.pc m.skipping m.target m.job e h.there in
       record {
         same = h.same;
@@ -97,7 +107,8 @@ module _ (program : RiscProgram) (sound : IsSound program) where
         no_error = h.no_error;
       }
 
-  begins : (cause : Option Cause) (instr : Instr) (count : ℕ) (target : Option ℕ) (m : State) (h : Follows program m) → m.skipping ≡ Nothing →
+  begins : (cause : Option Cause) (instr : Instr) (count : ℕ) (target : Option ℕ) (m : State) (h : Follows program m) →
+      m.skipping ≡ Nothing →
       m.pc ≡ (path program h.number).pc → IsTrue (is_data instr) → fetch program (path program h.number).pc ≡ Ok (instr, count) →
       target ≡ target_before instr (path program h.number).target → data_cause program.grants instr target ≡ None → cause ≡ None →
       Follows program (begun_with cause instr count target m)
@@ -119,7 +130,8 @@ module _ (program : RiscProgram) (sound : IsSound program) where
         no_error = h.no_error;
       }
 
-  skips_on : (skipping : Skipping) (eol : Bool) (target there moved : Option ℕ) → ((skipping ≡ Nothing) → ⊥) → TargetAt skipping target there →
+  skips_on : (skipping : Skipping) (eol : Bool) (target there moved : Option ℕ) → ((skipping ≡ Nothing) → ⊥) →
+      TargetAt skipping target there →
       TargetAt (skipping_after skipping eol) target (if eol then None else moved)
   skips_on Nothing eol target there moved n h = absurd (n refl)
   skips_on ToEol true target there moved n h = h
@@ -127,19 +139,24 @@ module _ (program : RiscProgram) (sound : IsSound program) where
   skips_on ToSync true target there moved n h = h
   skips_on ToSync false target there moved n h = h
 
-  passes : (instr : Instr) (count : ℕ) (m : State) (h : Follows program m) → m.job ≡ Idle → ((m.skipping ≡ Nothing) → ⊥) → IsTrue (is_data instr) →
+  passes : (instr : Instr) (count : ℕ) (m : State) (h : Follows program m) → m.job ≡ Idle → ((m.skipping ≡ Nothing) → ⊥) →
+      IsTrue (is_data instr) →
       fetch program (path program h.number).pc ≡ Ok (instr, count) → Follows program (data_fetched ToEol instr count m)
   passes instr count m h e n d f =
       let place = path program h.number in
       let at = idle_there program place m.pc m.skipping m.target m.job e h.there in
       let moved = target_moved instr (target_before instr place.target) in
-      let next : path program (suc h.number) ≡ record { pc = place.pc + 4 * count; target = target_after instr (target_before instr place.target) } =
+      let next : path program (suc h.number) ≡ record {
+        pc = place.pc + 4 * count;
+        target = target_after instr (target_before instr place.target);
+      } =
       path-suc program h.number instr count sound f ∙ place_after-data instr count place d in
       record {
         same = h.same;
         number = suc h.number;
         there =
-            idle_at program (record { pc = place.pc + 4 * count; target = target_after instr (target_before instr place.target) }) (path program (suc h.number))
+            idle_at program (record { pc = place.pc + 4 * count; target = target_after instr (target_before instr place.target) })
+            (path program (suc h.number))
             (m.pc + 4 * count) (skipping_after m.skipping (instr_ends instr).eol) m.target m.job e next (ap (λ pc. pc + 4 * count) at.0)
             (skips_on m.skipping (instr_ends instr).eol m.target place.target moved n at.1);
         no_error = h.no_error;
@@ -161,7 +178,8 @@ module _ (program : RiscProgram) (sound : IsSound program) where
   moves ToEol instr count m h e s d f c = passes instr count m h e (λ n. cc) d f
   moves ToSync instr count m h e s d f c = passes instr count m h e (λ n. cc) d f
 
-  executes : (instr : Instr) (count : ℕ) (m : State) (h : Follows program m) → m.job ≡ Idle → fetch program (path program h.number).pc ≡ Ok (instr, count) →
+  executes : (instr : Instr) (count : ℕ) (m : State) (h : Follows program m) → m.job ≡ Idle →
+      fetch program (path program h.number).pc ≡ Ok (instr, count) →
       instr_cause program instr (path program h.number).target ≡ None → Follows program (instr_fetched instr count m)
   executes (Jump ctl addr) count m h e f c =
       jumps _ ctl addr count m h e f
@@ -205,7 +223,8 @@ module _ (program : RiscProgram) (sound : IsSound program) where
   sees None ctl resync code m e h = h
   sees (Some seen) ctl resync code m e h = meets _ ctl resync code m e h
 
-  drops : (stray : Option Queue) (ctl : Ctl) (resync : Bool) (code : Code) (m : State) → m.job ≡ Waiting ctl resync code → Follows program m →
+  drops : (stray : Option Queue) (ctl : Ctl) (resync : Bool) (code : Code) (m : State) → m.job ≡ Waiting ctl resync code →
+      Follows program m →
       Follows program (stray_seen stray ctl resync code m)
   drops None ctl resync code m e h = sees _ ctl resync code m e h
   drops (Some q) ctl resync code m e h =
@@ -239,7 +258,8 @@ module _ (program : RiscProgram) (sound : IsSound program) where
   rest_target true moved = refl
   rest_target false moved = refl
 
-  ends : (cut : Bool) (instr : Instr) (ds : Demands) (m : State) → m.job ≡ Running instr ds → Follows program m → Follows program (ended cut instr m)
+  ends : (cut : Bool) (instr : Instr) (ds : Demands) (m : State) → m.job ≡ Running instr ds → Follows program m →
+      Follows program (ended cut instr m)
   ends true instr ds m e h = gives_up (rest_of_line instr) instr ds m e (rest_target (instr_ends instr).eol (target_moved instr m.target)) h
   ends false instr ds m e h = h
 
@@ -260,7 +280,8 @@ module _ (program : RiscProgram) (sound : IsSound program) where
               unskipped = runs.unskipped;
               within =
                   with_demand-granted program.grants q (demand_less count (demand_on q ds)) ds
-                  (demand_less-granted program.grants (demand_on q ds) count le (demand-granted program.grants q ds runs.within)) runs.within;
+                  (demand_less-granted program.grants (demand_on q ds) count le (demand-granted program.grants q ds runs.within))
+                  runs.within;
             };
         no_error = h.no_error;
       }
@@ -273,7 +294,8 @@ module _ (program : RiscProgram) (sound : IsSound program) where
   judges Discard q instr ds entry m e v h =
       record { same = h.same; number = h.number; there = h.there; no_error = ocerr-raised m.interrupts fdsr h.no_error refl }
   judges (Take count) q instr ds entry m e v h =
-      let least = (take-Takes (kind_of entry.status) (demand_on q ds).needs_sol (queue_state q m.queues).taken (demand_on q ds).rest count v).least in
+      let least =
+      (take-Takes (kind_of entry.status) (demand_on q ds).needs_sol (queue_state q m.queues).taken (demand_on q ds).rest count v).least in
       ends _ instr (with_demand q (demand_less count (demand_on q ds)) ds) (took q count instr ds entry m) refl
       (takes q count instr ds entry m e (omega arith) h)
 
@@ -284,7 +306,8 @@ module _ (program : RiscProgram) (sound : IsSound program) where
         same = h.same;
         number = suc h.number;
         there =
-            idle_at program (place_of m.pc (target_after instr m.target)) (path program (suc h.number)) m.pc m.skipping (target_after instr m.target) Idle refl
+            idle_at program (place_of m.pc (target_after instr m.target)) (path program (suc h.number)) m.pc m.skipping
+            (target_after instr m.target) Idle refl
             (after_running instr ds h.number m runs) refl
             (subst (λ skipping. TargetAt skipping (target_after instr m.target) (target_after instr m.target)) (sym runs.unskipped) refl);
         no_error = ocerr-applied (instr_ctl instr) m.interrupts ∙ h.no_error;
@@ -305,7 +328,8 @@ module _ (program : RiscProgram) (sound : IsSound program) where
 
   -- ---- the other steps
 
-  with_queues : (full : Bool) (m : State) (queues : Queues) → Follows program m → Follows program (record (with_fbus_if full m) { queues = queues })
+  with_queues : (full : Bool) (m : State) (queues : Queues) → Follows program m →
+      Follows program (record (with_fbus_if full m) { queues = queues })
   with_queues true m queues h =
       record { same = h.same; number = h.number; there = h.there; no_error = ocerr-raised m.interrupts fbus h.no_error refl }
   with_queues false m queues h = record { same = h.same; number = h.number; there = h.there; no_error = h.no_error }

@@ -1,5 +1,6 @@
 -- The fronts that a turn removes, and the bytes that it takes of one.
-use Rattle.std.proofs.Common.{◌≡◌, ℕ, zero, suc, ◌-◌, ◌≤◌, ◌⊎◌, inl, inr, min, Bool, true, false, not, List, [], ◌∷◌, Option, Some, None, IsSome, refl, arith, if◌then◌else◌, slice_index_or}
+use Rattle.std.proofs.Common.{◌≡◌, ℕ, zero, suc, ◌-◌, ◌≤◌, ◌⊎◌, inl, inr, min, Bool, true, false, not, List, [], ◌∷◌, Option, Some, None}
+use Rattle.std.proofs.Common.{IsSome, refl, arith, if◌then◌else◌, slice_index_or}
 use Rattle.risc_word.specs.declared.Code.{Code}
 use Rattle.sync_status.specs.declared.StatusKind.{StatusKind}
 use Rattle.sync_status.specs.declared.StatusKind.TheVariants.{Control, Start, Pixels, End, Reserved}
@@ -61,7 +62,8 @@ codes_there None two three seen h = cc
 
 -- ---- running
 
-pub discarded-data : (kind : StatusKind) (needs_sol : Bool) (taken rest : ℕ) → verdict_on kind needs_sol taken rest ≡ Discard → is_control kind ≡ false
+pub discarded-data : (kind : StatusKind) (needs_sol : Bool) (taken rest : ℕ) → verdict_on kind needs_sol taken rest ≡ Discard →
+    is_control kind ≡ false
 discarded-data (Control code) true taken rest h = cc
 discarded-data (Control code) false taken rest h = cc
 discarded-data Start needs_sol taken rest h = refl
@@ -74,15 +76,18 @@ pub record Takes (kind : StatusKind) (taken rest count : ℕ) : Type 0 where
   pub least : count ≡ min rest (valid_lanes kind - taken)
   pub moving : (kind ≡ Start) ⊎ ((kind ≡ Pixels) ⊎ ((valid : ℕ) × (kind ≡ End valid)))
 
-took_start : (begins : Bool) (taken rest count : ℕ) → (if begins then taken_of 4 taken rest else Discard) ≡ Take count → Takes Start taken rest count
+took_start : (begins : Bool) (taken rest count : ℕ) → (if begins then taken_of 4 taken rest else Discard) ≡ Take count →
+    Takes Start taken rest count
 took_start true taken rest count h = record { least = cc; moving = inl refl }
 took_start false taken rest count h = cc
 
-took_more : (begins : Bool) (taken rest count : ℕ) → (if begins then Missing else taken_of 4 taken rest) ≡ Take count → Takes Start taken rest count
+took_more : (begins : Bool) (taken rest count : ℕ) → (if begins then Missing else taken_of 4 taken rest) ≡ Take count →
+    Takes Start taken rest count
 took_more true taken rest count h = cc
 took_more false taken rest count h = record { least = cc; moving = inl refl }
 
-pub take-Takes : (kind : StatusKind) (needs_sol : Bool) (taken rest count : ℕ) → verdict_on kind needs_sol taken rest ≡ Take count → Takes kind taken rest count
+pub take-Takes : (kind : StatusKind) (needs_sol : Bool) (taken rest count : ℕ) → verdict_on kind needs_sol taken rest ≡ Take count →
+    Takes kind taken rest count
 take-Takes (Control code) true taken rest count h = cc
 take-Takes (Control code) false taken rest count h = cc
 take-Takes Start true taken rest count h = took_start _ taken rest count h
@@ -113,7 +118,8 @@ ends_kinds : all_ends kinds
 unfolding ends_some all_ends
 ends_kinds = search arith
 
-takes_some : (kind : StatusKind) → ends_some kind → (kind ≡ Start) ⊎ ((kind ≡ Pixels) ⊎ ((valid : ℕ) × (kind ≡ End valid))) → 1 ≤ valid_lanes kind
+takes_some : (kind : StatusKind) → ends_some kind → (kind ≡ Start) ⊎ ((kind ≡ Pixels) ⊎ ((valid : ℕ) × (kind ≡ End valid))) →
+    1 ≤ valid_lanes kind
 unfolding ends_some
 takes_some Start e h = omega arith
 takes_some Pixels e h = omega arith

@@ -1,13 +1,16 @@
 -- A program of one span is its base and its words: what is at an address, what is fetched there, and that it can be made.
-use Rattle.std.proofs.Common.{◌≡◌, ℕ, zero, suc, ◌+◌, ◌-◌, ◌*◌, ◌/◌, ◌%◌, ◌^◌, ◌<◌, ◌≤◌, ⊎_elim, max, min, Bool, true, false, ◌&&◌, ◌||◌, List, [], ◌∷◌, length, take, drop, All, Some, None, refl, sym, ap, ◌∙◌, arith}
-use Rattle.std.proofs.Common.{if◌then◌else◌, ◌==◌, nat_lt, nat_le, slice_index, append-nil, lt-ltb, le-leb, eq-eqb, leb-true, eqb-true, ltb-true}
+use Rattle.std.proofs.Common.{◌≡◌, ℕ, zero, suc, ◌+◌, ◌-◌, ◌*◌, ◌/◌, ◌%◌, ◌^◌, ◌<◌, ◌≤◌, ⊎_elim, max, min, Bool, true, false, ◌&&◌, ◌||◌}
+use Rattle.std.proofs.Common.{List, [], ◌∷◌, length, take, drop, All, Some, None, refl, sym, ap, ◌∙◌, arith}
+use Rattle.std.proofs.Common.{if◌then◌else◌, ◌==◌, nat_lt, nat_le, slice_index, append-nil, lt-ltb, le-leb, eq-eqb, leb-true, eqb-true}
+use Rattle.std.proofs.Common.{ltb-true}
 use Rattle.std.specs.List.{list_any}
 use Rattle.std.proofs.Math.Bool.{or-false}
 use Rattle.std.proofs.lemmas.Bool.{cases_lt}
 use Rattle.std.proofs.lemmas.List.{drop_more}
 use Rattle.risc_word.specs.Words.{first_instr, instr_at}
 use Rattle.page_table.specs.Grants.{Chunk, AreGrants, is_met}
-use Rattle.machine_model.specs.Paths.{RiscProgram, Span, IsProgram, AreApart, BeginsAtWord, span, spans_of, one_span, all_words, word_at, words_from, is_word, is_there, fetch, stands_in, shares_byte, max_words}
+use Rattle.machine_model.specs.Paths.{RiscProgram, Span, IsProgram, AreApart, BeginsAtWord, span, spans_of, one_span, all_words, word_at}
+use Rattle.machine_model.specs.Paths.{words_from, is_word, is_there, fetch, stands_in, shares_byte, max_words}
 use Rattle.machine_model.proofs.BeforeTurns.{three_from, three_parts}
 
 -- no instruction has more than five words
@@ -77,13 +80,19 @@ module _ (base : ℕ) where
       ⊎_elim
       (λ inside.
       let next : base + 4 * n + 4 ≡ base + 4 * (n + 1) = omega arith in
-      ap (λ word. elim word as (λ _. List ℕ) [ None ↦ [] | Some word ↦ word ∷ words_from count (one_span base words grants) (base + 4 * n + 4) ])
+      ap (λ word. elim word as (λ _. List ℕ) [
+        | None ↦ []
+        | Some word ↦ word ∷ words_from count (one_span base words grants) (base + 4 * n + 4)
+      ])
       (word_at-one_span n words grants inside)
       ∙ ap (λ at. slice_index words n ∷ words_from count (one_span base words grants) at) next
       ∙ ap (λ rest. slice_index words n ∷ rest) (words_from-one_span count (n + 1) words grants)
       ∙ sym (ap (take (suc count)) (drop_more words n 0 inside)))
       (λ behind.
-      ap (λ word. elim word as (λ _. List ℕ) [ None ↦ [] | Some word ↦ word ∷ words_from count (one_span base words grants) (base + 4 * n + 4) ])
+      ap (λ word. elim word as (λ _. List ℕ) [
+        | None ↦ []
+        | Some word ↦ word ∷ words_from count (one_span base words grants) (base + 4 * n + 4)
+      ])
       (word_at-behind n words grants behind)
       ∙ sym (ap (take (suc count)) (none_left n words behind)))
       (cases_lt n (length words))
@@ -115,9 +124,11 @@ begins base (word ∷ words) grants =
     ap (λ address. is_there (word_at (one_span base (word ∷ words) grants) address)) (sym first)
     ∙ ap is_there (word_at-one_span base 0 (word ∷ words) grants (omega arith))
 
-stands_apart : (base : ℕ) (words : List ℕ) → base % 4 ≡ 0 → base + 4 * length words ≤ 2 ^ 32 → All (λ word. word < 2 ^ 32) words → AreApart 0 (spans_of base words)
+stands_apart : (base : ℕ) (words : List ℕ) → base % 4 ≡ 0 → base + 4 * length words ≤ 2 ^ 32 → All (λ word. word < 2 ^ 32) words →
+    AreApart 0 (spans_of base words)
 stands_apart base [] aligned ends fit = tt
-stands_apart base (word ∷ words) aligned ends fit = (omega arith, record { aligned = aligned; some = omega arith; ends = ends; fit = fit }, tt)
+stands_apart base (word ∷ words) aligned ends fit =
+    (omega arith, record { aligned = aligned; some = omega arith; ends = ends; fit = fit }, tt)
 
 one_at_most : (base : ℕ) (words : List ℕ) → length (spans_of base words) ≤ 1
 one_at_most base [] = omega arith
@@ -142,7 +153,8 @@ one_span-made base words grants aligned low few ends fit made apart =
     }
 
 -- a program whose words are one after another from its base on is the one of these words
-spans_alike : (program : RiscProgram) (words : List ℕ) → program.spans ≡ spans_of program.base words → program ≡ one_span program.base words program.grants
+spans_alike : (program : RiscProgram) (words : List ℕ) → program.spans ≡ spans_of program.base words →
+    program ≡ one_span program.base words program.grants
 spans_alike program words spelled = ap (λ (spans : List Span). record program { spans = spans }) spelled
 
 -- each of them is where its number puts it
@@ -168,9 +180,11 @@ pub is_word-there : (program : RiscProgram) (words : List ℕ) (address : ℕ) �
     is_word program address
     ≡ (nat_le program.base address && (address - program.base) % 4 == 0 && nat_lt ((address - program.base) / 4) (length words))
 is_word-there program words address spelled =
-    ap (λ (p : RiscProgram). is_word p address) (spans_alike program words spelled) ∙ is_word-one_span program.base words program.grants address
+    ap (λ (p : RiscProgram). is_word p address) (spans_alike program words spelled)
+    ∙ is_word-one_span program.base words program.grants address
 
-pub stands_among : (program : RiscProgram) (words : List ℕ) (address : ℕ) → program.spans ≡ spans_of program.base words → is_word program address ≡ true →
+pub stands_among : (program : RiscProgram) (words : List ℕ) (address : ℕ) → program.spans ≡ spans_of program.base words →
+    is_word program address ≡ true →
     StandsAmong program.base words address
 stands_among program words address spelled h =
     let parts =

@@ -1,5 +1,6 @@
 -- Every step keeps what every program keeps.
-use Rattle.std.proofs.Common.{◌≡◌, ℕ, zero, suc, ◌*◌, ◌^◌, ◌<◌, ◌≤◌, Bool, true, false, ◌⊎◌, Option, Some, None, Ok, Err, IsTrue, refl, sym, pow_pos, ap, subst, ◌∙◌, arith, ◌==◌}
+use Rattle.std.proofs.Common.{◌≡◌, ℕ, zero, suc, ◌*◌, ◌^◌, ◌<◌, ◌≤◌, Bool, true, false, ◌⊎◌, Option, Some, None, Ok, Err, IsTrue, refl, sym}
+use Rattle.std.proofs.Common.{pow_pos, ap, subst, ◌∙◌, arith, ◌==◌}
 use Rattle.risc_word.specs.declared.Code.{Code}
 use Rattle.risc_word.specs.declared.Ctl.{Ctl}
 use Rattle.risc_word.specs.declared.Instr.{Instr}
@@ -10,9 +11,11 @@ use Rattle.sync_status.specs.declared.Verdict.TheVariants.{Take, Discard, Broken
 use Rattle.sync_status.specs.Statuses.{kind_of, valid_bytes, is_control}
 use Rattle.fifo_model.specs.declared.Entry.{Entry}
 use Rattle.fifo_model.specs.declared.Queue.{Queue}
-use Rattle.fifo_model.specs.Queues.{QueueState, Queues, pushed, control_pushed, queue_state, front, front_code, front_valid, valid_of, front_code_of, IsFifo, is_full, some_full}
+use Rattle.fifo_model.specs.Queues.{QueueState, Queues, pushed, control_pushed, queue_state, front, front_code, front_valid, valid_of}
+use Rattle.fifo_model.specs.Queues.{front_code_of, IsFifo, is_full, some_full}
 use Rattle.fifo_model.proofs.Codes.{code-data}
-use Rattle.fifo_model.proofs.ChangesKeepQueues.{IsQueue-queue_state, IsFifo-empty, IsFifo-pushed, IsFifo-control_pushed, IsFifo-taken_from, IsFifo-removed, IsFifo-all_removed, IsFifo-cleared}
+use Rattle.fifo_model.proofs.ChangesKeepQueues.{IsQueue-queue_state, IsFifo-empty, IsFifo-pushed, IsFifo-control_pushed, IsFifo-taken_from}
+use Rattle.fifo_model.proofs.ChangesKeepQueues.{IsFifo-removed, IsFifo-all_removed, IsFifo-cleared}
 use Rattle.irq_status.specs.declared.HostWrite.{HostWrite}
 use Rattle.irq_status.specs.declared.HostWrite.TheVariants.{Ack, Enable, Trigger}
 use Rattle.machine_model.specs.declared.Cause.{Cause}
@@ -23,9 +26,11 @@ use Rattle.machine_model.specs.declared.Skipping.TheVariants.{Nothing, ToEol, To
 use Rattle.machine_model.specs.Paths.{RiscProgram, fetch, is_data, target_after}
 use Rattle.risc_word.specs.Parts.{instr_ends}
 use Rattle.machine_model.specs.States.{State, first_state}
-use Rattle.machine_model.specs.Turns.{halted, jumped, skipping_after, passed, begun_with, data_fetched, instr_fetched, fetched, lowest_stray, common_code, with_fdsr_unless, without_codes, met}
+use Rattle.machine_model.specs.Turns.{halted, jumped, skipping_after, passed, begun_with, data_fetched, instr_fetched, fetched}
+use Rattle.machine_model.specs.Turns.{lowest_stray, common_code, with_fdsr_unless, without_codes, met}
 use Rattle.machine_model.specs.Turns.{code_seen, stray_seen, rest_of_line, demand_on, verdict_at, took, ended, judged, retired, turn}
-use Rattle.machine_model.specs.Steps.{Step, Push, Control, Turn, Host, with_fbus_if, push_if, push, push_control_if, push_control, with_fifo, with_risc, host, step, with_program}
+use Rattle.machine_model.specs.Steps.{Step, Push, Control, Turn, Host, with_fbus_if, push_if, push, push_control_if, push_control}
+use Rattle.machine_model.specs.Steps.{with_fifo, with_risc, host, step, with_program}
 use Rattle.machine_model.specs.Safety.{NoTargetIn, JobFits, IsOrderly, IsStep}
 use Rattle.machine_model.proofs.Fronts.{front-stray, codes_there, discarded-data, Takes, take-Takes, valid-some}
 use Rattle.machine_model.proofs.Turning.{IsKept, turn-kept}
@@ -59,7 +64,8 @@ begins (Some cause) instr count target m e s d h =
     }
 begins None instr count target m e s d h = record { job = (s, d); queues = h.queues; triggered = h.triggered }
 
-skips_on : (skipping : Skipping) (eol : Bool) (target : Option ℕ) → NoTargetIn skipping target → NoTargetIn (skipping_after skipping eol) target
+skips_on : (skipping : Skipping) (eol : Bool) (target : Option ℕ) → NoTargetIn skipping target →
+    NoTargetIn (skipping_after skipping eol) target
 skips_on Nothing eol target h = tt
 skips_on ToEol true target h = tt
 skips_on ToEol false target h = h
@@ -117,7 +123,8 @@ drops : (stray : Option Queue) (ctl : Ctl) (resync : Bool) (code : Code) (m : St
     m.job ≡ Waiting ctl resync code → IsOrderly m → IsOrderly (stray_seen stray ctl resync code m)
 drops None ctl resync code m s e h = sees _ ctl resync code m refl e h
 drops (Some q) ctl resync code m s e h =
-    signals resync _ (record { job = h.job; queues = IsFifo-removed q m.queues (front-stray q m.queues s) h.queues; triggered = h.triggered })
+    signals resync _
+    (record { job = h.job; queues = IsFifo-removed q m.queues (front-stray q m.queues s) h.queues; triggered = h.triggered })
 
 ends : (cut : Bool) (instr : Instr) (m : State) → IsOrderly m → IsOrderly (ended cut instr m)
 ends true instr m h = record { job = no_target (rest_of_line instr); queues = h.queues; triggered = h.triggered }
@@ -131,7 +138,8 @@ enough : (taken valid : ℕ) → (taken ≡ 0) ⊎ (taken < valid) → 1 ≤ val
 enough taken valid part some = omega arith
 
 takes : (q : Queue) (count : ℕ) (instr : Instr) (ds : Demands) (entry : Entry) (m : State) → m.job ≡ Running instr ds →
-    front (queue_state q m.queues) ≡ Some entry → ((demand_on q ds).rest == 0) ≡ false → verdict_at q ds entry m ≡ Take count → IsOrderly m →
+    front (queue_state q m.queues) ≡ Some entry → ((demand_on q ds).rest == 0) ≡ false → verdict_at q ds entry m ≡ Take count →
+    IsOrderly m →
     IsOrderly (took q count instr ds entry m)
 takes q count instr ds entry m e f n v h =
     let held : QueueState = queue_state q m.queues in
@@ -160,7 +168,11 @@ judges (Take count) q instr ds entry m e f n v h = ends _ instr _ (takes q count
 retires : (instr : Instr) (ds : Demands) (m : State) → m.job ≡ Running instr ds → IsOrderly m → IsOrderly (retired instr m)
 retires instr ds m e h =
     let fits : JobFits m.skipping m.target (Running instr ds) = subst (λ job. JobFits m.skipping m.target job) e h.job in
-    record { job = subst (λ skipping. NoTargetIn skipping (target_after instr m.target)) (sym fits.0) tt; queues = h.queues; triggered = h.triggered }
+    record {
+      job = subst (λ skipping. NoTargetIn skipping (target_after instr m.target)) (sym fits.0) tt;
+      queues = h.queues;
+      triggered = h.triggered;
+    }
 
 orderly : IsKept IsOrderly
 orderly =
@@ -177,15 +189,19 @@ IsOrderly-turn m h = turn-kept IsOrderly orderly m h
 
 -- ---- the other steps
 
-with_queues : (full : Bool) (m : State) (queues : Queues) → IsFifo queues → IsOrderly m → IsOrderly (record (with_fbus_if full m) { queues = queues })
+with_queues : (full : Bool) (m : State) (queues : Queues) → IsFifo queues → IsOrderly m →
+    IsOrderly (record (with_fbus_if full m) { queues = queues })
 with_queues true m queues f h = record { job = h.job; queues = f; triggered = h.triggered }
 with_queues false m queues f h = record { job = h.job; queues = f; triggered = h.triggered }
 
-pushes : (on : Bool) (q : Queue) (entry : Entry) (m : State) → is_control (kind_of entry.status) ≡ false → IsOrderly m → IsOrderly (push_if on q entry m)
-pushes true q entry m n h = with_queues (is_full (queue_state q m.queues)) m (pushed q entry m.queues) (IsFifo-pushed q entry m.queues n h.queues) h
+pushes : (on : Bool) (q : Queue) (entry : Entry) (m : State) → is_control (kind_of entry.status) ≡ false → IsOrderly m →
+    IsOrderly (push_if on q entry m)
+pushes true q entry m n h =
+    with_queues (is_full (queue_state q m.queues)) m (pushed q entry m.queues) (IsFifo-pushed q entry m.queues n h.queues) h
 pushes false q entry m n h = h
 
-pub IsOrderly-push : (q : Queue) (entry : Entry) (m : State) → is_control (kind_of entry.status) ≡ false → IsOrderly m → IsOrderly (push q entry m)
+pub IsOrderly-push : (q : Queue) (entry : Entry) (m : State) → is_control (kind_of entry.status) ≡ false → IsOrderly m →
+    IsOrderly (push q entry m)
 IsOrderly-push q entry m n h = pushes m.fifo_on q entry m n h
 
 controls : (on : Bool) (code : Code) (m : State) → IsOrderly m → IsOrderly (push_control_if on code m)

@@ -1,12 +1,14 @@
 -- The places of a sound program's path: an instruction is at each, and the next place is the one after it.
-use Rattle.std.proofs.Common.{◌≡◌, ℕ, suc, ◌+◌, ◌*◌, Bool, true, false, Option, Some, None, Ok, Err, IsTrue, refl, sym, ap, ◌∙◌, if◌then◌else◌}
+use Rattle.std.proofs.Common.{◌≡◌, ℕ, suc, ◌+◌, ◌*◌, Bool, true, false, Option, Some, None, Ok, Err, IsTrue, refl, sym, ap, ◌∙◌}
+use Rattle.std.proofs.Common.{if◌then◌else◌}
 use Rattle.risc_word.specs.declared.Ctl.{Ctl}
 use Rattle.risc_word.specs.declared.Instr.{Instr}
 use Rattle.risc_word.specs.declared.Instr.TheVariants.{Jump, Sync}
 use Rattle.risc_word.specs.Words.{Reading}
 use Rattle.machine_model.specs.declared.Cause.{Cause}
 use Rattle.machine_model.specs.declared.Cause.TheVariants.{JumpOut}
-use Rattle.machine_model.specs.Paths.{RiscProgram, Place, is_word, fetch, is_data, instr_cause, data_cause, first_cause, target_before, target_after, reading_cause, place_after, place_read, next_by, path, IsSound}
+use Rattle.machine_model.specs.Paths.{RiscProgram, Place, is_word, fetch, is_data, instr_cause, data_cause, first_cause, target_before}
+use Rattle.machine_model.specs.Paths.{target_after, reading_cause, place_after, place_read, next_by, path, IsSound}
 
 -- an instruction that is somewhere and is fine with this target
 pub record IsFine (program : RiscProgram) (target : Option ℕ) (reading : Reading) : Type 0 where
@@ -15,7 +17,8 @@ pub record IsFine (program : RiscProgram) (target : Option ℕ) (reading : Readi
   pub stands : reading ≡ Ok (instr, length_in_words)
   pub fine : instr_cause program instr target ≡ None
 
-reading-IsFine : (program : RiscProgram) (target : Option ℕ) (reading : Reading) → reading_cause program target reading ≡ None → IsFine program target reading
+reading-IsFine : (program : RiscProgram) (target : Option ℕ) (reading : Reading) → reading_cause program target reading ≡ None →
+    IsFine program target reading
 reading-IsFine program target (Err fault) h = cc
 reading-IsFine program target (Ok (instr, count)) h = record { instr = instr; length_in_words = count; stands = refl; fine = h }
 
@@ -48,7 +51,8 @@ pub inside_if : (inside : Bool) (addr : ℕ) → (if inside then None else Some 
 inside_if true addr h = refl
 inside_if false addr h = cc
 
-pub jump-is_word : (program : RiscProgram) (ctl : Ctl) (addr : ℕ) (target : Option ℕ) → instr_cause program (Jump ctl addr) target ≡ None → is_word program addr ≡ true
+pub jump-is_word : (program : RiscProgram) (ctl : Ctl) (addr : ℕ) (target : Option ℕ) → instr_cause program (Jump ctl addr) target ≡ None →
+    is_word program addr ≡ true
 jump-is_word program ctl addr target h = inside_if (is_word program addr) addr h
 
 pub first-none : (one two : Option Cause) → first_cause one two ≡ None → (one ≡ None) × (two ≡ None)

@@ -20,8 +20,10 @@ use Rattle.machine_model.specs.declared.Skipping.{Skipping}
 use Rattle.machine_model.specs.declared.Skipping.TheVariants.{Nothing, ToEol, ToSync}
 use Rattle.machine_model.specs.Paths.{RiscProgram, fetch}
 use Rattle.machine_model.specs.States.{State}
-use Rattle.machine_model.specs.Turns.{stores_of, demand_on, jumped, begun_with, data_fetched, instr_fetched, fetched, with_fdsr_unless, met, code_seen, stray_seen, took, ended, judged, turn}
-use Rattle.machine_model.specs.Steps.{Step, Push, Control, Turn, Host, with_fbus_if, push_if, push_control_if, with_fifo, with_risc, host, step}
+use Rattle.machine_model.specs.Turns.{stores_of, demand_on, jumped, begun_with, data_fetched, instr_fetched, fetched, with_fdsr_unless, met}
+use Rattle.machine_model.specs.Turns.{code_seen, stray_seen, took, ended, judged, turn}
+use Rattle.machine_model.specs.Steps.{Step, Push, Control, Turn, Host, with_fbus_if, push_if, push_control_if, with_fifo, with_risc, host}
+use Rattle.machine_model.specs.Steps.{step}
 use Rattle.machine_model.proofs.Memory.{chunks-stored_all}
 use Rattle.machine_model.proofs.Turning.{IsKept, turn-kept}
 
@@ -40,7 +42,8 @@ module _ (program : RiscProgram) (chunks : List Chunk) where
   begins (Some cause) instr count target m h = record { same = h.same; there = h.there }
   begins None instr count target m h = record { same = h.same; there = h.there }
 
-  moves : (skipping : Skipping) (instr : Instr) (count : ℕ) (m : State) → Over program chunks m → Over program chunks (data_fetched skipping instr count m)
+  moves : (skipping : Skipping) (instr : Instr) (count : ℕ) (m : State) → Over program chunks m →
+      Over program chunks (data_fetched skipping instr count m)
   moves Nothing instr count m h = begins _ instr count _ m h
   moves ToEol instr count m h = record { same = h.same; there = h.there }
   moves ToSync instr count m h = record { same = h.same; there = h.there }
@@ -62,11 +65,13 @@ module _ (program : RiscProgram) (chunks : List Chunk) where
   meets true ctl resync m h = record { same = h.same; there = h.there }
   meets false ctl resync m h = signals resync _ (record { same = h.same; there = h.there })
 
-  sees : (seen : Option Code) (ctl : Ctl) (resync : Bool) (code : Code) (m : State) → Over program chunks m → Over program chunks (code_seen seen ctl resync code m)
+  sees : (seen : Option Code) (ctl : Ctl) (resync : Bool) (code : Code) (m : State) → Over program chunks m →
+      Over program chunks (code_seen seen ctl resync code m)
   sees None ctl resync code m h = h
   sees (Some seen) ctl resync code m h = meets _ ctl resync m h
 
-  drops : (stray : Option Queue) (ctl : Ctl) (resync : Bool) (code : Code) (m : State) → Over program chunks m → Over program chunks (stray_seen stray ctl resync code m)
+  drops : (stray : Option Queue) (ctl : Ctl) (resync : Bool) (code : Code) (m : State) → Over program chunks m →
+      Over program chunks (stray_seen stray ctl resync code m)
   drops None ctl resync code m h = sees _ ctl resync code m h
   drops (Some q) ctl resync code m h = signals resync _ (record { same = h.same; there = h.there })
 
@@ -74,9 +79,13 @@ module _ (program : RiscProgram) (chunks : List Chunk) where
   ends true instr m h = record { same = h.same; there = h.there }
   ends false instr m h = h
 
-  takes : (q : Queue) (count : ℕ) (instr : Instr) (ds : Demands) (entry : Entry) (m : State) → Over program chunks m → Over program chunks (took q count instr ds entry m)
+  takes : (q : Queue) (count : ℕ) (instr : Instr) (ds : Demands) (entry : Entry) (m : State) → Over program chunks m →
+      Over program chunks (took q count instr ds entry m)
   takes q count instr ds entry m h =
-      record { same = h.same; there = chunks-stored_all m.memory (stores_of instr (demand_on q ds) entry (queue_state q m.queues).taken count) ∙ h.there }
+      record {
+        same = h.same;
+        there = chunks-stored_all m.memory (stores_of instr (demand_on q ds) entry (queue_state q m.queues).taken count) ∙ h.there;
+      }
 
   judges : (verdict : Verdict) (q : Queue) (instr : Instr) (ds : Demands) (entry : Entry) (m : State) → Over program chunks m →
       Over program chunks (judged verdict q instr ds entry m)

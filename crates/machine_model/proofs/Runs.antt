@@ -35,7 +35,8 @@ run-append m [] second = refl
 run-append m (s ∷ first) second = run-append (step s m) first second
 
 -- at every place of a run from a safe state, and from the first
-pub IsInside-run : (m : State) (steps : List Step) (number : ℕ) → IsSound m.program → IsSafe m → All IsStep steps → IsInside m.program (state_at m steps number)
+pub IsInside-run : (m : State) (steps : List Step) (number : ℕ) → IsSound m.program → IsSafe m → All IsStep steps →
+    IsInside m.program (state_at m steps number)
 IsInside-run m steps number sound h are =
     let same = program-run m (take number steps) in
     let safe = IsSafe-run m (take number steps) (All-take IsStep number steps are) sound h in
@@ -52,7 +53,8 @@ IsInside-first_state program fill steps number sound are =
     IsInside-run (first_state program fill) steps number sound (IsSafe-first_state program fill) are
 
 -- each step meets a program of its own
-pub IsOrderly-run_in : (m : State) (steps : List (RiscProgram × Step)) → All (λ met. IsStep met.1) steps → IsOrderly m → IsOrderly (run_in m steps)
+pub IsOrderly-run_in : (m : State) (steps : List (RiscProgram × Step)) → All (λ met. IsStep met.1) steps → IsOrderly m →
+    IsOrderly (run_in m steps)
 IsOrderly-run_in m [] are h = h
 IsOrderly-run_in m (s ∷ steps) are h =
     IsOrderly-run_in (step s.1 (with_program s.0 m)) steps (All-tail (λ met. IsStep met.1) s steps are)

@@ -1,5 +1,6 @@
 -- A turn is the same beside another program that is read alike, another INT_STAT and another count of turns.
-use Rattle.std.proofs.Common.{◌≡◌, ℕ, zero, suc, Bool, true, false, ◌||◌, Option, Some, None, Ok, Err, option_map, refl, sym, ap, ◌∙◌, if◌then◌else◌, ◌==◌}
+use Rattle.std.proofs.Common.{◌≡◌, ℕ, zero, suc, Bool, true, false, ◌||◌, Option, Some, None, Ok, Err, option_map, refl, sym, ap, ◌∙◌}
+use Rattle.std.proofs.Common.{if◌then◌else◌, ◌==◌}
 use Rattle.std.proofs.Math.Bool.{or-false, or-true, or_assoc}
 use Rattle.risc_word.specs.declared.Code.{Code}
 use Rattle.risc_word.specs.declared.Ctl.{Ctl}
@@ -22,8 +23,10 @@ use Rattle.machine_model.specs.declared.Skipping.TheVariants.{Nothing, ToEol, To
 use Rattle.machine_model.specs.Paths.{RiscProgram, is_word, fetch, target_before, data_cause}
 use Rattle.risc_word.specs.Parts.{instr_ctl}
 use Rattle.machine_model.specs.States.{State}
-use Rattle.machine_model.specs.Turns.{with_interrupts, sets_fdsr, jumped, begun_with, data_fetched, instr_fetched, fetched, with_fdsr_unless, met, code_seen, common_code, stray_seen, lowest_stray}
-use Rattle.machine_model.specs.Turns.{demand_on, ended, took, with_queue, is_cut_short, judged, verdict_at, served, apply_in, apply, burst, lowest_served, burst_of, is_done, ran, worked, turn_if}
+use Rattle.machine_model.specs.Turns.{with_interrupts, sets_fdsr, jumped, begun_with, data_fetched, instr_fetched, fetched}
+use Rattle.machine_model.specs.Turns.{with_fdsr_unless, met, code_seen, common_code, stray_seen, lowest_stray}
+use Rattle.machine_model.specs.Turns.{demand_on, ended, took, with_queue, is_cut_short, judged, verdict_at, served, apply_in, apply, burst}
+use Rattle.machine_model.specs.Turns.{lowest_served, burst_of, is_done, ran, worked, turn_if}
 use Rattle.machine_model.specs.Turns.{turn}
 use Rattle.machine_model.specs.Steps.{with_program}
 use Rattle.machine_model.specs.Accesses.{AreFetchedAlike}
@@ -37,7 +40,8 @@ beside program register count m = record m { program = program; interrupts = reg
 record ActsAlike (Fits : RiscProgram → Type 0) (acted : RiscProgram → ℕ → ℕ → State) (made : State) : Type 0 where
   change : ℕ → ℕ
   sets : Bool
-  alike : (program : RiscProgram) → Fits program → (register count : ℕ) → acted program register count ≡ beside program (change register) count made
+  alike : (program : RiscProgram) → Fits program → (register count : ℕ) →
+      acted program register count ≡ beside program (change register) count made
   fdsr_after : (register : ℕ) → has fdsr (change register) ≡ (has fdsr register || sets)
 
 -- the same of one application, if there is one
@@ -51,27 +55,37 @@ record AppliesAlike (Fits : RiscProgram → Type 0) (applied_to : RiscProgram �
 module _ (Fits : RiscProgram → Type 0) where
   -- the four changes: none, FDSR, OCERR, and control bits
   stays : (acted : RiscProgram → ℕ → ℕ → State) (made : State) →
-      ((program : RiscProgram) → Fits program → (register count : ℕ) → acted program register count ≡ beside program register count made) → ActsAlike Fits acted made
+      ((program : RiscProgram) → Fits program → (register count : ℕ) → acted program register count ≡ beside program register count made) →
+      ActsAlike Fits acted made
   stays acted made alike = record { change = λ r. r; sets = false; alike = alike; fdsr_after = λ r. sym (or-false (has fdsr r)) }
 
   signals : (acted : RiscProgram → ℕ → ℕ → State) (made : State) →
-      ((program : RiscProgram) → Fits program → (register count : ℕ) → acted program register count ≡ beside program (raised register fdsr) count made) → ActsAlike Fits acted made
+      ((program : RiscProgram) → Fits program → (register count : ℕ) →
+      acted program register count ≡ beside program (raised register fdsr) count made) → ActsAlike Fits acted made
   signals acted made alike =
       record { change = λ r. raised r fdsr; sets = true; alike = alike; fdsr_after = λ r. fdsr-raised_fdsr r ∙ sym (or-true (has fdsr r)) }
 
   halts : (acted : RiscProgram → ℕ → ℕ → State) (made : State) →
-      ((program : RiscProgram) → Fits program → (register count : ℕ) → acted program register count ≡ beside program (raised register ocerr) count made) → ActsAlike Fits acted made
+      ((program : RiscProgram) → Fits program → (register count : ℕ) →
+      acted program register count ≡ beside program (raised register ocerr) count made) → ActsAlike Fits acted made
   halts acted made alike =
-      record { change = λ r. raised r ocerr; sets = false; alike = alike; fdsr_after = λ r. fdsr-raised_ocerr r ∙ sym (or-false (has fdsr r)) }
+      record {
+        change = λ r. raised r ocerr;
+        sets = false;
+        alike = alike;
+        fdsr_after = λ r. fdsr-raised_ocerr r ∙ sym (or-false (has fdsr r));
+      }
 
   applies : (ctl : Ctl) (acted : RiscProgram → ℕ → ℕ → State) (made : State) →
-      ((program : RiscProgram) → Fits program → (register count : ℕ) → acted program register count ≡ beside program (applied ctl register) count made) → ActsAlike Fits acted made
+      ((program : RiscProgram) → Fits program → (register count : ℕ) →
+      acted program register count ≡ beside program (applied ctl register) count made) → ActsAlike Fits acted made
   applies ctl acted made alike =
       record { change = applied ctl; sets = false; alike = alike; fdsr_after = λ r. fdsr-applied ctl r ∙ sym (or-false (has fdsr r)) }
 
   -- ---- fetching
 
-  jumps : (inside : Bool) (ctl : Ctl) (addr : ℕ) (m : State) → ActsAlike Fits (λ p r t. jumped inside ctl addr (beside p r t m)) (jumped inside ctl addr m)
+  jumps : (inside : Bool) (ctl : Ctl) (addr : ℕ) (m : State) →
+      ActsAlike Fits (λ p r t. jumped inside ctl addr (beside p r t m)) (jumped inside ctl addr m)
   jumps true ctl addr m = applies ctl _ _ (λ p f r t. refl)
   jumps false ctl addr m = halts _ _ (λ p f r t. refl)
 
@@ -94,15 +108,18 @@ module _ (Fits : RiscProgram → Type 0) where
       }
 
   module _ (m : State) (alike : (program : RiscProgram) → Fits program → AreFetchedAlike m.pc m.program program) where
-    moves : (skipping : Skipping) (instr : Instr) (count : ℕ) → ActsAlike Fits (λ p r t. data_fetched skipping instr count (beside p r t m)) (data_fetched skipping instr count m)
+    moves : (skipping : Skipping) (instr : Instr) (count : ℕ) →
+        ActsAlike Fits (λ p r t. data_fetched skipping instr count (beside p r t m)) (data_fetched skipping instr count m)
     moves Nothing instr count =
         let target : Option ℕ = target_before instr m.target in
-        by_choice (λ p. data_cause p.grants instr target) (data_cause m.program.grants instr target) (λ c. begun_with c instr count target) m
+        by_choice (λ p. data_cause p.grants instr target) (data_cause m.program.grants instr target)
+        (λ c. begun_with c instr count target) m
         (λ p f. ap (λ grants. data_cause grants instr target) (sym (alike p f).grants)) (begins _ instr count target m)
     moves ToEol instr count = stays _ _ (λ p f r t. refl)
     moves ToSync instr count = stays _ _ (λ p f r t. refl)
 
-    executes : (instr : Instr) (count : ℕ) → ActsAlike Fits (λ p r t. instr_fetched instr count (beside p r t m)) (instr_fetched instr count m)
+    executes : (instr : Instr) (count : ℕ) →
+        ActsAlike Fits (λ p r t. instr_fetched instr count (beside p r t m)) (instr_fetched instr count m)
     executes (Jump ctl addr) count =
         by_choice (λ p. is_word p addr) (is_word m.program addr) (λ inside. jumped inside ctl addr) m
         (λ p f. sym ((alike p f).words addr)) (jumps _ ctl addr m)
@@ -122,7 +139,8 @@ module _ (Fits : RiscProgram → Type 0) where
   drops true m = stays _ _ (λ p f r t. refl)
   drops false m = signals _ _ (λ p f r t. refl)
 
-  meets : (awaited : Bool) (ctl : Ctl) (resync : Bool) (m : State) → ActsAlike Fits (λ p r t. met awaited ctl resync (beside p r t m)) (met awaited ctl resync m)
+  meets : (awaited : Bool) (ctl : Ctl) (resync : Bool) (m : State) →
+      ActsAlike Fits (λ p r t. met awaited ctl resync (beside p r t m)) (met awaited ctl resync m)
   meets true ctl resync m = applies ctl _ _ (λ p f r t. refl)
   meets false ctl resync m = drops resync (record m { queues = all_removed m.queues })
 
@@ -151,7 +169,8 @@ module _ (Fits : RiscProgram → Type 0) where
       ends (is_cut_short entry (queue_state q m.queues).taken count (demand_on q ds).rest) instr (took q count instr ds entry m)
 
   none_applied : (applied_to : RiscProgram → ℕ → ℕ → Option State) →
-      ((program : RiscProgram) → Fits program → (register count : ℕ) → applied_to program register count ≡ None) → AppliesAlike Fits applied_to None
+      ((program : RiscProgram) → Fits program → (register count : ℕ) → applied_to program register count ≡ None) →
+      AppliesAlike Fits applied_to None
   none_applied applied_to none = record { change = λ r. r; sets = false; alike = none; fdsr_after = λ r. sym (or-false (has fdsr r)) }
 
   asks : (none : Bool) (acted : RiscProgram → ℕ → ℕ → State) (made : State) → ActsAlike Fits acted made →
@@ -175,16 +194,19 @@ module _ (Fits : RiscProgram → Type 0) where
   -- one act after another
   continued : (count : ℕ) (q : Queue) (m : State) (next : Option State) → AppliesAlike Fits (λ p r t. apply q (beside p r t m)) next →
       ((after : State) → ActsAlike Fits (λ p r t. burst count q (beside p r t after)) (burst count q after)) →
-      ActsAlike Fits (λ p r t. burst (suc count) q (beside p r t m)) (elim next as (λ _. State) [ None ↦ m | Some after ↦ burst count q after ])
+      ActsAlike Fits (λ p r t. burst (suc count) q (beside p r t m))
+      (elim next as (λ _. State) [ None ↦ m | Some after ↦ burst count q after ])
   continued count q m None one rest =
-      stays _ _ (λ p f r t. ap (λ next. elim next as (λ _. State) [ None ↦ beside p r t m | Some after ↦ burst count q after ]) (one.alike p f r t))
+      stays _ _
+      (λ p f r t. ap (λ next. elim next as (λ _. State) [ None ↦ beside p r t m | Some after ↦ burst count q after ]) (one.alike p f r t))
   continued count q m (Some after) one rest =
       let more : ActsAlike Fits (λ p r t. burst count q (beside p r t after)) (burst count q after) = rest after in
       record {
         change = λ r. more.change (one.change r);
         sets = one.sets || more.sets;
         alike =
-            λ p f r t. ap (λ next. elim next as (λ _. State) [ None ↦ beside p r t m | Some after ↦ burst count q after ]) (one.alike p f r t)
+            λ p f r t.
+            ap (λ next. elim next as (λ _. State) [ None ↦ beside p r t m | Some after ↦ burst count q after ]) (one.alike p f r t)
             ∙ more.alike p f (one.change r) t;
         fdsr_after =
             λ r. more.fdsr_after (one.change r) ∙ ap (λ b. b || more.sets) (one.fdsr_after r) ∙ or_assoc (has fdsr r) one.sets more.sets;
@@ -198,7 +220,8 @@ module _ (Fits : RiscProgram → Type 0) where
   bursts_of None m = stays _ _ (λ p f r t. refl)
   bursts_of (Some q) m = bursts m.trigger q m
 
-  runs : (done : Bool) (instr : Instr) (ds : Demands) (m : State) → ActsAlike Fits (λ p r t. ran done instr ds (beside p r t m)) (ran done instr ds m)
+  runs : (done : Bool) (instr : Instr) (ds : Demands) (m : State) →
+      ActsAlike Fits (λ p r t. ran done instr ds (beside p r t m)) (ran done instr ds m)
   runs true instr ds m = applies (instr_ctl instr) _ _ (λ p f r t. refl)
   runs false instr ds m = bursts_of (lowest_served ds m) m
 
@@ -210,7 +233,8 @@ module _ (Fits : RiscProgram → Type 0) where
   works (Waiting ctl resync code) m alike = strays (lowest_stray m.queues) ctl resync code m
   works (Running instr ds) m alike = runs (is_done ds) instr ds m
 
-  turns : (on : Bool) (m : State) → (on ≡ true → m.job ≡ Idle → (program : RiscProgram) → Fits program → AreFetchedAlike m.pc m.program program) →
+  turns : (on : Bool) (m : State) →
+      (on ≡ true → m.job ≡ Idle → (program : RiscProgram) → Fits program → AreFetchedAlike m.pc m.program program) →
       ActsAlike Fits (λ p r t. turn_if on (beside p r t m)) (turn_if on m)
   turns false m alike = stays _ _ (λ p f r t. refl)
   turns true m alike = works m.job m (alike refl)
@@ -229,7 +253,8 @@ module _ (m : State) where
 
   -- the turn beside another program that is read alike and another register
   beside_turn : (program : RiscProgram) (register : ℕ) → IsReadAlike m program →
-      turn (with_program program (with_interrupts register m)) ≡ beside program (acts.change register) (more m.turns 1) (turn_if m.risc_on m)
+      turn (with_program program (with_interrupts register m))
+      ≡ beside program (acts.change register) (more m.turns 1) (turn_if m.risc_on m)
   beside_turn program register fits = acts.alike program fits register (more m.turns 1)
 
   -- the turn itself
@@ -239,7 +264,8 @@ module _ (m : State) where
   pub turn-with_program : (program : RiscProgram) → IsReadAlike m program → turn (with_program program m) ≡ with_program program (turn m)
   turn-with_program program fits = beside_turn program m.interrupts fits ∙ sym (ap (with_program program) its_turn)
 
-  pub turn-with_interrupts : (register : ℕ) → turn (with_interrupts register m) ≡ with_interrupts (turn (with_interrupts register m)).interrupts (turn m)
+  pub turn-with_interrupts : (register : ℕ) →
+      turn (with_interrupts register m) ≡ with_interrupts (turn (with_interrupts register m)).interrupts (turn m)
   turn-with_interrupts register =
       let other : turn (with_interrupts register m) ≡ beside m.program (acts.change register) (more m.turns 1) (turn_if m.risc_on m) =
       beside_turn m.program register (alike-itself m) in

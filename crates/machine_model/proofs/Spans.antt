@@ -19,14 +19,18 @@ not_in b address h =
     never (nat_le b.at address) ((address - b.at) % 4 == 0) (nat_lt ((address - b.at) / 4) (length b.words))
     (ge-ltb ((address - b.at) / 4) (length b.words) (omega arith))
 
-pub word_of_span : (before after : List Span) (from : ℕ) (s : Span) (address : ℕ) → AreApart from (before ++ s ∷ after) → stands_in s address ≡ true →
+pub word_of_span : (before after : List Span) (from : ℕ) (s : Span) (address : ℕ) → AreApart from (before ++ s ∷ after) →
+    stands_in s address ≡ true →
     word_among (before ++ s ∷ after) address ≡ Some (slice_index s.words ((address - s.at) / 4))
 word_of_span [] after from s address apart stands =
     ap (λ stands. if stands then Some (slice_index s.words ((address - s.at) / 4)) else word_among after address) stands
 word_of_span (b ∷ before) after from s address apart stands =
     let behind = stands_behind before after (end_of b + 1) s apart.2 in
-    let at = leb-true s.at address (three_parts (nat_le s.at address) ((address - s.at) % 4 == 0) (nat_lt ((address - s.at) / 4) (length s.words)) stands).0 in
-    ap (λ there. if there then Some (slice_index b.words ((address - b.at) / 4)) else word_among (before ++ s ∷ after) address) (not_in b address (omega arith))
+    let at =
+    leb-true s.at address
+    (three_parts (nat_le s.at address) ((address - s.at) % 4 == 0) (nat_lt ((address - s.at) / 4) (length s.words)) stands).0 in
+    ap (λ there. if there then Some (slice_index b.words ((address - b.at) / 4)) else word_among (before ++ s ∷ after) address)
+    (not_in b address (omega arith))
     ∙ word_of_span before after (end_of b + 1) s address apart.2 stands
 
 -- the address of each word of a span

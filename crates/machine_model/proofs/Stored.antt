@@ -1,5 +1,6 @@
 -- Memory after a turn is the memory before it with the listed stores made.
-use Rattle.std.proofs.Common.{◌≡◌, ◌≢◌, ℕ, zero, suc, Bool, true, false, List, [], ◌∷◌, ◌++◌, map, All, Option, Some, None, Ok, Err, refl, sym, ap, ◌∙◌, if◌then◌else◌, ◌==◌}
+use Rattle.std.proofs.Common.{◌≡◌, ◌≢◌, ℕ, zero, suc, Bool, true, false, List, [], ◌∷◌, ◌++◌, map, All, Option, Some, None, Ok, Err, refl}
+use Rattle.std.proofs.Common.{sym, ap, ◌∙◌, if◌then◌else◌, ◌==◌}
 use Rattle.std.proofs.lemmas.List.Elements.{All-head, All-tail}
 use Rattle.risc_word.specs.declared.Code.{Code}
 use Rattle.risc_word.specs.declared.Ctl.{Ctl}
@@ -21,9 +22,11 @@ use Rattle.machine_model.specs.declared.Skipping.{Skipping}
 use Rattle.machine_model.specs.declared.Skipping.TheVariants.{Nothing, ToEol, ToSync}
 use Rattle.machine_model.specs.Paths.{fetch}
 use Rattle.machine_model.specs.States.{State}
-use Rattle.machine_model.specs.Turns.{Store, stored_all, jumped, begun_with, data_fetched, instr_fetched, fetched, with_fdsr_unless, met, code_seen, stray_seen, demand_on, ended, judged, verdict_at}
+use Rattle.machine_model.specs.Turns.{Store, stored_all, jumped, begun_with, data_fetched, instr_fetched, fetched, with_fdsr_unless, met}
+use Rattle.machine_model.specs.Turns.{code_seen, stray_seen, demand_on, ended, judged, verdict_at}
 use Rattle.machine_model.specs.Turns.{served, apply_in, apply, burst, lowest_served, burst_of, is_done, ran, worked, turn_if, counted, turn}
-use Rattle.machine_model.specs.Accesses.{judged_stores, served_stores, stores_in, apply_stores, burst_stores, burst_stores_of, ran_stores, worked_stores, stores_if, stores, writes}
+use Rattle.machine_model.specs.Accesses.{judged_stores, served_stores, stores_in, apply_stores, burst_stores, burst_stores_of, ran_stores}
+use Rattle.machine_model.specs.Accesses.{worked_stores, stores_if, stores, writes}
 
 -- ---- memory stays
 
@@ -31,7 +34,8 @@ jumped-memory : (inside : Bool) (ctl : Ctl) (addr : ℕ) (m : State) → (jumped
 jumped-memory true ctl addr m = refl
 jumped-memory false ctl addr m = refl
 
-begun-memory : (cause : Option Cause) (instr : Instr) (count : ℕ) (target : Option ℕ) (m : State) → (begun_with cause instr count target m).memory ≡ m.memory
+begun-memory : (cause : Option Cause) (instr : Instr) (count : ℕ) (target : Option ℕ) (m : State) →
+    (begun_with cause instr count target m).memory ≡ m.memory
 begun-memory (Some cause) instr count target m = refl
 begun-memory None instr count target m = refl
 
@@ -57,11 +61,13 @@ pub met-memory : (awaited : Bool) (ctl : Ctl) (resync : Bool) (m : State) → (m
 met-memory true ctl resync m = refl
 met-memory false ctl resync m = unless-memory resync _
 
-pub code-memory : (seen : Option Code) (ctl : Ctl) (resync : Bool) (code : Code) (m : State) → (code_seen seen ctl resync code m).memory ≡ m.memory
+pub code-memory : (seen : Option Code) (ctl : Ctl) (resync : Bool) (code : Code) (m : State) →
+    (code_seen seen ctl resync code m).memory ≡ m.memory
 code-memory None ctl resync code m = refl
 code-memory (Some seen) ctl resync code m = met-memory _ ctl resync m
 
-pub stray-memory : (stray : Option Queue) (ctl : Ctl) (resync : Bool) (code : Code) (m : State) → (stray_seen stray ctl resync code m).memory ≡ m.memory
+pub stray-memory : (stray : Option Queue) (ctl : Ctl) (resync : Bool) (code : Code) (m : State) →
+    (stray_seen stray ctl resync code m).memory ≡ m.memory
 stray-memory None ctl resync code m = code-memory _ ctl resync code m
 stray-memory (Some q) ctl resync code m = unless-memory resync _
 
@@ -72,7 +78,8 @@ ended-memory false instr m = refl
 -- ---- stores are made
 
 -- stores one after another
-pub stored_all-append : (memory : List Block) (early late : List Store) → stored_all memory (early ++ late) ≡ stored_all (stored_all memory early) late
+pub stored_all-append : (memory : List Block) (early late : List Store) →
+    stored_all memory (early ++ late) ≡ stored_all (stored_all memory early) late
 stored_all-append memory [] late = refl
 stored_all-append memory (store ∷ early) late = stored_all-append (stored memory store.address store.byte) early late
 
@@ -103,13 +110,15 @@ applied-memory Idle q m = refl
 applied-memory (Waiting ctl resync code) q m = refl
 applied-memory (Running instr ds) q m = served-memory (front (queue_state q m.queues)) q instr ds m
 
-continued : (count : ℕ) (q : Queue) (m : State) (next : Option State) (first : List Store) → memory_after m next ≡ stored_all m.memory first →
+continued : (count : ℕ) (q : Queue) (m : State) (next : Option State) (first : List Store) →
+    memory_after m next ≡ stored_all m.memory first →
     ((after : State) → (burst count q after).memory ≡ stored_all after.memory (burst_stores count q after)) →
     (elim next as (λ _. State) [ None ↦ m | Some after ↦ burst count q after ]).memory
     ≡ stored_all m.memory (first ++ (elim next as (λ _. List Store) [ None ↦ [] | Some after ↦ burst_stores count q after ]))
 continued count q m None first one rest = one ∙ sym (stored_all-append m.memory first [])
 continued count q m (Some after) first one rest =
-    rest after ∙ ap (λ memory. stored_all memory (burst_stores count q after)) one ∙ sym (stored_all-append m.memory first (burst_stores count q after))
+    rest after ∙ ap (λ memory. stored_all memory (burst_stores count q after)) one
+    ∙ sym (stored_all-append m.memory first (burst_stores count q after))
 
 burst-memory : (count : ℕ) (q : Queue) (m : State) → (burst count q m).memory ≡ stored_all m.memory (burst_stores count q m)
 burst-memory zero q m = refl
@@ -119,7 +128,8 @@ burst_of-memory : (q : Option Queue) (m : State) → (burst_of q m).memory ≡ s
 burst_of-memory None m = refl
 burst_of-memory (Some q) m = burst-memory m.trigger q m
 
-ran-memory : (done : Bool) (instr : Instr) (ds : Demands) (m : State) → (ran done instr ds m).memory ≡ stored_all m.memory (ran_stores done ds m)
+ran-memory : (done : Bool) (instr : Instr) (ds : Demands) (m : State) →
+    (ran done instr ds m).memory ≡ stored_all m.memory (ran_stores done ds m)
 ran-memory true instr ds m = refl
 ran-memory false instr ds m = burst_of-memory (lowest_served ds m) m
 
@@ -137,12 +147,16 @@ memory-turn m = turn_if-memory m.risc_on (counted m)
 
 -- ---- what isn't written
 
-byte_at-unwritten : (memory : List Block) (made : List Store) (address : ℕ) → All (λ written. address ≢ written) (map (λ store. store.address) made) →
+byte_at-unwritten : (memory : List Block) (made : List Store) (address : ℕ) →
+    All (λ written. address ≢ written) (map (λ store. store.address) made) →
     byte_at (stored_all memory made) address ≡ byte_at memory address
 byte_at-unwritten memory [] address others = refl
 byte_at-unwritten memory (store ∷ made) address others =
-    byte_at-unwritten (stored memory store.address store.byte) made address (All-tail (λ written. address ≢ written) store.address (map (λ store. store.address) made) others)
-    ∙ byte_at-stored_other memory store.address store.byte address (All-head (λ written. address ≢ written) store.address (map (λ store. store.address) made) others)
+    byte_at-unwritten (stored memory store.address store.byte) made address
+    (All-tail (λ written. address ≢ written) store.address (map (λ store. store.address) made) others)
+    ∙ byte_at-stored_other memory store.address store.byte address
+    (All-head (λ written. address ≢ written) store.address (map (λ store. store.address) made) others)
 
-pub byte_at-turn : (m : State) (address : ℕ) → All (λ written. address ≢ written) (writes m) → byte_at (turn m).memory address ≡ byte_at m.memory address
+pub byte_at-turn : (m : State) (address : ℕ) → All (λ written. address ≢ written) (writes m) →
+    byte_at (turn m).memory address ≡ byte_at m.memory address
 byte_at-turn m address others = ap (λ memory. byte_at memory address) (memory-turn m) ∙ byte_at-unwritten m.memory (stores m) address others

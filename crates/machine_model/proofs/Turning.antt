@@ -11,7 +11,8 @@ use Rattle.machine_model.specs.declared.Job.{Job}
 use Rattle.machine_model.specs.declared.Job.TheVariants.{Idle, Waiting, Running}
 use Rattle.machine_model.specs.Paths.{fetch}
 use Rattle.machine_model.specs.States.{State}
-use Rattle.machine_model.specs.Turns.{counted, fetched, waited, retired, is_done, demand_on, verdict_at, judged, served, apply_in, apply, burst, burst_of, ran, worked, turn_if, turn}
+use Rattle.machine_model.specs.Turns.{counted, fetched, waited, retired, is_done, demand_on, verdict_at, judged, served, apply_in, apply}
+use Rattle.machine_model.specs.Turns.{burst, burst_of, ran, worked, turn_if, turn}
 
 -- each part of a turn keeps the fact
 pub record IsKept (P : State → Type 0) : Type 0 where
@@ -47,7 +48,8 @@ module _ (P : State → Type 0) (kept : IsKept P) where
   pub apply-kept : (q : Queue) (m after : State) → P m → apply q m ≡ Some after → P after
   apply-kept q m after h s = apply_in-kept m.job q m after refl h s
 
-  continued : (count : ℕ) (q : Queue) (m : State) (next : Option State) → P m → ((after : State) → next ≡ Some after → P (burst count q after)) →
+  continued : (count : ℕ) (q : Queue) (m : State) (next : Option State) → P m →
+      ((after : State) → next ≡ Some after → P (burst count q after)) →
       P (elim next as (λ _. State) [ None ↦ m | Some after ↦ burst count q after ])
   continued count q m None h go = h
   continued count q m (Some after) h go = go after refl

@@ -1,5 +1,6 @@
 -- A safe machine with a sound program writes granted bytes alone, and fetches words of the program alone.
-use Rattle.std.proofs.Common.{◌≡◌, ℕ, zero, suc, ◌+◌, ◌*◌, ◌<◌, ◌≤◌, max, Bool, true, false, List, [], ◌∷◌, length, drop, All, Option, Some, None, Ok, IsTrue, refl, sym, subst, ◌∙◌, arith, if◌then◌else◌, ◌==◌, slice_index, length-take}
+use Rattle.std.proofs.Common.{◌≡◌, ℕ, zero, suc, ◌+◌, ◌*◌, ◌<◌, ◌≤◌, max, Bool, true, false, List, [], ◌∷◌, length, drop, All, Option, Some}
+use Rattle.std.proofs.Common.{None, Ok, IsTrue, refl, sym, subst, ◌∙◌, arith, if◌then◌else◌, ◌==◌, slice_index, length-take}
 use Rattle.std.proofs.lemmas.List.Elements.{All-nil, All-cons, All-append, All-map}
 use Rattle.bit_field.specs.Bits.{bits}
 use Rattle.risc_word.specs.declared.Instr.{Instr}
@@ -18,7 +19,8 @@ use Rattle.machine_model.specs.Paths.{RiscProgram, words_from, is_word, fetch, r
 use Rattle.risc_word.specs.Parts.{instr_off}
 use Rattle.machine_model.specs.States.{State}
 use Rattle.machine_model.specs.Turns.{Store, is_off, stores_from, stores_at, demand_on, verdict_at, counted, apply, lowest_served, is_done}
-use Rattle.machine_model.specs.Accesses.{judged_stores, served_stores, stores_in, apply_stores, burst_stores, burst_stores_of, ran_stores, worked_stores, stores_if, writes, word_addresses, words_read, fetched_by, fetches_if, fetches}
+use Rattle.machine_model.specs.Accesses.{judged_stores, served_stores, stores_in, apply_stores, burst_stores, burst_stores_of, ran_stores}
+use Rattle.machine_model.specs.Accesses.{worked_stores, stores_if, writes, word_addresses, words_read, fetched_by, fetches_if, fetches}
 use Rattle.machine_model.specs.Safety.{IsSafe, StaysInside}
 use Rattle.machine_model.proofs.Ranges.{granted_at}
 use Rattle.machine_model.proofs.Fronts.{take-Takes}
@@ -34,7 +36,8 @@ abbrev IsGranted : List Chunk → Store → Type 0
 IsGranted grants store = IsTrue (granted grants store.address)
 
 -- the bytes of a granted range
-store_if : (grants : List Chunk) (address byte : ℕ) (rest : List Store) (off : Bool) → IsTrue (granted grants address) → All (IsGranted grants) rest →
+store_if : (grants : List Chunk) (address byte : ℕ) (rest : List Store) (off : Bool) → IsTrue (granted grants address) →
+    All (IsGranted grants) rest →
     All (IsGranted grants) (if off then rest else record { address = address; byte = byte } ∷ rest)
 store_if grants address byte rest true g h = h
 store_if grants address byte rest false g h = All-cons (IsGranted grants) _ rest g h
@@ -49,7 +52,8 @@ stores_from-granted grants off lane address (byte ∷ bytes) h =
     store_if grants address byte _ (is_off off lane) (rw first at (h 0 (omega arith)))
     (stores_from-granted grants off (lane + 1) (address + 1) bytes rest)
 
-stores_at-granted : (grants : List Chunk) (address : Option ℕ) (off lane rest : ℕ) (bytes : List ℕ) → length bytes ≤ rest → range_cause grants address rest ≡ None →
+stores_at-granted : (grants : List Chunk) (address : Option ℕ) (off lane rest : ℕ) (bytes : List ℕ) → length bytes ≤ rest →
+    range_cause grants address rest ≡ None →
     All (IsGranted grants) (stores_at address off lane bytes)
 stores_at-granted grants None off lane rest bytes le h = All-nil (IsGranted grants)
 stores_at-granted grants (Some address) off lane rest bytes le h =
@@ -57,7 +61,8 @@ stores_at-granted grants (Some address) off lane rest bytes le h =
     (λ k lt. granted_at grants address rest k (omega arith) (written-IsRange grants address rest h).whole)
 
 module _ (program : RiscProgram) (sound : IsSound program) where
-  judged-granted : (verdict : Verdict) (q : Queue) (instr : Instr) (ds : Demands) (entry : Entry) (m : State) → verdict_at q ds entry m ≡ verdict →
+  judged-granted : (verdict : Verdict) (q : Queue) (instr : Instr) (ds : Demands) (entry : Entry) (m : State) →
+      verdict_at q ds entry m ≡ verdict →
       demand_cause program.grants (demand_on q ds) ≡ None → All (IsGranted program.grants) (judged_stores verdict q instr ds entry m)
   judged-granted Broken q instr ds entry m v d = All-nil (IsGranted program.grants)
   judged-granted Discard q instr ds entry m v d = All-nil (IsGranted program.grants)
@@ -67,15 +72,18 @@ module _ (program : RiscProgram) (sound : IsSound program) where
       let least = (take-Takes (kind_of entry.status) (demand_on q ds).needs_sol taken (demand_on q ds).rest count v).least in
       let few : length (bytes_taken entry taken count) ≤ (demand_on q ds).rest =
       omega (arith, length-take count (drop taken (lane_bytes entry.dword))) in
-      stores_at-granted program.grants (demand_on q ds).address (instr_off instr) taken (demand_on q ds).rest (bytes_taken entry taken count) few d
+      stores_at-granted program.grants (demand_on q ds).address (instr_off instr) taken (demand_on q ds).rest
+      (bytes_taken entry taken count) few d
 
   served-granted : (top : Option Entry) (q : Queue) (instr : Instr) (ds : Demands) (m : State) →
       demand_cause program.grants (demand_on q ds) ≡ None → All (IsGranted program.grants) (served_stores top q instr ds m)
   served-granted None q instr ds m d = All-nil (IsGranted program.grants)
   served-granted (Some entry) q instr ds m d =
-      unless ((demand_on q ds).rest == 0) (judged_stores (verdict_at q ds entry m) q instr ds entry m) (judged-granted _ q instr ds entry m refl d)
+      unless ((demand_on q ds).rest == 0) (judged_stores (verdict_at q ds entry m) q instr ds entry m)
+      (judged-granted _ q instr ds entry m refl d)
     where
-      unless : (none : Bool) (stores : List Store) → All (IsGranted program.grants) stores → All (IsGranted program.grants) (if none then [] else stores)
+      unless : (none : Bool) (stores : List Store) → All (IsGranted program.grants) stores →
+          All (IsGranted program.grants) (if none then [] else stores)
       unless true stores h = All-nil (IsGranted program.grants)
       unless false stores h = h
 
@@ -86,7 +94,8 @@ module _ (program : RiscProgram) (sound : IsSound program) where
       let runs = runs_there program (path program h.number) m.pc m.skipping m.target m.job instr ds e h.there in
       served-granted (front (queue_state q m.queues)) q instr ds m (demand-granted program.grants q ds runs.within)
 
-  continued : (count : ℕ) (q : Queue) (next : Option State) → ((after : State) → next ≡ Some after → All (IsGranted program.grants) (burst_stores count q after)) →
+  continued : (count : ℕ) (q : Queue) (next : Option State) →
+      ((after : State) → next ≡ Some after → All (IsGranted program.grants) (burst_stores count q after)) →
       All (IsGranted program.grants) (elim next as (λ _. List Store) [ None ↦ [] | Some after ↦ burst_stores count q after ])
   continued count q None go = All-nil (IsGranted program.grants)
   continued count q (Some after) go = go after refl
@@ -119,7 +128,8 @@ pub writes-granted : (m : State) → IsSound m.program → IsSafe m → All (λ 
 writes-granted m sound safe =
     let here = IsSafe-Follows m safe in
     All-map (λ address. IsTrue (granted m.program.grants address)) (λ store. store.address) (stores_if m.risc_on (counted m))
-    (if-granted m.program sound m.risc_on (counted m) (record { same = here.same; number = here.number; there = here.there; no_error = here.no_error }))
+    (if-granted m.program sound m.risc_on (counted m)
+    (record { same = here.same; number = here.number; there = here.there; no_error = here.no_error }))
 
 -- ---- fetches
 
@@ -135,7 +145,8 @@ words-inside program address from (suc count) le =
     (subst (λ at. All (λ x. IsTrue (is_word program x)) (word_addresses at count)) (sym next) rest)
 
 -- as many words are read as the instruction has
-pub words_read-known : (program : RiscProgram) (pc : ℕ) (instr : Instr) (count : ℕ) → fetch program pc ≡ Ok (instr, count) → words_read program pc ≡ count
+pub words_read-known : (program : RiscProgram) (pc : ℕ) (instr : Instr) (count : ℕ) → fetch program pc ≡ Ok (instr, count) →
+    words_read program pc ≡ count
 words_read-known program pc instr count h =
     let known = fetch-KnownAt program pc instr count h in
     let asked : ℕ = opcode_length (bits 28 4 (slice_index (words_from 5 program pc) 0)) in
@@ -154,7 +165,8 @@ fetch-inside program pc instr count h =
     subst (λ n. All (λ at. IsTrue (is_word program at)) (word_addresses pc n)) (sym (words_read-known program pc instr count h))
     (subst (λ at. All (λ x. IsTrue (is_word program x)) (word_addresses at count)) begin all)
 
-fetched_by-inside : (m : State) → IsSound m.program → IsSafe m → (job : Job) → m.job ≡ job → All (λ at. IsTrue (is_word m.program at)) (fetched_by job m)
+fetched_by-inside : (m : State) → IsSound m.program → IsSafe m → (job : Job) → m.job ≡ job →
+    All (λ at. IsTrue (is_word m.program at)) (fetched_by job m)
 fetched_by-inside m sound safe Idle e =
     let fine = idle-IsFine m sound safe e in
     fetch-inside m.program m.pc fine.instr fine.length_in_words fine.stands

@@ -1,5 +1,6 @@
 -- What one turn did, and at which instruction.
-use Rattle.std.specs.Prelude.{◌≡◌, ℕ, zero, suc, ◌+◌, ◌-◌, ◌*◌, Bool, true, false, not, ◌&&◌, List, [], ◌∷◌, ◌++◌, length, Option, Some, None, Ok, Err, if◌then◌else◌, ◌==◌}
+use Rattle.std.specs.Prelude.{◌≡◌, ℕ, zero, suc, ◌+◌, ◌-◌, ◌*◌, Bool, true, false, not, ◌&&◌, List, [], ◌∷◌, ◌++◌, length, Option, Some}
+use Rattle.std.specs.Prelude.{None, Ok, Err, if◌then◌else◌, ◌==◌}
 use Rattle.std.specs.List.{list_any, sum_by}
 use Rattle.risc_word.specs.declared.Code.{Code}
 use Rattle.risc_word.specs.declared.Instr.{Instr}
@@ -14,7 +15,8 @@ use Rattle.fifo_model.specs.Queues.{queue_state, front}
 use Rattle.machine_model.specs.declared.Demand.{Demand}
 use Rattle.machine_model.specs.declared.Demands.{Demands}
 use Rattle.machine_model.specs.declared.Did.{Did}
-use Rattle.machine_model.specs.declared.Did.TheVariants.{Still, Jumped, Synced, Passed, Begun, Dropped, Matched, Missed, Retired, Moved, GivenUp}
+use Rattle.machine_model.specs.declared.Did.TheVariants.{Still, Jumped, Synced, Passed, Begun, Dropped, Matched, Missed, Retired, Moved}
+use Rattle.machine_model.specs.declared.Did.TheVariants.{GivenUp}
 use Rattle.machine_model.specs.declared.Job.{Job}
 use Rattle.machine_model.specs.declared.Job.TheVariants.{Idle, Waiting, Running}
 use Rattle.machine_model.specs.declared.Seen.{Seen}

@@ -1,5 +1,6 @@
 -- One turn of the DMA controller.
-use Rattle.std.specs.Prelude.{ℕ, zero, suc, ◌+◌, ◌-◌, ◌*◌, Bool, true, false, not, ◌&&◌, List, [], ◌∷◌, length, Option, Some, None, Ok, Err, option_map, if◌then◌else◌, ◌==◌}
+use Rattle.std.specs.Prelude.{ℕ, zero, suc, ◌+◌, ◌-◌, ◌*◌, Bool, true, false, not, ◌&&◌, List, [], ◌∷◌, length, Option, Some, None, Ok, Err}
+use Rattle.std.specs.Prelude.{option_map, if◌then◌else◌, ◌==◌}
 use Rattle.bit_field.specs.Bits.{bits}
 use Rattle.risc_word.specs.declared.Code.{Code}
 use Rattle.risc_word.specs.declared.Ctl.{Ctl}
@@ -12,7 +13,8 @@ use Rattle.sync_status.specs.Statuses.{kind_of, valid_bytes, is_end, is_control,
 use Rattle.fifo_model.specs.declared.Entry.{Entry}
 use Rattle.fifo_model.specs.declared.Queue.{Queue}
 use Rattle.fifo_model.specs.declared.Queue.TheVariants.{One, Two, Three}
-use Rattle.fifo_model.specs.Queues.{QueueState, Queues, more, queue_state, with_queue_state, front, front_code, removed, all_removed, taken_from, bytes_taken, is_ready}
+use Rattle.fifo_model.specs.Queues.{QueueState, Queues, more, queue_state, with_queue_state, front, front_code, removed, all_removed}
+use Rattle.fifo_model.specs.Queues.{taken_from, bytes_taken, is_ready}
 use Rattle.irq_status.specs.Register.{has, fdsr, ocerr, raised, applied}
 use Rattle.page_table.specs.Blocks.{Block, stored}
 use Rattle.machine_model.specs.declared.Cause.{Cause}

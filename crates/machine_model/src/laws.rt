@@ -1,13 +1,15 @@
 //! Laws of turns and of whole runs. The functions do nothing; their contracts are the laws.
 
-ghost use Rattle.std.specs.Prelude.{◌≡◌, ◌≢◌, ℕ, ◌+◌, ◌*◌, ◌<◌, ◌||◌, true, List, [], ◌∷◌, ◌++◌, All, Option, None, Some, length, slice_index};
+ghost use Rattle.std.specs.Prelude.{◌≡◌, ◌≢◌, ℕ, ◌+◌, ◌*◌, ◌<◌, ◌||◌, true, List, [], ◌∷◌, ◌++◌, All, Option, None, Some, length};
+ghost use Rattle.std.specs.Prelude.{slice_index};
 ghost use Rattle.risc_word.specs.declared.Instr.{Instr};
 ghost use Rattle.irq_status.specs.Register.{has, fdsr};
 ghost use Rattle.page_table.specs.Grants.{Chunk};
 ghost use Rattle.page_table.specs.Blocks.{byte_at, chunks_of};
 ghost use Rattle.machine_model.specs.declared.Demands.{Demands};
 ghost use Rattle.machine_model.specs.declared.Job.TheVariants.{Idle, Running};
-ghost use Rattle.machine_model.specs.Paths.{RiscProgram, Span, AreApart, AreWithin, all_words, data_cause, demands_cause, fetch, one_span, word_among, IsSound};
+ghost use Rattle.machine_model.specs.Paths.{RiscProgram, Span, AreApart, AreWithin, all_words, data_cause, demands_cause, fetch, one_span};
+ghost use Rattle.machine_model.specs.Paths.{word_among, IsSound};
 ghost use Rattle.risc_word.specs.Words.{instr_at};
 ghost use Rattle.machine_model.specs.Seen.{StandsAt, seen};
 ghost use Rattle.machine_model.specs.States.{State, first_state};
@@ -26,7 +28,8 @@ pub fn each_span_has_its_words()
 /// is fetched that begins there.
 pub fn one_span_is_its_words()
     ensures words { (base : ℕ) (words : List ℕ) (grants : List Chunk) → all_words (one_span base words grants) ≡ words }
-    ensures fetched { (base n : ℕ) (words : List ℕ) (grants : List Chunk) → fetch (one_span base words grants) (base + 4 * n) ≡ instr_at words n }
+    ensures fetched { (base n : ℕ) (words : List ℕ) (grants : List Chunk) →
+        fetch (one_span base words grants) (base + 4 * n) ≡ instr_at words n }
 {}
 
 /// At every place of every run of a sound program from the first state, however the steps of decoder,
@@ -47,7 +50,8 @@ pub fn every_safe_state_stays_inside()
 /// the control codes, what is taken of a front, the trigger point, the skip and the chunks of memory.
 pub fn every_program_keeps_order()
     ensures first { (program : RiscProgram) (fill : ℕ) → IsOrderly (first_state program fill) }
-    ensures kept { (m : State) (steps : List (RiscProgram × Step)) → All (λ met. IsStep met.1) steps → IsOrderly m → IsOrderly (run_in m steps) }
+    ensures kept { (m : State) (steps : List (RiscProgram × Step)) → All (λ met. IsStep met.1) steps → IsOrderly m →
+        IsOrderly (run_in m steps) }
     ensures chunks { (m : State) (steps : List (RiscProgram × Step)) → chunks_of (run_in m steps).memory ≡ chunks_of m.memory }
 {}
 
@@ -62,14 +66,16 @@ pub fn running_instructions_are_seen()
 /// doesn't write stays.
 pub fn turns_store_what_is_listed()
     ensures memory { (m : State) → (turn m).memory ≡ stored_all m.memory (stores m) }
-    ensures others { (m : State) (address : ℕ) → All (λ written. address ≢ written) (writes m) → byte_at (turn m).memory address ≡ byte_at m.memory address }
+    ensures others { (m : State) (address : ℕ) → All (λ written. address ≢ written) (writes m) →
+        byte_at (turn m).memory address ≡ byte_at m.memory address }
 {}
 
 /// A turn reads no other word of its program than those that are listed: beside a program of the same base, number of
 /// words and grants that has the same words there, the same happens. Only an idle machine with RISC on reads its
 /// program, namely the instruction at pc, the grants, and whether the target of a JUMP is a word.
 pub fn turns_read_what_is_listed()
-    ensures listed { (m : State) (program : RiscProgram) → AgreeAt (fetches m) m.program program → turn (with_program program m) ≡ with_program program (turn m) }
+    ensures listed { (m : State) (program : RiscProgram) → AgreeAt (fetches m) m.program program →
+        turn (with_program program m) ≡ with_program program (turn m) }
     ensures idle { (m : State) (program : RiscProgram) → (m.risc_on ≡ true → m.job ≡ Idle → AreFetchedAlike m.pc m.program program) →
         turn (with_program program m) ≡ with_program program (turn m) }
 {}
@@ -77,7 +83,8 @@ pub fn turns_read_what_is_listed()
 /// What a turn does never depends on INT_STAT: from another register all but the register is the same. So a turn sets
 /// FDSR from one register where it sets it from every other, and after it FDSR is set where it was set before or is set by it.
 pub fn interrupts_change_no_turn()
-    ensures same { (m : State) (register : ℕ) → turn (with_interrupts register m) ≡ with_interrupts (turn (with_interrupts register m)).interrupts (turn m) }
+    ensures same { (m : State) (register : ℕ) →
+        turn (with_interrupts register m) ≡ with_interrupts (turn (with_interrupts register m)).interrupts (turn m) }
     ensures fdsr { (m : State) → has fdsr (turn m).interrupts ≡ (has fdsr m.interrupts || sets_fdsr m) }
 {}
 
@@ -86,5 +93,6 @@ pub fn interrupts_change_no_turn()
 pub fn wider_grants_bring_no_fault()
     ensures instruction { (grants wider : List Chunk) (instr : Instr) (target : Option ℕ) → AreWithin grants wider →
         data_cause grants instr target ≡ None → data_cause wider instr target ≡ None }
-    ensures demands { (grants wider : List Chunk) (ds : Demands) → AreWithin grants wider → demands_cause grants ds ≡ None → demands_cause wider ds ≡ None }
+    ensures demands { (grants wider : List Chunk) (ds : Demands) → AreWithin grants wider → demands_cause grants ds ≡ None →
+        demands_cause wider ds ≡ None }
 {}

@@ -19,33 +19,40 @@ use Rattle.dma_machine.proofs.StillSeen.{still_counts, still_seen}
 use Rattle.machine_watch.specs.Watches.{Notes, Watching, kept_after, next, watched, watching}
 
 module _ {K : Type 0} (notes : Notes K) where
-  pub kept-append : (m : State) (first later : List Step) (k : K) → kept_after notes m (first ++ later) k ≡ kept_after notes (run m first) later (kept_after notes m first k)
+  pub kept-append : (m : State) (first later : List Step) (k : K) →
+      kept_after notes m (first ++ later) k ≡ kept_after notes (run m first) later (kept_after notes m first k)
   kept-append m [] later k = refl
   kept-append m (s ∷ first) later k = kept-append (step s m) first later (next notes m s k)
 
   -- steps that are taken one after the other are taken all together
-  pub watched-append : (first later : List Step) (w : Watching K) → watched notes later (watched notes first w) ≡ watched notes (first ++ later) w
+  pub watched-append : (first later : List Step) (w : Watching K) →
+      watched notes later (watched notes first w) ≡ watched notes (first ++ later) w
   watched-append first later w =
       ap₂ (λ (m : State) (k : K). watching m k) (sym (run-append w.machine first later)) (sym (kept-append w.machine first later w.kept))
 
   -- the program that is read behind a turn is that before it
-  pub turned : (m after : State) (program : RiscProgram) (s : Seen) (k new : K) → after ≡ turn m → program ≡ after.program → s ≡ seen m → new ≡ notes.saw program s k →
+  pub turned : (m after : State) (program : RiscProgram) (s : Seen) (k new : K) → after ≡ turn m → program ≡ after.program → s ≡ seen m →
+      new ≡ notes.saw program s k →
       watching after new ≡ watched notes (Turn ∷ []) (watching m k)
   turned m after program s k new is held saw made =
       ap₂ (λ (a : State) (x : K). watching a x) is
-      (made ∙ ap (λ (x : Seen). notes.saw program x k) saw ∙ ap (λ (p : RiscProgram). notes.saw p (seen m) k) (held ∙ ap (λ (a : State). a.program) is ∙ program-step Turn m))
+      (made ∙ ap (λ (x : Seen). notes.saw program x k) saw
+      ∙ ap (λ (p : RiscProgram). notes.saw p (seen m) k) (held ∙ ap (λ (a : State). a.program) is ∙ program-step Turn m))
 
   -- one turn fewer is left
   pub one_fewer : (count left : ℕ) (first before after : Watching K) → 0 < left → after ≡ watched notes (Turn ∷ []) before →
-      watched notes (replicate left Turn) before ≡ watched notes (replicate count Turn) first → watched notes (replicate (left - 1) Turn) after ≡ watched notes (replicate count Turn) first
+      watched notes (replicate left Turn) before ≡ watched notes (replicate count Turn) first →
+      watched notes (replicate (left - 1) Turn) after ≡ watched notes (replicate count Turn) first
   one_fewer count zero first before after some made lead = absurd (omega (arith, some))
   one_fewer count (suc left) first before after some made lead =
       let rest : suc left - 1 ≡ left = omega arith in
       ap (λ (n : ℕ). watched notes (replicate n Turn) after) rest ∙ ap (watched notes (replicate left Turn)) made ∙ lead
 
   -- the turn behind a push takes the entry whole
-  pub taken : (q : Queue) (entry : Entry) (count : ℕ) (m after now : State) (k kept last : K) → 0 < count → after ≡ turn (push q entry m) → MovesWhole q (seen (push q entry m)) →
-      kept ≡ notes.saw (push q entry m).program (moved_whole q (seen (push q entry m)).at) k → watching now last ≡ watched notes (replicate (count - 1) Turn) (watching after kept) →
+  pub taken : (q : Queue) (entry : Entry) (count : ℕ) (m after now : State) (k kept last : K) → 0 < count → after ≡ turn (push q entry m) →
+      MovesWhole q (seen (push q entry m)) →
+      kept ≡ notes.saw (push q entry m).program (moved_whole q (seen (push q entry m)).at) k →
+      watching now last ≡ watched notes (replicate (count - 1) Turn) (watching after kept) →
       watching now last ≡ watched notes (Push q entry ∷ replicate count Turn) (watching m k)
   taken q entry zero m after now k kept last some made moves keeps all = absurd (omega (arith, some))
   taken q entry (suc count) m after now k kept last some made moves keeps all =
@@ -64,7 +71,9 @@ module _ {K : Type 0} (notes : Notes K) where
         ∙ still_keeps count (turn m) k (ap is_still (still_counts m still) ∙ (is_still-turns (more m.turns 1) m ∙ still))
 
     -- so a machine that stands still only takes its turns
-    pub rest_still : (count left : ℕ) (first : Watching K) (m after : State) (k : K) → is_still m ≡ true → after ≡ run m (replicate left Turn) →
-        watched notes (replicate left Turn) (watching m k) ≡ watched notes (replicate count Turn) first → watching after k ≡ watched notes (replicate count Turn) first
+    pub rest_still : (count left : ℕ) (first : Watching K) (m after : State) (k : K) → is_still m ≡ true →
+        after ≡ run m (replicate left Turn) →
+        watched notes (replicate left Turn) (watching m k) ≡ watched notes (replicate count Turn) first →
+        watching after k ≡ watched notes (replicate count Turn) first
     rest_still count left first m after k still ran lead =
         ap₂ (λ (a : State) (x : K). watching a x) ran (sym (still_keeps left m k still)) ∙ lead

@@ -78,7 +78,8 @@ impl<R: Ram, W: Watch> Watched<R, W> {
         requires some { 0 < length dwords.now }
         requires room { length dwords.now ≤ 4 * run_room W.LETS_FALL queue self.old.machine }
         requires plain { (entries : List (ℕ × ℕ)) × ArePlain dwords.now turns entries }
-        ensures { (entries : List (ℕ × ℕ)) → ArePlain dwords.now turns entries → self.new ≡ watched W.notes (plain_steps queue entries) self.old }
+        ensures { (entries : List (ℕ × ℕ)) → ArePlain dwords.now turns entries →
+            self.new ≡ watched W.notes (plain_steps queue entries) self.old }
     {
         self.machine.push_plain(queue, dwords, turns);
         self.watch.took_whole(queue);

@@ -1,5 +1,6 @@
 -- Rows in which every place holds a value.
-use Rattle.std.proofs.Common.{◌≡◌, ℕ, zero, suc, ◌+◌, ◌<◌, List, [], ◌∷◌, ◌++◌, length, get_or, take, drop, replicate, map, refl, sym, ap, ◌∙◌, arith, Option, Some, None}
+use Rattle.std.proofs.Common.{◌≡◌, ℕ, zero, suc, ◌+◌, ◌<◌, List, [], ◌∷◌, ◌++◌, length, get_or, take, drop, replicate, map, refl, sym, ap}
+use Rattle.std.proofs.Common.{◌∙◌, arith, Option, Some, None}
 use Rattle.std.proofs.Math.ListN.{length-set, set}
 use Rattle.std.proofs.lemmas.List.{length-map, take-map, drop-map, map-set, get_or-map, replicate-append-replicate, take_more_set, take_all}
 use Rattle.page_ram.specs.Row.{somes, AreFilled}
@@ -21,7 +22,8 @@ module _ {X : Type 0} where
   pub length_filled : (cs : List (Option X)) → AreFilled cs → length cs ≡ length (somes cs)
   length_filled cs filled = ap length filled ∙ length-map (somes cs) Some
 
-  pub filled_at : (cs : List (Option X)) (i : ℕ) (d : X) → AreFilled cs → i < length (somes cs) → get_or cs i None ≡ Some (get_or (somes cs) i d)
+  pub filled_at : (cs : List (Option X)) (i : ℕ) (d : X) → AreFilled cs → i < length (somes cs) →
+      get_or cs i None ≡ Some (get_or (somes cs) i d)
   filled_at cs i d filled within =
       ap (λ (l : List (Option X)). get_or l i None) filled ∙ get_or-map Some (somes cs) i d None within
 
@@ -29,7 +31,8 @@ module _ {X : Type 0} where
   filled_set cs i x filled =
       ap (λ (l : List (Option X)). set l i (Some x)) filled ∙ sym (map-set Some (somes cs) i x)
 
-  pub filled_set_run : (cs : List (Option X)) (i : ℕ) (xs : List X) → AreFilled cs → set_run cs i (map Some xs) ≡ map Some (set_run (somes cs) i xs)
+  pub filled_set_run : (cs : List (Option X)) (i : ℕ) (xs : List X) → AreFilled cs →
+      set_run cs i (map Some xs) ≡ map Some (set_run (somes cs) i xs)
   filled_set_run cs i [] filled = filled
   filled_set_run cs i (x ∷ xs) filled =
       let parts = AreFilled-map (set cs i (Some x)) (set (somes cs) i x) (filled_set cs i x filled) in
@@ -40,7 +43,8 @@ module _ {X : Type 0} where
   length-set_run old i [] = refl
   length-set_run old i (x ∷ xs) = length-set_run (set old i x) (i + 1) xs ∙ length-set old i x
 
-  pub filled_run : (cs : List (Option X)) (from len : ℕ) → AreFilled cs → take len (drop from cs) ≡ map Some (take len (drop from (somes cs)))
+  pub filled_run : (cs : List (Option X)) (from len : ℕ) → AreFilled cs →
+      take len (drop from cs) ≡ map Some (take len (drop from (somes cs)))
   filled_run cs from len filled =
       ap (λ (l : List (Option X)). take len (drop from l)) filled
       ∙ ap (take len) (drop-map Some from (somes cs)) ∙ take-map Some len (drop from (somes cs))
@@ -50,11 +54,14 @@ module _ {X : Type 0} where
   map-replicate (suc n) x = ap (λ (cs : List (Option X)). Some x ∷ cs) (map-replicate n x)
 
   -- one more place gets the value
-  pub one_more : (cs : List (Option X)) (i : ℕ) (x : X) → i < length cs → take i cs ≡ replicate i (Some x) → take (i + 1) (set cs i (Some x)) ≡ replicate (i + 1) (Some x)
+  pub one_more : (cs : List (Option X)) (i : ℕ) (x : X) → i < length cs → take i cs ≡ replicate i (Some x) →
+      take (i + 1) (set cs i (Some x)) ≡ replicate (i + 1) (Some x)
   one_more cs i x within before =
       take_more_set cs i (Some x) within ∙ ap (λ (l : List (Option X)). l ++ Some x ∷ []) before
       ∙ replicate-append-replicate i 1 (Some x)
 
-  pub all_filled : (cs : List (Option X)) (n i : ℕ) (x : X) → length cs ≡ n → i ≡ n → take i cs ≡ replicate i (Some x) → AreFilled cs × (somes cs ≡ replicate n x)
+  pub all_filled : (cs : List (Option X)) (n i : ℕ) (x : X) → length cs ≡ n → i ≡ n → take i cs ≡ replicate i (Some x) →
+      AreFilled cs × (somes cs ≡ replicate n x)
   all_filled cs n i x long end all =
-      AreFilled-map cs (replicate n x) (sym (take_all i cs (omega arith)) ∙ all ∙ ap (λ (k : ℕ). replicate k (Some x)) end ∙ sym (map-replicate n x))
+      AreFilled-map cs (replicate n x)
+      (sym (take_all i cs (omega arith)) ∙ all ∙ ap (λ (k : ℕ). replicate k (Some x)) end ∙ sym (map-replicate n x))

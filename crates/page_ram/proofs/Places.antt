@@ -1,5 +1,6 @@
 -- Which chunk has an address: the first that does not end at it or before it.
-use Rattle.std.proofs.Common.{◌≡◌, ℕ, zero, suc, ◌+◌, ◌-◌, ◌≤◌, ◌<◌, Bool, true, false, ◌||◌, List, [], ◌∷◌, length, map, get_or, sym, ap, ◌∙◌, arith, subst, ⊎_elim}
+use Rattle.std.proofs.Common.{◌≡◌, ℕ, zero, suc, ◌+◌, ◌-◌, ◌≤◌, ◌<◌, Bool, true, false, ◌||◌, List, [], ◌∷◌, length, map, get_or, sym, ap}
+use Rattle.std.proofs.Common.{◌∙◌, arith, subst, ⊎_elim}
 use Rattle.std.proofs.Math.ListN.{set, get_or-map}
 use Rattle.std.proofs.lemmas.List.{length-map}
 use Rattle.std.proofs.lemmas.List.Sums.{prefix_len_is}
@@ -16,7 +17,8 @@ use Rattle.page_table.proofs.Memory.{with_byte}
 abbrev pub chunk_end : Chunk → ℕ
 chunk_end c = c.at + c.len
 
-le-chunk_end : (from : ℕ) (chunks : List Chunk) (j : ℕ) (d : Chunk) → AreRising from chunks → j < length chunks → from ≤ chunk_end (get_or chunks j d)
+le-chunk_end : (from : ℕ) (chunks : List Chunk) (j : ℕ) (d : Chunk) → AreRising from chunks → j < length chunks →
+    from ≤ chunk_end (get_or chunks j d)
 le-chunk_end from [] j d rising within = absurd (omega arith)
 le-chunk_end from (c ∷ rest) zero d rising within = omega arith
 le-chunk_end from (c ∷ rest) (suc j) d rising within =
@@ -34,21 +36,24 @@ ends_rise from (c ∷ rest) rising (suc i) (suc j) d order within =
 abbrev pub place : ℕ → List Chunk → ℕ
 place address chunks = prefix_len (λ c. nat_le (chunk_end c) address) chunks
 
-le-chunk_at : (from : ℕ) (chunks : List Chunk) (j : ℕ) (d : Chunk) → AreRising from chunks → j < length chunks → from ≤ (get_or chunks j d).at
+le-chunk_at : (from : ℕ) (chunks : List Chunk) (j : ℕ) (d : Chunk) → AreRising from chunks → j < length chunks →
+    from ≤ (get_or chunks j d).at
 le-chunk_at from [] j d rising within = absurd (omega arith)
 le-chunk_at from (c ∷ rest) zero d rising within = omega arith
 le-chunk_at from (c ∷ rest) (suc j) d rising within =
     let later = le-chunk_at (chunk_end c) rest j d rising.2 (omega arith) in omega arith
 
 -- the first chunk that does not end at a granted address or before it has the address
-pub place_covers : (from : ℕ) (chunks : List Chunk) (address : ℕ) → AreRising from chunks → granted chunks address ≡ true → HasAddress chunks (place address chunks) address
+pub place_covers : (from : ℕ) (chunks : List Chunk) (address : ℕ) → AreRising from chunks → granted chunks address ≡ true →
+    HasAddress chunks (place address chunks) address
 place_covers from [] address rising within = cc
 place_covers from (c ∷ rest) address rising within =
     ⊎_elim
     (λ early.
     let later : covers c address ≡ false = and_right _ _ (le-ltb address (chunk_end c) (leb-true _ _ early)) in
     let rest_within : granted rest address ≡ true = sym (ap (λ (first : Bool). first || granted rest address) later) ∙ within in
-    let one_more : place address (c ∷ rest) ≡ suc (place address rest) = cond-true (nat_le (chunk_end c) address) (1 + place address rest) 0 early ∙ omega arith in
+    let one_more : place address (c ∷ rest) ≡ suc (place address rest) =
+    cond-true (nat_le (chunk_end c) address) (1 + place address rest) 0 early ∙ omega arith in
     let found = place_covers (chunk_end c) rest address rising.2 rest_within in
     subst (λ n. HasAddress (c ∷ rest) n address) (sym one_more) (omega arith, found.1))
     (λ late.
@@ -67,7 +72,8 @@ module _ {X : Type 0} (f : X → Chunk) where
       let rise = ends_rise 0 (map f xs) rising i j (f d) order (omega (arith, length-map xs f)) in
       omega arith
 
-  pub searched : (xs : List X) (address n : ℕ) → n ≤ length xs → IsPartitionPoint (λ x. nat_le (chunk_end (f x)) address ≡ true) (λ x. nat_le (chunk_end (f x)) address ≡ false) xs n →
+  pub searched : (xs : List X) (address n : ℕ) → n ≤ length xs →
+      IsPartitionPoint (λ x. nat_le (chunk_end (f x)) address ≡ true) (λ x. nat_le (chunk_end (f x)) address ≡ false) xs n →
       AreRising 0 (map f xs) → granted (map f xs) address ≡ true → HasAddress (map f xs) n address
   searched [] address n within parts rising here = cc
   searched (x ∷ xs) address n within parts rising here =
@@ -76,7 +82,8 @@ module _ {X : Type 0} (f : X → Chunk) where
       let at : (k : ℕ) → early (get_or (map f all) k (f x)) ≡ early (f (get_or all k x)) = λ k. ap early (get_or-map f all k x) in
       let long = length-map all f in
       subst (λ (k : ℕ). HasAddress (map f all) k address)
-      (prefix_len_is early (map f all) n (f x) (omega arith) (λ k below. at k ∙ parts.0 k x (omega arith) below) (λ below. at n ∙ parts.1 n x (omega arith) (omega arith)))
+      (prefix_len_is early (map f all) n (f x) (omega arith) (λ k below. at k ∙ parts.0 k x (omega arith) below)
+      (λ below. at n ∙ parts.1 n x (omega arith) (omega arith)))
       (place_covers 0 (map f all) address rising here)
 
 -- the block at a place has the address
@@ -92,22 +99,27 @@ first_place block rest address here =
       within = omega arith;
       covers_it = λ _. here;
       reads = λ _. cond-true (covers (chunk_of block) address) (get_or block.bytes (address - block.at) 0) (byte_at rest address) here;
-      writes = λ _ byte. cond-true (covers (chunk_of block) address) (with_byte block address byte ∷ rest) (block ∷ stored rest address byte) here;
+      writes = λ _ byte.
+          cond-true (covers (chunk_of block) address) (with_byte block address byte ∷ rest) (block ∷ stored rest address byte) here;
     }
 
-later_place : (block : Block) (rest : List Block) (address n : ℕ) → covers (chunk_of block) address ≡ false → IsPlace rest address n → IsPlace (block ∷ rest) address (suc n)
+later_place : (block : Block) (rest : List Block) (address n : ℕ) → covers (chunk_of block) address ≡ false → IsPlace rest address n →
+    IsPlace (block ∷ rest) address (suc n)
 later_place block rest address n later is =
     record {
       within = let old = is.within in omega arith;
       covers_it = is.covers_it;
-      reads = λ d. cond-false (covers (chunk_of block) address) (get_or block.bytes (address - block.at) 0) (byte_at rest address) later ∙ is.reads d;
+      reads =
+          λ d. cond-false (covers (chunk_of block) address) (get_or block.bytes (address - block.at) 0) (byte_at rest address) later
+          ∙ is.reads d;
       writes = λ d byte.
           cond-false (covers (chunk_of block) address) (with_byte block address byte ∷ rest) (block ∷ stored rest address byte) later
           ∙ ap (λ (others : List Block). block ∷ others) (is.writes d byte);
     }
 
 -- where a chunk has the address, its block is the one that is read and written
-pub place_held : (from : ℕ) (memory : List Block) (address n : ℕ) → AreRising from (chunks_of memory) → HasAddress (chunks_of memory) n address → IsPlace memory address n
+pub place_held : (from : ℕ) (memory : List Block) (address n : ℕ) → AreRising from (chunks_of memory) →
+    HasAddress (chunks_of memory) n address → IsPlace memory address n
 place_held from [] address n rising has = absurd (omega (arith, has.0))
 place_held from (block ∷ rest) address zero rising has = first_place block rest address has.1
 place_held from (block ∷ rest) address (suc n) rising has =
@@ -115,21 +127,25 @@ place_held from (block ∷ rest) address (suc n) rising has =
     let later : covers (chunk_of block) address ≡ false = grind (arith, begins, has.1) in
     later_place block rest address n later (place_held (chunk_end (chunk_of block)) rest address n rising.2 (omega (arith, has.0), has.1))
 
-pub place_of_call : (items called : List Block) (address n : ℕ) → called ≡ items → AreRising 0 (chunks_of items) → HasAddress (chunks_of called) n address → IsPlace items address n
+pub place_of_call : (items called : List Block) (address n : ℕ) → called ≡ items → AreRising 0 (chunks_of items) →
+    HasAddress (chunks_of called) n address → IsPlace items address n
 place_of_call items called address n same rising has =
     place_held 0 items address n rising (subst (λ (m : List Block). HasAddress (chunks_of m) n address) same has)
 
 -- what a read and a write at the place do
-pub covered_at : (items : List Block) (address n : ℕ) (block : Block) → IsPlace items address n → block ≡ get_or items n block → covers (chunk_of block) address ≡ true
+pub covered_at : (items : List Block) (address n : ℕ) (block : Block) → IsPlace items address n → block ≡ get_or items n block →
+    covers (chunk_of block) address ≡ true
 covered_at items address n block is read =
     subst (λ (b : Block). covers (chunk_of b) address ≡ true) (sym read) (is.covers_it block)
 
-pub loaded_at : (items memory : List Block) (address n : ℕ) (block : Block) → items ≡ memory → IsPlace items address n → block ≡ get_or items n block → get_or block.bytes (address - block.at) 0 ≡ byte_at memory address
+pub loaded_at : (items memory : List Block) (address n : ℕ) (block : Block) → items ≡ memory → IsPlace items address n →
+    block ≡ get_or items n block → get_or block.bytes (address - block.at) 0 ≡ byte_at memory address
 loaded_at items memory address n block same is read =
     ap (λ (b : Block). get_or b.bytes (address - b.at) 0) read ∙ sym (is.reads block)
     ∙ ap (λ (m : List Block). byte_at m address) same
 
-pub stored_at : (items memory : List Block) (address byte n : ℕ) (old new : Block) → items ≡ memory → IsPlace items address n → old ≡ get_or items n old → new ≡ with_byte old address byte → set items n new ≡ stored memory address byte
+pub stored_at : (items memory : List Block) (address byte n : ℕ) (old new : Block) → items ≡ memory → IsPlace items address n →
+    old ≡ get_or items n old → new ≡ with_byte old address byte → set items n new ≡ stored memory address byte
 stored_at items memory address byte n old new same is read written =
     ap (set items n) (written ∙ ap (λ (b : Block). with_byte b address byte) read) ∙ sym (is.writes old byte)
     ∙ ap (λ (m : List Block). stored m address byte) same

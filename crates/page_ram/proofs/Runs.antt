@@ -8,7 +8,8 @@ use Rattle.page_ram.specs.declared.raw_ram.Extent.{Extent}
 use Rattle.page_ram.specs.Extents.{extent_chunk, laid, AreCut, StandsAt, StandsRun, set_run}
 use Rattle.page_ram.proofs.Extents.{AreCut-set, byte_found, le-end}
 
-first_stands : (extents : List Extent) (place address count index : ℕ) → StandsRun extents place address (suc count) index → StandsAt extents address place index
+first_stands : (extents : List Extent) (place address count index : ℕ) → StandsRun extents place address (suc count) index →
+    StandsAt extents address place index
 first_stands extents place address count index run =
     let none : Extent = record { at = 0; len = 0; from = 0 } in
     let there = run.there in
@@ -28,7 +29,8 @@ pub record IsWritten (block : List ℕ) (extents : List Extent) (address index :
   pub memory : stored_run (laid block extents) address bytes ≡ laid (set_run block index bytes) extents
   pub cut : AreCut (set_run block index bytes) extents
 
-pub run_written : (block : List ℕ) (extents : List Extent) (place address index : ℕ) (bytes : List ℕ) → ((k : ℕ) → get_or bytes k 0 < 256) → AreCut block extents →
+pub run_written : (block : List ℕ) (extents : List Extent) (place address index : ℕ) (bytes : List ℕ) → ((k : ℕ) → get_or bytes k 0 < 256) →
+    AreCut block extents →
     StandsRun extents place address (length bytes) index → IsWritten block extents address index bytes
 run_written block extents place address index [] small cut run =
     let none : Extent = record { at = 0; len = 0; from = 0 } in

@@ -23,7 +23,8 @@ impl Model for RawBlock {
 
     ghost view = { λ b. somes b.cells.slots };
 
-    ghost invariant = { λ b. (b.cells.at ≡ b.base.ptr) × (b.deed.at ≡ b.base.ptr) × (b.deed.len ≡ b.len) × (b.deed.alloc ≡ b.alloc) × (length b.cells.slots ≡ b.len) × AreFilled b.cells.slots };
+    ghost invariant = { λ b. (b.cells.at ≡ b.base.ptr) × (b.deed.at ≡ b.base.ptr) × (b.deed.len ≡ b.len) × (b.deed.alloc ≡ b.alloc)
+        × (length b.cells.slots ≡ b.len) × AreFilled b.cells.slots };
 }
 
 /// Puts bytes into the places from `index` on.

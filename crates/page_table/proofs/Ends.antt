@@ -1,5 +1,6 @@
 -- The offsets at which chunks end, and the chunk in which an offset lies.
-use Rattle.std.proofs.Common.{◌≡◌, ◌⊎◌, ℕ, zero, suc, ◌+◌, ◌-◌, ◌^◌, ◌≤◌, ◌<◌, true, List, [], ◌∷◌, length, get_or, refl, sym, ap, ◌∙◌, arith, subst, ⊎_elim}
+use Rattle.std.proofs.Common.{◌≡◌, ◌⊎◌, ℕ, zero, suc, ◌+◌, ◌-◌, ◌^◌, ◌≤◌, ◌<◌, true, List, [], ◌∷◌, length, get_or, refl, sym, ap, ◌∙◌}
+use Rattle.std.proofs.Common.{arith, subst, ⊎_elim}
 use Rattle.std.proofs.lemmas.Bool.{cases_Bool, cond-true, cond-false, leb-true, leb-false, le-leb, lt-leb}
 use Rattle.std.proofs.lemmas.List.Sums.{prefix_len_is}
 use Rattle.std.specs.List.{prefix_len, All}
@@ -36,7 +37,8 @@ abbrev pub ended_at : ℕ → List ℕ → ℕ
 ended_at q ends = prefix_len (λ end. nat_le end q) ends
 
 -- a place after the ends before the i-th, and before the i-th
-pub between_ends : (ends : List ℕ) (i q : ℕ) → IsNonDecreasingBy (λ (end : ℕ). end) ends → i < length ends → q < get_or ends i 0 → ((i ≡ 0) ⊎ (get_or ends (i - 1) 0 ≤ q)) → i ≡ ended_at q ends
+pub between_ends : (ends : List ℕ) (i q : ℕ) → IsNonDecreasingBy (λ (end : ℕ). end) ends → i < length ends → q < get_or ends i 0 →
+    ((i ≡ 0) ⊎ (get_or ends (i - 1) 0 ≤ q)) → i ≡ ended_at q ends
 between_ends ends i q rise within after before =
     sym (prefix_len_is (λ end. nat_le end q) ends i 0 (omega arith)
     (λ k below. ⊎_elim
@@ -51,10 +53,12 @@ record IsHeld (begin : ℕ) (pairs : List (ℕ × ℕ)) (q i : ℕ) : Type 0 whe
   pub before_end : q < get_or (ends_from begin (listed pairs)) i 0
   pub after_begin : get_or (ends_from begin (listed pairs)) i 0 - q ≤ (get_or pairs i (0, 0)).1
   pub last : (get_or pairs i (0, 0)).0 + (get_or pairs i (0, 0)).1 ≤ 2 ^ 32
-  pub address : address_at (listed pairs) (q - begin) ≡ (get_or pairs i (0, 0)).0 + ((get_or pairs i (0, 0)).1 - (get_or (ends_from begin (listed pairs)) i 0 - q))
+  pub address : address_at (listed pairs) (q - begin)
+      ≡ (get_or pairs i (0, 0)).0 + ((get_or pairs i (0, 0)).1 - (get_or (ends_from begin (listed pairs)) i 0 - q))
   pub room : room_at (listed pairs) (q - begin) ≡ get_or (ends_from begin (listed pairs)) i 0 - q
 
-held : (begin : ℕ) (pairs : List (ℕ × ℕ)) (q : ℕ) → All (λ c. is_aligned c ≡ true) (listed pairs) → begin ≤ q → q < begin + total (listed pairs) → IsHeld begin pairs q (ended_at q (ends_from begin (listed pairs)))
+held : (begin : ℕ) (pairs : List (ℕ × ℕ)) (q : ℕ) → All (λ c. is_aligned c ≡ true) (listed pairs) → begin ≤ q →
+    q < begin + total (listed pairs) → IsHeld begin pairs q (ended_at q (ends_from begin (listed pairs)))
 held begin [] q aligned low high = absurd (omega arith)
 held begin (pair ∷ rest) q aligned low high =
     let c = pair_chunk pair in
@@ -65,7 +69,8 @@ held begin (pair ∷ rest) q aligned low high =
     let past : end ≤ q = leb-true end q yes in
     let more = held end rest q (λ k d below. aligned (suc k) d (omega arith)) past (omega arith) in
     let e : q - begin - c.len ≡ q - end = omega arith in
-    let next : ended_at q (ends_from begin (listed (pair ∷ rest))) ≡ suc (ended_at q (ends_from end (listed rest))) = cond-true (nat_le end q) _ _ yes ∙ omega arith in
+    let next : ended_at q (ends_from begin (listed (pair ∷ rest))) ≡ suc (ended_at q (ends_from end (listed rest))) =
+    cond-true (nat_le end q) _ _ yes ∙ omega arith in
     subst (IsHeld begin (pair ∷ rest) q) (sym next) (record {
       within = let w = more.within in omega arith;
       before_end = more.before_end;
@@ -90,7 +95,8 @@ held begin (pair ∷ rest) q aligned low high =
     }))
     (cases_Bool (nat_le end q))
 
-pub holds : (pairs : List (ℕ × ℕ)) (ends : List ℕ) (offset i : ℕ) → ends ≡ ends_from 0 (listed pairs) → All (λ c. is_aligned c ≡ true) (listed pairs) → offset < total (listed pairs) → i ≡ ended_at offset ends → Holds pairs ends offset i
+pub holds : (pairs : List (ℕ × ℕ)) (ends : List ℕ) (offset i : ℕ) → ends ≡ ends_from 0 (listed pairs) →
+    All (λ c. is_aligned c ≡ true) (listed pairs) → offset < total (listed pairs) → i ≡ ended_at offset ends → Holds pairs ends offset i
 holds pairs ends offset i sums aligned within is =
     let h = held 0 pairs offset aligned (omega arith) (omega (arith, within)) in
     let count = length-ends_from 0 pairs in

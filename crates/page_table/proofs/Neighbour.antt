@@ -1,6 +1,7 @@
 -- Chunks kept in a map by their addresses: whether a further one shares a byte with some of them
 -- shows at the last of them that begins before its end.
-use Rattle.std.proofs.Common.{◌≡◌, ℕ, ◌+◌, ◌≤◌, Bool, true, false, List, [], ◌∷◌, ◌++◌, length, length-append, refl, sym, ap, ◌∙◌, arith, ⊎_elim}
+use Rattle.std.proofs.Common.{◌≡◌, ℕ, ◌+◌, ◌≤◌, Bool, true, false, List, [], ◌∷◌, ◌++◌, length, length-append, refl, sym, ap, ◌∙◌, arith}
+use Rattle.std.proofs.Common.{⊎_elim}
 use Rattle.std.proofs.lemmas.Bool.{ltb-false, le-ltb, or_parts, and_right, cond-true, cond-false, cases_Bool, or_from}
 use Rattle.std.proofs.lemmas.Bool.Decides.{nat_tests}
 use Rattle.std.specs.List.{list_any, filter}
@@ -14,7 +15,8 @@ use Rattle.page_table.specs.Taken.{listed, pair_chunk, shares, placed}
 use Rattle.page_table.proofs.Placing.{stand_apart}
 
 -- an insertion into the map places the chunk
-pub listed-insert_entry : (at len from : ℕ) (pairs : List (ℕ × ℕ)) → IsChunk (chunk at len) → AreRising from (listed pairs) → list_any (shares (chunk at len)) (listed pairs) ≡ false →
+pub listed-insert_entry : (at len from : ℕ) (pairs : List (ℕ × ℕ)) → IsChunk (chunk at len) → AreRising from (listed pairs) →
+    list_any (shares (chunk at len)) (listed pairs) ≡ false →
     listed (insert_entry nat_cmp pairs at len) ≡ placed (chunk at len) (listed pairs)
 listed-insert_entry at len from [] good rising apart = refl
 listed-insert_entry at len from (e ∷ rest) good rising apart =
@@ -47,10 +49,12 @@ module _ (c : Chunk) (last : ℕ) (ends : last + 1 ≡ c.at + c.len) where
       (λ yes_e. let more : e ∷ filter begins rest ≡ [] = sym (cond-true (begins e) _ _ yes_e) ∙ none in cc)
       (λ no_e.
       let more : filter begins rest ≡ [] = sym (cond-false (begins e) _ _ no_e) ∙ none in
-      or_from (shares c (pair_chunk e)) (list_any (shares c) (listed rest)) (and_right _ _ (sym (begins_is e) ∙ no_e)) (none_share rest more))
+      or_from (shares c (pair_chunk e)) (list_any (shares c) (listed rest)) (and_right _ _ (sym (begins_is e) ∙ no_e))
+      (none_share rest more))
       (cases_Bool (begins e))
 
-  pub last_shares : (from : ℕ) (pairs front : List (ℕ × ℕ)) (e : ℕ × ℕ) → AreRising from (listed pairs) → filter begins pairs ≡ front ++ e ∷ [] → (list_any (shares c) (listed pairs) ≡ nat_lt c.at (e.0 + e.1)) × (from ≤ e.0)
+  pub last_shares : (from : ℕ) (pairs front : List (ℕ × ℕ)) (e : ℕ × ℕ) → AreRising from (listed pairs) →
+      filter begins pairs ≡ front ++ e ∷ [] → (list_any (shares c) (listed pairs) ≡ nat_lt c.at (e.0 + e.1)) × (from ≤ e.0)
   last_shares from [] front e rising is =
       let lengths : 0 ≡ length front + 1 = ap length is ∙ length-append front (e ∷ []) in
       absurd (omega arith)

@@ -32,7 +32,8 @@ list_any-placed p c [] = refl
 list_any-placed p c (d ∷ rest) = let more = list_any-placed p c rest in grind (arith, more)
 
 -- a chunk that shares no byte with the others goes among them
-pub placed_rising : (c : Chunk) (from : ℕ) (chunks : List Chunk) → IsChunk c → from ≤ c.at → AreRising from chunks → list_any (shares c) chunks ≡ false → AreRising from (placed c chunks)
+pub placed_rising : (c : Chunk) (from : ℕ) (chunks : List Chunk) → IsChunk c → from ≤ c.at → AreRising from chunks →
+    list_any (shares c) chunks ≡ false → AreRising from (placed c chunks)
 placed_rising c from [] good later rising apart = (later, good, tt)
 placed_rising c from (d ∷ rest) good later rising apart =
     let parts = or_parts (shares c d) (list_any (shares c) rest) apart in

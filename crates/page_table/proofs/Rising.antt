@@ -28,7 +28,8 @@ rising-drop from (suc n) (pair ∷ rest) rising =
 abbrev pub pair_end : ℕ × ℕ → ℕ
 pair_end pair = pair.0 + pair.1
 
-le-pair_end : (from : ℕ) (pairs : List (ℕ × ℕ)) (j : ℕ) (d : ℕ × ℕ) → AreRising from (listed pairs) → j < length pairs → from ≤ pair_end (get_or pairs j d)
+le-pair_end : (from : ℕ) (pairs : List (ℕ × ℕ)) (j : ℕ) (d : ℕ × ℕ) → AreRising from (listed pairs) → j < length pairs →
+    from ≤ pair_end (get_or pairs j d)
 le-pair_end from [] j d rising within = absurd (omega arith)
 le-pair_end from (pair ∷ rest) zero d rising within = omega arith
 le-pair_end from (pair ∷ rest) (suc j) d rising within =

@@ -16,7 +16,8 @@ use Rattle.page_table.proofs.Scattered.{length-le-total, total-le}
 
 pub chunks_aligned : (pairs : List (ℕ × ℕ)) → AreChunks pairs → All (λ c. is_aligned c ≡ true) (listed pairs)
 chunks_aligned pairs good =
-    All-map (λ (c : Chunk). is_aligned c ≡ true) pair_chunk pairs (none_found (λ (pair : ℕ × ℕ). is_aligned (pair_chunk pair)) pairs good.aligned)
+    All-map (λ (c : Chunk). is_aligned c ≡ true) pair_chunk pairs
+    (none_found (λ (pair : ℕ × ℕ). is_aligned (pair_chunk pair)) pairs good.aligned)
 
 -- chunks without a fault are few, and have 2^32 bytes at most
 pub total-le-chunks : (pairs : List (ℕ × ℕ)) → AreChunks pairs → total (listed pairs) ≤ 2 ^ 32
@@ -29,7 +30,8 @@ length-le-chunks pairs good =
     let same = length-map pairs pair_chunk in
     omega arith
 
-pub scatter_list-of_chunks : (pairs : List (ℕ × ℕ)) (len : ℕ) → AreChunks pairs → len ≤ total (listed pairs) → IsScatterList (scatter_list (listed pairs) len)
+pub scatter_list-of_chunks : (pairs : List (ℕ × ℕ)) (len : ℕ) → AreChunks pairs → len ≤ total (listed pairs) →
+    IsScatterList (scatter_list (listed pairs) len)
 scatter_list-of_chunks pairs len good enough =
     record { aligned = chunks_aligned pairs good; apart = good.apart; enough = enough }
 
@@ -40,7 +42,8 @@ pages_enough pages len few =
     let bytes = total-pages pages in
     omega arith
 
-pub scatter_list-of_pages : (pages : List ℕ) (len : ℕ) → ((k : ℕ) → k < length pages → get_or pages k 0 < 2 ^ 32) → ArePages pages → div_ceil len 4096 ≤ length pages →
+pub scatter_list-of_pages : (pages : List ℕ) (len : ℕ) → ((k : ℕ) → k < length pages → get_or pages k 0 < 2 ^ 32) → ArePages pages →
+    div_ceil len 4096 ≤ length pages →
     IsScatterList (scatter_list (listed (map (λ (page : ℕ). (page, 4096)) pages)) len)
 scatter_list-of_pages pages len fit good few =
     rw (listed-pages pages) (record {
@@ -53,7 +56,8 @@ scatter_list-of_pages pages len fit good few =
 pub if_enough-yes : (need have : ℕ) (s : ScatterList) → need ≤ have → if_enough need have s ≡ Ok s
 if_enough-yes need have s enough = cond-false (nat_lt have need) _ _ (le-ltb have need enough)
 
-pub scattered_pages-yes : (pages : List ℕ) (len : ℕ) (s : ScatterList) → div_ceil len 4096 ≤ length pages → s ≡ scatter_list (listed (map (λ (page : ℕ). (page, 4096)) pages)) len → scattered_pages pages len ≡ Ok s
+pub scattered_pages-yes : (pages : List ℕ) (len : ℕ) (s : ScatterList) → div_ceil len 4096 ≤ length pages →
+    s ≡ scatter_list (listed (map (λ (page : ℕ). (page, 4096)) pages)) len → scattered_pages pages len ≡ Ok s
 scattered_pages-yes pages len s few is =
     if_enough-yes (div_ceil len 4096) (length pages) (scatter_list (map page_at pages) len) few
     ∙ ap (λ (chunks : List Chunk). Ok (scatter_list chunks len)) (sym (listed-pages pages))

@@ -1,5 +1,6 @@
 -- Granted memory: a list of chunks.
-use Rattle.std.specs.Prelude.{ℕ, zero, suc, ◌+◌, ◌%◌, ◌^◌, ◌≤◌, ◌≡◌, Bool, ◌&&◌, List, [], ◌∷◌, length, min, max, Option, Some, None, if◌then◌else◌, nat_lt, nat_le, ◌==◌, slice_index_or}
+use Rattle.std.specs.Prelude.{ℕ, zero, suc, ◌+◌, ◌%◌, ◌^◌, ◌≤◌, ◌≡◌, Bool, ◌&&◌, List, [], ◌∷◌, length, min, max, Option, Some, None}
+use Rattle.std.specs.Prelude.{if◌then◌else◌, nat_lt, nat_le, ◌==◌, slice_index_or}
 use Rattle.std.specs.List.{list_any, sum_by}
 
 -- a chunk: the address of its first byte, and its length in bytes

@@ -1,5 +1,6 @@
 -- Scatter lists: chunks in any order, and which address an offset has.
-use Rattle.std.specs.Prelude.{ℕ, ◌+◌, ◌-◌, ◌^◌, ◌<◌, ◌≤◌, ◌≡◌, true, not, List, [], ◌∷◌, length, map, None, Result, Ok, Err, if◌then◌else◌, nat_lt, min, slice_index_or, ⊤}
+use Rattle.std.specs.Prelude.{ℕ, ◌+◌, ◌-◌, ◌^◌, ◌<◌, ◌≤◌, ◌≡◌, true, not, List, [], ◌∷◌, length, map, None, Result, Ok, Err, if◌then◌else◌}
+use Rattle.std.specs.Prelude.{nat_lt, min, slice_index_or, ⊤}
 use Rattle.std.specs.Int.{div_ceil}
 use Rattle.std.specs.List.{position, All}
 use Rattle.page_table.specs.Grants.{Chunk, page_size, total}
@@ -78,5 +79,6 @@ pub record Holds (pairs : List (ℕ × ℕ)) (ends : List ℕ) (offset i : ℕ) 
   pub before_end : offset < slice_index_or ends i 0
   pub after_begin : slice_index_or ends i 0 - offset ≤ (slice_index_or pairs i (0, 0)).1
   pub last : (slice_index_or pairs i (0, 0)).0 + (slice_index_or pairs i (0, 0)).1 ≤ 2 ^ 32
-  pub address : address_at (listed pairs) offset ≡ (slice_index_or pairs i (0, 0)).0 + ((slice_index_or pairs i (0, 0)).1 - (slice_index_or ends i 0 - offset))
+  pub address : address_at (listed pairs) offset
+      ≡ (slice_index_or pairs i (0, 0)).0 + ((slice_index_or pairs i (0, 0)).1 - (slice_index_or ends i 0 - offset))
   pub room : room_at (listed pairs) offset ≡ slice_index_or ends i 0 - offset

@@ -1,5 +1,6 @@
 -- Which grants a list of pages or chunks makes, or the first fault of the list.
-use Rattle.std.specs.Prelude.{ℕ, ◌+◌, ◌%◌, ◌^◌, ◌≡◌, Bool, not, ◌&&◌, ◌||◌, List, [], ◌∷◌, ◌++◌, length, map, Option, Some, None, Result, Ok, Err, if◌then◌else◌, nat_lt, nat_le, ◌==◌, ⊤}
+use Rattle.std.specs.Prelude.{ℕ, ◌+◌, ◌%◌, ◌^◌, ◌≡◌, Bool, not, ◌&&◌, ◌||◌, List, [], ◌∷◌, ◌++◌, length, map, Option, Some, None, Result}
+use Rattle.std.specs.Prelude.{Ok, Err, if◌then◌else◌, nat_lt, nat_le, ◌==◌, ⊤}
 use Rattle.std.specs.List.{list_any, position}
 use Rattle.page_table.specs.Grants.{Chunk, chunk, max_bytes, max_chunks, page_size, total}
 use Rattle.page_table.specs.declared.PageFault.{PageFault}

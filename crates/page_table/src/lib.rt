@@ -1,11 +1,14 @@
 //! Granted memory as chunks: an address and a length each.
 #![tactic(auto)]
 
-ghost use Rattle.std.specs.Prelude.{◌≡◌, ◌+◌, ◌*◌, ◌^◌, ◌<◌, ◌≤◌, ◌↔◌, true, false, not, [], length, map, nat_le, IfOk, IfSome, IsTrue, MatchResult, Some, None};
+ghost use Rattle.std.specs.Prelude.{◌≡◌, ◌+◌, ◌*◌, ◌^◌, ◌<◌, ◌≤◌, ◌↔◌, true, false, not, [], length, map, nat_le, IfOk, IfSome, IsTrue};
+ghost use Rattle.std.specs.Prelude.{MatchResult, Some, None};
 ghost use Rattle.std.specs.List.{list_any, position, prefix_len, All};
 ghost use Rattle.std.specs.Result.{result_err};
-ghost use Rattle.page_table.specs.Grants.{AreGrants, AreRising, IsChunk, chunk, chunk_at, first_ungranted, is_met, is_page, max_bytes, max_chunks, page_size, total};
-ghost use Rattle.page_table.specs.Taken.{Answers, first_shared, is_aligned, is_page_address, listed, page_at, pair_chunk, shares, taken_chunks, taken_pages, unless_shared};
+ghost use Rattle.page_table.specs.Grants.{AreGrants, AreRising, IsChunk, chunk, chunk_at, first_ungranted, is_met, is_page, max_bytes};
+ghost use Rattle.page_table.specs.Grants.{max_chunks, page_size, total};
+ghost use Rattle.page_table.specs.Taken.{Answers, first_shared, is_aligned, is_page_address, listed, page_at, pair_chunk, shares};
+ghost use Rattle.page_table.specs.Taken.{taken_chunks, taken_pages, unless_shared};
 ghost use Rattle.page_table.specs.declared.PageFault.TheVariants.{Memory};
 
 use std::alloc::{AllocError, AllocFailed, Global};

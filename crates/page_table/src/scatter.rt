@@ -5,7 +5,8 @@ ghost use Rattle.std.specs.List.{All, prefix_len};
 ghost use Rattle.std.specs.List.Sorted.{IsNonDecreasingBy};
 ghost use Rattle.page_table.specs.Grants.{total};
 ghost use Rattle.page_table.specs.Taken.{first_shared, is_aligned, listed, page_at};
-ghost use Rattle.page_table.specs.Scattered.{AreChunks, ArePages, Holds, IsScatterList, Scatters, address_at, ends_from, room_at, run_at, scatter_list, scattered_chunks, scattered_pages};
+ghost use Rattle.page_table.specs.Scattered.{AreChunks, ArePages, Holds, IsScatterList, Scatters, address_at, ends_from, room_at, run_at};
+ghost use Rattle.page_table.specs.Scattered.{scatter_list, scattered_chunks, scattered_pages};
 ghost use Rattle.page_table.specs.declared.scatter.ScatterFault.TheVariants.{Memory};
 
 use super::{PAGE_SIZE, total, whole_pages};
@@ -41,7 +42,8 @@ impl Model for Scatter {
 
     ghost view = { λ s. scatter_list (listed s.chunks.items) s.len };
 
-    ghost invariant = { λ s. IsScatterList (scatter_list (listed s.chunks.items) s.len) × (s.ends.items ≡ ends_from 0 (listed s.chunks.items)) };
+    ghost invariant = { λ s. IsScatterList (scatter_list (listed s.chunks.items) s.len)
+        × (s.ends.items ≡ ends_from 0 (listed s.chunks.items)) };
 }
 
 // The offsets at which chunks end.

@@ -1,5 +1,6 @@
 -- Parts of a run from one place to another.
-use Rattle.std.proofs.Common.{◌≡◌, ℕ, zero, suc, ◌+◌, ◌-◌, ◌<◌, ◌≤◌, Bool, true, false, ◌||◌, List, [], ◌∷◌, ◌++◌, length, take, drop, refl, sym, ap, ◌∙◌, subst, arith, ⊎_elim}
+use Rattle.std.proofs.Common.{◌≡◌, ℕ, zero, suc, ◌+◌, ◌-◌, ◌<◌, ◌≤◌, Bool, true, false, ◌||◌, List, [], ◌∷◌, ◌++◌, length, take, drop, refl}
+use Rattle.std.proofs.Common.{sym, ap, ◌∙◌, subst, arith, ⊎_elim}
 use Rattle.std.specs.Prelude.{slice_index_or}
 use Rattle.std.proofs.Math.Seq.{take-add}
 use Rattle.std.proofs.lemmas.Bool.{cases_Bool, cases_lt, or_cases, or_from, or_parts}
@@ -14,7 +15,8 @@ use Rattle.picture_law.specs.Runs.{IsFirstEnd, between, ends_at, signals_at, ste
 
 -- ---- what is from a place up to another
 
-pub range_split : {A : Type 0} (j i l : ℕ) (xs : List A) → j ≤ i → i ≤ l → take (l - j) (drop j xs) ≡ take (i - j) (drop j xs) ++ take (l - i) (drop i xs)
+pub range_split : {A : Type 0} (j i l : ℕ) (xs : List A) → j ≤ i → i ≤ l →
+    take (l - j) (drop j xs) ≡ take (i - j) (drop j xs) ++ take (l - i) (drop i xs)
 range_split {A} j i l xs first later =
     let all : l - j ≡ i - j + (l - i) = omega arith in
     let there : j + (i - j) ≡ i = omega arith in
@@ -40,23 +42,29 @@ pub between_none : (i : ℕ) (steps : List Step) → between i i steps ≡ []
 between_none i steps = let none : i - i ≡ 0 = omega arith in ap (λ (n : ℕ). take n (drop i steps)) none
 
 -- the steps up to one at a place, that one, and those after it
-pub between_at : (j i l : ℕ) (steps : List Step) → j ≤ i → i < l → i < length steps → between j l steps ≡ between j i steps ++ step_at steps i ∷ between (i + 1) l steps
+pub between_at : (j i l : ℕ) (steps : List Step) → j ≤ i → i < l → i < length steps →
+    between j l steps ≡ between j i steps ++ step_at steps i ∷ between (i + 1) l steps
 between_at j i l steps first before within =
-    between_both j i l steps first (omega arith) ∙ ap (λ (rest : List Step). between j i steps ++ rest) (between_first i l steps before within)
+    between_both j i l steps first (omega arith)
+    ∙ ap (λ (rest : List Step). between j i steps ++ rest) (between_first i l steps before within)
 
-pub between_last : (j k : ℕ) (steps : List Step) → j ≤ k → k < length steps → between j (k + 1) steps ≡ between j k steps ++ step_at steps k ∷ []
+pub between_last : (j k : ℕ) (steps : List Step) → j ≤ k → k < length steps →
+    between j (k + 1) steps ≡ between j k steps ++ step_at steps k ∷ []
 between_last j k steps first within =
-    between_at j k (k + 1) steps first (omega arith) within ∙ ap (λ (rest : List Step). between j k steps ++ step_at steps k ∷ rest) (between_none (k + 1) steps)
+    between_at j k (k + 1) steps first (omega arith) within
+    ∙ ap (λ (rest : List Step). between j k steps ++ step_at steps k ∷ rest) (between_none (k + 1) steps)
 
 -- ---- states
 
-pub state_next : (m : State) (steps : List Step) (k : ℕ) → k < length steps → state_at m steps (k + 1) ≡ step (step_at steps k) (state_at m steps k)
+pub state_next : (m : State) (steps : List Step) (k : ℕ) → k < length steps →
+    state_at m steps (k + 1) ≡ step (step_at steps k) (state_at m steps k)
 state_next m steps k within = ap (run m) (take_more steps k Turn within) ∙ run-append m (take k steps) (step_at steps k ∷ [])
 
 pub state_between : (m : State) (steps : List Step) (j i : ℕ) → j ≤ i → run (state_at m steps j) (between j i steps) ≡ state_at m steps i
 state_between m steps j i first =
     let there : j + (i - j) ≡ i = omega arith in
-    sym (run-append m (take j steps) (between j i steps)) ∙ ap (run m) (sym (take-add j (i - j) steps)) ∙ ap (λ (n : ℕ). run m (take n steps)) there
+    sym (run-append m (take j steps) (between j i steps)) ∙ ap (run m) (sym (take-add j (i - j) steps))
+    ∙ ap (λ (n : ℕ). run m (take n steps)) there
 
 -- ---- ends
 
@@ -83,11 +91,13 @@ module _ (address : ℕ) (m : State) (steps : List Step) where
       let st = step_at steps j in
       let next : step st (with_program m.program (state_at m steps j)) ≡ state_at m steps (j + 1) =
       ap (step st) (sym (own_program m (take j steps))) ∙ sym (state_next m steps j (omega arith)) in
-      ap (λ (part : List Step). has_end address (state_at m steps j) (meeting m.program part)) (between_first j l steps before (omega arith))
+      ap (λ (part : List Step). has_end address (state_at m steps j) (meeting m.program part))
+      (between_first j l steps before (omega arith))
       ∙ ap (λ (m' : State). ends_at address m steps j || has_end address m' (meeting m.program (between (j + 1) l steps))) next
 
   -- no step ends it
-  pub no_end : (n j l : ℕ) → j + n ≡ l → l ≤ length steps → ((i : ℕ) → j ≤ i → i < l → ends_at address m steps i ≡ false) → ends_from j l ≡ false
+  pub no_end : (n j l : ℕ) → j + n ≡ l → l ≤ length steps → ((i : ℕ) → j ≤ i → i < l → ends_at address m steps i ≡ false) →
+      ends_from j l ≡ false
   no_end zero j l end within none = let here : l ≡ j = omega arith in ap (ends_from j) here ∙ none_from j
   no_end (suc n) j l end within none =
       ends_first j l (omega arith) within
@@ -101,17 +111,22 @@ module _ (address : ℕ) (m : State) (steps : List Step) where
       let none : ends_from j l ≡ false = ap (ends_from j) here ∙ none_from j in cc
   some_end (suc n) j l end within signal =
       ⊎_elim
-      (λ now. (j, record { later = omega arith; there = omega arith; signal = now; first = λ i from to. absurd (omega arith) }, omega arith))
+      (λ now.
+      (j, record { later = omega arith; there = omega arith; signal = now; first = λ i from to. absurd (omega arith) }, omega arith))
       (λ not_now.
       let both : (ends_at address m steps j || ends_from (j + 1) l) ≡ true = sym (ends_first j l (omega arith) within) ∙ signal in
       let rest : ends_from (j + 1) l ≡ true =
       ⊎_elim (λ now. cc) (λ more. more) (or_cases (ends_at address m steps j) (ends_from (j + 1) l) both) in
       let found = some_end n (j + 1) l (omega arith) within rest in
-      let later = found.1.later in
-      (found.0, record { later = omega arith; there = found.1.there; signal = found.1.signal; first = first_of found.0 not_now found.1 }, found.2))
+      let later = found.1.later in (
+        found.0,
+        record { later = omega arith; there = found.1.there; signal = found.1.signal; first = first_of found.0 not_now found.1 },
+        found.2,
+      ))
       (cases_Bool (ends_at address m steps j))
     where
-      first_of : (k : ℕ) → ends_at address m steps j ≡ false → IsFirstEnd address m steps (j + 1) k → (i : ℕ) → j ≤ i → i < k → ends_at address m steps i ≡ false
+      first_of : (k : ℕ) → ends_at address m steps j ≡ false → IsFirstEnd address m steps (j + 1) k → (i : ℕ) → j ≤ i → i < k →
+          ends_at address m steps i ≡ false
       first_of k not_now first i from to =
           ⊎_elim
           (λ after. first.first i (omega arith) to)
@@ -138,6 +153,7 @@ module _ (s : Section) (m : State) (steps : List Step) where
       has_signal s (state_at m steps j) (meeting m.program (between j l steps)) ≡ false
   no_signal = no_end (closing_at s) m steps
 
-  pub silent_at : (n j l i : ℕ) → j + n ≡ l → l ≤ length steps → has_signal s (state_at m steps j) (meeting m.program (between j l steps)) ≡ false → j ≤ i → i < l →
+  pub silent_at : (n j l i : ℕ) → j + n ≡ l → l ≤ length steps →
+      has_signal s (state_at m steps j) (meeting m.program (between j l steps)) ≡ false → j ≤ i → i < l →
       signals_at s m steps i ≡ false
   silent_at = unended_at (closing_at s) m steps

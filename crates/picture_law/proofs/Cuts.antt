@@ -1,5 +1,6 @@
 -- The cuts of one line, as a queue sees them: what they ask, and where its bytes go.
-use Rattle.std.proofs.Common.{◌≡◌, ℕ, ◌+◌, ◌-◌, ◌*◌, ◌<◌, ◌≤◌, Bool, true, false, not, ◌&&◌, ◌==◌, List, [], ◌∷◌, map, Option, Some, None, option_map, refl, sym, ap, ◌∙◌, subst, arith, ⊎_elim}
+use Rattle.std.proofs.Common.{◌≡◌, ℕ, ◌+◌, ◌-◌, ◌*◌, ◌<◌, ◌≤◌, Bool, true, false, not, ◌&&◌, ◌==◌, List, [], ◌∷◌, map, Option, Some, None}
+use Rattle.std.proofs.Common.{option_map, refl, sym, ap, ◌∙◌, subst, arith, ⊎_elim}
 use Rattle.std.proofs.lemmas.Bool.{cases_lt, eq-eqb, ne_eqb}
 use Rattle.std.proofs.Math.Nat.{mul-pos}
 use Rattle.risc_word.specs.declared.Ends.{Ends}
@@ -51,12 +52,15 @@ abbrev pub cut_asks : List Chunk → Bool → Bool → ℕ → ℕ → Track →
 cut_asks memory sol clipped at n t = ask (sol && not (n * t.size == 0)) (n * t.size) (cut_address memory clipped t at)
 
 module _ (memory : List Chunk) (ends : Ends) (at n size size' size'' : ℕ) where
-  pub piece_asks : (q : Queue) (planar clipped : Bool) (kind : PieceKind) (start start' start'' : Option ℕ) → Starts planar kind start start' start'' → moves planar q ≡ true →
+  pub piece_asks : (q : Queue) (planar clipped : Bool) (kind : PieceKind) (start start' start'' : Option ℕ) →
+      Starts planar kind start start' start'' → moves planar q ≡ true →
       asked q (instr_by planar (kind_of clipped kind) (record {
         kind = kind_of clipped kind;
         ends = ends;
         counts = n * size ∷ n * size' ∷ n * size'' ∷ [];
-        addrs = address_of memory clipped size start at ∷ address_of memory clipped size' start' at ∷ address_of memory clipped size'' start'' at ∷ [];
+        addrs =
+            address_of memory clipped size start at ∷ address_of memory clipped size' start' at
+            ∷ address_of memory clipped size'' start'' at ∷ [];
       }))
       ≡ cut_asks memory ends.sol clipped at n (on_queue q (track size start) (track size' start') (track size'' start''))
   piece_asks One true true kind start start' start'' starts moved = refl
@@ -101,7 +105,8 @@ ask_later : (first some : Bool) (count : ℕ) (address : Option ℕ) → first �
 ask_later false some count address is = refl
 ask_later true some count address is = cc
 
-ask_first : (first none : Bool) (count : ℕ) (address : Option ℕ) → first ≡ true → none ≡ false → ask (first && not none) count address ≡ Begin count address
+ask_first : (first none : Bool) (count : ℕ) (address : Option ℕ) → first ≡ true → none ≡ false →
+    ask (first && not none) count address ≡ Begin count address
 ask_first true false count address is some = refl
 ask_first true true count address is some = cc
 ask_first false none count address is some = cc
@@ -109,7 +114,8 @@ ask_first false none count address is some = cc
 both : {A : Type 0} (x y : A) (xs ys : List A) → x ≡ y → xs ≡ ys → x ∷ xs ≡ y ∷ ys
 both x y xs ys first later = cc
 
-module _ (memory : List Chunk) (strip : Strip) (q : Queue) (starts : Starts strip.planar strip.kind strip.one.start strip.two.start strip.three.start)
+module _ (memory : List Chunk) (strip : Strip) (q : Queue)
+    (starts : Starts strip.planar strip.kind strip.one.start strip.two.start strip.three.start)
     (moved : moves strip.planar q ≡ true) where
   abbrev t : Track
   t = track_on q strip
@@ -119,14 +125,16 @@ module _ (memory : List Chunk) (strip : Strip) (q : Queue) (starts : Starts stri
 
   asked_cut : (k : Cut) → asked q (instr_of strip.planar (piece_of memory strip k)) ≡ cut_asks memory (k.at == 0) k.clipped k.at k.n t
   asked_cut k =
-      piece_asks memory (ends_of strip k) k.at k.n strip.one.size strip.two.size strip.three.size q strip.planar k.clipped strip.kind strip.one.start strip.two.start strip.three.start starts moved
+      piece_asks memory (ends_of strip k) k.at k.n strip.one.size strip.two.size strip.three.size q strip.planar k.clipped strip.kind
+      strip.one.start strip.two.start strip.three.start starts moved
 
   later_asks : (end at : ℕ) (cuts : List Cut) → 0 < at → Follow end at cuts → asks_of cuts ≡ map go_on (line_parts_of memory t cuts)
   later_asks end at [] some follow = refl
   later_asks end at (k ∷ rest) some follow =
       let here = follow.0 in
       both _ _ _ _
-      (asked_cut k ∙ ask_later (k.at == 0) (not (k.n * t.size == 0)) (k.n * t.size) (cut_address memory k.clipped t k.at) (ne_eqb k.at 0 (λ zero. omega arith)))
+      (asked_cut k ∙ ask_later (k.at == 0) (not (k.n * t.size == 0)) (k.n * t.size) (cut_address memory k.clipped t k.at)
+      (ne_eqb k.at 0 (λ zero. omega arith)))
       (later_asks end (at + k.n) rest (omega arith) follow.2)
 
   pub cuts_ask : (end : ℕ) (cuts : List Cut) → 0 < t.size → Follow end 0 cuts → asks_of cuts ≡ line_asks (line_parts_of memory t cuts)
@@ -134,7 +142,8 @@ module _ (memory : List Chunk) (strip : Strip) (q : Queue) (starts : Starts stri
   cuts_ask end (k ∷ rest) some follow =
       let n = follow.1 in
       both _ _ _ _
-      (asked_cut k ∙ ask_first (k.at == 0) (k.n * t.size == 0) (k.n * t.size) (cut_address memory k.clipped t k.at) (eq-eqb k.at 0 follow.0) (ne_eqb (k.n * t.size) 0 (λ zero. let product = mul-pos n some in omega arith)))
+      (asked_cut k ∙ ask_first (k.at == 0) (k.n * t.size == 0) (k.n * t.size) (cut_address memory k.clipped t k.at) (eq-eqb k.at 0 follow.0)
+      (ne_eqb (k.n * t.size) 0 (λ zero. let product = mul-pos n some in omega arith)))
       (later_asks end (0 + k.n) rest (omega arith) follow.2)
 
 -- ---- they cover it, and each byte lies in one of them
@@ -183,7 +192,8 @@ module _ (memory : List Chunk) (t : Track) where
       (λ more.
       let left : y - k.n * t.size ≡ x - (at + k.n) * t.size = omega arith in
       subst (LiesIn Q x)
-      (sym (address_behind (line_part_of memory t k) (line_parts_of memory t rest) y more ∙ ap (address_in (line_parts_of memory t rest)) left))
+      (sym
+      (address_behind (line_part_of memory t k) (line_parts_of memory t rest) y more ∙ ap (address_in (line_parts_of memory t rest)) left))
       (lies_from Q end (at + k.n) x rest each.1 follow.2 (omega arith) high))
       (cases_lt y (k.n * t.size))
 
@@ -191,10 +201,12 @@ module _ (memory : List Chunk) (t : Track) where
       LiesIn Q x (address_in (line_parts_of memory t cuts) x)
   lies_in Q end x cuts each follow high =
       let begin : x - 0 * t.size ≡ x = omega arith in
-      subst (λ (y : ℕ). LiesIn Q x (address_in (line_parts_of memory t cuts) y)) begin (lies_from Q end 0 x cuts each follow (omega arith) high)
+      subst (λ (y : ℕ). LiesIn Q x (address_in (line_parts_of memory t cuts) y)) begin
+      (lies_from Q end 0 x cuts each follow (omega arith) high)
 
 -- a byte of a cut that is not clipped goes to its place in it
-pub unclipped_goes : (memory : List Chunk) (clipped : Bool) (size start at j address : ℕ) → clipped ≡ false → address ≡ address_of memory clipped size (Some start) at + j →
+pub unclipped_goes : (memory : List Chunk) (clipped : Bool) (size start at j address : ℕ) → clipped ≡ false →
+    address ≡ address_of memory clipped size (Some start) at + j →
     option_map (λ a. a + j) (cut_address memory clipped (track size (Some start)) at) ≡ Some address
 unclipped_goes memory true size start at j address plain is = cc
 unclipped_goes memory false size start at j address plain is = ap (λ (a : ℕ). Some a) (sym is)

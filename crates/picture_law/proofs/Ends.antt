@@ -15,7 +15,9 @@ module _ (program : RiscProgram) (fill : ℕ) (steps : List Step) where
 
   -- a run of its steps is one in which each meets the program
   ran_in : (j : ℕ) (part : List Step) → run (place j) part ≡ run_in (place j) (meeting program part)
-  ran_in j part = run-run_in (place j) part ∙ ap (λ (program : RiscProgram). run_in (place j) (meeting program part)) (program-run (first_state program fill) (take j steps))
+  ran_in j part =
+      run-run_in (place j) part
+      ∙ ap (λ (program : RiscProgram). run_in (place j) (meeting program part)) (program-run (first_state program fill) (take j steps))
 
   pub ran_to : (j i : ℕ) → j ≤ i → run_in (place j) (meeting program (between j i steps)) ≡ place i
   ran_to j i from = sym (ran_in j (between j i steps)) ∙ state_between (first_state program fill) steps j i from
@@ -35,7 +37,8 @@ module _ (program : RiscProgram) (fill : ℕ) (steps : List Step) where
         meeting program (between j (k + 1) steps) ≡ before i ++ turn_met ∷ meeting program (between (i + 1) (k + 1) steps)
     split_at i from to is_turn =
         let there = e.there in
-        ap (meeting program) (between_at j i (k + 1) steps from (omega arith) (omega arith) ∙ ap (λ (st : Step). between j i steps ++ st ∷ between (i + 1) (k + 1) steps) is_turn)
+        ap (meeting program) (between_at j i (k + 1) steps from (omega arith) (omega arith)
+        ∙ ap (λ (st : Step). between j i steps ++ st ∷ between (i + 1) (k + 1) steps) is_turn)
         ∙ meeting-append program (between j i steps) (Turn ∷ between (i + 1) (k + 1) steps)
 
     pub unended_to : (i : ℕ) → j ≤ i → i ≤ k → has_end address (place j) (before i) ≡ false

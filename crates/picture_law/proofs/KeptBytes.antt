@@ -1,5 +1,6 @@
 -- The bytes of a field that are kept: each is stored, nothing else is, and each address has one of them at most.
-use Rattle.std.proofs.Common.{◌≡◌, ℕ, zero, suc, ◌<◌, Bool, true, false, List, [], ◌++◌, All, length, Option, Some, None, if◌then◌else◌, slice_index_or, refl, sym, ◌∙◌, subst, arith, ⊎_elim}
+use Rattle.std.proofs.Common.{◌≡◌, ℕ, zero, suc, ◌<◌, Bool, true, false, List, [], ◌++◌, All, length, Option, Some, None, if◌then◌else◌}
+use Rattle.std.proofs.Common.{slice_index_or, refl, sym, ◌∙◌, subst, arith, ⊎_elim}
 use Rattle.std.proofs.lemmas.Bool.{cases_Bool, cond-false}
 use Rattle.std.proofs.lemmas.List.{nil_from_length}
 use Rattle.std.proofs.lemmas.List.Elements.{All-nil, All-append}
@@ -20,10 +21,13 @@ use Rattle.picture_model.proofs.Sections.{row_below}
 use Rattle.field_law.specs.Sections.{is_stored}
 use Rattle.field_law.specs.CutLines.{EachByte, lines_stores}
 use Rattle.field_law.proofs.CutLines.{stored_first, stored_second}
-use Rattle.picture_law.specs.Pictures.{Picture, FieldByte, of_row, of_vbi, IsKeptAt, IsPicture, IsUnclipped, byte_in, has_plane, plane_of, rows_on, shown_as, AreSkipped, SkippedLines}
+use Rattle.picture_law.specs.Pictures.{Picture, FieldByte, of_row, of_vbi, IsKeptAt, IsPicture, IsUnclipped, byte_in, has_plane, plane_of}
+use Rattle.picture_law.specs.Pictures.{rows_on, shown_as, AreSkipped, SkippedLines}
 use Rattle.picture_law.proofs.BytePlaces.{queue_plane, queue_row_goes, skipped_goes, skipped_vbi_goes, vbi_goes}
 use Rattle.picture_law.proofs.Lines.{all_stores, cut_line, cut_lines, stored_there}
-use Rattle.picture_law.proofs.Body.{field_row_strip, field_stores, row_stores, rows_all, rows_many, skipped_all, skipped_stores, skipped_strips, skipped_vbi_all, skipped_vbi_stores, skipped_vbi_strips, vbi_all, vbi_line_stores, vbi_stores, vbi_stores_by}
+use Rattle.picture_law.proofs.Body.{field_row_strip, field_stores, row_stores, rows_all, rows_many, skipped_all, skipped_stores}
+use Rattle.picture_law.proofs.Body.{skipped_strips, skipped_vbi_all, skipped_vbi_stores, skipped_vbi_strips, vbi_all, vbi_line_stores}
+use Rattle.picture_law.proofs.Body.{vbi_stores, vbi_stores_by}
 
 -- a store of a byte that is kept
 pub record IsOfPicture (d : Desc) (field : Parity) (picture : Picture) (store : Store) : Type 0 where
@@ -31,14 +35,16 @@ pub record IsOfPicture (d : Desc) (field : Parity) (picture : Picture) (store : 
   pub kept : IsKeptAt d field byte store.address
   pub shown : shown_as picture byte ≡ store.byte
 
-pub unless_clipped : (clipped : Bool) (to : Option ℕ) (address : ℕ) → (if clipped then None else to) ≡ Some address → (clipped ≡ false) × (to ≡ Some address)
+pub unless_clipped : (clipped : Bool) (to : Option ℕ) (address : ℕ) → (if clipped then None else to) ≡ Some address →
+    (clipped ≡ false) × (to ≡ Some address)
 unless_clipped true to address h = cc
 unless_clipped false to address h = (refl, h)
 
 none_some : (address : ℕ) → None ≡ Some address → ⊥
 none_some address h = cc
 
-module _ (d : Desc) (right : IsRight d) (field : Parity) (described : describes d.fields field ≡ true) (picture : Picture) (is : IsPicture d field picture)
+module _ (d : Desc) (right : IsRight d) (field : Parity) (described : describes d.fields field ≡ true) (picture : Picture)
+    (is : IsPicture d field picture)
     (skipped : SkippedLines) (skips : AreSkipped d field skipped) where
   abbrev IsStore : Store → Type 0
   IsStore = IsOfPicture d field picture
@@ -57,7 +63,8 @@ module _ (d : Desc) (right : IsRight d) (field : Parity) (described : describes 
       (sym (queue_row_goes d right q row x has (row_below d field k number) byte) ∙ goes) in
       record { byte = of_row q k x; kept = ((has, number, byte, known.0), known.1); shown = refl }
 
-  skipped_each : (q : Queue) (k : ℕ) → k < length (skipped.rows q) → EachByte IsStore (cut_line (memory_of d) q (skipped_strips d k) (slice_index_or (skipped.rows q) k []))
+  skipped_each : (q : Queue) (k : ℕ) → k < length (skipped.rows q) →
+      EachByte IsStore (cut_line (memory_of d) q (skipped_strips d k) (slice_index_or (skipped.rows q) k []))
   skipped_each q k within x address inside goes =
       let nowhere = skipped_goes d q x _ in absurd (none_some address (sym nowhere ∙ goes))
 
@@ -66,7 +73,8 @@ module _ (d : Desc) (right : IsRight d) (field : Parity) (described : describes 
   skipped_vbi_each k within x address inside goes =
       let nowhere = skipped_vbi_goes d x _ in absurd (none_some address (sym nowhere ∙ goes))
 
-  vbi_each : (k : ℕ) → k < length picture.vbi → EachByte IsStore (cut_line (memory_of d) One (vbi_strip d field k) (slice_index_or picture.vbi k []))
+  vbi_each : (k : ℕ) → k < length picture.vbi →
+      EachByte IsStore (cut_line (memory_of d) One (vbi_strip d field k) (slice_index_or picture.vbi k []))
   vbi_each k within x address inside goes =
       let many = is.vbi.many in
       let long = is.vbi.long k [] within in
@@ -77,36 +85,46 @@ module _ (d : Desc) (right : IsRight d) (field : Parity) (described : describes 
   all_rows_of : (q : Queue) → All IsStore (row_stores d right field described picture is skipped skips q)
   all_rows_of q =
       ⊎_elim
-      (λ has. all_stores (memory_of d) q (field_row_strip d field) IsStore (rows_on picture q) (rows_all d right field described picture is skipped skips q has) (row_each q has))
+      (λ has. all_stores (memory_of d) q (field_row_strip d field) IsStore (rows_on picture q)
+      (rows_all d right field described picture is skipped skips q has) (row_each q has))
       (λ none.
-      let empty : rows_on picture q ≡ [] = nil_from_length (rows_on picture q) ((is.rows q).many ∙ cond-false (has_plane d q) (field_height d field) 0 none) in
-      subst (λ (lines : List (List ℕ)). All IsStore (lines_stores (cut_lines (memory_of d) q (field_row_strip d field) 0 lines))) (sym empty) (All-nil IsStore))
+      let empty : rows_on picture q ≡ [] =
+      nil_from_length (rows_on picture q) ((is.rows q).many ∙ cond-false (has_plane d q) (field_height d field) 0 none) in
+      subst (λ (lines : List (List ℕ)). All IsStore (lines_stores (cut_lines (memory_of d) q (field_row_strip d field) 0 lines)))
+      (sym empty) (All-nil IsStore))
       (cases_Bool (has_plane d q))
 
   all_skipped_of : (q : Queue) → All IsStore (skipped_stores d right field described picture is skipped skips q)
   all_skipped_of q =
       ⊎_elim
-      (λ has. all_stores (memory_of d) q (skipped_strips d) IsStore (skipped.rows q) (skipped_all d right field described picture is skipped skips q has) (skipped_each q))
+      (λ has. all_stores (memory_of d) q (skipped_strips d) IsStore (skipped.rows q)
+      (skipped_all d right field described picture is skipped skips q has) (skipped_each q))
       (λ none.
-      let empty : skipped.rows q ≡ [] = nil_from_length (skipped.rows q) ((skips.rows q).many ∙ cond-false (has_plane d q) d.skip_lines 0 none) in
-      subst (λ (lines : List (List ℕ)). All IsStore (lines_stores (cut_lines (memory_of d) q (skipped_strips d) 0 lines))) (sym empty) (All-nil IsStore))
+      let empty : skipped.rows q ≡ [] =
+      nil_from_length (skipped.rows q) ((skips.rows q).many ∙ cond-false (has_plane d q) d.skip_lines 0 none) in
+      subst (λ (lines : List (List ℕ)). All IsStore (lines_stores (cut_lines (memory_of d) q (skipped_strips d) 0 lines))) (sym empty)
+      (All-nil IsStore))
       (cases_Bool (has_plane d q))
 
   all_vbi_lines_of : (q : Queue) → All IsStore (vbi_line_stores d right field described picture is skipped skips q)
-  all_vbi_lines_of One = all_stores (memory_of d) One (vbi_strip d field) IsStore picture.vbi (vbi_all d right field described picture is skipped skips) vbi_each
+  all_vbi_lines_of One =
+      all_stores (memory_of d) One (vbi_strip d field) IsStore picture.vbi
+      (vbi_all d right field described picture is skipped skips) vbi_each
   all_vbi_lines_of Two = All-nil IsStore
   all_vbi_lines_of Three = All-nil IsStore
 
   all_skipped_vbi_of : (q : Queue) → 0 < d.vbi_lines → All IsStore (skipped_vbi_stores d right field described picture is skipped skips q)
   all_skipped_vbi_of One there =
-      all_stores (memory_of d) One (skipped_vbi_strips d) IsStore skipped.vbi (skipped_vbi_all d right field described picture is skipped skips there) skipped_vbi_each
+      all_stores (memory_of d) One (skipped_vbi_strips d) IsStore skipped.vbi
+      (skipped_vbi_all d right field described picture is skipped skips there) skipped_vbi_each
   all_skipped_vbi_of Two there = All-nil IsStore
   all_skipped_vbi_of Three there = All-nil IsStore
 
   all_vbi_of : (q : Queue) (n : ℕ) → n ≡ d.vbi_lines → All IsStore (vbi_stores_by d right field described picture is skipped skips n q)
   all_vbi_of q zero same = All-nil IsStore
   all_vbi_of q (suc more) same =
-      All-append IsStore (skipped_vbi_stores d right field described picture is skipped skips q) (vbi_line_stores d right field described picture is skipped skips q)
+      All-append IsStore (skipped_vbi_stores d right field described picture is skipped skips q)
+      (vbi_line_stores d right field described picture is skipped skips q)
       (all_skipped_vbi_of q (omega arith)) (all_vbi_lines_of q)
 
   pub all_of : (q : Queue) → All IsStore (field_stores d right field described picture is skipped skips q)
@@ -114,7 +132,8 @@ module _ (d : Desc) (right : IsRight d) (field : Parity) (described : describes 
       let vbi = vbi_stores d right field described picture is skipped skips q in
       let skips_of = skipped_stores d right field described picture is skipped skips q in
       let rows = row_stores d right field described picture is skipped skips q in
-      All-append IsStore vbi (skips_of ++ rows) (all_vbi_of q d.vbi_lines refl) (All-append IsStore skips_of rows (all_skipped_of q) (all_rows_of q))
+      All-append IsStore vbi (skips_of ++ rows) (all_vbi_of q d.vbi_lines refl)
+      (All-append IsStore skips_of rows (all_skipped_of q) (all_rows_of q))
 
   -- ---- each byte that is kept is stored
 
@@ -145,7 +164,8 @@ module _ (d : Desc) (right : IsRight d) (field : Parity) (described : describes 
       let rows = row_stores d right field described picture is skipped skips q in
       stored_second address (vbi_stores d right field described picture is skipped skips q) (skips_of ++ rows)
       (stored_second address skips_of rows
-      (stored_there (memory_of d) q (field_row_strip d field) (rows_on picture q) k x address (rows_all d right field described picture is skipped skips q has) within (omega arith) goes))
+      (stored_there (memory_of d) q (field_row_strip d field) (rows_on picture q) k x address
+      (rows_all d right field described picture is skipped skips q has) within (omega arith) goes))
   kept_stored (of_vbi k x) address kept =
       let number = kept.0.0 in
       let inside = kept.0.1 in
@@ -153,9 +173,11 @@ module _ (d : Desc) (right : IsRight d) (field : Parity) (described : describes 
       let within : k < length picture.vbi = omega arith in
       let long = is.vbi.long k [] within in
       stored_first address (vbi_stores d right field described picture is skipped skips One)
-      (skipped_stores d right field described picture is skipped skips One ++ row_stores d right field described picture is skipped skips One)
+      (skipped_stores d right field described picture is skipped skips One
+      ++ row_stores d right field described picture is skipped skips One)
       (among_vbi address d.vbi_lines (omega arith)
-      (stored_there (memory_of d) One (vbi_strip d field) picture.vbi k x address (vbi_all d right field described picture is skipped skips) within (omega arith)
+      (stored_there (memory_of d) One (vbi_strip d field) picture.vbi k x address
+      (vbi_all d right field described picture is skipped skips) within (omega arith)
       (vbi_goes d right field k described number x inside ∙ kept.1)))
 
 -- ---- each address has one byte at most
@@ -210,4 +232,5 @@ module _ (d : Desc) (right : IsRight d) (field : Parity) (described : describes 
 
   pub kept_once : (b c : FieldByte) (address : ℕ) → IsKeptAt d field b address → IsKeptAt d field c address → b ≡ c
   kept_once b c address kept kept' =
-      same_byte d field b c (places_differ d (byte_in d field b) (byte_in d field c) address right (is_byte b kept.0) (is_byte c kept'.0) kept.1 kept'.1)
+      same_byte d field b c
+      (places_differ d (byte_in d field b) (byte_in d field c) address right (is_byte b kept.0) (is_byte c kept'.0) kept.1 kept'.1)

@@ -22,7 +22,8 @@ use Rattle.field_law.proofs.Laws as proved
 use Rattle.field_law.proofs.Meeting.{each-meets, each-step}
 use Rattle.picture_law.specs.Pictures.{Picture, HasPlaces, field_tokens}
 use Rattle.picture_law.specs.Sections.{section_at, section_of}
-use Rattle.picture_law.specs.Laws.{Captures, IsPictured, EndsSection, GrantsPlaces, HoldsSection, PaintsPicture, UsesPicture, ShowsPicture, ShowsNoFault, SignalsField, SignalsInTime, TellsField}
+use Rattle.picture_law.specs.Laws.{Captures, IsPictured, EndsSection, GrantsPlaces, HoldsSection, PaintsPicture, UsesPicture, ShowsPicture}
+use Rattle.picture_law.specs.Laws.{ShowsNoFault, SignalsField, SignalsInTime, TellsField}
 use Rattle.picture_law.specs.Runs.{CompiledIsMet, IsCapture, RunsAreMet, RunsCompiled}
 use Rattle.picture_law.proofs.Program.{closing_there, section_holds}
 use Rattle.picture_law.proofs.Body.{section_uses}
@@ -32,7 +33,8 @@ use Rattle.picture_law.proofs.Painted.{painted, painted_after, after_paints, aft
 pictured_right : (d : Desc) (field : Parity) (picture : Picture) → IsPictured d field picture → IsRight d
 pictured_right d field picture p = IsFrame-IsRight d p.description p.frame
 
-module _ (d : Desc) (field : Parity) (begin target : ℕ) (picture : Picture) (m : State) (steps : List Met) (c : Captures d field begin target picture m steps) where
+module _ (d : Desc) (field : Parity) (begin target : ℕ) (picture : Picture) (m : State) (steps : List Met)
+    (c : Captures d field begin target picture m steps) where
   abbrev right : IsRight d
   right = pictured_right d field picture c.pictured
 
@@ -46,7 +48,9 @@ module _ (d : Desc) (field : Parity) (begin target : ℕ) (picture : Picture) (m
         orderly = c.orderly;
         made = c.made;
         held = c.held;
-        uses = section_uses d right field c.pictured.described picture c.pictured.pictured c.arrives.brought.skipped c.arrives.brought.lines begin target;
+        uses =
+            section_uses d right field c.pictured.described picture c.pictured.pictured c.arrives.brought.skipped c.arrives.brought.lines
+            begin target;
         arrives = record {
           fifo_on = c.arrives.fifo_on;
           risc_on = c.arrives.risc_on;
@@ -72,7 +76,8 @@ shows_picture d field begin target picture m early late program c silent signal 
     let is = c.pictured.pictured in
     let now = painted d is_right field described picture is skipped skips m.memory c.places in
     let after = painted_after d is_right field described picture is skipped skips m.memory c.places in
-    after_same d field picture m.memory now (run_in m (early ++ (program, Turn) ∷ [])).memory after (chunks-run_in m (early ++ (program, Turn) ∷ []))
+    after_same d field picture m.memory now (run_in m (early ++ (program, Turn) ∷ [])).memory after
+    (chunks-run_in m (early ++ (program, Turn) ∷ []))
     (λ address.
     proved.shows_picture (section_at d field begin target) (field_tokens d picture skipped) (byte_at now) m early late program
     (receives d field begin target picture m steps c)
@@ -122,7 +127,8 @@ uses_picture d field begin target picture skipped p skips =
 
 pub paints_picture : PaintsPicture
 paints_picture d field begin target picture skipped memory now p skips places after =
-    after_paints d (pictured_right d field picture p) field p.described picture p.pictured skipped skips memory places begin target now after
+    after_paints d
+    (pictured_right d field picture p) field p.described picture p.pictured skipped skips memory places begin target now after
 
 pub grants_places : GrantsPlaces
 grants_places d field begin target picture skipped program p skips held =
@@ -137,10 +143,12 @@ runs_compiled d fill steps made =
     record {
       program = program;
       orderly = IsOrderly-run start steps made (IsOrderly-first_state (compiled d) fill);
-      chunks = chunks-run start steps ∙ chunks_of-filled fill (compiled d).grants ∙ ap (λ (program : RiscProgram). program.grants) (sym program);
+      chunks =
+          chunks-run start steps ∙ chunks_of-filled fill (compiled d).grants ∙ ap (λ (program : RiscProgram). program.grants) (sym program);
     }
 
-pub compiled_places : (d : Desc) (field : Parity) (picture : Picture) (m : State) (steps : List Step) → IsCapture d field picture steps → RunsCompiled d m → HasPlaces d field (chunks_of m.memory)
+pub compiled_places : (d : Desc) (field : Parity) (picture : Picture) (m : State) (steps : List Step) → IsCapture d field picture steps →
+    RunsCompiled d m → HasPlaces d field (chunks_of m.memory)
 compiled_places d field picture m steps c r =
     subst (HasPlaces d field) (sym (r.chunks ∙ ap (λ (program : RiscProgram). program.grants) r.program))
     (kept_granted d (IsFrame-IsRight d c.description (IsValid-IsFrame d c.valid)) field c.described)
@@ -152,6 +160,8 @@ compiled_is_met d field picture m steps c r arrives =
       orderly = r.orderly;
       places = compiled_places d field picture m steps c r;
       made = each-step IsStep (compiled d) steps c.made;
-      held = each-meets (Holds (section_of d field)) (compiled d) steps (section_holds d field (IsFrame-IsRight d c.description (IsValid-IsFrame d c.valid)) c.described);
+      held =
+          each-meets (Holds (section_of d field)) (compiled d) steps
+          (section_holds d field (IsFrame-IsRight d c.description (IsValid-IsFrame d c.valid)) c.described);
       arrives = arrives;
     }

@@ -1,5 +1,6 @@
 -- Strips one after another, as a queue sees them: what their lines ask and what they store.
-use Rattle.std.proofs.Common.{◌≡◌, ℕ, zero, suc, ◌+◌, ◌*◌, ◌<◌, ◌≤◌, true, List, [], ◌∷◌, ◌++◌, All, length, map, Some, slice_index_or, refl, sym, ap, ◌∙◌, subst, arith}
+use Rattle.std.proofs.Common.{◌≡◌, ℕ, zero, suc, ◌+◌, ◌*◌, ◌<◌, ◌≤◌, true, List, [], ◌∷◌, ◌++◌, All, length, map, Some, slice_index_or}
+use Rattle.std.proofs.Common.{refl, sym, ap, ◌∙◌, subst, arith}
 use Rattle.std.specs.List.{flat_map, range_with_len}
 use Rattle.std.proofs.lemmas.List.Elements.{All-nil, All-cons, All-head, All-tail}
 use Rattle.risc_word.specs.declared.Instr.{Instr}
@@ -40,7 +41,9 @@ pub record Carries (memory : List Chunk) (q : Queue) (strip : Strip) (bytes : Li
 
 module _ (memory : List Chunk) (q : Queue) (strip : Strip) (bytes : List ℕ) (carries : Carries memory q strip bytes) where
   line_ask : asks q (strip_instrs memory strip) ≡ line_asks (cut_line memory q strip bytes).line_parts
-  line_ask = cuts_ask memory strip q carries.starts carries.moved strip.grains (cuts_of memory strip strip.spans) carries.some (cuts_follow memory strip carries.fit)
+  line_ask =
+      cuts_ask memory strip q carries.starts carries.moved strip.grains (cuts_of memory strip strip.spans) carries.some
+      (cuts_follow memory strip carries.fit)
 
   line_covered : IsCovered (cut_line memory q strip bytes)
   line_covered =
@@ -63,7 +66,8 @@ module _ (memory : List Chunk) (q : Queue) (strips : ℕ → Strip) where
   abbrev pub strips_from : ℕ → ℕ → List Strip
   strips_from from count = map strips (range_with_len from count)
 
-  pub carries_all : (end long from : ℕ) (lines : List (List ℕ)) → ((k : ℕ) (bytes : List ℕ) → k < end → length bytes ≡ long → Carries memory q (strips k) bytes) →
+  pub carries_all : (end long from : ℕ) (lines : List (List ℕ)) →
+      ((k : ℕ) (bytes : List ℕ) → k < end → length bytes ≡ long → Carries memory q (strips k) bytes) →
       from + length lines ≤ end → All (λ line. length line ≡ long) lines → CarriesAll from lines
   carries_all end long from [] each within all = tt
   carries_all end long from (bytes ∷ lines) each within all = (
@@ -71,7 +75,8 @@ module _ (memory : List Chunk) (q : Queue) (strips : ℕ → Strip) where
     carries_all end long (from + 1) lines each (omega arith) (All-tail (λ line. length line ≡ long) bytes lines all),
   )
 
-  pub all_ask : (from : ℕ) (lines : List (List ℕ)) → CarriesAll from lines → asks q (strips_instrs memory (strips_from from (length lines))) ≡ lines_asks (cut_lines from lines)
+  pub all_ask : (from : ℕ) (lines : List (List ℕ)) → CarriesAll from lines →
+      asks q (strips_instrs memory (strips_from from (length lines))) ≡ lines_asks (cut_lines from lines)
   all_ask from [] carries = refl
   all_ask from (bytes ∷ lines) carries =
       let later = strips_from (from + 1) (length lines) in
@@ -86,7 +91,8 @@ module _ (memory : List Chunk) (q : Queue) (strips : ℕ → Strip) where
   pub all_covered : (from : ℕ) (lines : List (List ℕ)) → CarriesAll from lines → All IsCovered (cut_lines from lines)
   all_covered from [] carries = All-nil IsCovered
   all_covered from (bytes ∷ lines) carries =
-      All-cons IsCovered (cut_line memory q (strips from) bytes) (cut_lines (from + 1) lines) (line_covered memory q (strips from) bytes carries.0) (all_covered (from + 1) lines carries.1)
+      All-cons IsCovered (cut_line memory q (strips from) bytes) (cut_lines (from + 1) lines)
+      (line_covered memory q (strips from) bytes carries.0) (all_covered (from + 1) lines carries.1)
 
   lines_long : (from : ℕ) (lines : List (List ℕ)) → length (cut_lines from lines) ≡ length lines
   lines_long from [] = refl
@@ -101,14 +107,16 @@ module _ (memory : List Chunk) (q : Queue) (strips : ℕ → Strip) where
       let there : from + 1 + k ≡ from + suc k = omega arith in
       line_at (from + 1) lines k other (omega arith) ∙ ap (λ (n : ℕ). cut_line memory q (strips n) (slice_index_or lines k [])) there
 
-  line_here : (lines : List (List ℕ)) (k : ℕ) (other : CutLine) → k < length lines → slice_index_or (cut_lines 0 lines) k other ≡ cut_line memory q (strips k) (slice_index_or lines k [])
+  line_here : (lines : List (List ℕ)) (k : ℕ) (other : CutLine) → k < length lines →
+      slice_index_or (cut_lines 0 lines) k other ≡ cut_line memory q (strips k) (slice_index_or lines k [])
   line_here lines k other within =
       let here : 0 + k ≡ k = omega arith in
       line_at 0 lines k other within ∙ ap (λ (n : ℕ). cut_line memory q (strips n) (slice_index_or lines k [])) here
 
   -- what holds of each byte of each line at its address holds of all that the lines store
   pub all_stores : (P : Store → Type 0) (lines : List (List ℕ)) → CarriesAll 0 lines →
-      ((k : ℕ) → k < length lines → EachByte P (cut_line memory q (strips k) (slice_index_or lines k []))) → All P (lines_stores (cut_lines 0 lines))
+      ((k : ℕ) → k < length lines → EachByte P (cut_line memory q (strips k) (slice_index_or lines k []))) →
+      All P (lines_stores (cut_lines 0 lines))
   all_stores P lines carries each =
       lines_each P (cut_lines 0 lines) (all_covered 0 lines carries)
       (λ k other within.
@@ -116,8 +124,11 @@ module _ (memory : List Chunk) (q : Queue) (strips : ℕ → Strip) where
       subst (λ (line : CutLine). EachByte P line) (sym (line_here lines k other inside)) (each k inside))
 
   -- each byte of a line that goes somewhere is stored there
-  pub stored_there : (lines : List (List ℕ)) (k x address : ℕ) → CarriesAll 0 lines → k < length lines → x < length (slice_index_or lines k []) →
-      address_in (cut_line memory q (strips k) (slice_index_or lines k [])).line_parts x ≡ Some address → is_stored address (lines_stores (cut_lines 0 lines)) ≡ true
+  pub stored_there : (lines : List (List ℕ)) (k x address : ℕ) → CarriesAll 0 lines → k < length lines →
+      x < length (slice_index_or lines k []) →
+      address_in (cut_line memory q (strips k) (slice_index_or lines k [])).line_parts x ≡ Some address →
+      is_stored address (lines_stores (cut_lines 0 lines)) ≡ true
   stored_there lines k x address carries within inside goes =
       let line = cut_line memory q (strips k) (slice_index_or lines k []) in
-      lines_stored (cut_lines 0 lines) line k x address (all_covered 0 lines carries) (omega (arith, lines_long 0 lines)) (line_here lines k line within) inside goes
+      lines_stored (cut_lines 0 lines) line k x address (all_covered 0 lines carries) (omega (arith, lines_long 0 lines))
+      (line_here lines k line within) inside goes

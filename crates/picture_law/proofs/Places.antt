@@ -16,7 +16,8 @@ use Rattle.field_law.proofs.Meeting.{meeting-append}
 use Rattle.picture_law.specs.Pictures.{Picture, After}
 use Rattle.picture_law.specs.Sections.{section_of}
 use Rattle.picture_law.specs.Laws.{Captures, TellsField}
-use Rattle.picture_law.specs.Runs.{ArrivesAt, CapturesOf, IsCapture, IsSignalled, between, state_of, step_at, RunShowsPicture, RunShowsNoFault, RunTellsField, RunSignalsInTime}
+use Rattle.picture_law.specs.Runs.{ArrivesAt, CapturesOf, IsCapture, IsSignalled, between, state_of, step_at, RunShowsPicture}
+use Rattle.picture_law.specs.Runs.{RunShowsNoFault, RunTellsField, RunSignalsInTime}
 use Rattle.picture_law.proofs.Between.{between_both, own_program, some_end}
 use Rattle.picture_law.proofs.Ends as ends
 use Rattle.picture_law.proofs.Laws.{compiled_is_met, runs_compiled, shows_picture, shows_no_fault, signals_field, signals_in_time}
@@ -35,7 +36,8 @@ module _ (d : Desc) (field : Parity) (picture : Picture) (fill : ℕ) (steps : L
   target = section_next d d.base d.base field
 
   -- a picture that arrives over some of the steps from j on
-  abbrev captures : IsCapture d field picture steps → (l : ℕ) → ArrivesAt d field picture m (between j l steps) → CapturesOf d field picture m (between j l steps)
+  abbrev captures : IsCapture d field picture steps → (l : ℕ) → ArrivesAt d field picture m (between j l steps) →
+      CapturesOf d field picture m (between j l steps)
   captures c l arrives =
       compiled_is_met d field picture m (between j l steps)
       (record {
@@ -50,17 +52,20 @@ module _ (d : Desc) (field : Parity) (picture : Picture) (fill : ℕ) (steps : L
   -- a signal is before l
   in_time : (early late mets : List Met) → early ++ late ≡ mets → (c : Captures d field begin target picture m mets) →
       ((q : Queue) → entries_of c.arrives.before c.arrives.entries q ≤ length (queue_state q m.queues).entries + length (coming early q)) →
-      5 * size d field + over_queues (entries_of c.arrives.before c.arrives.entries) ≤ turns_in late → has_signal (section_of d field) m mets ≡ true
+      5 * size d field + over_queues (entries_of c.arrives.before c.arrives.entries) ≤ turns_in late →
+      has_signal (section_of d field) m mets ≡ true
   in_time early late mets split =
       subst
       (λ (mets : List Met). (c : Captures d field begin target picture m mets) →
       ((q : Queue) → entries_of c.arrives.before c.arrives.entries q ≤ length (queue_state q m.queues).entries + length (coming early q)) →
-      5 * size d field + over_queues (entries_of c.arrives.before c.arrives.entries) ≤ turns_in late → has_signal (section_of d field) m mets ≡ true)
+      5 * size d field + over_queues (entries_of c.arrives.before c.arrives.entries) ≤ turns_in late →
+      has_signal (section_of d field) m mets ≡ true)
       split (λ c come many. signals_in_time d field begin target picture m early late c come many)
 
 -- ---- up to a signal
 
-module _ (d : Desc) (field : Parity) (picture : Picture) (fill : ℕ) (steps : List Step) (j k : ℕ) (s : IsSignalled d field picture fill steps j k) where
+module _ (d : Desc) (field : Parity) (picture : Picture) (fill : ℕ) (steps : List Step) (j k : ℕ)
+    (s : IsSignalled d field picture fill steps j k) where
   abbrev end : ℕ
   end = closing_at (section_of d field)
 
@@ -71,16 +76,19 @@ module _ (d : Desc) (field : Parity) (picture : Picture) (fill : ℕ) (steps : L
       Captures d field (section_begin d d.base field) (section_next d d.base d.base field) picture (state_of d fill steps j)
       (meeting (compiled d) (between j i steps) ++ (compiled d, Turn) ∷ meeting (compiled d) (between (i + 1) (k + 1) steps))
   captured i from to is_turn =
-      subst (Captures d field (section_begin d d.base field) (section_next d d.base d.base field) picture (state_of d fill steps j)) (ends.split_at (compiled d) fill steps end j k s.signal i from to is_turn)
+      subst (Captures d field (section_begin d d.base field) (section_next d d.base d.base field) picture (state_of d fill steps j))
+      (ends.split_at (compiled d) fill steps end j k s.signal i from to is_turn)
       (captures d field picture fill steps j s.capture (k + 1) s.arrives)
 
-  silent_to : (i : ℕ) → j ≤ i → i ≤ k → has_signal (section_of d field) (state_of d fill steps j) (meeting (compiled d) (between j i steps)) ≡ false
+  silent_to : (i : ℕ) → j ≤ i → i ≤ k →
+      has_signal (section_of d field) (state_of d fill steps j) (meeting (compiled d) (between j i steps)) ≡ false
   silent_to = ends.unended_to (compiled d) fill steps end j k s.signal
 
   signals : is_signal (section_of d field) (run_in (state_of d fill steps j) (meeting (compiled d) (between j k steps))) Turn ≡ true
   signals = ends.ends_last (compiled d) fill steps end j k s.signal
 
-  ended : run_in (state_of d fill steps j) (meeting (compiled d) (between j k steps) ++ (compiled d, Turn) ∷ []) ≡ state_of d fill steps (k + 1)
+  ended : run_in (state_of d fill steps j) (meeting (compiled d) (between j k steps) ++ (compiled d, Turn) ∷ [])
+      ≡ state_of d fill steps (k + 1)
   ended = ends.ran_through (compiled d) fill steps end j k s.signal
 
 pub run_shows_picture : RunShowsPicture
@@ -105,7 +113,8 @@ run_tells_field d field picture fill steps j k s =
 
 pub run_shows_no_fault : RunShowsNoFault
 run_shows_no_fault d field picture fill steps j k i s from to is_turn =
-    ap sets_fdsr (own_program (first_state (compiled d) fill) (take i steps) ∙ ap (with_program (compiled d)) (sym (ends.ran_to (compiled d) fill steps j i from)))
+    ap sets_fdsr (own_program (first_state (compiled d) fill) (take i steps)
+    ∙ ap (with_program (compiled d)) (sym (ends.ran_to (compiled d) fill steps j i from)))
     ∙ shows_no_fault d field (section_begin d d.base field) (section_next d d.base d.base field) picture (state_of d fill steps j)
     (meeting (compiled d) (between j i steps)) (meeting (compiled d) (between (i + 1) (k + 1) steps)) (compiled d)
     (captured d field picture fill steps j k s i from to is_turn) (silent_to d field picture fill steps j k s i from to)
@@ -115,6 +124,9 @@ run_signals_in_time d field picture fill steps j i l c first later within arrive
     let early = meeting (compiled d) (between j i steps) in
     let late = meeting (compiled d) (between i l steps) in
     let all : early ++ late ≡ meeting (compiled d) (between j l steps) =
-    sym (meeting-append (compiled d) (between j i steps) (between i l steps)) ∙ ap (meeting (compiled d)) (sym (between_both j i l steps first later)) in
-    let signal = in_time d field picture fill steps j early late (meeting (compiled d) (between j l steps)) all (captures d field picture fill steps j c l arrives) come many in
+    sym (meeting-append (compiled d) (between j i steps) (between i l steps))
+    ∙ ap (meeting (compiled d)) (sym (between_both j i l steps first later)) in
+    let signal =
+    in_time d field picture fill steps j early late (meeting (compiled d) (between j l steps)) all
+    (captures d field picture fill steps j c l arrives) come many in
     some_end (closing_at (section_of d field)) (first_state (compiled d) fill) steps (l - j) j l (omega arith) within signal

@@ -27,7 +27,16 @@ use Rattle.picture_law.proofs.Laws.{compiled_is_met, runs_compiled}
 pub described : IsDescription smallest
 described =
     record {
-      formed = record { stride = tt; offset = tt; chroma_first = tt; vbi_skip = tt; pages = omega arith; no_pages = tt; chunks = tt; bytes = tt };
+      formed = record {
+        stride = tt;
+        offset = tt;
+        chroma_first = tt;
+        vbi_skip = tt;
+        pages = omega arith;
+        no_pages = tt;
+        chunks = tt;
+        bytes = tt;
+      };
       pages = All-from_recursion (λ page. page < 2 ^ 32) (0x20000 ∷ []) (omega arith, tt);
       clips = omega arith;
       skipped = omega arith;
@@ -46,7 +55,10 @@ abbrev HoldsBytes : List ℕ → Type 0
 HoldsBytes line = All IsByte line
 
 line_bytes : All IsByte line
-line_bytes = All-from_recursion IsByte line (omega arith, (omega arith, (omega arith, (omega arith, (omega arith, (omega arith, (omega arith, (omega arith, tt))))))))
+line_bytes = All-from_recursion IsByte line (
+  omega arith,
+  (omega arith, (omega arith, (omega arith, (omega arith, (omega arith, (omega arith, (omega arith, tt))))))),
+)
 
 rows : (q : Queue) → AreRows smallest q (field_height smallest Top) (rows_on picture q)
 rows One = one_line
@@ -61,7 +73,8 @@ row_bytes Three = All-nil HoldsBytes
 pub pictured : IsPicture smallest Top picture
 pictured = record { vbi = no_lines 2044; rows = rows; vbi_bytes = All-nil HoldsBytes; row_bytes = row_bytes }
 
-order : (q : Queue) → (queue_state q machine.queues).entries ++ coming (meeting (compiled smallest) (moves ++ Turn ∷ [])) q ≡ before q ++ (entries q ++ [])
+order : (q : Queue) →
+    (queue_state q machine.queues).entries ++ coming (meeting (compiled smallest) (moves ++ Turn ∷ [])) q ≡ before q ++ (entries q ++ [])
 order One = refl
 order Two = refl
 order Three = refl
@@ -103,14 +116,16 @@ abbrev captured_over : (steps : List Step) → All IsStep steps → IsCapture sm
 captured_over made_steps made = record { description = described; valid = refl; described = refl; pictured = pictured; made = made }
 
 more_steps : All IsStep (moves ++ Turn ∷ [])
-more_steps = All-from_recursion IsStep (moves ++ Turn ∷ []) (tt, (tt, (tt, (tt, (refl, (tt, (tt, (tt, (tt, (refl, (tt, (tt, (tt, tt)))))))))))))
+more_steps =
+    All-from_recursion IsStep (moves ++ Turn ∷ []) (tt, (tt, (tt, (tt, (refl, (tt, (tt, (tt, (tt, (refl, (tt, (tt, (tt, tt)))))))))))))
 
 pub captures : CapturesOf smallest Top picture machine (moves ++ Turn ∷ [])
 captures =
     compiled_is_met smallest Top picture machine (moves ++ Turn ∷ []) (captured_over (moves ++ Turn ∷ []) more_steps)
     (runs_compiled smallest 0 begun begun_made) arrives
 
-pub signals : (has_signal (section_of smallest Top) machine (meeting (compiled smallest) moves) ≡ false) × (is_signal (section_of smallest Top) (run machine moves) Turn ≡ true)
+pub signals : (has_signal (section_of smallest Top) machine (meeting (compiled smallest) moves) ≡ false)
+    × (is_signal (section_of smallest Top) (run machine moves) Turn ≡ true)
 signals = (refl, refl)
 
 -- ---- over the places of a run
@@ -123,7 +138,8 @@ signalled =
         later = omega arith;
         there = omega arith;
         signal = refl;
-        first = λ i from to. silent_at (section_of smallest Top) (first_state (compiled smallest) 0) steps 12 2 14 i refl (omega arith) refl from to;
+        first = λ i from to.
+            silent_at (section_of smallest Top) (first_state (compiled smallest) 0) steps 12 2 14 i refl (omega arith) refl from to;
       };
       arrives = arrives;
     }

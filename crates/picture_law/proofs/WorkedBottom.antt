@@ -23,7 +23,9 @@ use Rattle.picture_law.specs.Runs.{ArrivesAt, IsCapture, IsSignalled, state_of}
 use Rattle.picture_law.specs.WorkedPlanar.{five, five_entries, planar_picture, planar_pushes, ten}
 use Rattle.picture_law.specs.WorkedBottom.{bottom_pushes, bottom_steps, spread, top_comes}
 use Rattle.picture_law.proofs.Between.{silent_at}
-use Rattle.picture_law.proofs.WorkedPlanar.{HoldsBytes, bytes_hold, chroma_brings, chroma_lines, luma_brings, luma_lines, one_long, pushes_made, row_bytes, skipped_rows, three_brings, three_rows, turns_kept, turns_made, two_brings, two_long}
+use Rattle.picture_law.proofs.WorkedPlanar.{HoldsBytes, bytes_hold, chroma_brings, chroma_lines, luma_brings, luma_lines, one_long}
+use Rattle.picture_law.proofs.WorkedPlanar.{pushes_made, row_bytes, skipped_rows, three_brings, three_rows, turns_kept, turns_made}
+use Rattle.picture_law.proofs.WorkedPlanar.{two_brings, two_long}
 
 described : IsDescription spread
 described =
@@ -94,12 +96,14 @@ abbrev machine : State
 machine = state_of spread 0 bottom_steps 90
 
 pushes_kept : (count : ℕ) → AreKept machine (meeting (compiled spread) (bottom_pushes ++ replicate count Turn))
-pushes_kept count = (refl, (refl, (refl, (refl, (refl, (refl, (refl, (refl, (refl, (refl, (refl, (refl, (refl, (refl, (refl, (refl, (refl, (refl, (refl, (refl, (refl, (refl, (refl, (refl, (refl, (refl, turns_kept (compiled spread) _ count))))))))))))))))))))))))))
+pushes_kept count =
+    (refl, (refl, (refl, (refl, (refl, (refl, (refl, (refl, (refl, (refl, (refl, (refl, (refl, (refl, (refl, (refl, (refl, (refl, (refl, (refl, (refl, (refl, (refl, (refl, (refl, (refl, turns_kept (compiled spread) _ count))))))))))))))))))))))))))
 
 abbrev IsOther : Entry → Type 0
 IsOther entry = HasCode Vro entry → ⊥
 
-order : (q : Queue) → (queue_state q machine.queues).entries ++ coming (meeting (compiled spread) (bottom_pushes ++ replicate 41 Turn)) q ≡ [] ++ (entries q ++ [])
+order : (q : Queue) → (queue_state q machine.queues).entries ++ coming (meeting (compiled spread) (bottom_pushes ++ replicate 41 Turn)) q
+    ≡ [] ++ (entries q ++ [])
 order One = refl
 order Two = refl
 order Three = refl
@@ -121,7 +125,9 @@ arrives =
     }
 
 bottom_made : All IsStep bottom_pushes
-bottom_made = All-from_recursion IsStep bottom_pushes (tt, (tt, (refl, (refl, (tt, (refl, (refl, (refl, (refl, (refl, (refl, (refl, (refl, (refl, (refl, (refl, (refl, (refl, (refl, (refl, (refl, (refl, (refl, (refl, (refl, (refl, tt))))))))))))))))))))))))))
+bottom_made =
+    All-from_recursion IsStep bottom_pushes
+    (tt, (tt, (refl, (refl, (tt, (refl, (refl, (refl, (refl, (refl, (refl, (refl, (refl, (refl, (refl, (refl, (refl, (refl, (refl, (refl, (refl, (refl, (refl, (refl, (refl, (refl, tt))))))))))))))))))))))))))
 
 top_made : All IsStep top_comes
 top_made =
@@ -135,7 +141,9 @@ capture =
       valid = refl;
       described = refl;
       pictured = pictured;
-      made = All-append IsStep top_comes (bottom_pushes ++ replicate 60 Turn) top_made (All-append IsStep bottom_pushes (replicate 60 Turn) bottom_made (turns_made 60));
+      made =
+          All-append IsStep top_comes (bottom_pushes ++ replicate 60 Turn) top_made
+          (All-append IsStep bottom_pushes (replicate 60 Turn) bottom_made (turns_made 60));
     }
 
 pub bottom_signalled : IsSignalled spread Bottom planar_picture 0 bottom_steps 90 156
@@ -146,7 +154,8 @@ bottom_signalled =
         later = omega arith;
         there = omega arith;
         signal = refl;
-        first = λ i from to. silent_at (section_of spread Bottom) (first_state (compiled spread) 0) bottom_steps 66 90 156 i refl (omega arith) refl from to;
+        first = λ i from to.
+            silent_at (section_of spread Bottom) (first_state (compiled spread) 0) bottom_steps 66 90 156 i refl (omega arith) refl from to;
       };
       arrives = arrives;
     }

@@ -1,5 +1,6 @@
 -- The worked planar picture meets the premises of the laws.
-use Rattle.std.proofs.Common.{◌≡◌, ℕ, zero, suc, ◌+◌, ◌^◌, ◌<◌, ◌≤◌, Bool, true, ◌&&◌, All, List, [], ◌∷◌, ◌++◌, length, replicate, refl, arith}
+use Rattle.std.proofs.Common.{◌≡◌, ℕ, zero, suc, ◌+◌, ◌^◌, ◌<◌, ◌≤◌, Bool, true, ◌&&◌, All, List, [], ◌∷◌, ◌++◌, length, replicate, refl}
+use Rattle.std.proofs.Common.{arith}
 use Rattle.std.specs.Prelude.{nat_lt}
 use Rattle.std.proofs.lemmas.Bool.{and_parts, ltb-true}
 use Rattle.std.proofs.lemmas.List.Elements.{All-nil, All-cons, All-append, All-from_recursion}
@@ -24,7 +25,8 @@ use Rattle.field_law.proofs.Worked.{before, begun_made, unmarked}
 use Rattle.picture_law.specs.Pictures.{AreLines, AreRows, AreSkipped, HoldBytes, IsField, IsPicture, SkippedLines, field_tokens, rows_on}
 use Rattle.picture_law.specs.Sections.{section_of}
 use Rattle.picture_law.specs.Runs.{ArrivesAt, IsCapture, IsSignalled, between, state_of}
-use Rattle.picture_law.specs.WorkedPlanar.{planar, ten, five, ten_entries, five_entries, planar_picture, planar_pushes, planar_moves, planar_steps, MeetsBound}
+use Rattle.picture_law.specs.WorkedPlanar.{planar, ten, five, ten_entries, five_entries, planar_picture, planar_pushes, planar_moves}
+use Rattle.picture_law.specs.WorkedPlanar.{planar_steps, MeetsBound}
 use Rattle.picture_law.proofs.Between.{silent_at}
 
 described : IsDescription planar
@@ -117,7 +119,8 @@ three_rows first second third = Row first ∷ Row second ∷ Row third ∷ []
 abbrev three_lines : List Entry → List Entry → List Entry → List Entry
 three_lines first second third = first ++ (second ++ (third ++ []))
 
-lines_bring : (a b c : List ℕ) (first second third : List Entry) → IsLine a first → IsLine b second → IsLine c third → Brings (three_rows a b c) (three_lines first second third)
+lines_bring : (a b c : List ℕ) (first second third : List Entry) → IsLine a first → IsLine b second → IsLine c third →
+    Brings (three_rows a b c) (three_lines first second third)
 lines_bring a b c first second third one two three =
     row_brings a first (Row b ∷ Row c ∷ []) (second ++ (third ++ [])) one
     (row_brings b second (Row c ∷ []) (third ++ []) two (row_brings c third [] [] three refl))
@@ -181,13 +184,16 @@ abbrev machine : State
 machine = state_of planar 0 planar_steps 2
 
 pushes_kept : (count : ℕ) → AreKept machine (meeting (compiled planar) (planar_pushes ++ replicate count Turn))
-pushes_kept count = (refl, (refl, (refl, (refl, (refl, (refl, (refl, (refl, (refl, (refl, (refl, (refl, (refl, (refl, (refl, (refl, (refl, (refl, (refl, (refl, (refl, (refl, (refl, (refl, (refl, (refl, (refl, (refl, turns_kept (compiled planar) _ count))))))))))))))))))))))))))))
+pushes_kept count =
+    (refl, (refl, (refl, (refl, (refl, (refl, (refl, (refl, (refl, (refl, (refl, (refl, (refl, (refl, (refl, (refl, (refl, (refl, (refl, (refl, (refl, (refl, (refl, (refl, (refl, (refl, (refl, (refl, turns_kept (compiled planar) _ count))))))))))))))))))))))))))))
 
 abbrev order_of : ℕ → Queue → Type 0
 order_of count q =
-    (queue_state q machine.queues).entries ++ coming (meeting (compiled planar) (planar_pushes ++ replicate count Turn)) q ≡ before q ++ (entries q ++ [])
+    (queue_state q machine.queues).entries ++ coming (meeting (compiled planar) (planar_pushes ++ replicate count Turn)) q
+    ≡ before q ++ (entries q ++ [])
 
-abbrev arrives_over : (count : ℕ) → ((q : Queue) → order_of count q) → ArrivesAt planar Top planar_picture machine (planar_pushes ++ replicate count Turn)
+abbrev arrives_over : (count : ℕ) → ((q : Queue) → order_of count q) →
+    ArrivesAt planar Top planar_picture machine (planar_pushes ++ replicate count Turn)
 arrives_over count order =
     record {
       fifo_on = refl;
@@ -208,7 +214,9 @@ turns_made zero = All-nil IsStep
 turns_made (suc count) = All-cons IsStep Turn (replicate count Turn) tt (turns_made count)
 
 pub pushes_made : All IsStep planar_pushes
-pushes_made = All-from_recursion IsStep planar_pushes (tt, (tt, (refl, (refl, (refl, (refl, (tt, (refl, (refl, (refl, (refl, (refl, (refl, (refl, (refl, (refl, (refl, (refl, (refl, (refl, (refl, (refl, (refl, (refl, (refl, (refl, (refl, (refl, tt))))))))))))))))))))))))))))
+pushes_made =
+    All-from_recursion IsStep planar_pushes
+    (tt, (tt, (refl, (refl, (refl, (refl, (tt, (refl, (refl, (refl, (refl, (refl, (refl, (refl, (refl, (refl, (refl, (refl, (refl, (refl, (refl, (refl, (refl, (refl, (refl, (refl, (refl, (refl, tt))))))))))))))))))))))))))))
 
 capture : IsCapture planar Top planar_picture planar_steps
 capture =
@@ -217,7 +225,9 @@ capture =
       valid = refl;
       described = refl;
       pictured = pictured;
-      made = All-append IsStep begun planar_moves begun_made (All-append IsStep planar_pushes (replicate 100 Turn) pushes_made (turns_made 100));
+      made =
+          All-append IsStep begun planar_moves begun_made
+          (All-append IsStep planar_pushes (replicate 100 Turn) pushes_made (turns_made 100));
     }
 
 order_to_signal : (q : Queue) → order_of 53 q
@@ -233,7 +243,8 @@ planar_signalled =
         later = omega arith;
         there = omega arith;
         signal = refl;
-        first = λ i from to. silent_at (section_of planar Top) (first_state (compiled planar) 0) planar_steps 80 2 82 i refl (omega arith) refl from to;
+        first = λ i from to.
+            silent_at (section_of planar Top) (first_state (compiled planar) 0) planar_steps 80 2 82 i refl (omega arith) refl from to;
       };
       arrives = arrives_over 53 order_to_signal;
     }
@@ -243,7 +254,8 @@ order_to_end One = refl
 order_to_end Two = refl
 order_to_end Three = refl
 
-come : (q : Queue) → length (before q) + length (entries q) ≤ length (queue_state q machine.queues).entries + length (coming (meeting (compiled planar) (between 2 30 planar_steps)) q)
+come : (q : Queue) → length (before q) + length (entries q)
+    ≤ length (queue_state q machine.queues).entries + length (coming (meeting (compiled planar) (between 2 30 planar_steps)) q)
 come One = omega arith
 come Two = omega arith
 come Three = omega arith

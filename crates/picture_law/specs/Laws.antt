@@ -40,15 +40,19 @@ pub record Captures (d : Desc) (field : Parity) (begin target : ℕ) (picture : 
 
 -- after the first signal of the field memory is that of before with the picture
 abbrev pub ShowsPicture : Type 0
-ShowsPicture = (d : Desc) (field : Parity) (begin target : ℕ) (picture : Picture) (m : State) (early late : List Met) (program : RiscProgram) →
-    Captures d field begin target picture m (early ++ (program, Turn) ∷ late) → has_signal (section_at d field begin target) m early ≡ false →
+ShowsPicture =
+    (d : Desc) (field : Parity) (begin target : ℕ) (picture : Picture) (m : State) (early late : List Met) (program : RiscProgram) →
+    Captures d field begin target picture m (early ++ (program, Turn) ∷ late) →
+    has_signal (section_at d field begin target) m early ≡ false →
     is_signal (section_at d field begin target) (run_in m early) Turn ≡ true →
     After d field picture m.memory (run_in m (early ++ (program, Turn) ∷ [])).memory
 
 -- no turn up to it sets FDSR, whether or not the bit is set already
 abbrev pub ShowsNoFault : Type 0
-ShowsNoFault = (d : Desc) (field : Parity) (begin target : ℕ) (picture : Picture) (m : State) (early late : List Met) (program : RiscProgram) →
-    Captures d field begin target picture m (early ++ (program, Turn) ∷ late) → has_signal (section_at d field begin target) m early ≡ false →
+ShowsNoFault =
+    (d : Desc) (field : Parity) (begin target : ℕ) (picture : Picture) (m : State) (early late : List Met) (program : RiscProgram) →
+    Captures d field begin target picture m (early ++ (program, Turn) ∷ late) →
+    has_signal (section_at d field begin target) m early ≡ false →
     sets_fdsr (with_program program (run_in m early)) ≡ false
 
 -- after it RISCI is set, and the RISC status is that of the field
@@ -61,8 +65,10 @@ pub record TellsField (field : Parity) (m : State) : Type 0 where
   pub status : risc_status m.interrupts ≡ status_of field
 
 abbrev pub SignalsField : Type 0
-SignalsField = (d : Desc) (field : Parity) (begin target : ℕ) (picture : Picture) (m : State) (early late : List Met) (program : RiscProgram) →
-    Captures d field begin target picture m (early ++ (program, Turn) ∷ late) → has_signal (section_at d field begin target) m early ≡ false →
+SignalsField =
+    (d : Desc) (field : Parity) (begin target : ℕ) (picture : Picture) (m : State) (early late : List Met) (program : RiscProgram) →
+    Captures d field begin target picture m (early ++ (program, Turn) ∷ late) →
+    has_signal (section_at d field begin target) m early ≡ false →
     is_signal (section_at d field begin target) (run_in m early) Turn ≡ true →
     TellsField field (run_in m (early ++ (program, Turn) ∷ []))
 
@@ -71,7 +77,8 @@ SignalsField = (d : Desc) (field : Parity) (begin target : ℕ) (picture : Pictu
 abbrev pub SignalsInTime : Type 0
 SignalsInTime = (d : Desc) (field : Parity) (begin target : ℕ) (picture : Picture) (m : State) (early late : List Met)
     (captures : Captures d field begin target picture m (early ++ late)) →
-    ((q : Queue) → entries_of captures.arrives.before captures.arrives.entries q ≤ length (queue_state q m.queues).entries + length (coming early q)) →
+    ((q : Queue) →
+    entries_of captures.arrives.before captures.arrives.entries q ≤ length (queue_state q m.queues).entries + length (coming early q)) →
     5 * size d field + over_queues (entries_of captures.arrives.before captures.arrives.entries) ≤ turns_in late →
     has_signal (section_at d field begin target) m (early ++ late) ≡ true
 
@@ -79,7 +86,8 @@ SignalsInTime = (d : Desc) (field : Parity) (begin target : ℕ) (picture : Pict
 -- a section of a field is, it uses up what each queue brings for a picture, what it stores paints any memory that
 -- shows the picture, and a program that holds it grants the picture's places
 abbrev pub HoldsSection : Type 0
-HoldsSection = (d : Desc) (field : Parity) → IsDescription d → IsFrame d → describes d.fields field ≡ true → Holds (section_of d field) (compiled d)
+HoldsSection =
+    (d : Desc) (field : Parity) → IsDescription d → IsFrame d → describes d.fields field ≡ true → Holds (section_of d field) (compiled d)
 
 abbrev pub EndsSection : Type 0
 EndsSection = (d : Desc) (field : Parity) → closing_at (section_of d field) ≡ closing_begin d d.base field
@@ -89,10 +97,14 @@ UsesPicture = (d : Desc) (field : Parity) (begin target : ℕ) (picture : Pictur
     AreSkipped d field skipped → Uses (section_at d field begin target) (field_tokens d picture skipped)
 
 abbrev pub PaintsPicture : Type 0
-PaintsPicture = (d : Desc) (field : Parity) (begin target : ℕ) (picture : Picture) (skipped : SkippedLines) (memory now : List Block) → IsPictured d field picture →
+PaintsPicture =
+    (d : Desc) (field : Parity) (begin target : ℕ) (picture : Picture) (skipped : SkippedLines) (memory now : List Block) →
+    IsPictured d field picture →
     AreSkipped d field skipped → HasPlaces d field (chunks_of memory) → After d field picture memory now →
     Paints (section_at d field begin target) (field_tokens d picture skipped) memory (byte_at now)
 
 abbrev pub GrantsPlaces : Type 0
-GrantsPlaces = (d : Desc) (field : Parity) (begin target : ℕ) (picture : Picture) (skipped : SkippedLines) (program : RiscProgram) → IsPictured d field picture →
+GrantsPlaces =
+    (d : Desc) (field : Parity) (begin target : ℕ) (picture : Picture) (skipped : SkippedLines) (program : RiscProgram) →
+    IsPictured d field picture →
     AreSkipped d field skipped → Holds (section_at d field begin target) program → HasPlaces d field program.grants

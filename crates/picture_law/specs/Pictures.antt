@@ -1,5 +1,6 @@
 -- Pictures of a field: what the three queues bring for one, and which memory shows it.
-use Rattle.std.specs.Prelude.{◌≡◌, ℕ, zero, suc, ◌<◌, Bool, true, false, All, List, [], ◌∷◌, ◌++◌, length, map, Some, if◌then◌else◌, nat_le, slice_index, slice_index_or}
+use Rattle.std.specs.Prelude.{◌≡◌, ℕ, zero, suc, ◌<◌, Bool, true, false, All, List, [], ◌∷◌, ◌++◌, length, map, Some, if◌then◌else◌, nat_le}
+use Rattle.std.specs.Prelude.{slice_index, slice_index_or}
 use Rattle.risc_word.specs.declared.Code.TheVariants.{Fm1}
 use Rattle.fifo_model.specs.declared.Entry.{Entry}
 use Rattle.fifo_model.specs.declared.Queue.{Queue}

@@ -45,7 +45,8 @@ CapturesOf d field picture m steps =
     Captures d field (section_begin d d.base field) (section_next d d.base d.base field) picture m (meeting (compiled d) steps)
 
 abbrev pub CompiledIsMet : Type 0
-CompiledIsMet = (d : Desc) (field : Parity) (picture : Picture) (m : State) (steps : List Step) → IsCapture d field picture steps → RunsCompiled d m →
+CompiledIsMet =
+    (d : Desc) (field : Parity) (picture : Picture) (m : State) (steps : List Step) → IsCapture d field picture steps → RunsCompiled d m →
     ArrivesAt d field picture m steps → CapturesOf d field picture m steps
 
 -- the steps from a place up to another, and the step at a place
@@ -85,24 +86,30 @@ pub record IsSignalled (d : Desc) (field : Parity) (picture : Picture) (fill : �
 
 -- memory after step k is that at place j with the picture
 abbrev pub RunShowsPicture : Type 0
-RunShowsPicture = (d : Desc) (field : Parity) (picture : Picture) (fill : ℕ) (steps : List Step) (j k : ℕ) → IsSignalled d field picture fill steps j k →
+RunShowsPicture =
+    (d : Desc) (field : Parity) (picture : Picture) (fill : ℕ) (steps : List Step) (j k : ℕ) → IsSignalled d field picture fill steps j k →
     After d field picture (state_of d fill steps j).memory (state_of d fill steps (k + 1)).memory
 
 -- no turn from j to k sets FDSR, whether or not the bit is set already
 abbrev pub RunShowsNoFault : Type 0
-RunShowsNoFault = (d : Desc) (field : Parity) (picture : Picture) (fill : ℕ) (steps : List Step) (j k i : ℕ) → IsSignalled d field picture fill steps j k →
+RunShowsNoFault =
+    (d : Desc) (field : Parity) (picture : Picture) (fill : ℕ) (steps : List Step) (j k i : ℕ) →
+    IsSignalled d field picture fill steps j k →
     j ≤ i → i ≤ k → step_at steps i ≡ Turn → sets_fdsr (state_of d fill steps i) ≡ false
 
 -- after step k RISCI is set, and the RISC status is that of the field
 abbrev pub RunTellsField : Type 0
-RunTellsField = (d : Desc) (field : Parity) (picture : Picture) (fill : ℕ) (steps : List Step) (j k : ℕ) → IsSignalled d field picture fill steps j k →
+RunTellsField =
+    (d : Desc) (field : Parity) (picture : Picture) (fill : ℕ) (steps : List Step) (j k : ℕ) → IsSignalled d field picture fill steps j k →
     TellsField field (state_of d fill steps (k + 1))
 
 -- where the picture arrives at place j over the steps up to place l, and at place i all entries up to the field's last
 -- were pushed, the first signal is before l once there are so many turns from i to l
 abbrev pub RunSignalsInTime : Type 0
-RunSignalsInTime = (d : Desc) (field : Parity) (picture : Picture) (fill : ℕ) (steps : List Step) (j i l : ℕ) → IsCapture d field picture steps →
+RunSignalsInTime =
+    (d : Desc) (field : Parity) (picture : Picture) (fill : ℕ) (steps : List Step) (j i l : ℕ) → IsCapture d field picture steps →
     j ≤ i → i ≤ l → l ≤ length steps → (arrives : ArrivesAt d field picture (state_of d fill steps j) (between j l steps)) →
-    ((q : Queue) → entries_of arrives.before arrives.entries q ≤ length (queue_state q (state_of d fill steps j).queues).entries + length (coming (meeting (compiled d) (between j i steps)) q)) →
+    ((q : Queue) → entries_of arrives.before arrives.entries q
+    ≤ length (queue_state q (state_of d fill steps j).queues).entries + length (coming (meeting (compiled d) (between j i steps)) q)) →
     5 * size d field + over_queues (entries_of arrives.before arrives.entries) ≤ turns_in (meeting (compiled d) (between i l steps)) →
     (k : ℕ) × IsFirstSignal (section_of d field) (first_state (compiled d) fill) steps j k × (k < l)

@@ -89,5 +89,7 @@ planar_steps = begun ++ planar_moves
 abbrev pub MeetsBound : ℕ → ℕ → ℕ → Type 0
 MeetsBound j i l =
     (arrives : ArrivesAt planar Top planar_picture (state_of planar 0 planar_steps j) (between j l planar_steps))
-    × ((q : Queue) → entries_of arrives.before arrives.entries q ≤ length (queue_state q (state_of planar 0 planar_steps j).queues).entries + length (coming (meeting (compiled planar) (between j i planar_steps)) q))
-    × (5 * size planar Top + over_queues (entries_of arrives.before arrives.entries) ≤ turns_in (meeting (compiled planar) (between i l planar_steps)))
+    × ((q : Queue) → entries_of arrives.before arrives.entries q ≤ length (queue_state q (state_of planar 0 planar_steps j).queues).entries
+    + length (coming (meeting (compiled planar) (between j i planar_steps)) q))
+    × (5 * size planar Top + over_queues (entries_of arrives.before arrives.entries)
+    ≤ turns_in (meeting (compiled planar) (between i l planar_steps)))

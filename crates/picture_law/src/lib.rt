@@ -10,14 +10,16 @@ ghost use Rattle.picture_model.specs.Programs.{compiled};
 ghost use Rattle.field_law.specs.Worked.{moves};
 ghost use Rattle.field_law.specs.Arrivals.{meeting, has_signal, is_signal};
 ghost use Rattle.picture_law.specs.Sections.{section_of};
-ghost use Rattle.picture_law.specs.Runs.{CapturesOf, CompiledIsMet, RunsAreMet, IsSignalled, RunShowsPicture, RunShowsNoFault, RunTellsField, RunSignalsInTime};
+ghost use Rattle.picture_law.specs.Runs.{CapturesOf, CompiledIsMet, RunsAreMet, IsSignalled, RunShowsPicture, RunShowsNoFault};
+ghost use Rattle.picture_law.specs.Runs.{RunTellsField, RunSignalsInTime};
 ghost use Rattle.picture_law.specs.Worked.{machine, picture, steps};
 ghost use Rattle.fifo_model.specs.declared.Queue.TheVariants.{One};
 ghost use Rattle.picture_law.specs.Pictures.{IsKeptAt, of_row};
 ghost use Rattle.picture_law.specs.WorkedBottom.{bottom_steps, spread};
 ghost use Rattle.picture_law.specs.WorkedPlanar.{planar, planar_picture, planar_steps, MeetsBound};
 ghost use Rattle.picture_model.specs.Worked.{smallest};
-ghost use Rattle.picture_law.specs.Laws.{EndsSection, GrantsPlaces, HoldsSection, UsesPicture, PaintsPicture, ShowsPicture, ShowsNoFault, SignalsField, SignalsInTime};
+ghost use Rattle.picture_law.specs.Laws.{EndsSection, GrantsPlaces, HoldsSection, UsesPicture, PaintsPicture, ShowsPicture, ShowsNoFault};
+ghost use Rattle.picture_law.specs.Laws.{SignalsField, SignalsInTime};
 
 /// After the first signal of a field that arrives, each of its bytes that is not clipped is at its place where it
 /// has one, and every other byte of memory is as it was when the machine waited in the field's opening.

@@ -1,5 +1,6 @@
 -- The compiled program of a valid description can be made.
-use Rattle.std.proofs.Common.{◌≡◌, ℕ, suc, ◌+◌, ◌*◌, ◌^◌, ◌<◌, ◌≤◌, Bool, true, false, List, [], ◌∷◌, ◌++◌, length, length-append, Option, Some, None, refl, sym, ap, ◌∙◌, subst, arith, ⊎_elim}
+use Rattle.std.proofs.Common.{◌≡◌, ℕ, suc, ◌+◌, ◌*◌, ◌^◌, ◌<◌, ◌≤◌, Bool, true, false, List, [], ◌∷◌, ◌++◌, length, length-append, Option}
+use Rattle.std.proofs.Common.{Some, None, refl, sym, ap, ◌∙◌, subst, arith, ⊎_elim}
 use Rattle.std.specs.Prelude.{IfSome}
 use Rattle.std.specs.List.{All, list_any}
 use Rattle.std.proofs.lemmas.Bool.{cases_Bool, cond-true, or_parts}
@@ -41,14 +42,17 @@ total-all_placed rising (c ∷ rest) =
     let one = total-placed c rising in
     let first = total-cons c rest in omega arith
 
-unshared : (earlier : List Chunk) (c : Chunk) (rest : List Chunk) → first_shared earlier (c ∷ rest) ≡ None → list_any (shares c) earlier ≡ false
+unshared : (earlier : List Chunk) (c : Chunk) (rest : List Chunk) → first_shared earlier (c ∷ rest) ≡ None →
+    list_any (shares c) earlier ≡ false
 unshared earlier c rest none =
     ⊎_elim
-    (λ yes. let some : Some (length earlier) ≡ None = sym (cond-true (list_any (shares c) earlier) (Some (length earlier)) (first_shared (earlier ++ c ∷ []) rest) yes) ∙ none in cc)
+    (λ yes. let some : Some (length earlier) ≡ None =
+    sym (cond-true (list_any (shares c) earlier) (Some (length earlier)) (first_shared (earlier ++ c ∷ []) rest) yes) ∙ none in cc)
     (λ no. no)
     (cases_Bool (list_any (shares c) earlier))
 
-rising_gathered : (rising earlier rest all : List Chunk) → IsGathered rising earlier rest all → Each (λ c. is_aligned c ≡ true) rest → first_shared [] all ≡ None → AreRising 0 (in_order all)
+rising_gathered : (rising earlier rest all : List Chunk) → IsGathered rising earlier rest all → Each (λ c. is_aligned c ≡ true) rest →
+    first_shared [] all ≡ None → AreRising 0 (in_order all)
 rising_gathered rising earlier [] all so_far aligned none = subst (AreRising 0) so_far.order so_far.rises
 rising_gathered rising earlier (c ∷ rest) all so_far aligned none =
     let apart = unshared earlier c rest (so_far.first ∙ none) in
@@ -59,12 +63,14 @@ each_of : (chunks : List Chunk) → All (λ c. is_aligned c ≡ true) chunks →
 each_of [] all = tt
 each_of (c ∷ rest) all = (all 0 c (omega arith), each_of rest (λ k d below. all (suc k) d (omega arith)))
 
-total_few : (chunks : Option (List (ℕ × ℕ))) (pages : List ℕ) → length pages ≤ 4096 → IfSome chunks (λ cs. total (listed cs) ≤ 16777216) → total (memory_from chunks pages) ≤ 2 ^ 24
+total_few : (chunks : Option (List (ℕ × ℕ))) (pages : List ℕ) → length pages ≤ 4096 → IfSome chunks (λ cs. total (listed cs) ≤ 16777216) →
+    total (memory_from chunks pages) ≤ 2 ^ 24
 total_few None pages few bytes = let all = total-pages pages in omega arith
 total_few (Some pairs) pages few bytes = bytes
 
 -- chunks without a fault, put into rising order, are granted memory
-pub chunks_grants : (memory : List Chunk) → length memory ≤ 4096 → total memory ≤ 2 ^ 24 → All (λ c. is_aligned c ≡ true) memory → first_shared [] memory ≡ None → AreGrants (in_order memory)
+pub chunks_grants : (memory : List Chunk) → length memory ≤ 4096 → total memory ≤ 2 ^ 24 → All (λ c. is_aligned c ≡ true) memory →
+    first_shared [] memory ≡ None → AreGrants (in_order memory)
 chunks_grants memory few small aligned apart =
     let same = length-all_placed [] memory in
     let bytes = total-all_placed [] memory in
@@ -77,7 +83,8 @@ chunks_grants memory few small aligned apart =
 
 pub memory_grants : (d : Desc) → IsDescription d → IsRight d → AreGrants (in_order (memory_of d))
 memory_grants d is right =
-    chunks_grants (memory_of d) (memory_few d is) (total_few d.chunks d.pages is.formed.pages is.formed.bytes) right.aligned right.chunks_apart
+    chunks_grants (memory_of d) (memory_few d is)
+    (total_few d.chunks d.pages is.formed.pages is.formed.bytes) right.aligned right.chunks_apart
 
 pub none_shares : (test : Chunk → Bool) (chunks : List Chunk) → list_any test chunks ≡ false → Each (λ c. test c ≡ false) chunks
 none_shares test [] none = tt
@@ -87,14 +94,16 @@ none_shares test (c ∷ rest) none =
 -- the words
 
 module _ (d : Desc) (program : RiscProgram) where
-  section_words : (field : Parity) (target : ℕ) → target < 2 ^ 32 → Each (IsGoodInstr program) (opening field ∷ body d field) → AreWords (words_of (section d field target))
+  section_words : (field : Parity) (target : ℕ) → target < 2 ^ 32 → Each (IsGoodInstr program) (opening field ∷ body d field) →
+      AreWords (words_of (section d field target))
   section_words field target small good =
       each_flat_map (λ i. AreWords (encoded i)) (λ word. word < 2 ^ 32) encoded (section d field target) (λ i words. words)
       (each_append (λ i. AreWords (encoded i)) (opening field ∷ body d field) (closing field target ∷ [])
       (each_only (IsGoodInstr program) (λ i. AreWords (encoded i)) (opening field ∷ body d field) (λ i g. g.words) good)
       (closing_words field target small, tt))
 
-  words_by : (which : Fields) (base : ℕ) → ((field : Parity) → describes which field ≡ true → Each (IsGoodInstr program) (opening field ∷ body d field)) →
+  words_by : (which : Fields) (base : ℕ) →
+      ((field : Parity) → describes which field ≡ true → Each (IsGoodInstr program) (opening field ∷ body d field)) →
       base + 4 * length (words_of (sections_by which d base base)) ≤ 2 ^ 32 → AreWords (words_of (sections_by which d base base))
   words_by fields.Top base good ends = section_words Top base (omega arith) (good Top refl)
   words_by fields.Bottom base good ends = section_words Bottom base (omega arith) (good Bottom refl)
@@ -124,7 +133,8 @@ compiled_program d is valid =
     let some = some_words d.fields d d.base in
     let few = sections_few d d.base d.base is right in
     one_span-made d.base (compiled_words d) (compiled d).grants room.base (omega arith) (omega arith) ends
-    (each_All (λ word. word < 2 ^ 32) (compiled_words d) (words_by d (compiled d) d.fields d.base (good_body d right (compiled d) refl) ends))
+    (each_All (λ word. word < 2 ^ 32) (compiled_words d)
+    (words_by d (compiled d) d.fields d.base (good_body d right (compiled d) refl) ends))
     (memory_grants d is right)
     (each_All (λ c. shares_byte (compiled d) c ≡ false) (compiled d).grants
     (none_shares (shares_byte (compiled d)) (compiled d).grants (any-in_order (shares_byte (compiled d)) (memory_of d) ∙ room.apart)))

@@ -1,5 +1,6 @@
 -- How many words a line has: those of a cut for each span, and more where a chunk ends or 4,092 bytes are full.
-use Rattle.std.proofs.Common.{◌≡◌, ℕ, ◌+◌, ◌-◌, ◌*◌, ◌<◌, ◌≤◌, ◌⊎◌, inl, inr, Bool, true, false, List, [], ◌∷◌, ◌++◌, Option, Some, None, refl, sym, ap, ◌∙◌, subst, arith, ⊎_elim}
+use Rattle.std.proofs.Common.{◌≡◌, ℕ, ◌+◌, ◌-◌, ◌*◌, ◌<◌, ◌≤◌, ◌⊎◌, inl, inr, Bool, true, false, List, [], ◌∷◌, ◌++◌, Option, Some, None}
+use Rattle.std.proofs.Common.{refl, sym, ap, ◌∙◌, subst, arith, ⊎_elim}
 use Rattle.std.proofs.lemmas.Bool.{cases_lt}
 use Rattle.std.proofs.lemmas.Nat.{row_fits, mul-le}
 use Rattle.page_table.specs.Grants.{Chunk}
@@ -38,7 +39,8 @@ level-le memory t g n =
 abbrev Full : List Chunk → Bool → ℕ → ℕ → Track → Type 0
 Full memory clipped g n t = FitsTrack memory clipped g (n + 1) t ⊎ (level memory t g + 4089 ≤ level memory t (g + n))
 
-bytes_full : (memory : List Chunk) (t : Track) (g n : ℕ) → t.size ≤ 4 → 4092 < (n + 1) * t.size → level memory t g + 4089 ≤ level memory t (g + n)
+bytes_full : (memory : List Chunk) (t : Track) (g n : ℕ) → t.size ≤ 4 → 4092 < (n + 1) * t.size →
+    level memory t g + 4089 ≤ level memory t (g + n)
 bytes_full memory t g n small full =
     let more = passed-le memory t.size t.start g n in
     let parts = parted g n t.size in
@@ -46,7 +48,8 @@ bytes_full memory t g n small full =
     omega arith
 
 -- the chunk of a grain ends just behind the n grains
-chunk_ends : (memory : List Chunk) (grains size start g n : ℕ) → GrainsFit memory grains size (Some start) → g + n < grains → n * size ≤ room_at memory (start + g * size) →
+chunk_ends : (memory : List Chunk) (grains size start g n : ℕ) → GrainsFit memory grains size (Some start) → g + n < grains →
+    n * size ≤ room_at memory (start + g * size) →
     room_at memory (start + g * size) < (n + 1) * size → ended memory (start + g * size) + 1 ≤ ended memory (start + (g + n) * size)
 chunk_ends memory grains size start g n fit inside fits full =
     let parts = parted g n size in
@@ -59,7 +62,8 @@ chunk_ends memory grains size start g n fit inside fits full =
     ⊎_elim
     (λ more.
     let later = room_at-add memory (start + g * size) (n * size) more in
-    let same : room_at memory (start + (g + n) * size) ≡ room_at memory (start + g * size) - n * size = ap (room_at memory) (sym there) ∙ later in
+    let same : room_at memory (start + (g + n) * size) ≡ room_at memory (start + g * size) - n * size =
+    ap (room_at memory) (sym there) ∙ later in
     let room = fit.2 (g + n) inside in
     absurd (omega arith))
     (λ no. no)
@@ -68,12 +72,15 @@ chunk_ends memory grains size start g n fit inside fits full =
     let one = ended-past memory (start + g * size) (n * size) (omega arith) past in
     subst (λ (o : ℕ). ended memory (start + g * size) + 1 ≤ ended memory o) there one
 
-track_full : (memory : List Chunk) (clipped : Bool) (grains size : ℕ) (start : Option ℕ) (g n : ℕ) → size ≤ 4 → GrainsFit memory grains size start → g + n < grains → n * size ≤ 4092 →
+track_full : (memory : List Chunk) (clipped : Bool) (grains size : ℕ) (start : Option ℕ) (g n : ℕ) → size ≤ 4 →
+    GrainsFit memory grains size start → g + n < grains → n * size ≤ 4092 →
     IsInOneChunk memory clipped size start g n → Full memory clipped g n (record { size = size; start = start })
 track_full memory true grains size start g n small fit inside few one =
-    ⊎_elim (λ full. inr (bytes_full memory (record { size = size; start = start }) g n small full)) (λ fits. inl (record { few = fits; whole = tt })) (cases_lt 4092 ((n + 1) * size))
+    ⊎_elim (λ full. inr (bytes_full memory (record { size = size; start = start }) g n small full))
+    (λ fits. inl (record { few = fits; whole = tt })) (cases_lt 4092 ((n + 1) * size))
 track_full memory false grains size None g n small fit inside few one =
-    ⊎_elim (λ full. inr (bytes_full memory (record { size = size; start = None }) g n small full)) (λ fits. inl (record { few = fits; whole = tt })) (cases_lt 4092 ((n + 1) * size))
+    ⊎_elim (λ full. inr (bytes_full memory (record { size = size; start = None }) g n small full))
+    (λ fits. inl (record { few = fits; whole = tt })) (cases_lt 4092 ((n + 1) * size))
 track_full memory false grains size (Some start) g n small fit inside few one =
     ⊎_elim
     (λ full. inr (bytes_full memory (record { size = size; start = Some start }) g n small full))
@@ -116,11 +123,13 @@ module _ (memory : List Chunk) (strip : Strip) (is : IsStrip memory strip) where
       let two = level-le memory strip.two g n in
       let three = level-le memory strip.three g n in omega arith
 
-  full : (s : Span) (t : Track) (g n : ℕ) → IsTrack memory strip.grains t → g + n < strip.grains → FitsTrack memory s.clipped g n t → Full memory s.clipped g n t
+  full : (s : Span) (t : Track) (g n : ℕ) → IsTrack memory strip.grains t → g + n < strip.grains → FitsTrack memory s.clipped g n t →
+      Full memory s.clipped g n t
   full s t g n fit inside fits = track_full memory s.clipped strip.grains t.size t.start g n fit.small fit.fit inside fits.few fits.whole
 
   -- a cut that doesn't end its span
-  cut_rises : (s : Span) (at : ℕ) (k : Cut) → s.to ≤ strip.grains → at + k.n < s.to → IsCut memory strip s at k → height memory strip at + 4089 ≤ height memory strip (at + k.n)
+  cut_rises : (s : Span) (at : ℕ) (k : Cut) → s.to ≤ strip.grains → at + k.n < s.to → IsCut memory strip s at k →
+      height memory strip at + 4089 ≤ height memory strip (at + k.n)
   cut_rises s at k end inside cut =
       let one = level-le memory strip.one at k.n in
       let two = level-le memory strip.two at k.n in
@@ -141,7 +150,8 @@ module _ (memory : List Chunk) (strip : Strip) (is : IsStrip memory strip) where
   none_left s (k ∷ rest) at done are =
       let some = are.0.some in let within = are.0.fits.within in absurd (omega arith)
 
-  span_words : (s : Span) (at : ℕ) (cuts : List Cut) → s.to ≤ strip.grains → AreCutsFrom memory strip s at cuts → cut_words cuts * 4089 + 5 * height memory strip at ≤ 5 * height memory strip s.to + words_for s.clipped * 4089
+  span_words : (s : Span) (at : ℕ) (cuts : List Cut) → s.to ≤ strip.grains → AreCutsFrom memory strip s at cuts →
+      cut_words cuts * 4089 + 5 * height memory strip at ≤ 5 * height memory strip s.to + words_for s.clipped * 4089
   span_words s at [] end are =
       let same : height memory strip at ≡ height memory strip s.to = ap (height memory strip) are in omega arith
   span_words s at (k ∷ rest) end are =
@@ -174,11 +184,14 @@ module _ (memory : List Chunk) (strip : Strip) (is : IsStrip memory strip) where
 -- the chunk ends that a line's tracks have passed at a grain
 abbrev pub all_passed : List Chunk → Strip → ℕ → ℕ
 all_passed memory strip g =
-    passed memory strip.one.size strip.one.start g + passed memory strip.two.size strip.two.start g + passed memory strip.three.size strip.three.start g
+    passed memory strip.one.size strip.one.start g + passed memory strip.two.size strip.two.start g
+    + passed memory strip.three.size strip.three.start g
 
 -- the words of a line are those for each of its spans, 5 for each chunk end that it crosses, and 5 more
-pub line_words-few : (memory : List Chunk) (strip : Strip) → IsStrip memory strip → strip.grains * strip.one.size + strip.grains * strip.two.size + strip.grains * strip.three.size ≤ 4096 →
-    cut_words (cuts_of memory strip strip.spans) + 5 * all_passed memory strip 0 ≤ 5 * all_passed memory strip strip.grains + span_weights strip.spans + 5
+pub line_words-few : (memory : List Chunk) (strip : Strip) → IsStrip memory strip →
+    strip.grains * strip.one.size + strip.grains * strip.two.size + strip.grains * strip.three.size ≤ 4096 →
+    cut_words (cuts_of memory strip strip.spans) + 5 * all_passed memory strip 0
+    ≤ 5 * all_passed memory strip strip.grains + span_weights strip.spans + 5
 line_words-few memory strip is small =
     let count = spans_words memory strip is 0 strip.spans (cuts_of memory strip strip.spans) is.covers (strip_cuts memory strip is) in
     omega arith

@@ -1,5 +1,6 @@
 -- Areas and lines that share no offset cross each chunk end at most once.
-use Rattle.std.proofs.Common.{◌≡◌, ℕ, zero, suc, ◌+◌, ◌-◌, ◌<◌, ◌≤◌, false, List, [], ◌∷◌, ◌++◌, length, map, Option, Some, None, refl, sym, ap, ◌∙◌, arith, ◌⊎◌, ⊎_elim, if◌then◌else◌}
+use Rattle.std.proofs.Common.{◌≡◌, ℕ, zero, suc, ◌+◌, ◌-◌, ◌<◌, ◌≤◌, false, List, [], ◌∷◌, ◌++◌, length, map, Option, Some, None, refl, sym}
+use Rattle.std.proofs.Common.{ap, ◌∙◌, arith, ◌⊎◌, ⊎_elim, if◌then◌else◌}
 use Rattle.std.specs.Prelude.{max, min, nat_le}
 use Rattle.std.specs.List.{list_any, range_with_len}
 use Rattle.std.proofs.lemmas.Bool.{cases_lt, cond-true, cond-false, le-leb, lt-leb, ltb-false, or_parts}
@@ -54,7 +55,8 @@ past_same end e forward not_here =
     (cases_lt e.from end)
 
 -- where one area crosses it, none of the others does
-none_crosses : (end : ℕ) (e : Extent) (rest : List Extent) → e.from < end → end ≤ e.to → AreForward rest → list_any (overlaps e) rest ≡ false → at_ends (past end) rest ≡ at_begins (past end) rest
+none_crosses : (end : ℕ) (e : Extent) (rest : List Extent) → e.from < end → end ≤ e.to → AreForward rest →
+    list_any (overlaps e) rest ≡ false → at_ends (past end) rest ≡ at_begins (past end) rest
 none_crosses end e [] begins ends forward apart = refl
 none_crosses end e (f ∷ rest) begins ends forward apart =
     let parts = or_parts (overlaps e f) (list_any (overlaps e) rest) apart in
@@ -127,22 +129,28 @@ no_ends : (es : List Extent) → at_ends (λ o. 0) es ≡ 0
 no_ends [] = refl
 no_ends (e ∷ rest) = let more = no_ends rest in omega arith
 
-crossed_from : (memory : List Chunk) (base : ℕ) (es : List Extent) → AreForward es → some_overlap es ≡ false → at_ends (passed_from base memory) es ≤ at_begins (passed_from base memory) es + length memory
+crossed_from : (memory : List Chunk) (base : ℕ) (es : List Extent) → AreForward es → some_overlap es ≡ false →
+    at_ends (passed_from base memory) es ≤ at_begins (passed_from base memory) es + length memory
 crossed_from [] base es forward apart =
     let none = ends_same (passed_from base []) (λ o. 0) es (λ o. refl) ∙ no_ends es in omega arith
 crossed_from (c ∷ rest) base es forward apart =
     let end = base + c.len in
     let one = one_end end es forward apart in
     let more = crossed_from rest end es forward apart in
-    let ends = ends_same (passed_from base (c ∷ rest)) (λ o. past end o + passed_from end rest o) es (λ o. refl) ∙ ends_split (past end) (passed_from end rest) es in
-    let begins = begins_same (passed_from base (c ∷ rest)) (λ o. past end o + passed_from end rest o) es (λ o. refl) ∙ begins_split (past end) (passed_from end rest) es in
+    let ends =
+    ends_same (passed_from base (c ∷ rest)) (λ o. past end o + passed_from end rest o) es (λ o. refl)
+    ∙ ends_split (past end) (passed_from end rest) es in
+    let begins =
+    begins_same (passed_from base (c ∷ rest)) (λ o. past end o + passed_from end rest o) es (λ o. refl)
+    ∙ begins_split (past end) (passed_from end rest) es in
     omega arith
 
 ended_whole : (memory : List Chunk) (o : ℕ) → ended memory o ≡ passed_from 0 memory o
 ended_whole memory o =
     let same : o - 0 ≡ o = omega arith in ap (ended memory) (sym same) ∙ ended_is memory 0 o (omega arith)
 
-pub crossed_once : (memory : List Chunk) (es : List Extent) → AreForward es → some_overlap es ≡ false → at_ends (ended memory) es ≤ at_begins (ended memory) es + length memory
+pub crossed_once : (memory : List Chunk) (es : List Extent) → AreForward es → some_overlap es ≡ false →
+    at_ends (ended memory) es ≤ at_begins (ended memory) es + length memory
 crossed_once memory es forward apart =
     let all = crossed_from memory 0 es forward apart in
     let ends = ends_same (ended memory) (passed_from 0 memory) es (ended_whole memory) in
@@ -163,29 +171,36 @@ AreApart bytes low high (None ∷ rest) = AreApart bytes low high rest
 AreApart bytes low high (Some from ∷ rest) =
     (low ≤ from) × (from + bytes ≤ high) × Misses bytes from rest × AreApart bytes low high rest
 
-misses_by : (bytes from : ℕ) (start : Option ℕ) (rest : List (Option ℕ)) → ((o : ℕ) → start ≡ Some o → (from + bytes ≤ o) ⊎ (o + bytes ≤ from)) → Misses bytes from rest → Misses bytes from (start ∷ rest)
+misses_by : (bytes from : ℕ) (start : Option ℕ) (rest : List (Option ℕ)) →
+    ((o : ℕ) → start ≡ Some o → (from + bytes ≤ o) ⊎ (o + bytes ≤ from)) → Misses bytes from rest → Misses bytes from (start ∷ rest)
 misses_by bytes from None rest here more = more
 misses_by bytes from (Some o) rest here more = (here o refl, more)
 
-range_missed : (f : ℕ → Option ℕ) (bytes at from count : ℕ) → ((k o : ℕ) → from ≤ k → k < from + count → f k ≡ Some o → (at + bytes ≤ o) ⊎ (o + bytes ≤ at)) → Misses bytes at (map f (range_with_len from count))
+range_missed : (f : ℕ → Option ℕ) (bytes at from count : ℕ) →
+    ((k o : ℕ) → from ≤ k → k < from + count → f k ≡ Some o → (at + bytes ≤ o) ⊎ (o + bytes ≤ at)) →
+    Misses bytes at (map f (range_with_len from count))
 range_missed f bytes at from zero apart = tt
 range_missed f bytes at from (suc count) apart =
     misses_by bytes at (f from) (map f (range_with_len (from + 1) count)) (λ o is. apart from o (omega arith) (omega arith) is)
     (range_missed f bytes at (from + 1) count (λ k o later below is. apart k o (omega arith) (omega arith) is))
 
-apart_by : (bytes low high : ℕ) (start : Option ℕ) (rest : List (Option ℕ)) → ((o : ℕ) → start ≡ Some o → (low ≤ o) × (o + bytes ≤ high) × Misses bytes o rest) → AreApart bytes low high rest →
+apart_by : (bytes low high : ℕ) (start : Option ℕ) (rest : List (Option ℕ)) →
+    ((o : ℕ) → start ≡ Some o → (low ≤ o) × (o + bytes ≤ high) × Misses bytes o rest) → AreApart bytes low high rest →
     AreApart bytes low high (start ∷ rest)
 apart_by bytes low high None rest here more = more
 apart_by bytes low high (Some o) rest here more = let first = here o refl in (first.0, first.1, first.2, more)
 
-pub range_apart : (f : ℕ → Option ℕ) (bytes low high from count : ℕ) → ((k o : ℕ) → from ≤ k → k < from + count → f k ≡ Some o → (low ≤ o) × (o + bytes ≤ high)) →
-    ((k l o p : ℕ) → k < l → l < from + count → f k ≡ Some o → f l ≡ Some p → (o + bytes ≤ p) ⊎ (p + bytes ≤ o)) → AreApart bytes low high (map f (range_with_len from count))
+pub range_apart : (f : ℕ → Option ℕ) (bytes low high from count : ℕ) →
+    ((k o : ℕ) → from ≤ k → k < from + count → f k ≡ Some o → (low ≤ o) × (o + bytes ≤ high)) →
+    ((k l o p : ℕ) → k < l → l < from + count → f k ≡ Some o → f l ≡ Some p → (o + bytes ≤ p) ⊎ (p + bytes ≤ o)) →
+    AreApart bytes low high (map f (range_with_len from count))
 range_apart f bytes low high from zero within apart = tt
 range_apart f bytes low high from (suc count) within apart =
     apart_by bytes low high (f from) (map f (range_with_len (from + 1) count))
     (λ o is. let here = within from o (omega arith) (omega arith) is in
     (here.0, here.1, range_missed f bytes o (from + 1) count (λ k p later below is'. apart from k o p (omega arith) (omega arith) is is')))
-    (range_apart f bytes low high (from + 1) count (λ k o later below is. within k o (omega arith) (omega arith) is) (λ k l o p less below is is'. apart k l o p less (omega arith) is is'))
+    (range_apart f bytes low high (from + 1) count (λ k o later below is. within k o (omega arith) (omega arith) is)
+    (λ k l o p less below is is'. apart k l o p less (omega arith) is is'))
 
 -- a count over the offsets so many bytes behind the lines' beginnings
 abbrev counted : (ℕ → ℕ) → ℕ → List (Option ℕ) → ℕ
@@ -193,17 +208,20 @@ counted count bytes [] = 0
 counted count bytes (None ∷ rest) = counted count bytes rest
 counted count bytes (Some from ∷ rest) = count (from + bytes) + counted count bytes rest
 
-counted_ended : (memory : List Chunk) (bytes : ℕ) (starts : List (Option ℕ)) → counted (ended memory) bytes starts ≡ all_ended memory bytes starts
+counted_ended : (memory : List Chunk) (bytes : ℕ) (starts : List (Option ℕ)) →
+    counted (ended memory) bytes starts ≡ all_ended memory bytes starts
 counted_ended memory bytes [] = refl
 counted_ended memory bytes (None ∷ rest) = let more = counted_ended memory bytes rest in omega arith
 counted_ended memory bytes (Some from ∷ rest) = let more = counted_ended memory bytes rest in omega arith
 
-counted_split : (f g : ℕ → ℕ) (bytes : ℕ) (starts : List (Option ℕ)) → counted (λ o. f o + g o) bytes starts ≡ counted f bytes starts + counted g bytes starts
+counted_split : (f g : ℕ → ℕ) (bytes : ℕ) (starts : List (Option ℕ)) →
+    counted (λ o. f o + g o) bytes starts ≡ counted f bytes starts + counted g bytes starts
 counted_split f g bytes [] = refl
 counted_split f g bytes (None ∷ rest) = counted_split f g bytes rest
 counted_split f g bytes (Some from ∷ rest) = let more = counted_split f g bytes rest in omega arith
 
-counted_same : (f g : ℕ → ℕ) (bytes : ℕ) (starts : List (Option ℕ)) → ((o : ℕ) → f o ≡ g o) → counted f bytes starts ≡ counted g bytes starts
+counted_same : (f g : ℕ → ℕ) (bytes : ℕ) (starts : List (Option ℕ)) → ((o : ℕ) → f o ≡ g o) →
+    counted f bytes starts ≡ counted g bytes starts
 counted_same f g bytes [] same = refl
 counted_same f g bytes (None ∷ rest) same = counted_same f g bytes rest same
 counted_same f g bytes (Some from ∷ rest) same =
@@ -215,7 +233,8 @@ counted_none bytes (None ∷ rest) = counted_none bytes rest
 counted_none bytes (Some from ∷ rest) = let more = counted_none bytes rest in omega arith
 
 -- where one line crosses a chunk end, none of the others does
-others_miss : (end bytes from : ℕ) (starts : List (Option ℕ)) → from < end → end ≤ from + bytes → Misses bytes from starts → counted (past end) bytes starts ≡ counted (past end) 0 starts
+others_miss : (end bytes from : ℕ) (starts : List (Option ℕ)) → from < end → end ≤ from + bytes → Misses bytes from starts →
+    counted (past end) bytes starts ≡ counted (past end) 0 starts
 others_miss end bytes from [] begins ends misses = refl
 others_miss end bytes from (None ∷ rest) begins ends misses = others_miss end bytes from rest begins ends misses
 others_miss end bytes from (Some o ∷ rest) begins ends misses =
@@ -235,7 +254,8 @@ past_rises end o p order =
     (λ after. let first = past-yes end o after in let second = past-yes end p (omega arith) in omega arith)
     (cases_lt o end)
 
-one_within : (end bytes low high : ℕ) (starts : List (Option ℕ)) → low ≤ high → AreApart bytes low high starts → counted (past end) bytes starts + past end low ≤ counted (past end) 0 starts + past end high
+one_within : (end bytes low high : ℕ) (starts : List (Option ℕ)) → low ≤ high → AreApart bytes low high starts →
+    counted (past end) bytes starts + past end low ≤ counted (past end) 0 starts + past end high
 one_within end bytes low high [] forward apart = let more = past_rises end low high forward in omega arith
 one_within end bytes low high (None ∷ rest) forward apart = one_within end bytes low high rest forward apart
 one_within end bytes low high (Some from ∷ rest) forward apart =
@@ -256,7 +276,8 @@ one_within end bytes low high (Some from ∷ rest) forward apart =
     (cases_lt from end)
 
 within_from : (memory : List Chunk) (base bytes low high : ℕ) (starts : List (Option ℕ)) → low ≤ high → AreApart bytes low high starts →
-    counted (passed_from base memory) bytes starts + passed_from base memory low ≤ counted (passed_from base memory) 0 starts + passed_from base memory high
+    counted (passed_from base memory) bytes starts + passed_from base memory low
+    ≤ counted (passed_from base memory) 0 starts + passed_from base memory high
 within_from [] base bytes low high starts forward apart =
     let none = counted_same (passed_from base []) (λ o. 0) bytes starts (λ o. refl) ∙ counted_none bytes starts in
     let first : passed_from base [] low ≡ 0 = refl in omega arith
@@ -264,8 +285,10 @@ within_from (c ∷ rest) base bytes low high starts forward apart =
     let end = base + c.len in
     let one = one_within end bytes low high starts forward apart in
     let more = within_from rest end bytes low high starts forward apart in
-    let split : (n : ℕ) → counted (passed_from base (c ∷ rest)) n starts ≡ counted (past end) n starts + counted (passed_from end rest) n starts =
-    λ n. counted_same (passed_from base (c ∷ rest)) (λ o. past end o + passed_from end rest o) n starts (λ o. refl) ∙ counted_split (past end) (passed_from end rest) n starts
+    let split : (n : ℕ) →
+    counted (passed_from base (c ∷ rest)) n starts ≡ counted (past end) n starts + counted (passed_from end rest) n starts =
+    λ n. counted_same (passed_from base (c ∷ rest)) (λ o. past end o + passed_from end rest o) n starts (λ o. refl)
+    ∙ counted_split (past end) (passed_from end rest) n starts
     in
     let ends = split bytes in
     let begins = split 0 in

@@ -12,11 +12,13 @@ pub each_append : {A : Type 0} (P : A → Type 0) (xs ys : List A) → Each P xs
 each_append P [] ys one two = two
 each_append P (x ∷ xs) ys one two = (one.0, each_append P xs ys one.1 two)
 
-pub each_map : {A B : Type 0} (P : A → Type 0) (Q : B → Type 0) (f : A → B) (xs : List A) → ((x : A) → P x → Q (f x)) → Each P xs → Each Q (map f xs)
+pub each_map : {A B : Type 0} (P : A → Type 0) (Q : B → Type 0) (f : A → B) (xs : List A) → ((x : A) → P x → Q (f x)) → Each P xs →
+    Each Q (map f xs)
 each_map P Q f [] step each = tt
 each_map P Q f (x ∷ xs) step each = (step x each.0, each_map P Q f xs step each.1)
 
-pub each_flat_map : {A B : Type 0} (P : A → Type 0) (Q : B → Type 0) (f : A → List B) (xs : List A) → ((x : A) → P x → Each Q (f x)) → Each P xs → Each Q (flat_map f xs)
+pub each_flat_map : {A B : Type 0} (P : A → Type 0) (Q : B → Type 0) (f : A → List B) (xs : List A) → ((x : A) → P x → Each Q (f x)) →
+    Each P xs → Each Q (flat_map f xs)
 each_flat_map P Q f [] step each = tt
 each_flat_map P Q f (x ∷ xs) step each = each_append Q (f x) (flat_map f xs) (step x each.0) (each_flat_map P Q f xs step each.1)
 

@@ -1,5 +1,6 @@
 -- How many chunks end at an offset or before it.
-use Rattle.std.proofs.Common.{◌≡◌, ℕ, zero, suc, ◌+◌, ◌-◌, ◌*◌, ◌<◌, ◌≤◌, List, [], ◌∷◌, length, map, Option, Some, None, refl, sym, ap, arith, ⊎_elim, if◌then◌else◌}
+use Rattle.std.proofs.Common.{◌≡◌, ℕ, zero, suc, ◌+◌, ◌-◌, ◌*◌, ◌<◌, ◌≤◌, List, [], ◌∷◌, length, map, Option, Some, None, refl, sym, ap}
+use Rattle.std.proofs.Common.{arith, ⊎_elim, if◌then◌else◌}
 use Rattle.std.specs.Prelude.{nat_lt}
 use Rattle.std.specs.List.{range_with_len}
 use Rattle.std.proofs.lemmas.Bool.{cases_lt, cond-true, cond-false, lt-ltb, le-ltb}
@@ -31,7 +32,8 @@ ended-le [] o p order = omega arith
 ended-le (c ∷ rest) o p order =
     ⊎_elim
     (λ here. omega (arith, ended-here c rest o here))
-    (λ past. let more = ended-le rest (o - c.len) (p - c.len) (omega arith) in omega (arith, ended-later c rest o past, ended-later c rest p (omega arith)))
+    (λ past. let more = ended-le rest (o - c.len) (p - c.len) (omega arith) in
+    omega (arith, ended-later c rest o past, ended-later c rest p (omega arith)))
     (cases_lt o c.len)
 
 -- past the room of its chunk an offset has one more chunk behind it
@@ -62,14 +64,17 @@ all_ended memory bytes (start ∷ rest) = ended_after memory bytes start + all_e
 
 -- what the even and the odd ones of a range have passed, all of it has
 pub interleaved : (memory : List Chunk) (bytes : ℕ) (f : ℕ → Option ℕ) (from count low m : ℕ) → low ≡ 2 * from → m ≡ 2 * count →
-    all_ended memory bytes (map f (map (λ n. 2 * n) (range_with_len from count))) + all_ended memory bytes (map f (map (λ n. 2 * n + 1) (range_with_len from count))) ≡ all_ended memory bytes (map f (range_with_len low m))
+    all_ended memory bytes (map f (map (λ n. 2 * n) (range_with_len from count))) + all_ended memory bytes
+    (map f (map (λ n. 2 * n + 1) (range_with_len from count))) ≡ all_ended memory bytes (map f (range_with_len low m))
 interleaved memory bytes f from zero low zero begins twice = refl
 interleaved memory bytes f from zero low (suc m) begins twice = absurd (omega arith)
 interleaved memory bytes f from (suc count) low zero begins twice = absurd (omega arith)
 interleaved memory bytes f from (suc count) low (suc zero) begins twice = absurd (omega arith)
 interleaved memory bytes f from (suc count) low (suc (suc m)) begins twice =
     let more = interleaved memory bytes f (from + 1) count (low + 1 + 1) m (omega arith) (omega arith) in
-    let even : ended_after memory bytes (f (2 * from)) ≡ ended_after memory bytes (f low) = ap (λ (n : ℕ). ended_after memory bytes (f n)) (sym begins) in
+    let even : ended_after memory bytes (f (2 * from)) ≡ ended_after memory bytes (f low) =
+    ap (λ (n : ℕ). ended_after memory bytes (f n)) (sym begins) in
     let next : 2 * from + 1 ≡ low + 1 = omega arith in
-    let odd : ended_after memory bytes (f (2 * from + 1)) ≡ ended_after memory bytes (f (low + 1)) = ap (λ (n : ℕ). ended_after memory bytes (f n)) next in
+    let odd : ended_after memory bytes (f (2 * from + 1)) ≡ ended_after memory bytes (f (low + 1)) =
+    ap (λ (n : ℕ). ended_after memory bytes (f n)) next in
     omega arith

@@ -1,5 +1,6 @@
 -- What it means that a description has no fault of its geometry.
-use Rattle.std.proofs.Common.{◌≡◌, ℕ, zero, suc, ◌+◌, ◌*◌, ◌%◌, ◌^◌, ◌<◌, ◌≤◌, Bool, true, false, not, ◌&&◌, ◌||◌, List, [], ◌∷◌, ◌++◌, length, Option, Some, None, refl, subst, arith, ⊎_elim}
+use Rattle.std.proofs.Common.{◌≡◌, ℕ, zero, suc, ◌+◌, ◌*◌, ◌%◌, ◌^◌, ◌<◌, ◌≤◌, Bool, true, false, not, ◌&&◌, ◌||◌, List, [], ◌∷◌, ◌++◌}
+use Rattle.std.proofs.Common.{length, Option, Some, None, refl, subst, arith, ⊎_elim}
 use Rattle.std.specs.Prelude.{nat_le, nat_lt, option_map}
 use Rattle.std.specs.Int.{div_ceil}
 use Rattle.std.specs.List.{All, list_any, range_with_len}
@@ -12,8 +13,11 @@ use Rattle.machine_model.specs.Paths.{shares_byte}
 use Rattle.capture_desc.specs.declared.desc.Desc.{Desc}
 use Rattle.picture_model.specs.declared.BuildFault.{BuildFault}
 use Rattle.picture_model.specs.declared.BuildFault.TheVariants.{PageUnaligned, PageTwice}
-use Rattle.picture_model.specs.Described.{IsDescription, both, layout_of, memory_of, memory_from, planes, plane_row_bytes, stride, offset, taken, highest_end, vbi_stride}
-use Rattle.picture_model.specs.Geometry.{Check, IsFrame, IsValid, first_after, first_missing, first_unaligned, frame_faults, max_height, max_vbi_lines, max_width, min_line_bytes, program_faults, is_between, is_multiple, some_overlap, when}
+use Rattle.picture_model.specs.Described.{IsDescription, both, layout_of, memory_of, memory_from, planes, plane_row_bytes, stride, offset}
+use Rattle.picture_model.specs.Described.{taken, highest_end, vbi_stride}
+use Rattle.picture_model.specs.Geometry.{Check, IsFrame, IsValid, first_after, first_missing, first_unaligned, frame_faults, max_height}
+use Rattle.picture_model.specs.Geometry.{max_vbi_lines, max_width, min_line_bytes, program_faults, is_between, is_multiple, some_overlap}
+use Rattle.picture_model.specs.Geometry.{when}
 use Rattle.picture_model.specs.Plans.{max_piece}
 use Rattle.picture_model.specs.Programs.{compiled, compiled_words}
 use Rattle.pixel_layout.specs.Layouts.{planes_of}
@@ -23,12 +27,14 @@ abbrev AreClear : List Check → Desc → Type 0
 AreClear [] d = Unit {0}
 AreClear (check ∷ rest) d = (check d ≡ None) × AreClear rest d
 
-after_none : (found : Option BuildFault) (checks : List Check) (d : Desc) → first_after found checks d ≡ None → (found ≡ None) × AreClear checks d
+after_none : (found : Option BuildFault) (checks : List Check) (d : Desc) → first_after found checks d ≡ None →
+    (found ≡ None) × AreClear checks d
 after_none (Some fault) checks d none = cc
 after_none None [] d none = (refl, tt)
 after_none None (check ∷ rest) d none = let more = after_none (check d) rest d none in (refl, (more.0, more.1))
 
-clear_none : (found : Option BuildFault) (checks : List Check) (d : Desc) → found ≡ None → AreClear checks d → first_after found checks d ≡ None
+clear_none : (found : Option BuildFault) (checks : List Check) (d : Desc) → found ≡ None → AreClear checks d →
+    first_after found checks d ≡ None
 clear_none (Some fault) checks d none clear = none
 clear_none None [] d none clear = refl
 clear_none None (check ∷ rest) d none clear = clear_none (check d) rest d clear.0 clear.1
@@ -54,7 +60,8 @@ multiple_is : (of n : ℕ) → is_multiple of n ≡ true → n % of ≡ 0
 multiple_is of n test = eqb-true (n % of) 0 test
 
 -- an answer that no number of a range gives
-none_in_range : (test : ℕ → Bool) (from count p : ℕ) → list_any test (range_with_len from count) ≡ false → from ≤ p → p < from + count → test p ≡ false
+none_in_range : (test : ℕ → Bool) (from count p : ℕ) → list_any test (range_with_len from count) ≡ false → from ≤ p → p < from + count →
+    test p ≡ false
 none_in_range test from zero p none low high = absurd (omega arith)
 none_in_range test from (suc count) p none low high =
     let parts = or_parts (test from) (list_any test (range_with_len (from + 1) count)) none in
@@ -63,12 +70,14 @@ none_in_range test from (suc count) p none low high =
     (λ before. let same : from ≡ p = omega arith in subst (λ (q : ℕ). test q ≡ false) same parts.0)
     (cases_lt from p)
 
-pub aligned_memory : (chunks : Option (List (ℕ × ℕ))) (pages : List ℕ) → All (λ page. page < 2 ^ 32) pages → first_unaligned chunks pages ≡ None → first_shared [] (memory_from chunks pages) ≡ None →
+pub aligned_memory : (chunks : Option (List (ℕ × ℕ))) (pages : List ℕ) → All (λ page. page < 2 ^ 32) pages →
+    first_unaligned chunks pages ≡ None → first_shared [] (memory_from chunks pages) ≡ None →
     All (λ c. is_aligned c ≡ true) (memory_from chunks pages)
 aligned_memory None pages fit aligned apart = pages_aligned pages (λ k within. fit k 0 within) aligned
 aligned_memory (Some pairs) pages fit aligned apart = chunks_aligned pairs (record { aligned = aligned; apart = apart })
 
-enough : (chunks : Option (List (ℕ × ℕ))) (pages : List ℕ) (end : ℕ) → first_missing chunks pages end ≡ None → end ≤ total (memory_from chunks pages)
+enough : (chunks : Option (List (ℕ × ℕ))) (pages : List ℕ) (end : ℕ) → first_missing chunks pages end ≡ None →
+    end ≤ total (memory_from chunks pages)
 enough None pages end none =
     pages_enough pages end (ltb-false (length pages) (div_ceil end page_size) (when_not _ _ none))
 enough (Some pairs) pages end none = ltb-false (total (listed pairs)) end (when_not _ _ none)
@@ -90,7 +99,8 @@ pub record IsRight (d : Desc) : Type 0 where
   pub chunks_apart : first_shared [] (memory_of d) ≡ None
   pub enough : highest_end (taken d) ≤ total (memory_of d)
 
-in_planes : (d : Desc) (test : ℕ → Bool) → list_any test (planes d) ≡ false → (plane : ℕ) → 1 ≤ plane → plane ≤ planes_of (layout_of d) → test plane ≡ false
+in_planes : (d : Desc) (test : ℕ → Bool) → list_any test (planes d) ≡ false → (plane : ℕ) → 1 ≤ plane → plane ≤ planes_of (layout_of d) →
+    test plane ≡ false
 in_planes d test none plane low high = none_in_range test 1 (planes_of (layout_of d)) plane none low (omega arith)
 
 -- what VBI lines of a right range have
@@ -99,7 +109,9 @@ pub record AreInRange (lines bytes step : ℕ) : Type 0 where
   pub long : 0 < lines → (min_line_bytes ≤ bytes) × (bytes ≤ max_piece)
   pub apart : 0 < lines → bytes ≤ step
 
-pub vbi_range : (lines bytes step : ℕ) → (nat_lt max_vbi_lines lines || (nat_lt 0 lines && (not (is_between min_line_bytes max_piece bytes) || nat_lt step bytes))) ≡ false → AreInRange lines bytes step
+pub vbi_range : (lines bytes step : ℕ) →
+    (nat_lt max_vbi_lines lines || (nat_lt 0 lines && (not (is_between min_line_bytes max_piece bytes) || nat_lt step bytes))) ≡ false →
+    AreInRange lines bytes step
 vbi_range lines bytes step none =
     let out = not (is_between min_line_bytes max_piece bytes) in
     let parts = or_parts (nat_lt max_vbi_lines lines) (nat_lt 0 lines && (out || nat_lt step bytes)) none in
@@ -115,7 +127,8 @@ vbi_range lines bytes step none =
       apart = λ some. ltb-false step bytes (lines_right some).1;
     }
 
-units_of : (planar : Bool) (unit from by : ℕ) → (planar && not (is_multiple unit from && is_multiple unit by)) ≡ false → planar ≡ true → (from % unit ≡ 0) × (by % unit ≡ 0)
+units_of : (planar : Bool) (unit from by : ℕ) → (planar && not (is_multiple unit from && is_multiple unit by)) ≡ false → planar ≡ true →
+    (from % unit ≡ 0) × (by % unit ≡ 0)
 units_of false unit from by none is = cc
 units_of true unit from by none is =
     let parts = and_parts (is_multiple unit from) (is_multiple unit by) (not-false _ none) in
@@ -144,8 +157,10 @@ clear-IsRight d is clear =
       height = between_parts 1 max_height d.height (when_not _ _ clear.1.0);
       units = multiple_is _ _ (not-false _ (when_not _ _ clear.1.1.0));
       even = even_height (both d) d.height (when_not _ _ clear.1.1.1.0);
-      wide = λ plane low high. ltb-false _ _ (in_planes d (λ p. nat_lt (plane_row_bytes d p) min_line_bytes) (when_not _ _ clear.1.1.1.1.0) plane low high);
-      rows_apart = λ plane low high. ltb-false _ _ (in_planes d (λ p. nat_lt (stride d p) (plane_row_bytes d p)) (when_not _ _ clear.1.1.1.1.1.0) plane low high);
+      wide = λ plane low high.
+          ltb-false _ _ (in_planes d (λ p. nat_lt (plane_row_bytes d p) min_line_bytes) (when_not _ _ clear.1.1.1.1.0) plane low high);
+      rows_apart = λ plane low high.
+          ltb-false _ _ (in_planes d (λ p. nat_lt (stride d p) (plane_row_bytes d p)) (when_not _ _ clear.1.1.1.1.1.0) plane low high);
       on_units = units_of _ _ _ _ (when_not _ _ clear.1.1.1.1.1.1.0);
       parts_apart = when_not _ _ clear.1.1.1.1.1.1.1.0;
       vbi_lines = lines.few;
@@ -167,7 +182,8 @@ pub record HasRoom (d : Desc) : Type 0 where
 
 clear-HasRoom : (d : Desc) → AreClear program_faults d → HasRoom d
 clear-HasRoom d clear =
-    let parts = and_parts (is_multiple 4 d.base) (nat_le (d.base + 4 * length (compiled_words d)) (2 ^ 32)) (not-false _ (when_not _ _ clear.0)) in
+    let parts =
+    and_parts (is_multiple 4 d.base) (nat_le (d.base + 4 * length (compiled_words d)) (2 ^ 32)) (not-false _ (when_not _ _ clear.0)) in
     record {
       base = multiple_is 4 d.base parts.0;
       ends = leb-true _ _ parts.1;
@@ -176,7 +192,8 @@ clear-HasRoom d clear =
 
 pub IsValid-IsFrame : (d : Desc) → IsValid d → IsFrame d
 IsValid-IsFrame d valid =
-    clear_none None frame_faults d refl (clear_front frame_faults program_faults d (after_none None (frame_faults ++ program_faults) d valid).1).0
+    clear_none None frame_faults d refl
+    (clear_front frame_faults program_faults d (after_none None (frame_faults ++ program_faults) d valid).1).0
 
 pub IsValid-HasRoom : (d : Desc) → IsValid d → HasRoom d
 IsValid-HasRoom d valid =

@@ -1,5 +1,6 @@
 -- The instructions of lines have no fault.
-use Rattle.std.proofs.Common.{◌≡◌, ℕ, zero, suc, ◌+◌, ◌*◌, ◌^◌, ◌<◌, ◌≤◌, Bool, true, false, List, [], ◌∷◌, map, Option, Some, None, refl, ap, ◌∙◌, arith, if◌then◌else◌}
+use Rattle.std.proofs.Common.{◌≡◌, ℕ, zero, suc, ◌+◌, ◌*◌, ◌^◌, ◌<◌, ◌≤◌, Bool, true, false, List, [], ◌∷◌, map, Option, Some, None, refl}
+use Rattle.std.proofs.Common.{ap, ◌∙◌, arith, if◌then◌else◌}
 use Rattle.std.specs.Prelude.{nat_lt, option_map}
 use Rattle.std.specs.List.{All}
 use Rattle.std.proofs.lemmas.Bool.{and_from, cond-false, le-ltb, lt-ltb}
@@ -34,10 +35,12 @@ first_ungranted-along g h a (suc n) same =
     ap (λ (b : Bool). if b then first_ungranted g (a + 1) n else Some a) (same a)
     ∙ ap (λ (o : Option ℕ). if granted h a then o else Some a) (first_ungranted-along g h (a + 1) n same)
 
-no_written_cause : (memory : List Chunk) (from n : ℕ) → IsWritten memory from n → written_cause (in_order memory) (address_at memory from) n ≡ None
+no_written_cause : (memory : List Chunk) (from n : ℕ) → IsWritten memory from n →
+    written_cause (in_order memory) (address_at memory from) n ≡ None
 no_written_cause memory from n is =
     let a = address_at memory from in
-    cond-false (nat_lt (2 ^ 32) (a + n)) (Some Wrap) (option_map Ungranted (first_ungranted (in_order memory) a n)) (le-ltb (2 ^ 32) (a + n) is.ends)
+    cond-false (nat_lt (2 ^ 32) (a + n)) (Some Wrap) (option_map Ungranted (first_ungranted (in_order memory) a n))
+    (le-ltb (2 ^ 32) (a + n) is.ends)
     ∙ ap (option_map Ungranted) (first_ungranted-along (in_order memory) memory a n (granted-in_order memory) ∙ is.granted)
 
 three_none : (one two three : Option Cause) → one ≡ None → two ≡ None → three ≡ None → first_cause one (first_cause two three) ≡ None
@@ -52,10 +55,12 @@ pub flag_small : (at : ℕ) (b : Bool) → flag at b ≤ 2 ^ at
 flag_small at true = omega arith
 flag_small at false = omega arith
 
-first_word : (opcode sol eol count : ℕ) → opcode ≤ 11 → sol ≤ 2 ^ 27 → eol ≤ 2 ^ 26 → count ≤ 4092 → opcode * 2 ^ 28 + 0 + 0 * 2 ^ 20 + 0 * 2 ^ 16 + sol + eol + 0 * 2 ^ 12 + count < 2 ^ 32
+first_word : (opcode sol eol count : ℕ) → opcode ≤ 11 → sol ≤ 2 ^ 27 → eol ≤ 2 ^ 26 → count ≤ 4092 →
+    opcode * 2 ^ 28 + 0 + 0 * 2 ^ 20 + 0 * 2 ^ 16 + sol + eol + 0 * 2 ^ 12 + count < 2 ^ 32
 first_word opcode sol eol count few s e c = omega arith
 
-data_small : (opcode : ℕ) (ends : Ends) (count : ℕ) → opcode ≤ 11 → count ≤ 4092 → opcode * 2 ^ 28 + 0 + 0 * 2 ^ 20 + 0 * 2 ^ 16 + flag 27 ends.sol + flag 26 ends.eol + 0 * 2 ^ 12 + count < 2 ^ 32
+data_small : (opcode : ℕ) (ends : Ends) (count : ℕ) → opcode ≤ 11 → count ≤ 4092 →
+    opcode * 2 ^ 28 + 0 + 0 * 2 ^ 20 + 0 * 2 ^ 16 + flag 27 ends.sol + flag 26 ends.eol + 0 * 2 ^ 12 + count < 2 ^ 32
 data_small opcode ends count few c =
     first_word opcode (flag 27 ends.sol) (flag 26 ends.eol) count few (flag_small 27 ends.sol) (flag_small 26 ends.eol) c
 
@@ -82,7 +87,8 @@ pub record IsGoodInstr (program : RiscProgram) (i : Instr) : Type 0 where
 
 three_fit : (a b c : ℕ) → a ≤ 4092 → b ≤ 4092 → c ≤ 4092 → counts_fit (a ∷ b ∷ c ∷ []) ≡ true
 three_fit a b c one two three =
-    and_from _ _ (lt-ltb a 4096 (omega arith)) (and_from _ _ (lt-ltb b 4096 (omega arith)) (and_from _ _ (lt-ltb c 4096 (omega arith)) refl))
+    and_from _ _ (lt-ltb a 4096 (omega arith))
+    (and_from _ _ (lt-ltb b 4096 (omega arith)) (and_from _ _ (lt-ltb c 4096 (omega arith)) refl))
 
 module _ (program : RiscProgram) (memory : List Chunk) (grants : program.grants ≡ in_order memory) where
   granted_cause : (from n : ℕ) → IsWritten memory from n → written_cause program.grants (address_at memory from) n ≡ None
@@ -96,7 +102,8 @@ module _ (program : RiscProgram) (memory : List Chunk) (grants : program.grants 
         words = (data_small 2 ends a (omega arith) one, tt);
       }
 
-  good_skip_123 : (ends : Ends) (a b c : ℕ) → a ≤ 4092 → b ≤ 4092 → c ≤ 4092 → IsGoodInstr program (instr.Skip123 no_control ends (a ∷ b ∷ c ∷ []))
+  good_skip_123 : (ends : Ends) (a b c : ℕ) → a ≤ 4092 → b ≤ 4092 → c ≤ 4092 →
+      IsGoodInstr program (instr.Skip123 no_control ends (a ∷ b ∷ c ∷ []))
   good_skip_123 ends a b c one two three =
       record {
         fine = record { spelled = (three_fit a b c one two three, refl); some = omega arith; fine = λ target. refl };
@@ -104,7 +111,8 @@ module _ (program : RiscProgram) (memory : List Chunk) (grants : program.grants 
         words = (data_small 10 ends a (omega arith) one, (counts_small b c two three, tt));
       }
 
-  good_write : (ends : Ends) (a from : ℕ) → a ≤ 4092 → IsWritten memory from a → IsGoodInstr program (instr.Write no_control ends 0 a (address_at memory from))
+  good_write : (ends : Ends) (a from : ℕ) → a ≤ 4092 → IsWritten memory from a →
+      IsGoodInstr program (instr.Write no_control ends 0 a (address_at memory from))
   good_write ends a from one is =
       record {
         fine = record {
@@ -116,8 +124,10 @@ module _ (program : RiscProgram) (memory : List Chunk) (grants : program.grants 
         words = (data_small 1 ends a (omega arith) one, (address_small memory from a is, tt));
       }
 
-  good_write_123 : (ends : Ends) (a b c from from' from'' : ℕ) → a ≤ 4092 → b ≤ 4092 → c ≤ 4092 → IsWritten memory from a → IsWritten memory from' b → IsWritten memory from'' c →
-      IsGoodInstr program (instr.Write123 no_control ends 0 (a ∷ b ∷ c ∷ []) (address_at memory from ∷ address_at memory from' ∷ address_at memory from'' ∷ []))
+  good_write_123 : (ends : Ends) (a b c from from' from'' : ℕ) → a ≤ 4092 → b ≤ 4092 → c ≤ 4092 → IsWritten memory from a →
+      IsWritten memory from' b → IsWritten memory from'' c →
+      IsGoodInstr program
+      (instr.Write123 no_control ends 0 (a ∷ b ∷ c ∷ []) (address_at memory from ∷ address_at memory from' ∷ address_at memory from'' ∷ []))
   good_write_123 ends a b c from from' from'' one two three is is' is'' =
       record {
         fine = record {
@@ -126,10 +136,17 @@ module _ (program : RiscProgram) (memory : List Chunk) (grants : program.grants 
           fine = λ target. three_none _ _ _ (granted_cause from a is) (granted_cause from' b is') (granted_cause from'' c is'');
         };
         plain = tt;
-        words = (data_small 9 ends a (omega arith) one, (counts_small b c two three, (address_small memory from a is, (address_small memory from' b is', (address_small memory from'' c is'', tt)))));
+        words = (
+          data_small 9 ends a (omega arith) one,
+          (
+            counts_small b c two three,
+            (address_small memory from a is, (address_small memory from' b is', (address_small memory from'' c is'', tt))),
+          ),
+        );
       }
 
-  good_write_1_s_23 : (ends : Ends) (a b c from : ℕ) → a ≤ 4092 → b ≤ 4092 → c ≤ 4092 → IsWritten memory from a → IsGoodInstr program (instr.Write1S23 no_control ends 0 (a ∷ b ∷ c ∷ []) (address_at memory from))
+  good_write_1_s_23 : (ends : Ends) (a b c from : ℕ) → a ≤ 4092 → b ≤ 4092 → c ≤ 4092 → IsWritten memory from a →
+      IsGoodInstr program (instr.Write1S23 no_control ends 0 (a ∷ b ∷ c ∷ []) (address_at memory from))
   good_write_1_s_23 ends a b c from one two three is =
       record {
         fine = record {
@@ -150,17 +167,23 @@ module _ (program : RiscProgram) (memory : List Chunk) (grants : program.grants 
       }
 
   -- the instruction of a piece, by its form, whether it is clipped, what it does, and its three tracks
-  good_piece : (planar clipped : Bool) (kind : PieceKind) (ends : Ends) (at n size size' size'' : ℕ) (start start' start'' : Option ℕ) → HasPlaces planar kind start start' start'' → n * size ≤ 4092 →
-      n * size' ≤ 4092 → n * size'' ≤ 4092 → Writes memory clipped size start at n → Writes memory clipped size' start' at n → Writes memory clipped size'' start'' at n →
+  good_piece : (planar clipped : Bool) (kind : PieceKind) (ends : Ends) (at n size size' size'' : ℕ) (start start' start'' : Option ℕ) →
+      HasPlaces planar kind start start' start'' → n * size ≤ 4092 →
+      n * size' ≤ 4092 → n * size'' ≤ 4092 → Writes memory clipped size start at n → Writes memory clipped size' start' at n →
+      Writes memory clipped size'' start'' at n →
       IsGoodInstr program (instr_by planar (kind_of clipped kind) (record {
         kind = kind_of clipped kind;
         ends = ends;
         counts = n * size ∷ n * size' ∷ n * size'' ∷ [];
-        addrs = address_of memory clipped size start at ∷ address_of memory clipped size' start' at ∷ address_of memory clipped size'' start'' at ∷ [];
+        addrs =
+            address_of memory clipped size start at ∷ address_of memory clipped size' start' at
+            ∷ address_of memory clipped size'' start'' at ∷ [];
       }))
-  good_piece true true kind ends at n size size' size'' start start' start'' places one two three w w' w'' = good_skip_123 ends (n * size) (n * size') (n * size'') one two three
+  good_piece true true kind ends at n size size' size'' start start' start'' places one two three w w' w'' =
+      good_skip_123 ends (n * size) (n * size') (n * size'') one two three
   good_piece false true kind ends at n size size' size'' start start' start'' places one two three w w' w'' = good_skip ends (n * size) one
-  good_piece true false Skip ends at n size size' size'' start start' start'' places one two three w w' w'' = good_skip_123 ends (n * size) (n * size') (n * size'') one two three
+  good_piece true false Skip ends at n size size' size'' start start' start'' places one two three w w' w'' =
+      good_skip_123 ends (n * size) (n * size') (n * size'') one two three
   good_piece false false Skip ends at n size size' size'' start start' start'' places one two three w w' w'' = good_skip ends (n * size) one
   good_piece true false Write ends at n size size' size'' (Some a) (Some b) (Some c) places one two three w w' w'' =
       good_write_123 ends (n * size) (n * size') (n * size'') (a + at * size) (b + at * size') (c + at * size'') one two three w w' w''
@@ -175,12 +198,17 @@ module _ (program : RiscProgram) (memory : List Chunk) (grants : program.grants 
   good_piece false false Write ends at n size size' size'' None start' start'' places one two three w w' w'' = absurd places
   good_piece false false WriteLuma ends at n size size' size'' start start' start'' places one two three w w' w'' = absurd places
 
-  good_cut : (strip : Strip) (k : Cut) → IsStrip memory strip → IsSafeCut memory strip k → IsGoodInstr program (instr_of strip.planar (piece_of memory strip k))
+  good_cut : (strip : Strip) (k : Cut) → IsStrip memory strip → IsSafeCut memory strip k →
+      IsGoodInstr program (instr_of strip.planar (piece_of memory strip k))
   good_cut strip k is safe =
-      good_piece strip.planar k.clipped strip.kind (ends_of strip k) k.at k.n strip.one.size strip.two.size strip.three.size strip.one.start strip.two.start strip.three.start is.placed
+      good_piece strip.planar k.clipped strip.kind
+      (ends_of strip k) k.at k.n strip.one.size strip.two.size strip.three.size strip.one.start strip.two.start strip.three.start is.placed
       safe.one.few safe.two.few safe.three.few safe.one.written safe.two.written safe.three.written
 
-  pub good_line : (strip : Strip) → All (λ c. is_aligned c ≡ true) memory → IsStrip memory strip → Each (IsGoodInstr program) (map (instr_of strip.planar) (map (piece_of memory strip) (cuts_of memory strip strip.spans)))
+  pub good_line : (strip : Strip) → All (λ c. is_aligned c ≡ true) memory → IsStrip memory strip →
+      Each (IsGoodInstr program) (map (instr_of strip.planar) (map (piece_of memory strip) (cuts_of memory strip strip.spans)))
   good_line strip aligned is =
-      each_map (λ (p : Piece). IsGoodInstr program (instr_of strip.planar p)) (IsGoodInstr program) (instr_of strip.planar) (map (piece_of memory strip) (cuts_of memory strip strip.spans)) (λ p good. good)
-      (each_map (IsSafeCut memory strip) (λ (p : Piece). IsGoodInstr program (instr_of strip.planar p)) (piece_of memory strip) (cuts_of memory strip strip.spans) (λ k safe. good_cut strip k is safe) (cuts_safe memory strip aligned is))
+      each_map (λ (p : Piece). IsGoodInstr program (instr_of strip.planar p)) (IsGoodInstr program) (instr_of strip.planar)
+      (map (piece_of memory strip) (cuts_of memory strip strip.spans)) (λ p good. good)
+      (each_map (IsSafeCut memory strip) (λ (p : Piece). IsGoodInstr program (instr_of strip.planar p)) (piece_of memory strip)
+      (cuts_of memory strip strip.spans) (λ k safe. good_cut strip k is safe) (cuts_safe memory strip aligned is))

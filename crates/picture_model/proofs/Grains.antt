@@ -1,12 +1,14 @@
 -- A grain of a line lies in one chunk on each plane.
-use Rattle.std.proofs.Common.{◌≡◌, ℕ, ◌+◌, ◌-◌, ◌*◌, ◌/◌, ◌%◌, ◌<◌, ◌≤◌, ◌⊎◌, inl, inr, Bool, true, false, List, Option, Some, None, refl, sym, ap, ◌∙◌, subst, arith, ⊎_elim, if◌then◌else◌}
+use Rattle.std.proofs.Common.{◌≡◌, ℕ, ◌+◌, ◌-◌, ◌*◌, ◌/◌, ◌%◌, ◌<◌, ◌≤◌, ◌⊎◌, inl, inr, Bool, true, false, List, Option, Some, None, refl}
+use Rattle.std.proofs.Common.{sym, ap, ◌∙◌, subst, arith, ⊎_elim, if◌then◌else◌}
 use Rattle.std.specs.Prelude.{◌==◌}
 use Rattle.std.specs.List.{All}
 use Rattle.std.proofs.lemmas.Bool.{cases_Bool, eqb-true, eqb-false, cond-true, cond-false}
 use Rattle.std.proofs.lemmas.Nat.{mul-mod_second, row_fits}
 use Rattle.std.proofs.Math.Nat.{zero-mod}
 use Rattle.pixel_layout.specs.declared.Format.{Format}
-use Rattle.pixel_layout.specs.declared.Format.TheVariants.{Rgb32, Rgb24, Rgb16, Rgb15, Yuy2, Y8, Rgb8, BtYuv, Yuv422p, Yuv411p, Yuv420p, Yuv410p}
+use Rattle.pixel_layout.specs.declared.Format.TheVariants.{Rgb32, Rgb24, Rgb16, Rgb15, Yuy2, Y8, Rgb8, BtYuv, Yuv422p, Yuv411p, Yuv420p}
+use Rattle.pixel_layout.specs.declared.Format.TheVariants.{Yuv410p}
 use Rattle.pixel_layout.specs.Layouts.{layout, planes_of}
 use Rattle.pixel_layout.proofs.Table.{layout_sizes}
 use Rattle.page_table.specs.Grants.{Chunk, total}
@@ -14,7 +16,8 @@ use Rattle.page_table.specs.Taken.{is_aligned}
 use Rattle.page_table.specs.Scattered.{room_at}
 use Rattle.page_table.proofs.Scattered.{lt-room_at, room_at-add, address_at-aligned}
 use Rattle.capture_desc.specs.declared.desc.Desc.{Desc}
-use Rattle.picture_model.specs.Described.{both, chroma_first, chroma_row_of, field_of, layout_of, memory_of, offset, plane_row_bytes, stride}
+use Rattle.picture_model.specs.Described.{both, chroma_first, chroma_row_of, field_of, layout_of, memory_of, offset, plane_row_bytes}
+use Rattle.picture_model.specs.Described.{stride}
 use Rattle.picture_model.specs.Places.{HasPlane, plane_row, row_offset}
 use Rattle.picture_model.specs.Plans.{Track, grain_bytes, grains_of, row_track, track}
 use Rattle.picture_model.proofs.FaultlessGeometry.{IsRight}
@@ -94,7 +97,8 @@ unit_room unit p room which whole near =
     let W : ℕ → Type 0 = λ u. p % u ≡ 0 → u ≤ room in
     ⊎_elim (λ two. subst W (sym two) (λ even. omega arith)) (λ four. subst W (sym four) (λ even. omega arith)) which whole
 
-size_room : (memory : List Chunk) (planar first : Bool) (bytes p : ℕ) → All (λ c. is_aligned c ≡ true) memory → p < total memory → (planar ≡ true → (bytes ≡ 2) ⊎ (bytes ≡ 4)) →
+size_room : (memory : List Chunk) (planar first : Bool) (bytes p : ℕ) → All (λ c. is_aligned c ≡ true) memory → p < total memory →
+    (planar ≡ true → (bytes ≡ 2) ⊎ (bytes ≡ 4)) →
     (planar ≡ true → first ≡ true → p % bytes ≡ 0) → size_by planar first bytes ≤ room_at memory p
 size_room memory true true bytes p aligned within units whole =
     unit_room bytes p (room_at memory p) (units refl) (whole refl refl) (room_to_four memory p aligned within)
@@ -118,7 +122,8 @@ planes_by false plane low high other = absurd (other (omega arith))
 pub other_planes : (d : Desc) (plane : ℕ) → HasPlane d plane → (plane == 1) ≡ false → (layout_of d).planar ≡ true
 other_planes d plane has other = planes_by (layout_of d).planar plane has.low has.high (eqb-false plane 1 other)
 
-pub row_grains : (d : Desc) (plane : ℕ) → HasPlane d plane → grains_of (layout_of d) d.width * grain_bytes (layout_of d) plane ≡ plane_row_bytes d plane
+pub row_grains : (d : Desc) (plane : ℕ) → HasPlane d plane →
+    grains_of (layout_of d) d.width * grain_bytes (layout_of d) plane ≡ plane_row_bytes d plane
 row_grains d plane has =
     let l = layout_of d in
     grains_by l.planar (plane == 1) (d.width / l.pixels) l.bytes (d.width / l.across)
@@ -158,7 +163,8 @@ held_plane d plane row c low high held =
       low = low;
       high = ⊎_elim
           (λ first. let same = eqb-true plane 1 first in planes_least (layout_of d).planar plane same)
-          (λ other. let chroma : chroma_row_of d row ≡ Some c = sym (cond-false (plane == 1) (Some row) (chroma_row_of d row) other) ∙ held in
+          (λ other. let chroma : chroma_row_of d row ≡ Some c =
+          sym (cond-false (plane == 1) (Some row) (chroma_row_of d row) other) ∙ held in
           let planar = (chroma_row-IsKept (layout_of d) (both d) (chroma_first d (field_of d.fields row)) row c chroma).planar in
           let all : planes_of (layout_of d) ≡ 3 = cond-true (layout_of d).planar 3 1 planar in omega arith)
           (cases_Bool (plane == 1));
@@ -173,7 +179,8 @@ module _ (d : Desc) (right : IsRight d) (plane row : ℕ) (low : 1 ≤ plane) (h
       let bytes : (layout_of d).pixels ≡ (layout_of d).bytes = sym (planar_bytes d.format planar) in
       subst (λ (n : ℕ). n % (layout_of d).bytes ≡ 0) (sym at) (subst (λ (u : ℕ). (offset d 1 + is.number * stride d 1) % u ≡ 0) bytes whole)
 
-  row_fit : (start : Option ℕ) → row_offset d plane row ≡ start → GrainsFit (memory_of d) (grains_of (layout_of d) d.width) (grain_bytes (layout_of d) plane) start
+  row_fit : (start : Option ℕ) → row_offset d plane row ≡ start →
+      GrainsFit (memory_of d) (grains_of (layout_of d) d.width) (grain_bytes (layout_of d) plane) start
   row_fit None is = tt
   row_fit (Some from) is =
       let l = layout_of d in
@@ -183,7 +190,9 @@ module _ (d : Desc) (right : IsRight d) (plane row : ℕ) (low : 1 ≤ plane) (h
       let has = held_plane d plane row at_row.number low high at_row.held in
       let end = row_end d plane row from right has below at_row in
       let all = row_grains d plane has in
-      let some : 0 < size = size_some l.planar (plane == 1) l.bytes (λ other. planes_by l.planar plane low has.high (eqb-false plane 1 other)) (layout_sizes d.format).some_bytes in (
+      let some : 0 < size =
+      size_some l.planar (plane == 1) l.bytes (λ other. planes_by l.planar plane low has.high (eqb-false plane 1 other))
+      (layout_sizes d.format).some_bytes in (
         some,
         omega arith,
         λ at inside.

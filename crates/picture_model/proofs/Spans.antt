@@ -1,5 +1,6 @@
 -- The spans of a row in grains are the runs of grains that are clipped, or not.
-use Rattle.std.proofs.Common.{◌≡◌, ℕ, ◌+◌, ◌-◌, ◌*◌, ◌/◌, ◌%◌, ◌<◌, ◌≤◌, Bool, true, false, not, List, [], ◌∷◌, map, refl, sym, ap, ◌∙◌, subst, arith, ⊎_elim, if◌then◌else◌}
+use Rattle.std.proofs.Common.{◌≡◌, ℕ, ◌+◌, ◌-◌, ◌*◌, ◌/◌, ◌%◌, ◌<◌, ◌≤◌, Bool, true, false, not, List, [], ◌∷◌, map, refl, sym, ap, ◌∙◌}
+use Rattle.std.proofs.Common.{subst, arith, ⊎_elim, if◌then◌else◌}
 use Rattle.std.proofs.lemmas.Bool.{cases_lt}
 use Rattle.std.proofs.lemmas.Nat.{div-add-mod', div-mul-add, mod-mul-add, mul-le, row_fits, div_below, le-div}
 use Rattle.std.proofs.Math.Nat.{zero-mod, zero-div}
@@ -82,7 +83,8 @@ module _ (answer : ℕ → Bool) (p w : ℕ) (some : 1 ≤ p) where
         maximal = λ below. let less = less_product (s.to / p) w p some below in run.maximal (omega arith);
       }
 
-  unit_runs : (x : ℕ) (spans : List Span) → x % p ≡ 0 → AreRunsFrom (λ x. answer (x / p)) (w * p) x spans → AreRunsFrom answer w (x / p) (map (unit_span p) spans)
+  unit_runs : (x : ℕ) (spans : List Span) → x % p ≡ 0 → AreRunsFrom (λ x. answer (x / p)) (w * p) x spans →
+      AreRunsFrom answer w (x / p) (map (unit_span p) spans)
   unit_runs x [] whole runs = ap (λ n. n / p) runs ∙ mul_div w p some
   unit_runs x (s ∷ rest) whole runs =
       let begins : s.from % p ≡ 0 = ap (λ n. n % p) runs.0 ∙ whole in
@@ -103,16 +105,20 @@ module _ (answer : ℕ → Bool) (m w : ℕ) (some : 1 ≤ m) where
         maximal = λ below. ap answer (mul_div s.to m some) ∙ run.maximal (product_less s.to w m below);
       }
 
-  byte_runs : (a : ℕ) (spans : List Span) → AreRunsFrom answer w a spans → AreRunsFrom (λ g. answer (g / m)) (w * m) (a * m) (map (byte_span m) spans)
+  byte_runs : (a : ℕ) (spans : List Span) → AreRunsFrom answer w a spans →
+      AreRunsFrom (λ g. answer (g / m)) (w * m) (a * m) (map (byte_span m) spans)
   byte_runs a [] runs = ap (λ n. n * m) runs
   byte_runs a (s ∷ rest) runs = (ap (λ n. n * m) runs.0, byte_run s runs.1, byte_runs s.to rest runs.2)
 
-both_steps : (p m : ℕ) (spans : List Span) → map (byte_span m) (map (unit_span p) spans) ≡ map (λ s. span (s.from / p * m) (s.to / p * m) s.clipped) spans
+both_steps : (p m : ℕ) (spans : List Span) →
+    map (byte_span m) (map (unit_span p) spans) ≡ map (λ s. span (s.from / p * m) (s.to / p * m) s.clipped) spans
 both_steps p m [] = refl
 both_steps p m (s ∷ rest) = ap (λ (later : List Span). span (s.from / p * m) (s.to / p * m) s.clipped ∷ later) (both_steps p m rest)
 
-grain_runs : (planar : Bool) (answer : ℕ → Bool) (p m w : ℕ) (spans : List Span) → 1 ≤ p → 1 ≤ m → AreRunsFrom (λ x. answer (x / p)) (w * p) 0 spans →
-    AreRunsFrom (λ g. answer (if planar then g else g / m)) (if planar then w else w * m) 0 (map (λ s. span (if planar then s.from / p else s.from / p * m) (if planar then s.to / p else s.to / p * m) s.clipped) spans)
+grain_runs : (planar : Bool) (answer : ℕ → Bool) (p m w : ℕ) (spans : List Span) → 1 ≤ p → 1 ≤ m →
+    AreRunsFrom (λ x. answer (x / p)) (w * p) 0 spans →
+    AreRunsFrom (λ g. answer (if planar then g else g / m)) (if planar then w else w * m) 0
+    (map (λ s. span (if planar then s.from / p else s.from / p * m) (if planar then s.to / p else s.to / p * m) s.clipped) spans)
 grain_runs true answer p m w spans some some' runs =
     subst (λ n. AreRunsFrom answer w n (map (unit_span p) spans)) (zero-div p) (unit_runs answer p w some 0 spans (zero-mod p) runs)
 grain_runs false answer p m w spans some some' runs =
@@ -125,13 +131,17 @@ grain_runs false answer p m w spans some some' runs =
     (subst (λ (list : List Span). AreRunsFrom (λ g. answer (g / m)) (w * m) (0 / p * m) list) (both_steps p m spans) bytes)
 
 -- the spans of a row's strip are the runs of its grains
-pub row_runs : (d : Desc) (row : ℕ) → IsRight d → AreRunsFrom (grain_clipped d row) (grains_of (layout_of d) d.width) 0 (row_strip d row).spans
+pub row_runs : (d : Desc) (row : ℕ) → IsRight d →
+    AreRunsFrom (grain_clipped d row) (grains_of (layout_of d) d.width) 0 (row_strip d row).spans
 row_runs d row right =
     let l = layout_of d in
     let sizes = layout_sizes d.format in
     let width = whole_is d.width l.pixels right.units in
-    let runs = subst (λ n. AreRunsFrom (clipped_at d.clip row l.pixels) n 0 (spans_of d.clip row d.width l.pixels)) (sym width) (spans_of-spans d.clip row d.width l.pixels) in
-    grain_runs l.planar (unit_clipped d.clip row l.pixels) l.pixels l.bytes (d.width / l.pixels) (spans_of d.clip row d.width l.pixels) sizes.some_pixels sizes.some_bytes runs
+    let runs =
+    subst (λ n. AreRunsFrom (clipped_at d.clip row l.pixels) n 0 (spans_of d.clip row d.width l.pixels)) (sym width)
+    (spans_of-spans d.clip row d.width l.pixels) in
+    grain_runs l.planar (unit_clipped d.clip row l.pixels) l.pixels l.bytes (d.width / l.pixels)
+    (spans_of d.clip row d.width l.pixels) sizes.some_pixels sizes.some_bytes runs
 
 -- a byte of a row is clipped with its grain
 
@@ -140,7 +150,8 @@ one_unit p some = let e : 1 * p ≡ p = omega arith in ap (λ n. n / p) (sym e) 
 
 in_unit : (planar first : Bool) (p m across g j : ℕ) → 1 ≤ p → (planar ≡ true → p ≡ across) → (first ≡ false → planar ≡ true) →
     j < (if first then (if planar then m else 1) else (if planar then 1 else 0)) →
-    (g * (if first then (if planar then m else 1) else (if planar then 1 else 0)) + j) / (if first then p / p * m else p / across) ≡ (if planar then g else g / m)
+    (g * (if first then (if planar then m else 1) else (if planar then 1 else 0)) + j) / (if first then p / p * m else p / across)
+    ≡ (if planar then g else g / m)
 in_unit true true p m across g j some same has inside =
     let one = one_unit p some in
     let e : p / p * m ≡ 1 * m = ap (λ n. n * m) one in
@@ -157,9 +168,11 @@ in_unit false true p m across g j some same has inside =
     ap (λ n. (g * 1 + j) / n) whole ∙ ap (λ n. n / m) grain
 in_unit false false p m across g j some same has inside = let no = has refl in cc
 
-pub byte_clipped-grain : (d : Desc) (plane row g j : ℕ) → HasPlane d plane → j < grain_bytes (layout_of d) plane → byte_clipped d plane row (g * grain_bytes (layout_of d) plane + j) ≡ grain_clipped d row g
+pub byte_clipped-grain : (d : Desc) (plane row g j : ℕ) → HasPlane d plane → j < grain_bytes (layout_of d) plane →
+    byte_clipped d plane row (g * grain_bytes (layout_of d) plane + j) ≡ grain_clipped d row g
 byte_clipped-grain d plane row g j has inside =
     let l = layout_of d in
     let sizes = layout_sizes d.format in
     ap (unit_clipped d.clip row l.pixels)
-    (in_unit l.planar (plane == 1) l.pixels l.bytes l.across g j sizes.some_pixels (λ planar. (sizes.unit planar).0) (λ other. other_planes d plane has other) inside)
+    (in_unit l.planar (plane == 1) l.pixels l.bytes l.across g j sizes.some_pixels (λ planar. (sizes.unit planar).0)
+    (λ other. other_planes d plane has other) inside)

@@ -12,7 +12,8 @@ use Rattle.picture_model.specs.declared.Piece.{Piece}
 use Rattle.std.specs.Prelude.{option_map}
 use Rattle.picture_model.specs.Described.{chroma_row_of, describes, layout_of, memory_of, offset, stride}
 use Rattle.picture_model.specs.Places.{vbi_line_offset}
-use Rattle.picture_model.specs.Plans.{Track, Strip, IsInOneChunk, FitsTrack, AreCuts, IsPlan, cuts_of, grain_bytes, grain_clipped, grains_of, kind_by, pieces_of, plan, row_strip, skipped_strip, skipped_vbi_strip, vbi_strip, track}
+use Rattle.picture_model.specs.Plans.{Track, Strip, IsInOneChunk, FitsTrack, AreCuts, IsPlan, cuts_of, grain_bytes, grain_clipped}
+use Rattle.picture_model.specs.Plans.{grains_of, kind_by, pieces_of, plan, row_strip, skipped_strip, skipped_vbi_strip, vbi_strip, track}
 use Rattle.picture_model.proofs.FaultlessGeometry.{IsRight}
 use Rattle.picture_model.proofs.Offsets.{vbi_end}
 use Rattle.picture_model.proofs.Grains.{IsTrack, GrainsFit, grain_small, row_track-IsTrack, unwritten-IsTrack}
@@ -54,17 +55,20 @@ pub record IsStrip (memory : List Chunk) (strip : Strip) : Type 0 where
   pub three : IsTrack memory strip.grains strip.three
   pub placed : HasPlaces strip.planar strip.kind strip.one.start strip.two.start strip.three.start
 
-one_in_chunk : (memory : List Chunk) (clipped : Bool) (grains size : ℕ) (start : Option ℕ) (at : ℕ) → at < grains → GrainsFit memory grains size start → IsInOneChunk memory clipped size start at 1
+one_in_chunk : (memory : List Chunk) (clipped : Bool) (grains size : ℕ) (start : Option ℕ) (at : ℕ) → at < grains →
+    GrainsFit memory grains size start → IsInOneChunk memory clipped size start at 1
 one_in_chunk memory true grains size start at inside fit = tt
 one_in_chunk memory false grains size None at inside fit = tt
 one_in_chunk memory false grains size (Some start) at inside fit = let room = fit.2 at inside in omega arith
 
-one_fits : (memory : List Chunk) (clipped : Bool) (grains at : ℕ) (t : Track) → at < grains → IsTrack memory grains t → FitsTrack memory clipped at 1 t
+one_fits : (memory : List Chunk) (clipped : Bool) (grains at : ℕ) (t : Track) → at < grains → IsTrack memory grains t →
+    FitsTrack memory clipped at 1 t
 one_fits memory clipped grains at t inside is =
     let small = is.small in
     record { few = omega arith; whole = one_in_chunk memory clipped grains t.size t.start at inside is.fit }
 
-pub all_fit : (memory : List Chunk) (strip : Strip) (at : ℕ) (spans : List Span) → IsStrip memory strip → Cover strip.grains at spans → AllFit memory strip spans
+pub all_fit : (memory : List Chunk) (strip : Strip) (at : ℕ) (spans : List Span) → IsStrip memory strip → Cover strip.grains at spans →
+    AllFit memory strip spans
 all_fit memory strip at [] is cover = tt
 all_fit memory strip at (s ∷ rest) is cover =
     let end = cover_end strip.grains s.to rest cover.2 in
@@ -78,21 +82,27 @@ all_fit memory strip at (s ∷ rest) is cover =
     in
     (each, all_fit memory strip s.to rest is cover.2)
 
-pub strip_cuts : (memory : List Chunk) (strip : Strip) → IsStrip memory strip → AreCuts memory strip strip.spans (cuts_of memory strip strip.spans)
+pub strip_cuts : (memory : List Chunk) (strip : Strip) → IsStrip memory strip →
+    AreCuts memory strip strip.spans (cuts_of memory strip strip.spans)
 strip_cuts memory strip is =
-    cuts_of-AreCuts memory strip strip.spans (cover_ordered strip.grains 0 strip.spans is.covers) (all_fit memory strip 0 strip.spans is is.covers)
+    cuts_of-AreCuts memory strip strip.spans (cover_ordered strip.grains 0 strip.spans is.covers)
+    (all_fit memory strip 0 strip.spans is is.covers)
 
 -- a list of pieces is the plan of such a line exactly where it is the one that is computed
-pub plan_only : (memory : List Chunk) (strip : Strip) (pieces : List Piece) → IsStrip memory strip → IsPlan memory strip pieces → pieces ≡ plan memory strip
+pub plan_only : (memory : List Chunk) (strip : Strip) (pieces : List Piece) → IsStrip memory strip → IsPlan memory strip pieces →
+    pieces ≡ plan memory strip
 plan_only memory strip pieces is planned =
-    planned.2 ∙ ap (pieces_of memory strip) (only_cuts_of memory strip strip.spans planned.0 (cover_ordered strip.grains 0 strip.spans is.covers) planned.1)
+    planned.2 ∙ ap (pieces_of memory strip)
+    (only_cuts_of memory strip strip.spans planned.0 (cover_ordered strip.grains 0 strip.spans is.covers) planned.1)
 
-pub plan_is : (memory : List Chunk) (strip : Strip) (pieces : List Piece) → IsStrip memory strip → pieces ≡ plan memory strip → IsPlan memory strip pieces
+pub plan_is : (memory : List Chunk) (strip : Strip) (pieces : List Piece) → IsStrip memory strip → pieces ≡ plan memory strip →
+    IsPlan memory strip pieces
 plan_is memory strip pieces is same = (cuts_of memory strip strip.spans, strip_cuts memory strip is, same)
 
 -- the lines of a description
 
-row_placed : (planar : Bool) (chroma : Option ℕ) (one : ℕ) (f g : ℕ → ℕ) → HasPlaces planar (kind_by planar chroma) (Some one) (option_map f chroma) (option_map g chroma)
+row_placed : (planar : Bool) (chroma : Option ℕ) (one : ℕ) (f g : ℕ → ℕ) →
+    HasPlaces planar (kind_by planar chroma) (Some one) (option_map f chroma) (option_map g chroma)
 row_placed true None one f g = tt
 row_placed true (Some row) one f g = tt
 row_placed false None one f g = tt
@@ -105,7 +115,9 @@ row-IsStrip d row right below =
       one = row_track-IsTrack d right 1 row (omega arith) (omega arith) below;
       two = row_track-IsTrack d right 2 row (omega arith) (omega arith) below;
       three = row_track-IsTrack d right 3 row (omega arith) (omega arith) below;
-      placed = row_placed (layout_of d).planar (chroma_row_of d row) (offset d 1 + row * stride d 1) (λ kept. offset d 2 + kept * stride d 2) (λ kept. offset d 3 + kept * stride d 3);
+      placed =
+          row_placed (layout_of d).planar (chroma_row_of d row) (offset d 1 + row * stride d 1) (λ kept. offset d 2 + kept * stride d 2)
+          (λ kept. offset d 3 + kept * stride d 3);
     }
 
 pub skipped-IsStrip : (d : Desc) → IsStrip (memory_of d) (skipped_strip d)
@@ -137,7 +149,8 @@ packed_track memory bytes start within =
       fit = (omega arith, omega arith, λ at inside. lt-room_at memory (start + at * 1) (omega arith));
     }
 
-pub vbi-IsStrip : (d : Desc) (field : Parity) (line : ℕ) → IsRight d → describes d.fields field ≡ true → line < d.vbi_lines → IsStrip (memory_of d) (vbi_strip d field line)
+pub vbi-IsStrip : (d : Desc) (field : Parity) (line : ℕ) → IsRight d → describes d.fields field ≡ true → line < d.vbi_lines →
+    IsStrip (memory_of d) (vbi_strip d field line)
 vbi-IsStrip d field line right described below =
     record {
       covers = (refl, omega arith, refl);

@@ -1,5 +1,6 @@
 -- The faults of a description's geometry, in the order in which they are checked.
-use Rattle.std.specs.Prelude.{◌≡◌, ℕ, ◌+◌, ◌*◌, ◌%◌, ◌^◌, Bool, false, not, ◌&&◌, ◌||◌, ◌==◌, List, [], ◌∷◌, ◌++◌, length, Option, Some, None, option_map, if◌then◌else◌, nat_lt, nat_le, min, max, position}
+use Rattle.std.specs.Prelude.{◌≡◌, ℕ, ◌+◌, ◌*◌, ◌%◌, ◌^◌, Bool, false, not, ◌&&◌, ◌||◌, ◌==◌, List, [], ◌∷◌, ◌++◌, length, Option, Some}
+use Rattle.std.specs.Prelude.{None, option_map, if◌then◌else◌, nat_lt, nat_le, min, max, position}
 use Rattle.std.specs.Int.{div_ceil}
 use Rattle.std.specs.List.{list_any}
 use Rattle.page_table.specs.Grants.{page_size, total}
@@ -7,9 +8,11 @@ use Rattle.page_table.specs.Taken.{first_shared, is_aligned, is_page_address, li
 use Rattle.machine_model.specs.Paths.{shares_byte}
 use Rattle.capture_desc.specs.declared.desc.Desc.{Desc}
 use Rattle.picture_model.specs.declared.BuildFault.{BuildFault}
-use Rattle.picture_model.specs.declared.BuildFault.TheVariants.{WidthRange, HeightRange, WidthOffUnit, OddHeight, TooNarrow, StrideShort, OffUnit, Overlap, VbiRange, PageUnaligned, PageTwice}
+use Rattle.picture_model.specs.declared.BuildFault.TheVariants.{WidthRange, HeightRange, WidthOffUnit, OddHeight, TooNarrow, StrideShort}
+use Rattle.picture_model.specs.declared.BuildFault.TheVariants.{OffUnit, Overlap, VbiRange, PageUnaligned, PageTwice}
 use Rattle.picture_model.specs.declared.BuildFault.TheVariants.{TooFewPages, TooFewBytes, ProgramBase, ProgramOnPage}
-use Rattle.picture_model.specs.Described.{Extent, both, layout_of, memory_of, planes, plane_row_bytes, stride, offset, taken, highest_end, vbi_stride}
+use Rattle.picture_model.specs.Described.{Extent, both, layout_of, memory_of, planes, plane_row_bytes, stride, offset, taken, highest_end}
+use Rattle.picture_model.specs.Described.{vbi_stride}
 use Rattle.picture_model.specs.Plans.{max_piece}
 use Rattle.picture_model.specs.Programs.{compiled, compiled_words}
 

@@ -5,7 +5,8 @@ use Rattle.pixel_layout.specs.Layouts.{planes_of, row_bytes}
 use Rattle.clip_spans.specs.Clipping.{unit_clipped}
 use Rattle.capture_desc.specs.declared.desc.Desc.{Desc}
 use Rattle.page_table.specs.Scattered.{address_at}
-use Rattle.picture_model.specs.Described.{chroma_row_of, describes, layout_of, memory_of, offset, plane_row_bytes, stride, vbi_offset, vbi_stride}
+use Rattle.picture_model.specs.Described.{chroma_row_of, describes, layout_of, memory_of, offset, plane_row_bytes, stride, vbi_offset}
+use Rattle.picture_model.specs.Described.{vbi_stride}
 
 -- byte x of a picture row on a plane is clipped together with its unit
 abbrev pub byte_clipped : Desc → ℕ → ℕ → ℕ → Bool

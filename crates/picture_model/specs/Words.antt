@@ -2,7 +2,9 @@
 use Rattle.std.specs.Prelude.{ℕ, List, ◌++◌, codes}
 use Rattle.std.specs.Fmt.{decimal}
 use Rattle.picture_model.specs.declared.BuildFault.{BuildFault}
-use Rattle.picture_model.specs.declared.BuildFault.TheVariants.{WidthRange, HeightRange, WidthOffUnit, OddHeight, TooNarrow, StrideShort, OffUnit, Overlap, VbiRange, PageUnaligned, PageTwice, TooFewPages, TooFewBytes, ProgramBase, ProgramOnPage}
+use Rattle.picture_model.specs.declared.BuildFault.TheVariants.{WidthRange, HeightRange, WidthOffUnit, OddHeight, TooNarrow, StrideShort}
+use Rattle.picture_model.specs.declared.BuildFault.TheVariants.{OffUnit, Overlap, VbiRange, PageUnaligned, PageTwice, TooFewPages}
+use Rattle.picture_model.specs.declared.BuildFault.TheVariants.{TooFewBytes, ProgramBase, ProgramOnPage}
 
 -- what is needed, and what is there
 abbrev pub need_words : ℕ → ℕ → List ℕ

@@ -1,7 +1,8 @@
 //! The fields of a description.
 
 ghost use Rattle.capture_desc.specs.WellFormed.{IsWellFormed, count};
-ghost use Rattle.picture_model.specs.Described.{chroma_first, chroma_row_of, describes, field_height, field_number, field_of, fields_before, is_both, layout_of, picture_row, vbi_skip, vbi_stride};
+ghost use Rattle.picture_model.specs.Described.{chroma_first, chroma_row_of, describes, field_height, field_number, field_of};
+ghost use Rattle.picture_model.specs.Described.{fields_before, is_both, layout_of, picture_row, vbi_skip, vbi_stride};
 ghost use Rattle.std.specs.Prelude.{◌≡◌, true, ◌<◌, ◌≤◌, IfSome, length};
 
 use capture_desc::{Desc, Fields, Numbers};

@@ -14,16 +14,21 @@ ghost use Rattle.picture_model.specs.declared.Piece.{Piece};
 ghost use Rattle.picture_model.specs.Described.{IsDescription, both, chroma_height, describes, layout_of, memory_of, plane_row_bytes};
 ghost use Rattle.picture_model.specs.Geometry.{IsFrame, IsValid};
 ghost use Rattle.picture_model.specs.Places.{Byte, HasPlane, IsByte, byte_clipped, byte_place};
-ghost use Rattle.picture_model.specs.Plans.{CoverSafely, IsPlan, IsRowCut, IsVbiCut, cuts_of, grain_bytes, grain_clipped, grains_of, row_plan, row_strip, skipped_plan, skipped_strip, skipped_vbi_plan, skipped_vbi_strip, vbi_plan, vbi_strip};
-ghost use Rattle.picture_model.specs.Programs.{Stands, closing, closing_begin, compiled, compiled_words, field_words, opening, section, section_begin, section_next, sections, sections_words, vbi_words, words_of};
+ghost use Rattle.picture_model.specs.Plans.{CoverSafely, IsPlan, IsRowCut, IsVbiCut, cuts_of, grain_bytes, grain_clipped, grains_of};
+ghost use Rattle.picture_model.specs.Plans.{row_plan, row_strip, skipped_plan, skipped_strip, skipped_vbi_plan, skipped_vbi_strip};
+ghost use Rattle.picture_model.specs.Plans.{vbi_plan, vbi_strip};
+ghost use Rattle.picture_model.specs.Programs.{Stands, closing, closing_begin, compiled, compiled_words, field_words, opening, section};
+ghost use Rattle.picture_model.specs.Programs.{section_begin, section_next, sections, sections_words, vbi_words, words_of};
 
 /// Each row, each VBI line and each skipped line of either kind has exactly one plan, the one that is computed.
 pub fn every_line_has_one_plan()
     ensures row { (d : Desc) (row : ℕ) (pieces : List Piece) → IsDescription d → IsFrame d → row < d.height →
         (IsPlan (memory_of d) (row_strip d row) pieces ↔ (pieces ≡ row_plan d row)) }
     ensures skipped { (d : Desc) (pieces : List Piece) → (IsPlan (memory_of d) (skipped_strip d) pieces ↔ (pieces ≡ skipped_plan d)) }
-    ensures skipped_vbi { (d : Desc) (pieces : List Piece) → (IsPlan (memory_of d) (skipped_vbi_strip d) pieces ↔ (pieces ≡ skipped_vbi_plan d)) }
-    ensures vbi { (d : Desc) (field : Parity) (line : ℕ) (pieces : List Piece) → IsDescription d → IsFrame d → describes d.fields field ≡ true → line < d.vbi_lines →
+    ensures skipped_vbi { (d : Desc) (pieces : List Piece) →
+        (IsPlan (memory_of d) (skipped_vbi_strip d) pieces ↔ (pieces ≡ skipped_vbi_plan d)) }
+    ensures vbi { (d : Desc) (field : Parity) (line : ℕ) (pieces : List Piece) → IsDescription d → IsFrame d →
+        describes d.fields field ≡ true → line < d.vbi_lines →
         (IsPlan (memory_of d) (vbi_strip d field line) pieces ↔ (pieces ≡ vbi_plan d field line)) }
 {}
 
@@ -51,7 +56,8 @@ pub fn cuts_cover_their_lines()
         CoverSafely (memory_of d) (skipped_strip d) (cuts_of (memory_of d) (skipped_strip d) (skipped_strip d).spans) }
     ensures skipped_vbi { (d : Desc) → IsDescription d → IsFrame d →
         CoverSafely (memory_of d) (skipped_vbi_strip d) (cuts_of (memory_of d) (skipped_vbi_strip d) (skipped_vbi_strip d).spans) }
-    ensures vbi { (d : Desc) (field : Parity) (line : ℕ) → IsDescription d → IsFrame d → describes d.fields field ≡ true → line < d.vbi_lines →
+    ensures vbi { (d : Desc) (field : Parity) (line : ℕ) → IsDescription d → IsFrame d → describes d.fields field ≡ true →
+        line < d.vbi_lines →
         CoverSafely (memory_of d) (vbi_strip d field line) (cuts_of (memory_of d) (vbi_strip d field line) (vbi_strip d field line).spans) }
 {}
 
@@ -60,7 +66,8 @@ pub fn cuts_cover_their_lines()
 pub fn cuts_write_the_picture()
     ensures row { (d : Desc) (row : ℕ) → IsDescription d → IsFrame d → row < d.height →
         All (IsRowCut d row) (cuts_of (memory_of d) (row_strip d row) (row_strip d row).spans) }
-    ensures vbi { (d : Desc) (field : Parity) (line : ℕ) → IsDescription d → IsFrame d → describes d.fields field ≡ true → line < d.vbi_lines →
+    ensures vbi { (d : Desc) (field : Parity) (line : ℕ) → IsDescription d → IsFrame d → describes d.fields field ≡ true →
+        line < d.vbi_lines →
         All (IsVbiCut d field line) (cuts_of (memory_of d) (vbi_strip d field line) (vbi_strip d field line).spans) }
 {}
 
@@ -87,11 +94,14 @@ pub fn places_are_granted_and_differ()
 /// picture part and its closing.
 pub fn sections_stand_in_their_program()
     ensures parts { (d : Desc) (field : Parity) (target : ℕ) →
-        words_of (section d field target) ≡ encoded (opening field) ++ vbi_words d field ++ field_words d field ++ encoded (closing field target) }
+        words_of (section d field target)
+        ≡ encoded (opening field) ++ vbi_words d field ++ field_words d field ++ encoded (closing field target) }
     ensures whole { (d : Desc) (from last : ℕ) (field : Parity) → describes d.fields field ≡ true →
-        Stands (words_of (sections d from last)) from (words_of (section d field (section_next d from last field))) (section_begin d from field) }
+        Stands (words_of (sections d from last)) from (words_of (section d field (section_next d from last field)))
+        (section_begin d from field) }
     ensures closing { (d : Desc) (from last : ℕ) (field : Parity) → describes d.fields field ≡ true →
-        Stands (words_of (sections d from last)) from (encoded (closing field (section_next d from last field))) (closing_begin d from field) }
+        Stands (words_of (sections d from last)) from (encoded (closing field (section_next d from last field)))
+        (closing_begin d from field) }
 {}
 
 /// The sections have as many words wherever they are and wherever the last leads back: fewer than

@@ -4,7 +4,8 @@ use Rattle.std.specs.Prelude.{◌&&◌, nat_le}
 use Rattle.std.proofs.lemmas.Bool.{and_parts, eqb-true, leb-true}
 use Rattle.pixel_layout.specs.Layouts.{Layout, layout, format_named}
 use Rattle.pixel_layout.specs.declared.Format.{Format}
-use Rattle.pixel_layout.specs.declared.Format.TheVariants.{Rgb32, Rgb24, Rgb16, Rgb15, Yuy2, Y8, Rgb8, BtYuv, Yuv422p, Yuv411p, Yuv420p, Yuv410p}
+use Rattle.pixel_layout.specs.declared.Format.TheVariants.{Rgb32, Rgb24, Rgb16, Rgb15, Yuy2, Y8, Rgb8, BtYuv, Yuv422p, Yuv411p, Yuv420p}
+use Rattle.pixel_layout.specs.declared.Format.TheVariants.{Yuv410p}
 
 -- the names differ
 pub named_back : (f : Format) → format_named (layout f).name ≡ Some f
@@ -51,9 +52,12 @@ each_sized Yuv411p = refl
 each_sized Yuv420p = refl
 each_sized Yuv410p = refl
 
-unit_sized : (l : Layout) → (not l.planar || (l.pixels == l.across && l.bytes == l.across)) ≡ true → l.planar ≡ true → (l.pixels ≡ l.across) × (l.bytes ≡ l.across)
+unit_sized : (l : Layout) → (not l.planar || (l.pixels == l.across && l.bytes == l.across)) ≡ true → l.planar ≡ true →
+    (l.pixels ≡ l.across) × (l.bytes ≡ l.across)
 unit_sized l e planar =
-    let both = and_parts (l.pixels == l.across) (l.bytes == l.across) (sym (ap (λ p. not p || (l.pixels == l.across && l.bytes == l.across)) planar) ∙ e) in
+    let both =
+    and_parts (l.pixels == l.across) (l.bytes == l.across)
+    (sym (ap (λ p. not p || (l.pixels == l.across && l.bytes == l.across)) planar) ∙ e) in
     (eqb-true l.pixels l.across both.0, eqb-true l.bytes l.across both.1)
 
 sized : (l : Layout) → is_sized l ≡ true → IsLayout l

@@ -1,7 +1,9 @@
 -- The table of pixel formats, and where the bytes of a picture row lie on its planes.
-use Rattle.std.specs.Prelude.{ℕ, ◌+◌, ◌*◌, ◌/◌, ◌%◌, Bool, true, false, ◌==◌, ◌∷◌, List, [], Option, Some, None, if◌then◌else◌, codes, find, bytes_eq}
+use Rattle.std.specs.Prelude.{ℕ, ◌+◌, ◌*◌, ◌/◌, ◌%◌, Bool, true, false, ◌==◌, ◌∷◌, List, [], Option, Some, None, if◌then◌else◌, codes, find}
+use Rattle.std.specs.Prelude.{bytes_eq}
 use Rattle.pixel_layout.specs.declared.Format.{Format}
-use Rattle.pixel_layout.specs.declared.Format.TheVariants.{Rgb32, Rgb24, Rgb16, Rgb15, Yuy2, Y8, Rgb8, BtYuv, Yuv422p, Yuv411p, Yuv420p, Yuv410p}
+use Rattle.pixel_layout.specs.declared.Format.TheVariants.{Rgb32, Rgb24, Rgb16, Rgb15, Yuy2, Y8, Rgb8, BtYuv, Yuv422p, Yuv411p, Yuv420p}
+use Rattle.pixel_layout.specs.declared.Format.TheVariants.{Yuv410p}
 
 -- a format: its name, the pixels of a unit, the bytes of a unit on plane 1, whether planes 2 and 3
 -- hold its chroma, and how many pixels and rows of the picture share a byte of chroma there

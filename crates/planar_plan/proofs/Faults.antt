@@ -11,14 +11,16 @@ use Rattle.capture_desc.specs.declared.desc.Desc.{Desc}
 use Rattle.capture_desc.specs.WellFormed.{IsWellFormed}
 use Rattle.picture_model.specs.declared.BuildFault.{BuildFault}
 use Rattle.picture_model.specs.Described.{highest_end, memory_from, memory_of, taken}
-use Rattle.picture_model.specs.Geometry.{Check, first_after, first_unaligned, frame_fault, memory_faults, overlap, page_faults, picture_faults, size_faults, too_few, vbi_range}
+use Rattle.picture_model.specs.Geometry.{Check, first_after, first_unaligned, frame_fault, memory_faults, overlap, page_faults}
+use Rattle.picture_model.specs.Geometry.{picture_faults, size_faults, too_few, vbi_range}
 use Rattle.planar_plan.specs.declared.judge.BuildError.{BuildError}
 use Rattle.planar_plan.specs.declared.judge.BuildError.TheVariants.{Bad, Memory}
 use Rattle.planar_plan.specs.Frames.{HasScatter, IsFramed, Judges, taken_memory}
 
 -- the first of some faults
 
-pub first_after-append : (found : Option BuildFault) (checks more : List Check) (d : Desc) → first_after found (checks ++ more) d ≡ first_after (first_after found checks d) more d
+pub first_after-append : (found : Option BuildFault) (checks more : List Check) (d : Desc) →
+    first_after found (checks ++ more) d ≡ first_after (first_after found checks d) more d
 first_after-append (Some fault) checks more d = refl
 first_after-append None [] more d = refl
 first_after-append None (check ∷ rest) more d = first_after-append (check d) rest more d
@@ -44,12 +46,14 @@ module _ (d : Desc) where
   pub at_sizes : (fault : BuildFault) → first_after None size_faults d ≡ Some fault → first_after None picture_faults d ≡ Some fault
   at_sizes = some_front size_faults (overlap ∷ vbi_range ∷ []) d
 
-  pub at_overlap : (fault : BuildFault) → first_after None size_faults d ≡ None → overlap d ≡ Some fault → first_after None picture_faults d ≡ Some fault
+  pub at_overlap : (fault : BuildFault) → first_after None size_faults d ≡ None → overlap d ≡ Some fault →
+      first_after None picture_faults d ≡ Some fault
   at_overlap fault sizes is =
       none_front size_faults (overlap ∷ vbi_range ∷ []) d sizes
       ∙ some_front (overlap ∷ []) (vbi_range ∷ []) d fault (one_alone overlap d ∙ is)
 
-  pub at_vbi : (found : Option BuildFault) → first_after None size_faults d ≡ None → overlap d ≡ None → vbi_range d ≡ found → first_after None picture_faults d ≡ found
+  pub at_vbi : (found : Option BuildFault) → first_after None size_faults d ≡ None → overlap d ≡ None → vbi_range d ≡ found →
+      first_after None picture_faults d ≡ found
   at_vbi found sizes apart is =
       none_front size_faults (overlap ∷ vbi_range ∷ []) d sizes
       ∙ none_front (overlap ∷ []) (vbi_range ∷ []) d (one_alone overlap d ∙ apart)
@@ -58,7 +62,8 @@ module _ (d : Desc) where
   pub at_picture : (fault : BuildFault) → first_after None picture_faults d ≡ Some fault → frame_fault d ≡ Some fault
   at_picture = some_front picture_faults (page_faults ++ memory_faults) d
 
-  pub at_pages : (fault : BuildFault) → first_after None picture_faults d ≡ None → first_after None page_faults d ≡ Some fault → frame_fault d ≡ Some fault
+  pub at_pages : (fault : BuildFault) → first_after None picture_faults d ≡ None → first_after None page_faults d ≡ Some fault →
+      frame_fault d ≡ Some fault
   at_pages fault picture is =
       none_front picture_faults (page_faults ++ memory_faults) d picture ∙ some_front page_faults memory_faults d fault is
 
@@ -70,15 +75,18 @@ module _ (d : Desc) where
 
 -- pages and chunks
 
-few_pages : (pages : List ℕ) → length pages ≤ max_chunks → taken_memory None pages ≡ unless_unaligned (first_unaligned None pages) (memory_from None pages)
+few_pages : (pages : List ℕ) → length pages ≤ max_chunks →
+    taken_memory None pages ≡ unless_unaligned (first_unaligned None pages) (memory_from None pages)
 few_pages pages few = cond-false (nat_lt max_chunks (length pages)) _ _ (le-ltb max_chunks (length pages) few)
 
-few_chunks : (pairs : List (ℕ × ℕ)) (pages : List ℕ) → length pairs ≤ max_chunks → total (listed pairs) ≤ max_bytes → taken_memory (Some pairs) pages ≡ unless_unaligned (first_unaligned (Some pairs) pages) (memory_from (Some pairs) pages)
+few_chunks : (pairs : List (ℕ × ℕ)) (pages : List ℕ) → length pairs ≤ max_chunks → total (listed pairs) ≤ max_bytes →
+    taken_memory (Some pairs) pages ≡ unless_unaligned (first_unaligned (Some pairs) pages) (memory_from (Some pairs) pages)
 few_chunks pairs pages few small =
     cond-false (nat_lt max_chunks (length pairs) || nat_lt max_bytes (total (listed pairs))) _ _
     (or_from _ _ (le-ltb max_chunks (length pairs) few) (le-ltb max_bytes (total (listed pairs)) small))
 
-few_in : (chunks : Option (List (ℕ × ℕ))) (pages : List ℕ) → length pages ≤ max_chunks → IfSome chunks (λ cs. length cs ≤ max_chunks) → IfSome chunks (λ cs. total (listed cs) ≤ max_bytes) →
+few_in : (chunks : Option (List (ℕ × ℕ))) (pages : List ℕ) → length pages ≤ max_chunks → IfSome chunks (λ cs. length cs ≤ max_chunks) →
+    IfSome chunks (λ cs. total (listed cs) ≤ max_bytes) →
     taken_memory chunks pages ≡ unless_unaligned (first_unaligned chunks pages) (memory_from chunks pages)
 few_in None pages few chunks bytes = few_pages pages few
 few_in (Some pairs) pages few chunks bytes = few_chunks pairs pages chunks bytes
@@ -87,15 +95,18 @@ few_in (Some pairs) pages few chunks bytes = few_chunks pairs pages chunks bytes
 pub few_of : (d : Desc) → IsWellFormed d → taken_memory d.chunks d.pages ≡ unless_unaligned (first_unaligned d.chunks d.pages) (memory_of d)
 few_of d formed = few_in d.chunks d.pages formed.pages formed.chunks formed.bytes
 
-grants_by : (unaligned shared : Option ℕ) (chunks : List Chunk) → unaligned ≡ None → first_shared [] chunks ≡ shared → shared ≡ None → unless_unaligned unaligned chunks ≡ Ok (in_order chunks)
+grants_by : (unaligned shared : Option ℕ) (chunks : List Chunk) → unaligned ≡ None → first_shared [] chunks ≡ shared → shared ≡ None →
+    unless_unaligned unaligned chunks ≡ Ok (in_order chunks)
 grants_by (Some place) shared chunks one same two = cc
 grants_by None (Some place) chunks one same two = cc
 grants_by None None chunks one same two = ap (λ (o : Option ℕ). unless_shared o chunks) same
 
 -- aligned and apart they make grants, so the call answers no fault of theirs
-pub no_fault_taken : (d : Desc) (pages : List ℕ) (fault : PageFault) → IsWellFormed d → first_unaligned d.chunks d.pages ≡ None → first_shared [] (memory_of d) ≡ None → pages ≡ d.pages → taken_memory d.chunks pages ≡ Err fault → ⊥
+pub no_fault_taken : (d : Desc) (pages : List ℕ) (fault : PageFault) → IsWellFormed d → first_unaligned d.chunks d.pages ≡ None →
+    first_shared [] (memory_of d) ≡ None → pages ≡ d.pages → taken_memory d.chunks pages ≡ Err fault → ⊥
 no_fault_taken d pages fault formed aligned apart same is =
-    let taken = few_of d formed ∙ grants_by (first_unaligned d.chunks d.pages) (first_shared [] (memory_of d)) (memory_of d) aligned refl apart in
+    let taken =
+    few_of d formed ∙ grants_by (first_unaligned d.chunks d.pages) (first_shared [] (memory_of d)) (memory_of d) aligned refl apart in
     let changed = ap (taken_memory d.chunks) same in cc
 
 -- what each answer means
@@ -104,7 +115,8 @@ module _ (chunks : List Chunk) where
   shared_ok None grants is = refl
   shared_ok (Some place) grants is = cc
 
-  pub taken_ok : (place : Option ℕ) (grants : List Chunk) → unless_unaligned place chunks ≡ Ok grants → (place ≡ None) × (first_shared [] chunks ≡ None)
+  pub taken_ok : (place : Option ℕ) (grants : List Chunk) → unless_unaligned place chunks ≡ Ok grants →
+      (place ≡ None) × (first_shared [] chunks ≡ None)
   taken_ok None grants is = (refl, shared_ok (first_shared [] chunks) grants is)
   taken_ok (Some place) grants is = cc
 
@@ -112,7 +124,8 @@ module _ (chunks : List Chunk) where
   shared_twice None p is = cc
   shared_twice (Some place) p is = cc
 
-  pub taken_twice : (place : Option ℕ) (p : ℕ) → unless_unaligned place chunks ≡ Err (Twice p) → (place ≡ None) × (first_shared [] chunks ≡ Some p)
+  pub taken_twice : (place : Option ℕ) (p : ℕ) → unless_unaligned place chunks ≡ Err (Twice p) →
+      (place ≡ None) × (first_shared [] chunks ≡ Some p)
   taken_twice None p is = (refl, shared_twice (first_shared [] chunks) p is)
   taken_twice (Some place) p is = cc
 
@@ -134,11 +147,13 @@ module _ (chunks : List Chunk) where
 
 -- what a call found, with another fault in place of the one that it found
 
-pub judges_err : (A B : Type 0) (found other : Option BuildFault) (error : BuildError) → ((fault : BuildFault) → found ≡ Some fault → other ≡ Some fault) → Judges {T = A} found (Err error) → Judges {T = B} other (Err error)
+pub judges_err : (A B : Type 0) (found other : Option BuildFault) (error : BuildError) →
+    ((fault : BuildFault) → found ≡ Some fault → other ≡ Some fault) → Judges {T = A} found (Err error) → Judges {T = B} other (Err error)
 judges_err A B found other (Bad fault) stands judged = stands fault judged
 judges_err A B found other Memory stands judged = judged
 
-pub has_scatter : (d : Desc) (found : Option BuildFault) (result : Result ScatterList BuildError) → (found ≡ None → IsFramed d) → Judges found result →
+pub has_scatter : (d : Desc) (found : Option BuildFault) (result : Result ScatterList BuildError) → (found ≡ None → IsFramed d) →
+    Judges found result →
     IfOk result (λ s. s ≡ scatter_list (memory_of d) (highest_end (taken d))) → IfOk result IsScatterList → IfOk result (HasScatter d)
 has_scatter d found (Ok s) framed judged scatter list =
     record { framed = framed judged; list = list; scatter = scatter }

@@ -1,5 +1,6 @@
 -- The lines of a frame can be cut, and their cuts are their plans.
-use Rattle.std.proofs.Common.{◌≡◌, ℕ, ◌+◌, ◌*◌, ◌^◌, ◌<◌, ◌≤◌, Bool, true, List, [], ◌∷◌, length, map, Option, Some, None, refl, sym, ap, ◌∙◌, subst, arith}
+use Rattle.std.proofs.Common.{◌≡◌, ℕ, ◌+◌, ◌*◌, ◌^◌, ◌<◌, ◌≤◌, Bool, true, List, [], ◌∷◌, length, map, Option, Some, None, refl, sym, ap}
+use Rattle.std.proofs.Common.{◌∙◌, subst, arith}
 use Rattle.pixel_layout.specs.declared.Parity.{Parity}
 use Rattle.pixel_layout.specs.Layouts.{planes_of}
 use Rattle.page_table.specs.Grants.{Chunk}
@@ -9,9 +10,11 @@ use Rattle.clip_spans.specs.Runs.{AreRunsFrom}
 use Rattle.clip_spans.specs.declared.Span.{Span}
 use Rattle.capture_desc.specs.declared.desc.Desc.{Desc}
 use Rattle.picture_model.specs.declared.Piece.{Piece}
-use Rattle.picture_model.specs.Described.{IsDescription, describes, extent, extents, fields_of, highest_end, layout_of, memory_of, taken, vbi_area, vbi_stride}
+use Rattle.picture_model.specs.Described.{IsDescription, describes, extent, extents, fields_of, highest_end, layout_of, memory_of, taken}
+use Rattle.picture_model.specs.Described.{vbi_area, vbi_stride}
 use Rattle.picture_model.specs.Places.{row_offset, vbi_line_offset}
-use Rattle.picture_model.specs.Plans.{Strip, cuts_of, grain_bytes, grain_clipped, grains_of, pieces_of, plan, row_strip, row_track, skipped_strip, skipped_vbi_strip, vbi_strip}
+use Rattle.picture_model.specs.Plans.{Strip, cuts_of, grain_bytes, grain_clipped, grains_of, pieces_of, plan, row_strip, row_track}
+use Rattle.picture_model.specs.Plans.{skipped_strip, skipped_vbi_strip, vbi_strip}
 use Rattle.picture_model.proofs.FaultlessGeometry.{IsFrame-IsRight, IsRight}
 use Rattle.picture_model.proofs.Spans.{row_runs}
 use Rattle.picture_model.proofs.Offsets.{IsRowAt, area_end, end_in_mapped, end_of_others, row_offset-IsRowAt, row_within, line_within}
@@ -21,7 +24,8 @@ use Rattle.planar_plan.specs.Lines.{AreHeld, AreWithin, CanBeCut, IsHeld, bare}
 use Rattle.planar_plan.specs.Stretches.{IsWhole, WholeLine}
 use Rattle.planar_plan.proofs.Cuts.{bare-cuts_of, bare-span_cuts}
 
-pub vbi_line_ends : (d : Desc) (field : Parity) (line : ℕ) → describes d.fields field ≡ true → line < d.vbi_lines → vbi_line_offset d field line + d.vbi_bytes ≤ highest_end (taken d)
+pub vbi_line_ends : (d : Desc) (field : Parity) (line : ℕ) → describes d.fields field ≡ true → line < d.vbi_lines →
+    vbi_line_offset d field line + d.vbi_bytes ≤ highest_end (taken d)
 vbi_line_ends d field line is below =
     let area = area_end (vbi_area d) d.fields field is in
     let all = end_of_others (extents d) (map (vbi_area d) (fields_of d.fields)) in
@@ -32,8 +36,10 @@ pub list_small : (s : ScatterList) → IsScatterList s → s.len ≤ 2 ^ 32
 list_small s is = let all = total-le s.chunks is.aligned is.apart in let enough = is.enough in omega arith
 
 module _ (d : Desc) (right : IsRight d) (row : ℕ) (below : row < d.height) (plane : ℕ) (low : 1 ≤ plane) (high : plane ≤ 3) where
-  written_held : (from : ℕ) → IsRowAt d plane row from → GrainsFit (memory_of d) (grains_of (layout_of d) d.width) (grain_bytes (layout_of d) plane) (Some from) →
-      AreHeld (scatter_list (memory_of d) (highest_end (taken d))) (grains_of (layout_of d) d.width) (grain_bytes (layout_of d) plane) (Some from)
+  written_held : (from : ℕ) → IsRowAt d plane row from →
+      GrainsFit (memory_of d) (grains_of (layout_of d) d.width) (grain_bytes (layout_of d) plane) (Some from) →
+      AreHeld (scatter_list (memory_of d) (highest_end (taken d))) (grains_of (layout_of d) d.width)
+      (grain_bytes (layout_of d) plane) (Some from)
   written_held from at fit =
       let has = held_plane d plane row at.number low high at.held in
       let top = has.high in
@@ -42,7 +48,8 @@ module _ (d : Desc) (right : IsRight d) (row : ℕ) (below : row < d.height) (pl
       let end = end_in_mapped (extent d) 1 (planes_of (layout_of d)) plane (map (vbi_area d) (fields_of d.fields)) low (omega arith) in
       (fit.0, omega arith, fit.2)
 
-  start_held : (start : Option ℕ) → row_offset d plane row ≡ start → GrainsFit (memory_of d) (grains_of (layout_of d) d.width) (grain_bytes (layout_of d) plane) start →
+  start_held : (start : Option ℕ) → row_offset d plane row ≡ start →
+      GrainsFit (memory_of d) (grains_of (layout_of d) d.width) (grain_bytes (layout_of d) plane) start →
       AreHeld (scatter_list (memory_of d) (highest_end (taken d))) (grains_of (layout_of d) d.width) (grain_bytes (layout_of d) plane) start
   start_held None is fit = tt
   start_held (Some from) is fit = written_held from (row_offset-IsRowAt d plane row from is) fit
@@ -54,7 +61,8 @@ module _ (d : Desc) (right : IsRight d) (row : ℕ) (below : row < d.height) (pl
 
 -- the lines
 
-pub row-CanBeCut : (d : Desc) (s : ScatterList) (row : ℕ) → IsRight d → row < d.height → IsScatterList s → s ≡ scatter_list (memory_of d) (highest_end (taken d)) → CanBeCut s (bare (row_strip d row))
+pub row-CanBeCut : (d : Desc) (s : ScatterList) (row : ℕ) → IsRight d → row < d.height → IsScatterList s →
+    s ≡ scatter_list (memory_of d) (highest_end (taken d)) → CanBeCut s (bare (row_strip d row))
 row-CanBeCut d s row right below list scatter =
     subst (λ (t : ScatterList). CanBeCut t (bare (row_strip d row))) (sym scatter)
     (record {
@@ -64,7 +72,8 @@ row-CanBeCut d s row right below list scatter =
       three = row_held d right row below 3 (omega arith) (omega arith);
     })
 
-unwritten_held : (s : ScatterList) (d : Desc) (grains plane : ℕ) → IsHeld s grains (record { size = grain_bytes (layout_of d) plane; start = None })
+unwritten_held : (s : ScatterList) (d : Desc) (grains plane : ℕ) →
+    IsHeld s grains (record { size = grain_bytes (layout_of d) plane; start = None })
 unwritten_held s d grains plane = record { small = grain_small d plane; held = tt }
 
 pub skipped-CanBeCut : (d : Desc) (s : ScatterList) → IsScatterList s → CanBeCut s (bare (skipped_strip d))
@@ -86,7 +95,8 @@ skipped_vbi-CanBeCut d s list =
       three = record { small = omega arith; held = tt };
     }
 
-pub vbi-CanBeCut : (d : Desc) (s : ScatterList) (field : Parity) (line : ℕ) → describes d.fields field ≡ true → line < d.vbi_lines → IsScatterList s →
+pub vbi-CanBeCut : (d : Desc) (s : ScatterList) (field : Parity) (line : ℕ) → describes d.fields field ≡ true → line < d.vbi_lines →
+    IsScatterList s →
     s ≡ scatter_list (memory_of d) (highest_end (taken d)) → CanBeCut s (bare (vbi_strip d field line))
 vbi-CanBeCut d s field line is below list scatter =
     let end = vbi_line_ends d field line is below in
@@ -115,25 +125,30 @@ again_right d e same framed is =
     subst IsRight same (is_right d framed (subst IsDescription (sym same) is).clips)
 
 -- spans that follow each other up to an end are within it
-pub runs_within : (test : ℕ → Bool) (end bound x : ℕ) (spans : List Span) → end ≤ bound → AreRunsFrom test end x spans → AreWithin bound spans
+pub runs_within : (test : ℕ → Bool) (end bound x : ℕ) (spans : List Span) → end ≤ bound → AreRunsFrom test end x spans →
+    AreWithin bound spans
 runs_within test end bound x [] low runs = tt
 runs_within test end bound x (s ∷ rest) low runs =
     let some = runs.1.some in
     let within = runs.1.within in
     (omega arith, omega arith, runs_within test end bound s.to rest low runs.2)
 
-pub row-AreWithin : (d : Desc) (row bound : ℕ) → IsRight d → grains_of (layout_of d) d.width ≤ bound → AreWithin bound (row_strip d row).spans
+pub row-AreWithin : (d : Desc) (row bound : ℕ) → IsRight d → grains_of (layout_of d) d.width ≤ bound →
+    AreWithin bound (row_strip d row).spans
 row-AreWithin d row bound right low =
     runs_within (grain_clipped d row) (grains_of (layout_of d) d.width) bound 0 (row_strip d row).spans low (row_runs d row right)
 
 -- a line each span of which is one piece, with its spans again
-pub whole-again : (memory chunks : List Chunk) (strip line : Strip) (w : WholeLine) → chunks ≡ memory → line ≡ bare strip → IsWhole chunks line w → IsWhole memory strip w
+pub whole-again : (memory chunks : List Chunk) (strip line : Strip) (w : WholeLine) → chunks ≡ memory → line ≡ bare strip →
+    IsWhole chunks line w → IsWhole memory strip w
 whole-again memory chunks strip line w same kept is =
-    let of : IsWhole memory (bare strip) w = subst (λ (l : Strip). IsWhole memory l w) kept (subst (λ (cs : List Chunk). IsWhole cs line w) same is) in
+    let of : IsWhole memory (bare strip) w =
+    subst (λ (l : Strip). IsWhole memory l w) kept (subst (λ (cs : List Chunk). IsWhole cs line w) same is) in
     record { grains = of.grains; pieces = λ s within. of.pieces s within ∙ ap (pieces_of memory strip) (bare-span_cuts memory strip s) }
 
 -- the pieces of a line's spans are its plan
-pub pieces-plan : (memory chunks : List Chunk) (strip line : Strip) (spans : List Span) (pieces : List Piece) → chunks ≡ memory → line ≡ bare strip → spans ≡ strip.spans →
+pub pieces-plan : (memory chunks : List Chunk) (strip line : Strip) (spans : List Span) (pieces : List Piece) → chunks ≡ memory →
+    line ≡ bare strip → spans ≡ strip.spans →
     pieces ≡ pieces_of chunks line (cuts_of chunks line spans) → pieces ≡ plan memory strip
 pieces-plan memory chunks strip line spans pieces same kept all is =
     is

@@ -1,5 +1,6 @@
 -- How far a piece reaches on a track.
-use Rattle.std.proofs.Common.{◌≡◌, ℕ, zero, suc, ◌+◌, ◌-◌, ◌*◌, ◌/◌, ◌<◌, ◌≤◌, Bool, true, false, Option, Some, None, refl, sym, ap, ◌∙◌, subst, arith, ⊎_elim, min}
+use Rattle.std.proofs.Common.{◌≡◌, ℕ, zero, suc, ◌+◌, ◌-◌, ◌*◌, ◌/◌, ◌<◌, ◌≤◌, Bool, true, false, Option, Some, None, refl, sym, ap, ◌∙◌}
+use Rattle.std.proofs.Common.{subst, arith, ⊎_elim, min}
 use Rattle.std.proofs.lemmas.Bool.{cases_lt}
 use Rattle.std.proofs.Math.Nat.{le-div_iff_mul-le, div-mul-le_self}
 use Rattle.page_table.specs.Scattered.{IsScatterList, ScatterList, address_at, room_at, run_at}
@@ -13,7 +14,8 @@ use Rattle.planar_plan.specs.declared.cut.Window.{Window}
 use Rattle.planar_plan.specs.Lines.{AreHeld, CanBeCut, IsHeld, IsWindow, Reaches}
 
 -- at the first of some grains that are left, their bytes are left too
-pub bytes_left : (at rest size start len : ℕ) → 1 ≤ rest → 1 ≤ size → start + (at + rest) * size ≤ len → (start + at * size < len) × (rest * size ≤ len - (start + at * size))
+pub bytes_left : (at rest size start len : ℕ) → 1 ≤ rest → 1 ≤ size → start + (at + rest) * size ≤ len →
+    (start + at * size < len) × (rest * size ≤ len - (start + at * size))
 bytes_left at rest size start len some wide within =
     let first : 1 * size ≤ rest * size = fewer_grains 1 rest size some in (omega arith, omega arith)
 
@@ -45,7 +47,8 @@ all_held bytes (suc less) rest holds =
     let wide : 0 < suc less = omega arith in
     let more = (le-div_iff_mul-le {k = suc less} {x = rest} {y = bytes} wide).1 holds in omega arith
 
-pub some_held : (bytes size rest : ℕ) → bytes < rest * size → (0 < size) × (bytes / size ≡ min rest (most size bytes rest)) × (bytes / size * size ≤ bytes)
+pub some_held : (bytes size rest : ℕ) → bytes < rest * size →
+    (0 < size) × (bytes / size ≡ min rest (most size bytes rest)) × (bytes / size * size ≤ bytes)
 some_held bytes zero rest short = absurd (omega arith)
 some_held bytes (suc less) rest short =
     let wide : 0 < suc less = omega arith in
@@ -71,16 +74,20 @@ most_some zero bytes rest fits some = some
 most_some (suc less) bytes rest fits some =
     let wide : 0 < suc less = omega arith in (le-div_iff_mul-le {k = suc less} {x = 1} {y = bytes} wide).1 (omega arith)
 
-free_some : (s : ScatterList) (clipped : Bool) (grains size : ℕ) (start : Option ℕ) (at : ℕ) → size ≤ 4 → AreHeld s grains size start → at < grains → size ≤ bytes_free s.chunks clipped size start at
+free_some : (s : ScatterList) (clipped : Bool) (grains size : ℕ) (start : Option ℕ) (at : ℕ) → size ≤ 4 → AreHeld s grains size start →
+    at < grains → size ≤ bytes_free s.chunks clipped size start at
 free_some s true grains size start at small held inside = omega arith
 free_some s false grains size None at small held inside = omega arith
 free_some s false grains size (Some start) at small held inside = let room = held.2 at inside in omega arith
 
-track_some : (s : ScatterList) (clipped : Bool) (grains at rest : ℕ) (t : Track) → IsHeld s grains t → at < grains → 1 ≤ rest → 1 ≤ most_of s.chunks clipped at rest t
+track_some : (s : ScatterList) (clipped : Bool) (grains at rest : ℕ) (t : Track) → IsHeld s grains t → at < grains → 1 ≤ rest →
+    1 ≤ most_of s.chunks clipped at rest t
 track_some s clipped grains at rest t is inside some =
-    most_some t.size (bytes_free s.chunks clipped t.size t.start at) rest (free_some s clipped grains t.size t.start at is.small is.held inside) some
+    most_some t.size (bytes_free s.chunks clipped t.size t.start at) rest
+    (free_some s clipped grains t.size t.start at is.small is.held inside) some
 
-pub longest_some : (s : ScatterList) (strip : Strip) (span : Span) (at : ℕ) → CanBeCut s strip → at < span.to → span.to ≤ strip.grains → 1 ≤ longest s.chunks strip span at
+pub longest_some : (s : ScatterList) (strip : Strip) (span : Span) (at : ℕ) → CanBeCut s strip → at < span.to → span.to ≤ strip.grains →
+    1 ≤ longest s.chunks strip span at
 longest_some s strip span at can before within =
     let rest = span.to - at in
     let one = track_some s span.clipped strip.grains at rest strip.one can.one (omega arith) (omega arith) in
@@ -92,13 +99,15 @@ pub each_fits : (s : ScatterList) (strip : Strip) (span : Span) → CanBeCut s s
 each_fits s strip span can within =
     λ at from before. longest-Fits s.chunks strip span at 1 (omega arith) (longest_some s strip span at can before within)
 
-pub run_parts : (s : ScatterList) (run : ℕ × ℕ) (offset : ℕ) → run ≡ run_at s offset 4092 → (run.0 ≡ address_at s.chunks offset) × (run.1 ≡ min (min 4092 (room_at s.chunks offset)) (s.len - offset))
+pub run_parts : (s : ScatterList) (run : ℕ × ℕ) (offset : ℕ) → run ≡ run_at s offset 4092 →
+    (run.0 ≡ address_at s.chunks offset) × (run.1 ≡ min (min 4092 (room_at s.chunks offset)) (s.len - offset))
 run_parts s run offset is =
     let length : run.1 ≡ min 4092 (min (room_at s.chunks offset) (s.len - offset)) = ap (λ (p : ℕ × ℕ). p.1) is in
     (ap (λ (p : ℕ × ℕ). p.0) is, omega arith)
 
 -- a run of the scatter list is as long as a piece may be
-pub run-Reaches : (s : ScatterList) (size start at rest offset : ℕ) (run : ℕ × ℕ) (r : Reach) → offset ≡ start + at * size → run ≡ run_at s offset 4092 → 1 ≤ rest → 1 ≤ size →
+pub run-Reaches : (s : ScatterList) (size start at rest offset : ℕ) (run : ℕ × ℕ) (r : Reach) → offset ≡ start + at * size →
+    run ≡ run_at s offset 4092 → 1 ≤ rest → 1 ≤ size →
     start + (at + rest) * size ≤ s.len → r.address ≡ run.0 → r.grains ≡ min rest (run.1 / size) →
     Reaches rest size (most size (min 4092 (room_at s.chunks (start + at * size))) rest) (address_at s.chunks (start + at * size)) r
 run-Reaches s size start at rest offset run r here is some wide within address grains =
@@ -120,7 +129,8 @@ run-Reaches s size start at rest offset run r here is some wide within address g
 
 -- what is left lies in a window
 
-pub window-Reaches : (s : ScatterList) (w : Window) (size start at rest offset : ℕ) (r : Reach) → IsWindow s w → 1 ≤ rest → 1 ≤ size → offset ≡ start + at * size → w.from ≤ offset →
+pub window-Reaches : (s : ScatterList) (w : Window) (size start at rest offset : ℕ) (r : Reach) → IsWindow s w → 1 ≤ rest → 1 ≤ size →
+    offset ≡ start + at * size → w.from ≤ offset →
     offset + rest * size ≤ w.to → r.address ≡ w.address + (offset - w.from) → r.grains ≡ rest →
     Reaches rest size (most size (min 4092 (room_at s.chunks (start + at * size))) rest) (address_at s.chunks (start + at * size)) r
 window-Reaches s w size start at rest offset r is some wide here from to address grains =
@@ -130,8 +140,10 @@ window-Reaches s w size start at rest offset r is some wide here from to address
     let k = offset - w.from in
     let place : w.from + k ≡ start + at * size = omega arith in
     let below : k < room_at s.chunks w.from = omega arith in
-    let room : room_at s.chunks (start + at * size) ≡ room_at s.chunks w.from - k = ap (room_at s.chunks) (sym place) ∙ room_at-add s.chunks w.from k below in
-    let there : address_at s.chunks (start + at * size) ≡ address_at s.chunks w.from + k = ap (address_at s.chunks) (sym place) ∙ address_at-add s.chunks w.from k below in
+    let room : room_at s.chunks (start + at * size) ≡ room_at s.chunks w.from - k =
+    ap (room_at s.chunks) (sym place) ∙ room_at-add s.chunks w.from k below in
+    let there : address_at s.chunks (start + at * size) ≡ address_at s.chunks w.from + k =
+    ap (address_at s.chunks) (sym place) ∙ address_at-add s.chunks w.from k below in
     let begin = is.address (omega arith) in
     let enough : rest * size ≤ min 4092 (room_at s.chunks (start + at * size)) = omega arith in
     record {
@@ -141,7 +153,8 @@ window-Reaches s w size start at rest offset r is some wide here from to address
     }
 
 -- a run makes a window
-pub run-IsWindow : (s : ScatterList) (offset : ℕ) (run : ℕ × ℕ) (w : Window) → IsScatterList s → offset < s.len → run ≡ run_at s offset 4092 → w.from ≡ offset → w.to ≡ offset + run.1 → w.address ≡ run.0 → IsWindow s w
+pub run-IsWindow : (s : ScatterList) (offset : ℕ) (run : ℕ × ℕ) (w : Window) → IsScatterList s → offset < s.len →
+    run ≡ run_at s offset 4092 → w.from ≡ offset → w.to ≡ offset + run.1 → w.address ≡ run.0 → IsWindow s w
 run-IsWindow s offset run w list within is from to address =
     let parts = run_parts s run offset is in
     let enough = list.enough in

@@ -38,7 +38,8 @@ pub record AreStretches (memory : List Chunk) (strip : Strip) (w : Stretches) : 
   pub three : IsStretch memory strip.grains strip.three w.three
 
 abbrev pub AreFit : Strip → Stretches → Type 0
-AreFit strip w = IsFit strip.grains strip.one.size w.one × IsFit strip.grains strip.two.size w.two × IsFit strip.grains strip.three.size w.three
+AreFit strip w =
+    IsFit strip.grains strip.one.size w.one × IsFit strip.grains strip.two.size w.two × IsFit strip.grains strip.three.size w.three
 
 -- one piece could move a whole line
 pub record FitsInOne (memory : List Chunk) (strip : Strip) : Type 0 where

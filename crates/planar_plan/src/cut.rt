@@ -6,8 +6,10 @@ ghost use Rattle.clip_spans.specs.Runs.{span};
 ghost use Rattle.pixel_layout.specs.Layouts.{layout};
 ghost use Rattle.page_table.specs.Scattered.{ScatterList, address_at, room_at};
 ghost use Rattle.picture_model.specs.Geometry.{max_width};
-ghost use Rattle.picture_model.specs.Plans.{address_of, cut, cuts_of, grains_of, in_grains, longest, max_piece, most, most_of, piece_of, pieces_of, span_cuts};
-ghost use Rattle.planar_plan.specs.Lines.{AreHeld, AreWindows, AreWithin, CanBeCut, CountsFit, IsHeld, IsWindow, Reaches, strip_of, track_of};
+ghost use Rattle.picture_model.specs.Plans.{address_of, cut, cuts_of, grains_of, in_grains, longest, max_piece, most, most_of, piece_of};
+ghost use Rattle.picture_model.specs.Plans.{pieces_of, span_cuts};
+ghost use Rattle.planar_plan.specs.Lines.{AreHeld, AreWindows, AreWithin, CanBeCut, CountsFit, IsHeld, IsWindow, Reaches, strip_of};
+ghost use Rattle.planar_plan.specs.Lines.{track_of};
 
 use crate::stretch::WholeRow;
 use clip_spans::Span;
@@ -59,7 +61,8 @@ impl Pieces {
     ) -> Result<(), AllocError>
         requires line { CanBeCut scatter.now (strip_of line.now) }
         requires grains { AreWithin line.now.grains spans.now }
-        ensures pieces { IfOk result (λ _. self.new ≡ pieces_of scatter.now.chunks (strip_of line.now) (cuts_of scatter.now.chunks (strip_of line.now) spans.now)) }
+        ensures pieces { IfOk result
+            (λ _. self.new ≡ pieces_of scatter.now.chunks (strip_of line.now) (cuts_of scatter.now.chunks (strip_of line.now) spans.now)) }
         ensures counts { IfOk result (λ _. All CountsFit self.new) }
     {
         cut_row(scatter, line, spans, &mut self.pieces)
@@ -192,7 +195,9 @@ impl WrittenTrack {
         requires len { scatter.now.len ≤ 2 ^ 32 }
         requires some { 1 ≤ left.rest }
         requires held { AreHeld scatter.now (left.at + left.rest) self.size (Some self.start) }
-        ensures reach { Reaches left.rest self.size (most self.size (min max_piece (room_at scatter.now.chunks (self.start + left.at * self.size))) left.rest) (address_at scatter.now.chunks (self.start + left.at * self.size)) result }
+        ensures reach { Reaches left.rest self.size
+            (most self.size (min max_piece (room_at scatter.now.chunks (self.start + left.at * self.size))) left.rest)
+            (address_at scatter.now.chunks (self.start + left.at * self.size)) result }
         ensures window { IsWindow scatter.now window.new }
     {
         let offset = self.start + u64::from(left.at) * u64::from(self.size);
@@ -215,7 +220,9 @@ impl WrittenTrack {
         requires some { 1 ≤ left.rest }
         requires held { AreHeld scatter.now (left.at + left.rest) self.size (Some self.start) }
         requires window { IsWindow scatter.now window.old }
-        ensures reach { Reaches left.rest self.size (most self.size (min max_piece (room_at scatter.now.chunks (self.start + left.at * self.size))) left.rest) (address_at scatter.now.chunks (self.start + left.at * self.size)) result }
+        ensures reach { Reaches left.rest self.size
+            (most self.size (min max_piece (room_at scatter.now.chunks (self.start + left.at * self.size))) left.rest)
+            (address_at scatter.now.chunks (self.start + left.at * self.size)) result }
         ensures window { IsWindow scatter.now window.new }
     {
         let offset = self.start + u64::from(left.at) * u64::from(self.size);
@@ -250,7 +257,8 @@ impl PlaneTrack {
         requires held { IsHeld scatter.now (left.at + left.rest) (track_of self) }
         requires window { IsWindow scatter.now window.old }
         ensures window { IsWindow scatter.now window.new }
-        ensures reach { Reaches left.rest self.size (most_of scatter.now.chunks clipped left.at left.rest (track_of self)) (address_of scatter.now.chunks clipped self.size self.start left.at) result }
+        ensures reach { Reaches left.rest self.size (most_of scatter.now.chunks clipped left.at left.rest (track_of self))
+            (address_of scatter.now.chunks clipped self.size self.start left.at) result }
     {
         match self.start {
             Some(start) if !clipped => WrittenTrack {
@@ -338,7 +346,8 @@ pub(crate) fn cut_span(
     requires within { span.to ≤ line.now.grains }
     requires windows { AreWindows scatter.now windows.old }
     ensures windows { IfOk result (λ _. AreWindows scatter.now windows.new) }
-    ensures pieces { IfOk result (λ _. pieces.new.items ≡ pieces.old.items ++ pieces_of scatter.now.chunks (strip_of line.now) (span_cuts scatter.now.chunks (strip_of line.now) span)) }
+    ensures pieces { IfOk result (λ _. pieces.new.items
+        ≡ pieces.old.items ++ pieces_of scatter.now.chunks (strip_of line.now) (span_cuts scatter.now.chunks (strip_of line.now) span)) }
     ensures counts { All CountsFit pieces.old.items → IfOk result (λ _. All CountsFit pieces.new.items) }
 {
     let mut at = span.from;
@@ -409,7 +418,8 @@ fn cut_spans(
 ) -> Result<(), AllocError>
     requires line { CanBeCut scatter.now (strip_of line.now) }
     requires grains { AreWithin line.now.grains spans.now }
-    ensures pieces { IfOk result (λ _. pieces.new.items ≡ pieces_of scatter.now.chunks (strip_of line.now) (cuts_of scatter.now.chunks (strip_of line.now) spans.now)) }
+    ensures pieces { IfOk result (λ _. pieces.new.items
+        ≡ pieces_of scatter.now.chunks (strip_of line.now) (cuts_of scatter.now.chunks (strip_of line.now) spans.now)) }
     ensures counts { IfOk result (λ _. All CountsFit pieces.new.items) }
 {
     pieces.clear();
@@ -429,7 +439,8 @@ fn cut_row(
 ) -> Result<(), AllocError>
     requires line { CanBeCut scatter.now (strip_of line.now) }
     requires grains { AreWithin line.now.grains spans.now }
-    ensures pieces { IfOk result (λ _. pieces.new.items ≡ pieces_of scatter.now.chunks (strip_of line.now) (cuts_of scatter.now.chunks (strip_of line.now) spans.now)) }
+    ensures pieces { IfOk result (λ _. pieces.new.items
+        ≡ pieces_of scatter.now.chunks (strip_of line.now) (cuts_of scatter.now.chunks (strip_of line.now) spans.now)) }
     ensures counts { IfOk result (λ _. All CountsFit pieces.new.items) }
 {
     match WholeRow::of(scatter, line) {
@@ -446,7 +457,8 @@ pub(crate) fn cut_whole(
     clipped: bool,
 ) -> Result<Vec<Piece>, AllocError>
     requires { CanBeCut scatter.now (strip_of line.now) }
-    ensures pieces { IfOk result (λ pieces. pieces.items ≡ pieces_of scatter.now.chunks (strip_of line.now) (cuts_of scatter.now.chunks (strip_of line.now) (span 0 line.now.grains clipped ∷ []))) }
+    ensures pieces { IfOk result (λ pieces. pieces.items ≡ pieces_of scatter.now.chunks (strip_of line.now)
+        (cuts_of scatter.now.chunks (strip_of line.now) (span 0 line.now.grains clipped ∷ []))) }
     ensures counts { IfOk result (λ pieces. All CountsFit pieces.items) }
 {
     let mut pieces = Vec::new(alloc);

@@ -2,7 +2,8 @@
 //! counted along the pages or chunks.
 
 ghost use Rattle.std.specs.Prelude.{◌≡◌, ℕ, ◌+◌, ◌^◌, ◌≤◌, length, unwrap_or, IfOk, IfSome};
-ghost use Rattle.picture_model.specs.Described.{chroma_height, default_offset, extent, extents, given_or, highest_end, lines_bytes, offset, plane_bytes, plane_row_bytes, plane_rows, stride};
+ghost use Rattle.picture_model.specs.Described.{chroma_height, default_offset, extent, extents, given_or, highest_end, lines_bytes, offset};
+ghost use Rattle.picture_model.specs.Described.{plane_bytes, plane_row_bytes, plane_rows, stride};
 ghost use Rattle.picture_model.specs.Described.{taken, vbi_area, vbi_begin, vbi_offset, vbi_size};
 ghost use Rattle.picture_model.specs.Geometry.{max_height, max_vbi_lines};
 ghost use Rattle.planar_plan.specs.Sizes.{IsPlane, IsSized};

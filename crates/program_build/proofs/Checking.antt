@@ -10,7 +10,8 @@ use Rattle.capture_desc.specs.declared.desc.Desc.{Desc}
 use Rattle.picture_model.specs.declared.BuildFault.{BuildFault}
 use Rattle.picture_model.specs.declared.BuildFault.TheVariants.{ProgramBase, ProgramOnPage}
 use Rattle.picture_model.specs.Described.{memory_of}
-use Rattle.picture_model.specs.Geometry.{first_after, first_fault, frame_fault, frame_faults, is_multiple, program_base, program_faults, program_on_page, when}
+use Rattle.picture_model.specs.Geometry.{first_after, first_fault, frame_fault, frame_faults, is_multiple, program_base, program_faults}
+use Rattle.picture_model.specs.Geometry.{program_on_page, when}
 use Rattle.picture_model.specs.Programs.{compiled, compiled_words}
 use Rattle.picture_model.proofs.CompiledProgram.{compiled_program}
 use Rattle.picture_model.proofs.FaultlessGeometry.{HasRoom, IsFrame-IsRight, IsValid-HasRoom, IsValid-IsFrame}
@@ -35,7 +36,8 @@ checked_few d is =
     sections_few d d.base d.base is.description (IsFrame-IsRight d is.description (IsValid-IsFrame d is.valid))
 
 -- a program of its base, words and memory is the compiled one
-pub same_program : (base : ℕ) (words : List ℕ) (grants : List Chunk) (d : Desc) → base ≡ d.base → words ≡ compiled_words d → grants ≡ in_order (memory_of d) →
+pub same_program : (base : ℕ) (words : List ℕ) (grants : List Chunk) (d : Desc) → base ≡ d.base → words ≡ compiled_words d →
+    grants ≡ in_order (memory_of d) →
     one_span base words grants ≡ compiled d
 same_program base words grants d one two three =
     ap (λ (n : ℕ). one_span n words grants) one
@@ -43,12 +45,14 @@ same_program base words grants d one two three =
     ∙ ap (one_span d.base (compiled_words d)) three
 
 -- after a frame's faults the program's decide
-pub then_program : (d e : Desc) (found : Option BuildFault) → frame_fault d ≡ None → e ≡ d → first_after None program_faults e ≡ found → first_fault d ≡ found
+pub then_program : (d e : Desc) (found : Option BuildFault) → frame_fault d ≡ None → e ≡ d → first_after None program_faults e ≡ found →
+    first_fault d ≡ found
 then_program d e found none same is =
     none_front frame_faults program_faults d none ∙ ap (first_after None program_faults) (sym same) ∙ is
 
 -- where a program's base and end are right, whether it shares a byte with its pages decides
-pub on_page : (d e : Desc) (end : ℕ) (found : Option BuildFault) → e ≡ d → end ≡ d.base + 4 * length (compiled_words d) → None ≡ when (not (is_multiple 4 e.base && nat_le end (2 ^ 32))) ProgramBase →
+pub on_page : (d e : Desc) (end : ℕ) (found : Option BuildFault) → e ≡ d → end ≡ d.base + 4 * length (compiled_words d) →
+    None ≡ when (not (is_multiple 4 e.base && nat_le end (2 ^ 32))) ProgramBase →
     found ≡ when (list_any (is_met e.base end) (memory_of e)) ProgramOnPage → first_after None program_faults d ≡ found
 on_page d e end found same ends right shared =
     let first : program_base d ≡ None =

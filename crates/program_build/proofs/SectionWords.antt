@@ -36,12 +36,14 @@ module _ (d : Desc) (at back : ℕ) (both : d.fields ≡ fields.Both) where
 
   pub both_long : length (sections_words d at back) ≡ section_length d Top + section_length d Bottom
   both_long =
-      let parts = ap length both_words ∙ length-append (words_of (section d Top (at + 4 * section_length d Top))) (words_of (section d Bottom back)) in
+      let parts =
+      ap length both_words ∙ length-append (words_of (section d Top (at + 4 * section_length d Top))) (words_of (section d Bottom back)) in
       let top = section_long d Top (at + 4 * section_length d Top) in
       let bottom = section_long d Bottom back in omega arith
 
   -- the top section, its closing and the bottom section are the whole
-  pub both_whole : (top closed_top all : List ℕ) (jump : Instr) (target : ℕ) → top ≡ open_words d Top → jump ≡ closing Top target → closed_top ≡ top ++ encoded jump →
+  pub both_whole : (top closed_top all : List ℕ) (jump : Instr) (target : ℕ) → top ≡ open_words d Top → jump ≡ closing Top target →
+      closed_top ≡ top ++ encoded jump →
       all ≡ closed_top ++ words_of (section d Bottom back) → target ≡ (at + 4 * (length top + 2)) % 2 ^ 32 → AreSections d at back all
   both_whole top closed_top all jump target start leads one two next =
       let closed_top_is : closed_top ≡ words_of (section d Top target) =

@@ -1,5 +1,6 @@
 -- Where a program file is at fault: the bytes before the field, and those up to and with it.
-use Rattle.std.proofs.Common.{◌≡◌, ℕ, zero, suc, ◌+◌, ◌-◌, ◌≤◌, inl, inr, Bool, true, false, List, [], ◌∷◌, ◌++◌, length, take, drop, Option, Some, None, Result, Ok, Err, refl, sym, ap, subst, ◌∙◌, arith, append_assoc, length-append}
+use Rattle.std.proofs.Common.{◌≡◌, ℕ, zero, suc, ◌+◌, ◌-◌, ◌≤◌, inl, inr, Bool, true, false, List, [], ◌∷◌, ◌++◌, length, take, drop}
+use Rattle.std.proofs.Common.{Option, Some, None, Result, Ok, Err, refl, sym, ap, subst, ◌∙◌, arith, append_assoc, length-append}
 use Rattle.std.proofs.lemmas.List.{append-nil, length-take-le, take-append-drop}
 use Rattle.std.proofs.Math.Seq.{take-append-add, take-append_seam}
 use Rattle.capture_file.specs.declared.FileKind.{FileKind}
@@ -14,7 +15,8 @@ use Rattle.capture_file.proofs.Chunks.{IsBytes}
 use Rattle.capture_file.proofs.Faults.{program_and_fault}
 use Rattle.capture_file.proofs.Spelled.{field_by_field}
 use Rattle.capture_file.proofs.Unspelled.{file_read}
-use Rattle.program_law.specs.Beginnings.{BeginsFile, IsWhole, before_field, field_width, form_named, has_good_beginning, is_based, with_field}
+use Rattle.program_law.specs.Beginnings.{BeginsFile, IsWhole, before_field, field_width, form_named, has_good_beginning, is_based}
+use Rattle.program_law.specs.Beginnings.{with_field}
 use Rattle.program_law.proofs.Judging.{CanEnd, EndsWell, FaultAt, FileGoes, IsBytes-append, Missed}
 use Rattle.program_law.proofs.Readings.{based_file_goes, file_goes, file_of}
 
@@ -31,9 +33,11 @@ IsBytes-take (suc n) (byte ∷ rest) fits (suc i) = IsBytes-take n rest (λ k. f
 abbrev Held : List ℕ → FileFault → Type 0
 Held bytes found = FaultAt ProgramFile file_of (EndsWell false ProgramFile file_of) (length bytes) bytes found
 
-standing : (bytes : List ℕ) (found : FileFault) → IsBytes bytes → program_of bytes ≡ Err found → Missed ProgramFile file_of (EndsWell false ProgramFile file_of) (length bytes) bytes found
+standing : (bytes : List ℕ) (found : FileFault) → IsBytes bytes → program_of bytes ≡ Err found →
+    Missed ProgramFile file_of (EndsWell false ProgramFile file_of) (length bytes) bytes found
 standing bytes found fits e =
-    subst (λ (r : Result ProgramFile FileFault). FileGoes false ProgramFile file_of (length bytes) bytes r) (sym (field_by_field (length bytes) bytes) ∙ e) (file_goes (length bytes) bytes fits)
+    subst (λ (r : Result ProgramFile FileFault). FileGoes false ProgramFile file_of (length bytes) bytes r)
+    (sym (field_by_field (length bytes) bytes) ∙ e) (file_goes (length bytes) bytes fits)
 
 abbrev kind_of : FileFault → FileKind
 kind_of found = found.kind
@@ -54,7 +58,8 @@ module _ (bytes : List ℕ) (found : FileFault) (at : Held bytes found) where
 
   place_is : found.at ≡ length at.before
   place_is =
-      let parts : length bytes ≡ length at.before + length (at.field ++ at.rest) = ap length at.parts ∙ length-append at.before (at.field ++ at.rest) in
+      let parts : length bytes ≡ length at.before + length (at.field ++ at.rest) =
+      ap length at.parts ∙ length-append at.before (at.field ++ at.rest) in
       let place : found.at ≡ length bytes - length (at.field ++ at.rest) = ap place_of at.is in
       omega (arith, parts, place)
 
@@ -84,17 +89,20 @@ module _ (bytes : List ℕ) (found : FileFault) (at : Held bytes found) where
 
 -- ---- the laws
 
-pub fault_is_decided : (bytes more : List ℕ) (found : FileFault) → IsBytes bytes → IsWhole found.kind → program_of bytes ≡ Err found → program_of (with_field found bytes ++ more) ≡ Err found
+pub fault_is_decided : (bytes more : List ℕ) (found : FileFault) → IsBytes bytes → IsWhole found.kind → program_of bytes ≡ Err found →
+    program_of (with_field found bytes ++ more) ≡ Err found
 fault_is_decided bytes more found fits whole e =
     let at = held bytes found fits whole e in
     ap (λ (zs : List ℕ). program_of (zs ++ more)) (with_is bytes found at)
     ∙ ap program_of (append_assoc at.before at.field more) ∙ stays bytes found at more
 
-pub none_begins_so : (bytes : List ℕ) (found : FileFault) → IsBytes bytes → IsWhole found.kind → program_of bytes ≡ Err found → BeginsFile (with_field found bytes) → ⊥
+pub none_begins_so : (bytes : List ℕ) (found : FileFault) → IsBytes bytes → IsWhole found.kind → program_of bytes ≡ Err found →
+    BeginsFile (with_field found bytes) → ⊥
 none_begins_so bytes found fits whole e begins =
     program_and_fault (with_field found bytes ++ begins.0) begins.1 (found, fault_is_decided bytes begins.0 found fits whole e)
 
-pub right_before : (bytes : List ℕ) (found : FileFault) → IsBytes bytes → IsWhole found.kind → (found.kind ≡ fault.AfterEnd → ⊥) → program_of bytes ≡ Err found →
+pub right_before : (bytes : List ℕ) (found : FileFault) → IsBytes bytes → IsWhole found.kind → (found.kind ≡ fault.AfterEnd → ⊥) →
+    program_of bytes ≡ Err found →
     program_of (before_field found bytes) ≡ Err (fault_at found.at fault.Short)
 right_before bytes found fits whole other e =
     let at = held bytes found fits whole e in
@@ -107,7 +115,8 @@ right_before bytes found fits whole other e =
 read_to_file : (bytes : List ℕ) (file : ProgramFile) → IsBytes bytes → file_of (length bytes) bytes ≡ Ok file → HasProgram bytes
 read_to_file bytes file fits e = (file, file_read bytes file fits (field_by_field (length bytes) bytes ∙ e))
 
-pub whole_before : (bytes : List ℕ) (found : FileFault) → IsBytes bytes → found.kind ≡ fault.AfterEnd → program_of bytes ≡ Err found → HasProgram (before_field found bytes)
+pub whole_before : (bytes : List ℕ) (found : FileFault) → IsBytes bytes → found.kind ≡ fault.AfterEnd → program_of bytes ≡ Err found →
+    HasProgram (before_field found bytes)
 whole_before bytes found fits late e =
     let at = held bytes found fits (λ short. absurd (let no : fault.Short ≡ fault.AfterEnd = sym short ∙ late in cc)) e in
     let same = kind_is bytes found at in
@@ -116,51 +125,66 @@ whole_before bytes found fits late e =
     subst HasProgram (sym (before_is bytes found at)) (read_to_file at.before done.0 low done.1)
 
 -- the field at fault is behind the beginning of a good file
-begins_at : (based : Bool) (bytes : List ℕ) (found : FileFault) (at : FaultAt ProgramFile file_of (EndsWell based ProgramFile file_of) (length bytes) bytes found) → IsBytes bytes → before_field found bytes ≡ at.before →
+begins_at : (based : Bool) (bytes : List ℕ)
+    (found : FileFault) (at : FaultAt ProgramFile file_of (EndsWell based ProgramFile file_of) (length bytes) bytes found) → IsBytes bytes →
+    before_field found bytes ≡ at.before →
     has_good_beginning based at.kind ≡ true → BeginsFile (before_field found bytes)
 begins_at based bytes found at fits same sure =
     let can : CanEnd ProgramFile file_of at.before = at.noted sure in
     let low : IsBytes at.before = subst IsBytes same (IsBytes-take found.at bytes fits) in
     let all : List ℕ = at.before ++ can.more in
-    subst BeginsFile (sym same) (can.more, read_to_file all (can.ends (length all)).0 (IsBytes-append at.before can.more low can.fits) (can.ends (length all)).1)
+    subst BeginsFile (sym same)
+    (can.more, read_to_file all (can.ends (length all)).0 (IsBytes-append at.before can.more low can.fits) (can.ends (length all)).1)
 
 -- where it is
-before_at : (based : Bool) (bytes : List ℕ) (found : FileFault) (at : FaultAt ProgramFile file_of (EndsWell based ProgramFile file_of) (length bytes) bytes found) → before_field found bytes ≡ at.before
+before_at : (based : Bool) (bytes : List ℕ)
+    (found : FileFault) (at : FaultAt ProgramFile file_of (EndsWell based ProgramFile file_of) (length bytes) bytes found) →
+    before_field found bytes ≡ at.before
 before_at based bytes found at =
-    let parts : length bytes ≡ length at.before + length (at.field ++ at.rest) = ap length at.parts ∙ length-append at.before (at.field ++ at.rest) in
+    let parts : length bytes ≡ length at.before + length (at.field ++ at.rest) =
+    ap length at.parts ∙ length-append at.before (at.field ++ at.rest) in
     let place : found.at ≡ length bytes - length (at.field ++ at.rest) = ap place_of at.is in
     let stands : found.at ≡ length at.before = omega (arith, parts, place) in
     ap (λ (n : ℕ). take n bytes) stands ∙ ap (take (length at.before)) at.parts ∙ take-append_seam at.before (at.field ++ at.rest)
 
-begins_by : (based : Bool) (bytes : List ℕ) (found : FileFault) → IsBytes bytes → has_good_beginning based found.kind ≡ true → Missed ProgramFile file_of (EndsWell based ProgramFile file_of) (length bytes) bytes found →
+begins_by : (based : Bool) (bytes : List ℕ) (found : FileFault) → IsBytes bytes → has_good_beginning based found.kind ≡ true →
+    Missed ProgramFile file_of (EndsWell based ProgramFile file_of) (length bytes) bytes found →
     BeginsFile (before_field found bytes)
-begins_by based bytes found fits sure (inl short) = absurd (let no : false ≡ true = sym (ap (λ (f : FileFault). has_good_beginning based f.kind) short) ∙ sure in cc)
+begins_by based bytes found fits sure (inl short) =
+    absurd (let no : false ≡ true = sym (ap (λ (f : FileFault). has_good_beginning based f.kind) short) ∙ sure in cc)
 begins_by based bytes found fits sure (inr at) =
-    begins_at based bytes found at fits (before_at based bytes found at) (sym (ap (λ (f : FileFault). has_good_beginning based f.kind) at.is) ∙ sure)
+    begins_at based bytes found at fits (before_at based bytes found at)
+    (sym (ap (λ (f : FileFault). has_good_beginning based f.kind) at.is) ∙ sure)
 
-named_word : (size : ℕ) (bytes rest : List ℕ) (o : Option ℕ) (form : ProgramForm) → elim o as (λ _. Option ProgramForm) [ None ↦ None | Some word ↦ form_of word ] ≡ Some form →
+named_word : (size : ℕ) (bytes rest : List ℕ) (o : Option ℕ) (form : ProgramForm) →
+    elim o as (λ _. Option ProgramForm) [ None ↦ None | Some word ↦ form_of word ] ≡ Some form →
     (number_or_cut size o rest >>= λ word. form_or_magic size bytes (form_of word.0) word.1) ≡ Ok (form, rest)
 named_word size bytes rest None form e = absurd (cc)
 named_word size bytes rest (Some word) form e = ap (λ (o : Option ProgramForm). form_or_magic size bytes o rest) e
 
-named_form : (size : ℕ) (bytes : List ℕ) (form : ProgramForm) → form_named bytes ≡ Some form → form_field size bytes ≡ Ok (form, drop 4 bytes)
+named_form : (size : ℕ) (bytes : List ℕ) (form : ProgramForm) → form_named bytes ≡ Some form →
+    form_field size bytes ≡ Ok (form, drop 4 bytes)
 unfolding form_field
 named_form size bytes form e = named_word size bytes (drop 4 bytes) (number_at bytes) form e
 
-pub begins_before : (bytes : List ℕ) (found : FileFault) → IsBytes bytes → has_good_beginning (is_based (form_named bytes)) found.kind ≡ true → program_of bytes ≡ Err found → BeginsFile (before_field found bytes)
+pub begins_before : (bytes : List ℕ) (found : FileFault) → IsBytes bytes → has_good_beginning (is_based (form_named bytes)) found.kind
+    ≡ true → program_of bytes ≡ Err found → BeginsFile (before_field found bytes)
 begins_before bytes found fits sure e = by_form (form_named bytes) refl sure
   where
-    by_form : (o : Option ProgramForm) → form_named bytes ≡ o → has_good_beginning (is_based o) found.kind ≡ true → BeginsFile (before_field found bytes)
+    by_form : (o : Option ProgramForm) → form_named bytes ≡ o → has_good_beginning (is_based o) found.kind ≡ true →
+        BeginsFile (before_field found bytes)
     by_form None is sure = begins_by false bytes found fits sure (standing bytes found fits e)
     by_form (Some Spanned) is sure = begins_by false bytes found fits sure (standing bytes found fits e)
     by_form (Some (Based layout)) is sure =
         begins_by true bytes found fits sure
-        (subst (λ (r : Result ProgramFile FileFault). FileGoes true ProgramFile file_of (length bytes) bytes r) (sym (field_by_field (length bytes) bytes) ∙ e)
+        (subst (λ (r : Result ProgramFile FileFault). FileGoes true ProgramFile file_of (length bytes) bytes r)
+        (sym (field_by_field (length bytes) bytes) ∙ e)
         (based_file_goes (length bytes) bytes layout (drop 4 bytes) fits (named_form (length bytes) bytes (Based layout) is)))
 
 -- ---- files that are cut
 
-pub short_at_its_end : (bytes : List ℕ) (found : FileFault) → IsBytes bytes → found.kind ≡ fault.Short → program_of bytes ≡ Err found → found.at ≡ length bytes
+pub short_at_its_end : (bytes : List ℕ) (found : FileFault) → IsBytes bytes → found.kind ≡ fault.Short → program_of bytes ≡ Err found →
+    found.at ≡ length bytes
 short_at_its_end bytes found fits short e =
     elim (standing bytes found fits e) [
       | inl is ↦ ap place_of is
@@ -177,14 +201,16 @@ not_late : (found : FileFault) (place : ℕ) → found.kind ≡ fault.Short → 
 not_late found place short e =
     let late : fault.AfterEnd ≡ fault.Short = ap kind_of (same_fault (fault_at place fault.AfterEnd) found e) ∙ short in cc
 
-module _ (front rest : List ℕ) (found : FileFault) (fits : IsBytes front) (short : found.kind ≡ fault.Short) (e : program_of (front ++ rest) ≡ Err found) where
+module _ (front rest : List ℕ) (found : FileFault) (fits : IsBytes front) (short : found.kind ≡ fault.Short)
+    (e : program_of (front ++ rest) ≡ Err found) where
   not_good : (file : ProgramFile) → program_of front ≡ Ok file → (rest : List ℕ) → program_of (front ++ rest) ≡ Err found → ⊥
   not_good file good [] bad =
       let both : failed found ≡ Ok file = sym bad ∙ ap program_of (append-nil front) ∙ good in cc
   not_good file good (byte ∷ more) bad =
       let n : ℕ = length (front ++ byte ∷ more) in
       let after =
-      subst (λ (r : Result ProgramFile FileFault). FileGoes false ProgramFile file_of (length front) front r) (sym (field_by_field (length front) front) ∙ good) (file_goes (length front) front fits) in
+      subst (λ (r : Result ProgramFile FileFault). FileGoes false ProgramFile file_of (length front) front r)
+      (sym (field_by_field (length front) front) ∙ good) (file_goes (length front) front fits) in
       not_late found (n - length (byte ∷ more)) short (sym (after n byte more) ∙ sym (field_by_field n (front ++ byte ∷ more)) ∙ bad)
 
   not_wrong : (other : FileFault) → Held front other → ⊥
@@ -203,8 +229,10 @@ module _ (front rest : List ℕ) (found : FileFault) (fits : IsBytes front) (sho
         | inr at ↦ absurd (not_wrong other at)
       ]
 
-pub beginnings_are_short : (bytes : List ℕ) (found : FileFault) (count : ℕ) → IsBytes bytes → found.kind ≡ fault.Short → program_of bytes ≡ Err found → count ≤ length bytes →
+pub beginnings_are_short : (bytes : List ℕ) (found : FileFault) (count : ℕ) → IsBytes bytes → found.kind ≡ fault.Short →
+    program_of bytes ≡ Err found → count ≤ length bytes →
     program_of (take count bytes) ≡ Err (fault_at count fault.Short)
 beginnings_are_short bytes found count fits short e few =
-    front_is_short (take count bytes) (drop count bytes) found (IsBytes-take count bytes fits) short (ap program_of (take-append-drop count bytes) ∙ e) (program_of (take count bytes)) refl
+    front_is_short (take count bytes) (drop count bytes) found (IsBytes-take count bytes fits) short
+    (ap program_of (take-append-drop count bytes) ∙ e) (program_of (take count bytes)) refl
     ∙ ap (λ (n : ℕ). Err (fault_at n fault.Short)) (length-take-le count bytes few)

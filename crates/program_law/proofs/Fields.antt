@@ -1,5 +1,6 @@
 -- The fields of a program file, each with what it gives where it is right.
-use Rattle.std.proofs.Common.{◌≡◌, ℕ, zero, suc, ◌+◌, ◌*◌, ◌%◌, ◌^◌, ◌<◌, ◌≤◌, inl, inr, Bool, true, false, cond, List, [], ◌∷◌, ◌++◌, length, take, drop, Option, Some, None, Ok, Err, refl, sym, ap, subst, ◌∙◌, arith, length-append}
+use Rattle.std.proofs.Common.{◌≡◌, ℕ, zero, suc, ◌+◌, ◌*◌, ◌%◌, ◌^◌, ◌<◌, ◌≤◌, inl, inr, Bool, true, false, cond, List, [], ◌∷◌, ◌++◌}
+use Rattle.std.proofs.Common.{length, take, drop, Option, Some, None, Ok, Err, refl, sym, ap, subst, ◌∙◌, arith, length-append}
 use Rattle.std.specs.Prelude.{nat_le, nat_lt, not, ◌&&◌, ◌==◌}
 use Rattle.std.proofs.lemmas.Bool.{leb-true, le-leb}
 use Rattle.std.proofs.lemmas.List.{drop_at, length-take-le, take-append-drop}
@@ -12,9 +13,12 @@ use Rattle.capture_file.specs.declared.program.Layout.{Layout}
 use Rattle.capture_file.specs.declared.program.Layout.TheVariants.{Paged, Chunked}
 use Rattle.capture_file.specs.declared.program.ProgramForm.{ProgramForm}
 use Rattle.capture_file.proofs.SpansRead.{words_length}
-use Rattle.capture_file.specs.Programs.{Field, ◌>>=◌, cut, judged, number_field, form_field, form_of, form_or_magic, base_field, base_fault, word_count_field, word_count_fault, words_in}
-use Rattle.capture_file.specs.Programs.{words_field, chunk_count_field, chunk_count_fault, page_field, page_fault, long_chunk_field, address_fault, length_fault, is_length, chunk_field, chunks_field}
-use Rattle.capture_file.specs.Programs.{entry_fault, entry_field, span_address_fault, span_address_field, span_field, span_length_fault, span_length_field, span_number_fault, span_number_field, spanned_field, spans_field, without_grants}
+use Rattle.capture_file.specs.Programs.{Field, ◌>>=◌, cut, judged, number_field, form_field, form_of, form_or_magic, base_field, base_fault}
+use Rattle.capture_file.specs.Programs.{word_count_field, word_count_fault, words_in}
+use Rattle.capture_file.specs.Programs.{words_field, chunk_count_field, chunk_count_fault, page_field, page_fault, long_chunk_field}
+use Rattle.capture_file.specs.Programs.{address_fault, length_fault, is_length, chunk_field, chunks_field}
+use Rattle.capture_file.specs.Programs.{entry_fault, entry_field, span_address_fault, span_address_field, span_field, span_length_fault}
+use Rattle.capture_file.specs.Programs.{span_length_field, span_number_fault, span_number_field, spanned_field, spans_field, without_grants}
 use Rattle.capture_file.proofs.FourBytes.{number_low}
 use Rattle.program_law.specs.Beginnings.{IsWhole, field_width, has_good_beginning}
 use Rattle.program_law.proofs.Judging.{Reader, FieldGoes, Inside, IsField, field_then}
@@ -33,7 +37,9 @@ AtFront before kind = (before ≡ []) × (kind ≡ fault.AfterEnd → ⊥)
 pub AtFront-inside : Inside AtFront
 AtFront-inside before kind noted late = noted.1 late
 
-module _ (A : Type 0) (value : ℕ → A) (wrongs : ℕ → Option FileKind) (Known : A → Type 0) (Noted : List ℕ → FileKind → Type 0) (of : (n : ℕ) (kind : FileKind) → wrongs n ≡ Some kind → IsOfNumber kind × Noted [] kind) (known : (n : ℕ) → wrongs n ≡ None → n < 2 ^ 32 → Known (value n)) where
+module _ (A : Type 0) (value : ℕ → A) (wrongs : ℕ → Option FileKind) (Known : A → Type 0)
+    (Noted : List ℕ → FileKind → Type 0) (of : (n : ℕ) (kind : FileKind) → wrongs n ≡ Some kind → IsOfNumber kind × Noted [] kind)
+    (known : (n : ℕ) → wrongs n ≡ None → n < 2 ^ 32 → Known (value n)) where
   abbrev pub judged_number : Reader (A × List ℕ)
   judged_number size bytes = number_field size bytes >>= λ x. judged (wrongs x.0) size bytes >>= λ _. Ok (value x.0, x.1)
 
@@ -48,12 +54,14 @@ module _ (A : Type 0) (value : ℕ → A) (wrongs : ℕ → Option FileKind) (Kn
       n = little_number 4 (a ∷ b ∷ c ∷ d ∷ [])
 
       by_fault : (k : Option FileKind) → wrongs (little_number 4 (a ∷ b ∷ c ∷ d ∷ [])) ≡ k →
-          FieldGoes A judged_number Known Noted size (a ∷ b ∷ c ∷ d ∷ rest) (judged k size (a ∷ b ∷ c ∷ d ∷ rest) >>= λ _. Ok (value (little_number 4 (a ∷ b ∷ c ∷ d ∷ [])), rest))
+          FieldGoes A judged_number Known Noted size (a ∷ b ∷ c ∷ d ∷ rest)
+          (judged k size (a ∷ b ∷ c ∷ d ∷ rest) >>= λ _. Ok (value (little_number 4 (a ∷ b ∷ c ∷ d ∷ [])), rest))
       by_fault None right =
           record {
             front = a ∷ b ∷ c ∷ d ∷ [];
             parts = refl;
-            again = λ m more. ap (λ (k : Option FileKind). judged k m (a ∷ b ∷ c ∷ d ∷ more) >>= λ _. Ok (value (little_number 4 (a ∷ b ∷ c ∷ d ∷ [])), more)) right;
+            again = λ m more. ap (λ (k : Option FileKind). judged k m (a ∷ b ∷ c ∷ d ∷ more) >>= λ _.
+                Ok (value (little_number 4 (a ∷ b ∷ c ∷ d ∷ [])), more)) right;
             known = known (little_number 4 (a ∷ b ∷ c ∷ d ∷ [])) right (number_low a b c d rest fits);
           }
       by_fault (Some kind) is_wrong =
@@ -69,7 +77,8 @@ module _ (A : Type 0) (value : ℕ → A) (wrongs : ℕ → Option FileKind) (Kn
             width = number.width;
             is = refl;
             whole = number.whole;
-            again = λ m more. ap (λ (k : Option FileKind). judged k m (a ∷ b ∷ c ∷ d ∷ more) >>= λ _. Ok (value (little_number 4 (a ∷ b ∷ c ∷ d ∷ [])), more)) is_wrong;
+            again = λ m more. ap (λ (k : Option FileKind). judged k m (a ∷ b ∷ c ∷ d ∷ more) >>= λ _.
+                Ok (value (little_number 4 (a ∷ b ∷ c ∷ d ∷ [])), more)) is_wrong;
             cut_before = λ other m. refl;
             done_before = λ late m. absurd (number.inside late);
             noted = found.1;
@@ -78,7 +87,8 @@ module _ (A : Type 0) (value : ℕ → A) (wrongs : ℕ → Option FileKind) (Kn
 -- ---- the first word
 
 form_goes_at : (size : ℕ) (a b c d : ℕ) (rest : List ℕ) (l : Option ProgramForm) → form_of (little_number 4 (a ∷ b ∷ c ∷ d ∷ [])) ≡ l →
-    FieldGoes ProgramForm form_field (λ form. Unit {0}) AtFront size (a ∷ b ∷ c ∷ d ∷ rest) (form_or_magic size (a ∷ b ∷ c ∷ d ∷ rest) l rest)
+    FieldGoes ProgramForm form_field (λ form. Unit {0}) AtFront size (a ∷ b ∷ c ∷ d ∷ rest)
+    (form_or_magic size (a ∷ b ∷ c ∷ d ∷ rest) l rest)
 unfolding form_field
 form_goes_at size a b c d rest (Some form) named =
     record {
@@ -141,16 +151,19 @@ pub word_count_goes : (base : ℕ) → IsField ℕ (λ size. word_count_field si
 unfolding word_count_field
 word_count_goes base =
     number_goes ℕ (λ n. n) (word_count_fault base) (λ count. word_count_fault base count ≡ None) AtFront
-    (one_fault (λ n. nat_le n 1048576 && nat_le (base + 4 * n) (2 ^ 32)) fault.Count AtFront count_is (refl, count_is.inside)) (λ n right low. right)
+    (one_fault (λ n. nat_le n 1048576 && nat_le (base + 4 * n) (2 ^ 32)) fault.Count AtFront count_is (refl, count_is.inside))
+    (λ n right low. right)
 
 pub chunk_count_goes : (Noted : List ℕ → FileKind → Type 0) → Noted [] fault.Count → IsField ℕ chunk_count_field (λ count. Unit {0}) Noted
 unfolding chunk_count_field
 chunk_count_goes Noted noted =
-    number_goes ℕ (λ n. n) chunk_count_fault (λ count. Unit {0}) Noted (one_fault (λ n. nat_le n 4096) fault.Count Noted count_is noted) (λ n right low. tt)
+    number_goes ℕ (λ n. n) chunk_count_fault (λ count. Unit {0}) Noted (one_fault (λ n. nat_le n 4096) fault.Count Noted count_is noted)
+    (λ n right low. tt)
 
 -- ---- the words
 
-words_back : (count : ℕ) (bytes more : List ℕ) → 4 * count ≤ length bytes → words_in count (take (4 * count) bytes ++ more) ≡ words_in count bytes
+words_back : (count : ℕ) (bytes more : List ℕ) → 4 * count ≤ length bytes →
+    words_in count (take (4 * count) bytes ++ more) ≡ words_in count bytes
 words_back zero bytes more long = refl
 words_back (suc count) [] more long = absurd (omega arith)
 words_back (suc count) (a ∷ []) more long = absurd (omega arith)
@@ -162,7 +175,8 @@ words_back (suc count) (a ∷ b ∷ c ∷ d ∷ rest) more long =
     ∙ ap (λ (words : List ℕ). little_number 4 (a ∷ b ∷ c ∷ d ∷ []) ∷ words) (words_back count rest more (omega arith))
 
 words_at : (Noted : List ℕ → FileKind → Type 0) (size count : ℕ) (bytes : List ℕ) (b : Bool) → nat_le (4 * count) (length bytes) ≡ b →
-    FieldGoes (List ℕ) (λ n. words_field n count) (λ words. length words ≡ count) Noted size bytes (cond b (Ok (words_in count bytes, drop (4 * count) bytes)) (Err (cut size)))
+    FieldGoes (List ℕ) (λ n. words_field n count) (λ words. length words ≡ count) Noted size bytes
+    (cond b (Ok (words_in count bytes, drop (4 * count) bytes)) (Err (cut size)))
 unfolding words_field
 words_at Noted size count bytes true long =
     let le : 4 * count ≤ length bytes = leb-true (4 * count) (length bytes) long in
@@ -179,7 +193,8 @@ words_at Noted size count bytes true long =
     }
 words_at Noted size count bytes false short = inl refl
 
-pub words_go : (Noted : List ℕ → FileKind → Type 0) (count : ℕ) → IsField (List ℕ) (λ n. words_field n count) (λ words. length words ≡ count) Noted
+pub words_go : (Noted : List ℕ → FileKind → Type 0) (count : ℕ) →
+    IsField (List ℕ) (λ n. words_field n count) (λ words. length words ≡ count) Noted
 unfolding words_field
 words_go Noted count size bytes fits = words_at Noted size count bytes (nat_le (4 * count) (length bytes)) refl
 
@@ -211,7 +226,8 @@ length_is : IsOfChunk fault.Length
 length_is = record { number = record { width = refl; whole = λ e. absurd (cc); inside = λ e. absurd (cc) }; crowded = λ based. refl }
 
 -- a fault that is one of a chunk's, or one that is found after it
-first_or : (b : Bool) (kind other : FileKind) (later : Option FileKind) → IsOfChunk kind → (later ≡ Some other → IsOfChunk other) → cond b (Some kind) later ≡ Some other → IsOfChunk other
+first_or : (b : Bool) (kind other : FileKind) (later : Option FileKind) → IsOfChunk kind → (later ≡ Some other → IsOfChunk other) →
+    cond b (Some kind) later ≡ Some other → IsOfChunk other
 first_or true kind other later is more e = let same : kind ≡ other = cc in subst IsOfChunk same is
 first_or false kind other later is more e = more e
 
@@ -220,7 +236,8 @@ none_left kind e = absurd (cc)
 
 page_of : (program : RiscProgram) (from at : ℕ) (kind : FileKind) → page_fault program from at ≡ Some kind → IsOfChunk kind
 page_of program from at kind e =
-    first_or (not (at % 4096 == 0)) fault.Page kind (cond (nat_lt at from) (Some fault.Order) (cond (shares_byte program (chunk at 4096)) (Some fault.Overlap) None)) page_is
+    first_or (not (at % 4096 == 0)) fault.Page kind
+    (cond (nat_lt at from) (Some fault.Order) (cond (shares_byte program (chunk at 4096)) (Some fault.Overlap) None)) page_is
     (first_or (nat_lt at from) fault.Order kind (cond (shares_byte program (chunk at 4096)) (Some fault.Overlap) None) order_is
     (first_or (shares_byte program (chunk at 4096)) fault.Overlap kind None overlap_is (none_left kind))) e
 
@@ -234,7 +251,8 @@ length_of program sum at len kind e =
     first_or (not (is_length sum at len)) fault.Length kind (cond (shares_byte program (chunk at len)) (Some fault.Overlap) None) length_is
     (first_or (shares_byte program (chunk at len)) fault.Overlap kind None overlap_is (none_left kind)) e
 
-page_goes_at : (program : RiscProgram) (from size a b c d : ℕ) (rest : List ℕ) (k : Option FileKind) → page_fault program from (little_number 4 (a ∷ b ∷ c ∷ d ∷ [])) ≡ k →
+page_goes_at : (program : RiscProgram) (from size a b c d : ℕ) (rest : List ℕ) (k : Option FileKind) →
+    page_fault program from (little_number 4 (a ∷ b ∷ c ∷ d ∷ [])) ≡ k →
     FieldGoes Chunk (λ n. page_field n program from) Any Crowded size (a ∷ b ∷ c ∷ d ∷ rest)
     (judged k size (a ∷ b ∷ c ∷ d ∷ rest) >>= λ _. Ok (chunk (little_number 4 (a ∷ b ∷ c ∷ d ∷ [])) 4096, rest))
 unfolding page_field
@@ -242,7 +260,8 @@ page_goes_at program from size a b c d rest None right =
     record {
       front = a ∷ b ∷ c ∷ d ∷ [];
       parts = refl;
-      again = λ m more. ap (λ (k : Option FileKind). judged k m (a ∷ b ∷ c ∷ d ∷ more) >>= λ _. Ok (chunk (little_number 4 (a ∷ b ∷ c ∷ d ∷ [])) 4096, more)) right;
+      again = λ m more. ap (λ (k : Option FileKind). judged k m (a ∷ b ∷ c ∷ d ∷ more) >>= λ _.
+          Ok (chunk (little_number 4 (a ∷ b ∷ c ∷ d ∷ [])) 4096, more)) right;
       known = tt;
     }
 page_goes_at program from size a b c d rest (Some kind) is_wrong =
@@ -257,7 +276,8 @@ page_goes_at program from size a b c d rest (Some kind) is_wrong =
       width = of.number.width;
       is = refl;
       whole = of.number.whole;
-      again = λ m more. ap (λ (k : Option FileKind). judged k m (a ∷ b ∷ c ∷ d ∷ more) >>= λ _. Ok (chunk (little_number 4 (a ∷ b ∷ c ∷ d ∷ [])) 4096, more)) is_wrong;
+      again = λ m more. ap (λ (k : Option FileKind). judged k m (a ∷ b ∷ c ∷ d ∷ more) >>= λ _.
+          Ok (chunk (little_number 4 (a ∷ b ∷ c ∷ d ∷ [])) 4096, more)) is_wrong;
       cut_before = λ other m. refl;
       done_before = λ late m. absurd (of.number.inside late);
       noted = of.crowded;
@@ -269,7 +289,8 @@ page_goes program from size [] fits = inl refl
 page_goes program from size (a ∷ []) fits = inl refl
 page_goes program from size (a ∷ b ∷ []) fits = inl refl
 page_goes program from size (a ∷ b ∷ c ∷ []) fits = inl refl
-page_goes program from size (a ∷ b ∷ c ∷ d ∷ rest) fits = page_goes_at program from size a b c d rest (page_fault program from (little_number 4 (a ∷ b ∷ c ∷ d ∷ []))) refl
+page_goes program from size (a ∷ b ∷ c ∷ d ∷ rest) fits =
+    page_goes_at program from size a b c d rest (page_fault program from (little_number 4 (a ∷ b ∷ c ∷ d ∷ []))) refl
 
 -- an address, and the length behind it
 module _ (program : RiscProgram) (from sum a b c d : ℕ) where
@@ -277,21 +298,26 @@ module _ (program : RiscProgram) (from sum a b c d : ℕ) where
   at = little_number 4 (a ∷ b ∷ c ∷ d ∷ [])
 
   abbrev behind : ℕ → List ℕ → Field Chunk
-  behind size bytes = number_field size bytes >>= λ len. judged (length_fault program sum at len.0) size bytes >>= λ _. Ok (chunk at len.0, len.1)
+  behind size bytes =
+      number_field size bytes >>= λ len. judged (length_fault program sum at len.0) size bytes >>= λ _. Ok (chunk at len.0, len.1)
 
   abbrev Goes : ℕ → List ℕ → Field Chunk → Type 0
   Goes size bytes r = FieldGoes Chunk (λ n. long_chunk_field n program from sum) Any Crowded size bytes r
 
-  length_at : (right : address_fault from at ≡ None) (size e f g h : ℕ) (rest : List ℕ) (k : Option FileKind) → length_fault program sum at (little_number 4 (e ∷ f ∷ g ∷ h ∷ [])) ≡ k →
-      Goes size (a ∷ b ∷ c ∷ d ∷ e ∷ f ∷ g ∷ h ∷ rest) (judged k size (e ∷ f ∷ g ∷ h ∷ rest) >>= λ _. Ok (chunk at (little_number 4 (e ∷ f ∷ g ∷ h ∷ [])), rest))
+  length_at : (right : address_fault from at ≡ None) (size e f g h : ℕ) (rest : List ℕ) (k : Option FileKind) →
+      length_fault program sum at (little_number 4 (e ∷ f ∷ g ∷ h ∷ [])) ≡ k →
+      Goes size (a ∷ b ∷ c ∷ d ∷ e ∷ f ∷ g ∷ h ∷ rest)
+      (judged k size (e ∷ f ∷ g ∷ h ∷ rest) >>= λ _. Ok (chunk at (little_number 4 (e ∷ f ∷ g ∷ h ∷ [])), rest))
   unfolding long_chunk_field
   length_at right size e f g h rest None good =
       record {
         front = a ∷ b ∷ c ∷ d ∷ e ∷ f ∷ g ∷ h ∷ [];
         parts = refl;
         again =
-            λ m more. ap (λ (k : Option FileKind). judged k m (a ∷ b ∷ c ∷ d ∷ e ∷ f ∷ g ∷ h ∷ more) >>= λ _. behind m (e ∷ f ∷ g ∷ h ∷ more)) right
-            ∙ ap (λ (k : Option FileKind). judged k m (e ∷ f ∷ g ∷ h ∷ more) >>= λ _. Ok (chunk at (little_number 4 (e ∷ f ∷ g ∷ h ∷ [])), more)) good;
+            λ m more.
+            ap (λ (k : Option FileKind). judged k m (a ∷ b ∷ c ∷ d ∷ e ∷ f ∷ g ∷ h ∷ more) >>= λ _. behind m (e ∷ f ∷ g ∷ h ∷ more)) right
+            ∙ ap (λ (k : Option FileKind). judged k m (e ∷ f ∷ g ∷ h ∷ more)
+            >>= λ _. Ok (chunk at (little_number 4 (e ∷ f ∷ g ∷ h ∷ [])), more)) good;
         known = tt;
       }
   length_at right size e f g h rest (Some kind) is_wrong =
@@ -307,8 +333,10 @@ module _ (program : RiscProgram) (from sum a b c d : ℕ) where
         is = refl;
         whole = of.number.whole;
         again =
-            λ m more. ap (λ (k : Option FileKind). judged k m (a ∷ b ∷ c ∷ d ∷ e ∷ f ∷ g ∷ h ∷ more) >>= λ _. behind m (e ∷ f ∷ g ∷ h ∷ more)) right
-            ∙ ap (λ (k : Option FileKind). judged k m (e ∷ f ∷ g ∷ h ∷ more) >>= λ _. Ok (chunk at (little_number 4 (e ∷ f ∷ g ∷ h ∷ [])), more)) is_wrong;
+            λ m more.
+            ap (λ (k : Option FileKind). judged k m (a ∷ b ∷ c ∷ d ∷ e ∷ f ∷ g ∷ h ∷ more) >>= λ _. behind m (e ∷ f ∷ g ∷ h ∷ more)) right
+            ∙ ap (λ (k : Option FileKind). judged k m (e ∷ f ∷ g ∷ h ∷ more)
+            >>= λ _. Ok (chunk at (little_number 4 (e ∷ f ∷ g ∷ h ∷ [])), more)) is_wrong;
         cut_before = λ other m. ap (λ (k : Option FileKind). judged k m (a ∷ b ∷ c ∷ d ∷ []) >>= λ _. behind m []) right;
         done_before = λ late m. absurd (of.number.inside late);
         noted = of.crowded;
@@ -319,9 +347,11 @@ module _ (program : RiscProgram) (from sum a b c d : ℕ) where
   behind_at right size (e ∷ []) = inl refl
   behind_at right size (e ∷ f ∷ []) = inl refl
   behind_at right size (e ∷ f ∷ g ∷ []) = inl refl
-  behind_at right size (e ∷ f ∷ g ∷ h ∷ rest) = length_at right size e f g h rest (length_fault program sum at (little_number 4 (e ∷ f ∷ g ∷ h ∷ []))) refl
+  behind_at right size (e ∷ f ∷ g ∷ h ∷ rest) =
+      length_at right size e f g h rest (length_fault program sum at (little_number 4 (e ∷ f ∷ g ∷ h ∷ []))) refl
 
-  address_at : (size : ℕ) (rest : List ℕ) (k : Option FileKind) → address_fault from at ≡ k → Goes size (a ∷ b ∷ c ∷ d ∷ rest) (judged k size (a ∷ b ∷ c ∷ d ∷ rest) >>= λ _. behind size rest)
+  address_at : (size : ℕ) (rest : List ℕ) (k : Option FileKind) → address_fault from at ≡ k →
+      Goes size (a ∷ b ∷ c ∷ d ∷ rest) (judged k size (a ∷ b ∷ c ∷ d ∷ rest) >>= λ _. behind size rest)
   unfolding long_chunk_field
   address_at size rest None right = behind_at right size rest
   address_at size rest (Some kind) is_wrong =
@@ -351,22 +381,27 @@ long_chunk_goes program from sum size (a ∷ b ∷ c ∷ []) fits = inl refl
 long_chunk_goes program from sum size (a ∷ b ∷ c ∷ d ∷ rest) fits =
     address_at program from sum a b c d size rest (address_fault from (little_number 4 (a ∷ b ∷ c ∷ d ∷ []))) refl
 
-chunk_goes : (layout : Layout) (program : RiscProgram) (from sum : ℕ) → IsField Chunk (λ n. chunk_field layout n program from sum) Any Crowded
+chunk_goes : (layout : Layout) (program : RiscProgram) (from sum : ℕ) →
+    IsField Chunk (λ n. chunk_field layout n program from sum) Any Crowded
 chunk_goes Paged program from sum = page_goes program from
 chunk_goes Chunked program from sum = long_chunk_goes program from sum
 
 listed_goes : (c : Chunk) (chunks : List Chunk) → IsField (List Chunk) (λ n bytes. Ok (c ∷ chunks, bytes)) Any Crowded
 listed_goes c chunks size bytes fits = record { front = []; parts = refl; again = λ n more. refl; known = tt }
 
-pub chunks_go : (layout : Layout) (program : RiscProgram) (count from sum : ℕ) → IsField (List Chunk) (λ n. chunks_field layout n program count from sum) Any Crowded
+pub chunks_go : (layout : Layout) (program : RiscProgram) (count from sum : ℕ) →
+    IsField (List Chunk) (λ n. chunks_field layout n program count from sum) Any Crowded
 unfolding chunks_field
 chunks_go layout program zero from sum = λ size bytes fits. record { front = []; parts = refl; again = λ n more. refl; known = tt }
 chunks_go layout program (suc count) from sum =
     field_then Chunk (List Chunk) (λ n. chunk_field layout n program from sum)
-    (λ c n bytes. chunks_field layout n program count (c.at + c.len) (sum + c.len) bytes >>= λ others. Ok (c ∷ others.0, others.1)) Any Any Crowded (chunk_goes layout program from sum)
+    (λ c n bytes. chunks_field layout n program count (c.at + c.len) (sum + c.len) bytes >>= λ others. Ok (c ∷ others.0, others.1)) Any Any
+    Crowded (chunk_goes layout program from sum)
     (λ c known.
-    field_then (List Chunk) (List Chunk) (λ n. chunks_field layout n program count (c.at + c.len) (sum + c.len)) (λ others n bytes. Ok (c ∷ others, bytes)) Any Any Crowded
-    (chunks_go layout program count (c.at + c.len) (sum + c.len)) (λ others known. listed_goes c others) (λ front before kind noted. noted) Crowded-inside)
+    field_then (List Chunk) (List Chunk) (λ n. chunks_field layout n program count (c.at + c.len) (sum + c.len))
+    (λ others n bytes. Ok (c ∷ others, bytes)) Any Any Crowded
+    (chunks_go layout program count (c.at + c.len) (sum + c.len)) (λ others known. listed_goes c others)
+    (λ front before kind noted. noted) Crowded-inside)
     (λ front before kind noted. noted) Crowded-inside
 
 -- ---- the spans and the entry
@@ -378,9 +413,12 @@ Loose before kind = has_good_beginning false kind ≡ false
 pub Loose-inside : Inside Loose
 Loose-inside before kind loose late = let no : false ≡ true = sym loose ∙ ap (has_good_beginning false) late in cc
 
-two_faults : (b c : Bool) (first second other : FileKind) → IsOfNumber first × Loose [] first → IsOfNumber second × Loose [] second → cond b (Some first) (cond c (Some second) None) ≡ Some other → IsOfNumber other × Loose [] other
+two_faults : (b c : Bool) (first second other : FileKind) → IsOfNumber first × Loose [] first → IsOfNumber second × Loose [] second →
+    cond b (Some first) (cond c (Some second) None) ≡ Some other → IsOfNumber other × Loose [] other
 two_faults true c first second other is too e = let same : first ≡ other = cc in subst (λ (k : FileKind). IsOfNumber k × Loose [] k) same is
-two_faults false true first second other is too e = let same : second ≡ other = cc in subst (λ (k : FileKind). IsOfNumber k × Loose [] k) same too
+two_faults false true first second other is too e =
+    let same : second ≡ other = cc in
+    subst (λ (k : FileKind). IsOfNumber k × Loose [] k) same too
 two_faults false false first second other is too e = absurd (cc)
 
 entry_is : IsOfNumber fault.Entry
@@ -389,19 +427,22 @@ entry_is = record { width = refl; whole = λ e. absurd (cc); inside = λ e. absu
 span_number_goes : IsField ℕ span_number_field Any Loose
 unfolding span_number_field
 span_number_goes =
-    number_goes ℕ (λ n. n) span_number_fault Any Loose (one_fault (λ n. not (n == 0) && nat_le n 4096) fault.Count Loose count_is refl) (λ n right low. tt)
+    number_goes ℕ (λ n. n) span_number_fault Any Loose (one_fault (λ n. not (n == 0) && nat_le n 4096) fault.Count Loose count_is refl)
+    (λ n right low. tt)
 
 span_address_goes : (from : ℕ) → IsField ℕ (λ n. span_address_field n from) Any Loose
 unfolding span_address_field
 span_address_goes from =
     number_goes ℕ (λ n. n) (span_address_fault from) Any Loose
-    (λ n kind e. two_faults (not (n % 4 == 0)) (nat_lt n from) fault.Base fault.Order kind (base_is, refl) (order_is.number, refl) e) (λ n right low. tt)
+    (λ n kind e. two_faults (not (n % 4 == 0)) (nat_lt n from) fault.Base fault.Order kind (base_is, refl) (order_is.number, refl) e)
+    (λ n right low. tt)
 
 span_length_goes : (at sum : ℕ) → IsField ℕ (λ n. span_length_field n at sum) Any Loose
 unfolding span_length_field
 span_length_goes at sum =
     number_goes ℕ (λ n. n) (span_length_fault at sum) Any Loose
-    (one_fault (λ n. not (n == 0) && nat_le (sum + n) 1048576 && nat_le (at + 4 * n) (2 ^ 32)) fault.Count Loose count_is refl) (λ n right low. tt)
+    (one_fault (λ n. not (n == 0) && nat_le (sum + n) 1048576 && nat_le (at + 4 * n) (2 ^ 32)) fault.Count Loose count_is refl)
+    (λ n right low. tt)
 
 entry_goes : (spans : List Span) → IsField ℕ (λ n. entry_field n spans) Any Loose
 unfolding entry_field
@@ -418,11 +459,14 @@ turned front before kind loose = loose
 span_goes : (from sum : ℕ) → IsField Span (λ n. span_field n from sum) Any Loose
 unfolding span_field
 span_goes from sum =
-    field_then ℕ Span (λ n. span_address_field n from) (λ at n bytes. span_length_field n at sum bytes >>= λ count. words_field n count.0 count.1 >>= λ words. Ok (span at words.0, words.1)) Any Any Loose (span_address_goes from)
+    field_then ℕ Span (λ n. span_address_field n from) (λ at n bytes. span_length_field n at sum bytes
+    >>= λ count. words_field n count.0 count.1 >>= λ words. Ok (span at words.0, words.1)) Any Any Loose (span_address_goes from)
     (λ at known.
-    field_then ℕ Span (λ n. span_length_field n at sum) (λ count n bytes. words_field n count bytes >>= λ words. Ok (span at words.0, words.1)) Any Any Loose (span_length_goes at sum)
+    field_then ℕ Span (λ n. span_length_field n at sum)
+    (λ count n bytes. words_field n count bytes >>= λ words. Ok (span at words.0, words.1)) Any Any Loose (span_length_goes at sum)
     (λ count known.
-    field_then (List ℕ) Span (λ n. words_field n count) (λ words n bytes. Ok (span at words, bytes)) (λ words. length words ≡ count) Any Loose (words_go Loose count) (λ words known. given (span at words)) turned Loose-inside)
+    field_then (List ℕ) Span (λ n. words_field n count) (λ words n bytes. Ok (span at words, bytes))
+    (λ words. length words ≡ count) Any Loose (words_go Loose count) (λ words known. given (span at words)) turned Loose-inside)
     turned Loose-inside)
     turned Loose-inside
 
@@ -430,19 +474,25 @@ spans_go : (count from sum : ℕ) → IsField (List Span) (λ n. spans_field n c
 unfolding spans_field
 spans_go zero from sum = λ size bytes fits. record { front = []; parts = refl; again = λ n more. refl; known = tt }
 spans_go (suc count) from sum =
-    field_then Span (List Span) (λ n. span_field n from sum) (λ s n bytes. spans_field n count (end_of s + 1) (sum + length s.words) bytes >>= λ others. Ok (s ∷ others.0, others.1)) Any Any Loose (span_goes from sum)
+    field_then Span (List Span) (λ n. span_field n from sum)
+    (λ s n bytes. spans_field n count (end_of s + 1) (sum + length s.words) bytes >>= λ others. Ok (s ∷ others.0, others.1)) Any Any Loose
+    (span_goes from sum)
     (λ s known.
-    field_then (List Span) (List Span) (λ n. spans_field n count (end_of s + 1) (sum + length s.words)) (λ others n bytes. Ok (s ∷ others, bytes)) Any Any Loose
+    field_then (List Span) (List Span) (λ n. spans_field n count (end_of s + 1) (sum + length s.words))
+    (λ others n bytes. Ok (s ∷ others, bytes)) Any Any Loose
     (spans_go count (end_of s + 1) (sum + length s.words)) (λ others known. given (s ∷ others)) turned Loose-inside)
     turned Loose-inside
 
 pub spanned_goes : IsField RiscProgram spanned_field (λ placed. Unit {0}) Loose
 unfolding spanned_field
 spanned_goes =
-    field_then ℕ RiscProgram span_number_field (λ count n bytes. spans_field n count 0 0 bytes >>= λ spans. entry_field n spans.0 spans.1 >>= λ entry. Ok (without_grants entry.0 spans.0, entry.1)) Any Any Loose span_number_goes
+    field_then ℕ RiscProgram span_number_field (λ count n bytes. spans_field n count 0 0 bytes >>= λ spans. entry_field n spans.0 spans.1
+    >>= λ entry. Ok (without_grants entry.0 spans.0, entry.1)) Any Any Loose span_number_goes
     (λ count known.
-    field_then (List Span) RiscProgram (λ n. spans_field n count 0 0) (λ spans n bytes. entry_field n spans bytes >>= λ entry. Ok (without_grants entry.0 spans, entry.1)) Any Any Loose (spans_go count 0 0)
+    field_then (List Span) RiscProgram (λ n. spans_field n count 0 0)
+    (λ spans n bytes. entry_field n spans bytes >>= λ entry. Ok (without_grants entry.0 spans, entry.1)) Any Any Loose (spans_go count 0 0)
     (λ spans known.
-    field_then ℕ RiscProgram (λ n. entry_field n spans) (λ entry n bytes. Ok (without_grants entry spans, bytes)) Any Any Loose (entry_goes spans) (λ entry known. given (without_grants entry spans)) turned Loose-inside)
+    field_then ℕ RiscProgram (λ n. entry_field n spans) (λ entry n bytes. Ok (without_grants entry spans, bytes)) Any Any Loose
+    (entry_goes spans) (λ entry known. given (without_grants entry spans)) turned Loose-inside)
     turned Loose-inside)
     turned Loose-inside

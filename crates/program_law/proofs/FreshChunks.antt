@@ -1,5 +1,6 @@
 -- Where there is room, the beginning of a program file goes on to the end of a good file.
-use Rattle.std.proofs.Common.{◌≡◌, ℕ, zero, suc, ◌+◌, ◌-◌, ◌*◌, ◌/◌, ◌%◌, ◌^◌, max, min, ◌<◌, ◌≤◌, Bool, true, false, cond, ◌&&◌, ◌||◌, List, [], ◌∷◌, ◌++◌, length, refl, sym, ap, ◌∙◌, arith, append_assoc, length-append}
+use Rattle.std.proofs.Common.{◌≡◌, ℕ, zero, suc, ◌+◌, ◌-◌, ◌*◌, ◌/◌, ◌%◌, ◌^◌, max, min, ◌<◌, ◌≤◌, Bool, true, false, cond, ◌&&◌, ◌||◌}
+use Rattle.std.proofs.Common.{List, [], ◌∷◌, ◌++◌, length, refl, sym, ap, ◌∙◌, arith, append_assoc, length-append}
 use Rattle.std.specs.Prelude.{nat_le, ◌==◌}
 use Rattle.std.specs.List.{All, flat_map, list_all, list_any}
 use Rattle.std.proofs.lemmas.Bool.{le-ltb, leb-true, leb-false}
@@ -16,7 +17,8 @@ use Rattle.capture_file.specs.declared.program.Layout.{Layout}
 use Rattle.capture_file.specs.declared.program.Layout.TheVariants.{Paged, Chunked}
 use Rattle.capture_file.specs.declared.program.ProgramForm.{ProgramForm}
 use Rattle.capture_file.specs.declared.program.ProgramForm.TheVariants.{Based, Spanned}
-use Rattle.capture_file.specs.Programs.{chunk_in, form_for, layout_for, layout_of, name_of, placed_spelled, spelled, spelled_as, with_grants}
+use Rattle.capture_file.specs.Programs.{chunk_in, form_for, layout_for, layout_of, name_of, placed_spelled, spelled, spelled_as}
+use Rattle.capture_file.specs.Programs.{with_grants}
 use Rattle.capture_file.proofs.Spelled.{alone_is_one}
 use Rattle.program_law.specs.Beginnings.{BeginsFile}
 use Rattle.program_law.specs.Room.{HasRoom, StandIn, beginning, chunks_end, least_length, spans_end}
@@ -43,7 +45,8 @@ fresh_total : (layout : Layout) (at count : ℕ) → total (fresh (least_length 
 fresh_total Paged at count = page_total at count
 fresh_total Chunked at count = word_total at count
 
-fresh_rising : (len from at count : ℕ) → 4 ≤ len → len % 4 ≡ 0 → at % 4 ≡ 0 → from ≤ at → at + total (fresh len at count) ≤ 2 ^ 32 → AreRising from (fresh len at count)
+fresh_rising : (len from at count : ℕ) → 4 ≤ len → len % 4 ≡ 0 → at % 4 ≡ 0 → from ≤ at → at + total (fresh len at count) ≤ 2 ^ 32 →
+    AreRising from (fresh len at count)
 fresh_rising len from at zero some even aligned above ends = tt
 fresh_rising len from at (suc count) some even aligned above ends =
     let sum = total-cons (chunk at len) (fresh len (at + len) count) in (
@@ -53,12 +56,14 @@ fresh_rising len from at (suc count) some even aligned above ends =
     )
 
 -- chunks in a place where none shares a byte with the program
-fresh_beside : (program : RiscProgram) (from top len at count : ℕ) → ((c : Chunk) → from ≤ c.at → c.at + c.len ≤ top → shares_byte program c ≡ false) → from ≤ at → at + total (fresh len at count) ≤ top →
+fresh_beside : (program : RiscProgram) (from top len at count : ℕ) →
+    ((c : Chunk) → from ≤ c.at → c.at + c.len ≤ top → shares_byte program c ≡ false) → from ≤ at → at + total (fresh len at count) ≤ top →
     All (λ c. shares_byte program c ≡ false) (fresh len at count)
 fresh_beside program from top len at zero free above ends = All-nil (λ (c : Chunk). shares_byte program c ≡ false)
 fresh_beside program from top len at (suc count) free above ends =
     let sum = total-cons (chunk at len) (fresh len (at + len) count) in
-    All-cons (λ (c : Chunk). shares_byte program c ≡ false) (chunk at len) (fresh len (at + len) count) (free (chunk at len) above (omega (arith, sum, ends)))
+    All-cons (λ (c : Chunk). shares_byte program c ≡ false) (chunk at len) (fresh len (at + len) count)
+    (free (chunk at len) above (omega (arith, sum, ends)))
     (fresh_beside program from top len (at + len) count free (omega (arith, above)) (omega (arith, sum, ends)))
 
 fresh_pages : (at count : ℕ) → at % 4096 ≡ 0 → list_all is_page (fresh 4096 at count) ≡ true
@@ -78,7 +83,8 @@ no_pages : (at count : ℕ) → 0 < count → list_all is_page (fresh 4 at count
 no_pages at zero some = absurd (omega arith)
 no_pages at (suc count) some = rw (no_page at) refl
 
-rising_append : (from : ℕ) (chunks more : List Chunk) → AreRising from chunks → AreRising (chunks_end from chunks) more → AreRising from (chunks ++ more)
+rising_append : (from : ℕ) (chunks more : List Chunk) → AreRising from chunks → AreRising (chunks_end from chunks) more →
+    AreRising from (chunks ++ more)
 rising_append from [] more rising behind = behind
 rising_append from (c ∷ chunks) more rising behind = (rising.0, rising.1, rising_append (c.at + c.len) chunks more rising.2 behind)
 
@@ -97,11 +103,14 @@ pub record IsSpot (program : RiscProgram) (from at : ℕ) : Type 0 where
   pub free : (c : Chunk) → at ≤ c.at → c.at + c.len ≤ at + 2 ^ 24 → shares_byte program c ≡ false
 
 -- beside a program that begins alone
-met_as_one : (program : RiscProgram) (c : Chunk) → IsProgram program → begins_at program.base program.spans ≡ true → shares_byte program c ≡ is_met program.base (program.base + 4 * length (all_words program)) c
+met_as_one : (program : RiscProgram) (c : Chunk) → IsProgram program → begins_at program.base program.spans ≡ true →
+    shares_byte program c ≡ is_met program.base (program.base + 4 * length (all_words program)) c
 met_as_one program c made alone =
-    ap (λ (spans : List Span). list_any (λ s. is_met s.at (end_of s) c) spans) (alone_is_one program made.spans alone) ∙ shares_byte-one_span program.base (all_words program) [] c
+    ap (λ (spans : List Span). list_any (λ s. is_met s.at (end_of s) c) spans) (alone_is_one program made.spans alone)
+    ∙ shares_byte-one_span program.base (all_words program) [] c
 
-spot : (program : RiscProgram) (from : ℕ) (b : Bool) → IsProgram program → begins_at program.base program.spans ≡ true → nat_le ((from + 4095) / 4096 * 4096 + 2 ^ 24) program.base ≡ b → from ≤ 2 ^ 31 →
+spot : (program : RiscProgram) (from : ℕ) (b : Bool) → IsProgram program → begins_at program.base program.spans ≡ true →
+    nat_le ((from + 4095) / 4096 * 4096 + 2 ^ 24) program.base ≡ b → from ≤ 2 ^ 31 →
     IsSpot program from (spot_if b from)
 spot program from true made alone is low =
     let le = leb-true ((from + 4095) / 4096 * 4096 + 2 ^ 24) program.base is in
@@ -122,7 +131,8 @@ spot program from false made alone is low =
       ends = omega arith;
       free =
           λ c above ends. met_as_one program c made alone
-          ∙ le-ltb (max program.base c.at) (min (program.base + 4 * length (all_words program)) (c.at + c.len)) (omega (arith, lt, few, above));
+          ∙ le-ltb (max program.base c.at) (min (program.base + 4 * length (all_words program)) (c.at + c.len))
+          (omega (arith, lt, few, above));
     }
 
 -- behind all spans
@@ -133,14 +143,17 @@ later_end (s ∷ spans) from apart =
     let above = apart.0 in
     omega (arith, rest, above)
 
-none_met : (spans : List Span) (from last : ℕ) (c : Chunk) → AreApart from spans → spans_end last spans ≤ c.at → list_any (λ s. is_met s.at (end_of s) c) spans ≡ false
+none_met : (spans : List Span) (from last : ℕ) (c : Chunk) → AreApart from spans → spans_end last spans ≤ c.at →
+    list_any (λ s. is_met s.at (end_of s) c) spans ≡ false
 none_met [] from last c apart below = refl
 none_met (s ∷ spans) from last c apart below =
     let later = later_end spans (end_of s) apart.2 in
-    ap (λ (b : Bool). b || list_any (λ t. is_met t.at (end_of t) c) spans) (le-ltb (max s.at c.at) (min (end_of s) (c.at + c.len)) (omega (arith, later, below)))
+    ap (λ (b : Bool). b || list_any (λ t. is_met t.at (end_of t) c) spans)
+    (le-ltb (max s.at c.at) (min (end_of s) (c.at + c.len)) (omega (arith, later, below)))
     ∙ none_met spans (end_of s + 1) (end_of s) c apart.2 below
 
-high_spot : (program : RiscProgram) (from : ℕ) → IsProgram program → from ≤ 2 ^ 31 → spans_end 0 program.spans ≤ 2 ^ 31 → IsSpot program from (2 ^ 31)
+high_spot : (program : RiscProgram) (from : ℕ) → IsProgram program → from ≤ 2 ^ 31 → spans_end 0 program.spans ≤ 2 ^ 31 →
+    IsSpot program from (2 ^ 31)
 high_spot program from made low lower =
     record {
       above = low;
@@ -149,9 +162,11 @@ high_spot program from made low lower =
       free = λ c above ends. none_met program.spans 0 0 c made.spans (omega (arith, lower, above));
     }
 
-spot_of : (form : ProgramForm) (program : RiscProgram) (from : ℕ) → IsProgram program → StandIn form program → from ≤ 2 ^ 31 → (at : ℕ) × IsSpot program from at
+spot_of : (form : ProgramForm) (program : RiscProgram) (from : ℕ) → IsProgram program → StandIn form program → from ≤ 2 ^ 31 →
+    (at : ℕ) × IsSpot program from at
 spot_of (Based Paged) program from made stands low =
-    let b : Bool = nat_le ((from + 4095) / 4096 * 4096 + 2 ^ 24) program.base in (spot_if b from, spot program from b made stands.0 refl low)
+    let b : Bool = nat_le ((from + 4095) / 4096 * 4096 + 2 ^ 24) program.base in
+    (spot_if b from, spot program from b made stands.0 refl low)
 spot_of (Based Chunked) program from made stands low =
     let b : Bool = nat_le ((from + 4095) / 4096 * 4096 + 2 ^ 24) program.base in (spot_if b from, spot program from b made stands refl low)
 spot_of Spanned program from made stands low = (2 ^ 31, high_spot program from made low stands.1)
@@ -211,19 +226,23 @@ module _ (form : ProgramForm) (program : RiscProgram) (count : ℕ) (room : HasR
           small = omega (arith, both, sum, small);
           rising =
               rising_append 0 program.grants (Fresh at) made.grants.rising
-              (fresh_rising least from at left (length_fits (layout_of form)).0 (length_fits (layout_of form)).1 (omega (arith, aligned)) is.above (omega (arith, sum, less, ends)));
+              (fresh_rising least from at left (length_fits (layout_of form)).0 (length_fits (layout_of form)).1
+              (omega (arith, aligned)) is.above (omega (arith, sum, less, ends)));
         };
         apart = All-append Apart program.grants (Fresh at) made.apart (fresh_apart at is less);
       }
 
 -- the form of the whole
-layout_is : (layout : Layout) (chunks : List Chunk) (at left : ℕ) → (layout ≡ Paged → list_all is_page chunks ≡ true) → at % 4096 ≡ 0 → 0 < left → layout_for (chunks ++ fresh (least_length layout) at left) ≡ layout
+layout_is : (layout : Layout) (chunks : List Chunk) (at left : ℕ) → (layout ≡ Paged → list_all is_page chunks ≡ true) → at % 4096 ≡ 0 →
+    0 < left → layout_for (chunks ++ fresh (least_length layout) at left) ≡ layout
 layout_is Paged chunks at left form aligned some =
     ap (λ (t : Bool). cond t Paged Chunked)
-    (list_all-append is_page chunks (fresh 4096 at left) ∙ ap (λ (t : Bool). t && list_all is_page (fresh 4096 at left)) (form refl) ∙ fresh_pages at left aligned)
+    (list_all-append is_page chunks (fresh 4096 at left) ∙ ap (λ (t : Bool). t && list_all is_page (fresh 4096 at left)) (form refl)
+    ∙ fresh_pages at left aligned)
 layout_is Chunked chunks at left form aligned some =
     ap (λ (t : Bool). cond t Paged Chunked)
-    (list_all-append is_page chunks (fresh 4 at left) ∙ ap (λ (t : Bool). list_all is_page chunks && t) (no_pages at left some) ∙ never (list_all is_page chunks))
+    (list_all-append is_page chunks (fresh 4 at left) ∙ ap (λ (t : Bool). list_all is_page chunks && t) (no_pages at left some)
+    ∙ never (list_all is_page chunks))
   where
     never : (b : Bool) → (b && false) ≡ false
     never true = refl
@@ -232,17 +251,22 @@ layout_is Chunked chunks at left form aligned some =
 form_is : (form : ProgramForm) (program : RiscProgram) (at left : ℕ) → StandIn form program → at % 4096 ≡ 0 → 0 < left →
     form_for (with_grants program (program.grants ++ fresh (least_length (layout_of form)) at left)) ≡ form
 form_is (Based Paged) program at left stands aligned some =
-    ap (λ (b : Bool). cond b (Based (layout_for (program.grants ++ fresh 4096 at left))) Spanned) stands.0 ∙ ap Based (layout_is Paged program.grants at left (λ paged. stands.1) aligned some)
+    ap (λ (b : Bool). cond b (Based (layout_for (program.grants ++ fresh 4096 at left))) Spanned) stands.0
+    ∙ ap Based (layout_is Paged program.grants at left (λ paged. stands.1) aligned some)
 form_is (Based Chunked) program at left stands aligned some =
-    ap (λ (b : Bool). cond b (Based (layout_for (program.grants ++ fresh 4 at left))) Spanned) stands ∙ ap Based (layout_is Chunked program.grants at left (λ paged. absurd (cc)) aligned some)
-form_is Spanned program at left stands aligned some = ap (λ (b : Bool). cond b (Based (layout_for (program.grants ++ fresh 4 at left))) Spanned) stands.0
+    ap (λ (b : Bool). cond b (Based (layout_for (program.grants ++ fresh 4 at left))) Spanned) stands
+    ∙ ap Based (layout_is Chunked program.grants at left (λ paged. absurd (cc)) aligned some)
+form_is Spanned program at left stands aligned some =
+    ap (λ (b : Bool). cond b (Based (layout_for (program.grants ++ fresh 4 at left))) Spanned) stands.0
 
-still_placed : (form : ProgramForm) (program : RiscProgram) (grants : List Chunk) → placed_spelled form program ≡ placed_spelled form (with_grants program grants)
+still_placed : (form : ProgramForm) (program : RiscProgram) (grants : List Chunk) →
+    placed_spelled form program ≡ placed_spelled form (with_grants program grants)
 still_placed (Based layout) program grants = refl
 still_placed Spanned program grants = refl
 
 -- the bytes from left to right
-in_line : (front counted old new last : List ℕ) → (((front ++ counted) ++ old) ++ (new ++ last)) ≡ ((front ++ (counted ++ (old ++ new))) ++ last)
+in_line : (front counted old new last : List ℕ) →
+    (((front ++ counted) ++ old) ++ (new ++ last)) ≡ ((front ++ (counted ++ (old ++ new))) ++ last)
 in_line front counted old new last =
     append_assoc (front ++ counted) old (new ++ last)
     ∙ append_assoc front counted (old ++ (new ++ last))
@@ -250,7 +274,8 @@ in_line front counted old new last =
     ∙ ap (λ (zs : List ℕ). front ++ zs) (sym (append_assoc counted (old ++ new) last))
     ∙ sym (append_assoc front (counted ++ (old ++ new)) last)
 
-goes_on_at : (form : ProgramForm) (program : RiscProgram) (count : ℕ) (room : HasRoom form program count) (at : ℕ) → IsSpot program (chunks_end 0 program.grants) at → BeginsFile (beginning form program count)
+goes_on_at : (form : ProgramForm) (program : RiscProgram) (count : ℕ) (room : HasRoom form program count) (at : ℕ) →
+    IsSpot program (chunks_end 0 program.grants) at → BeginsFile (beginning form program count)
 unfolding spelled
 goes_on_at form program count room at is =
     let left : ℕ = count - length program.grants in
@@ -260,13 +285,15 @@ goes_on_at form program count room at is =
     let whole : RiscProgram = with_fresh form program count room at in
     let front : List ℕ = name_of form ++ placed_spelled form program in
     let more = room.more in
-    let counted : count ≡ length grants = omega (arith, length-append program.grants added, fresh-length (least_length layout) at left, more) in
+    let counted : count ≡ length grants =
+    omega (arith, length-append program.grants added, fresh-length (least_length layout) at left, more) in
     let own : form_for whole ≡ form = form_is form program at left room.stands is.aligned (omega (arith, more)) in
     let parts : beginning form program count ++ (flat_map (chunk_in layout) added ++ 0 ∷ []) ≡ spelled_as form whole 0 =
     in_line front (little_bytes 4 count) (flat_map (chunk_in layout) program.grants) (flat_map (chunk_in layout) added) (0 ∷ [])
     ∙ ap (λ (zs : List ℕ). (front ++ (little_bytes 4 count ++ zs)) ++ 0 ∷ []) (sym (flat_map-append (chunk_in layout) program.grants added))
     ∙ ap (λ (n : ℕ). (front ++ (little_bytes 4 n ++ flat_map (chunk_in layout) grants)) ++ 0 ∷ []) counted
-    ∙ ap (λ (zs : List ℕ). ((name_of form ++ zs) ++ (little_bytes 4 (length grants) ++ flat_map (chunk_in layout) grants)) ++ 0 ∷ []) (still_placed form program grants) in (
+    ∙ ap (λ (zs : List ℕ). ((name_of form ++ zs) ++ (little_bytes 4 (length grants) ++ flat_map (chunk_in layout) grants)) ++ 0 ∷ [])
+    (still_placed form program grants) in (
       flat_map (chunk_in layout) added ++ 0 ∷ [],
       (
         record { program = whole; fill = 0 },
@@ -278,7 +305,8 @@ goes_on_at form program count room at is =
       ),
     )
 
-pub beginning_goes_on : (form : ProgramForm) (program : RiscProgram) (count : ℕ) → HasRoom form program count → BeginsFile (beginning form program count)
+pub beginning_goes_on : (form : ProgramForm) (program : RiscProgram) (count : ℕ) → HasRoom form program count →
+    BeginsFile (beginning form program count)
 beginning_goes_on form program count room =
     let place = spot_of form program (chunks_end 0 program.grants) room.made room.stands room.low in
     goes_on_at form program count room place.0 place.1

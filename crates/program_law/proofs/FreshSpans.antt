@@ -1,5 +1,6 @@
 -- Where there is room for the spans that are counted, the beginning of a file up to some of them goes on to the end of a good file.
-use Rattle.std.proofs.Common.{◌≡◌, ℕ, zero, suc, ◌+◌, ◌-◌, ◌*◌, ◌/◌, ◌%◌, ◌^◌, ◌<◌, ◌≤◌, inl, inr, Bool, true, false, cond, List, [], ◌∷◌, ◌++◌, length, Some, refl, sym, ap, subst, ◌∙◌, arith, append_assoc, length-append}
+use Rattle.std.proofs.Common.{◌≡◌, ℕ, zero, suc, ◌+◌, ◌-◌, ◌*◌, ◌/◌, ◌%◌, ◌^◌, ◌<◌, ◌≤◌, inl, inr, Bool, true, false, cond, List, [], ◌∷◌}
+use Rattle.std.proofs.Common.{◌++◌, length, Some, refl, sym, ap, subst, ◌∙◌, arith, append_assoc, length-append}
 use Rattle.std.specs.Prelude.{slice_index}
 use Rattle.std.specs.List.{All, flat_map}
 use Rattle.std.proofs.lemmas.Bool.{cases_lt, ne_eqb}
@@ -8,7 +9,8 @@ use Rattle.std.proofs.lemmas.Grind.{flat_map-append}
 use Rattle.std.proofs.lemmas.List.Elements.{All-cons, All-nil}
 use Rattle.byteorder.specs.Endian.{little_bytes}
 use Rattle.page_table.specs.Grants.{Chunk}
-use Rattle.machine_model.specs.Paths.{begins_at, AreApart, BeginsAtWord, IsProgram, RiscProgram, Span, end_of, is_there, shares_byte, span, stands_in, word_among, words_of}
+use Rattle.machine_model.specs.Paths.{begins_at, AreApart, BeginsAtWord, IsProgram, RiscProgram, Span, end_of, is_there, shares_byte, span}
+use Rattle.machine_model.specs.Paths.{stands_in, word_among, words_of}
 use Rattle.machine_model.proofs.Spans.{stands_at}
 use Rattle.capture_file.specs.declared.program.ProgramForm.{ProgramForm}
 use Rattle.capture_file.specs.declared.program.ProgramForm.TheVariants.{Based, Spanned}
@@ -34,7 +36,8 @@ fresh_words at (suc count) = let rest = fresh_words (at + 12) count in omega ari
 
 two_zeros : All (λ word. word < 2 ^ 32) (0 ∷ 0 ∷ [])
 two_zeros =
-    All-cons (λ (word : ℕ). word < 2 ^ 32) 0 (0 ∷ []) (omega arith) (All-cons (λ (word : ℕ). word < 2 ^ 32) 0 [] (omega arith) (All-nil (λ (word : ℕ). word < 2 ^ 32)))
+    All-cons (λ (word : ℕ). word < 2 ^ 32) 0 (0 ∷ []) (omega arith)
+    (All-cons (λ (word : ℕ). word < 2 ^ 32) 0 [] (omega arith) (All-nil (λ (word : ℕ). word < 2 ^ 32)))
 
 fresh_apart : (from at count : ℕ) → from ≤ at → at % 4 ≡ 0 → at + 12 * count ≤ 2 ^ 32 → AreApart from (fresh at count)
 fresh_apart from at zero above aligned ends = tt
@@ -48,9 +51,11 @@ lower : (from other : ℕ) (spans : List Span) → from ≤ other → AreApart o
 lower from other [] le apart = tt
 lower from other (s ∷ spans) le apart = let above = apart.0 in (omega (arith, le, above), apart.1, apart.2)
 
-apart_append : (from last : ℕ) (spans more : List Span) → from ≤ last + 1 → AreApart from spans → AreApart (spans_end last spans + 1) more → AreApart from (spans ++ more)
+apart_append : (from last : ℕ) (spans more : List Span) → from ≤ last + 1 → AreApart from spans → AreApart (spans_end last spans + 1) more →
+    AreApart from (spans ++ more)
 apart_append from last [] more le apart behind = lower from (last + 1) more le behind
-apart_append from last (s ∷ spans) more le apart behind = (apart.0, apart.1, apart_append (end_of s + 1) (end_of s) spans more (omega arith) apart.2 behind)
+apart_append from last (s ∷ spans) more le apart behind =
+    (apart.0, apart.1, apart_append (end_of s + 1) (end_of s) spans more (omega arith) apart.2 behind)
 
 words_append : (spans more : List Span) → length (words_of (spans ++ more)) ≡ length (words_of spans) + length (words_of more)
 words_append [] more = omega arith
@@ -69,7 +74,8 @@ pub record IsEntry (spans : List Span) (entry : ℕ) : Type 0 where
   pub alone : begins_at entry spans ≡ false
 
 stands_there : (s : Span) (rest : List Span) (entry : ℕ) → stands_in s entry ≡ true → is_there (word_among (s ∷ rest) entry) ≡ true
-stands_there s rest entry stands = ap (λ (b : Bool). is_there (cond b (Some (slice_index s.words ((entry - s.at) / 4))) (word_among rest entry))) stands
+stands_there s rest entry stands =
+    ap (λ (b : Bool). is_there (cond b (Some (slice_index s.words ((entry - s.at) / 4))) (word_among rest entry))) stands
 
 entry_of : (spans : List Span) → AreApart 0 spans → 1 < length (words_of spans) → (entry : ℕ) × IsEntry spans entry
 entry_of [] apart some = absurd (omega arith)
@@ -102,7 +108,8 @@ entry_of (s ∷ other ∷ rest) apart some =
 
 -- ---- the whole program
 
-spans_made : (spans : List Span) (entry : ℕ) → AreApart 0 spans → length spans ≤ 4096 → length (words_of spans) ≤ 1048576 → IsEntry spans entry → IsProgram (without_grants entry spans)
+spans_made : (spans : List Span) (entry : ℕ) → AreApart 0 spans → length spans ≤ 4096 → length (words_of spans) ≤ 1048576 →
+    IsEntry spans entry → IsProgram (without_grants entry spans)
 spans_made spans entry apart many few is = record {
   aligned = is.aligned;
   low = is.low;
@@ -114,7 +121,8 @@ spans_made spans entry apart many few is = record {
   apart = All-nil (λ (c : Chunk). shares_byte (without_grants entry spans) c ≡ false);
 }
 
-goes_on_with : (count : ℕ) (spans more : List Span) (entry : ℕ) → count ≡ length (spans ++ more) → IsProgram (without_grants entry (spans ++ more)) → begins_at entry (spans ++ more) ≡ false → BeginsFile (span_beginning count spans)
+goes_on_with : (count : ℕ) (spans more : List Span) (entry : ℕ) → count ≡ length (spans ++ more) →
+    IsProgram (without_grants entry (spans ++ more)) → begins_at entry (spans ++ more) ≡ false → BeginsFile (span_beginning count spans)
 unfolding spelled
 goes_on_with count spans more entry counted made alone =
     let all : List Span = spans ++ more in
@@ -133,7 +141,10 @@ goes_on_with count spans more entry counted made alone =
     ∙ sym (in_line Spanned whole 0) in
     let own : form_for whole ≡ Spanned = ap (λ (b : Bool). cond b (Based (layout_for [])) Spanned) alone in (
       new ++ last,
-      (record { program = whole; fill = 0 }, record { parts = parts ∙ ap (λ (f : ProgramForm). spelled_as f whole 0) (sym own); made = made; fill = omega arith }),
+      (
+        record { program = whole; fill = 0 },
+        record { parts = parts ∙ ap (λ (f : ProgramForm). spelled_as f whole 0) (sym own); made = made; fill = omega arith },
+      ),
     )
 
 pub spans_go_on : (count : ℕ) (spans : List Span) → HasSpanRoom count spans → BeginsFile (span_beginning count spans)
@@ -152,11 +163,14 @@ spans_go_on count spans room =
     let counted : count ≡ length (spans ++ more) = omega (arith, lengths, fresh_len, fewer) in
     let words = words_append spans more in
     let new_words = fresh_words at left in
-    let apart = apart_append 0 0 spans more (omega arith) room.apart (fresh_apart (last + 1) at left (omega arith) (omega arith) (omega (arith, low, many))) in
+    let apart =
+    apart_append 0 0 spans more (omega arith) room.apart
+    (fresh_apart (last + 1) at left (omega arith) (omega arith) (omega (arith, low, many))) in
     let enough : 1 < length (words_of (spans ++ more)) =
     elim (cases_lt (length spans) count) [
       | inl less ↦ omega (arith, words, new_words, less)
       | inr whole ↦ (let two = room.entry (omega (arith, whole, fewer)) in omega (arith, words, two))
     ] in
     let entry = entry_of (spans ++ more) apart enough in
-    goes_on_with count spans more entry.0 counted (spans_made (spans ++ more) entry.0 apart (omega (arith, counted, many)) (omega (arith, words, new_words, few)) entry.1) entry.1.alone
+    goes_on_with count spans more entry.0 counted
+    (spans_made (spans ++ more) entry.0 apart (omega (arith, counted, many)) (omega (arith, words, new_words, few)) entry.1) entry.1.alone

@@ -9,7 +9,8 @@ use Rattle.capture_file.specs.declared.program.Layout.TheVariants.{Chunked, Page
 use Rattle.capture_file.specs.declared.program.ProgramForm.{ProgramForm}
 use Rattle.capture_file.specs.declared.program.ProgramForm.TheVariants.{Based, Spanned}
 use Rattle.capture_file.proofs.Spelled.{numbers_length}
-use Rattle.capture_file.specs.Programs.{HasProgram, chunk_in, form_for, grants_spelled, layout_of, name_of, numbers_spelled, placed_spelled, span_spelled, spelled, spelled_as}
+use Rattle.capture_file.specs.Programs.{HasProgram, chunk_in, form_for, grants_spelled, layout_of, name_of, numbers_spelled, placed_spelled}
+use Rattle.capture_file.specs.Programs.{span_spelled, spelled, spelled_as}
 use Rattle.program_law.specs.Room.{longest_file}
 
 span_length : (s : Span) → length (span_spelled s) ≡ 8 + 4 * length s.words
@@ -32,7 +33,8 @@ name_length (Based Paged) = refl
 name_length (Based Chunked) = refl
 name_length Spanned = refl
 
-placed_length : (form : ProgramForm) (program : RiscProgram) → IsProgram program → length (placed_spelled form program) ≤ 4 + 8 * 4096 + 4 * 1048576 + 4
+placed_length : (form : ProgramForm) (program : RiscProgram) → IsProgram program →
+    length (placed_spelled form program) ≤ 4 + 8 * 4096 + 4 * 1048576 + 4
 placed_length (Based layout) program made =
     let one = span_length (span program.base (all_words program)) in
     let few = made.few in
@@ -57,7 +59,8 @@ chunks_length layout (c ∷ chunks) =
     let rest = chunks_length layout chunks in
     omega (arith, all, one, rest)
 
-spelled_length : (form : ProgramForm) (program : RiscProgram) (fill : ℕ) → IsProgram program → length (spelled_as form program fill) ≤ longest_file
+spelled_length : (form : ProgramForm) (program : RiscProgram) (fill : ℕ) → IsProgram program →
+    length (spelled_as form program fill) ≤ longest_file
 spelled_length form program fill made =
     let all = length-append (name_of form ++ placed_spelled form program ++ grants_spelled (layout_of form) program.grants) (fill ∷ []) in
     let front = length-append (name_of form ++ placed_spelled form program) (grants_spelled (layout_of form) program.grants) in

@@ -42,7 +42,8 @@ one_form (Based layout) Spanned program own too = absurd (let no : true ≡ fals
 one_form Spanned (Based layout) program own too = absurd (let no : false ≡ true = sym own ∙ too.0 in cc)
 one_form Spanned Spanned program own too = refl
 
-pub one_spelling : (form other : ProgramForm) (file another : ProgramFile) → IsSpelledIn form file → IsSpelledIn other another → bytes_in form file ≡ bytes_in other another → (form ≡ other) × (file ≡ another)
+pub one_spelling : (form other : ProgramForm) (file another : ProgramFile) → IsSpelledIn form file → IsSpelledIn other another →
+    bytes_in form file ≡ bytes_in other another → (form ≡ other) × (file ≡ another)
 one_spelling form other file another is too e =
     let same : file ≡ another = ok_is file another (sym (spelled_back form file is) ∙ ap program_of e ∙ spelled_back other another too) in
     (one_form form other another.program (subst (λ (f : ProgramFile). IsOwnForm form f.program) same is.own) too.own, same)

@@ -6,14 +6,16 @@ ghost use Rattle.std.specs.Prelude.{◌≡◌, ◌<◌, ◌≤◌, ◌++◌, ◌
 ghost use Rattle.capture_file.specs.Programs.{HasProgram, program_of};
 ghost use Rattle.capture_file.specs.Streams.{fault_at};
 ghost use Rattle.capture_file.specs.declared.FileFault.{FileFault};
-ghost use Rattle.capture_file.specs.declared.FileKind.TheVariants.{AfterEnd, Base, Count, Entry, Length, Magic, Order, Overlap, Page, Pages, Short};
+ghost use Rattle.capture_file.specs.declared.FileKind.TheVariants.{AfterEnd, Base, Count, Entry, Length, Magic, Order, Overlap, Page};
+ghost use Rattle.capture_file.specs.declared.FileKind.TheVariants.{Pages, Short};
 ghost use Rattle.capture_file.specs.declared.program.ProgramForm.{ProgramForm};
 ghost use Rattle.capture_file.specs.declared.program.ProgramFile.{ProgramFile};
 ghost use Rattle.machine_model.specs.Paths.{RiscProgram, Span};
 ghost use Rattle.program_law.specs.Beginnings.{BeginsFile, IsWhole, before_field, form_named, has_good_beginning, is_based, with_field};
 ghost use Rattle.program_law.specs.Room.{HasRoom, HasSpanRoom, beginning, longest_file, span_beginning};
 ghost use Rattle.program_law.specs.Spelled.{IsSpelledIn, Spells, bytes_in};
-ghost use Rattle.program_law.specs.Worked.{IsAtFault, chunk_file, highest_first, line_file, lone_span, one_line, one_word_alone, two_spans, with_number, without_chunks};
+ghost use Rattle.program_law.specs.Worked.{IsAtFault, chunk_file, highest_first, line_file, lone_span, one_line, one_word_alone, two_spans};
+ghost use Rattle.program_law.specs.Worked.{with_number, without_chunks};
 
 /// What is spelled is read back: a program that can be made, with a fill, is read from its bytes in the form that is
 /// its own.
@@ -49,7 +51,8 @@ pub fn bytes_before_a_fault_are_right()
     ensures good { (bytes : List ℕ) (found : FileFault) → ((i : ℕ) → slice_index bytes i < 256) →
         found.kind ≡ AfterEnd → program_of bytes ≡ Err found → HasProgram (before_field found bytes) }
     ensures begins { (bytes : List ℕ) (found : FileFault) → ((i : ℕ) → slice_index bytes i < 256) →
-        has_good_beginning (is_based (form_named bytes)) found.kind ≡ true → program_of bytes ≡ Err found → BeginsFile (before_field found bytes) }
+        has_good_beginning (is_based (form_named bytes)) found.kind ≡ true → program_of bytes ≡ Err found →
+        BeginsFile (before_field found bytes) }
 {}
 
 /// A file that is short is short at its length, and so is each of its beginnings: no field that it holds whole is at

@@ -1,5 +1,6 @@
 -- Which ring a ring file describes, or its first fault.
-use Rattle.std.specs.Prelude.{◌≡◌, ℕ, ◌+◌, ◌*◌, ◌^◌, Bool, not, ◌&&◌, List, [], ◌∷◌, length, Option, Some, None, option_map, Result, Ok, Err, codes, bytes_eq, if◌then◌else◌, nat_le, nat_lt, ⊤}
+use Rattle.std.specs.Prelude.{◌≡◌, ℕ, ◌+◌, ◌*◌, ◌^◌, Bool, not, ◌&&◌, List, [], ◌∷◌, length, Option, Some, None, option_map, Result, Ok}
+use Rattle.std.specs.Prelude.{Err, codes, bytes_eq, if◌then◌else◌, nat_le, nat_lt, ⊤}
 use Rattle.std.specs.Int.{div_ceil}
 use Rattle.std.specs.List.{list_any, position}
 use Rattle.toml.specs.Data.{Members}
@@ -14,7 +15,8 @@ use Rattle.ring_model.specs.Rings.{Ring, bytes_of, memory_of, ring_program, ring
 use Rattle.ring_compile.specs.declared.fault.RingKey.{RingKey}
 use Rattle.ring_compile.specs.declared.fault.RingKey.TheVariants.{Blocks, Lines, LineBytes, Base, Pages, Fill}
 use Rattle.ring_compile.specs.declared.fault.RingFault.{RingFault}
-use Rattle.ring_compile.specs.declared.fault.RingFault.TheVariants.{NotToml, Unknown, Missing, WrongKind, OutOfRange, PageUnaligned, PageTwice, TooFewPages, ProgramBase, ProgramOnPage}
+use Rattle.ring_compile.specs.declared.fault.RingFault.TheVariants.{NotToml, Unknown, Missing, WrongKind, OutOfRange, PageUnaligned}
+use Rattle.ring_compile.specs.declared.fault.RingFault.TheVariants.{PageTwice, TooFewPages, ProgramBase, ProgramOnPage}
 use Rattle.ring_compile.specs.declared.fault.RingError.{RingError}
 use Rattle.ring_compile.specs.declared.fault.RingError.TheVariants.{Bad, Memory}
 

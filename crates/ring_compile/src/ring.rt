@@ -30,7 +30,14 @@ impl Model for Values {
 
     ghost Value = { Ring };
 
-    ghost view = { λ v. record { blocks = v.blocks; lines = v.lines; line_bytes = v.line_bytes; base = v.base; pages = v.pages; fill = v.fill } };
+    ghost view = { λ v. record {
+      blocks = v.blocks;
+      lines = v.lines;
+      line_bytes = v.line_bytes;
+      base = v.base;
+      pages = v.pages;
+      fill = v.fill;
+    } };
 }
 
 /// A ring whose file has no fault, with the words of its program. Contracts see the six values of its file.

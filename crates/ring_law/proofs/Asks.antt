@@ -1,5 +1,6 @@
 -- What the instructions of a ring ask of the queues, and what they store.
-use Rattle.std.proofs.Common.{All, Bool, List, None, [], arith, drop, false, length, length-drop, length-take, map, refl, suc, sym, take, take-append-drop, true, zero, ℕ, ◌%◌, ◌*◌, ◌++◌, ◌+◌, ◌<◌, ◌==◌, ◌∙◌, ◌∷◌, ◌≡◌, ap, subst}
+use Rattle.std.proofs.Common.{All, Bool, List, None, [], arith, drop, false, length, length-drop, length-take, map, refl, suc, sym, take}
+use Rattle.std.proofs.Common.{take-append-drop, true, zero, ℕ, ◌%◌, ◌*◌, ◌++◌, ◌+◌, ◌<◌, ◌==◌, ◌∙◌, ◌∷◌, ◌≡◌, ap, subst}
 use Rattle.std.proofs.lemmas.List.Elements.{All-drop, All-take}
 use Rattle.std.proofs.Math.Nat.{mod-lt}
 use Rattle.std.proofs.lemmas.List.{nil_from_length, map-append}
@@ -10,7 +11,8 @@ use Rattle.risc_word.specs.declared.Ctl.{Ctl}
 use Rattle.field_law.specs.CutLines.{CutLine, lines_asks, lines_rows, lines_stores}
 use Rattle.picture_model.proofs.Each.{Each, each_append, each_only}
 use Rattle.risc_word.specs.declared.Instr.{Instr}
-use Rattle.ring_model.specs.Rings.{IsRing, Ring, block_instrs, last_with, line_instrs, line_strip, lines_instrs, mark, memory_of, with_control}
+use Rattle.ring_model.specs.Rings.{IsRing, Ring, block_instrs, last_with, line_instrs, line_strip, lines_instrs, mark, memory_of}
+use Rattle.ring_model.specs.Rings.{with_control}
 use Rattle.ring_model.proofs.Writes.{IsWrite, block_writes}
 use Rattle.risc_word.specs.declared.Instr.TheVariants.{Jump, Skip, Skip123, Sync, Write, Write123, Write1S23, WriteC}
 use Rattle.fifo_model.specs.declared.Queue.TheVariants.{One, Three, Two}
@@ -53,11 +55,13 @@ other_asked Three (Write123 ctl line_ends off counts addrs) other quiet = absurd
 other_asked Three (Skip123 ctl line_ends counts) other quiet = absurd quiet
 other_asked Three (Write1S23 ctl line_ends off counts addr) other quiet = absurd quiet
 
-pub other_uses : (q : Queue) (instrs : List Instr) → IsOther q → Each IsQuiet instrs → UsesUp (asks q instrs) [] [] × (planned (asks q instrs) [] [] ≡ [])
+pub other_uses : (q : Queue) (instrs : List Instr) → IsOther q → Each IsQuiet instrs →
+    UsesUp (asks q instrs) [] [] × (planned (asks q instrs) [] [] ≡ [])
 other_uses q [] other quiet = ((refl, refl), refl)
 other_uses q (instr ∷ rest) other quiet =
     let later = other_uses q rest other quiet.1 in
-    subst (λ (first : Ask). UsesUp (first ∷ asks q rest) [] [] × (planned (first ∷ asks q rest) [] [] ≡ [])) (sym (other_asked q instr other quiet.0)) ((omega arith, later.0), later.1)
+    subst (λ (first : Ask). UsesUp (first ∷ asks q rest) [] [] × (planned (first ∷ asks q rest) [] [] ≡ []))
+    (sym (other_asked q instr other quiet.0)) ((omega arith, later.0), later.1)
 
 write_quiet : (instr : Instr) → IsWrite instr → IsQuiet instr
 write_quiet (Write ctl line_ends off count address) is_write = tt
@@ -76,9 +80,11 @@ lead_quiet r false = tt
 pub executed_quiet : (r : Ring) (number count : ℕ) → Each IsQuiet (executed r number count)
 executed_quiet r number zero = tt
 executed_quiet r number (suc count) =
-    each_append IsQuiet (lead r number) (block_instrs r (number % r.blocks) ++ executed r (suc number) count) (lead_quiet r (round_before r number == r.blocks))
+    each_append IsQuiet (lead r number) (block_instrs r (number % r.blocks) ++ executed r (suc number) count)
+    (lead_quiet r (round_before r number == r.blocks))
     (each_append IsQuiet (block_instrs r (number % r.blocks)) (executed r (suc number) count)
-    (each_only IsWrite IsQuiet (block_instrs r (number % r.blocks)) write_quiet (block_writes r (number % r.blocks))) (executed_quiet r (suc number) count))
+    (each_only IsWrite IsQuiet (block_instrs r (number % r.blocks)) write_quiet (block_writes r (number % r.blocks)))
+    (executed_quiet r (suc number) count))
 
 -- ---- the first queue
 
@@ -117,14 +123,17 @@ abbrev pub ring_stores : Ring → ℕ → ℕ → List (List ℕ) → List Store
 ring_stores r number zero lines = []
 ring_stores r number (suc count) lines = block_stores r number (take r.lines lines) ++ ring_stores r (suc number) count (drop r.lines lines)
 
-strips_lines : (r : Ring) (first from count : ℕ) → lines_instrs r (first + from) count ≡ strips_instrs (memory_of r) (map (λ j. line_strip r (first + j)) (range_with_len from count))
+strips_lines : (r : Ring) (first from count : ℕ) →
+    lines_instrs r (first + from) count ≡ strips_instrs (memory_of r) (map (λ j. line_strip r (first + j)) (range_with_len from count))
 strips_lines r first from zero = refl
 strips_lines r first from (suc count) =
     let next : first + from + 1 ≡ first + (from + 1) = omega arith in
-    ap (λ (rest : List Instr). line_instrs r (first + from) ++ rest) (ap (λ (n : ℕ). lines_instrs r n count) next ∙ strips_lines r first (from + 1) count)
+    ap (λ (rest : List Instr). line_instrs r (first + from) ++ rest)
+    (ap (λ (n : ℕ). lines_instrs r n count) next ∙ strips_lines r first (from + 1) count)
 
 module _ (r : Ring) (is : IsRing r) where
-  line_carries : (block : ℕ) → block < r.blocks → (j : ℕ) (bytes : List ℕ) → j < r.lines → length bytes ≡ r.line_bytes → Carries (memory_of r) One (strip_of r block j) bytes
+  line_carries : (block : ℕ) → block < r.blocks → (j : ℕ) (bytes : List ℕ) → j < r.lines → length bytes ≡ r.line_bytes →
+      Carries (memory_of r) One (strip_of r block j) bytes
   line_carries block below j bytes within long =
       let some = is.line_bytes.0 in
       let inside = block_lines block r.lines r.blocks below in
@@ -137,11 +146,13 @@ module _ (r : Ring) (is : IsRing r) where
         any = omega arith;
       }
 
-  pub block_carries : (block : ℕ) → block < r.blocks → (lines : List (List ℕ)) → length lines ≡ r.lines → AreLong r lines → CarriesAll (memory_of r) One (strip_of r block) 0 lines
+  pub block_carries : (block : ℕ) → block < r.blocks → (lines : List (List ℕ)) → length lines ≡ r.lines → AreLong r lines →
+      CarriesAll (memory_of r) One (strip_of r block) 0 lines
   block_carries block below lines many long =
       carries_all (memory_of r) One (strip_of r block) r.lines r.line_bytes 0 lines (line_carries block below) (omega arith) long
 
-  block_asks : (block : ℕ) → block < r.blocks → (lines : List (List ℕ)) → length lines ≡ r.lines → AreLong r lines → asks One (block_instrs r block) ≡ lines_asks (block_lines_cut r block lines)
+  block_asks : (block : ℕ) → block < r.blocks → (lines : List (List ℕ)) → length lines ≡ r.lines → AreLong r lines →
+      asks One (block_instrs r block) ≡ lines_asks (block_lines_cut r block lines)
   block_asks block below lines many long =
       let from : block * r.lines ≡ block * r.lines + 0 = omega arith in
       last_asks (mark block) (lines_instrs r (block * r.lines) r.lines)
@@ -151,18 +162,23 @@ module _ (r : Ring) (is : IsRing r) where
       ∙ all_ask (memory_of r) One (strip_of r block) 0 lines (block_carries block below lines many long)
 
   -- what a JUMP before a block asks is nothing
-  lead_uses : (again : Bool) (instrs : List Instr) (tokens : List Token) → UsesUp (asks One instrs) [] tokens → UsesUp (asks One (lead_by r again ++ instrs)) [] tokens
+  lead_uses : (again : Bool) (instrs : List Instr) (tokens : List Token) → UsesUp (asks One instrs) [] tokens →
+      UsesUp (asks One (lead_by r again ++ instrs)) [] tokens
   lead_uses true instrs tokens uses = (omega arith, uses)
   lead_uses false instrs tokens uses = uses
 
-  lead_planned : (again : Bool) (instrs : List Instr) (tokens : List Token) → planned (asks One (lead_by r again ++ instrs)) [] tokens ≡ planned (asks One instrs) [] tokens
+  lead_planned : (again : Bool) (instrs : List Instr) (tokens : List Token) →
+      planned (asks One (lead_by r again ++ instrs)) [] tokens ≡ planned (asks One instrs) [] tokens
   lead_planned true instrs tokens = refl
   lead_planned false instrs tokens = refl
 
-  rows_split : (block : ℕ) (lines : List (List ℕ)) → map (λ line. Row line) lines ≡ lines_rows (block_lines_cut r block (take r.lines lines)) ++ map (λ line. Row line) (drop r.lines lines)
+  rows_split : (block : ℕ) (lines : List (List ℕ)) → map (λ line. Row line) lines
+      ≡ lines_rows (block_lines_cut r block (take r.lines lines)) ++ map (λ line. Row line) (drop r.lines lines)
   rows_split block lines =
-      ap (map (λ (line : List ℕ). Row line)) (sym (take-append-drop r.lines lines)) ∙ map-append (λ (line : List ℕ). Row line) (take r.lines lines) (drop r.lines lines)
-      ∙ ap (λ (rows : List Token). rows ++ map (λ (line : List ℕ). Row line) (drop r.lines lines)) (sym (all_rows (memory_of r) One (strip_of r block) 0 (take r.lines lines)))
+      ap (map (λ (line : List ℕ). Row line)) (sym (take-append-drop r.lines lines))
+      ∙ map-append (λ (line : List ℕ). Row line) (take r.lines lines) (drop r.lines lines)
+      ∙ ap (λ (rows : List Token). rows ++ map (λ (line : List ℕ). Row line) (drop r.lines lines))
+      (sym (all_rows (memory_of r) One (strip_of r block) 0 (take r.lines lines)))
 
   -- the lines of as many blocks are used up, and stored in their order
   pub lines_use : (number count : ℕ) (lines : List (List ℕ)) → length lines ≡ count * r.lines → AreLong r lines →
@@ -170,7 +186,8 @@ module _ (r : Ring) (is : IsRing r) where
       × (planned (asks One (executed r number count)) [] (map (λ line. Row line) lines) ≡ ring_stores r number count lines)
   lines_use number zero lines many long =
       let none : lines ≡ [] = nil_from_length lines (omega arith) in
-      subst (λ (lines : List (List ℕ)). UsesUp [] [] (map (λ line. Row line) lines) × (planned [] [] (map (λ line. Row line) lines) ≡ [])) (sym none) ((refl, refl), refl)
+      subst (λ (lines : List (List ℕ)). UsesUp [] [] (map (λ line. Row line) lines) × (planned [] [] (map (λ line. Row line) lines) ≡ []))
+      (sym none) ((refl, refl), refl)
   lines_use number (suc count) lines many long =
       let some = is.blocks.0 in
       let block = number % r.blocks in
@@ -179,17 +196,22 @@ module _ (r : Ring) (is : IsRing r) where
       let rest = drop r.lines lines in
       let first_many : length first ≡ r.lines = omega (arith, length-take r.lines lines) in
       let first_long : AreLong r first = All-take (λ line. length line ≡ r.line_bytes) r.lines lines long in
-      let later = lines_use (suc number) count rest (omega (arith, length-drop r.lines lines)) (All-drop (λ line. length line ≡ r.line_bytes) r.lines lines long) in
+      let later =
+      lines_use (suc number) count rest (omega (arith, length-drop r.lines lines))
+      (All-drop (λ line. length line ≡ r.line_bytes) r.lines lines long) in
       let cut = block_lines_cut r block first in
       let covered = all_covered (memory_of r) One (strip_of r block) 0 first (block_carries block below first first_many first_long) in
-      let body : asks One (block_instrs r block ++ executed r (suc number) count) ≡ lines_asks cut ++ asks One (executed r (suc number) count) =
-      asks-append One (block_instrs r block) (executed r (suc number) count) ∙ ap (λ (first : List Ask). first ++ asks One (executed r (suc number) count)) (block_asks block below first first_many first_long) in
+      let body : asks One (block_instrs r block ++ executed r (suc number) count)
+      ≡ lines_asks cut ++ asks One (executed r (suc number) count) =
+      asks-append One (block_instrs r block) (executed r (suc number) count)
+      ∙ ap (λ (first : List Ask). first ++ asks One (executed r (suc number) count)) (block_asks block below first first_many first_long) in
       let rows = rows_split block lines in (
         lead_uses (round_before r number == r.blocks) (block_instrs r block ++ executed r (suc number) count) (map (λ line. Row line) lines)
             (subst (λ (asking : List Ask). UsesUp asking [] (map (λ line. Row line) lines)) (sym body)
             (subst (UsesUp (lines_asks cut ++ asks One (executed r (suc number) count)) []) (sym rows)
             (lines_used IsUsedUp cut (asks One (executed r (suc number) count)) (map (λ line. Row line) rest) covered later.0))),
-        lead_planned (round_before r number == r.blocks) (block_instrs r block ++ executed r (suc number) count) (map (λ line. Row line) lines)
+        lead_planned (round_before r number == r.blocks) (block_instrs r block ++ executed r (suc number) count)
+            (map (λ line. Row line) lines)
             ∙ ap (λ (asking : List Ask). planned asking [] (map (λ line. Row line) lines)) body
             ∙ ap (planned (lines_asks cut ++ asks One (executed r (suc number) count)) []) rows
             ∙ lines_planned cut (asks One (executed r (suc number) count)) (map (λ line. Row line) rest) covered

@@ -1,5 +1,6 @@
 -- The law of rings.
-use Rattle.std.proofs.Common.{All, Bool, List, None, Some, [], append_assoc, arith, false, if◌then◌else◌, inl, inr, length, length-append, map, refl, suc, sym, true, ℕ, ◌%◌, ◌*◌, ◌++◌, ◌+◌, ◌<◌, ◌∙◌, ◌∷◌, ◌≡◌, ap, subst}
+use Rattle.std.proofs.Common.{All, Bool, List, None, Some, [], append_assoc, arith, false, if◌then◌else◌, inl, inr, length, length-append}
+use Rattle.std.proofs.Common.{map, refl, suc, sym, true, ℕ, ◌%◌, ◌*◌, ◌++◌, ◌+◌, ◌<◌, ◌∙◌, ◌∷◌, ◌≡◌, ap, subst}
 use Rattle.field_law.specs.Arrivals.{AreKept, HasCode, meeting, over_queues, pushed_in}
 use Rattle.page_table.specs.Blocks.{Block}
 use Rattle.field_law.specs.Fields.{Brings, Mark, Row, Token}
@@ -64,7 +65,8 @@ kept_front m (x ∷ xs) ys kept =
     let rest = kept_front (step x m) xs ys here.1 in
     (here.0, subst (λ (program : RiscProgram). AreKept (step x m) (meeting program xs)) (program-step x m) rest)
 
-module _ (r : Ring) (lines : List (List ℕ)) (m : State) (early : List Step) (block : ℕ) (e : EndsBlock r lines m early block) (Rests : List Entry → Type 0)
+module _ (r : Ring) (lines : List (List ℕ)) (m : State) (early : List Step) (block : ℕ) (e : EndsBlock r lines m early block)
+    (Rests : List Entry → Type 0)
     (grows : (rest : List Entry) → Rests rest → Rests (rest ++ [])) where
   abbrev number : ℕ
   number = block_ends (ends r) m early
@@ -105,17 +107,21 @@ module _ (r : Ring) (lines : List (List ℕ)) (m : State) (early : List Step) (b
 
     abbrev RanTo : List Step → (Queue → List Entry) → Type 0
     RanTo early later =
-        Ran (ring_program r) (ends r) s (ring_field given.lines) uses Rests grows final all_left begins all_left (block_ends (ends r) m early) later (run m early)
+        Ran (ring_program r) (ends r) s (ring_field given.lines) uses Rests grows final all_left begins all_left
+        (block_ends (ends r) m early) later (run m early)
 
     -- the machine at a place of the run
-    ran : (first second : List Step) → steps ≡ first ++ second → block_ends (ends r) m first < suc number → All IsStep first → RanTo first (to_come second given.pad)
+    ran : (first second : List Step) → steps ≡ first ++ second → block_ends (ends r) m first < suc number → All IsStep first →
+        RanTo first (to_come second given.pad)
     ran first second split few made =
         let later = λ (q : Queue). pushed_in second q ++ given.pad q in
         let bound = 5 * suc (length s.body) + 1 + over_queues (λ q. length (given.before q) + length (given.entries q)) in
-        let fits : JobFits m.skipping m.target (Waiting no_control true Fm1) = subst (λ (job : Job). JobFits m.skipping m.target job) e.runs.waits e.orderly.job in
+        let fits : JobFits m.skipping m.target (Waiting no_control true Fm1) =
+        subst (λ (job : Job). JobFits m.skipping m.target job) e.runs.waits e.orderly.job in
         let long = ended_long r 0 (suc number) in
         let kept = kept_front m first second (subst (λ (steps : List Step). AreKept m (meeting m.program steps)) split e.runs.kept) in
-        runs (ring_program r) (ends r) s (ring_field given.lines) uses Rests grows final all_left begins first later all_left bound m e.orderly e.runs.program made kept (omega arith)
+        runs (ring_program r) (ends r) s (ring_field given.lines) uses Rests grows final all_left begins first later all_left bound m
+        e.orderly e.runs.program made kept (omega arith)
         (inl (
           record {
             on = e.runs.risc_on;
@@ -130,7 +136,8 @@ module _ (r : Ring) (lines : List (List ℕ)) (m : State) (early : List Step) (b
                 λ q.
                 ap (λ (more : List Entry). (queue_state q m.queues).entries ++ more)
                 (sym (append_assoc (pushed_in first q) (pushed_in second q) (given.pad q))
-                ∙ ap (λ (pushed : List Entry). pushed ++ given.pad q) (sym (pushed_in-append first second q) ∙ ap (λ (steps : List Step). pushed_in steps q) (sym split)))
+                ∙ ap (λ (pushed : List Entry). pushed ++ given.pad q)
+                (sym (pushed_in-append first second q) ∙ ap (λ (steps : List Step). pushed_in steps q) (sym split)))
                 ∙ given.order q;
             unmarked = given.unmarked;
             brings = given.brings;
@@ -142,7 +149,8 @@ module _ (r : Ring) (lines : List (List ℕ)) (m : State) (early : List Step) (b
 
     -- ---- no turn sets FDSR
 
-    pub quiet_at : (first second : List Step) → steps ≡ first ++ Turn ∷ second → block_ends (ends r) m first < suc number → All IsStep first → sets_fdsr (run m first) ≡ false
+    pub quiet_at : (first second : List Step) → steps ≡ first ++ Turn ∷ second → block_ends (ends r) m first < suc number →
+        All IsStep first → sets_fdsr (run m first) ≡ false
     quiet_at first second split few made =
         let h = ran first (Turn ∷ second) split few made in
         let acted : State = with_interrupts 0 (run m first) in
@@ -153,17 +161,20 @@ module _ (r : Ring) (lines : List (List ℕ)) (m : State) (early : List Step) (b
         let t =
         turn-TurnSteps (ring_program r) (ends r) s (ring_field given.lines) uses Rests grows final all_left begins h.left_after
         (to_come (Turn ∷ second) given.pad) h.next acted
-        (record { job = known.job; queues = known.queues; triggered = known.triggered }) (omega (arith, length-append h.ended h.left_after)) h.same h.reached in
+        (record { job = known.job; queues = known.queues; triggered = known.triggered })
+        (omega (arith, length-append h.ended h.left_after)) h.same h.reached in
         t.quiet
 
     -- ---- at the block end
 
     ended_in : (left : List ℕ) (next : ℕ) (now : State) → left ≡ number % r.blocks ∷ [] → block_end (ends r) now Turn ≡ Some block →
-        IsReachedRing (ring_program r) (ends r) s (ring_field given.lines) uses Rests grows final all_left begins left (to_come (Turn ∷ []) given.pad) next now →
+        IsReachedRing (ring_program r) (ends r) s (ring_field given.lines) uses Rests grows final all_left begins left
+        (to_come (Turn ∷ []) given.pad) next now →
         Ended final block (number % r.blocks) now × UsedUp Rests (to_come (Turn ∷ []) given.pad) now
     ended_in left next now last ends_block (inl h) =
         let none : block_end (ends r) now Turn ≡ None =
-        ap (λ (on : Bool). if on then ended_by (ends r) now.job now.pc else None) h.0.on ∙ ap (λ (job : Job). ended_by (ends r) job now.pc) h.0.waits in
+        ap (λ (on : Bool). if on then ended_by (ends r) now.job now.pc else None) h.0.on
+        ∙ ap (λ (job : Job). ended_by (ends r) job now.pc) h.0.waits in
         cc
     ended_in left next now last ends_block (inr h) =
         block_end-Ended (ring_program r) (ends r) Rests final (to_come (Turn ∷ []) given.pad) block (number % r.blocks) next now ends_block
@@ -173,5 +184,6 @@ module _ (r : Ring) (lines : List (List ℕ)) (m : State) (early : List Step) (b
     ended =
         let h = ran early (Turn ∷ []) refl (omega arith) e.made in
         let none : 0 + number ≡ number = omega arith in
-        let last : h.left_after ≡ number % r.blocks ∷ [] = last_ended r 0 number h.ended h.left_after h.split h.long ∙ ap (λ (n : ℕ). n % r.blocks ∷ []) none in
+        let last : h.left_after ≡ number % r.blocks ∷ [] =
+        last_ended r 0 number h.ended h.left_after h.split h.long ∙ ap (λ (n : ℕ). n % r.blocks ∷ []) none in
         ended_in h.left_after h.next (run m early) last e.ends h.reached

@@ -22,7 +22,15 @@ makes_made final memory stores One made rest split h =
     record { one = sym (stored_all-append memory made rest) ∙ ap (stored_all memory) (sym split) ∙ h.one; two = h.two; three = h.three }
 makes_made final memory stores Two made rest split h =
     let none = front_none made rest (sym h.two ∙ split) in
-    record { one = ap (λ (made : List Store). stored_all (stored_all memory made) (stores One)) none.0 ∙ h.one; two = none.1; three = h.three }
+    record {
+      one = ap (λ (made : List Store). stored_all (stored_all memory made) (stores One)) none.0 ∙ h.one;
+      two = none.1;
+      three = h.three;
+    }
 makes_made final memory stores Three made rest split h =
     let none = front_none made rest (sym h.three ∙ split) in
-    record { one = ap (λ (made : List Store). stored_all (stored_all memory made) (stores One)) none.0 ∙ h.one; two = h.two; three = none.1 }
+    record {
+      one = ap (λ (made : List Store). stored_all (stored_all memory made) (stores One)) none.0 ∙ h.one;
+      two = h.two;
+      three = none.1;
+    }

@@ -1,6 +1,7 @@
 -- What the first queue is brought, made up to as many lines as the block ends take: entries that never come finish the
 -- unfinished line and bring further ones.
-use Rattle.std.proofs.Common.{All, List, [], append_assoc, arith, drop, length, length-append, map, refl, replicate, suc, sym, take, take-append-drop, zero, ℕ, ◌++◌, ◌+◌, ◌-◌, ◌<◌, ◌∙◌, ◌∷◌, ◌≡◌, subst, ap}
+use Rattle.std.proofs.Common.{All, List, [], append_assoc, arith, drop, length, length-append, map, refl, replicate, suc, sym, take}
+use Rattle.std.proofs.Common.{take-append-drop, zero, ℕ, ◌++◌, ◌+◌, ◌-◌, ◌<◌, ◌∙◌, ◌∷◌, ◌≡◌, subst, ap}
 use Rattle.std.proofs.lemmas.List.Elements.{All-append, All-cons, All-nil}
 use Rattle.std.proofs.lemmas.List.{length-replicate, map-append}
 use Rattle.fifo_model.specs.declared.Entry.{Entry}
@@ -43,13 +44,15 @@ abbrev pub copies : ℕ → List Entry → List Entry
 copies zero entries = []
 copies (suc count) entries = entries ++ copies count entries
 
-copies_bring : (count : ℕ) (line : List ℕ) (entries : List Entry) → IsLine line entries → Brings (map Row (replicate count line)) (copies count entries)
+copies_bring : (count : ℕ) (line : List ℕ) (entries : List Entry) → IsLine line entries →
+    Brings (map Row (replicate count line)) (copies count entries)
 copies_bring zero line entries is = refl
 copies_bring (suc count) line entries is = (entries, copies count entries, refl, is, copies_bring count line entries is)
 
 copies_long : (bytes count : ℕ) (line : List ℕ) → length line ≡ bytes → All (λ line. length line ≡ bytes) (replicate count line)
 copies_long bytes zero line long = All-nil (λ line. length line ≡ bytes)
-copies_long bytes (suc count) line long = All-cons (λ line. length line ≡ bytes) line (replicate count line) long (copies_long bytes count line long)
+copies_long bytes (suc count) line long =
+    All-cons (λ line. length line ≡ bytes) line (replicate count line) long (copies_long bytes count line long)
 
 -- ---- lines that came whole
 
@@ -60,7 +63,8 @@ pub record Whole (wanted : ℕ) (lines : List (List ℕ)) (entries : List Entry)
   pub split : entries ≡ front ++ back
   pub brings : Brings (Mark Fm1 ∷ map Row (take wanted lines)) front
 
-pub whole_lines : (wanted : ℕ) (lines : List (List ℕ)) (entries : List Entry) → Brings (Mark Fm1 ∷ map Row lines) entries → Whole wanted lines entries
+pub whole_lines : (wanted : ℕ) (lines : List (List ℕ)) (entries : List Entry) → Brings (Mark Fm1 ∷ map Row lines) entries →
+    Whole wanted lines entries
 whole_lines wanted lines entries all =
     let rows : map Row lines ≡ map Row (take wanted lines) ++ map Row (drop wanted lines) =
     ap (map Row) (sym (take-append-drop wanted lines)) ∙ map-append Row (take wanted lines) (drop wanted lines) in
@@ -79,7 +83,8 @@ pub record Padded (wanted bytes : ℕ) (entries unfinished : List Entry) : Type 
   pub some : 0 < length pad
   pub brings : Brings (Mark Fm1 ∷ map Row lines) (entries ++ (unfinished ++ pad))
 
-pub pads : (wanted bytes : ℕ) (lines : List (List ℕ)) (entries unfinished : List Entry) → length lines < wanted → All (λ line. length line ≡ bytes) lines →
+pub pads : (wanted bytes : ℕ) (lines : List (List ℕ)) (entries unfinished : List Entry) → length lines < wanted →
+    All (λ line. length line ≡ bytes) lines →
     Brings (Mark Fm1 ∷ map Row lines) entries → IsUnfinished bytes unfinished → Padded wanted bytes entries unfinished
 pads wanted bytes lines entries unfinished few long brings last =
     let more = wanted - (length lines + 1) in
@@ -93,7 +98,10 @@ pads wanted bytes lines entries unfinished few long brings last =
       pad = last.missing ++ copies more whole;
       some = omega (arith, length-append last.missing (copies more whole));
       brings =
-          subst (λ (rows : List Token). Brings (Mark Fm1 ∷ rows) (entries ++ (unfinished ++ (last.missing ++ copies more whole)))) (sym (map-append Row lines (replicate (suc more) line)))
-          (subst (λ (more_entries : List Entry). Brings ((Mark Fm1 ∷ map Row lines) ++ map Row (replicate (suc more) line)) (entries ++ more_entries)) (append_assoc unfinished last.missing (copies more whole))
-          (brings-append (Mark Fm1 ∷ map Row lines) (map Row (replicate (suc more) line)) entries (copies (suc more) whole) brings (copies_bring (suc more) line whole last.is)));
+          subst (λ (rows : List Token). Brings (Mark Fm1 ∷ rows) (entries ++ (unfinished ++ (last.missing ++ copies more whole))))
+          (sym (map-append Row lines (replicate (suc more) line)))
+          (subst (λ (more_entries : List Entry). Brings ((Mark Fm1 ∷ map Row lines) ++ map Row (replicate (suc more) line))
+          (entries ++ more_entries)) (append_assoc unfinished last.missing (copies more whole))
+          (brings-append (Mark Fm1 ∷ map Row lines) (map Row (replicate (suc more) line)) entries (copies (suc more) whole) brings
+          (copies_bring (suc more) line whole last.is)));
     }

@@ -1,6 +1,7 @@
 -- The law of rings over the places of a run.
 use Rattle.std.proofs.lemmas.List.Elements.{All-drop, All-take}
-use Rattle.std.proofs.Common.{All, List, Some, [], ap, arith, drop, false, refl, subst, sym, take, ℕ, ◌%◌, ◌++◌, ◌+◌, ◌-◌, ◌∙◌, ◌∷◌, ◌≡◌, ◌≤◌}
+use Rattle.std.proofs.Common.{All, List, Some, [], ap, arith, drop, false, refl, subst, sym, take, ℕ, ◌%◌, ◌++◌, ◌+◌, ◌-◌, ◌∙◌, ◌∷◌, ◌≡◌}
+use Rattle.std.proofs.Common.{◌≤◌}
 use Rattle.machine_model.specs.Steps.{Control, Host, Push, Step, Turn, run}
 use Rattle.ring_law.specs.Laws.{EndsBlock}
 use Rattle.ring_law.specs.Runs.{EndsBlockAt, RunShowsBlocks, ends_between, state_of, RunShowsNoFault}
@@ -18,7 +19,8 @@ use Rattle.machine_model.specs.Turns.{sets_fdsr}
 use Rattle.ring_law.proofs.Shown.{shows_blocks, shows_no_fault}
 use Rattle.ring_law.specs.RingRuns.{IsRingRun, ShowsBlocks}
 
-module _ (r : Ring) (lines : List (List ℕ)) (steps : List Step) (j k block : ℕ) (made : All IsStep steps) (e : EndsBlockAt r lines steps j k block) where
+module _ (r : Ring) (lines : List (List ℕ)) (steps : List Step) (j k block : ℕ) (made : All IsStep steps)
+    (e : EndsBlockAt r lines steps j k block) where
   abbrev start : State
   start = first_state (ring_program r) r.fill
 
@@ -54,13 +56,17 @@ module _ (r : Ring) (lines : List (List ℕ)) (steps : List Step) (j k block : �
         ring = e.ring;
         orderly = IsOrderly-run start (take j steps) (All-take IsStep j steps made) (IsOrderly-first_state (ring_program r) r.fill);
         chunks =
-            chunks-run start (take j steps) ∙ chunks_of-filled r.fill (ring_program r).grants ∙ ap (λ (program : RiscProgram). program.grants) (sym program);
+            chunks-run start (take j steps) ∙ chunks_of-filled r.fill (ring_program r).grants
+            ∙ ap (λ (program : RiscProgram). program.grants) (sym program);
         made = All-take IsStep (k - j) (drop j steps) (All-drop IsStep j steps made);
         runs = subst (IsRingRun r lines m) all_steps e.runs;
-        ends = ap (λ (now : State). block_end (ends r) now Turn) reached ∙ ap (block_end (ends r) (state_of r steps k)) (sym last_turn) ∙ e.ends;
+        ends =
+            ap (λ (now : State). block_end (ends r) now Turn) reached
+            ∙ ap (block_end (ends r) (state_of r steps k)) (sym last_turn) ∙ e.ends;
       }
 
-  pub shows_blocks_at : (block ≡ ends_between r steps j k % r.blocks) × ShowsBlocks r lines (ends_between r steps j k) m (state_of r steps (k + 1))
+  pub shows_blocks_at : (block ≡ ends_between r steps j k % r.blocks)
+      × ShowsBlocks r lines (ends_between r steps j k) m (state_of r steps (k + 1))
   shows_blocks_at =
       let shown = shows_blocks r lines m early block ends_block in
       (shown.0, subst (ShowsBlocks r lines (ends_between r steps j k) m) after shown.1)
@@ -69,8 +75,10 @@ module _ (r : Ring) (lines : List (List ℕ)) (steps : List Step) (j k block : �
   quiet_at_place i from to is_turn =
       let there = e.there in
       let split : early ++ Turn ∷ [] ≡ between j i steps ++ Turn ∷ between (i + 1) (k + 1) steps =
-      sym all_steps ∙ between_at j i (k + 1) steps from (omega arith) (omega arith) ∙ ap (λ (st : Step). between j i steps ++ st ∷ between (i + 1) (k + 1) steps) is_turn in
-      ap sets_fdsr (sym (state_between start steps j i from)) ∙ shows_no_fault r lines m early block ends_block (between j i steps) (between (i + 1) (k + 1) steps) split
+      sym all_steps ∙ between_at j i (k + 1) steps from (omega arith) (omega arith)
+      ∙ ap (λ (st : Step). between j i steps ++ st ∷ between (i + 1) (k + 1) steps) is_turn in
+      ap sets_fdsr (sym (state_between start steps j i from))
+      ∙ shows_no_fault r lines m early block ends_block (between j i steps) (between (i + 1) (k + 1) steps) split
 
 pub run_shows_blocks : RunShowsBlocks
 run_shows_blocks = shows_blocks_at

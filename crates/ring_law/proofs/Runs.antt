@@ -1,5 +1,6 @@
 -- Runs over a ring, from the SYNC on: the blocks that are left fall by those that are ended.
-use Rattle.std.proofs.Common.{All, Bool, List, None, Option, Some, [], ap, append_assoc, arith, if◌then◌else◌, length, refl, sym, true, ℕ, ◌++◌, ◌<◌, ◌∙◌, ◌∷◌, ◌≡◌, ◌⊎◌, subst, inl, inr, length-append}
+use Rattle.std.proofs.Common.{All, Bool, List, None, Option, Some, [], ap, append_assoc, arith, if◌then◌else◌, length, refl, sym, true, ℕ}
+use Rattle.std.proofs.Common.{◌++◌, ◌<◌, ◌∙◌, ◌∷◌, ◌≡◌, ◌⊎◌, subst, inl, inr, length-append}
 use Rattle.std.proofs.lemmas.List.Elements.{All-head, All-tail}
 use Rattle.field_law.specs.Arrivals.{AreKept, IsKept, meeting, pushed_in, turn_count, pushed_by}
 use Rattle.page_table.specs.Blocks.{Block}
@@ -31,8 +32,10 @@ use Rattle.field_law.proofs.Pushes.{step-IsSaid, within_moved, ahead_there}
 use Rattle.field_law.proofs.Moved.{opening_moved}
 
 -- a step keeps the program, so what is kept over steps is kept after the first
-pub kept_next : (m : State) (st : Step) (steps : List Step) → AreKept m (meeting m.program (st ∷ steps)) → IsKept m st × AreKept (step st m) (meeting (step st m).program steps)
-kept_next m st steps kept = (kept.0, subst (λ (program : RiscProgram). AreKept (step st m) (meeting program steps)) (sym (program-step st m)) kept.1)
+pub kept_next : (m : State) (st : Step) (steps : List Step) → AreKept m (meeting m.program (st ∷ steps)) →
+    IsKept m st × AreKept (step st m) (meeting (step st m).program steps)
+kept_next m st steps kept =
+    (kept.0, subst (λ (program : RiscProgram). AreKept (step st m) (meeting program steps)) (sym (program-step st m)) kept.1)
 
 split_again : (left first later more rest : List ℕ) → left ≡ first ++ later → later ≡ more ++ rest → left ≡ (first ++ more) ++ rest
 split_again left first later more rest one two = one ∙ ap (λ (blocks : List ℕ). first ++ blocks) two ∙ sym (append_assoc first more rest)
@@ -45,8 +48,10 @@ one_ended : (ended : Option ℕ) → length (end_list ended) ≡ one_if ended
 one_ended (Some block) = refl
 one_ended None = refl
 
-module _ (program : RiscProgram) (block_at : BlockAt) (s : Section) (field : Queue → List Token) (uses : Uses s field) (Rests : List Entry → Type 0)
-    (grows : (rest : List Entry) → Rests rest → Rests (rest ++ [])) (final : List Block) (all_left : List ℕ) (begins : StandsFor program block_at Idle all_left s.at s.body) where
+module _ (program : RiscProgram) (block_at : BlockAt) (s : Section) (field : Queue → List Token) (uses : Uses s field)
+    (Rests : List Entry → Type 0)
+    (grows : (rest : List Entry) → Rests rest → Rests (rest ++ [])) (final : List Block) (all_left : List ℕ)
+    (begins : StandsFor program block_at Idle all_left s.at s.body) where
   -- the machine waits in the SYNC, or goes through the ring with these blocks still to end
   abbrev Reached : List ℕ → (Queue → List Entry) → ℕ → Bool → ℕ → Skipping → Job → Queues → List Block → Type 0
   Reached left later bound risc_on pc skipping job queues memory =
@@ -72,30 +77,41 @@ module _ (program : RiscProgram) (block_at : BlockAt) (s : Section) (field : Que
 
   -- the machine that waits in the SYNC doesn't run an instruction after it
   opened : (later : Queue → List Entry) (bound : ℕ) (m : State) → IsAtRest m.job →
-      Opening (trail_of s) field Rests (Makes final) later bound m.risc_on m.pc m.skipping m.job m.queues m.memory ⊎ IsWithin IsUsedUp Rests (StandsFor program block_at Idle all_left) (Makes final) later bound m →
+      Opening (trail_of s) field Rests (Makes final) later bound m.risc_on m.pc m.skipping m.job m.queues m.memory
+      ⊎ IsWithin IsUsedUp Rests (StandsFor program block_at Idle all_left) (Makes final) later bound m →
       IsReachedRing all_left later bound m
   opened later bound m rests (inl opening) = inl (opening, refl)
   opened later bound m rests (inr h) = inr (resting program block_at Rests final later all_left bound m rests h)
 
-  waits_on : (left : List ℕ) (later : Queue → List Entry) (bound : ℕ) (m : State) → IsFifo m.queues → m.job ≡ Waiting s.opening true s.code → left ≡ all_left →
+  waits_on : (left : List ℕ) (later : Queue → List Entry) (bound : ℕ) (m : State) → IsFifo m.queues →
+      m.job ≡ Waiting s.opening true s.code → left ≡ all_left →
       Opening (trail_of s) field Rests (Makes final) later bound m.risc_on m.pc m.skipping m.job m.queues m.memory →
       TurnSteps left None later m.interrupts (waited s.opening true s.code m)
   waits_on left later bound m fifo j same h =
-      let r = opening-Reaches (trail_of s) field uses Rests (StandsFor program block_at Idle all_left) (Makes final) begins later bound m h fifo in
+      let r =
+      opening-Reaches (trail_of s) field uses Rests (StandsFor program block_at Idle all_left) (Makes final) begins later bound m h fifo in
       let rests = waited-IsAtRest s.opening true s.code m (subst IsAtRest (sym j) tt) in
       record {
-        steps = record { left_after = all_left; split = same; next = r.next; reached = opened later r.next (waited s.opening true s.code m) rests r.reached };
+        steps = record {
+          left_after = all_left;
+          split = same;
+          next = r.next;
+          reached = opened later r.next (waited s.opening true s.code m) rests r.reached;
+        };
         quiet = r.quiet;
       }
 
   opening_turn : (left : List ℕ) (later : Queue → List Entry) (bound : ℕ) (m : State) → IsOrderly m → left ≡ all_left →
-      Opening (trail_of s) field Rests (Makes final) later bound m.risc_on m.pc m.skipping m.job m.queues m.memory → TurnSteps left (block_end block_at m Turn) later m.interrupts (turn m)
+      Opening (trail_of s) field Rests (Makes final) later bound m.risc_on m.pc m.skipping m.job m.queues m.memory →
+      TurnSteps left (block_end block_at m Turn) later m.interrupts (turn m)
   opening_turn left later bound m orderly same h =
-      subst (λ (on : Bool). TurnSteps left (if on then ended_by block_at m.job m.pc else None) later m.interrupts (turn_if on (counted m))) (sym h.on)
+      subst (λ (on : Bool). TurnSteps left (if on then ended_by block_at m.job m.pc else None) later m.interrupts (turn_if on (counted m)))
+      (sym h.on)
       (subst (λ (job : Job). TurnSteps left (ended_by block_at job m.pc) later m.interrupts (worked job (counted m))) (sym h.waits)
       (waits_on left later bound (counted m) orderly.queues h.waits same h))
 
-  pub turn-TurnSteps : (left : List ℕ) (later : Queue → List Entry) (bound : ℕ) (m : State) → IsOrderly m → 0 < length left → m.program ≡ program → IsReachedRing left later bound m →
+  pub turn-TurnSteps : (left : List ℕ) (later : Queue → List Entry) (bound : ℕ) (m : State) → IsOrderly m → 0 < length left →
+      m.program ≡ program → IsReachedRing left later bound m →
       TurnSteps left (block_end block_at m Turn) later m.interrupts (turn m)
   turn-TurnSteps left later bound m orderly some same (inl h) = opening_turn left later bound m orderly h.1 h.0
   turn-TurnSteps left later bound m orderly some same (inr h) =
@@ -113,17 +129,20 @@ module _ (program : RiscProgram) (block_at : BlockAt) (s : Section) (field : Que
       step-IsSaid (Reached left later bound) st m kept no_turn
       (λ after adds.
       inl (
-        opening_moved (trail_of s) field uses Rests (StandsFor program block_at Idle all_left) (Makes final) begins (λ q. pushed_by st q ++ later q) later (λ q. []) m.queues after adds.taken (λ q rest. grows rest)
+        opening_moved (trail_of s) field uses Rests (StandsFor program block_at Idle all_left) (Makes final) begins
+            (λ q. pushed_by st q ++ later q) later (λ q. []) m.queues after adds.taken (λ q rest. grows rest)
             (ahead_there m.queues after (pushed_by st) later adds) bound m.risc_on m.pc m.skipping m.job m.memory h.0,
         h.1,
       ))
   other_step left later bound st m kept no_turn (inr h) =
       step-IsSaid (Reached left later bound) st m kept no_turn
       (λ after adds.
-      inr (within_moved IsUsedUp Rests (StandsFor program block_at m.job left) (Makes final) (λ q. pushed_by st q ++ later q) later (λ q. []) (λ q rest. grows rest) m.queues after adds.taken
+      inr (within_moved IsUsedUp Rests (StandsFor program block_at m.job left) (Makes final) (λ q. pushed_by st q ++ later q) later
+      (λ q. []) (λ q rest. grows rest) m.queues after adds.taken
       (ahead_there m.queues after (pushed_by st) later adds) bound m.risc_on m.pc m.skipping m.job m.memory h))
 
-  steps_on : (left : List ℕ) (later : Queue → List Entry) (bound : ℕ) (st : Step) (m : State) → IsOrderly m → 0 < length left → m.program ≡ program → IsKept m st →
+  steps_on : (left : List ℕ) (later : Queue → List Entry) (bound : ℕ) (st : Step) (m : State) → IsOrderly m → 0 < length left →
+      m.program ≡ program → IsKept m st →
       IsReachedRing left (λ q. pushed_by st q ++ later q) bound m → Steps left (block_end block_at m st) later (step st m)
   steps_on left later bound Turn m orderly some same kept h = (turn-TurnSteps left later bound m orderly some same h).steps
   steps_on left later bound (Push to entry) m orderly some same kept h =
@@ -146,8 +165,10 @@ module _ (program : RiscProgram) (block_at : BlockAt) (s : Section) (field : Que
     pub orderly : IsOrderly m
     pub same : m.program ≡ program
 
-  pub runs : (early : List Step) (later : Queue → List Entry) (left : List ℕ) (bound : ℕ) (m : State) → IsOrderly m → m.program ≡ program → All IsStep early → AreKept m (meeting m.program early) →
-      block_ends block_at m early < length left → IsReachedRing left (to_come early later) bound m → Ran left (block_ends block_at m early) later (run m early)
+  pub runs : (early : List Step) (later : Queue → List Entry) (left : List ℕ) (bound : ℕ) (m : State) → IsOrderly m → m.program ≡ program →
+      All IsStep early → AreKept m (meeting m.program early) →
+      block_ends block_at m early < length left → IsReachedRing left (to_come early later) bound m →
+      Ran left (block_ends block_at m early) later (run m early)
   runs [] later left bound m orderly same made kept some h =
       record { ended = []; left_after = left; split = refl; long = refl; next = bound; reached = h; orderly = orderly; same = same }
   runs (st ∷ early) later left bound m orderly same made kept some h =
@@ -157,7 +178,8 @@ module _ (program : RiscProgram) (block_at : BlockAt) (s : Section) (field : Que
       let long = ap (λ (blocks : List ℕ). length blocks) one.split in
       let first = one_ended (block_end block_at m st) in
       let rest =
-      runs early later one.left_after one.next (step st m) (IsOrderly-step st m (All-head IsStep st early made) orderly) (program-step st m ∙ same) (All-tail IsStep st early made) here.1
+      runs early later one.left_after one.next (step st m) (IsOrderly-step st m (All-head IsStep st early made) orderly)
+      (program-step st m ∙ same) (All-tail IsStep st early made) here.1
       (omega (arith, length-append (end_list (block_end block_at m st)) one.left_after)) one.reached in
       let later_long = rest.long in
       record {
@@ -172,7 +194,8 @@ module _ (program : RiscProgram) (block_at : BlockAt) (s : Section) (field : Que
         same = rest.same;
       }
     where
-      ahead : IsReachedRing left (to_come (st ∷ early) later) bound m → IsReachedRing left (λ q. pushed_by st q ++ to_come early later q) bound m
+      ahead : IsReachedRing left (to_come (st ∷ early) later) bound m →
+          IsReachedRing left (λ q. pushed_by st q ++ to_come early later q) bound m
       ahead (inl h) = inl (
         record {
           on = h.0.on;
@@ -183,7 +206,9 @@ module _ (program : RiscProgram) (block_at : BlockAt) (s : Section) (field : Que
           entries = h.0.entries;
           rest = h.0.rest;
           rests = h.0.rests;
-          order = λ q. ap (λ (more : List Entry). (queue_state q m.queues).entries ++ more) (sym (append_assoc (pushed_by st q) (pushed_in early q) (later q))) ∙ h.0.order q;
+          order =
+              λ q. ap (λ (more : List Entry). (queue_state q m.queues).entries ++ more)
+              (sym (append_assoc (pushed_by st q) (pushed_in early q) (later q))) ∙ h.0.order q;
           unmarked = h.0.unmarked;
           brings = h.0.brings;
           comes = h.0.comes;
@@ -202,7 +227,8 @@ module _ (program : RiscProgram) (block_at : BlockAt) (s : Section) (field : Que
             left = h.left;
             outlook =
                 λ q.
-                subst (λ (more : List Entry). Outlook IsUsedUp Rests (job_asks q m.job (asks q h.body)) (h.stores q) (h.left q) (queue_state q m.queues).taken ((queue_state q m.queues).entries ++ more))
+                subst (λ (more : List Entry). Outlook IsUsedUp Rests (job_asks q m.job (asks q h.body)) (h.stores q) (h.left q)
+                (queue_state q m.queues).taken ((queue_state q m.queues).entries ++ more))
                 (append_assoc (pushed_by st q) (pushed_in early q) (later q)) (h.outlook q);
             comes = h.comes;
             bounded = h.bounded;

@@ -1,5 +1,6 @@
 -- The block ends that are seen of turns.
-use Rattle.std.proofs.Common.{All, Bool, Err, List, None, Ok, Option, Some, [], ap, append_assoc, arith, false, if◌then◌else◌, length, length-append, refl, subst, sym, true, ℕ, ◌*◌, ◌++◌, ◌+◌, ◌-◌, ◌<◌, ◌==◌, ◌∙◌, ◌∷◌, ◌≡◌}
+use Rattle.std.proofs.Common.{All, Bool, Err, List, None, Ok, Option, Some, [], ap, append_assoc, arith, false, if◌then◌else◌, length}
+use Rattle.std.proofs.Common.{length-append, refl, subst, sym, true, ℕ, ◌*◌, ◌++◌, ◌+◌, ◌-◌, ◌<◌, ◌==◌, ◌∙◌, ◌∷◌, ◌≡◌}
 use Rattle.std.proofs.lemmas.List.Elements.{All-head, All-tail}
 use Rattle.std.proofs.lemmas.Bool.{cond-true}
 use Rattle.std.proofs.lemmas.Grind.{flat_map-append}
@@ -12,7 +13,8 @@ use Rattle.picture_model.proofs.Each.{Each}
 use Rattle.machine_model.specs.declared.Did.TheVariants.{GivenUp, Matched, Missed, Moved}
 use Rattle.machine_model.specs.declared.Job.TheVariants.{Idle, Running, Waiting}
 use Rattle.risc_word.specs.declared.Instr.{Instr}
-use Rattle.ring_model.specs.Rings.{IsRing, Ring, block_instrs, blocks_instrs, closing, ends, last_write, lines_instrs, mark, opening, ring_instrs, ring_program}
+use Rattle.ring_model.specs.Rings.{IsRing, Ring, block_instrs, blocks_instrs, closing, ends, last_write, lines_instrs, mark, opening}
+use Rattle.ring_model.specs.Rings.{ring_instrs, ring_program}
 use Rattle.machine_model.specs.Safety.{IsSafe, IsStep}
 use Rattle.machine_model.proofs.Safe.{IsSafe-step}
 use Rattle.machine_model.specs.Paths.{IsSound, RiscProgram, fetch}
@@ -24,7 +26,8 @@ use Rattle.fifo_model.specs.declared.Queue.{Queue}
 use Rattle.risc_word.specs.Words.{Reading, code_number, encoded}
 use Rattle.machine_model.specs.declared.Skipping.{Skipping}
 use Rattle.machine_model.specs.States.{State}
-use Rattle.machine_model.specs.Seen.{address_before, applications, data_did, fetched_did, gives_up, instr_did, seen, seen_if, seen_in, seen_running, seen_served, waited_did}
+use Rattle.machine_model.specs.Seen.{address_before, applications, data_did, fetched_did, gives_up, instr_did, seen, seen_if, seen_in}
+use Rattle.machine_model.specs.Seen.{seen_running, seen_served, waited_did}
 use Rattle.ring_model.specs.Runs.{block_end, block_ends, block_ends_seen, end_by, ended_by, one_if, step_end_seen, end_seen}
 use Rattle.ring_law.proofs.Addresses.{block_some, last_there, next_begin, position_found}
 use Rattle.ring_law.proofs.Rounds.{block_split}
@@ -48,9 +51,15 @@ ends_in_write [] some are = absurd (omega arith)
 ends_in_write (instr ∷ []) some are = record { front = []; write = instr; split = refl; is_write = are.0 }
 ends_in_write (instr ∷ next ∷ rest) some are =
     let later = ends_in_write (next ∷ rest) (omega arith) are.1 in
-    record { front = instr ∷ later.front; write = later.write; split = ap (λ (rest : List Instr). instr ∷ rest) later.split; is_write = later.is_write }
+    record {
+      front = instr ∷ later.front;
+      write = later.write;
+      split = ap (λ (rest : List Instr). instr ∷ rest) later.split;
+      is_write = later.is_write;
+    }
 
-only_write : (instr other : Instr) (count count' : ℕ) (reading : Reading) → IsWrite other → reading ≡ Ok (instr, count) → reading ≡ Ok (other, count') → IsWrite instr
+only_write : (instr other : Instr) (count count' : ℕ) (reading : Reading) → IsWrite other → reading ≡ Ok (instr, count) →
+    reading ≡ Ok (other, count') → IsWrite instr
 only_write instr other count count' reading is_write one two =
     let both : Ok (instr, count) ≡ Ok (other, count') = sym one ∙ two in
     let pair : (instr, count) ≡ (other, count') = cc in
@@ -59,7 +68,8 @@ only_write instr other count count' reading is_write one two =
 
 module _ (r : Ring) (is : IsRing r) where
   -- a WRITE is where a block ends
-  write_at_end : (block : ℕ) → block < r.blocks → (write : Instr) × IsWrite write × (fetch (ring_program r) (last_write r block) ≡ Ok (write, length (encoded write)))
+  write_at_end : (block : ℕ) → block < r.blocks →
+      (write : Instr) × IsWrite write × (fetch (ring_program r) (last_write r block) ≡ Ok (write, length (encoded write)))
   write_at_end block below =
       let writes = block_instrs r block in
       let block_long = last_length (mark block) (lines_instrs r (block * r.lines) r.lines) in
@@ -69,45 +79,64 @@ module _ (r : Ring) (is : IsRing r) where
       let before = (opening ∷ blocks_instrs r 0 block) ++ last.front in
       let split : ring_instrs r ≡ before ++ last.write ∷ rest =
       block_split r is block below ∙ ap (λ (writes : List Instr). (opening ∷ blocks_instrs r 0 block) ++ (writes ++ rest)) last.split
-      ∙ ap (λ (more : List Instr). (opening ∷ blocks_instrs r 0 block) ++ more) (append_assoc last.front (last.write ∷ []) rest) ∙ sym (append_assoc (opening ∷ blocks_instrs r 0 block) last.front (last.write ∷ rest)) in
+      ∙ ap (λ (more : List Instr). (opening ∷ blocks_instrs r 0 block) ++ more) (append_assoc last.front (last.write ∷ []) rest)
+      ∙ sym (append_assoc (opening ∷ blocks_instrs r 0 block) last.front (last.write ∷ rest)) in
       let long = ap (λ (instrs : List Instr). length instrs) last.split in
-      let front_writes : Each IsWrite (last.front) = each_front last.front (last.write ∷ []) (subst (Each IsWrite) last.split (block_writes r block)) in
+      let front_writes : Each IsWrite (last.front) =
+      each_front last.front (last.write ∷ []) (subst (Each IsWrite) last.split (block_writes r block)) in
       let front_words = writes_words last.front front_writes in
-      let words : words_of before ≡ words_of (opening ∷ blocks_instrs r 0 block) ++ words_of last.front = flat_map-append encoded (opening ∷ blocks_instrs r 0 block) last.front in
+      let words : words_of before ≡ words_of (opening ∷ blocks_instrs r 0 block) ++ words_of last.front =
+      flat_map-append encoded (opening ∷ blocks_instrs r 0 block) last.front in
       let words_long = ap (λ (words : List ℕ). length words) words in
       let next = next_begin r is block in
       let end = last_there r is block in
       let at : last_write r block ≡ r.base + 4 * length (words_of before) =
-      omega (arith, length-append (words_of (opening ∷ blocks_instrs r 0 block)) (words_of last.front), length-append last.front (last.write ∷ [])) in
-      (last.write, last.is_write, fetch_at (ring_program r) (ring_instrs r) refl (ring_fine r is) (last_write r block) (record { before = before; instr = last.write; after = rest; split = split; at = at }))
+      omega (
+        arith,
+        length-append (words_of (opening ∷ blocks_instrs r 0 block)) (words_of last.front),
+        length-append last.front (last.write ∷ []),
+      ) in (
+        last.write,
+        last.is_write,
+        fetch_at (ring_program r) (ring_instrs r) refl (ring_fine r is) (last_write r block)
+            (record { before = before; instr = last.write; after = rest; split = split; at = at }),
+      )
     where
       each_front : (xs ys : List Instr) → Each IsWrite (xs ++ ys) → Each IsWrite xs
       each_front [] ys each = tt
       each_front (x ∷ xs) ys each = (each.0, each_front xs ys each.1)
 
   -- so what is there is one
-  is_write_there : (instr : Instr) (at block : ℕ) → ends r at ≡ Some block → fetch (ring_program r) at ≡ Ok (instr, length (encoded instr)) → IsWrite instr
+  is_write_there : (instr : Instr) (at block : ℕ) → ends r at ≡ Some block →
+      fetch (ring_program r) at ≡ Ok (instr, length (encoded instr)) → IsWrite instr
   is_write_there instr at block ends_block stands =
       let found = position_found (last_write r) at r.blocks block ends_block in
       let there = write_at_end block found.0 in
-      only_write instr there.0 (length (encoded instr)) (length (encoded there.0)) (fetch (ring_program r) at) there.1 stands (ap (fetch (ring_program r)) (sym found.1) ∙ there.2)
+      only_write instr there.0 (length (encoded instr)) (length (encoded there.0)) (fetch (ring_program r) at) there.1 stands
+      (ap (fetch (ring_program r)) (sym found.1) ∙ there.2)
 
   -- ---- a turn
 
-  no_write : (instr : Instr) (at : ℕ) (found : Option ℕ) → ends r at ≡ found → fetch (ring_program r) at ≡ Ok (instr, length (encoded instr)) → (IsWrite instr → ⊥) → found ≡ None
+  no_write : (instr : Instr) (at : ℕ) (found : Option ℕ) → ends r at ≡ found →
+      fetch (ring_program r) at ≡ Ok (instr, length (encoded instr)) → (IsWrite instr → ⊥) → found ≡ None
   no_write instr at None ends_block stands other = refl
   no_write instr at (Some block) ends_block stands other = absurd (other (is_write_there instr at block ends_block stands))
 
-  retired_end : (instr : Instr) (ds : Demands) (pc : ℕ) → is_done ds ≡ true → fetch (ring_program r) (address_before pc instr) ≡ Ok (instr, length (encoded instr)) →
+  retired_end : (instr : Instr) (ds : Demands) (pc : ℕ) → is_done ds ≡ true →
+      fetch (ring_program r) (address_before pc instr) ≡ Ok (instr, length (encoded instr)) →
       ends r (address_before pc instr) ≡ ended_by (ends r) (Running instr ds) pc
   retired_end (Write ctl line_ends off count address) ds pc done stands = sym (cond-true (is_done ds) (ends r (pc - 8)) None done)
   retired_end (Skip ctl line_ends count) ds pc done stands = no_write (Skip ctl line_ends count) _ _ refl stands (λ is_write. is_write)
-  retired_end (WriteC ctl line_ends off count) ds pc done stands = no_write (WriteC ctl line_ends off count) _ _ refl stands (λ is_write. is_write)
+  retired_end (WriteC ctl line_ends off count) ds pc done stands =
+      no_write (WriteC ctl line_ends off count) _ _ refl stands (λ is_write. is_write)
   retired_end (Jump ctl target) ds pc done stands = no_write (Jump ctl target) _ _ refl stands (λ is_write. is_write)
   retired_end (Sync ctl resync code) ds pc done stands = no_write (Sync ctl resync code) _ _ refl stands (λ is_write. is_write)
-  retired_end (Write123 ctl line_ends off counts addrs) ds pc done stands = no_write (Write123 ctl line_ends off counts addrs) _ _ refl stands (λ is_write. is_write)
-  retired_end (Skip123 ctl line_ends counts) ds pc done stands = no_write (Skip123 ctl line_ends counts) _ _ refl stands (λ is_write. is_write)
-  retired_end (Write1S23 ctl line_ends off counts addr) ds pc done stands = no_write (Write1S23 ctl line_ends off counts addr) _ _ refl stands (λ is_write. is_write)
+  retired_end (Write123 ctl line_ends off counts addrs) ds pc done stands =
+      no_write (Write123 ctl line_ends off counts addrs) _ _ refl stands (λ is_write. is_write)
+  retired_end (Skip123 ctl line_ends counts) ds pc done stands =
+      no_write (Skip123 ctl line_ends counts) _ _ refl stands (λ is_write. is_write)
+  retired_end (Write1S23 ctl line_ends off counts addr) ds pc done stands =
+      no_write (Write1S23 ctl line_ends off counts addr) _ _ refl stands (λ is_write. is_write)
 
   -- a turn that fetches or waits retires nothing
   data_end : (skipping : Skipping) (at : ℕ) → end_by (ends r) (data_did skipping) at ≡ None
@@ -133,7 +162,8 @@ module _ (r : Ring) (is : IsRing r) where
   code_end true at = refl
   code_end false at = refl
 
-  waited_end : (stray : Option Queue) (seen_code : Option Code) (awaited : Code) (at : ℕ) → end_by (ends r) (waited_did stray seen_code awaited) at ≡ None
+  waited_end : (stray : Option Queue) (seen_code : Option Code) (awaited : Code) (at : ℕ) →
+      end_by (ends r) (waited_did stray seen_code awaited) at ≡ None
   waited_end (Some q) seen_code awaited at = refl
   waited_end None None awaited at = refl
   waited_end None (Some code) awaited at = code_end (code_number code == code_number awaited) at
@@ -154,12 +184,15 @@ module _ (r : Ring) (is : IsRing r) where
         end_seen (ends r) (seen_running done (address_before m.pc instr) ds m) ≡ ended_by (ends r) (Running instr ds) m.pc
     runs_end instr ds true j done =
         let stands = (running-StandsAt m instr ds sound safe j).stands in
-        retired_end instr ds m.pc done (subst (λ (program : RiscProgram). fetch program (address_before m.pc instr) ≡ Ok (instr, length (encoded instr))) same stands)
-    runs_end instr ds false j undone = served_end (lowest_served ds m) (address_before m.pc instr) m ∙ sym (unretired_ends (ends r) instr ds m.pc undone)
+        retired_end instr ds m.pc done
+        (subst (λ (program : RiscProgram). fetch program (address_before m.pc instr) ≡ Ok (instr, length (encoded instr))) same stands)
+    runs_end instr ds false j undone =
+        served_end (lowest_served ds m) (address_before m.pc instr) m ∙ sym (unretired_ends (ends r) instr ds m.pc undone)
 
     end_in : (job : Job) → m.job ≡ job → end_seen (ends r) (seen_in job m) ≡ ended_by (ends r) job m.pc
     end_in Idle j = fetched_end (fetch m.program m.pc) m.skipping m.pc
-    end_in (Waiting ctl resync code) j = waited_end (lowest_stray m.queues) (common_code m.queues) code (address_before m.pc (Sync ctl resync code))
+    end_in (Waiting ctl resync code) j =
+        waited_end (lowest_stray m.queues) (common_code m.queues) code (address_before m.pc (Sync ctl resync code))
     end_in (Running instr ds) j = runs_end instr ds (is_done ds) j refl
 
     end_if : (on : Bool) → end_seen (ends r) (seen_if on m) ≡ (if on then ended_by (ends r) m.job m.pc else None)
@@ -175,11 +208,14 @@ module _ (r : Ring) (is : IsRing r) where
   step_end m (Control code) same safe = refl
   step_end m (Host write) same safe = refl
 
-  pub steps_end : (m : State) (steps : List Step) → m.program ≡ ring_program r → IsSafe m → All IsStep steps → block_ends_seen (ends r) m steps ≡ block_ends (ends r) m steps
+  pub steps_end : (m : State) (steps : List Step) → m.program ≡ ring_program r → IsSafe m → All IsStep steps →
+      block_ends_seen (ends r) m steps ≡ block_ends (ends r) m steps
   steps_end m [] same safe made = refl
   steps_end m (st ∷ steps) same safe made =
       let here = ap one_if (step_end m st same safe) in
-      let rest = steps_end (step st m) steps (program-step st m ∙ same) (IsSafe-step st m (All-head IsStep st steps made) (sound m same safe) safe) (All-tail IsStep st steps made) in
+      let rest =
+      steps_end (step st m) steps (program-step st m ∙ same) (IsSafe-step st m (All-head IsStep st steps made) (sound m same safe) safe)
+      (All-tail IsStep st steps made) in
       omega arith
 
 pub turns_seen_end_blocks : TurnsSeenEndBlocks

@@ -1,5 +1,6 @@
 -- What the law states of a ring run, whether its last lines came whole or not.
-use Rattle.std.proofs.Common.{All, List, Option, Some, [], append-nil, append_assoc, arith, drop, false, if◌then◌else◌, length, length-append, length-take, refl, subst, suc, take, take-take, zero, ℕ}
+use Rattle.std.proofs.Common.{All, List, Option, Some, [], append-nil, append_assoc, arith, drop, false, if◌then◌else◌, length}
+use Rattle.std.proofs.Common.{length-append, length-take, refl, subst, suc, take, take-take, zero, ℕ}
 use Rattle.std.proofs.Common.{◌%◌, ◌*◌, ◌++◌, ◌+◌, ◌-◌, ◌<◌, ◌==◌, ◌∙◌, ◌∷◌, ◌≡◌, ◌≤◌, ap, ⊎_elim, sym}
 use Rattle.std.proofs.lemmas.List.Elements.{All-take}
 use Rattle.std.proofs.lemmas.Bool.{cases_lt}
@@ -37,7 +38,8 @@ use Rattle.field_law.proofs.Painting.{all_left}
 
 -- ---- steps before a turn
 
-pub front_of_early : (early first second : List Step) (last here : Step) → early ++ last ∷ [] ≡ first ++ here ∷ second → (more : List Step) × (early ≡ first ++ more)
+pub front_of_early : (early first second : List Step) (last here : Step) → early ++ last ∷ [] ≡ first ++ here ∷ second →
+    (more : List Step) × (early ≡ first ++ more)
 front_of_early early [] second last here split = (early, refl)
 front_of_early [] (one ∷ []) second last here split = cc
 front_of_early [] (one ∷ next ∷ first) second last here split = cc
@@ -49,18 +51,23 @@ front_of_early (st ∷ early) (one ∷ first) second last here split =
 
 -- ---- what a block holds is among the lines that its block ends take
 
-taken_lines : (wanted from count : ℕ) (lines : List (List ℕ)) → from + count ≤ wanted → take count (drop from (take wanted lines)) ≡ take count (drop from lines)
+taken_lines : (wanted from count : ℕ) (lines : List (List ℕ)) → from + count ≤ wanted →
+    take count (drop from (take wanted lines)) ≡ take count (drop from lines)
 taken_lines wanted from count lines within =
     let parts : wanted ≡ from + (wanted - from) = omega arith in
-    ap (λ (n : ℕ). take count (drop from (take n lines))) parts ∙ ap (take count) (drop-take from (wanted - from) lines) ∙ take-take count (wanted - from) (drop from lines) (omega arith)
+    ap (λ (n : ℕ). take count (drop from (take n lines))) parts ∙ ap (take count) (drop-take from (wanted - from) lines)
+    ∙ take-take count (wanted - from) (drop from lines) (omega arith)
 
-held_taken : (r : Ring) (wanted : ℕ) (lines : List (List ℕ)) (block count : ℕ) → count * r.lines ≤ wanted → held r (take wanted lines) block count ≡ held r lines block count
+held_taken : (r : Ring) (wanted : ℕ) (lines : List (List ℕ)) (block count : ℕ) → count * r.lines ≤ wanted →
+    held r (take wanted lines) block count ≡ held r lines block count
 held_taken r wanted lines block zero within = refl
 held_taken r wanted lines block (suc count) within =
-    let next : count * r.lines + r.lines ≡ suc count * r.lines = line_end count r.lines ∙ ap (λ (n : ℕ). n * r.lines) (let one : count + 1 ≡ suc count = omega arith in one) in
+    let next : count * r.lines + r.lines ≡ suc count * r.lines =
+    line_end count r.lines ∙ ap (λ (n : ℕ). n * r.lines) (let one : count + 1 ≡ suc count = omega arith in one) in
     ap (λ (bytes : List ℕ). if count % r.blocks == block then Some bytes else held r (take wanted lines) block count)
     (ap (flat_map (λ line. line)) (taken_lines wanted (count * r.lines) r.lines lines (omega arith)))
-    ∙ ap (λ (other : Option (List ℕ)). if count % r.blocks == block then Some (brought r lines count) else other) (held_taken r wanted lines block count (omega arith))
+    ∙ ap (λ (other : Option (List ℕ)). if count % r.blocks == block then Some (brought r lines count) else other)
+    (held_taken r wanted lines block count (omega arith))
 
 -- ---- what the queues are brought
 
@@ -98,17 +105,20 @@ module _ (r : Ring) (lines : List (List ℕ)) (m : State) (steps : List Step) (r
       rest_on whole Two = []
       rest_on whole Three = []
 
-      pushes : (q : Queue) → (queue_state q m.queues).entries ++ (pushed_in steps q ++ []) ≡ run.before q ++ (run.entries q ++ left_on run.unfinished q)
+      pushes : (q : Queue) →
+          (queue_state q m.queues).entries ++ (pushed_in steps q ++ []) ≡ run.before q ++ (run.entries q ++ left_on run.unfinished q)
       pushes q = ap (λ (pushed : List Entry). (queue_state q m.queues).entries ++ pushed) (append-nil (pushed_in steps q)) ∙ run.order q
 
-      order : (whole : Whole (count * r.lines) lines (run.entries One)) (q : Queue) → (queue_state q m.queues).entries ++ (pushed_in steps q ++ []) ≡ run.before q ++ (front_on whole q ++ rest_on whole q)
+      order : (whole : Whole (count * r.lines) lines (run.entries One)) (q : Queue) →
+          (queue_state q m.queues).entries ++ (pushed_in steps q ++ []) ≡ run.before q ++ (front_on whole q ++ rest_on whole q)
       order whole One =
           pushes One ∙ ap (λ (entries : List Entry). run.before One ++ (entries ++ run.unfinished)) whole.split
           ∙ ap (λ (more : List Entry). run.before One ++ more) (append_assoc whole.front whole.back run.unfinished)
       order whole Two = pushes Two
       order whole Three = pushes Three
 
-      brings : (whole : Whole (count * r.lines) lines (run.entries One)) (q : Queue) → Brings (Mark Fm1 ∷ ring_field (take (count * r.lines) lines) q) (front_on whole q)
+      brings : (whole : Whole (count * r.lines) lines (run.entries One)) (q : Queue) →
+          Brings (Mark Fm1 ∷ ring_field (take (count * r.lines) lines) q) (front_on whole q)
       brings whole One = whole.brings
       brings whole Two = run.brings Two
       brings whole Three = run.brings Three
@@ -146,20 +156,23 @@ module _ (r : Ring) (lines : List (List ℕ)) (m : State) (steps : List Step) (r
       entries_on padded Two = run.entries Two
       entries_on padded Three = run.entries Three
 
-      pushes : (q : Queue) → (queue_state q m.queues).entries ++ (pushed_in steps q ++ []) ≡ run.before q ++ (run.entries q ++ left_on run.unfinished q)
+      pushes : (q : Queue) →
+          (queue_state q m.queues).entries ++ (pushed_in steps q ++ []) ≡ run.before q ++ (run.entries q ++ left_on run.unfinished q)
       pushes q = ap (λ (pushed : List Entry). (queue_state q m.queues).entries ++ pushed) (append-nil (pushed_in steps q)) ∙ run.order q
 
       order : (padded : Padded (count * r.lines) r.line_bytes (run.entries One) run.unfinished) (q : Queue) →
           (queue_state q m.queues).entries ++ (pushed_in steps q ++ pad_on padded q) ≡ run.before q ++ (entries_on padded q ++ [])
       order padded One =
-          sym (append_assoc (queue_state One m.queues).entries (pushed_in steps One) padded.pad) ∙ ap (λ (entries : List Entry). entries ++ padded.pad) (run.order One)
+          sym (append_assoc (queue_state One m.queues).entries (pushed_in steps One) padded.pad)
+          ∙ ap (λ (entries : List Entry). entries ++ padded.pad) (run.order One)
           ∙ append_assoc (run.before One) (run.entries One ++ run.unfinished) padded.pad
           ∙ ap (λ (more : List Entry). run.before One ++ more)
           (append_assoc (run.entries One) run.unfinished padded.pad ∙ sym (append-nil (run.entries One ++ (run.unfinished ++ padded.pad))))
       order padded Two = pushes Two
       order padded Three = pushes Three
 
-      brings : (padded : Padded (count * r.lines) r.line_bytes (run.entries One) run.unfinished) (q : Queue) → Brings (Mark Fm1 ∷ ring_field padded.lines q) (entries_on padded q)
+      brings : (padded : Padded (count * r.lines) r.line_bytes (run.entries One) run.unfinished) (q : Queue) →
+          Brings (Mark Fm1 ∷ ring_field padded.lines q) (entries_on padded q)
       brings padded One = padded.brings
       brings padded Two = run.brings Two
       brings padded Three = run.brings Three
@@ -203,7 +216,8 @@ module _ (r : Ring) (lines : List (List ℕ)) (m : State) (early : List Step) (b
 
   memory_now : (run m (early ++ Turn ∷ [])).memory ≡ stored_all m.memory (ring_stores r 0 (suc number) (take (suc number * r.lines) lines))
   memory_now =
-      ap (λ (now : State). now.memory) turned ∙ at_end.memory ∙ ap (λ (lines : List (List ℕ)). stored_all m.memory (ring_stores r 0 (suc number) lines)) came.1
+      ap (λ (now : State). now.memory) turned ∙ at_end.memory
+      ∙ ap (λ (lines : List (List ℕ)). stored_all m.memory (ring_stores r 0 (suc number) lines)) came.1
 
   chunks : chunks_of m.memory ≡ (ring_program r).grants
   chunks = e.chunks ∙ ap (λ (program : RiscProgram). program.grants) e.runs.program
@@ -220,23 +234,29 @@ module _ (r : Ring) (lines : List (List ℕ)) (m : State) (early : List Step) (b
   shows_blocks =
       let small = below_sixteen in
       let taken = take (suc number * r.lines) lines in
-      let bits = shows_bits (mark block) (run m early).interrupts (run m (early ++ Turn ∷ [])).interrupts (ap (λ (now : State). now.interrupts) turned ∙ at_end.interrupts) in
+      let bits =
+      shows_bits (mark block) (run m early).interrupts (run m (early ++ Turn ∷ [])).interrupts
+      (ap (λ (now : State). now.interrupts) turned ∙ at_end.interrupts) in
       let long = All-take (λ line. length line ≡ r.line_bytes) (suc number * r.lines) lines e.runs.long in
       let enough = enough_came in
       let many : suc number * r.lines ≤ length taken = omega (arith, length-take (suc number * r.lines) lines) in (
         at_end.same,
         record {
-          came = let next : number + 1 ≡ suc number = omega arith in subst (λ (count : ℕ). count * r.lines ≤ length lines) (sym next) enough;
+          came =
+              let next : number + 1 ≡ suc number = omega arith in
+              subst (λ (count : ℕ). count * r.lines ≤ length lines) (sym next) enough;
           raised = bits.raised refl;
           status = bits.status (omega arith) ∙ at_end.same;
           blocks =
               λ b x below inside.
               ap (λ memory. byte_at memory (block_address r b x)) memory_now
               ∙ blocks_hold r e.ring m.memory chunks taken long (suc number) b x many below inside
-              ∙ ap (λ (bytes : Option (List ℕ)). byte_of bytes x (byte_at m.memory (block_address r b x))) (held_taken r (suc number * r.lines) lines b (suc number) (omega arith));
+              ∙ ap (λ (bytes : Option (List ℕ)). byte_of bytes x (byte_at m.memory (block_address r b x)))
+              (held_taken r (suc number * r.lines) lines b (suc number) (omega arith));
           rest =
               λ address outside.
-              ap (λ memory. byte_at memory address) memory_now ∙ rest_holds r e.ring m.memory chunks taken long (suc number) address many outside;
+              ap (λ memory. byte_at memory address) memory_now
+              ∙ rest_holds r e.ring m.memory chunks taken long (suc number) address many outside;
         },
       )
 
@@ -244,7 +264,8 @@ module _ (r : Ring) (lines : List (List ℕ)) (m : State) (early : List Step) (b
   shows_no_fault first second split =
       let more = front_of_early early first second Turn Turn split in
       let count = ap (λ (steps : List Step). block_ends (ends r) m steps) more.1 ∙ block_ends-append (ends r) m first more.0 in
-      quiet_at r lines m early block e AnyRest any_grows came.0 first second split (omega arith) (all_left IsStep first more.0 (subst (All IsStep) more.1 e.made))
+      quiet_at r lines m early block e AnyRest any_grows came.0 first second split (omega arith)
+      (all_left IsStep first more.0 (subst (All IsStep) more.1 e.made))
 
 pub rings_show_blocks : RingsShowTheirBlocks
 rings_show_blocks = shows_blocks

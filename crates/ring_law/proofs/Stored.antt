@@ -1,6 +1,8 @@
 -- Memory after the stores of block ends.
-use Rattle.std.proofs.Common.{All, Bool, List, Option, Some, [], append_assoc, arith, drop, eq-eqb, false, length, length-append, length-drop, length-take, ne_eqb, refl, slice_index_or, suc, sym}
-use Rattle.std.proofs.Common.{take, true, zero, ℕ, ◌%◌, ◌*◌, ◌++◌, ◌+◌, ◌-◌, ◌/◌, ◌<◌, ◌==◌, ◌∙◌, ◌∷◌, ◌≡◌, ◌≤◌, ap, slice_index, append-nil, ⊎_elim, drop-drop}
+use Rattle.std.proofs.Common.{All, Bool, List, Option, Some, [], append_assoc, arith, drop, eq-eqb, false, length, length-append}
+use Rattle.std.proofs.Common.{length-drop, length-take, ne_eqb, refl, slice_index_or, suc, sym}
+use Rattle.std.proofs.Common.{take, true, zero, ℕ, ◌%◌, ◌*◌, ◌++◌, ◌+◌, ◌-◌, ◌/◌, ◌<◌, ◌==◌, ◌∙◌, ◌∷◌, ◌≡◌, ◌≤◌, ap, slice_index}
+use Rattle.std.proofs.Common.{append-nil, ⊎_elim, drop-drop}
 use Rattle.std.proofs.lemmas.List.Elements.{All-drop, All-head, All-tail, All-take}
 use Rattle.std.proofs.lemmas.Bool.{cases_eq, cases_lt, cond-false, cond-true, or_from}
 use Rattle.std.proofs.lemmas.Nat.{div-add-mod', mod-mul-add, mul-le}
@@ -64,17 +66,20 @@ line_offset block lines bytes line x = grind arith
 
 -- ---- lines of the same length one after another
 
-lines_long : (bytes : ℕ) (lines : List (List ℕ)) → All (λ line. length line ≡ bytes) lines → length (flat_map (λ line. line) lines) ≡ length lines * bytes
+lines_long : (bytes : ℕ) (lines : List (List ℕ)) → All (λ line. length line ≡ bytes) lines →
+    length (flat_map (λ line. line) lines) ≡ length lines * bytes
 lines_long bytes [] long = omega arith
 lines_long bytes (line ∷ lines) long =
     let first = All-head (λ line. length line ≡ bytes) line lines long in
     let rest = lines_long bytes lines (All-tail (λ line. length line ≡ bytes) line lines long) in
     let all = length-append line (flat_map (λ line. line) lines) in
     let product = line_end (length lines) bytes in
-    let count : (length lines + 1) * bytes ≡ suc (length lines) * bytes = ap (λ (n : ℕ). n * bytes) (let next : length lines + 1 ≡ suc (length lines) = omega arith in next) in
+    let count : (length lines + 1) * bytes ≡ suc (length lines) * bytes =
+    ap (λ (n : ℕ). n * bytes) (let next : length lines + 1 ≡ suc (length lines) = omega arith in next) in
     omega arith
 
-byte_in_line : (bytes : ℕ) (lines : List (List ℕ)) (line x : ℕ) → All (λ line. length line ≡ bytes) lines → line < length lines → x < bytes →
+byte_in_line : (bytes : ℕ) (lines : List (List ℕ)) (line x : ℕ) → All (λ line. length line ≡ bytes) lines →
+    line < length lines → x < bytes →
     slice_index (flat_map (λ line. line) lines) (line * bytes + x) ≡ slice_index (slice_index_or lines line []) x
 byte_in_line bytes lines line x long within inside =
     let front = lines_long bytes (take line lines) (All-take (λ line. length line ≡ bytes) line lines long) in
@@ -86,7 +91,8 @@ byte_in_line bytes lines line x long within inside =
 
 -- ---- stores to no address
 
-unstored : (P : Store → Type 0) (address : ℕ) (stores : List Store) → All P stores → ((store : Store) → P store → (store.address ≡ address → ⊥)) → is_stored address stores ≡ false
+unstored : (P : Store → Type 0) (address : ℕ) (stores : List Store) → All P stores →
+    ((store : Store) → P store → (store.address ≡ address → ⊥)) → is_stored address stores ≡ false
 unstored P address [] all other = refl
 unstored P address (store ∷ stores) all other =
     or_from (store.address == address) (is_stored address stores) (ne_eqb store.address address (other store (All-head P store stores all)))
@@ -102,13 +108,15 @@ module _ (r : Ring) (is : IsRing r) where
       let here = below_end size r.blocks block x below inside in
       omega arith
 
-  pub one_address : (block other x y : ℕ) → block < r.blocks → other < r.blocks → x < size → y < size → block_address r block x ≡ block_address r other y → (block ≡ other) × (x ≡ y)
+  pub one_address : (block other x y : ℕ) → block < r.blocks → other < r.blocks → x < size → y < size →
+      block_address r block x ≡ block_address r other y → (block ≡ other) × (x ≡ y)
   one_address block other x y below below' inside inside' same =
       let room = is.enough in
       let one = offset_within block x below inside in
       let two = offset_within other y below' inside' in
       one_offset size block other x y inside inside'
-      (address_at-injective (memory_of r) (block * size + x) (other * size + y) (AreDisjoint-from_first_shared (memory_of r) is.pages.apart) (omega arith) (omega arith) same)
+      (address_at-injective (memory_of r) (block * size + x) (other * size + y) (AreDisjoint-from_first_shared (memory_of r) is.pages.apart)
+      (omega arith) (omega arith) same)
 
   pub address_granted : (block x : ℕ) → block < r.blocks → x < size → granted (ring_program r).grants (block_address r block x) ≡ true
   address_granted block x below inside =
@@ -144,13 +152,16 @@ module _ (r : Ring) (is : IsRing r) where
         let there : begin + k.at * 1 + (x - k.at * 1) ≡ begin + x = omega arith in
         lies.there
         ∙ unclipped_goes (memory_of r) k.clipped 1 begin k.at (x - k.at * 1) (address_at (memory_of r) (begin + x)) lies.holds.0
-        (ap (address_at (memory_of r)) (sym there) ∙ cut_goes k.clipped k.at k.n (x - k.at * 1) lies.holds.0 lies.holds.1.one.written (omega arith))
+        (ap (address_at (memory_of r)) (sym there)
+        ∙ cut_goes k.clipped k.at k.n (x - k.at * 1) lies.holds.0 lies.holds.1.one.written (omega arith))
 
-    pub line_goes : (x : ℕ) → x < r.line_bytes → address_in (line_parts_of (memory_of r) (track_on One strip) cuts) x ≡ Some (address_at (memory_of r) (begin + x))
+    pub line_goes : (x : ℕ) → x < r.line_bytes →
+        address_in (line_parts_of (memory_of r) (track_on One strip) cuts) x ≡ Some (address_at (memory_of r) (begin + x))
     line_goes x inside =
         goes_by x _
         (lies_in (memory_of r) strip.one IsGood r.line_bytes x cuts
-        (each_both IsPlainCut (IsSafeCut (memory_of r) strip) cuts (line_plain r number) (cuts_safe (memory_of r) strip (aligned r is) (line-IsStrip r number is below)))
+        (each_both IsPlainCut (IsSafeCut (memory_of r) strip) cuts (line_plain r number)
+        (cuts_safe (memory_of r) strip (aligned r is) (line-IsStrip r number is below)))
         (cuts_follow (memory_of r) strip (line-IsStrip r number is below)) (omega arith))
 
   -- ---- the stores of a block
@@ -172,10 +183,12 @@ module _ (r : Ring) (is : IsRing r) where
     line_below : (line : ℕ) → line < r.lines → block * r.lines + line < r.blocks * r.lines
     line_below line within = below_end r.lines r.blocks block line below within
 
-    address_of_line : (line x : ℕ) → address_at (memory_of r) ((block * r.lines + line) * r.line_bytes + x) ≡ block_address r block (line * r.line_bytes + x)
+    address_of_line : (line x : ℕ) →
+        address_at (memory_of r) ((block * r.lines + line) * r.line_bytes + x) ≡ block_address r block (line * r.line_bytes + x)
     address_of_line line x = ap (address_at (memory_of r)) (line_offset block r.lines r.line_bytes line x)
 
-    each_of_block : (line : ℕ) → line < length lines → EachByte (IsOfBlock block bytes) (cut_line (memory_of r) One (strip_of r block line) (slice_index_or lines line []))
+    each_of_block : (line : ℕ) → line < length lines →
+        EachByte (IsOfBlock block bytes) (cut_line (memory_of r) One (strip_of r block line) (slice_index_or lines line []))
     each_of_block line within x address inside goes =
         let this_long : length (slice_index_or lines line []) ≡ r.line_bytes = long line [] within in
         let there = line_goes (block * r.lines + line) (line_below line (omega arith)) x (omega arith) in
@@ -189,7 +202,9 @@ module _ (r : Ring) (is : IsRing r) where
         }
 
     pub all_of_block : All (IsOfBlock block bytes) stores
-    all_of_block = all_stores (memory_of r) One (strip_of r block) (IsOfBlock block bytes) lines (block_carries r is block below lines many long) each_of_block
+    all_of_block =
+        all_stores (memory_of r) One (strip_of r block) (IsOfBlock block bytes) lines
+        (block_carries r is block below lines many long) each_of_block
 
     pub stored_of_block : (x : ℕ) → x < size → is_stored (block_address r block x) stores ≡ true
     stored_of_block x inside =
@@ -202,7 +217,8 @@ module _ (r : Ring) (is : IsRing r) where
         let within : line < r.lines = (div-lt_iff_lt-mul wide).1 inside in
         let this_long : length (slice_index_or lines line []) ≡ r.line_bytes = long line [] (omega arith) in
         ap (λ (at : ℕ). is_stored (block_address r block at) stores) (sym split)
-        ∙ stored_there (memory_of r) One (strip_of r block) lines line rest (block_address r block (line * r.line_bytes + rest)) (block_carries r is block below lines many long) (omega arith) (omega arith)
+        ∙ stored_there (memory_of r) One (strip_of r block) lines line rest (block_address r block (line * r.line_bytes + rest))
+        (block_carries r is block below lines many long) (omega arith) (omega arith)
         (line_goes (block * r.lines + line) (line_below line within) rest rest_inside ∙ ap Some (address_of_line line rest))
 
     module _ (memory : List Block) (chunks : chunks_of memory ≡ (ring_program r).grants) where
@@ -213,18 +229,22 @@ module _ (r : Ring) (is : IsRing r) where
       block_holds x inside =
           let last =
           last_at (IsOfBlock block bytes) (ring_program r).grants memory stores (block_address r block x) chunks
-          (λ k other within. store_granted (slice_index_or stores k other) (all_of_block k other within)) all_of_block (stored_of_block x inside) in
+          (λ k other within. store_granted (slice_index_or stores k other) (all_of_block k other within)) all_of_block
+          (stored_of_block x inside) in
           let of = last.holds in
           let same = one_address block block x of.x below below inside of.inside (sym last.there ∙ of.there) in
           last.byte ∙ of.byte ∙ ap (slice_index bytes) (sym same.1)
 
-      pub others_hold : (address : ℕ) → ((x : ℕ) → x < size → (address ≡ block_address r block x → ⊥)) → byte_at (stored_all memory stores) address ≡ byte_at memory address
+      pub others_hold : (address : ℕ) → ((x : ℕ) → x < size → (address ≡ block_address r block x → ⊥)) →
+          byte_at (stored_all memory stores) address ≡ byte_at memory address
       others_hold address other =
-          byte_at-unstored memory stores address (unstored (IsOfBlock block bytes) address stores all_of_block (λ store of same. other of.x of.inside (sym same ∙ of.there)))
+          byte_at-unstored memory stores address
+          (unstored (IsOfBlock block bytes) address stores all_of_block (λ store of same. other of.x of.inside (sym same ∙ of.there)))
 
   -- ---- the stores of block ends
 
-  stores_more : (number count : ℕ) (lines : List (List ℕ)) → ring_stores r number (suc count) lines ≡ ring_stores r number count lines ++ block_stores r (number + count) (take r.lines (drop (count * r.lines) lines))
+  stores_more : (number count : ℕ) (lines : List (List ℕ)) → ring_stores r number (suc count) lines
+      ≡ ring_stores r number count lines ++ block_stores r (number + count) (take r.lines (drop (count * r.lines) lines))
   stores_more number zero lines =
       let none : number + 0 ≡ number = omega arith in
       let no_lines : 0 * r.lines ≡ 0 = omega arith in
@@ -235,23 +255,30 @@ module _ (r : Ring) (is : IsRing r) where
       let first = block_stores r number (take r.lines lines) in
       let past : count * r.lines + r.lines ≡ suc count * r.lines = omega (arith, line_end count r.lines) in
       let behind : drop (count * r.lines) (drop r.lines lines) ≡ drop (suc count * r.lines) lines =
-      drop-drop (count * r.lines) r.lines lines ∙ ap (λ (n : ℕ). drop n lines) (let turned : r.lines + count * r.lines ≡ suc count * r.lines = omega arith in turned) in
+      drop-drop (count * r.lines) r.lines lines
+      ∙ ap (λ (n : ℕ). drop n lines) (let turned : r.lines + count * r.lines ≡ suc count * r.lines = omega arith in turned) in
       ap (λ (rest : List Store). first ++ rest) (stores_more (suc number) count (drop r.lines lines))
-      ∙ sym (append_assoc first (ring_stores r (suc number) count (drop r.lines lines)) (block_stores r (suc number + count) (take r.lines (drop (count * r.lines) (drop r.lines lines)))))
-      ∙ ap (λ (n : ℕ). (first ++ ring_stores r (suc number) count (drop r.lines lines)) ++ block_stores r n (take r.lines (drop (count * r.lines) (drop r.lines lines)))) next
-      ∙ ap (λ (rest : List (List ℕ)). (first ++ ring_stores r (suc number) count (drop r.lines lines)) ++ block_stores r (number + suc count) (take r.lines rest)) behind
+      ∙ sym (append_assoc first (ring_stores r (suc number) count (drop r.lines lines))
+      (block_stores r (suc number + count) (take r.lines (drop (count * r.lines) (drop r.lines lines)))))
+      ∙ ap (λ (n : ℕ). (first ++ ring_stores r (suc number) count (drop r.lines lines))
+      ++ block_stores r n (take r.lines (drop (count * r.lines) (drop r.lines lines)))) next
+      ∙ ap (λ (rest : List (List ℕ)).
+      (first ++ ring_stores r (suc number) count (drop r.lines lines)) ++ block_stores r (number + suc count) (take r.lines rest)) behind
 
-  module _ (memory : List Block) (chunks : chunks_of memory ≡ (ring_program r).grants) (lines : List (List ℕ)) (long : AreLong r lines) where
+  module _ (memory : List Block) (chunks : chunks_of memory ≡ (ring_program r).grants) (lines : List (List ℕ))
+      (long : AreLong r lines) where
     abbrev after : ℕ → List Block
     after count = stored_all memory (ring_stores r 0 count lines)
 
     abbrev lines_at : ℕ → List (List ℕ)
     lines_at number = take r.lines (drop (number * r.lines) lines)
 
-    after_more : (count : ℕ) → after (suc count) ≡ stored_all (after count) (lines_stores (block_lines_cut r (count % r.blocks) (lines_at count)))
+    after_more : (count : ℕ) →
+        after (suc count) ≡ stored_all (after count) (lines_stores (block_lines_cut r (count % r.blocks) (lines_at count)))
     after_more count =
         let from : 0 + count ≡ count = omega arith in
-        ap (stored_all memory) (stores_more 0 count lines) ∙ stored_all-append memory (ring_stores r 0 count lines) (block_stores r (0 + count) (lines_at count))
+        ap (stored_all memory) (stores_more 0 count lines)
+        ∙ stored_all-append memory (ring_stores r 0 count lines) (block_stores r (0 + count) (lines_at count))
         ∙ ap (λ (n : ℕ). stored_all (after count) (block_stores r n (lines_at count))) from
 
     after_chunks : (count : ℕ) → chunks_of (after count) ≡ (ring_program r).grants
@@ -264,7 +291,9 @@ module _ (r : Ring) (is : IsRing r) where
         omega (arith, length-take r.lines (drop (number * r.lines) lines), length-drop (number * r.lines) lines)
 
     at_long : (number : ℕ) → AreLong r (lines_at number)
-    at_long number = All-take (λ line. length line ≡ r.line_bytes) r.lines (drop (number * r.lines) lines) (All-drop (λ line. length line ≡ r.line_bytes) (number * r.lines) lines long)
+    at_long number =
+        All-take (λ line. length line ≡ r.line_bytes) r.lines (drop (number * r.lines) lines)
+        (All-drop (λ line. length line ≡ r.line_bytes) (number * r.lines) lines long)
 
     pub blocks_hold : (count block x : ℕ) → count * r.lines ≤ length lines → block < r.blocks → x < size →
         byte_at (after count) (block_address r block x) ≡ byte_of (held r lines block count) x (byte_at memory (block_address r block x))
@@ -278,23 +307,28 @@ module _ (r : Ring) (is : IsRing r) where
         ap (λ (now : List Block). byte_at now address) (after_more count)
         ∙ ⊎_elim
         (λ same.
-        ap (λ (b : ℕ). byte_at (stored_all (after count) (lines_stores (block_lines_cut r here (lines_at count)))) (block_address r b x)) (sym same)
+        ap (λ (b : ℕ). byte_at (stored_all (after count) (lines_stores (block_lines_cut r here (lines_at count)))) (block_address r b x))
+        (sym same)
         ∙ block_holds here here_below (lines_at count) many (at_long count) (after count) (after_chunks count) x inside
-        ∙ ap (λ (bytes : Option (List ℕ)). byte_of bytes x (byte_at memory address)) (sym (cond-true (here == block) (Some (brought r lines count)) (held r lines block count) (eq-eqb here block same))))
+        ∙ ap (λ (bytes : Option (List ℕ)). byte_of bytes x (byte_at memory address))
+        (sym (cond-true (here == block) (Some (brought r lines count)) (held r lines block count) (eq-eqb here block same))))
         (λ other.
         others_hold here here_below (lines_at count) many (at_long count) (after count) (after_chunks count) address
         (λ y within e. other (sym (one_address block here x y below here_below inside within e).0))
         ∙ blocks_hold count block x (omega arith) below inside
-        ∙ ap (λ (bytes : Option (List ℕ)). byte_of bytes x (byte_at memory address)) (sym (cond-false (here == block) (Some (brought r lines count)) (held r lines block count) (ne_eqb here block other))))
+        ∙ ap (λ (bytes : Option (List ℕ)). byte_of bytes x (byte_at memory address))
+        (sym (cond-false (here == block) (Some (brought r lines count)) (held r lines block count) (ne_eqb here block other))))
         (cases_eq here block)
 
-    pub rest_holds : (count address : ℕ) → count * r.lines ≤ length lines → IsOutside r address → byte_at (after count) address ≡ byte_at memory address
+    pub rest_holds : (count address : ℕ) → count * r.lines ≤ length lines → IsOutside r address →
+        byte_at (after count) address ≡ byte_at memory address
     rest_holds zero address enough outside = refl
     rest_holds (suc count) address enough outside =
         let step = mul-le count r.lines (suc count) r.lines (omega arith) (omega arith) in
         let here = count % r.blocks in
         let here_below : here < r.blocks = mod-lt count (some_blocks r is) in
         ap (λ (now : List Block). byte_at now address) (after_more count)
-        ∙ others_hold here here_below (lines_at count) (at_many count (suc count) (omega arith) enough) (at_long count) (after count) (after_chunks count) address
+        ∙ others_hold here here_below (lines_at count) (at_many count (suc count) (omega arith) enough) (at_long count) (after count)
+        (after_chunks count) address
         (λ y within e. outside (here * size + y) (offset_within here y here_below within) e)
         ∙ rest_holds count address (omega arith) outside

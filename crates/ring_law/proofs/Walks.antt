@@ -1,5 +1,6 @@
 -- Instructions of a ring as the machine goes through them, the JUMPs among them, with the blocks that are still to end.
-use Rattle.std.proofs.Common.{Bool, List, None, Ok, Option, Some, [], ap, drop, length, refl, ℕ, ◌*◌, ◌++◌, ◌+◌, ◌-◌, ◌<◌, ◌==◌, ◌∷◌, ◌≡◌, false, true}
+use Rattle.std.proofs.Common.{Bool, List, None, Ok, Option, Some, [], ap, drop, length, refl, ℕ, ◌*◌, ◌++◌, ◌+◌, ◌-◌, ◌<◌, ◌==◌, ◌∷◌, ◌≡◌}
+use Rattle.std.proofs.Common.{false, true}
 use Rattle.std.proofs.lemmas.Bool.{cond-false, cond-true}
 use Rattle.ring_model.specs.Runs.{BlockAt, ended_by}
 use Rattle.risc_word.specs.declared.Code.{Code}
@@ -14,7 +15,8 @@ use Rattle.machine_model.specs.Paths.{RiscProgram, demands_cause, demands_of, fe
 use Rattle.risc_word.specs.Parts.{instr_ctl}
 use Rattle.machine_model.specs.States.{State}
 use Rattle.risc_word.specs.Words.{code_number, encoded}
-use Rattle.machine_model.specs.Turns.{code_seen, common_code, is_done, lowest_stray, met, stray_seen, waited, with_fdsr_unless, with_queue, without_codes}
+use Rattle.machine_model.specs.Turns.{code_seen, common_code, is_done, lowest_stray, met, stray_seen, waited, with_fdsr_unless, with_queue}
+use Rattle.machine_model.specs.Turns.{without_codes}
 use Rattle.ring_model.specs.Rings.{mark}
 use Rattle.fifo_model.specs.Queues.{queue_state, removed}
 
@@ -47,7 +49,8 @@ IsMarked block_at instr at = (block : ℕ) → ends_at block_at instr at ≡ blo
 abbrev pub Walks : RiscProgram → BlockAt → ℕ → List Instr → List ℕ → Type 0
 Walks program block_at pc [] left = left ≡ []
 Walks program block_at pc (instr ∷ rest) left =
-    (later : List ℕ) × (left ≡ ends_at block_at instr pc ++ later) × (0 < length left) × (fetch program pc ≡ Ok (instr, length (encoded instr)))
+    (later : List ℕ) × (left ≡ ends_at block_at instr pc ++ later) × (0 < length left)
+    × (fetch program pc ≡ Ok (instr, length (encoded instr)))
     × IsOfRing program instr × IsMarked block_at instr pc × Walks program block_at (next_at instr pc) rest later
 
 -- the blocks that are left without the one that an instruction ends
@@ -82,11 +85,13 @@ met_rests : (same : Bool) (ctl : Ctl) (resync : Bool) (m : State) → IsAtRest m
 met_rests true ctl resync m rests = tt
 met_rests false ctl resync m rests = unless_rests resync (without_codes m) rests
 
-code_rests : (seen : Option Code) (ctl : Ctl) (resync : Bool) (code : Code) (m : State) → IsAtRest m.job → IsAtRest (code_seen seen ctl resync code m).job
+code_rests : (seen : Option Code) (ctl : Ctl) (resync : Bool) (code : Code) (m : State) → IsAtRest m.job →
+    IsAtRest (code_seen seen ctl resync code m).job
 code_rests None ctl resync code m rests = rests
 code_rests (Some seen) ctl resync code m rests = met_rests (code_number seen == code_number code) ctl resync m rests
 
-stray_rests : (stray : Option Queue) (ctl : Ctl) (resync : Bool) (code : Code) (m : State) → IsAtRest m.job → IsAtRest (stray_seen stray ctl resync code m).job
+stray_rests : (stray : Option Queue) (ctl : Ctl) (resync : Bool) (code : Code) (m : State) → IsAtRest m.job →
+    IsAtRest (stray_seen stray ctl resync code m).job
 stray_rests (Some q) ctl resync code m rests = unless_rests resync (with_queue q (removed (queue_state q m.queues)) m) rests
 stray_rests None ctl resync code m rests = code_rests (common_code m.queues) ctl resync code m rests
 
@@ -94,7 +99,8 @@ pub waited-IsAtRest : (ctl : Ctl) (resync : Bool) (code : Code) (m : State) → 
 waited-IsAtRest ctl resync code m rests = stray_rests (lowest_stray m.queues) ctl resync code m rests
 
 -- the retirement of an instruction is the block end that is known of it
-pub retired_ends : (block_at : BlockAt) (instr : Instr) (ds : Demands) (pc : ℕ) → is_done ds ≡ true → end_list (ended_by block_at (Running instr ds) pc) ≡ ends_at block_at instr (pc - 8)
+pub retired_ends : (block_at : BlockAt) (instr : Instr) (ds : Demands) (pc : ℕ) → is_done ds ≡ true →
+    end_list (ended_by block_at (Running instr ds) pc) ≡ ends_at block_at instr (pc - 8)
 retired_ends block_at (Write ctl ends off count address) ds pc done = ap end_list (cond-true (is_done ds) (block_at (pc - 8)) None done)
 retired_ends block_at (Skip ctl ends count) ds pc done = refl
 retired_ends block_at (WriteC ctl ends off count) ds pc done = refl
@@ -104,7 +110,8 @@ retired_ends block_at (Write123 ctl ends off counts addrs) ds pc done = refl
 retired_ends block_at (Skip123 ctl ends counts) ds pc done = refl
 retired_ends block_at (Write1S23 ctl ends off counts addr) ds pc done = refl
 
-pub unretired_ends : (block_at : BlockAt) (instr : Instr) (ds : Demands) (pc : ℕ) → is_done ds ≡ false → ended_by block_at (Running instr ds) pc ≡ None
+pub unretired_ends : (block_at : BlockAt) (instr : Instr) (ds : Demands) (pc : ℕ) → is_done ds ≡ false →
+    ended_by block_at (Running instr ds) pc ≡ None
 unretired_ends block_at (Write ctl ends off count address) ds pc undone = cond-false (is_done ds) (block_at (pc - 8)) None undone
 unretired_ends block_at (Skip ctl ends count) ds pc undone = refl
 unretired_ends block_at (WriteC ctl ends off count) ds pc undone = refl

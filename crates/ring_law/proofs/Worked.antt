@@ -33,7 +33,8 @@ entries Three = control_entry Fm1 ∷ []
 abbrev unfinished : List Entry
 unfinished = entry 2 0x33323130 ∷ []
 
-order : (q : Queue) → (queue_state q waiting.queues).entries ++ pushed_in (early ++ Turn ∷ []) q ≡ before q ++ (entries q ++ left_on unfinished q)
+order : (q : Queue) →
+    (queue_state q waiting.queues).entries ++ pushed_in (early ++ Turn ∷ []) q ≡ before q ++ (entries q ++ left_on unfinished q)
 order One = refl
 order Two = refl
 order Three = refl
@@ -111,7 +112,9 @@ ring_is =
     }
 
 pub two_made : All IsStep run_steps
-two_made = All-from_recursion IsStep run_steps (tt, (refl, (tt, (refl, (refl, (refl, (refl, (refl, (tt, (tt, (tt, (tt, (tt, (tt, (tt, (tt, (tt, (tt, tt))))))))))))))))))
+two_made =
+    All-from_recursion IsStep run_steps
+    (tt, (refl, (tt, (refl, (refl, (refl, (refl, (refl, (tt, (tt, (tt, (tt, (tt, (tt, (tt, (tt, (tt, (tt, tt))))))))))))))))))
 
 pub ends_second_block : EndsBlockAt two_lines two_whole run_steps 1 17 1
 ends_second_block =
@@ -126,11 +129,14 @@ ends_second_block =
 -- ---- the first block is filled a second time
 
 abbrev three_entries : Queue → List Entry
-three_entries One = control_entry Fm1 ∷ entry 2 0x13121110 ∷ entry 1 0x17161514 ∷ entry 2 0x23222120 ∷ entry 1 0x27262524 ∷ entry 2 0x33323130 ∷ entry 1 0x37363534 ∷ []
+three_entries One =
+    control_entry Fm1 ∷ entry 2 0x13121110 ∷ entry 1 0x17161514 ∷ entry 2 0x23222120 ∷ entry 1 0x27262524 ∷ entry 2 0x33323130
+    ∷ entry 1 0x37363534 ∷ []
 three_entries Two = control_entry Fm1 ∷ []
 three_entries Three = control_entry Fm1 ∷ []
 
-three_order : (q : Queue) → (queue_state q waiting.queues).entries ++ pushed_in (three_early ++ Turn ∷ []) q ≡ before q ++ (three_entries q ++ left_on [] q)
+three_order : (q : Queue) →
+    (queue_state q waiting.queues).entries ++ pushed_in (three_early ++ Turn ∷ []) q ≡ before q ++ (three_entries q ++ left_on [] q)
 three_order One = refl
 three_order Two = refl
 three_order Three = refl
@@ -169,7 +175,8 @@ nothing_unfinished =
     }
 
 three_kept : AreKept waiting (meeting waiting.program (three_early ++ Turn ∷ []))
-three_kept = (refl, (refl, (refl, (refl, (refl, (refl, (refl, (refl, (tt, (tt, (tt, (tt, (tt, (tt, (tt, (tt, (tt, (tt, (tt, (tt, (tt, (tt, (tt, tt)))))))))))))))))))))))
+three_kept =
+    (refl, (refl, (refl, (refl, (refl, (refl, (refl, (refl, (tt, (tt, (tt, (tt, (tt, (tt, (tt, (tt, (tt, (tt, (tt, (tt, (tt, (tt, (tt, tt)))))))))))))))))))))))
 
 three_run : IsRingRun two_lines three_whole waiting (three_early ++ Turn ∷ [])
 three_run =
@@ -191,7 +198,9 @@ three_run =
     }
 
 pub three_made : All IsStep three_steps
-three_made = All-from_recursion IsStep three_steps (tt, (refl, (tt, (refl, (refl, (refl, (refl, (refl, (refl, (tt, (tt, (tt, (tt, (tt, (tt, (tt, (tt, (tt, (tt, (tt, (tt, (tt, (tt, (tt, tt))))))))))))))))))))))))
+three_made =
+    All-from_recursion IsStep three_steps
+    (tt, (refl, (tt, (refl, (refl, (refl, (refl, (refl, (refl, (tt, (tt, (tt, (tt, (tt, (tt, (tt, (tt, (tt, (tt, (tt, (tt, (tt, (tt, (tt, tt))))))))))))))))))))))))
 
 pub ends_first_block_again : EndsBlockAt two_lines three_whole three_steps 1 23 0
 ends_first_block_again =

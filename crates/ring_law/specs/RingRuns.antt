@@ -1,6 +1,7 @@
 -- Runs over a ring: what arrives in it, and what its blocks hold.
 use Rattle.std.specs.List.{All, flat_map}
-use Rattle.std.specs.Prelude.{List, None, Option, Some, [], drop, if◌then◌else◌, length, map, slice_index, suc, take, true, zero, ℕ, ◌%◌, ◌*◌, ◌++◌, ◌+◌, ◌<◌, ◌==◌, ◌∷◌, ◌≡◌, ◌≤◌}
+use Rattle.std.specs.Prelude.{List, None, Option, Some, [], drop, if◌then◌else◌, length, map, slice_index, suc, take, true, zero, ℕ, ◌%◌}
+use Rattle.std.specs.Prelude.{◌*◌, ◌++◌, ◌+◌, ◌<◌, ◌==◌, ◌∷◌, ◌≡◌, ◌≤◌}
 use Rattle.field_law.specs.Arrivals.{AreKept, HasCode, meeting, pushed_in}
 use Rattle.field_law.specs.Fields.{Brings, IsLine, Mark, Row, Token}
 use Rattle.fifo_model.specs.declared.Entry.{Entry}
@@ -89,5 +90,6 @@ pub record ShowsBlocks (r : Ring) (lines : List (List ℕ)) (number : ℕ) (m no
   pub raised : has risci now.interrupts ≡ true
   pub status : risc_status now.interrupts ≡ number % r.blocks
   pub blocks : (block x : ℕ) → block < r.blocks → x < r.lines * r.line_bytes →
-      byte_at now.memory (block_address r block x) ≡ byte_of (held r lines block (suc number)) x (byte_at m.memory (block_address r block x))
+      byte_at now.memory (block_address r block x)
+      ≡ byte_of (held r lines block (suc number)) x (byte_at m.memory (block_address r block x))
   pub rest : (address : ℕ) → IsOutside r address → byte_at now.memory address ≡ byte_at m.memory address

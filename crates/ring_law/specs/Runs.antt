@@ -29,18 +29,22 @@ ends_between r steps j k = block_ends (ends r) (state_of r steps j) (between j k
 
 -- step k ends the block whose turn it is, and after it the lines are in the blocks, against memory at place j
 abbrev pub RunShowsBlocks : Type 0
-RunShowsBlocks = (r : Ring) (lines : List (List ℕ)) (steps : List Step) (j k block : ℕ) → All IsStep steps → EndsBlockAt r lines steps j k block →
-    (block ≡ ends_between r steps j k % r.blocks) × ShowsBlocks r lines (ends_between r steps j k) (state_of r steps j) (state_of r steps (k + 1))
+RunShowsBlocks =
+    (r : Ring) (lines : List (List ℕ)) (steps : List Step) (j k block : ℕ) → All IsStep steps → EndsBlockAt r lines steps j k block →
+    (block ≡ ends_between r steps j k % r.blocks)
+    × ShowsBlocks r lines (ends_between r steps j k) (state_of r steps j) (state_of r steps (k + 1))
 
 -- no turn from place j up to step k sets FDSR, whether or not the bit is set already
 abbrev pub RunShowsNoFault : Type 0
-RunShowsNoFault = (r : Ring) (lines : List (List ℕ)) (steps : List Step) (j k block i : ℕ) → All IsStep steps → EndsBlockAt r lines steps j k block →
+RunShowsNoFault =
+    (r : Ring) (lines : List (List ℕ)) (steps : List Step) (j k block i : ℕ) → All IsStep steps → EndsBlockAt r lines steps j k block →
     j ≤ i → i ≤ k → step_at steps i ≡ Turn → sets_fdsr (state_of r steps i) ≡ false
 
 -- the block ends that are seen of the turns are the block ends, at each safe state of a ring's program and over steps
 -- from one
 abbrev pub TurnsSeenEndBlocks : Type 0
-TurnsSeenEndBlocks = (r : Ring) (m : State) → IsRing r → m.program ≡ ring_program r → IsSafe m → end_seen (ends r) (seen m) ≡ block_end (ends r) m Turn
+TurnsSeenEndBlocks =
+    (r : Ring) (m : State) → IsRing r → m.program ≡ ring_program r → IsSafe m → end_seen (ends r) (seen m) ≡ block_end (ends r) m Turn
 
 abbrev pub BlocksSeenAreEnded : Type 0
 BlocksSeenAreEnded = (r : Ring) (m : State) (steps : List Step) → IsRing r → m.program ≡ ring_program r → IsSafe m → All IsStep steps →

@@ -12,7 +12,8 @@ waiting = run machine (Turn ∷ [])
 
 abbrev pub brought_steps : List Step
 brought_steps =
-    Push One (entry 0 0xffffffff) ∷ Control Fm1 ∷ line_of 0x13121110 0x17161514 ++ line_of 0x23222120 0x27262524 ++ Push One (entry 2 0x33323130) ∷ []
+    Push One (entry 0 0xffffffff) ∷ Control Fm1 ∷ line_of 0x13121110 0x17161514 ++ line_of 0x23222120 0x27262524
+    ++ Push One (entry 2 0x33323130) ∷ []
 
 -- the entry goes, FM1 is met, and each line has a turn that begins its WRITE, two that move its entries and one that retires it;
 -- the last of these comes after the steps

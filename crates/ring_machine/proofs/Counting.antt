@@ -11,8 +11,12 @@ use Rattle.machine_watch.specs.Watches.{kept_after, next, written}
 use Rattle.ring_machine.specs.States.{Counted, block_notes, counted}
 
 -- where the count has room
-counted_one : (block : Option ℕ) (k : Counted) → k.blocks + one_if block ≤ 2 ^ 64 - 1 → counted block k ≡ record k { blocks = k.blocks + one_if block }
-counted_one (Some block) k room = let one : (counted (Some block) k).blocks ≡ k.blocks + 1 = omega (arith, room) in ap (λ (n : ℕ). record k { blocks = n }) one
+counted_one : (block : Option ℕ) (k : Counted) → k.blocks + one_if block ≤ 2 ^ 64 - 1 → counted block k ≡ record k {
+  blocks = k.blocks + one_if block;
+}
+counted_one (Some block) k room =
+    let one : (counted (Some block) k).blocks ≡ k.blocks + 1 = omega (arith, room) in
+    ap (λ (n : ℕ). record k { blocks = n }) one
 counted_one None k room = let none : k.blocks ≡ k.blocks + 0 = omega arith in ap (λ (n : ℕ). record k { blocks = n }) none
 
 none_ended : (k : Counted) → k ≡ record k { blocks = k.blocks + 0 }

@@ -24,7 +24,8 @@ second_at base (i ∷ instrs) last =
 -- how long the program is
 pub ring_length : (r : Ring) → length (words_of (ring_instrs r)) ≡ 2 + length (words_of (round r)) + 2
 ring_length r =
-    let all = ap length (words_split (opening ∷ round r) (closing r) []) ∙ split_length (words_of (opening ∷ round r)) (encoded (closing r)) [] in
+    let all =
+    ap length (words_split (opening ∷ round r) (closing r) []) ∙ split_length (words_of (opening ∷ round r)) (encoded (closing r)) [] in
     omega arith
 
 module _ (r : Ring) (is : IsRing r) (program : RiscProgram) (grants : program.grants ≡ in_order (memory_of r)) where
@@ -53,5 +54,6 @@ module _ (r : Ring) (is : IsRing r) where
       let There = IsAt program.base instrs in
       let good = good_front r is program refl in
       circle_sound program instrs refl ring_fine
-      (lead_plain There (opening ∷ round r) (closing r) [] (each_only (IsGoodInstr program) IsPlain (opening ∷ round r) (λ i g. g.plain) good) (second_at program.base (round r) (closing r)) tt)
+      (lead_plain There (opening ∷ round r) (closing r) []
+      (each_only (IsGoodInstr program) IsPlain (opening ∷ round r) (λ i g. g.plain) good) (second_at program.base (round r) (closing r)) tt)
       (record { before = []; instr = opening; after = round r ++ closing r ∷ []; split = refl; at = omega arith })

@@ -12,7 +12,8 @@ use Rattle.picture_model.specs.declared.Piece.{Piece}
 use Rattle.picture_model.specs.Plans.{Cut, Strip, cuts_from, cuts_of, longest, piece_of, kind_of}
 use Rattle.picture_model.specs.Programs.{instr_of, instr_by, words_of}
 use Rattle.picture_model.proofs.Each.{Each, each_append, each_map}
-use Rattle.ring_model.specs.Rings.{Ring, block_instrs, blocks_instrs, last_with, line_instrs, line_strip, lines_instrs, mark, memory_of, with_control}
+use Rattle.ring_model.specs.Rings.{Ring, block_instrs, blocks_instrs, last_with, line_instrs, line_strip, lines_instrs, mark, memory_of}
+use Rattle.ring_model.specs.Rings.{with_control}
 
 -- a WRITE of which no lane is off
 abbrev pub IsWrite : Instr → Type 0
@@ -63,7 +64,8 @@ last_length ctl (i ∷ next ∷ rest) = let more = last_length ctl (next ∷ res
 abbrev pub IsPlainCut : Cut → Type 0
 IsPlainCut k = k.clipped ≡ false
 
-plain_cuts : (memory : List Chunk) (strip : Strip) (s : Span) (fuel rest at : ℕ) → s.clipped ≡ false → Each IsPlainCut (cuts_from fuel rest memory strip s at)
+plain_cuts : (memory : List Chunk) (strip : Strip) (s : Span) (fuel rest at : ℕ) → s.clipped ≡ false →
+    Each IsPlainCut (cuts_from fuel rest memory strip s at)
 plain_cuts memory strip s zero rest at plain = tt
 plain_cuts memory strip s (suc fuel) zero at plain = tt
 plain_cuts memory strip s (suc fuel) (suc rest) at plain =
@@ -75,8 +77,10 @@ write_piece r n k plain =
 
 pub line_plain : (r : Ring) (n : ℕ) → Each IsPlainCut (cuts_of (memory_of r) (line_strip r n) (line_strip r n).spans)
 line_plain r n =
-    each_append IsPlainCut (cuts_from (r.line_bytes - 0) (r.line_bytes - 0) (memory_of r) (line_strip r n) (record { from = 0; to = r.line_bytes; clipped = false }) 0) []
-    (plain_cuts (memory_of r) (line_strip r n) (record { from = 0; to = r.line_bytes; clipped = false }) (r.line_bytes - 0) (r.line_bytes - 0) 0 refl) tt
+    each_append IsPlainCut (cuts_from (r.line_bytes - 0) (r.line_bytes - 0) (memory_of r) (line_strip r n)
+    (record { from = 0; to = r.line_bytes; clipped = false }) 0) []
+    (plain_cuts (memory_of r) (line_strip r n) (record { from = 0; to = r.line_bytes; clipped = false }) (r.line_bytes - 0)
+    (r.line_bytes - 0) 0 refl) tt
 
 pub line_writes : (r : Ring) (n : ℕ) → Each IsWrite (line_instrs r n)
 line_writes r n =
@@ -86,10 +90,12 @@ line_writes r n =
     each_map (λ (p : Piece). IsWrite (instr_of false p)) IsWrite (instr_of false) (map (piece_of memory strip) cuts) (λ p write. write)
     (each_map IsPlainCut (λ (p : Piece). IsWrite (instr_of false p)) (piece_of memory strip) cuts (write_piece r n) (line_plain r n))
 
-every : (instrs : ℕ → List Instr) (first count : ℕ) → ((n : ℕ) → Each IsWrite (instrs n)) → Each IsWrite (flat_map instrs (range_with_len first count))
+every : (instrs : ℕ → List Instr) (first count : ℕ) → ((n : ℕ) → Each IsWrite (instrs n)) →
+    Each IsWrite (flat_map instrs (range_with_len first count))
 every instrs first zero each = tt
 every instrs first (suc count) each =
-    each_append IsWrite (instrs first) (flat_map instrs (range_with_len (first + 1) count)) (each first) (every instrs (first + 1) count each)
+    each_append IsWrite (instrs first) (flat_map instrs (range_with_len (first + 1) count)) (each first)
+    (every instrs (first + 1) count each)
 
 pub block_writes : (r : Ring) (block : ℕ) → Each IsWrite (block_instrs r block)
 block_writes r block =

@@ -1,6 +1,7 @@
 -- A ring of blocks in memory, and its program. Blocks, lines and pieces are counted from 0; offsets are bytes,
 -- counted along the pages.
-use Rattle.std.specs.Prelude.{◌≡◌, ℕ, suc, ◌+◌, ◌-◌, ◌*◌, ◌%◌, ◌^◌, ◌<◌, ◌≤◌, true, false, ◌==◌, List, [], ◌∷◌, ◌++◌, length, map, Option, Some, None}
+use Rattle.std.specs.Prelude.{◌≡◌, ℕ, suc, ◌+◌, ◌-◌, ◌*◌, ◌%◌, ◌^◌, ◌<◌, ◌≤◌, true, false, ◌==◌, List, [], ◌∷◌, ◌++◌, length, map, Option}
+use Rattle.std.specs.Prelude.{Some, None}
 use Rattle.std.specs.List.{All, flat_map, list_any, position, range_with_len}
 use Rattle.risc_word.specs.declared.Code.TheVariants.{Fm1}
 use Rattle.risc_word.specs.declared.Ctl.{Ctl}

@@ -1,5 +1,6 @@
 -- How far a text agrees with lines.
-use Rattle.std.proofs.Common.{◌≡◌, ◌≢◌, ℕ, ◌+◌, ◌-◌, ◌<◌, ◌≤◌, Bool, true, false, List, [], ◌++◌, length, length-append, take, drop, sym, ap, ◌∙◌, arith, inl, inr, append_assoc, take-append-drop}
+use Rattle.std.proofs.Common.{◌≡◌, ◌≢◌, ℕ, ◌+◌, ◌-◌, ◌<◌, ◌≤◌, Bool, true, false, List, [], ◌++◌, length, length-append, take, drop, sym}
+use Rattle.std.proofs.Common.{ap, ◌∙◌, arith, inl, inr, append_assoc, take-append-drop}
 use Rattle.std.specs.Borrow.{Bor}
 use Rattle.std.specs.Cmp.Lexicographic.{pointwise, bytes_decides}
 use Rattle.std.specs.Prelude.{◌==◌, slice_index, Result, Ok, Err}
@@ -29,7 +30,8 @@ piece_found text piece rest is rest_is =
     ∙ ap (λ (list : List ℕ). piece ++ list) (sym rest_is)
 
 pub piece_differs : (k : ℕ) (text piece left : List ℕ) → k ≤ length text → k ≤ length piece → take k text ≡ take k piece →
-    (k < length text → k < length piece → slice_index text k ≢ slice_index piece k) → is_front piece text ≡ false → left ≡ drop k text → Differs piece text left
+    (k < length text → k < length piece → slice_index text k ≢ slice_index piece k) → is_front piece text ≡ false → left ≡ drop k text →
+    Differs piece text left
 piece_differs k text piece left within also same longest isnt left_is = record {
   shown = take k text;
   more = drop k piece;
@@ -74,17 +76,23 @@ then_differs a b text rest left is d = record {
 pub then_found : (a b text rest left : List ℕ) → text ≡ a ++ rest → rest ≡ b ++ left → text ≡ (a ++ b) ++ left
 then_found a b text rest left is next = is ∙ ap (λ (list : List ℕ). a ++ list) next ∙ sym (append_assoc a b left)
 
-pub then_lines : (a b text rest : List ℕ) (result : Result (Bor (List ℕ)) (Bor (List ℕ))) → text ≡ a ++ rest → WithoutLines b rest result → WithoutLines (a ++ b) text result
+pub then_lines : (a b text rest : List ℕ) (result : Result (Bor (List ℕ)) (Bor (List ℕ))) → text ≡ a ++ rest → WithoutLines b rest result →
+    WithoutLines (a ++ b) text result
 then_lines a b text rest (Ok left) is next = then_found a b text rest left.now is next
 then_lines a b text rest (Err left) is next = then_differs a b text rest left.now is next
 
 -- ---- the whole listing
 
 -- the last lines
-pub end_alike : (k : ℕ) (text lines : List ℕ) → k ≤ length text → k ≤ length lines → take k text ≡ take k lines → (k < length text → k < length lines → slice_index text k ≢ slice_index lines k) → (text ≡ lines → ⊥) →
+pub end_alike : (k : ℕ) (text lines : List ℕ) → k ≤ length text → k ≤ length lines → take k text ≡ take k lines →
+    (k < length text → k < length lines → slice_index text k ≢ slice_index lines k) → (text ≡ lines → ⊥) →
     IsAlike k text lines
 end_alike k text lines within also same longest other = record {
-  starts = record { within = within; more = drop k lines; is = sym (take-append-drop k lines) ∙ ap (λ (list : List ℕ). list ++ drop k lines) (sym same) };
+  starts = record {
+    within = within;
+    more = drop k lines;
+    is = sym (take-append-drop k lines) ∙ ap (λ (list : List ℕ). list ++ drop k lines) (sym same);
+  };
   other = other;
   apart = λ inside rest whole.
       let size : length lines ≡ length text + length rest = ap length whole ∙ length-append text rest in
@@ -92,33 +100,41 @@ end_alike k text lines within also same longest other = record {
 }
 
 -- bytes up to what differs
-pub alike_before : (n : ℕ) (lines last text left : List ℕ) → n ≡ length text - length left → Differs lines text left → IsAlike n text (lines ++ last)
+pub alike_before : (n : ℕ) (lines last text left : List ℕ) → n ≡ length text - length left → Differs lines text left →
+    IsAlike n text (lines ++ last)
 alike_before n lines last text left n_is d =
     let size : length text ≡ length d.shown + length left = ap length d.text_is ∙ length-append d.shown left in
     let long : n ≡ length d.shown = omega arith in
-    let front : take n text ≡ d.shown = ap (λ (n : ℕ). take n text) long ∙ ap (take (length d.shown)) d.text_is ∙ take-append_seam d.shown left in
+    let front : take n text ≡ d.shown =
+    ap (λ (n : ℕ). take n text) long ∙ ap (take (length d.shown)) d.text_is ∙ take-append_seam d.shown left in
     record {
       starts = record {
         within = omega arith;
         more = d.more ++ last;
-        is = ap (λ (list : List ℕ). list ++ last) d.lines_are ∙ append_assoc d.shown d.more last ∙ ap (λ (list : List ℕ). list ++ (d.more ++ last)) (sym front);
+        is =
+            ap (λ (list : List ℕ). list ++ last) d.lines_are ∙ append_assoc d.shown d.more last
+            ∙ ap (λ (list : List ℕ). list ++ (d.more ++ last)) (sym front);
       };
       other = λ same. d.not_in_front last same;
       apart = λ inside rest same. d.apart (omega arith) last rest same;
     }
 
 -- bytes after lines that are in front
-pub alike_after : (n k : ℕ) (lines last text rest : List ℕ) → text ≡ lines ++ rest → n ≡ length text - length rest + k → IsAlike k rest last → IsAlike n text (lines ++ last)
+pub alike_after : (n k : ℕ) (lines last text rest : List ℕ) → text ≡ lines ++ rest → n ≡ length text - length rest + k →
+    IsAlike k rest last → IsAlike n text (lines ++ last)
 alike_after n k lines last text rest is n_is end =
     let size : length text ≡ length lines + length rest = ap length is ∙ length-append lines rest in
     let within = end.starts.within in
     let long : n ≡ length lines + k = omega arith in
-    let front : take n text ≡ lines ++ take k rest = ap (λ (n : ℕ). take n text) long ∙ ap (take (length lines + k)) is ∙ take-append-add lines rest k in
+    let front : take n text ≡ lines ++ take k rest =
+    ap (λ (n : ℕ). take n text) long ∙ ap (take (length lines + k)) is ∙ take-append-add lines rest k in
     record {
       starts = record {
         within = omega arith;
         more = end.starts.more;
-        is = ap (λ (list : List ℕ). lines ++ list) end.starts.is ∙ sym (append_assoc lines (take k rest) end.starts.more) ∙ ap (λ (list : List ℕ). list ++ end.starts.more) (sym front);
+        is =
+            ap (λ (list : List ℕ). lines ++ list) end.starts.is ∙ sym (append_assoc lines (take k rest) end.starts.more)
+            ∙ ap (λ (list : List ℕ). list ++ end.starts.more) (sym front);
       };
       other = λ same. end.other (append_cancel_left lines rest last (sym is ∙ same));
       apart = λ inside more same. end.apart (omega arith) more

@@ -1,5 +1,6 @@
 -- Spans that are tested one after the other.
-use Rattle.std.proofs.Common.{◌≡◌, ℕ, ◌+◌, ◌-◌, ◌/◌, ◌<◌, ◌≤◌, ◌||◌, Bool, true, false, List, ◌∷◌, length, drop, get_or, Some, refl, sym, ap, subst, ◌∙◌}
+use Rattle.std.proofs.Common.{◌≡◌, ℕ, ◌+◌, ◌-◌, ◌/◌, ◌<◌, ◌≤◌, ◌||◌, Bool, true, false, List, ◌∷◌, length, drop, get_or, Some, refl, sym}
+use Rattle.std.proofs.Common.{ap, subst, ◌∙◌}
 use Rattle.std.specs.Prelude.{if◌then◌else◌, slice_index}
 use Rattle.std.specs.List.{All, list_any}
 use Rattle.std.proofs.lemmas.List.Folds.{list_any_none}
@@ -20,14 +21,19 @@ module _ (spans : List Span) (n : ℕ) (s : Span) (inside : n < length spans) (i
   pub apart_back : (from : ℕ) → from ≤ s.at → IsSpan s → AreApart (end_of s + 1) (drop (n + 1) spans) → AreApart from (drop n spans)
   apart_back from order is_span apart = subst (AreApart from) (sym next) (order, is_span, apart)
 
-  there_if : (stands : Bool) (word address : ℕ) → is_there (if stands then Some word else word_among (drop (n + 1) spans) address) ≡ (stands || is_there (word_among (drop (n + 1) spans) address))
+  there_if : (stands : Bool) (word address : ℕ) → is_there (if stands then Some word else word_among (drop (n + 1) spans) address)
+      ≡ (stands || is_there (word_among (drop (n + 1) spans) address))
   there_if true word address = refl
   there_if false word address = refl
 
-  pub there_on : (address : ℕ) → is_there (word_among (drop n spans) address) ≡ (stands_in s address || is_there (word_among (drop (n + 1) spans) address))
-  there_on address = ap (λ (spans : List Span). is_there (word_among spans address)) next ∙ there_if (stands_in s address) (slice_index s.words ((address - s.at) / 4)) address
+  pub there_on : (address : ℕ) →
+      is_there (word_among (drop n spans) address) ≡ (stands_in s address || is_there (word_among (drop (n + 1) spans) address))
+  there_on address =
+      ap (λ (spans : List Span). is_there (word_among spans address)) next
+      ∙ there_if (stands_in s address) (slice_index s.words ((address - s.at) / 4)) address
 
-  pub shares_on : (c : Chunk) → shares_byte (of_spans 0 (drop n spans)) c ≡ (is_met s.at (end_of s) c || shares_byte (of_spans 0 (drop (n + 1) spans)) c)
+  pub shares_on : (c : Chunk) →
+      shares_byte (of_spans 0 (drop n spans)) c ≡ (is_met s.at (end_of s) c || shares_byte (of_spans 0 (drop (n + 1) spans)) c)
   shares_on c = ap (λ (spans : List Span). shares_byte (of_spans 0 spans) c) next
 
 pub there_end : (spans : List Span) (n address : ℕ) → length spans ≤ n → is_there (word_among (drop n spans) address) ≡ false
@@ -56,4 +62,5 @@ module _ (spans : List Span) (n : ℕ) (s : Span) (inside : n < length spans) (i
   pub clear_back : list_any (is_met s.at (end_of s)) grants ≡ false → AreClear (drop (n + 1) spans) grants → AreClear (drop n spans) grants
   clear_back met later =
       let none = none_passes (is_met s.at (end_of s)) grants met in
-      λ k d h. shares_on spans n s inside is (get_or grants k d) ∙ ap (λ (one : Bool). one || shares_byte (of_spans 0 (drop (n + 1) spans)) (get_or grants k d)) (none k d h) ∙ later k d h
+      λ k d h. shares_on spans n s inside is (get_or grants k d)
+      ∙ ap (λ (one : Bool). one || shares_byte (of_spans 0 (drop (n + 1) spans)) (get_or grants k d)) (none k d h) ∙ later k d h

@@ -1,5 +1,6 @@
 -- Line by line a text gives what it gives as a whole.
-use Rattle.std.proofs.Common.{◌≡◌, ℕ, zero, suc, ◌≤◌, ◌<◌, true, false, List, [], ◌∷◌, length, Option, Some, None, refl, sym, ap, subst, ◌∙◌, arith}
+use Rattle.std.proofs.Common.{◌≡◌, ℕ, zero, suc, ◌≤◌, ◌<◌, true, false, List, [], ◌∷◌, length, Option, Some, None, refl, sym, ap, subst}
+use Rattle.std.proofs.Common.{◌∙◌, arith}
 use Rattle.std.specs.Prelude.{◌==◌}
 use Rattle.std.proofs.lemmas.Bool.{eqb-true}
 use Rattle.risc_text.specs.declared.Line.{Line}
@@ -18,7 +19,8 @@ some_parts found d e x y one other =
 none_is : (found : Option (Draft × List ℕ)) (new : Draft) (left : List ℕ) → found ≡ None → found ≡ Some (new, left) → ⊥
 none_is found new left one other = let e = sym one ∙ other in cc
 
-on_by : (most : ℕ) (d : Draft) (rest text left : List ℕ) (l : Line) → length rest ≤ most → gathered most d rest ≡ drafted text → line_at rest ≡ Some (l, left) → length left < length rest → Continues (taken d l) left text
+on_by : (most : ℕ) (d : Draft) (rest text left : List ℕ) (l : Line) → length rest ≤ most → gathered most d rest ≡ drafted text →
+    line_at rest ≡ Some (l, left) → length left < length rest → Continues (taken d l) left text
 unfolding gathered
 on_by most d [] text left l enough same is shorter = absurd (omega arith)
 on_by zero d (byte ∷ rest) text left l enough same is shorter = absurd (omega arith)
@@ -28,24 +30,29 @@ on_by (suc most) d (byte ∷ rest) text left l enough same is shorter = record {
   same = sym (ap (λ found. found >>= (λ (read : Line × List ℕ). gathered most (taken d read.0) read.1)) is) ∙ same;
 }
 
-pub on : (d : Draft) (rest text left : List ℕ) (l : Line) → Continues d rest text → line_at rest ≡ Some (l, left) → length left < length rest → Continues (taken d l) left text
+pub on : (d : Draft) (rest text left : List ℕ) (l : Line) → Continues d rest text → line_at rest ≡ Some (l, left) →
+    length left < length rest → Continues (taken d l) left text
 on d rest text left l so_far is shorter = on_by so_far.most d rest text left l so_far.enough so_far.same is shorter
 
-pub on_taken : (d new : Draft) (rest text left : List ℕ) → Continues d rest text → carried d (line_at rest) ≡ Some (new, left) → length left < length rest → Continues new left text
+pub on_taken : (d new : Draft) (rest text left : List ℕ) → Continues d rest text → carried d (line_at rest) ≡ Some (new, left) →
+    length left < length rest → Continues new left text
 on_taken d new rest text left so_far is shorter = by (line_at rest) refl is
   where
     by : (found : Option (Line × List ℕ)) → line_at rest ≡ found → carried d found ≡ Some (new, left) → Continues new left text
     by (Some read) there same =
         let parts = some_parts (carried d (Some read)) (taken d read.0) new read.1 left refl same in
         let left_is = parts.1 in
-        subst (λ (e : Draft). Continues e left text) parts.0 (on d rest text left read.0 so_far (there ∙ (λ i. Some (read.0, left_is i))) shorter)
+        subst (λ (e : Draft). Continues e left text) parts.0
+        (on d rest text left read.0 so_far (there ∙ (λ i. Some (read.0, left_is i))) shorter)
     by None there same = absurd (none_is (carried d None) new left refl same)
 
-unread_by : (most : ℕ) (d : Draft) (rest text : List ℕ) → length rest ≤ most → gathered most d rest ≡ drafted text → line_at rest ≡ None → 0 < length rest → drafted text ≡ None
+unread_by : (most : ℕ) (d : Draft) (rest text : List ℕ) → length rest ≤ most → gathered most d rest ≡ drafted text → line_at rest ≡ None →
+    0 < length rest → drafted text ≡ None
 unfolding gathered
 unread_by most d [] text enough same is some = absurd (omega arith)
 unread_by zero d (byte ∷ rest) text enough same is some = absurd (omega arith)
-unread_by (suc most) d (byte ∷ rest) text enough same is some = sym same ∙ ap (λ found. found >>= (λ (read : Line × List ℕ). gathered most (taken d read.0) read.1)) is
+unread_by (suc most) d (byte ∷ rest) text enough same is some =
+    sym same ∙ ap (λ found. found >>= (λ (read : Line × List ℕ). gathered most (taken d read.0) read.1)) is
 
 pub unread : (d : Draft) (rest text : List ℕ) → Continues d rest text → line_at rest ≡ None → 0 < length rest → drafted text ≡ None
 unread d rest text so_far is some = unread_by so_far.most d rest text so_far.enough so_far.same is some

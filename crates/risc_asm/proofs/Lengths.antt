@@ -1,5 +1,6 @@
 -- No listing has more bytes than a text that is assembled: a word has at most 53 of them.
-use Rattle.std.proofs.Common.{◌≡◌, ℕ, zero, suc, ◌+◌, ◌-◌, ◌*◌, ◌^◌, ◌<◌, ◌≤◌, Bool, true, false, List, [], ◌∷◌, ◌++◌, length, length-append, Option, Some, None, Result, Ok, refl, sym, ap, subst, arith}
+use Rattle.std.proofs.Common.{◌≡◌, ℕ, zero, suc, ◌+◌, ◌-◌, ◌*◌, ◌^◌, ◌<◌, ◌≤◌, Bool, true, false, List, [], ◌∷◌, ◌++◌, length}
+use Rattle.std.proofs.Common.{length-append, Option, Some, None, Result, Ok, refl, sym, ap, subst, arith}
 use Rattle.std.specs.Prelude.{◌==◌, codes, nat_lt, slice_index, IsTrue}
 use Rattle.std.specs.List.{flat_map}
 use Rattle.std.specs.Fmt.{decimal, digits}
@@ -18,8 +19,10 @@ use Rattle.page_table.specs.Grants.{Chunk, is_page, AreRising, total}
 use Rattle.page_table.proofs.Placing.{total-cons}
 use Rattle.machine_model.specs.Paths.{AreApart, IsProgram, IsSpan, RiscProgram, Span, all_words, begins_at_base, end_of}
 use Rattle.machine_model.specs.Paths as paths
-use Rattle.risc_listing.specs.Lines.{address_text, addresses_text, at_text, code_name, control_text, count_text, counts_text, data_text, flag_text, hex, instr_line, instr_text, line_end, nibble_text, word_line}
-use Rattle.risc_listing.specs.Listings.{all_word_lines, base_line, chunk_line, entry_line, fill_line, line_of, lines_by, listing, span_line, span_lines, spelled, word_lines, words_of}
+use Rattle.risc_listing.specs.Lines.{address_text, addresses_text, at_text, code_name, control_text, count_text, counts_text, data_text}
+use Rattle.risc_listing.specs.Lines.{flag_text, hex, instr_line, instr_text, line_end, nibble_text, word_line}
+use Rattle.risc_listing.specs.Listings.{all_word_lines, base_line, chunk_line, entry_line, fill_line, line_of, lines_by, listing, span_line}
+use Rattle.risc_listing.specs.Listings.{span_lines, spelled, word_lines, words_of}
 use Rattle.risc_listing.proofs.Hexadecimal.{address_digits}
 use Rattle.risc_text.specs.Assembly.{IsListed}
 use Rattle.risc_text.proofs.Gathering.{Fit, fit_all}
@@ -62,13 +65,15 @@ flag_short name false m is = omega arith
 
 nibble_short : (name : List ℕ) (n m : ℕ) → length name ≡ m → n < 16 → length (nibble_text name n) ≤ m + 1
 nibble_short name n m is small =
-    cond_both (n == 0) [] (name ++ digits 16 false n) (λ (text : List ℕ). length text ≤ m + 1) (λ _. omega arith) (λ _. named name (digits 16 false n) m 1 is (digit_short n small))
+    cond_both (n == 0) [] (name ++ digits 16 false n) (λ (text : List ℕ). length text ≤ m + 1) (λ _. omega arith)
+    (λ _. named name (digits 16 false n) m 1 is (digit_short n small))
 
 control_short : (ctl : Ctl) → IsTrue (control_fits ctl) → length (control_text ctl) ≤ 18
 control_short ctl fit =
     let parts = control_parts ctl fit in
     joined (flag_text (codes " irq") ctl.irq) _ 4 14 (flag_short (codes " irq") ctl.irq 4 refl)
-    (joined (nibble_text (codes " set=") ctl.set) _ 6 8 (nibble_short (codes " set=") ctl.set 5 refl parts.0) (nibble_short (codes " reset=") ctl.reset 7 refl parts.1))
+    (joined (nibble_text (codes " set=") ctl.set) _ 6 8 (nibble_short (codes " set=") ctl.set 5 refl parts.0)
+    (nibble_short (codes " reset=") ctl.reset 7 refl parts.1))
 
 data_short : (ctl : Ctl) (ends : Ends) (off : ℕ) → IsTrue (control_fits ctl) → off < 16 → length (data_text ctl ends off) ≤ 32
 data_short ctl ends off fit small =
@@ -92,31 +97,41 @@ code_short Fm3 = omega arith
 
 -- ---- instructions
 
-planar_long : (opcode : ℕ) (ctl : Ctl) (ends : Ends) (off : ℕ) (counts addresses : List ℕ) → length counts ≡ 3 → length (planar_words opcode ctl ends off counts addresses) ≡ 2 + length addresses
+planar_long : (opcode : ℕ) (ctl : Ctl) (ends : Ends) (off : ℕ) (counts addresses : List ℕ) → length counts ≡ 3 →
+    length (planar_words opcode ctl ends off counts addresses) ≡ 2 + length addresses
 planar_long opcode ctl ends off counts addresses long =
     let three = three_of counts long in
-    subst (λ (list : List ℕ). length (planar_words opcode ctl ends off list addresses) ≡ 2 + length addresses) (sym three.list_is) (let e : suc (suc (length addresses)) ≡ 2 + length addresses = omega arith in e)
+    subst (λ (list : List ℕ). length (planar_words opcode ctl ends off list addresses) ≡ 2 + length addresses) (sym three.list_is)
+    (let e : suc (suc (length addresses)) ≡ 2 + length addresses = omega arith in e)
 
 text_short : (instr : Instr) → IsInstr instr → AddressesFit instr → length (instr_text instr) + 10 ≤ 53 * length (encoded instr)
 text_short (Write ctl ends off n at) is small =
     let f = line_parts ctl off n is.0 in
-    let short : length (instr_text (Write ctl ends off n at)) ≤ 51 = named (codes "write") _ 5 46 refl (joined (data_text ctl ends off) _ 32 14 (data_short ctl ends off f.control f.lanes)
+    let short : length (instr_text (Write ctl ends off n at)) ≤ 51 =
+    named (codes "write") _ 5 46 refl (joined (data_text ctl ends off) _ 32 14 (data_short ctl ends off f.control f.lanes)
     (joined (count_text n) (at_text at) 5 9 (count_short n f.bytes) (at_short at small))) in
     omega (arith, short)
 text_short (Skip ctl ends n) is small =
     let parts = and_parts (control_fits ctl) (nat_lt n 4096) is.0 in
-    let short : length (instr_text (Skip ctl ends n)) ≤ 41 = named (codes "skip") _ 4 37 refl (joined (data_text ctl ends 0) _ 32 5 (data_short ctl ends 0 parts.0 (omega arith)) (count_short n (ltb-true n 4096 parts.1))) in
+    let short : length (instr_text (Skip ctl ends n)) ≤ 41 =
+    named (codes "skip") _ 4 37 refl
+    (joined (data_text ctl ends 0) _ 32 5 (data_short ctl ends 0 parts.0 (omega arith)) (count_short n (ltb-true n 4096 parts.1))) in
     omega (arith, short)
 text_short (WriteC ctl ends off n) is small =
     let f = line_parts ctl off n is.0 in
-    let short : length (instr_text (WriteC ctl ends off n)) ≤ 43 = named (codes "writec") _ 6 37 refl (joined (data_text ctl ends off) _ 32 5 (data_short ctl ends off f.control f.lanes) (count_short n f.bytes)) in
+    let short : length (instr_text (WriteC ctl ends off n)) ≤ 43 =
+    named (codes "writec") _ 6 37 refl
+    (joined (data_text ctl ends off) _ 32 5 (data_short ctl ends off f.control f.lanes) (count_short n f.bytes)) in
     omega (arith, short)
 text_short (Jump ctl target) is small =
-    let short : length (instr_text (Jump ctl target)) ≤ 31 = named (codes "jump") _ 4 27 refl (joined (control_text ctl) (at_text target) 18 9 (control_short ctl is.0) (at_short target small)) in
+    let short : length (instr_text (Jump ctl target)) ≤ 31 =
+    named (codes "jump") _ 4 27 refl (joined (control_text ctl) (at_text target) 18 9 (control_short ctl is.0) (at_short target small)) in
     omega (arith, short)
 text_short (Sync ctl resync waits) is small =
-    let short : length (instr_text (Sync ctl resync waits)) ≤ 33 = named (codes "sync ") _ 5 28 refl (joined (code_name waits) _ 3 25 (code_short waits)
-    (joined (flag_text (codes " resync") resync) (control_text ctl) 7 18 (flag_short (codes " resync") resync 7 refl) (control_short ctl is.0))) in
+    let short : length (instr_text (Sync ctl resync waits)) ≤ 33 =
+    named (codes "sync ") _ 5 28 refl (joined (code_name waits) _ 3 25 (code_short waits)
+    (joined (flag_text (codes " resync") resync) (control_text ctl) 7 18 (flag_short (codes " resync") resync 7 refl)
+    (control_short ctl is.0))) in
     omega (arith, short)
 text_short (Write123 ctl ends off counts addrs) is small =
     let f = fitted_parts ctl off counts is.0 in
@@ -126,31 +141,40 @@ text_short (Write123 ctl ends off counts addrs) is small =
     joined (at_text (slice_index addrs 0)) _ 9 18 (at_short (slice_index addrs 0) small.0)
     (joined (at_text (slice_index addrs 1)) _ 9 9 (at_short (slice_index addrs 1) small.1) (at_short (slice_index addrs 2) small.2))
     in
-    let short : length (instr_text (Write123 ctl ends off counts addrs)) ≤ 82 = named (codes "write123") _ 8 74 refl (joined (data_text ctl ends off) _ 32 42 (data_short ctl ends off f.control f.lanes)
+    let short : length (instr_text (Write123 ctl ends off counts addrs)) ≤ 82 =
+    named (codes "write123") _ 8 74 refl (joined (data_text ctl ends off) _ 32 42 (data_short ctl ends off f.control f.lanes)
     (joined (counts_text counts) (addresses_text addrs) 15 27 (counts_short counts is.1.0 f.bytes) ats)) in
     omega (arith, short, long, addresses)
 text_short (Skip123 ctl ends counts) is small =
     let parts = and_parts (control_fits ctl) (counts_fit counts) is.0 in
     let long = planar_long 10 ctl ends 0 counts [] is.1 in
-    let short : length (instr_text (Skip123 ctl ends counts)) ≤ 54 = named (codes "skip123") _ 7 47 refl (joined (data_text ctl ends 0) _ 32 15 (data_short ctl ends 0 parts.0 (omega arith)) (counts_short counts is.1 parts.1)) in
+    let short : length (instr_text (Skip123 ctl ends counts)) ≤ 54 =
+    named (codes "skip123") _ 7 47 refl
+    (joined (data_text ctl ends 0) _ 32 15 (data_short ctl ends 0 parts.0 (omega arith)) (counts_short counts is.1 parts.1)) in
     omega (arith, short, long)
 text_short (Write1S23 ctl ends off counts at) is small =
     let f = fitted_parts ctl off counts is.0 in
     let long = planar_long 11 ctl ends off counts (at ∷ []) is.1 in
-    let short : length (instr_text (Write1S23 ctl ends off counts at)) ≤ 65 = named (codes "write1s23") _ 9 56 refl (joined (data_text ctl ends off) _ 32 24 (data_short ctl ends off f.control f.lanes)
+    let short : length (instr_text (Write1S23 ctl ends off counts at)) ≤ 65 =
+    named (codes "write1s23") _ 9 56 refl (joined (data_text ctl ends off) _ 32 24 (data_short ctl ends off f.control f.lanes)
     (joined (counts_text counts) (at_text at) 15 9 (counts_short counts is.1 f.bytes) (at_short at small))) in
     omega (arith, short, long)
 
-instr_short : (at : ℕ) (instr : Instr) → at < 2 ^ 32 → IsInstr instr → AddressesFit instr → length (instr_line at instr) ≤ 53 * length (encoded instr)
+instr_short : (at : ℕ) (instr : Instr) → at < 2 ^ 32 → IsInstr instr → AddressesFit instr →
+    length (instr_line at instr) ≤ 53 * length (encoded instr)
 instr_short at instr low is small =
     let text = text_short instr is small in
-    let line : length (instr_line at instr) ≤ 8 + (1 + (length (instr_text instr) + 1)) = joined (address_text at) _ 8 (1 + (length (instr_text instr) + 1)) (address_short at low)
-    (named (codes " ") _ 1 (length (instr_text instr) + 1) refl (joined (instr_text instr) line_end (length (instr_text instr)) 1 (omega arith) (omega arith))) in
+    let line : length (instr_line at instr) ≤ 8 + (1 + (length (instr_text instr) + 1)) =
+    joined (address_text at) _ 8 (1 + (length (instr_text instr) + 1)) (address_short at low)
+    (named (codes " ") _ 1 (length (instr_text instr) + 1) refl
+    (joined (instr_text instr) line_end (length (instr_text instr)) 1 (omega arith) (omega arith))) in
     omega (arith, text, line)
 
 word_short : (at word : ℕ) → at < 2 ^ 32 → word < 2 ^ 32 → length (word_line at word) ≤ 53
 word_short at word low small =
-    let line : length (word_line at word) ≤ 23 = joined (address_text at) _ 8 15 (address_short at low) (named (codes " word ") _ 6 9 refl (joined (address_text word) line_end 8 1 (address_short word small) (omega arith))) in
+    let line : length (word_line at word) ≤ 23 =
+    joined (address_text at) _ 8 15 (address_short at low)
+    (named (codes " word ") _ 6 9 refl (joined (address_text word) line_end 8 1 (address_short word small) (omega arith))) in
     omega (arith, line)
 
 -- ---- words
@@ -160,15 +184,21 @@ record IsLine (at word : ℕ) (rest : List ℕ) (found : Option (Instr × ℕ)) 
   some : 1 ≤ words_of found
   within : words_of found ≤ suc (length rest)
 
-front_short : (at word : ℕ) (rest : List ℕ) (found : Option (Instr × ℕ)) → at < 2 ^ 32 → Fit (word ∷ rest) → spelled (word ∷ rest) ≡ found → IsLine at word rest found
-front_short at word rest None low fit is = record { few = let short = word_short at word low (fit 0) in omega (arith, short); some = omega arith; within = omega arith }
+front_short : (at word : ℕ) (rest : List ℕ) (found : Option (Instr × ℕ)) → at < 2 ^ 32 → Fit (word ∷ rest) → spelled (word ∷ rest) ≡ found →
+    IsLine at word rest found
+front_short at word rest None low fit is =
+    record { few = let short = word_short at word low (fit 0) in omega (arith, short); some = omega arith; within = omega arith }
 front_short at word rest (Some (instr, number)) low fit is =
     let known = spelled_is (word ∷ rest) instr number is in
     let number_is = known.number_is in
     let short = instr_short at instr low known.is_instr (addresses_fit instr known.rest known.is_instr (subst Fit known.words_are fit)) in
     let all = ap length known.words_are in
     let sum = length-append (encoded instr) known.rest in
-    record { few = subst (λ (n : ℕ). length (instr_line at instr) ≤ 53 * n) (sym number_is) short; some = known.some; within = omega (arith, number_is, all, sum) }
+    record {
+      few = subst (λ (n : ℕ). length (instr_line at instr) ≤ 53 * n) (sym number_is) short;
+      some = known.some;
+      within = omega (arith, number_is, all, sum);
+    }
 
 line_then : (at word : ℕ) (rest : List ℕ) (found : Option (Instr × ℕ)) → IsLine at word rest found →
     ((skip : ℕ) → skip ≤ length rest → length (word_lines (at + 4) skip rest) + 53 * skip ≤ 53 * length rest) →
@@ -181,7 +211,8 @@ line_then at word rest found line later =
     let sum = length-append (line_of at word found) (word_lines (at + 4) (words_of found - 1) rest) in
     omega (arith, few, some, within, after, sum)
 
-words_short : (at skip : ℕ) (words : List ℕ) → at + 4 * length words ≤ 2 ^ 32 → Fit words → skip ≤ length words → length (word_lines at skip words) + 53 * skip ≤ 53 * length words
+words_short : (at skip : ℕ) (words : List ℕ) → at + 4 * length words ≤ 2 ^ 32 → Fit words → skip ≤ length words →
+    length (word_lines at skip words) + 53 * skip ≤ 53 * length words
 unfolding word_lines
 words_short at zero [] ends fit within = omega arith
 words_short at (suc skip) [] ends fit within = absurd (omega arith)
@@ -200,9 +231,11 @@ span_short s is =
     let some = is.some in
     let lines = words_short s.at 0 s.words ends (fit_all s.words is.fit) (omega arith) in
     joined (span_line s.at) (word_lines s.at 0 s.words) 14 (53 * length s.words)
-    (named (codes "span ") _ 5 9 refl (joined (address_text s.at) line_end 8 1 (address_short s.at (omega arith)) (omega arith))) (omega (arith, lines))
+    (named (codes "span ") _ 5 9 refl (joined (address_text s.at) line_end 8 1 (address_short s.at (omega arith)) (omega arith)))
+    (omega (arith, lines))
 
-spans_short : (from : ℕ) (spans : List Span) → AreApart from spans → length (flat_map span_lines spans) ≤ 14 * length spans + 53 * length (paths.words_of spans)
+spans_short : (from : ℕ) (spans : List Span) → AreApart from spans →
+    length (flat_map span_lines spans) ≤ 14 * length spans + 53 * length (paths.words_of spans)
 spans_short from [] apart = omega arith
 spans_short from (s ∷ rest) apart =
     let one = span_short s apart.1 in
@@ -214,11 +247,14 @@ spans_short from (s ∷ rest) apart =
 chunk_short : (c : Chunk) → c.at < 2 ^ 32 → c.len < 10 ^ 8 → length (chunk_line c) ≤ 24
 chunk_short c low small =
     cond_both (is_page c) _ _ (λ (line : List ℕ). length line ≤ 24)
-    (λ _. let line : length (codes "page " ++ (address_text c.at ++ line_end)) ≤ 14 = named (codes "page ") _ 5 9 refl (joined (address_text c.at) line_end 8 1 (address_short c.at low) (omega arith)) in omega (arith, line))
+    (λ _. let line : length (codes "page " ++ (address_text c.at ++ line_end)) ≤ 14 = named (codes "page ") _ 5 9 refl
+    (joined (address_text c.at) line_end 8 1 (address_short c.at low) (omega arith)) in omega (arith, line))
     (λ _. named (codes "chunk ") _ 6 18 refl (joined (address_text c.at) _ 8 10 (address_short c.at low)
-    (named (codes " ") _ 1 9 refl (joined (decimal c.len) line_end 8 1 (length-decimal-le 8 c.len (omega arith) small (omega arith)) (omega arith)))))
+    (named (codes " ") _ 1 9 refl
+    (joined (decimal c.len) line_end 8 1 (length-decimal-le 8 c.len (omega arith) small (omega arith)) (omega arith)))))
 
-chunks_short : (from : ℕ) (chunks : List Chunk) → AreRising from chunks → total chunks ≤ 2 ^ 24 → length (flat_map chunk_line chunks) ≤ 24 * length chunks
+chunks_short : (from : ℕ) (chunks : List Chunk) → AreRising from chunks → total chunks ≤ 2 ^ 24 →
+    length (flat_map chunk_line chunks) ≤ 24 * length chunks
 chunks_short from [] rising small = omega arith
 chunks_short from (c ∷ rest) rising small =
     let whole = total-cons c rest in
@@ -237,11 +273,14 @@ lines_short true program made is =
     let all = words_of_one program made is in
     let lines = words_short program.base 0 (all_words program) all.ends (fit_all (all_words program) all.fit) (omega arith) in
     let text = joined (base_line program.base) (word_lines program.base 0 (all_words program)) 14 (53 * length (all_words program))
-    (named (codes "base ") _ 5 9 refl (joined (address_text program.base) line_end 8 1 (address_short program.base made.low) (omega arith))) (omega (arith, lines)) in
+    (named (codes "base ") _ 5 9 refl (joined (address_text program.base) line_end 8 1 (address_short program.base made.low) (omega arith)))
+    (omega (arith, lines)) in
     omega (arith, text)
 lines_short false program made is =
     let spans = spans_short 0 program.spans made.spans in
-    let entry : length (entry_line program.base) ≤ 15 = named (codes "entry ") _ 6 9 refl (joined (address_text program.base) line_end 8 1 (address_short program.base made.low) (omega arith)) in
+    let entry : length (entry_line program.base) ≤ 15 =
+    named (codes "entry ") _ 6 9 refl
+    (joined (address_text program.base) line_end 8 1 (address_short program.base made.low) (omega arith)) in
     let sum = length-append (flat_map span_lines program.spans) (entry_line program.base) in
     omega (arith, spans, entry, sum)
 
@@ -250,7 +289,8 @@ listing_short program fill is =
     let made = is.made in
     let lines = lines_short (begins_at_base program) program made refl in
     let chunks = chunks_short 0 program.grants made.grants.rising made.grants.small in
-    let last : length (fill_line fill) ≤ 8 = named (codes "fill ") _ 5 3 refl (joined (hex 2 fill) line_end 2 1 (byte_short fill is.fill_small) (omega arith)) in
+    let last : length (fill_line fill) ≤ 8 =
+    named (codes "fill ") _ 5 3 refl (joined (hex 2 fill) line_end 2 1 (byte_short fill is.fill_small) (omega arith)) in
     let tail = length-append (flat_map chunk_line program.grants) (fill_line fill) in
     let sum = length-append (all_word_lines program) (flat_map chunk_line program.grants ++ fill_line fill) in
     let spans = made.many in
@@ -262,7 +302,9 @@ abbrev answered : ProgramFile → Result ProgramFile AsmError
 answered file = Ok file
 
 -- the one answer for a listing but out of memory
-pub listing_assembled : (program : RiscProgram) (fill : ℕ) (answer : Result ProgramFile AsmError) → IsListed program fill → Answers (listing program fill) answer → IsTold answer →
+pub listing_assembled : (program : RiscProgram) (fill : ℕ) (answer : Result ProgramFile AsmError) → IsListed program fill →
+    Answers (listing program fill) answer → IsTold answer →
     answer ≡ Ok (record { program = program; fill = fill })
 listing_assembled program fill answer is fits told =
-    one_answer (listing program fill) answer (answered (record { program = program; fill = fill })) fits (listing_short program fill is, (is, refl)) told tt
+    one_answer (listing program fill) answer (answered (record { program = program; fill = fill })) fits
+    (listing_short program fill is, (is, refl)) told tt

@@ -14,7 +14,8 @@ no_fields [] long space low high = absurd (omega arith)
 no_fields (byte ∷ []) long space low high = absurd (omega arith)
 no_fields (byte ∷ digit ∷ rest) long space low high = rw space (none_back digit rest low high)
 
-no_bits : (d : ℕ) (rest : List ℕ) → 48 ≤ d → d < 58 → control_and_off (32 ∷ d ∷ rest) ≡ Some ((record { irq = false; set = 0; reset = 0 }, 0), 32 ∷ d ∷ rest)
+no_bits : (d : ℕ) (rest : List ℕ) → 48 ≤ d → d < 58 →
+    control_and_off (32 ∷ d ∷ rest) ≡ Some ((record { irq = false; set = 0; reset = 0 }, 0), 32 ∷ d ∷ rest)
 unfolding control flag nibble
 no_bits d rest low high =
     let i : (d == 105) ≡ false = ne_eqb d 105 (λ is. omega arith) in

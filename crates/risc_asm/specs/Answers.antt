@@ -51,7 +51,8 @@ IsTold (Err Memory) = ⊥
 
 -- no two such answers fit one text
 abbrev pub OneAnswerFits : Type 0
-OneAnswerFits = (text : List ℕ) (first second : Result ProgramFile AsmError) → Answers text first → Answers text second → IsTold first → IsTold second →
+OneAnswerFits =
+    (text : List ℕ) (first second : Result ProgramFile AsmError) → Answers text first → Answers text second → IsTold first → IsTold second →
     first ≡ second
 
 -- no listing has more bytes than a text that is assembled
@@ -60,5 +61,7 @@ ListingsAreShort = (program : RiscProgram) (fill : ℕ) → IsListed program fil
 
 -- so a listing is assembled to the program and the fill that it is of
 abbrev pub ListingsAreAssembled : Type 0
-ListingsAreAssembled = (program : RiscProgram) (fill : ℕ) (answer : Result ProgramFile AsmError) → IsListed program fill → Answers (listing program fill) answer → IsTold answer →
+ListingsAreAssembled =
+    (program : RiscProgram) (fill : ℕ) (answer : Result ProgramFile AsmError) →
+    IsListed program fill → Answers (listing program fill) answer → IsTold answer →
     answer ≡ Ok (record { program = program; fill = fill })

@@ -14,7 +14,8 @@ pub record IsSettled (base : ℕ) (words : List ℕ) (number front : ℕ) : Type
   pub within : number ≤ length words
   pub ends : base + 4 * length words ≤ 2 ^ 32
   pub long : front ≤ length (told base words)
-  pub lines : (later : List ℕ) → take front (told base words) ++ word_lines (base + 4 * number) 0 (drop number (words ++ later)) ≡ told base (words ++ later)
+  pub lines : (later : List ℕ) →
+      take front (told base words) ++ word_lines (base + 4 * number) 0 (drop number (words ++ later)) ≡ told base (words ++ later)
 
 abbrev pub Holds : Settled → Type 0
 Holds s = IsSettled s.base s.draft.words.items s.number s.front
@@ -43,4 +44,5 @@ pub record TellsMore (base : ℕ) (words : List ℕ) (number next : ℕ) (text r
   pub more : number ≤ next
   pub shown : List ℕ
   pub text_is : text ≡ shown ++ rest
-  pub lines : (later : List ℕ) → word_lines (base + 4 * number) 0 (drop number (words ++ later)) ≡ shown ++ word_lines (base + 4 * next) 0 (drop next (words ++ later))
+  pub lines : (later : List ℕ) →
+      word_lines (base + 4 * number) 0 (drop number (words ++ later)) ≡ shown ++ word_lines (base + 4 * next) 0 (drop next (words ++ later))

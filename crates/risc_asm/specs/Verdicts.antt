@@ -57,11 +57,13 @@ pub record IsToldBy (text : List ℕ) (program : RiscProgram) (fill : ℕ) : Typ
 -- what the lines of a text give, by a base or by spans
 abbrev pub IsDraftOfBase : List ℕ → ℕ → List ℕ → List (ℕ × ℕ) → Option ℕ → Type 0
 IsDraftOfBase text base words chunks fill =
-    (entry : Option ℕ) × (drafted text ≡ Some (record { base = Some base; words = words; spans = []; entry = entry; chunks = chunks; fill = fill }))
+    (entry : Option ℕ)
+    × (drafted text ≡ Some (record { base = Some base; words = words; spans = []; entry = entry; chunks = chunks; fill = fill }))
 
 abbrev pub IsDraftOfSpans : List ℕ → Option ℕ → List Span → List (ℕ × ℕ) → Option ℕ → Type 0
 IsDraftOfSpans text entry spans chunks fill =
-    (base : Option ℕ) × (words : List ℕ) × (drafted text ≡ Some (record { base = base; words = words; spans = spans; entry = entry; chunks = chunks; fill = fill }))
+    (base : Option ℕ) × (words : List ℕ)
+    × (drafted text ≡ Some (record { base = base; words = words; spans = spans; entry = entry; chunks = chunks; fill = fill }))
 
 -- whether a text begins a listing, or is one
 abbrev pub Judges : List ℕ → Verdict → Type 0

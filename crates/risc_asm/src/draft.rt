@@ -94,7 +94,8 @@ impl Draft {
         read: Option<(Instr, &'a [u8])>,
     ) -> Result<Option<&'a [u8]>, AllocError>
         requires { IfSome read (λ x. IsTrue (fits x.0)) }
-        ensures taken { IfOk result (λ left. (found : Read Instr) → ReadsInstr read.entry found → Takes (seen self.old) (instr_to_end found) (seen self.new) left) }
+        ensures taken { IfOk result
+            (λ left. (found : Read Instr) → ReadsInstr read.entry found → Takes (seen self.old) (instr_to_end found) (seen self.new) left) }
         ensures rest { IfOk result (λ left. IfSome left (λ y. (n : ℕ) → Leaves n read.entry → length y.now < n)) }
     {
         let Some((instr, text)) = read else {

@@ -1,6 +1,7 @@
 //! Programs of what lines give, where there are any.
 
-ghost use Rattle.machine_model.specs.Paths.{begins_at_base, AreApart, IsProgram, IsSpan, RiscProgram, all_words, max_words, one_span, shares_byte, span, stands_in, word_among, is_there};
+ghost use Rattle.machine_model.specs.Paths.{begins_at_base, AreApart, IsProgram, IsSpan, RiscProgram, all_words, max_words, one_span};
+ghost use Rattle.machine_model.specs.Paths.{shares_byte, span, stands_in, word_among, is_there};
 ghost use Rattle.page_table.specs.Grants.{AreGrants, Chunk};
 ghost use Rattle.page_table.specs.Taken.{listed};
 ghost use Rattle.risc_asm.specs.Programs.{meant};
@@ -51,9 +52,11 @@ pub fn program_of(
     words: Vec<u32>,
     chunks: &[(u32, u32)],
 ) -> Result<Result<Program, Vec<u32>>, AllocError>
-    ensures program { IfOk result (λ found. (program : RiscProgram) → IsProgram program → begins_at_base program ≡ true → program.base ≡ base → all_words program ≡ words.items → program.grants ≡ listed chunks.now → found ≡ Ok program) }
+    ensures program { IfOk result (λ found. (program : RiscProgram) → IsProgram program → begins_at_base program ≡ true →
+        program.base ≡ base → all_words program ≡ words.items → program.grants ≡ listed chunks.now → found ≡ Ok program) }
     ensures words { IfOk result (λ found. IfErr found (λ left. left.items ≡ words.items)) }
-    ensures parts { IfOk result (λ found. IfOk found (λ program. (program.base ≡ base) × (all_words program ≡ words.items) × (begins_at_base program ≡ true))) }
+    ensures parts { IfOk result
+        (λ found. IfOk found (λ program. (program.base ≡ base) × (all_words program ≡ words.items) × (begins_at_base program ≡ true))) }
 {
     if base % 4 != 0
         || words.len() > MAX_WORDS as usize
@@ -137,7 +140,11 @@ fn program_of_spans(
     spans: Spans,
     chunks: &[(u32, u32)],
 ) -> Result<Option<Program>, AllocError>
-    ensures { IfOk result (λ found. (program : RiscProgram) → 0 < length spans → IsProgram program → program ≡ record { base = entry; spans = spans; grants = listed chunks.now } → found ≡ Some program) }
+    ensures { IfOk result (λ found. (program : RiscProgram) → 0 < length spans → IsProgram program → program ≡ record {
+      base = entry;
+      spans = spans;
+      grants = listed chunks.now;
+    } → found ≡ Some program) }
 {
     if entry % 4 != 0
         || spans.len() > MAX_SPANS
@@ -220,7 +227,8 @@ pub fn program_meant(
     chunks: &[(u32, u32)],
 ) -> Result<Option<Program>, AllocError>
     requires { 0 < length spans }
-    ensures { IfOk result (λ found. IsProgram (meant entry spans (listed chunks.now)) → found ≡ Some (meant entry spans (listed chunks.now))) }
+    ensures { IfOk result
+        (λ found. IsProgram (meant entry spans (listed chunks.now)) → found ≡ Some (meant entry spans (listed chunks.now))) }
 {
     match entry {
         Some(entry) => program_of_spans(alloc, entry, spans, chunks),

@@ -2,8 +2,10 @@
 //! a listing shows when what was read is listed again.
 
 ghost use Rattle.risc_asm.specs.Fields.{control_and_off};
-ghost use Rattle.risc_text.specs.Readers.{Reads, address, after, base_line, chunk_line, code, control, count, data_fields, decimal_digit, decimal_digits, digit, fields_of, fill_line, flag, hex_digit};
-ghost use Rattle.risc_text.specs.Readers.{hex_digits, jump_fields, name_at, nibble, page_line, skip_123_fields, skip_fields, sync_fields, three_addresses, three_counts, skip_name, write_name};
+ghost use Rattle.risc_text.specs.Readers.{Reads, address, after, base_line, chunk_line, code, control, count, data_fields, decimal_digit};
+ghost use Rattle.risc_text.specs.Readers.{decimal_digits, digit, fields_of, fill_line, flag, hex_digit};
+ghost use Rattle.risc_text.specs.Readers.{hex_digits, jump_fields, name_at, nibble, page_line, skip_123_fields, skip_fields, sync_fields};
+ghost use Rattle.risc_text.specs.Readers.{three_addresses, three_counts, skip_name, write_name};
 ghost use Rattle.risc_text.specs.Readers.{word_field, words_line, write_123_fields, write_1_s_23_fields, write_c_fields, write_fields};
 ghost use Rattle.risc_word.specs.Words.{control_fits, counts_fit, fits};
 ghost use Rattle.std.specs.Prelude.{◌≡◌, ◌+◌, ◌*◌, ◌≤◌, ◌<◌, ◌^◌, IfSome, IsTrue, codes, length};

@@ -3,7 +3,8 @@
 ghost use Rattle.risc_asm.specs.Answers.{HasWrongLine, IsBetween};
 ghost use Rattle.risc_asm.specs.Verdicts.{IsBegun};
 ghost use Rattle.risc_text.specs.Assembly.{BeginsListing, are_lines, has_no_newline, line_count};
-ghost use Rattle.std.specs.Prelude.{◌≡◌, ◌≢◌, ◌+◌, ◌-◌, ◌/◌, ◌≤◌, ◌<◌, ◌==◌, if◌then◌else◌, IfOk, IfSome, IsTrue, None, drop, length, slice_index, take, true, ℕ};
+ghost use Rattle.std.specs.Prelude.{◌≡◌, ◌≢◌, ◌+◌, ◌-◌, ◌/◌, ◌≤◌, ◌<◌, ◌==◌, if◌then◌else◌, IfOk, IfSome, IsTrue, None, drop, length};
+ghost use Rattle.std.specs.Prelude.{slice_index, take, true, ℕ};
 
 use super::judge::{Verdict, judge};
 use std::alloc::{AllocError, Global};

@@ -125,7 +125,8 @@ fn fits(base: u32, words: &[u32]) -> bool
 // a program can have.
 fn read_on(settled: Settled, tail: &[u8]) -> Result<Result<Settled, Settled>, AllocError>
     requires { Holds settled }
-    ensures { IfOk result (λ read. MatchResult read (λ s. Holds s × (front_of s ≡ front_of settled)) (λ s. Holds s × (front_of s ≡ front_of settled))) }
+    ensures { IfOk result
+        (λ read. MatchResult read (λ s. Holds s × (front_of s ≡ front_of settled)) (λ s. Holds s × (front_of s ≡ front_of settled))) }
 {
     let mut settled = settled;
     let Some(rest) = tail.get(settled.read..) else {
@@ -268,7 +269,8 @@ fn is_end(
 ) -> Result<bool, AllocError>
     requires within { from ≤ length (all_words program.now) }
     requires one { begins_at_base program.now ≡ true }
-    ensures end { IfOk result (λ yes. IsTrue yes → text.now ≡ word_lines (program.now.base + 4 * from) 0 (drop from (all_words program.now)) ++ (flat_map chunk_line program.now.grants ++ fill_line fill)) }
+    ensures end { IfOk result (λ yes. IsTrue yes → text.now ≡ word_lines (program.now.base + 4 * from) 0 (drop from (all_words program.now))
+        ++ (flat_map chunk_line program.now.grants ++ fill_line fill)) }
     ensures made { IfOk result (λ yes. IsTrue yes → IsProgram program.now × (fill < 256)) }
 {
     let Ok(rest) = after_words(text, program.base(), program.words(), from) else {

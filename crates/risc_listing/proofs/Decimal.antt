@@ -1,5 +1,6 @@
 -- The digits of a number of few decimal places.
-use Rattle.std.proofs.Common.{append_assoc, length, ◌≡◌, ℕ, ◌+◌, ◌*◌, ◌/◌, ◌%◌, ◌^◌, ◌<◌, ◌≤◌, true, List, [], ◌∷◌, ◌++◌, refl, ap, ◌∙◌, arith}
+use Rattle.std.proofs.Common.{append_assoc, length, ◌≡◌, ℕ, ◌+◌, ◌*◌, ◌/◌, ◌%◌, ◌^◌, ◌<◌, ◌≤◌, true, List, [], ◌∷◌, ◌++◌, refl, ap, ◌∙◌}
+use Rattle.std.proofs.Common.{arith}
 use Rattle.std.specs.Prelude.{◌==◌, codes, slice_index_or}
 use Rattle.std.specs.Fmt.{decimal}
 use Rattle.std.specs.Str.{IsUtf8}
@@ -11,7 +12,9 @@ use Rattle.risc_listing.specs.Lines.{count_text, last_four}
 
 -- the table of pairs of digits
 abbrev pairs : List ℕ
-pairs = codes "00010203040506070809101112131415161718192021222324252627282930313233343536373839404142434445464748495051525354555657585960616263646566676869707172737475767778798081828384858687888990919293949596979899"
+pairs =
+    codes
+    "00010203040506070809101112131415161718192021222324252627282930313233343536373839404142434445464748495051525354555657585960616263646566676869707172737475767778798081828384858687888990919293949596979899"
 
 pub ten_in_table : (n place : ℕ) → n < 100 → place ≡ 2 * n → slice_index_or pairs place 0 ≡ 48 + n / 10
 ten_in_table n place small is =
@@ -34,7 +37,8 @@ three_digits n low high =
     ∙ ap (λ (list : List ℕ). list ++ (48 + n % 10) ∷ []) (two_digits (n / 10) (omega arith) (omega arith))
     ∙ ap (λ (m : ℕ). (48 + m) ∷ (48 + n / 10 % 10) ∷ (48 + n % 10) ∷ []) first
 
-pub four_digits : (n : ℕ) → 1000 ≤ n → n < 10000 → decimal n ≡ (48 + n / 1000) ∷ (48 + n / 100 % 10) ∷ (48 + n / 10 % 10) ∷ (48 + n % 10) ∷ []
+pub four_digits : (n : ℕ) → 1000 ≤ n → n < 10000 →
+    decimal n ≡ (48 + n / 1000) ∷ (48 + n / 100 % 10) ∷ (48 + n / 10 % 10) ∷ (48 + n % 10) ∷ []
 four_digits n low high =
     let first : n / 10 / 100 ≡ n / 1000 = omega arith in
     let second : n / 10 / 10 ≡ n / 100 = omega arith in
@@ -43,7 +47,8 @@ four_digits n low high =
     ∙ ap (λ (m : ℕ). (48 + m) ∷ (48 + n / 10 / 10 % 10) ∷ (48 + n / 10 % 10) ∷ (48 + n % 10) ∷ []) first
     ∙ ap (λ (m : ℕ). (48 + n / 1000) ∷ (48 + m % 10) ∷ (48 + n / 10 % 10) ∷ (48 + n % 10) ∷ []) second
 
-pub five_digits : (n : ℕ) → 10000 ≤ n → n < 100000 → decimal n ≡ (48 + n / 10000) ∷ (48 + n / 1000 % 10) ∷ (48 + n / 100 % 10) ∷ (48 + n / 10 % 10) ∷ (48 + n % 10) ∷ []
+pub five_digits : (n : ℕ) → 10000 ≤ n → n < 100000 →
+    decimal n ≡ (48 + n / 10000) ∷ (48 + n / 1000 % 10) ∷ (48 + n / 100 % 10) ∷ (48 + n / 10 % 10) ∷ (48 + n % 10) ∷ []
 five_digits n low high =
     let first : n / 10 / 1000 ≡ n / 10000 = omega arith in
     let second : n / 10 / 100 ≡ n / 1000 = omega arith in
@@ -81,7 +86,8 @@ last_four-IsUtf8 n =
     let units : ℕ = 48 + n % 10 in
     IsUtf8-from_ascii (last_four n)
     (IsAscii-cons thousands (hundreds ∷ tens ∷ units ∷ []) (omega arith)
-    (IsAscii-cons hundreds (tens ∷ units ∷ []) (omega arith) (IsAscii-cons tens (units ∷ []) (omega arith) (IsAscii-cons units [] (omega arith) IsAscii-nil))))
+    (IsAscii-cons hundreds (tens ∷ units ∷ []) (omega arith)
+    (IsAscii-cons tens (units ∷ []) (omega arith) (IsAscii-cons units [] (omega arith) IsAscii-nil))))
 
 pub length-count_text : (k n : ℕ) → 0 < k → n < 10 ^ k → n < 2 ^ 64 → length (count_text n) ≤ k + 1
 length-count_text k n some small fits = let long : length (decimal n) ≤ k = length-decimal-le k n some small fits in omega (arith, long)

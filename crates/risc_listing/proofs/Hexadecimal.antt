@@ -1,5 +1,6 @@
 -- Eight hexadecimal digits.
-use Rattle.std.proofs.Common.{◌≡◌, ℕ, zero, suc, ◌+◌, ◌-◌, ◌*◌, ◌/◌, ◌%◌, ◌^◌, ◌<◌, ◌≤◌, Bool, true, false, List, [], ◌∷◌, ◌++◌, length, map, replicate, refl, sym, ap, ◌∙◌, arith, subst}
+use Rattle.std.proofs.Common.{◌≡◌, ℕ, zero, suc, ◌+◌, ◌-◌, ◌*◌, ◌/◌, ◌%◌, ◌^◌, ◌<◌, ◌≤◌, Bool, true, false, List, [], ◌∷◌, ◌++◌, length}
+use Rattle.std.proofs.Common.{map, replicate, refl, sym, ap, ◌∙◌, arith, subst}
 use Rattle.std.specs.Prelude.{◌==◌, if◌then◌else◌, codes, slice_index_or}
 use Rattle.std.specs.Fmt.{digit_glyph, digits, digits_onto, padded_integral, format_spec, char_count}
 use Rattle.std.proofs.lemmas.List.{append-nil}
@@ -48,7 +49,8 @@ filled_step k fuel n rest true is fits more =
     ∙ ap (λ (m : ℕ). hexes (suc k) m (glyph n ∷ rest)) (sym (eqb-true (n / 16) 0 is))
 filled_step k fuel n rest false is fits more = more
 
-filled_digits : (k fuel n : ℕ) (rest : List ℕ) → k ≤ fuel → IsShort (suc k) n → length rest + suc k ≡ 8 → filled (digits_onto (suc fuel) 16 false n rest) ≡ hexes (suc k) n rest
+filled_digits : (k fuel n : ℕ) (rest : List ℕ) → k ≤ fuel → IsShort (suc k) n → length rest + suc k ≡ 8 →
+    filled (digits_onto (suc fuel) 16 false n rest) ≡ hexes (suc k) n rest
 filled_digits zero fuel n rest enough short fits =
     let is : (n / 16 == 0) ≡ true = eq-eqb (n / 16) 0 short in
     ap (λ (last : Bool). filled (if last then glyph n ∷ rest else digits_onto fuel 16 false (n / 16) (glyph n ∷ rest))) is
@@ -66,7 +68,8 @@ padded_filled numeral =
 
 -- an address is its eight digits
 pub address_digits : (n : ℕ) → n < 2 ^ 32 → address_text n
-    ≡ glyph (n / 2 ^ 28) ∷ glyph (n / 2 ^ 24) ∷ glyph (n / 2 ^ 20) ∷ glyph (n / 2 ^ 16) ∷ glyph (n / 2 ^ 12) ∷ glyph (n / 2 ^ 8) ∷ glyph (n / 2 ^ 4) ∷ glyph n ∷ []
+    ≡ glyph (n / 2 ^ 28) ∷ glyph (n / 2 ^ 24) ∷ glyph (n / 2 ^ 20) ∷ glyph (n / 2 ^ 16) ∷ glyph (n / 2 ^ 12) ∷ glyph (n / 2 ^ 8)
+    ∷ glyph (n / 2 ^ 4) ∷ glyph n ∷ []
 unfolding digits
 address_digits n small =
     let two : n / 16 / 16 ≡ n / 2 ^ 8 = omega arith in
@@ -82,7 +85,8 @@ address_digits n small =
 
 -- the same where each byte gives two digits
 address_pairs : (n : ℕ) → n < 2 ^ 32 → address_text n
-    ≡ glyph (n / 2 ^ 24 / 16) ∷ glyph (n / 2 ^ 24) ∷ glyph (n / 2 ^ 16 / 16) ∷ glyph (n / 2 ^ 16) ∷ glyph (n / 2 ^ 8 / 16) ∷ glyph (n / 2 ^ 8) ∷ glyph (n / 16) ∷ glyph n ∷ []
+    ≡ glyph (n / 2 ^ 24 / 16) ∷ glyph (n / 2 ^ 24) ∷ glyph (n / 2 ^ 16 / 16) ∷ glyph (n / 2 ^ 16) ∷ glyph (n / 2 ^ 8 / 16)
+    ∷ glyph (n / 2 ^ 8) ∷ glyph (n / 16) ∷ glyph n ∷ []
 address_pairs n small =
     let seven : n / 2 ^ 24 / 16 ≡ n / 2 ^ 28 = omega arith in
     let five : n / 2 ^ 16 / 16 ≡ n / 2 ^ 20 = omega arith in
@@ -90,11 +94,13 @@ address_pairs n small =
     rw (seven, five, three) (address_digits n small)
 
 pub pairs_and_space : (n : ℕ) → n < 2 ^ 32 → address_text n ++ 32 ∷ []
-    ≡ glyph (n / 2 ^ 24 / 16) ∷ glyph (n / 2 ^ 24) ∷ glyph (n / 2 ^ 16 / 16) ∷ glyph (n / 2 ^ 16) ∷ glyph (n / 2 ^ 8 / 16) ∷ glyph (n / 2 ^ 8) ∷ glyph (n / 16) ∷ glyph n ∷ 32 ∷ []
+    ≡ glyph (n / 2 ^ 24 / 16) ∷ glyph (n / 2 ^ 24) ∷ glyph (n / 2 ^ 16 / 16) ∷ glyph (n / 2 ^ 16) ∷ glyph (n / 2 ^ 8 / 16)
+    ∷ glyph (n / 2 ^ 8) ∷ glyph (n / 16) ∷ glyph n ∷ 32 ∷ []
 pairs_and_space n small = ap (λ (list : List ℕ). list ++ 32 ∷ []) (address_pairs n small)
 
 pub space_and_pairs : (n : ℕ) → n < 2 ^ 32 → at_text n
-    ≡ 32 ∷ glyph (n / 2 ^ 24 / 16) ∷ glyph (n / 2 ^ 24) ∷ glyph (n / 2 ^ 16 / 16) ∷ glyph (n / 2 ^ 16) ∷ glyph (n / 2 ^ 8 / 16) ∷ glyph (n / 2 ^ 8) ∷ glyph (n / 16) ∷ glyph n ∷ []
+    ≡ 32 ∷ glyph (n / 2 ^ 24 / 16) ∷ glyph (n / 2 ^ 24) ∷ glyph (n / 2 ^ 16 / 16) ∷ glyph (n / 2 ^ 16) ∷ glyph (n / 2 ^ 8 / 16)
+    ∷ glyph (n / 2 ^ 8) ∷ glyph (n / 16) ∷ glyph n ∷ []
 space_and_pairs n small = ap (λ (list : List ℕ). 32 ∷ list) (address_pairs n small)
 
 -- a number of one digit, and of two
@@ -107,20 +113,26 @@ two_digits n low high =
 
 -- the table of pairs of digits
 abbrev pairs : List ℕ
-pairs = codes "000102030405060708090a0b0c0d0e0f101112131415161718191a1b1c1d1e1f202122232425262728292a2b2c2d2e2f303132333435363738393a3b3c3d3e3f404142434445464748494a4b4c4d4e4f505152535455565758595a5b5c5d5e5f606162636465666768696a6b6c6d6e6f707172737475767778797a7b7c7d7e7f808182838485868788898a8b8c8d8e8f909192939495969798999a9b9c9d9e9fa0a1a2a3a4a5a6a7a8a9aaabacadaeafb0b1b2b3b4b5b6b7b8b9babbbcbdbebfc0c1c2c3c4c5c6c7c8c9cacbcccdcecfd0d1d2d3d4d5d6d7d8d9dadbdcdddedfe0e1e2e3e4e5e6e7e8e9eaebecedeeeff0f1f2f3f4f5f6f7f8f9fafbfcfdfeff"
+pairs =
+    codes
+    "000102030405060708090a0b0c0d0e0f101112131415161718191a1b1c1d1e1f202122232425262728292a2b2c2d2e2f303132333435363738393a3b3c3d3e3f404142434445464748494a4b4c4d4e4f505152535455565758595a5b5c5d5e5f606162636465666768696a6b6c6d6e6f707172737475767778797a7b7c7d7e7f808182838485868788898a8b8c8d8e8f909192939495969798999a9b9c9d9e9fa0a1a2a3a4a5a6a7a8a9aaabacadaeafb0b1b2b3b4b5b6b7b8b9babbbcbdbebfc0c1c2c3c4c5c6c7c8c9cacbcccdcecfd0d1d2d3d4d5d6d7d8d9dadbdcdddedfe0e1e2e3e4e5e6e7e8e9eaebecedeeeff0f1f2f3f4f5f6f7f8f9fafbfcfdfeff"
 
 pub first_in_table : (n place : ℕ) → place ≡ 2 * (n % 256) → slice_index_or pairs place 0 ≡ digit_glyph false (n / 16 % 16)
 first_in_table n place is =
     let digit : n % 256 / 16 ≡ n / 16 % 16 = omega arith in
     let small : n % 256 < 256 = omega arith in
-    let found = eqb-true _ _ (agree_below_at (λ k. slice_index_or pairs (2 * k) 0 == digit_glyph false (k / 16)) (λ _. true) 256 (n % 256) refl small) in
+    let found =
+    eqb-true _ _
+    (agree_below_at (λ k. slice_index_or pairs (2 * k) 0 == digit_glyph false (k / 16)) (λ _. true) 256 (n % 256) refl small) in
     ap (λ (at : ℕ). slice_index_or pairs at 0) is ∙ found ∙ ap (digit_glyph false) digit
 
 pub last_in_table : (n place : ℕ) → place ≡ 2 * (n % 256) + 1 → slice_index_or pairs place 0 ≡ digit_glyph false (n % 16)
 last_in_table n place is =
     let digit : n % 256 % 16 ≡ n % 16 = omega arith in
     let small : n % 256 < 256 = omega arith in
-    let found = eqb-true _ _ (agree_below_at (λ k. slice_index_or pairs (2 * k + 1) 0 == digit_glyph false (k % 16)) (λ _. true) 256 (n % 256) refl small) in
+    let found =
+    eqb-true _ _
+    (agree_below_at (λ k. slice_index_or pairs (2 * k + 1) 0 == digit_glyph false (k % 16)) (λ _. true) 256 (n % 256) refl small) in
     ap (λ (at : ℕ). slice_index_or pairs at 0) is ∙ found ∙ ap (digit_glyph false) digit
 
 -- digits are text

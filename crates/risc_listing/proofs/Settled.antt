@@ -1,5 +1,6 @@
 -- Lines of words that stay the same whatever words follow: no instruction has more than five words.
-use Rattle.std.proofs.Common.{◌≡◌, ℕ, ◌+◌, ◌*◌, ◌≤◌, List, [], ◌∷◌, ◌++◌, length, drop, Ok, Err, inl, inr, refl, sym, ap, ◌∙◌, arith, length-append}
+use Rattle.std.proofs.Common.{◌≡◌, ℕ, ◌+◌, ◌*◌, ◌≤◌, List, [], ◌∷◌, ◌++◌, length, drop, Ok, Err, inl, inr, refl, sym, ap, ◌∙◌, arith}
+use Rattle.std.proofs.Common.{length-append}
 use Rattle.std.specs.Prelude.{◌==◌, if◌then◌else◌, slice_index, Bool, Option, Some, None}
 use Rattle.std.specs.Cmp.Lexicographic.{pointwise}
 use Rattle.std.proofs.lemmas.List.{drop-append-le, take-append-le}
@@ -43,7 +44,8 @@ not_cut (_ ∷ _ ∷ _ ∷ []) five = absurd (omega arith)
 not_cut (_ ∷ _ ∷ _ ∷ _ ∷ []) five = absurd (omega arith)
 not_cut (word ∷ a ∷ b ∷ c ∷ d ∷ rest) five = whole (bits 28 4 word) word a b c d rest
 
-if_more : (words later : List ℕ) (reading : Reading) → IsKnownAt words 0 reading → if_spelled (words ++ later) reading ≡ if_spelled words reading
+if_more : (words later : List ℕ) (reading : Reading) → IsKnownAt words 0 reading →
+    if_spelled (words ++ later) reading ≡ if_spelled words reading
 if_more words later (Err fault) known = refl
 if_more words later (Ok read) known =
     ap (λ (front : List ℕ). if pointwise (λ one other. one == other) (encoded read.0) front then Some read else None)
@@ -61,7 +63,8 @@ slice_more [] later some = absurd (omega arith)
 slice_more (word ∷ rest) later some = refl
 
 -- a text goes on by a line
-pub settled_more : (base i number : ℕ) (words rest before now front later : List ℕ) → rest ≡ drop i words → i ≤ length words → 5 ≤ length rest → number ≡ words_of (spelled rest) → 1 ≤ number →
+pub settled_more : (base i number : ℕ) (words rest before now front later : List ℕ) → rest ≡ drop i words → i ≤ length words →
+    5 ≤ length rest → number ≡ words_of (spelled rest) → 1 ≤ number →
     now ≡ before ++ line_of (base + 4 * i) (slice_index rest 0) (spelled rest) →
     before ++ word_lines (base + 4 * i) 0 (drop i (words ++ later)) ≡ front →
     now ++ word_lines (base + 4 * (i + number)) 0 (drop (i + number) (words ++ later)) ≡ front
@@ -73,5 +76,6 @@ settled_more base i number words rest before now front later is within five same
     (let long = length-append rest later in omega arith)
     (same ∙ ap words_of (sym more))
     some
-    (appended ∙ ap (λ (word : ℕ). before ++ line_of (base + 4 * i) word (spelled rest)) (sym first) ∙ ap (λ found. before ++ line_of (base + 4 * i) (slice_index (rest ++ later) 0) found) (sym more))
+    (appended ∙ ap (λ (word : ℕ). before ++ line_of (base + 4 * i) word (spelled rest)) (sym first)
+    ∙ ap (λ found. before ++ line_of (base + 4 * i) (slice_index (rest ++ later) 0) found) (sym more))
     so_far

@@ -10,7 +10,8 @@ pub no_span : Span
 no_span = span 0 []
 
 -- a text goes on by the lines of a span
-pub spans_more : (spans : List Span) (number : ℕ) (s : Span) (before now whole : List ℕ) → number < length spans → s ≡ get_or spans number no_span → now ≡ before ++ span_lines s →
+pub spans_more : (spans : List Span) (number : ℕ) (s : Span) (before now whole : List ℕ) → number < length spans →
+    s ≡ get_or spans number no_span → now ≡ before ++ span_lines s →
     before ++ flat_map span_lines (drop number spans) ≡ whole → now ++ flat_map span_lines (drop (number + 1) spans) ≡ whole
 spans_more spans number s before now whole inside is appended so_far =
     let rest = flat_map span_lines (drop (number + 1) spans) in

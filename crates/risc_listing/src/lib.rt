@@ -4,10 +4,12 @@
 
 ghost use Rattle.arrayvec.specs.ArrayString.{array_string_len};
 ghost use Rattle.machine_model.specs.Paths.{end_of, span};
-ghost use Rattle.risc_listing.specs.Listings.{all_word_lines, base_line, chunk_line, entry_line, fill_line, line_of, listing, span_line, span_lines, spelled, word_lines, words_of};
+ghost use Rattle.risc_listing.specs.Listings.{all_word_lines, base_line, chunk_line, entry_line, fill_line, line_of, listing, span_line};
+ghost use Rattle.risc_listing.specs.Listings.{span_lines, spelled, word_lines, words_of};
 ghost use Rattle.risc_listing.specs.Unnamed.{TellsPlain};
 ghost use Rattle.std.specs.List.{flat_map};
-ghost use Rattle.std.specs.Prelude.{All, ◌≡◌, ◌+◌, ◌*◌, ◌<◌, ◌^◌, ◌≤◌, ◌++◌, List, drop, length, slice_index, string_bytes, ℕ, IfOk, IfSome};
+ghost use Rattle.std.specs.Prelude.{All, ◌≡◌, ◌+◌, ◌*◌, ◌<◌, ◌^◌, ◌≤◌, ◌++◌, List, drop, length, slice_index, string_bytes, ℕ, IfOk};
+ghost use Rattle.std.specs.Prelude.{IfSome};
 
 mod digits;
 mod lines;
@@ -116,7 +118,8 @@ fn push_line<const CAP: usize>(text: &mut ArrayString<CAP>, at: u32, words: &[u3
 pub fn push_words(text: &mut Lines, base: u32, words: &[u32], from: usize) -> usize
     requires from { from ≤ length words.now }
     requires ends { base + 4 * length words.now ≤ 2 ^ 32 }
-    ensures lines { text.new.bytes ++ word_lines (base + 4 * result) 0 (drop result words.now) ≡ text.old.bytes ++ word_lines (base + 4 * from) 0 (drop from words.now) }
+    ensures lines { text.new.bytes ++ word_lines (base + 4 * result) 0 (drop result words.now)
+        ≡ text.old.bytes ++ word_lines (base + 4 * from) 0 (drop from words.now) }
     ensures within { (from ≤ result) × (result ≤ length words.now) }
     ensures more { array_string_len text.old + 98 ≤ 65536 → from < length words.now → from < result }
 {
@@ -132,7 +135,8 @@ pub fn push_words(text: &mut Lines, base: u32, words: &[u32], from: usize) -> us
 pub fn push_settled(text: &mut Lines, base: u32, words: &[u32], from: usize) -> usize
     requires from { from ≤ length words.now }
     requires ends { base + 4 * length words.now ≤ 2 ^ 32 }
-    ensures lines { (later : List ℕ) → text.new.bytes ++ word_lines (base + 4 * result) 0 (drop result (words.now ++ later)) ≡ text.old.bytes ++ word_lines (base + 4 * from) 0 (drop from (words.now ++ later)) }
+    ensures lines { (later : List ℕ) → text.new.bytes ++ word_lines (base + 4 * result) 0 (drop result (words.now ++ later))
+        ≡ text.old.bytes ++ word_lines (base + 4 * from) 0 (drop from (words.now ++ later)) }
     ensures within { (from ≤ result) × (result ≤ length words.now) }
 {
     let mut told = from;

@@ -2,7 +2,8 @@
 
 ghost use Rattle.arrayvec.specs.ArrayString.{array_string_len};
 ghost use Rattle.risc_word.specs.declared.Instr.TheVariants.{Jump, Skip, Skip123, Sync, Write, Write123, Write1S23, WriteC};
-ghost use Rattle.risc_listing.specs.Lines.{address_text, addresses_text, at_text, code_name, control_text, count_text, counts_text, data_text, flag_text, instr_line, instr_text, last_four, nibble_text, word_line};
+ghost use Rattle.risc_listing.specs.Lines.{address_text, addresses_text, at_text, code_name, control_text, count_text, counts_text};
+ghost use Rattle.risc_listing.specs.Lines.{data_text, flag_text, instr_line, instr_text, last_four, nibble_text, word_line};
 ghost use Rattle.std.specs.Fmt.{digits};
 ghost use Rattle.std.specs.Prelude.{◌≡◌, ◌+◌, ◌<◌, ◌≤◌, ◌++◌, codes, false, length, Some};
 

@@ -1,7 +1,8 @@
 //! The bits of an instruction's words that no field names (Bt878 data sheet, "RISC instructions"; the
 //! planar counts are this project's own).
 
-ghost use Rattle.risc_listing.specs.Unnamed.{are_unnamed_zero_in_counts, are_unnamed_zero_in_data, are_unnamed_zero_in_jump, are_unnamed_zero_in_skip, are_unnamed_zero_in_sync};
+ghost use Rattle.risc_listing.specs.Unnamed.{are_unnamed_zero_in_counts, are_unnamed_zero_in_data, are_unnamed_zero_in_jump};
+ghost use Rattle.risc_listing.specs.Unnamed.{are_unnamed_zero_in_skip, are_unnamed_zero_in_sync};
 ghost use Rattle.std.specs.Prelude.{◌≡◌, ◌&&◌, ◌==◌, slice_index};
 
 use bit_field::Field;

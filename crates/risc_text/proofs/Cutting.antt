@@ -1,5 +1,6 @@
 -- Lines begin a listing exactly where there are none, or they are a listing, or become one with a last line.
-use Rattle.std.proofs.Common.{◌≡◌, ℕ, zero, suc, ◌+◌, ◌-◌, ◌*◌, ◌^◌, ◌<◌, ◌≤◌, Bool, true, false, not, List, [], ◌∷◌, ◌++◌, length, take, Option, Some, None, refl, sym, ap, subst, ◌∙◌, arith, append_assoc, inl, inr}
+use Rattle.std.proofs.Common.{◌≡◌, ℕ, zero, suc, ◌+◌, ◌-◌, ◌*◌, ◌^◌, ◌<◌, ◌≤◌, Bool, true, false, not, List, [], ◌∷◌, ◌++◌, length, take}
+use Rattle.std.proofs.Common.{Option, Some, None, refl, sym, ap, subst, ◌∙◌, arith, append_assoc, inl, inr}
 use Rattle.std.specs.Prelude.{◌==◌, ◌⊎◌, ◌↔◌}
 use Rattle.std.specs.List.{flat_map}
 use Rattle.std.proofs.lemmas.Bool.{and_parts}
@@ -10,14 +11,17 @@ use Rattle.std.proofs.lemmas.List.Elements.{All-take, All-nil}
 use Rattle.risc_word.specs.declared.Instr.{Instr}
 use Rattle.page_table.specs.Grants.{Chunk, AreRising, total}
 use Rattle.page_table.proofs.Placing.{total-cons}
-use Rattle.machine_model.specs.Paths.{begins_at, begins_at_base, RiscProgram, Span, IsProgram, IsSpan, AreApart, all_words, end_of, one_span, shares_byte, span}
+use Rattle.machine_model.specs.Paths.{begins_at, begins_at_base, RiscProgram, Span, IsProgram, IsSpan, AreApart, all_words, end_of}
+use Rattle.machine_model.specs.Paths.{one_span, shares_byte, span}
 use Rattle.machine_model.proofs.OneSpan.{all_words-one_span, one_span-made}
-use Rattle.risc_listing.specs.Listings.{all_word_lines, base_line, entry_line, lines_by, span_line, span_lines, chunk_line, fill_line, line_of, listing, spelled, word_lines, words_of}
+use Rattle.risc_listing.specs.Listings.{all_word_lines, base_line, entry_line, lines_by, span_line, span_lines, chunk_line, fill_line}
+use Rattle.risc_listing.specs.Listings.{line_of, listing, spelled, word_lines, words_of}
 use Rattle.risc_text.specs.Assembly.{AreOfSpans, BeginsListing, FewLinesMissing, IsListed, IsListing, are_lines, completed, has_no_newline}
 use Rattle.risc_text.proofs.Completed.{FewerSpans, are_of_spans}
 use Rattle.risc_text.proofs.Gathering.{Fit, fit_all, trunk}
 use Rattle.risc_text.proofs.OneSpan.{one_span-begins, words_of_one}
-use Rattle.risc_text.proofs.Plain.{IsLine, Plain, base_line-is, entry_line-is, span_line-is, chunk_line-is, fill_line-is, instr_line-is, word_line-is}
+use Rattle.risc_text.proofs.Plain.{IsLine, Plain, base_line-is, entry_line-is, span_line-is, chunk_line-is, fill_line-is, instr_line-is}
+use Rattle.risc_text.proofs.Plain.{word_line-is}
 use Rattle.risc_text.proofs.TwoWords.{cons_parts}
 use Rattle.risc_text.proofs.Spelling.{addresses_fit, spelled_is, spelled_less, unspelled_less}
 
@@ -41,11 +45,13 @@ pub later_lines : (byte : ℕ) (rest : List ℕ) → are_lines (byte ∷ rest) �
 later_lines byte [] is = refl
 later_lines byte (other ∷ rest) is = is
 
-cut_front : (front tail lines rest : List ℕ) → Plain front → (front ++ 10 ∷ []) ++ tail ≡ lines ++ rest → are_lines lines ≡ true → Cut (front ++ 10 ∷ []) tail lines rest
+cut_front : (front tail lines rest : List ℕ) → Plain front → (front ++ 10 ∷ []) ++ tail ≡ lines ++ rest → are_lines lines ≡ true →
+    Cut (front ++ 10 ∷ []) tail lines rest
 cut_front front tail [] rest plain same whole = inl refl
 cut_front [] tail (byte ∷ lines) rest plain same whole =
     let parts = cons_parts 10 byte tail (lines ++ rest) same in
-    inr (record { more = lines; lines_are = ap (λ (b : ℕ). b ∷ lines) (sym parts.0); tail_is = parts.1; whole = later_lines byte lines whole })
+    inr
+    (record { more = lines; lines_are = ap (λ (b : ℕ). b ∷ lines) (sym parts.0); tail_is = parts.1; whole = later_lines byte lines whole })
 cut_front (first ∷ front) tail (byte ∷ []) rest plain same whole =
     let parts = cons_parts first byte ((front ++ 10 ∷ []) ++ tail) rest same in
     let apart = and_parts (not (first == 10)) (has_no_newline front) plain in
@@ -54,12 +60,15 @@ cut_front (first ∷ front) tail (byte ∷ second ∷ lines) rest plain same who
     let parts = cons_parts first byte ((front ++ 10 ∷ []) ++ tail) (second ∷ lines ++ rest) same in
     let apart = and_parts (not (first == 10)) (has_no_newline front) plain in
     let byte_is = sym parts.0 in
-    elim (cut_front front tail (second ∷ lines) rest apart.1 parts.1 whole) as (λ _. Cut (first ∷ front ++ 10 ∷ []) tail (byte ∷ second ∷ lines) rest) [
+    elim (cut_front front tail (second ∷ lines) rest apart.1 parts.1 whole)
+    as (λ _. Cut (first ∷ front ++ 10 ∷ []) tail (byte ∷ second ∷ lines) rest) [
       | inl none ↦ absurd (no_cons second lines (sym none))
-      | inr past ↦ inr (record { more = past.more; lines_are = (λ i. byte_is i ∷ past.lines_are i); tail_is = past.tail_is; whole = past.whole })
+      | inr past ↦
+          inr (record { more = past.more; lines_are = (λ i. byte_is i ∷ past.lines_are i); tail_is = past.tail_is; whole = past.whole })
     ]
 
-pub cut_line : (line tail lines rest : List ℕ) → IsLine line → line ++ tail ≡ lines ++ rest → are_lines lines ≡ true → Cut line tail lines rest
+pub cut_line : (line tail lines rest : List ℕ) → IsLine line → line ++ tail ≡ lines ++ rest → are_lines lines ≡ true →
+    Cut line tail lines rest
 cut_line line tail lines rest is same whole =
     subst (λ (shown : List ℕ). Cut shown tail lines rest) (sym is.is)
     (cut_front is.front tail lines rest is.plain (ap (λ (shown : List ℕ). shown ++ tail) (sym is.is) ∙ same) whole)
@@ -73,61 +82,86 @@ pub record FewerWords (at skip : ℕ) (words whole lines : List ℕ) : Type 0 wh
   pub front : whole ≡ lines ++ left
 
 abbrev pub CutWords : ℕ → ℕ → List ℕ → List ℕ → List ℕ → List ℕ → Type 0
-CutWords at skip words tail lines rest = FewerWords at skip words (word_lines at skip words) lines ⊎ Past (word_lines at skip words) tail lines rest
+CutWords at skip words tail lines rest =
+    FewerWords at skip words (word_lines at skip words) lines ⊎ Past (word_lines at skip words) tail lines rest
 
 abbrev front_lines : ℕ → ℕ → List ℕ → Option (Instr × ℕ) → List ℕ
 front_lines at word more found = line_of at word found ++ word_lines (at + 4) (words_of found - 1) more
 
 module _ (at word : ℕ) (more tail : List ℕ) (at_small : at < 2 ^ 32) (fit : Fit (word ∷ more)) where
   Further : Type 0
-  Further = (skip : ℕ) (lines rest : List ℕ) → word_lines (at + 4) skip more ++ tail ≡ lines ++ rest → are_lines lines ≡ true → CutWords (at + 4) skip more tail lines rest
+  Further =
+      (skip : ℕ) (lines rest : List ℕ) → word_lines (at + 4) skip more ++ tail ≡ lines ++ rest → are_lines lines ≡ true →
+      CutWords (at + 4) skip more tail lines rest
 
-  cut_front_line : (found : Option (Instr × ℕ)) (lines rest : List ℕ) → IsLine (line_of at word found) → ((n : ℕ) → words_of found - 1 ≤ n → spelled (take (suc n) (word ∷ more)) ≡ found) → Further →
-      front_lines at word more found ++ tail ≡ lines ++ rest → are_lines lines ≡ true → FewerWords at 0 (word ∷ more) (front_lines at word more found) lines ⊎ Past (front_lines at word more found) tail lines rest
+  cut_front_line : (found : Option (Instr × ℕ)) (lines rest : List ℕ) → IsLine (line_of at word found) →
+      ((n : ℕ) → words_of found - 1 ≤ n → spelled (take (suc n) (word ∷ more)) ≡ found) → Further →
+      front_lines at word more found ++ tail ≡ lines ++ rest → are_lines lines ≡ true →
+      FewerWords at 0 (word ∷ more) (front_lines at word more found) lines ⊎ Past (front_lines at word more found) tail lines rest
   unfolding word_lines Further
   cut_front_line found lines rest is less further same whole =
       let line = line_of at word found in
       let skip = words_of found - 1 in
       let after = word_lines (at + 4) skip more in
-      let Wanted : Type 0 = FewerWords at 0 (word ∷ more) (front_lines at word more found) lines ⊎ Past (front_lines at word more found) tail lines rest in
-      elim (cut_line line (after ++ tail) lines rest is (sym (append_assoc line after tail) ∙ same) whole) as (λ _. FewerWords at 0 (word ∷ more) (front_lines at word more found) lines ⊎ Past (front_lines at word more found) tail lines rest) [
-        | inl none ↦ inl (record { number = 0; enough = omega arith; lines_are = none; left = front_lines at word more found; front = ap (λ (text : List ℕ). text ++ front_lines at word more found) (sym none) })
-        | inr past ↦ elim (further skip past.more rest past.tail_is past.whole) as (λ _. FewerWords at 0 (word ∷ more) (front_lines at word more found) lines ⊎ Past (front_lines at word more found) tail lines rest) [
-          | inl fewer ↦ inl (record {
-            number = suc fewer.number;
-            enough = omega arith;
-            lines_are = past.lines_are ∙ ap (λ (text : List ℕ). line ++ text) fewer.lines_are
-                ∙ sym (ap (front_lines at word (take fewer.number more)) (less fewer.number fewer.enough));
-            left = fewer.left;
-            front = ap (λ (text : List ℕ). line ++ text) fewer.front ∙ sym (append_assoc line past.more fewer.left)
-                ∙ ap (λ (text : List ℕ). text ++ fewer.left) (sym past.lines_are);
-          })
-          | inr last ↦ inr (record {
-            more = last.more;
-            lines_are = past.lines_are ∙ ap (λ (text : List ℕ). line ++ text) last.lines_are ∙ sym (append_assoc line after last.more);
-            tail_is = last.tail_is;
-            whole = last.whole;
-          })
-        ]
+      let Wanted : Type 0 =
+      FewerWords at 0 (word ∷ more) (front_lines at word more found) lines ⊎ Past (front_lines at word more found) tail lines rest in
+      elim (cut_line line (after ++ tail) lines rest is (sym (append_assoc line after tail) ∙ same) whole) as (λ _.
+      FewerWords at 0 (word ∷ more) (front_lines at word more found) lines ⊎ Past (front_lines at word more found) tail lines rest) [
+        | inl none ↦ inl (record {
+          number = 0;
+          enough = omega arith;
+          lines_are = none;
+          left = front_lines at word more found;
+          front = ap (λ (text : List ℕ). text ++ front_lines at word more found) (sym none);
+        })
+        | inr past ↦ elim (further skip past.more rest past.tail_is past.whole) as (λ _.
+            FewerWords at 0 (word ∷ more) (front_lines at word more found) lines ⊎ Past (front_lines at word more found) tail lines rest) [
+              | inl fewer ↦ inl (record {
+                number = suc fewer.number;
+                enough = omega arith;
+                lines_are = past.lines_are ∙ ap (λ (text : List ℕ). line ++ text) fewer.lines_are
+                    ∙ sym (ap (front_lines at word (take fewer.number more)) (less fewer.number fewer.enough));
+                left = fewer.left;
+                front = ap (λ (text : List ℕ). line ++ text) fewer.front ∙ sym (append_assoc line past.more fewer.left)
+                    ∙ ap (λ (text : List ℕ). text ++ fewer.left) (sym past.lines_are);
+              })
+              | inr last ↦ inr (record {
+                more = last.more;
+                lines_are = past.lines_are ∙ ap (λ (text : List ℕ). line ++ text) last.lines_are ∙ sym (append_assoc line after last.more);
+                tail_is = last.tail_is;
+                whole = last.whole;
+              })
+            ]
       ]
 
   cut_front_by : (found : Option (Instr × ℕ)) (lines rest : List ℕ) → spelled (word ∷ more) ≡ found → Further →
-      front_lines at word more found ++ tail ≡ lines ++ rest → are_lines lines ≡ true → FewerWords at 0 (word ∷ more) (front_lines at word more found) lines ⊎ Past (front_lines at word more found) tail lines rest
+      front_lines at word more found ++ tail ≡ lines ++ rest → are_lines lines ≡ true →
+      FewerWords at 0 (word ∷ more) (front_lines at word more found) lines ⊎ Past (front_lines at word more found) tail lines rest
   cut_front_by None lines rest is further same whole =
-      cut_front_line None lines rest (word_line-is at word at_small (fit 0)) (λ n enough. unspelled_less (suc n) (word ∷ more) is) further same whole
+      cut_front_line None lines rest (word_line-is at word at_small (fit 0))
+      (λ n enough. unspelled_less (suc n) (word ∷ more) is) further same whole
   cut_front_by (Some (instr, number)) lines rest is further same whole =
       let known = spelled_is (word ∷ more) instr number is in
       cut_front_line (Some (instr, number)) lines rest
       (instr_line-is at instr at_small known.is_instr (addresses_fit instr known.rest known.is_instr (subst Fit known.words_are fit)))
       (λ n enough. spelled_less (suc n) (word ∷ more) instr number is (omega arith)) further same whole
 
-cut_words : (at skip : ℕ) (words tail lines rest : List ℕ) → at + 4 * length words ≤ 2 ^ 32 → Fit words → word_lines at skip words ++ tail ≡ lines ++ rest → are_lines lines ≡ true → CutWords at skip words tail lines rest
+cut_words : (at skip : ℕ) (words tail lines rest : List ℕ) → at + 4 * length words ≤ 2 ^ 32 → Fit words →
+    word_lines at skip words ++ tail ≡ lines ++ rest → are_lines lines ≡ true → CutWords at skip words tail lines rest
 unfolding word_lines Further
 cut_words at zero [] tail lines rest small fit same whole = inr (record { more = lines; lines_are = refl; tail_is = same; whole = whole })
-cut_words at (suc skip) [] tail lines rest small fit same whole = inr (record { more = lines; lines_are = refl; tail_is = same; whole = whole })
+cut_words at (suc skip) [] tail lines rest small fit same whole =
+    inr (record { more = lines; lines_are = refl; tail_is = same; whole = whole })
 cut_words at (suc skip) (word ∷ more) tail lines rest small fit same whole =
-    elim (cut_words (at + 4) skip more tail lines rest (omega arith) (λ k. fit (suc k)) same whole) as (λ _. CutWords at (suc skip) (word ∷ more) tail lines rest) [
-      | inl fewer ↦ inl (record { number = suc fewer.number; enough = (let e = fewer.enough in omega arith); lines_are = fewer.lines_are; left = fewer.left; front = fewer.front })
+    elim (cut_words (at + 4) skip more tail lines rest (omega arith) (λ k. fit (suc k)) same whole)
+    as (λ _. CutWords at (suc skip) (word ∷ more) tail lines rest) [
+      | inl fewer ↦ inl (record {
+        number = suc fewer.number;
+        enough = (let e = fewer.enough in omega arith);
+        lines_are = fewer.lines_are;
+        left = fewer.left;
+        front = fewer.front;
+      })
       | inr past ↦ inr (record { more = past.more; lines_are = past.lines_are; tail_is = past.tail_is; whole = past.whole })
     ]
 cut_words at zero (word ∷ more) tail lines rest small fit same whole =
@@ -161,7 +195,8 @@ later_span s rest lines fewer = record {
   left = fewer.left;
   spans_are = ap (λ (spans : List Span). s ∷ spans) fewer.spans_are;
   lines_are = ap (λ (text : List ℕ). span_lines s ++ text) fewer.lines_are
-      ∙ sym (append_assoc (span_lines s) (flat_map span_lines fewer.before) (span_lines (span fewer.last.at (take fewer.number fewer.last.words))));
+      ∙ sym (append_assoc (span_lines s) (flat_map span_lines fewer.before)
+      (span_lines (span fewer.last.at (take fewer.number fewer.last.words))));
   front = fewer.front;
 }
 
@@ -169,13 +204,15 @@ all_spans : (s : Span) (rest : List Span) → FewerSpans (s ∷ rest) (flat_map 
 all_spans s [] = subst (FewerSpans (s ∷ [])) (sym (append-nil (span_lines s))) (first_span s [])
 all_spans s (other ∷ rest) = later_span s (other ∷ rest) (flat_map span_lines (other ∷ rest)) (all_spans other rest)
 
-cut_span : (s : Span) (after : List Span) (tail lines rest : List ℕ) → IsSpan s → span_lines s ++ tail ≡ lines ++ rest → are_lines lines ≡ true →
+cut_span : (s : Span) (after : List Span) (tail lines rest : List ℕ) → IsSpan s → span_lines s ++ tail ≡ lines ++ rest →
+    are_lines lines ≡ true →
     (lines ≡ []) ⊎ (FewerSpans (s ∷ after) lines ⊎ Past (span_lines s) tail lines rest)
 cut_span s after tail lines rest is same whole =
     let ends = is.ends in
     let some = is.some in
     let words = word_lines s.at 0 s.words in
-    elim (cut_line (span_line s.at) (words ++ tail) lines rest (span_line-is s.at (omega arith)) (sym (append_assoc (span_line s.at) words tail) ∙ same) whole)
+    elim (cut_line (span_line s.at) (words ++ tail) lines rest (span_line-is s.at (omega arith))
+    (sym (append_assoc (span_line s.at) words tail) ∙ same) whole)
     as (λ _. (lines ≡ []) ⊎ (FewerSpans (s ∷ after) lines ⊎ Past (span_lines s) tail lines rest)) [
       | inl none ↦ inl none
       | inr past ↦ elim (cut_words s.at 0 s.words tail past.more rest ends (fit_all s.words is.fit) past.tail_is past.whole)
@@ -192,33 +229,41 @@ cut_span s after tail lines rest is same whole =
             }))
             | inr last ↦ inr (inr (record {
               more = last.more;
-              lines_are = past.lines_are ∙ ap (λ (text : List ℕ). span_line s.at ++ text) last.lines_are ∙ sym (append_assoc (span_line s.at) words last.more);
+              lines_are =
+                  past.lines_are ∙ ap (λ (text : List ℕ). span_line s.at ++ text) last.lines_are
+                  ∙ sym (append_assoc (span_line s.at) words last.more);
               tail_is = last.tail_is;
               whole = last.whole;
             }))
           ]
     ]
 
-cut_spans : (from : ℕ) (spans : List Span) (tail lines rest : List ℕ) → AreApart from spans → flat_map span_lines spans ++ tail ≡ lines ++ rest → are_lines lines ≡ true → CutSpans spans tail lines rest
+cut_spans : (from : ℕ) (spans : List Span) (tail lines rest : List ℕ) → AreApart from spans →
+    flat_map span_lines spans ++ tail ≡ lines ++ rest → are_lines lines ≡ true → CutSpans spans tail lines rest
 cut_spans from [] tail lines rest apart same whole = inr (inr (record { more = lines; lines_are = refl; tail_is = same; whole = whole }))
 cut_spans from (s ∷ more) tail lines rest apart same whole =
     let after = flat_map span_lines more in
-    elim (cut_span s more (after ++ tail) lines rest apart.1 (sym (append_assoc (span_lines s) after tail) ∙ same) whole) as (λ _. CutSpans (s ∷ more) tail lines rest) [
+    elim (cut_span s more (after ++ tail) lines rest apart.1 (sym (append_assoc (span_lines s) after tail) ∙ same) whole)
+    as (λ _. CutSpans (s ∷ more) tail lines rest) [
       | inl none ↦ inl none
       | inr first ↦ elim first as (λ _. CutSpans (s ∷ more) tail lines rest) [
         | inl fewer ↦ inr (inl fewer)
-        | inr past ↦ elim (cut_spans (end_of s + 1) more tail past.more rest apart.2 past.tail_is past.whole) as (λ _. CutSpans (s ∷ more) tail lines rest) [
-          | inl none ↦ inr (inl (subst (FewerSpans (s ∷ more)) (sym (past.lines_are ∙ ap (λ (text : List ℕ). span_lines s ++ text) none ∙ append-nil (span_lines s))) (first_span s more)))
-          | inr later ↦ elim later as (λ _. CutSpans (s ∷ more) tail lines rest) [
-            | inl fewer ↦ inr (inl (subst (FewerSpans (s ∷ more)) (sym past.lines_are) (later_span s more past.more fewer)))
-            | inr last ↦ inr (inr (record {
-              more = last.more;
-              lines_are = past.lines_are ∙ ap (λ (text : List ℕ). span_lines s ++ text) last.lines_are ∙ sym (append_assoc (span_lines s) after last.more);
-              tail_is = last.tail_is;
-              whole = last.whole;
-            }))
-          ]
-        ]
+        | inr past ↦ elim (cut_spans (end_of s + 1) more tail past.more rest apart.2 past.tail_is past.whole)
+            as (λ _. CutSpans (s ∷ more) tail lines rest) [
+              | inl none ↦ inr (inl (subst (FewerSpans (s ∷ more)) (sym
+                  (past.lines_are ∙ ap (λ (text : List ℕ). span_lines s ++ text) none ∙ append-nil (span_lines s))) (first_span s more)))
+              | inr later ↦ elim later as (λ _. CutSpans (s ∷ more) tail lines rest) [
+                | inl fewer ↦ inr (inl (subst (FewerSpans (s ∷ more)) (sym past.lines_are) (later_span s more past.more fewer)))
+                | inr last ↦ inr (inr (record {
+                  more = last.more;
+                  lines_are =
+                      past.lines_are ∙ ap (λ (text : List ℕ). span_lines s ++ text) last.lines_are
+                      ∙ sym (append_assoc (span_lines s) after last.more);
+                  tail_is = last.tail_is;
+                  whole = last.whole;
+                }))
+              ]
+            ]
       ]
     ]
 
@@ -227,7 +272,8 @@ pub record FewerChunks (chunks : List Chunk) (lines : List ℕ) : Type 0 where
   pub number : ℕ
   pub lines_are : lines ≡ flat_map chunk_line (take number chunks)
 
-cut_chunks : (from : ℕ) (chunks : List Chunk) (tail lines rest : List ℕ) → AreRising from chunks → total chunks ≤ 2 ^ 24 → flat_map chunk_line chunks ++ tail ≡ lines ++ rest → are_lines lines ≡ true →
+cut_chunks : (from : ℕ) (chunks : List Chunk) (tail lines rest : List ℕ) → AreRising from chunks → total chunks ≤ 2 ^ 24 →
+    flat_map chunk_line chunks ++ tail ≡ lines ++ rest → are_lines lines ≡ true →
     FewerChunks chunks lines ⊎ Past (flat_map chunk_line chunks) tail lines rest
 cut_chunks from [] tail lines rest rising small same whole = inr (record { more = lines; lines_are = refl; tail_is = same; whole = whole })
 cut_chunks from (c ∷ chunks) tail lines rest rising small same whole =
@@ -237,12 +283,14 @@ cut_chunks from (c ∷ chunks) tail lines rest rising small same whole =
     let some = is.some in
     let line = chunk_line c in
     let after = flat_map chunk_line chunks in
-    elim (cut_line line (after ++ tail) lines rest (chunk_line-is c (omega arith) (omega arith)) (sym (append_assoc line after tail) ∙ same) whole)
+    elim (cut_line line (after ++ tail) lines rest (chunk_line-is c (omega arith) (omega arith))
+    (sym (append_assoc line after tail) ∙ same) whole)
     as (λ _. FewerChunks (c ∷ chunks) lines ⊎ Past (flat_map chunk_line (c ∷ chunks)) tail lines rest) [
       | inl none ↦ inl (record { number = 0; lines_are = none })
       | inr past ↦ elim (cut_chunks (c.at + c.len) chunks tail past.more rest rising.2 (omega arith) past.tail_is past.whole)
           as (λ _. FewerChunks (c ∷ chunks) lines ⊎ Past (flat_map chunk_line (c ∷ chunks)) tail lines rest) [
-            | inl fewer ↦ inl (record { number = suc fewer.number; lines_are = past.lines_are ∙ ap (λ (text : List ℕ). line ++ text) fewer.lines_are })
+            | inl fewer ↦ inl
+                (record { number = suc fewer.number; lines_are = past.lines_are ∙ ap (λ (text : List ℕ). line ++ text) fewer.lines_are })
             | inr last ↦ inr (record {
               more = last.more;
               lines_are = past.lines_are ∙ ap (λ (text : List ℕ). line ++ text) last.lines_are ∙ sym (append_assoc line after last.more);
@@ -254,7 +302,8 @@ cut_chunks from (c ∷ chunks) tail lines rest rising small same whole =
 
 -- ---- programs with fewer words or chunks
 
-fewer_words : (program : RiscProgram) (n : ℕ) → IsProgram program → begins_at_base program ≡ true → IsProgram (one_span program.base (take n (all_words program)) [])
+fewer_words : (program : RiscProgram) (n : ℕ) → IsProgram program → begins_at_base program ≡ true →
+    IsProgram (one_span program.base (take n (all_words program)) [])
 fewer_words program n made one =
     let words = all_words program in
     let all = words_of_one program made one in
@@ -277,7 +326,8 @@ rising-take from zero (c ∷ rest) rising = tt
 rising-take from (suc n) [] rising = tt
 rising-take from (suc n) (c ∷ rest) rising = (rising.0, rising.1, rising-take (c.at + c.len) n rest rising.2)
 
-fewer_chunks : (program : RiscProgram) (n : ℕ) → IsProgram program → IsProgram (record { base = program.base; spans = program.spans; grants = take n program.grants })
+fewer_chunks : (program : RiscProgram) (n : ℕ) → IsProgram program →
+    IsProgram (record { base = program.base; spans = program.spans; grants = take n program.grants })
 fewer_chunks program n made =
     let short = length-take n program.grants in
     let less = sum_by-take-le (λ (c : Chunk). c.len) program.grants n in
@@ -289,7 +339,11 @@ fewer_chunks program n made =
       spans = made.spans;
       many = made.many;
       few = made.few;
-      grants = record { few = (let e = all.few in omega arith); small = (let e = all.small in omega arith); rising = rising-take 0 n program.grants all.rising };
+      grants = record {
+        few = (let e = all.few in omega arith);
+        small = (let e = all.small in omega arith);
+        rising = rising-take 0 n program.grants all.rising;
+      };
       apart = All-take (λ c. shares_byte program c ≡ false) n program.grants made.apart;
     }
 
@@ -312,11 +366,13 @@ module _ (program : RiscProgram) (fill : ℕ) (lines rest : List ℕ) (listed : 
   Chunks = flat_map chunk_line program.grants
 
   -- after the lines of the chunks
-  starts_last : (two three : List ℕ) → lines ≡ Head ++ two → two ≡ Chunks ++ three → fill_line fill ≡ three ++ rest → are_lines three ≡ true → Starts lines
+  starts_last : (two three : List ℕ) → lines ≡ Head ++ two → two ≡ Chunks ++ three → fill_line fill ≡ three ++ rest →
+      are_lines three ≡ true → Starts lines
   unfolding Head Chunks
   starts_last two three two_is three_is same whole =
       let lines_are : lines ≡ Head ++ (Chunks ++ three) = two_is ∙ ap (λ (text : List ℕ). Head ++ text) three_is in
-      elim (cut_line (fill_line fill) [] three rest (fill_line-is fill listed.fill_small) (append-nil (fill_line fill) ∙ same) whole) as (λ _. Starts lines) [
+      elim (cut_line (fill_line fill) [] three rest (fill_line-is fill listed.fill_small) (append-nil (fill_line fill) ∙ same) whole)
+      as (λ _. Starts lines) [
         | inl none ↦ inr (inl (record {
           program = program;
           made = listed.made;
@@ -329,7 +385,8 @@ module _ (program : RiscProgram) (fill : ℕ) (lines rest : List ℕ) (listed : 
             listed,
             sym (lines_are
                 ∙ ap (λ (text : List ℕ). Head ++ (Chunks ++ text))
-                (past.lines_are ∙ ap (λ (text : List ℕ). fill_line fill ++ text) (no_more past.more rest past.tail_is) ∙ append-nil (fill_line fill))),
+                (past.lines_are ∙ ap (λ (text : List ℕ). fill_line fill ++ text) (no_more past.more rest past.tail_is)
+                ∙ append-nil (fill_line fill))),
           ),
         )))
       ]
@@ -354,7 +411,8 @@ module _ (program : RiscProgram) (fill : ℕ) (lines rest : List ℕ) (listed : 
     where
       -- fewer chunks change no line of a word
       same_head : (n : ℕ) (by_base : Bool) → lines_by by_base program ++ flat_map chunk_line (take n program.grants)
-          ≡ lines_by by_base (record { base = program.base; spans = program.spans; grants = take n program.grants }) ++ flat_map chunk_line (take n program.grants)
+          ≡ lines_by by_base (record { base = program.base; spans = program.spans; grants = take n program.grants })
+          ++ flat_map chunk_line (take n program.grants)
       same_head n true = refl
       same_head n false = refl
 
@@ -369,18 +427,23 @@ module _ (program : RiscProgram) (fill : ℕ) (lines rest : List ℕ) (listed : 
       let shown = word_lines program.base 0 words in
       let after = Chunks ++ fill_line fill in
       let head_is : Head ≡ base ++ shown = ap (λ (by_base : Bool). lines_by by_base program) by_base in
-      let parts : base ++ (shown ++ after) ≡ lines ++ rest = sym (append_assoc base shown after) ∙ ap (λ (head : List ℕ). head ++ after) (sym head_is) ∙ same in
+      let parts : base ++ (shown ++ after) ≡ lines ++ rest =
+      sym (append_assoc base shown after) ∙ ap (λ (head : List ℕ). head ++ after) (sym head_is) ∙ same in
       elim (cut_line base (shown ++ after) lines rest (base_line-is program.base made.low) parts whole) as (λ _. Starts lines) [
         | inl none ↦ inl none
-        | inr past ↦ elim (cut_words program.base 0 words after past.more rest all.ends (fit_all words all.fit) past.tail_is past.whole) as (λ _. Starts lines) [
-          | inl fewer ↦ inr (inl (record {
-            program = one_span program.base (take fewer.number words) [];
-            made = fewer_words program fewer.number made by_base;
-            is = past.lines_are ∙ ap (λ (text : List ℕ). base ++ text) fewer.lines_are ∙ sym (trunk_of_words program.base (take fewer.number words));
-          }))
-          | inr last ↦ starts_chunks last.more
-              (past.lines_are ∙ ap (λ (text : List ℕ). base ++ text) last.lines_are ∙ sym (append_assoc base shown last.more) ∙ ap (λ (head : List ℕ). head ++ last.more) (sym head_is)) last.tail_is last.whole
-        ]
+        | inr past ↦ elim (cut_words program.base 0 words after past.more rest all.ends (fit_all words all.fit) past.tail_is past.whole)
+            as (λ _. Starts lines) [
+              | inl fewer ↦ inr (inl (record {
+                program = one_span program.base (take fewer.number words) [];
+                made = fewer_words program fewer.number made by_base;
+                is =
+                    past.lines_are ∙ ap (λ (text : List ℕ). base ++ text) fewer.lines_are
+                    ∙ sym (trunk_of_words program.base (take fewer.number words));
+              }))
+              | inr last ↦ starts_chunks last.more
+                  (past.lines_are ∙ ap (λ (text : List ℕ). base ++ text) last.lines_are ∙ sym (append_assoc base shown last.more)
+                  ∙ ap (λ (head : List ℕ). head ++ last.more) (sym head_is)) last.tail_is last.whole
+            ]
       ]
 
   -- among the lines of spans, or that of the entry
@@ -392,17 +455,21 @@ module _ (program : RiscProgram) (fill : ℕ) (lines rest : List ℕ) (listed : 
       let entry = entry_line program.base in
       let after = Chunks ++ fill_line fill in
       let head_is : Head ≡ shown ++ entry = ap (λ (by_base : Bool). lines_by by_base program) by_spans in
-      let parts : shown ++ (entry ++ after) ≡ lines ++ rest = sym (append_assoc shown entry after) ∙ ap (λ (head : List ℕ). head ++ after) (sym head_is) ∙ same in
+      let parts : shown ++ (entry ++ after) ≡ lines ++ rest =
+      sym (append_assoc shown entry after) ∙ ap (λ (head : List ℕ). head ++ after) (sym head_is) ∙ same in
       elim (cut_spans 0 program.spans (entry ++ after) lines rest made.spans parts whole) as (λ _. Starts lines) [
         | inl none ↦ inl none
         | inr first ↦ elim first as (λ _. Starts lines) [
           | inl fewer ↦ inr (inr (inl (are_of_spans program lines made by_spans fewer)))
-          | inr past ↦ elim (cut_line entry after past.more rest (entry_line-is program.base made.low) past.tail_is past.whole) as (λ _. Starts lines) [
-            | inl none ↦ inr (inr (inl (are_of_spans program lines made by_spans
-                (subst (FewerSpans program.spans) (sym (past.lines_are ∙ ap (λ (text : List ℕ). shown ++ text) none ∙ append-nil shown)) (every_span program.base program.spans by_spans)))))
-            | inr last ↦ starts_chunks last.more
-                (past.lines_are ∙ ap (λ (text : List ℕ). shown ++ text) last.lines_are ∙ sym (append_assoc shown entry last.more) ∙ ap (λ (head : List ℕ). head ++ last.more) (sym head_is)) last.tail_is last.whole
-          ]
+          | inr past ↦ elim (cut_line entry after past.more rest (entry_line-is program.base made.low) past.tail_is past.whole)
+              as (λ _. Starts lines) [
+                | inl none ↦ inr (inr (inl (are_of_spans program lines made by_spans
+                    (subst (FewerSpans program.spans) (sym (past.lines_are ∙ ap (λ (text : List ℕ). shown ++ text) none ∙ append-nil shown))
+                    (every_span program.base program.spans by_spans)))))
+                | inr last ↦ starts_chunks last.more
+                    (past.lines_are ∙ ap (λ (text : List ℕ). shown ++ text) last.lines_are ∙ sym (append_assoc shown entry last.more)
+                    ∙ ap (λ (head : List ℕ). head ++ last.more) (sym head_is)) last.tail_is last.whole
+              ]
         ]
       ]
     where
@@ -410,7 +477,8 @@ module _ (program : RiscProgram) (fill : ℕ) (lines rest : List ℕ) (listed : 
       every_span entry [] is = absurd cc
       every_span entry (s ∷ rest) is = all_spans s rest
 
-  starts_by : (by_base : Bool) → begins_at_base program ≡ by_base → listing program fill ≡ lines ++ rest → are_lines lines ≡ true → Starts lines
+  starts_by : (by_base : Bool) → begins_at_base program ≡ by_base → listing program fill ≡ lines ++ rest → are_lines lines ≡ true →
+      Starts lines
   starts_by true is same whole = starts_base is same whole
   starts_by false is same whole = starts_spans is same whole
 

@@ -1,5 +1,6 @@
 -- Digits are read back.
-use Rattle.std.proofs.Common.{◌≡◌, ℕ, zero, suc, ◌+◌, ◌-◌, ◌*◌, ◌/◌, ◌%◌, ◌^◌, ◌<◌, ◌≤◌, true, false, List, [], ◌∷◌, ◌++◌, length, length-append, Some, refl, ap, ◌∙◌, arith, append_assoc}
+use Rattle.std.proofs.Common.{◌≡◌, ℕ, zero, suc, ◌+◌, ◌-◌, ◌*◌, ◌/◌, ◌%◌, ◌^◌, ◌<◌, ◌≤◌, true, false, List, [], ◌∷◌, ◌++◌, length}
+use Rattle.std.proofs.Common.{length-append, Some, refl, ap, ◌∙◌, arith, append_assoc}
 use Rattle.std.specs.Fmt.{decimal, digit_glyph, digits}
 use Rattle.std.proofs.lemmas.Bool.Decides.{nat_tests}
 use Rattle.std.proofs.lemmas.Fmt.{decimal_by_steps, hex_one_digit, hex_byte, length-decimal-le}
@@ -16,7 +17,8 @@ glyph-small d small = grind (arith, nat_tests)
 pub glyph-large : (d : ℕ) → d < 16 → 48 ≤ digit_glyph false d
 glyph-large d small = grind (arith, nat_tests)
 
-pub hex_step : (k n d m : ℕ) (rest : List ℕ) → d < 16 → n * 16 + d ≡ m → hex_digits (suc k) n (digit_glyph false d ∷ rest) ≡ hex_digits k m rest
+pub hex_step : (k n d m : ℕ) (rest : List ℕ) → d < 16 → n * 16 + d ≡ m →
+    hex_digits (suc k) n (digit_glyph false d ∷ rest) ≡ hex_digits k m rest
 unfolding hex_digits
 hex_step k n d m rest small is =
     ap (λ (e : ℕ). hex_digits k (n * 16 + e) rest) (digit-glyph d small) ∙ ap (λ value. hex_digits k value rest) is
@@ -29,15 +31,23 @@ hex_end n rest = refl
 pub address_back : (n : ℕ) (rest : List ℕ) → n < 2 ^ 32 → hex_digits 8 0 (address_text n ++ rest) ≡ Some (n, rest)
 address_back n rest small =
     rw (address_digits n small) (
-    hex_step 7 0 (n / 2 ^ 28 % 16) (n / 2 ^ 28) (digit_glyph false (n / 2 ^ 24 % 16) ∷ digit_glyph false (n / 2 ^ 20 % 16) ∷ digit_glyph false (n / 2 ^ 16 % 16) ∷ digit_glyph false
-    (n / 2 ^ 12 % 16) ∷ digit_glyph false (n / 2 ^ 8 % 16) ∷ digit_glyph false (n / 2 ^ 4 % 16) ∷ digit_glyph false (n % 16) ∷ rest) (omega arith) (omega arith)
-    ∙ hex_step 6 (n / 2 ^ 28) (n / 2 ^ 24 % 16) (n / 2 ^ 24) (digit_glyph false (n / 2 ^ 20 % 16) ∷ digit_glyph false (n / 2 ^ 16 % 16) ∷ digit_glyph false (n / 2 ^ 12 % 16) ∷
+    hex_step 7 0 (n / 2 ^ 28 % 16) (n / 2 ^ 28)
+    (digit_glyph false (n / 2 ^ 24 % 16) ∷ digit_glyph false (n / 2 ^ 20 % 16) ∷ digit_glyph false (n / 2 ^ 16 % 16) ∷ digit_glyph false
+    (n / 2 ^ 12 % 16) ∷ digit_glyph false (n / 2 ^ 8 % 16) ∷ digit_glyph false (n / 2 ^ 4 % 16) ∷ digit_glyph false (n % 16) ∷ rest)
+    (omega arith) (omega arith)
+    ∙ hex_step 6 (n / 2 ^ 28) (n / 2 ^ 24 % 16) (n / 2 ^ 24)
+    (digit_glyph false (n / 2 ^ 20 % 16) ∷ digit_glyph false (n / 2 ^ 16 % 16) ∷ digit_glyph false (n / 2 ^ 12 % 16) ∷
     digit_glyph false (n / 2 ^ 8 % 16) ∷ digit_glyph false (n / 2 ^ 4 % 16) ∷ digit_glyph false (n % 16) ∷ rest) (omega arith) (omega arith)
-    ∙ hex_step 5 (n / 2 ^ 24) (n / 2 ^ 20 % 16) (n / 2 ^ 20) (digit_glyph false (n / 2 ^ 16 % 16) ∷ digit_glyph false (n / 2 ^ 12 % 16) ∷ digit_glyph false (n / 2 ^ 8 % 16) ∷
+    ∙ hex_step 5 (n / 2 ^ 24) (n / 2 ^ 20 % 16) (n / 2 ^ 20)
+    (digit_glyph false (n / 2 ^ 16 % 16) ∷ digit_glyph false (n / 2 ^ 12 % 16) ∷ digit_glyph false (n / 2 ^ 8 % 16) ∷
     digit_glyph false (n / 2 ^ 4 % 16) ∷ digit_glyph false (n % 16) ∷ rest) (omega arith) (omega arith)
-    ∙ hex_step 4 (n / 2 ^ 20) (n / 2 ^ 16 % 16) (n / 2 ^ 16) (digit_glyph false (n / 2 ^ 12 % 16) ∷ digit_glyph false (n / 2 ^ 8 % 16) ∷ digit_glyph false (n / 2 ^ 4 % 16) ∷ digit_glyph false (n % 16) ∷ rest) (omega arith) (omega arith)
-    ∙ hex_step 3 (n / 2 ^ 16) (n / 2 ^ 12 % 16) (n / 2 ^ 12) (digit_glyph false (n / 2 ^ 8 % 16) ∷ digit_glyph false (n / 2 ^ 4 % 16) ∷ digit_glyph false (n % 16) ∷ rest) (omega arith) (omega arith)
-    ∙ hex_step 2 (n / 2 ^ 12) (n / 2 ^ 8 % 16) (n / 2 ^ 8) (digit_glyph false (n / 2 ^ 4 % 16) ∷ digit_glyph false (n % 16) ∷ rest) (omega arith) (omega arith)
+    ∙ hex_step 4 (n / 2 ^ 20) (n / 2 ^ 16 % 16) (n / 2 ^ 16) (digit_glyph false (n / 2 ^ 12 % 16) ∷ digit_glyph false (n / 2 ^ 8 % 16)
+    ∷ digit_glyph false (n / 2 ^ 4 % 16) ∷ digit_glyph false (n % 16) ∷ rest) (omega arith) (omega arith)
+    ∙ hex_step 3 (n / 2 ^ 16) (n / 2 ^ 12 % 16)
+    (n / 2 ^ 12) (digit_glyph false (n / 2 ^ 8 % 16) ∷ digit_glyph false (n / 2 ^ 4 % 16) ∷ digit_glyph false (n % 16) ∷ rest) (omega arith)
+    (omega arith)
+    ∙ hex_step 2 (n / 2 ^ 12) (n / 2 ^ 8 % 16) (n / 2 ^ 8) (digit_glyph false (n / 2 ^ 4 % 16) ∷ digit_glyph false (n % 16) ∷ rest)
+    (omega arith) (omega arith)
     ∙ hex_step 1 (n / 2 ^ 8) (n / 2 ^ 4 % 16) (n / 2 ^ 4) (digit_glyph false (n % 16) ∷ rest) (omega arith) (omega arith)
     ∙ hex_step 0 (n / 2 ^ 4) (n % 16) n (rest) (omega arith) (omega arith)
     ∙ hex_end n rest)
@@ -84,7 +94,8 @@ unfolding decimal_digits
 stops zero n byte rest is = refl
 stops (suc k) n byte rest is = rw is (stops k n byte rest is)
 
-pub number_back : (most n byte : ℕ) (rest : List ℕ) → 0 < most → n < 10 ^ most → n < 2 ^ 64 → is_decimal byte ≡ false → decimal_digits most 0 (decimal n ++ byte ∷ rest) ≡ (n, byte ∷ rest)
+pub number_back : (most n byte : ℕ) (rest : List ℕ) → 0 < most → n < 10 ^ most → n < 2 ^ 64 → is_decimal byte ≡ false →
+    decimal_digits most 0 (decimal n ++ byte ∷ rest) ≡ (n, byte ∷ rest)
 unfolding IsReadBack
 number_back most n byte rest some small short is =
     let long = length-decimal-le most n some small short in
@@ -104,4 +115,10 @@ pub record StartsDecimal (text : List ℕ) : Type 0 where
 pub starts_decimal : (n : ℕ) → n < 2 ^ 64 → StartsDecimal (decimal n)
 starts_decimal = decimal_by_steps (λ n text. StartsDecimal text)
     (λ n small. record { first = 48 + n; rest = []; is = refl; low = omega arith; high = omega arith })
-    (λ n ds low before. record { first = before.first; rest = before.rest ++ (48 + n % 10) ∷ []; is = ap (λ (text : List ℕ). text ++ (48 + n % 10) ∷ []) before.is; low = before.low; high = before.high })
+    (λ n ds low before. record {
+      first = before.first;
+      rest = before.rest ++ (48 + n % 10) ∷ [];
+      is = ap (λ (text : List ℕ). text ++ (48 + n % 10) ∷ []) before.is;
+      low = before.low;
+      high = before.high;
+    })

@@ -4,7 +4,8 @@ use Rattle.std.specs.List.{All}
 use Rattle.std.proofs.lemmas.Bool.{eqb-true, eq-eqb}
 use Rattle.std.proofs.lemmas.List.Elements.{All-nil}
 use Rattle.page_table.specs.Grants.{Chunk}
-use Rattle.machine_model.specs.Paths.{begins_at, begins_at_base, RiscProgram, Span, IsProgram, AreApart, all_words, one_span, span, spans_of, words_of}
+use Rattle.machine_model.specs.Paths.{begins_at, begins_at_base, RiscProgram, Span, IsProgram, AreApart, all_words, one_span, span}
+use Rattle.machine_model.specs.Paths.{spans_of, words_of}
 
 -- what is known of the words
 pub record Words (base : ℕ) (words : List ℕ) : Type 0 where
@@ -15,7 +16,8 @@ words_by : (base : ℕ) (words : List ℕ) (grants : List Chunk) → IsProgram (
 words_by base [] grants made = record { ends = (let low = made.low in omega arith); fit = All-nil (λ word. word < 2 ^ 32) }
 words_by base (word ∷ words) grants made = let is = made.spans.1 in record { ends = is.ends; fit = is.fit }
 
-one_by : (at entry : ℕ) (words : List ℕ) → 0 < length words → at ≡ entry → span at words ∷ [] ≡ spans_of entry (words_of (span at words ∷ []))
+one_by : (at entry : ℕ) (words : List ℕ) → 0 < length words → at ≡ entry →
+    span at words ∷ [] ≡ spans_of entry (words_of (span at words ∷ []))
 one_by at entry [] some is = absurd (omega arith)
 one_by at entry (word ∷ words) some is =
     ap (λ (at : ℕ). span at (word ∷ words) ∷ []) is ∙ ap (spans_of entry) (sym (append-nil (word ∷ words)))
@@ -25,9 +27,11 @@ spans_are entry [] apart is = refl
 spans_are entry (s ∷ []) apart is = one_by s.at entry s.words apart.1.some (eqb-true s.at entry is)
 spans_are entry (s ∷ other ∷ rest) apart is = absurd cc
 
-pub is_one : (program : RiscProgram) → IsProgram program → begins_at_base program ≡ true → program ≡ one_span program.base (all_words program) program.grants
+pub is_one : (program : RiscProgram) → IsProgram program → begins_at_base program ≡ true →
+    program ≡ one_span program.base (all_words program) program.grants
 is_one program made is =
-    ap (λ (spans : List Span). record { base = program.base; spans = spans; grants = program.grants }) (spans_are program.base program.spans made.spans is)
+    ap (λ (spans : List Span). record { base = program.base; spans = spans; grants = program.grants })
+    (spans_are program.base program.spans made.spans is)
 
 pub words_of_one : (program : RiscProgram) → IsProgram program → begins_at_base program ≡ true → Words program.base (all_words program)
 words_of_one program made is = words_by program.base (all_words program) program.grants (subst IsProgram (is_one program made is) made)

@@ -1,5 +1,6 @@
 -- A line of a listing has one newline, its last byte.
-use Rattle.std.proofs.Common.{◌≡◌, ℕ, ◌+◌, ◌/◌, ◌%◌, ◌^◌, ◌<◌, Bool, true, false, not, List, [], ◌∷◌, ◌++◌, map, refl, sym, ap, subst, arith, append_assoc}
+use Rattle.std.proofs.Common.{◌≡◌, ℕ, ◌+◌, ◌/◌, ◌%◌, ◌^◌, ◌<◌, Bool, true, false, not, List, [], ◌∷◌, ◌++◌, map, refl, sym, ap, subst}
+use Rattle.std.proofs.Common.{arith, append_assoc}
 use Rattle.std.specs.Prelude.{◌==◌, codes, if◌then◌else◌, nat_lt, IsTrue}
 use Rattle.std.specs.Fmt.{decimal, digit_glyph, digits}
 use Rattle.std.proofs.lemmas.Bool.{cond_both, ltb-true, ne_eqb, and_parts}
@@ -14,7 +15,8 @@ use Rattle.risc_word.specs.Words.{IsInstr, control_fits, counts_fit}
 use Rattle.risc_word.proofs.FirstWord.{control_parts}
 use Rattle.risc_word.proofs.ReadBack.{counts_parts, line_parts, three_of}
 use Rattle.page_table.specs.Grants.{Chunk, is_page}
-use Rattle.risc_listing.specs.Lines.{address_text, addresses_text, at_text, code_name, control_text, count_text, counts_text, data_text, flag_text, hex, instr_line, instr_text, line_end, nibble_text, word_line}
+use Rattle.risc_listing.specs.Lines.{address_text, addresses_text, at_text, code_name, control_text, count_text, counts_text, data_text}
+use Rattle.risc_listing.specs.Lines.{flag_text, hex, instr_line, instr_text, line_end, nibble_text, word_line}
 use Rattle.risc_listing.specs.Listings.{base_line, chunk_line, entry_line, fill_line, span_line}
 use Rattle.risc_listing.proofs.Hexadecimal.{address_digits}
 use Rattle.risc_text.specs.Assembly.{has_no_newline}
@@ -64,7 +66,8 @@ fill_plain : (n : ℕ) → n < 256 → Plain (hex 2 n)
 fill_plain n small =
     let one = glyph-large (n / 16) (omega arith) in
     let two = glyph-large (n % 16) (omega arith) in
-    subst Plain (sym (hex_byte false n small)) (byte_then (digit_glyph false (n / 16)) (digit_glyph false (n % 16) ∷ []) (omega arith) (byte_then (digit_glyph false (n % 16)) [] (omega arith) refl))
+    subst Plain (sym (hex_byte false n small)) (byte_then (digit_glyph false (n / 16)) (digit_glyph false (n % 16) ∷ []) (omega arith)
+    (byte_then (digit_glyph false (n % 16)) [] (omega arith) refl))
 
 flag_plain : (name : List ℕ) (b : Bool) → Plain name → Plain (flag_text name b)
 flag_plain name true is = is
@@ -78,7 +81,8 @@ control_plain : (ctl : Ctl) → IsTrue (control_fits ctl) → Plain (control_tex
 control_plain ctl fit =
     let parts = control_parts ctl fit in
     both (flag_text (codes " irq") ctl.irq) _ (flag_plain (codes " irq") ctl.irq refl)
-    (both (nibble_text (codes " set=") ctl.set) _ (nibble_plain (codes " set=") ctl.set refl parts.0) (nibble_plain (codes " reset=") ctl.reset refl parts.1))
+    (both (nibble_text (codes " set=") ctl.set) _ (nibble_plain (codes " set=") ctl.set refl parts.0)
+    (nibble_plain (codes " reset=") ctl.reset refl parts.1))
 
 data_plain : (ctl : Ctl) (ends : Ends) (off : ℕ) → IsTrue (control_fits ctl) → off < 16 → Plain (data_text ctl ends off)
 data_plain ctl ends off fit small =
@@ -88,7 +92,8 @@ data_plain ctl ends off fit small =
 
 counts_plain : (a b c : ℕ) → a < 4096 → b < 4096 → c < 4096 → Plain (counts_text (a ∷ b ∷ c ∷ []))
 counts_plain a b c a_small b_small c_small =
-    both (count_text a) (count_text b ++ count_text c) (count_plain a (omega arith)) (both (count_text b) (count_text c) (count_plain b (omega arith)) (count_plain c (omega arith)))
+    both (count_text a) (count_text b ++ count_text c) (count_plain a (omega arith))
+    (both (count_text b) (count_text c) (count_plain b (omega arith)) (count_plain c (omega arith)))
 
 addresses_plain : (a b c : ℕ) → a < 2 ^ 32 → b < 2 ^ 32 → c < 2 ^ 32 → Plain (addresses_text (a ∷ b ∷ c ∷ []))
 addresses_plain a b c a_small b_small c_small =
@@ -103,14 +108,16 @@ code_plain Fm3 = refl
 instr_plain : (instr : Instr) → IsInstr instr → AddressesFit instr → Plain (instr_text instr)
 instr_plain (Write ctl ends off n at) is small =
     let f = line_parts ctl off n is.0 in
-    both (data_text ctl ends off) (count_text n ++ at_text at) (data_plain ctl ends off f.control f.lanes) (both (count_text n) (at_text at) (count_plain n (let k = f.bytes in omega arith)) (at_plain at small))
+    both (data_text ctl ends off) (count_text n ++ at_text at) (data_plain ctl ends off f.control f.lanes)
+    (both (count_text n) (at_text at) (count_plain n (let k = f.bytes in omega arith)) (at_plain at small))
 instr_plain (Skip ctl ends n) is small =
     let parts = and_parts (control_fits ctl) (nat_lt n 4096) is.0 in
     let bytes = ltb-true n 4096 parts.1 in
     both (data_text ctl ends 0) (count_text n) (data_plain ctl ends 0 parts.0 (omega arith)) (count_plain n (omega arith))
 instr_plain (WriteC ctl ends off n) is small =
     let f = line_parts ctl off n is.0 in
-    both (data_text ctl ends off) (count_text n) (data_plain ctl ends off f.control f.lanes) (count_plain n (let k = f.bytes in omega arith))
+    both (data_text ctl ends off) (count_text n) (data_plain ctl ends off f.control f.lanes)
+    (count_plain n (let k = f.bytes in omega arith))
 instr_plain (Jump ctl target) is small = both (control_text ctl) (at_text target) (control_plain ctl is.0) (at_plain target small)
 instr_plain (Sync ctl resync waits) is small =
     both (code_name waits) (flag_text (codes " resync") resync ++ control_text ctl) (code_plain waits)
@@ -124,7 +131,8 @@ instr_plain (Write123 ctl ends off counts addrs) is small =
     let fit = rw at_list at small in
     rw (three.list_is, at_list)
     (both (data_text ctl ends off) _ (data_plain ctl ends off f.control f.lanes)
-    (both (counts_text (three.first ∷ three.second ∷ three.third ∷ [])) _ (counts_plain three.first three.second three.third each.first_small each.second_small each.third_small)
+    (both (counts_text (three.first ∷ three.second ∷ three.third ∷ [])) _
+    (counts_plain three.first three.second three.third each.first_small each.second_small each.third_small)
     (addresses_plain at.first at.second at.third fit.0 fit.1 fit.2)))
 instr_plain (Skip123 ctl ends counts) is small =
     let parts = and_parts (control_fits ctl) (counts_fit counts) is.0 in
@@ -139,7 +147,8 @@ instr_plain (Write1S23 ctl ends off counts at) is small =
     let each = counts_parts counts three f.bytes in
     rw three.list_is
     (both (data_text ctl ends off) _ (data_plain ctl ends off f.control f.lanes)
-    (both (counts_text (three.first ∷ three.second ∷ three.third ∷ [])) _ (counts_plain three.first three.second three.third each.first_small each.second_small each.third_small)
+    (both (counts_text (three.first ∷ three.second ∷ three.third ∷ [])) _
+    (counts_plain three.first three.second three.third each.first_small each.second_small each.third_small)
     (at_plain at small)))
 
 -- a line: a plain text and a newline
@@ -172,7 +181,8 @@ pub base_line-is : (base : ℕ) → base < 2 ^ 32 → IsLine (base_line base)
 base_line-is base small = record { front = codes "base " ++ address_text base; is = refl; plain = address_plain base small }
 
 chunk_by : (test : Bool) (c : Chunk) → c.at < 2 ^ 32 → c.len < 2 ^ 64 →
-    IsLine (if test then codes "page " ++ (address_text c.at ++ line_end) else codes "chunk " ++ (address_text c.at ++ (codes " " ++ (decimal c.len ++ line_end))))
+    IsLine (if test then codes "page " ++ (address_text c.at ++ line_end)
+    else codes "chunk " ++ (address_text c.at ++ (codes " " ++ (decimal c.len ++ line_end))))
 chunk_by true c small short = record { front = codes "page " ++ address_text c.at; is = refl; plain = address_plain c.at small }
 chunk_by false c small short = record {
   front = codes "chunk " ++ (address_text c.at ++ (codes " " ++ decimal c.len));

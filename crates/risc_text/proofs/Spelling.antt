@@ -1,5 +1,6 @@
 -- Which words are exactly the canonical encoding of an instruction.
-use Rattle.std.proofs.Common.{◌≡◌, ℕ, ◌+◌, ◌^◌, ◌<◌, ◌≤◌, Bool, true, false, List, [], ◌∷◌, ◌++◌, ◌-◌, length, take, drop, append_assoc, Option, Some, None, Ok, Err, refl, subst, sym, ap, ◌∙◌, arith}
+use Rattle.std.proofs.Common.{◌≡◌, ℕ, ◌+◌, ◌^◌, ◌<◌, ◌≤◌, Bool, true, false, List, [], ◌∷◌, ◌++◌, ◌-◌, length, take, drop, append_assoc}
+use Rattle.std.proofs.Common.{Option, Some, None, Ok, Err, refl, subst, sym, ap, ◌∙◌, arith}
 use Rattle.std.specs.Prelude.{◌==◌, if◌then◌else◌, slice_index}
 use Rattle.std.specs.List.{starts_with}
 use Rattle.std.specs.Cmp.Lexicographic.{bytes_decides}
@@ -30,7 +31,8 @@ none_some x e = cc
 abbrev when : Bool → Instr × ℕ → Option (Instr × ℕ)
 when test read = if test then Some read else None
 
-split_by : (test : Bool) (words : List ℕ) (instr found : Instr) (number length_found : ℕ) → starts_with (λ one other. one == other) words (encoded found) ≡ test → first_instr words ≡ Ok (found, length_found) →
+split_by : (test : Bool) (words : List ℕ) (instr found : Instr) (number length_found : ℕ) →
+    starts_with (λ one other. one == other) words (encoded found) ≡ test → first_instr words ≡ Ok (found, length_found) →
     when test (found, length_found) ≡ Some (instr, number) → IsSpelled words instr number
 split_by false words instr found number length_found test_is read is = absurd (none_some (instr, number) is)
 split_by true words instr found number length_found test_is read is =
@@ -50,7 +52,8 @@ split_by true words instr found number length_found test_is read is =
       some = rw (sym number_same) known.positive;
     }
 
-spelled_by : (words : List ℕ) (reading : Reading) (instr : Instr) (number : ℕ) → first_instr words ≡ reading → if_spelled words reading ≡ Some (instr, number) → IsSpelled words instr number
+spelled_by : (words : List ℕ) (reading : Reading) (instr : Instr) (number : ℕ) → first_instr words ≡ reading →
+    if_spelled words reading ≡ Some (instr, number) → IsSpelled words instr number
 spelled_by words (Err fault) instr number read is = absurd (none_some (instr, number) is)
 spelled_by words (Ok found) instr number read is =
     split_by (starts_with (λ one other. one == other) words (encoded found.0)) words instr found.0 number found.1 refl read is
@@ -68,30 +71,37 @@ spelled_again instr rest is =
     ∙ ap (λ (test : Bool). when test (instr, length (encoded instr))) (starts_itself (encoded instr) rest)
 
 -- fewer words are spelled alike, as long as the instruction is among them
-pub spelled_less : (number : ℕ) (words : List ℕ) (instr : Instr) (some : ℕ) → spelled words ≡ Some (instr, some) → some ≤ number → spelled (take number words) ≡ Some (instr, some)
+pub spelled_less : (number : ℕ) (words : List ℕ) (instr : Instr) (some : ℕ) → spelled words ≡ Some (instr, some) → some ≤ number →
+    spelled (take number words) ≡ Some (instr, some)
 spelled_less number words instr some is enough =
     let known = spelled_is words instr some is in
     let fewer : take number words ≡ encoded instr ++ take (number - length (encoded instr)) known.rest =
     ap (take number) known.words_are
-    ∙ ap (λ (n : ℕ). take n (encoded instr ++ known.rest)) (let e : number ≡ length (encoded instr) + (number - length (encoded instr)) = (let same = known.number_is in omega arith) in e)
+    ∙ ap (λ (n : ℕ). take n (encoded instr ++ known.rest))
+    (let e : number ≡ length (encoded instr) + (number - length (encoded instr)) = (let same = known.number_is in omega arith) in e)
     ∙ take-append-add (encoded instr) known.rest (number - length (encoded instr))
     in
-    ap spelled fewer ∙ spelled_again instr (take (number - length (encoded instr)) known.rest) known.is_instr ∙ ap (λ (n : ℕ). Some (instr, n)) (sym known.number_is)
+    ap spelled fewer ∙ spelled_again instr (take (number - length (encoded instr)) known.rest) known.is_instr
+    ∙ ap (λ (n : ℕ). Some (instr, n)) (sym known.number_is)
 
-unspelled_by : (number : ℕ) (words : List ℕ) (found : Option (Instr × ℕ)) → spelled (take number words) ≡ found → spelled words ≡ None → spelled (take number words) ≡ None
+unspelled_by : (number : ℕ) (words : List ℕ) (found : Option (Instr × ℕ)) → spelled (take number words) ≡ found → spelled words ≡ None →
+    spelled (take number words) ≡ None
 unspelled_by number words None is none = is
 unspelled_by number words (Some read) is none =
     let known = spelled_is (take number words) read.0 read.1 is in
     let whole : words ≡ encoded read.0 ++ (known.rest ++ drop number words) =
-    sym (take-append-drop number words) ∙ ap (λ (list : List ℕ). list ++ drop number words) known.words_are ∙ append_assoc (encoded read.0) known.rest (drop number words)
+    sym (take-append-drop number words) ∙ ap (λ (list : List ℕ). list ++ drop number words) known.words_are
+    ∙ append_assoc (encoded read.0) known.rest (drop number words)
     in
-    absurd (none_some (read.0, length (encoded read.0)) (sym none ∙ ap spelled whole ∙ spelled_again read.0 (known.rest ++ drop number words) known.is_instr))
+    absurd (none_some (read.0, length (encoded read.0))
+    (sym none ∙ ap spelled whole ∙ spelled_again read.0 (known.rest ++ drop number words) known.is_instr))
 
 pub unspelled_less : (number : ℕ) (words : List ℕ) → spelled words ≡ None → spelled (take number words) ≡ None
 unspelled_less number words none = unspelled_by number words (spelled (take number words)) refl none
 
 -- the addresses among words are addresses
-pub addresses_fit : (instr : Instr) (rest : List ℕ) → IsInstr instr → ((k : ℕ) → slice_index (encoded instr ++ rest) k < 2 ^ 32) → AddressesFit instr
+pub addresses_fit : (instr : Instr) (rest : List ℕ) → IsInstr instr → ((k : ℕ) → slice_index (encoded instr ++ rest) k < 2 ^ 32) →
+    AddressesFit instr
 addresses_fit (Write ctl ends off n at) rest is fit = fit 1
 addresses_fit (Skip ctl ends n) rest is fit = tt
 addresses_fit (WriteC ctl ends off n) rest is fit = tt

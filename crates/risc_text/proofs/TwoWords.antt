@@ -1,5 +1,6 @@
 -- The line of a word behind which one word more has room.
-use Rattle.std.proofs.Common.{◌≡◌, ℕ, zero, suc, ◌+◌, ◌-◌, ◌≤◌, List, [], ◌∷◌, ◌++◌, length, Option, Some, None, refl, sym, ap, ◌∙◌, arith, append_assoc, length-append, inl, inr}
+use Rattle.std.proofs.Common.{◌≡◌, ℕ, zero, suc, ◌+◌, ◌-◌, ◌≤◌, List, [], ◌∷◌, ◌++◌, length, Option, Some, None, refl, sym, ap, ◌∙◌, arith}
+use Rattle.std.proofs.Common.{append_assoc, length-append, inl, inr}
 use Rattle.std.proofs.lemmas.Bool.{and_parts, cases_lt}
 use Rattle.std.proofs.lemmas.List.{append-nil, append_cancel_left}
 use Rattle.risc_word.specs.declared.Instr.{Instr}
@@ -19,13 +20,15 @@ unfolding word_lines
 no_lines at zero = refl
 no_lines at (suc skip) = refl
 
-lines_are : (at word : ℕ) (rest : List ℕ) (found : Option (Instr × ℕ)) → spelled (word ∷ rest) ≡ found → word_lines at 0 (word ∷ rest) ≡ lines_from at word rest found
+lines_are : (at word : ℕ) (rest : List ℕ) (found : Option (Instr × ℕ)) → spelled (word ∷ rest) ≡ found →
+    word_lines at 0 (word ∷ rest) ≡ lines_from at word rest found
 unfolding word_lines
 lines_are at word rest found is = ap (lines_from at word rest) is
 
 line_is : (at word : ℕ) (found : Option (Instr × ℕ)) → spelled (word ∷ []) ≡ found → word_lines at 0 (word ∷ []) ≡ line_of at word found
 line_is at word found is =
-    lines_are at word [] found is ∙ ap (λ (after : List ℕ). line_of at word found ++ after) (no_lines (at + 4) (words_of found - 1)) ∙ append-nil (line_of at word found)
+    lines_are at word [] found is ∙ ap (λ (after : List ℕ). line_of at word found ++ after) (no_lines (at + 4) (words_of found - 1))
+    ∙ append-nil (line_of at word found)
 
 pub cons_parts : (a b : ℕ) (x y : List ℕ) → a ∷ x ≡ b ∷ y → (a ≡ b) × (x ≡ y)
 cons_parts a b x y e = (cc, cc)
@@ -43,13 +46,24 @@ second_is a b c d x y e = cc
 pub first_is : (a c : ℕ) (x y : List ℕ) → a ∷ x ≡ c ∷ y → a ≡ c
 first_is a c x y e = cc
 
-free : (instr : Instr) (word second : ℕ) (rest : List ℕ) → IsInstr instr → 2 ≤ length (encoded instr) → word ∷ other_word ∷ [] ≡ encoded instr ++ rest → IsFree word second
+free : (instr : Instr) (word second : ℕ) (rest : List ℕ) → IsInstr instr → 2 ≤ length (encoded instr) →
+    word ∷ other_word ∷ [] ≡ encoded instr ++ rest → IsFree word second
 free (Write ctl ends off n at) word second rest is two same =
     let first = first_is word _ _ _ same in
-    record { instr = Write ctl ends off n second; is_instr = is; words_are = ap (λ (word : ℕ). word ∷ second ∷ []) (sym first); name_on = λ tail rest is. (let e : 114 ≡ 111 = second_is 119 114 119 111 _ rest is in omega arith) }
+    record {
+      instr = Write ctl ends off n second;
+      is_instr = is;
+      words_are = ap (λ (word : ℕ). word ∷ second ∷ []) (sym first);
+      name_on = λ tail rest is. (let e : 114 ≡ 111 = second_is 119 114 119 111 _ rest is in omega arith);
+    }
 free (Jump ctl target) word second rest is two same =
     let first = first_is word _ _ _ same in
-    record { instr = Jump ctl second; is_instr = is; words_are = ap (λ (word : ℕ). word ∷ second ∷ []) (sym first); name_on = λ tail rest is. (let e : 106 ≡ 119 = first_is 106 119 _ (111 ∷ rest) is in omega arith) }
+    record {
+      instr = Jump ctl second;
+      is_instr = is;
+      words_are = ap (λ (word : ℕ). word ∷ second ∷ []) (sym first);
+      name_on = λ tail rest is. (let e : 106 ≡ 119 = first_is 106 119 _ (111 ∷ rest) is in omega arith);
+    }
 free (Skip ctl ends n) word second rest is two same = absurd (omega arith)
 free (WriteC ctl ends off n) word second rest is two same = absurd (omega arith)
 free (Sync ctl resync waits) word second rest is two same = absurd (let e = second_is word other_word _ 0 [] rest same in omega arith)
@@ -72,25 +86,32 @@ free (Write1S23 ctl ends off counts at) word second rest is two same =
     absurd (let e = ap length all in omega arith)
 
 -- of a word that begins such an instruction alone, no line is that of the instruction
-differ : (at word second : ℕ) (left : List ℕ) → IsFree word second → word_lines at 0 (word ∷ second ∷ []) ≡ word_lines at 0 (word ∷ []) ++ left → ⊥
+differ : (at word second : ℕ) (left : List ℕ) → IsFree word second →
+    word_lines at 0 (word ∷ second ∷ []) ≡ word_lines at 0 (word ∷ []) ++ left → ⊥
 differ at word second left free same = by (spelled (word ∷ [])) refl
   where
     both : spelled (word ∷ second ∷ []) ≡ Some (free.instr, 2)
     both = ap spelled (sym (append-nil (word ∷ second ∷ [])) ∙ ap (λ (words : List ℕ). words ++ []) (sym free.words_are))
         ∙ spelled_again free.instr [] free.is_instr ∙ ap (λ (words : List ℕ). Some (free.instr, length words)) free.words_are
 
-    first : (found : Option (Instr × ℕ)) → spelled (word ∷ []) ≡ found → line_of at word (Some (free.instr, 2)) ++ word_lines (at + 4) 1 (second ∷ []) ≡ line_of at word found ++ left
-    first found is = sym (lines_are at word (second ∷ []) (Some (free.instr, 2)) both) ∙ same ∙ ap (λ (list : List ℕ). list ++ left) (line_is at word found is)
+    first : (found : Option (Instr × ℕ)) → spelled (word ∷ []) ≡ found →
+        line_of at word (Some (free.instr, 2)) ++ word_lines (at + 4) 1 (second ∷ []) ≡ line_of at word found ++ left
+    first found is =
+        sym (lines_are at word (second ∷ []) (Some (free.instr, 2)) both) ∙ same
+        ∙ ap (λ (list : List ℕ). list ++ left) (line_is at word found is)
 
     by : (found : Option (Instr × ℕ)) → spelled (word ∷ []) ≡ found → ⊥
     by None is =
         let all = first None is in
         let tail = word_lines (at + 4) 1 (second ∷ []) in
-        let one : address_text at ++ (32 ∷ ((instr_text free.instr ++ line_end) ++ tail)) ≡ address_text at ++ (32 ∷ 119 ∷ 111 ∷ 114 ∷ 100 ∷ 32 ∷ ((address_text word ++ line_end) ++ left)) =
+        let one : address_text at ++ (32 ∷ ((instr_text free.instr ++ line_end) ++ tail))
+        ≡ address_text at ++ (32 ∷ 119 ∷ 111 ∷ 114 ∷ 100 ∷ 32 ∷ ((address_text word ++ line_end) ++ left)) =
         sym (append_assoc (address_text at) (32 ∷ (instr_text free.instr ++ line_end)) tail) ∙ all
         ∙ append_assoc (address_text at) (32 ∷ 119 ∷ 111 ∷ 114 ∷ 100 ∷ 32 ∷ (address_text word ++ line_end)) left
         in
-        let two = append_cancel_left (address_text at) (32 ∷ ((instr_text free.instr ++ line_end) ++ tail)) (32 ∷ 119 ∷ 111 ∷ 114 ∷ 100 ∷ 32 ∷ ((address_text word ++ line_end) ++ left)) one in
+        let two =
+        append_cancel_left (address_text at) (32 ∷ ((instr_text free.instr ++ line_end) ++ tail))
+        (32 ∷ 119 ∷ 111 ∷ 114 ∷ 100 ∷ 32 ∷ ((address_text word ++ line_end) ++ left)) one in
         free.name_on tail _ ((cons_parts 32 32 _ _ two).1)
     by (Some (instr, number)) is =
         let known = spelled_is (word ∷ []) instr number is in
@@ -112,7 +133,8 @@ other_behind at word second left same = by (spelled (word ∷ other_word ∷ [])
         (more : List ℕ) × (word_lines at 0 (word ∷ other_word ∷ []) ≡ word_lines at 0 (word ∷ []) ++ more)
     alike found two one = (
       word_lines (at + 4) (words_of found - 1) (other_word ∷ []),
-      lines_are at word (other_word ∷ []) found two ∙ ap (λ (list : List ℕ). list ++ word_lines (at + 4) (words_of found - 1) (other_word ∷ [])) (sym (line_is at word found one)),
+      lines_are at word (other_word ∷ []) found two
+          ∙ ap (λ (list : List ℕ). list ++ word_lines (at + 4) (words_of found - 1) (other_word ∷ [])) (sym (line_is at word found one)),
     )
 
     by : (found : Option (Instr × ℕ)) → spelled (word ∷ other_word ∷ []) ≡ found →
@@ -122,5 +144,6 @@ other_behind at word second left same = by (spelled (word ∷ other_word ∷ [])
         let known = spelled_is (word ∷ other_word ∷ []) instr number is in
         elim (cases_lt 1 number) [
           | inr one ↦ alike (Some (instr, number)) is (spelled_less 1 (word ∷ other_word ∷ []) instr number is one)
-          | inl two ↦ absurd (differ at word second left (free instr word second known.rest known.is_instr (let e = known.number_is in omega arith) known.words_are) same)
+          | inl two ↦ absurd (differ at word second left
+              (free instr word second known.rest known.is_instr (let e = known.number_is in omega arith) known.words_are) same)
         ]

@@ -63,7 +63,14 @@ pair_of c = (c.at, c.len)
 
 abbrev pub draft_by : Bool → RiscProgram → Option ℕ → Draft
 draft_by true program fill =
-    record { base = Some program.base; words = all_words program; spans = []; entry = None; chunks = map pair_of program.grants; fill = fill }
+    record {
+      base = Some program.base;
+      words = all_words program;
+      spans = [];
+      entry = None;
+      chunks = map pair_of program.grants;
+      fill = fill;
+    }
 draft_by false program fill =
     record { base = None; words = []; spans = program.spans; entry = Some program.base; chunks = map pair_of program.grants; fill = fill }
 

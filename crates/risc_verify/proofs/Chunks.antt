@@ -5,7 +5,8 @@ use Rattle.page_table.specs.Grants.{Chunk, chunk_at, covers, granted, first_ungr
 use Rattle.page_table.proofs.Grants.{granted_by}
 
 -- a range within one chunk is granted
-pub within_chunk : (chunks : List Chunk) (i address count : ℕ) → i < length chunks → (chunk_at chunks i).at ≤ address → address + count ≤ (chunk_at chunks i).at + (chunk_at chunks i).len → first_ungranted chunks address count ≡ None
+pub within_chunk : (chunks : List Chunk) (i address count : ℕ) → i < length chunks → (chunk_at chunks i).at ≤ address →
+    address + count ≤ (chunk_at chunks i).at + (chunk_at chunks i).len → first_ungranted chunks address count ≡ None
 within_chunk chunks i address zero within begins ends = refl
 within_chunk chunks i address (suc count) within begins ends =
     let here : covers (chunk_at chunks i) address ≡ true = grind (arith, begins, ends) in

@@ -1,12 +1,14 @@
 -- Words found by the place of a span: their numbers, and the instruction that begins at each.
-use Rattle.std.proofs.Common.{◌≡◌, ℕ, zero, suc, ◌+◌, ◌-◌, ◌*◌, ◌/◌, ◌%◌, ◌^◌, ◌<◌, ◌≤◌, ◌⊎◌, inl, inr, ⊎_elim, Bool, true, false, List, [], ◌∷◌, ◌++◌, length, take, drop, Option, Some, None, Err, refl, sym, ap, subst, ◌∙◌, arith, is_some, IfSome}
+use Rattle.std.proofs.Common.{◌≡◌, ℕ, zero, suc, ◌+◌, ◌-◌, ◌*◌, ◌/◌, ◌%◌, ◌^◌, ◌<◌, ◌≤◌, ◌⊎◌, inl, inr, ⊎_elim, Bool, true, false, List, []}
+use Rattle.std.proofs.Common.{◌∷◌, ◌++◌, length, take, drop, Option, Some, None, Err, refl, sym, ap, subst, ◌∙◌, arith, is_some, IfSome}
 use Rattle.std.proofs.Common.{if◌then◌else◌, ◌==◌, nat_lt, nat_le, slice_index, leb-true, ltb-true, eqb-true}
 use Rattle.std.proofs.lemmas.Bool.{cases_lt, or_cases}
 use Rattle.std.proofs.lemmas.List.{drop-drop, drop-take, length-append}
 use Rattle.std.proofs.Math.Seq.{drop-append-add, take-append_seam}
 use Rattle.risc_word.specs.declared.WordFault.TheVariants.{Cut}
 use Rattle.risc_word.specs.Words.{first_instr, instr_at}
-use Rattle.machine_model.specs.Paths.{RiscProgram, IsProgram, Span, span, one_span, AreApart, all_words, end_of, fetch, is_there, is_word, max_words, stands_in, word_among, word_at, words_from, words_of}
+use Rattle.machine_model.specs.Paths.{RiscProgram, IsProgram, Span, span, one_span, AreApart, all_words, end_of, fetch, is_there, is_word}
+use Rattle.machine_model.specs.Paths.{max_words, stands_in, word_among, word_at, words_from, words_of}
 use Rattle.machine_model.proofs.BeforeTurns.{three_parts}
 use Rattle.machine_model.proofs.OneSpan.{word_at-one_span, word_at-behind, fetch-one_span}
 use Rattle.risc_verify.specs.declared.spans.SpanPlace.{SpanPlace}
@@ -17,11 +19,13 @@ use Rattle.risc_verify.proofs.Cuts.{StandsFrom, stands-there, before-none}
 
 -- A word has a number where it is.
 
-there-if : (test : Bool) (a b : ℕ) (x y : Option ℕ) → is_there x ≡ is_some y → is_there (if test then Some a else x) ≡ is_some (if test then Some b else y)
+there-if : (test : Bool) (a b : ℕ) (x y : Option ℕ) → is_there x ≡ is_some y →
+    is_there (if test then Some a else x) ≡ is_some (if test then Some b else y)
 there-if true a b x y same = refl
 there-if false a b x y same = same
 
-pub is_there-number : (before : ℕ) (spans : List Span) (address : ℕ) → is_there (word_among spans address) ≡ is_some (number_from before spans address)
+pub is_there-number : (before : ℕ) (spans : List Span) (address : ℕ) →
+    is_there (word_among spans address) ≡ is_some (number_from before spans address)
 is_there-number before [] address = refl
 is_there-number before (s ∷ rest) address =
     there-if (stands_in s address) _ _ _ _ (is_there-number (before + length s.words) rest address)
@@ -39,10 +43,12 @@ behind before from (s ∷ rest) p apart (inr later) =
     omega arith
 
 has-from : (p : SpanPlace) (address : ℕ) → has_address p address ≡ true → p.at ≤ address
-has-from p address has = leb-true p.at address (three_parts (nat_le p.at address) ((address - p.at) % 4 == 0) (nat_lt ((address - p.at) / 4) p.count) has).0
+has-from p address has =
+    leb-true p.at address (three_parts (nat_le p.at address) ((address - p.at) % 4 == 0) (nat_lt ((address - p.at) / 4) p.count) has).0
 
 -- where the span at a place has an address, its word has the number that the place gives it
-pub number-at : (before from : ℕ) (spans : List Span) (p : SpanPlace) (address : ℕ) → AreApart from spans → StandsFrom before spans p → has_address p address ≡ true →
+pub number-at : (before from : ℕ) (spans : List Span) (p : SpanPlace) (address : ℕ) → AreApart from spans → StandsFrom before spans p →
+    has_address p address ≡ true →
     number_from before spans address ≡ Some (p.first + (address - p.at) / 4)
 number-at before from [] p address apart stands has = absurd stands
 number-at before from (s ∷ rest) p address apart (inl is) has =
@@ -52,11 +58,13 @@ number-at before from (s ∷ rest) p address apart (inl is) has =
 number-at before from (s ∷ rest) p address apart (inr later) has =
     let at = behind (before + length s.words) (end_of s + 1) rest p apart.2 later in
     let low = has-from p address has in
-    ap (λ test. if test then Some (before + (address - s.at) / 4) else number_from (before + length s.words) rest address) (not_in s address (omega arith))
+    ap (λ test. if test then Some (before + (address - s.at) / 4) else number_from (before + length s.words) rest address)
+    (not_in s address (omega arith))
     ∙ number-at (before + length s.words) (end_of s + 1) rest p address apart.2 later has
 
 -- the words of the span at a place are among all
-stands-within : (before : ℕ) (spans : List Span) (p : SpanPlace) → StandsFrom before spans p → (before ≤ p.first) × (p.first + p.count ≤ before + length (words_of spans))
+stands-within : (before : ℕ) (spans : List Span) (p : SpanPlace) → StandsFrom before spans p →
+    (before ≤ p.first) × (p.first + p.count ≤ before + length (words_of spans))
 stands-within before [] p stands = absurd stands
 stands-within before (s ∷ rest) p (inl is) =
     let first = ap (λ q. q.first) is in
@@ -84,11 +92,14 @@ none-among : (from : ℕ) (spans : List Span) (address : ℕ) → AreApart from 
 none-among from [] address apart h = refl
 none-among from (s ∷ rest) address apart h =
     let begins = apart.0 in
-    ap (λ test. if test then Some (slice_index s.words ((address - s.at) / 4)) else word_among rest address) (before-none s address (omega arith))
+    ap (λ test. if test then Some (slice_index s.words ((address - s.at) / 4)) else word_among rest address)
+    (before-none s address (omega arith))
     ∙ none-among (end_of s + 1) rest address apart.2 (omega arith)
 
-alone-first : (s : Span) (rest : List Span) (address : ℕ) → word_among rest address ≡ None ⊎ (stands_in s address ≡ true) → word_among (s ∷ rest) address ≡ word_among (s ∷ []) address
-alone-first s rest address (inl none) = ap (λ other. if stands_in s address then Some (slice_index s.words ((address - s.at) / 4)) else other) none
+alone-first : (s : Span) (rest : List Span) (address : ℕ) → word_among rest address ≡ None ⊎ (stands_in s address ≡ true) →
+    word_among (s ∷ rest) address ≡ word_among (s ∷ []) address
+alone-first s rest address (inl none) =
+    ap (λ other. if stands_in s address then Some (slice_index s.words ((address - s.at) / 4)) else other) none
 alone-first s rest address (inr here) =
     ap (λ test. if test then Some (slice_index s.words ((address - s.at) / 4)) else word_among rest address) here
     ∙ sym (ap (λ test. if test then Some (slice_index s.words ((address - s.at) / 4)) else None) here)
@@ -107,7 +118,8 @@ seen before from (s ∷ rest) p apart (inl is) =
       ends = apart.1.ends;
       first = omega arith;
       part =
-          sym (ap (λ n. take (length s.words) (drop n (s.words ++ words_of rest))) (no_more before) ∙ take-append_seam s.words (words_of rest));
+          sym
+          (ap (λ n. take (length s.words) (drop n (s.words ++ words_of rest))) (no_more before) ∙ take-append_seam s.words (words_of rest));
       alone = λ k h.
           alone-first s rest (s.at + 4 * k) (inl (none-among (end_of s + 1) rest (s.at + 4 * k) apart.2 (omega arith)));
     })
@@ -124,9 +136,11 @@ seen before from (s ∷ rest) p apart (inr later) =
       first = omega arith;
       part =
           v.part
-          ∙ sym (ap (λ n. take p.count (drop n (s.words ++ words_of rest))) first ∙ ap (take p.count) (drop-append-add s.words (words_of rest) (p.first - (before + length s.words))));
+          ∙ sym (ap (λ n. take p.count (drop n (s.words ++ words_of rest))) first
+          ∙ ap (take p.count) (drop-append-add s.words (words_of rest) (p.first - (before + length s.words))));
       alone = λ k h.
-          ap (λ test. if test then Some (slice_index s.words ((p.at + 4 * k - s.at) / 4)) else word_among rest (p.at + 4 * k)) (not_in s (p.at + 4 * k) (omega arith))
+          ap (λ test. if test then Some (slice_index s.words ((p.at + 4 * k - s.at) / 4)) else word_among rest (p.at + 4 * k))
+          (not_in s (p.at + 4 * k) (omega arith))
           ∙ v.alone k h;
     }
 
@@ -135,12 +149,14 @@ seen before from (s ∷ rest) p apart (inr later) =
 abbrev one : ℕ → List ℕ → RiscProgram
 one at words = one_span at words []
 
-is-one : (at : ℕ) (words : List ℕ) (address : ℕ) → 0 < length words → word_among (span at words ∷ []) address ≡ word_at (one at words) address
+is-one : (at : ℕ) (words : List ℕ) (address : ℕ) → 0 < length words →
+    word_among (span at words ∷ []) address ≡ word_at (one at words) address
 is-one at [] address some = absurd (omega arith)
 is-one at (word ∷ words) address some = refl
 
 -- where the words of two programs are the same up to an end, behind which neither has one, the same are read
-same-words : (count : ℕ) (program : RiscProgram) (at : ℕ) (words : List ℕ) (k : ℕ) → ((k : ℕ) → k ≤ length words → word_at program (at + 4 * k) ≡ word_at (one at words) (at + 4 * k)) → k ≤ length words →
+same-words : (count : ℕ) (program : RiscProgram) (at : ℕ) (words : List ℕ) (k : ℕ) →
+    ((k : ℕ) → k ≤ length words → word_at program (at + 4 * k) ≡ word_at (one at words) (at + 4 * k)) → k ≤ length words →
     words_from count program (at + 4 * k) ≡ words_from count (one at words) (at + 4 * k)
 same-words zero program at words k same h = refl
 same-words (suc count) program at words k same h =
@@ -153,11 +169,13 @@ same-words (suc count) program at words k same h =
     ∙ ap (λ a. slice_index words k ∷ words_from count program a) next
     ∙ ap (λ rest. slice_index words k ∷ rest) (same-words count program at words (k + 1) same (omega arith))
     ∙ sym (ap (λ a. slice_index words k ∷ words_from count (one at words) a) next)
-    ∙ sym (ap (λ word. elim word as (λ _. List ℕ) [ None ↦ [] | Some word ↦ word ∷ words_from count (one at words) (at + 4 * k + 4) ]) there))
+    ∙ sym
+    (ap (λ word. elim word as (λ _. List ℕ) [ None ↦ [] | Some word ↦ word ∷ words_from count (one at words) (at + 4 * k + 4) ]) there))
     (λ outside.
     let none = word_at-behind at k words [] outside in
     ap (λ word. elim word as (λ _. List ℕ) [ None ↦ [] | Some word ↦ word ∷ words_from count program (at + 4 * k + 4) ]) none
-    ∙ sym (ap (λ word. elim word as (λ _. List ℕ) [ None ↦ [] | Some word ↦ word ∷ words_from count (one at words) (at + 4 * k + 4) ]) none))
+    ∙ sym
+    (ap (λ word. elim word as (λ _. List ℕ) [ None ↦ [] | Some word ↦ word ∷ words_from count (one at words) (at + 4 * k + 4) ]) none))
     (cases_lt k (length words))
 
 -- The span at a place, of a program that can be made.
@@ -170,7 +188,11 @@ record Has (p : SpanPlace) (address : ℕ) : Type 0 where
 parts : (p : SpanPlace) (address : ℕ) → has_address p address ≡ true → Has p address
 parts p address has =
     let three = three_parts (nat_le p.at address) ((address - p.at) % 4 == 0) (nat_lt ((address - p.at) / 4) p.count) has in
-    record { from = leb-true p.at address three.0; whole = eqb-true ((address - p.at) % 4) 0 three.1; below = ltb-true ((address - p.at) / 4) p.count three.2 }
+    record {
+      from = leb-true p.at address three.0;
+      whole = eqb-true ((address - p.at) % 4) 0 three.1;
+      below = ltb-true ((address - p.at) / 4) p.count three.2;
+    }
 
 stands : (program : RiscProgram) (p : SpanPlace) → IsNear program p → 0 < p.count → StandsFrom 0 program.spans p
 stands program p near some =
@@ -220,11 +242,13 @@ module _ (program : RiscProgram) (made : IsProgram program) (p : SpanPlace) (nea
         let count = view.count in
         let here : address ≡ p.at + 4 * k = omega arith in
         let within : k ≤ length view.words = omega arith in
-        let same = same-words 5 program p.at view.words k (λ k h. view.alone k h ∙ is-one p.at view.words (p.at + 4 * k) view.some) within in
+        let same =
+        same-words 5 program p.at view.words k (λ k h. view.alone k h ∙ is-one p.at view.words (p.at + 4 * k) view.some) within in
         ap (λ a. first_instr (words_from 5 program a)) here
         ∙ ap first_instr same
         ∙ fetch-one_span p.at k view.words []
-        ∙ ap (λ ws. first_instr (drop k ws)) (view.part ∙ ap (λ n. take p.count (drop n (all_words program))) from-zero ∙ sym (drop-take p.first p.count (all_words program)))
+        ∙ ap (λ ws. first_instr (drop k ws))
+        (view.part ∙ ap (λ n. take p.count (drop n (all_words program))) from-zero ∙ sym (drop-take p.first p.count (all_words program)))
         ∙ ap first_instr (drop-drop k p.first (take (p.first + p.count) (all_words program)))
 
 -- where no word has a number there is none, and no instruction is read
@@ -237,10 +261,12 @@ no-word (Some word) none = absurd (cc)
 
 pub none-fetched : (program : RiscProgram) (address : ℕ) → word_of program address ≡ None → fetch program address ≡ Err Cut
 none-fetched program address none =
-    ap (λ word. first_instr (elim word as (λ _. List ℕ) [ None ↦ [] | Some word ↦ word ∷ words_from 4 program (address + 4) ])) (no-word (word_at program address) (none-there program address none))
+    ap (λ word. first_instr (elim word as (λ _. List ℕ) [ None ↦ [] | Some word ↦ word ∷ words_from 4 program (address + 4) ]))
+    (no-word (word_at program address) (none-there program address none))
 
 -- What follows from a number found by a place.
-module _ (program : RiscProgram) (made : IsProgram program) (p : SpanPlace) (near : IsNear program p) (address word : ℕ) (there : number_in p address ≡ Some word) where
+module _ (program : RiscProgram) (made : IsProgram program) (p : SpanPlace) (near : IsNear program p) (address word : ℕ)
+    (there : number_in p address ≡ Some word) where
   told : (has_address p address ≡ true) × (p.first + (address - p.at) / 4 ≡ word)
   told = number-parts (has_address p address) (p.first + (address - p.at) / 4) word there
 
@@ -267,7 +293,8 @@ module _ (program : RiscProgram) (made : IsProgram program) (p : SpanPlace) (nea
 
 module _ (program : RiscProgram) (made : IsProgram program) (p : SpanPlace) (near : IsNear program p) (address : ℕ) where
   pub known : (found : Option ℕ) → found ≡ number_in p address →
-      IfSome found (λ word. (word_of program address ≡ Some word) × (is_word program address ≡ true) × (address < 2 ^ 32) × (word < length (all_words program)))
+      IfSome found (λ word. (word_of program address ≡ Some word) × (is_word program address ≡ true) × (address < 2 ^ 32)
+      × (word < length (all_words program)))
   known None is = tt
   known (Some word) is = (
     told-number program made p near address word (sym is),

@@ -24,18 +24,21 @@ parts s address here =
 module _ (before : ℕ) (s : Span) (rest : List Span) (address number : ℕ) (is : number_from before (s ∷ rest) address ≡ Some number) where
   here : stands_in s address ≡ true → before + (address - s.at) / 4 ≡ number
   here stands =
-      let first = ap (λ test. if test then Some (before + (address - s.at) / 4) else number_from (before + length s.words) rest address) stands in cc
+      let first =
+      ap (λ test. if test then Some (before + (address - s.at) / 4) else number_from (before + length s.words) rest address) stands in cc
 
   later : stands_in s address ≡ false → number_from (before + length s.words) rest address ≡ Some number
   later stands =
-      let first = ap (λ test. if test then Some (before + (address - s.at) / 4) else number_from (before + length s.words) rest address) stands in cc
+      let first =
+      ap (λ test. if test then Some (before + (address - s.at) / 4) else number_from (before + length s.words) rest address) stands in cc
 
 -- a number is that of a word
 record Within (before : ℕ) (spans : List Span) (number : ℕ) : Type 0 where
   from : before ≤ number
   below : number < before + length (words_of spans)
 
-number-within : (before : ℕ) (spans : List Span) (address number : ℕ) → number_from before spans address ≡ Some number → Within before spans number
+number-within : (before : ℕ) (spans : List Span) (address number : ℕ) → number_from before spans address ≡ Some number →
+    Within before spans number
 number-within before [] address number is = absurd (cc)
 number-within before (s ∷ rest) address number is =
     let long = length-append s.words (words_of rest) in
@@ -52,7 +55,8 @@ number-within before (s ∷ rest) address number is =
     ]
 
 -- two addresses with one number are the same
-same-number : (before : ℕ) (spans : List Span) (a b number : ℕ) → number_from before spans a ≡ Some number → number_from before spans b ≡ Some number → a ≡ b
+same-number : (before : ℕ) (spans : List Span) (a b number : ℕ) → number_from before spans a ≡ Some number →
+    number_from before spans b ≡ Some number → a ≡ b
 same-number before [] a b number is_a is_b = absurd (cc)
 same-number before (s ∷ rest) a b number is_a is_b =
     elim (cases_Bool (stands_in s a)) [
@@ -85,7 +89,8 @@ same-number before (s ∷ rest) a b number is_a is_b =
           ]
     ]
 
-pub word_of-below : (program : RiscProgram) (address number : ℕ) → word_of program address ≡ Some number → number < length (all_words program)
+pub word_of-below : (program : RiscProgram) (address number : ℕ) → word_of program address ≡ Some number →
+    number < length (all_words program)
 word_of-below program address number is = let below = (number-within 0 program.spans address number is).below in omega arith
 
 pub word_of-same : (program : RiscProgram) (a b number : ℕ) → word_of program a ≡ Some number → word_of program b ≡ Some number → a ≡ b

@@ -1,5 +1,6 @@
 -- Of more numbers than there are values two are the same.
-use Rattle.std.proofs.Common.{◌≡◌, ℕ, zero, suc, ◌<◌, ◌⊎◌, inl, inr, Bool, true, false, ◌||◌, List, [], ◌∷◌, length, eqb, refl, ap, sym, subst, arith, eqb-true}
+use Rattle.std.proofs.Common.{◌≡◌, ℕ, zero, suc, ◌<◌, ◌⊎◌, inl, inr, Bool, true, false, ◌||◌, List, [], ◌∷◌, length, eqb, refl, ap, sym}
+use Rattle.std.proofs.Common.{subst, arith, eqb-true}
 use Rattle.std.proofs.lemmas.Bool.{cases_Bool}
 use Rattle.std.specs.List.{IsDistinct, AllByRecursion, list_any}
 use Rattle.std.proofs.lemmas.Map.Steps.{length-le_from_distinct_below}
@@ -63,7 +64,8 @@ repeats_or_distinct f (suc count) =
           ]
     ]
 
-values-below : (f : ℕ → ℕ) (count most : ℕ) → ((k : ℕ) → k < count → f k < most) → (q : ℕ) → list_any (eqb q) (values f count) ≡ true → q < most
+values-below : (f : ℕ → ℕ) (count most : ℕ) → ((k : ℕ) → k < count → f k < most) → (q : ℕ) →
+    list_any (eqb q) (values f count) ≡ true → q < most
 values-below f zero most each q here = absurd (cc)
 values-below f (suc count) most each q here =
     elim (cases_Bool (eqb q (f count))) [

@@ -1,13 +1,16 @@
 -- The path of a program comes to a place again.
-use Rattle.std.proofs.Common.{◌≡◌, ℕ, zero, suc, ◌+◌, ◌-◌, ◌*◌, ◌/◌, ◌%◌, ◌^◌, ◌<◌, ◌≤◌, ◌⊎◌, inl, inr, Bool, true, false, ◌==◌, List, [], ◌∷◌, length, if◌then◌else◌, nat_lt, Option, Some, None, unwrap_or}
+use Rattle.std.proofs.Common.{◌≡◌, ℕ, zero, suc, ◌+◌, ◌-◌, ◌*◌, ◌/◌, ◌%◌, ◌^◌, ◌<◌, ◌≤◌, ◌⊎◌, inl, inr, Bool, true, false, ◌==◌, List, []}
+use Rattle.std.proofs.Common.{◌∷◌, length, if◌then◌else◌, nat_lt, Option, Some, None, unwrap_or}
 use Rattle.std.proofs.Common.{Ok, Err, refl, ap, sym, subst, ◌∙◌, arith, add-zero, add-suc, ltb-true, ltb-false}
 use Rattle.std.proofs.lemmas.Bool.{cases_Bool}
 use Rattle.risc_word.specs.declared.Instr.{Instr}
 use Rattle.risc_word.specs.declared.Instr.TheVariants.{Write, Skip, WriteC, Jump, Sync, Write123, Skip123, Write1S23}
-use Rattle.risc_word.specs.Words.{Reading, write_at, jump_at, sync_for, sync_at, write_123_at, skip_123_at, write_1_s_23_at, by_opcode, first_instr}
+use Rattle.risc_word.specs.Words.{Reading, write_at, jump_at, sync_for, sync_at, write_123_at, skip_123_at, write_1_s_23_at, by_opcode}
+use Rattle.risc_word.specs.Words.{first_instr}
 use Rattle.risc_word.specs.declared.Code.{Code}
 use Rattle.machine_model.specs.declared.Cause.{Cause}
-use Rattle.machine_model.specs.Paths.{RiscProgram, Place, all_words, words_from, fetch, cause_at, reading_cause, place_after, place_read, next_by, next_place, path, IsSound}
+use Rattle.machine_model.specs.Paths.{RiscProgram, Place, all_words, words_from, fetch, cause_at, reading_cause, place_after, place_read}
+use Rattle.machine_model.specs.Paths.{next_by, next_place, path, IsSound}
 use Rattle.risc_verify.specs.Programs.{word_of}
 use Rattle.risc_verify.specs.Rounds.{AreFine, PathsComeRound}
 use Rattle.risc_verify.proofs.Near.{none-fetched}
@@ -81,7 +84,8 @@ record Reads (program : RiscProgram) (pc : ℕ) : Type 0 where
   count : ℕ
   is : fetch program pc ≡ Ok (instr, count)
 
-reading-reads : (program : RiscProgram) (pc : ℕ) (target : Option ℕ) (r : Reading) → fetch program pc ≡ r → reading_cause program target r ≡ None → Reads program pc
+reading-reads : (program : RiscProgram) (pc : ℕ) (target : Option ℕ) (r : Reading) → fetch program pc ≡ r →
+    reading_cause program target r ≡ None → Reads program pc
 reading-reads program pc target (Err fault) is fine = absurd (cc)
 reading-reads program pc target (Ok (x, n)) is fine = record { instr = x; count = n; is = is }
 
@@ -103,16 +107,19 @@ after-pc (Write123 ctl ends off counts addrs) count place = refl
 after-pc (Skip123 ctl ends counts) count place = refl
 after-pc (Write1S23 ctl ends off counts addr) count place = refl
 
-next-is : (program : RiscProgram) (place : Place) (r : Reads program place.pc) → cause_at program place ≡ None → next_place program place ≡ place_after r.instr r.count place
+next-is : (program : RiscProgram) (place : Place) (r : Reads program place.pc) → cause_at program place ≡ None →
+    next_place program place ≡ place_after r.instr r.count place
 next-is program place r fine =
     ap (λ (c : Option Cause). next_by c program place) fine ∙ ap (λ (x : Reading). place_read x place) r.is
 
-next-pc : (program : RiscProgram) (place : Place) (r : Reads program place.pc) → cause_at program place ≡ None → (next_place program place).pc ≡ pc_after r.instr r.count place.pc
+next-pc : (program : RiscProgram) (place : Place) (r : Reads program place.pc) → cause_at program place ≡ None →
+    (next_place program place).pc ≡ pc_after r.instr r.count place.pc
 next-pc program place r fine =
     ap (λ (p : Place). p.pc) (next-is program place r fine) ∙ after-pc r.instr r.count place
 
 -- two fine places with the same pc
-same-next_pc : (program : RiscProgram) (p q : Place) → p.pc ≡ q.pc → cause_at program p ≡ None → cause_at program q ≡ None → (next_place program p).pc ≡ (next_place program q).pc
+same-next_pc : (program : RiscProgram) (p q : Place) → p.pc ≡ q.pc → cause_at program p ≡ None → cause_at program q ≡ None →
+    (next_place program p).pc ≡ (next_place program q).pc
 same-next_pc program p q same fine_p fine_q =
     let r = reads program p fine_p in
     let s : Reads program q.pc = record { instr = r.instr; count = r.count; is = ap (fetch program) (sym same) ∙ r.is } in
@@ -120,12 +127,14 @@ same-next_pc program p q same fine_p fine_q =
 
 -- The path from a place on is the path from any equal place on.
 
-path-again : (program : RiscProgram) (first second more : ℕ) → path program first ≡ path program second → path program (first + more) ≡ path program (second + more)
+path-again : (program : RiscProgram) (first second more : ℕ) → path program first ≡ path program second →
+    path program (first + more) ≡ path program (second + more)
 path-again program first second zero same = rw (add-zero first, add-zero second) same
 path-again program first second (suc more) same =
     rw (add-suc first more, add-suc second more) (ap (next_place program) (path-again program first second more same))
 
-fine-later : (program : RiscProgram) (first second : ℕ) → first < second → path program first ≡ path program second → AreFine program second → (bound : ℕ) → AreFine program bound
+fine-later : (program : RiscProgram) (first second : ℕ) → first < second → path program first ≡ path program second →
+    AreFine program second → (bound : ℕ) → AreFine program bound
 fine-later program first second apart same fine zero k below = absurd (omega arith)
 fine-later program first second apart same fine (suc bound) k below =
     elim (cases_Bool (nat_lt k second)) [
@@ -140,13 +149,15 @@ fine-later program first second apart same fine (suc bound) k below =
     ]
 
 -- a path that comes to a place again with no fault before is without fault
-pub sound-from_repeat : (program : RiscProgram) (first second : ℕ) → first < second → path program first ≡ path program second → AreFine program second → IsSound program
+pub sound-from_repeat : (program : RiscProgram) (first second : ℕ) → first < second → path program first ≡ path program second →
+    AreFine program second → IsSound program
 sound-from_repeat program first second apart same fine k =
     fine-later program first second apart same fine (suc k) k (omega arith)
 
 -- Two places with one pc go on alike up to and with the next JUMP, and after it they are the same.
 
-pcs-agree : (program : RiscProgram) (first second more : ℕ) → (path program first).pc ≡ (path program second).pc → AreFine program (first + more) → AreFine program (second + more) →
+pcs-agree : (program : RiscProgram) (first second more : ℕ) → (path program first).pc ≡ (path program second).pc →
+    AreFine program (first + more) → AreFine program (second + more) →
     (path program (first + more)).pc ≡ (path program (second + more)).pc
 pcs-agree program first second zero same fine_first fine_second = rw (add-zero first, add-zero second) same
 pcs-agree program first second (suc more) same fine_first fine_second =
@@ -164,7 +175,8 @@ record Leaps (program : RiscProgram) (pc : ℕ) : Type 0 where
   addr : ℕ
   always : (place : Place) → place.pc ≡ pc → cause_at program place ≡ None → next_place program place ≡ landed addr
 
-leaps_or_grows : (program : RiscProgram) (pc : ℕ) (x : Instr) (count : ℕ) → fetch program pc ≡ Ok (x, count) → 0 < count → Leaps program pc ⊎ (pc < pc_after x count pc)
+leaps_or_grows : (program : RiscProgram) (pc : ℕ) (x : Instr) (count : ℕ) → fetch program pc ≡ Ok (x, count) → 0 < count →
+    Leaps program pc ⊎ (pc < pc_after x count pc)
 leaps_or_grows program pc (Jump ctl addr) count is some =
     inl
     (record {
@@ -181,7 +193,8 @@ leaps_or_grows program pc (Write123 ctl ends off counts addrs) count is some = i
 leaps_or_grows program pc (Skip123 ctl ends counts) count is some = inr (omega arith)
 leaps_or_grows program pc (Write1S23 ctl ends off counts addr) count is some = inr (omega arith)
 
-step-goes : (program : RiscProgram) (place : Place) → cause_at program place ≡ None → Leaps program place.pc ⊎ (place.pc < (next_place program place).pc)
+step-goes : (program : RiscProgram) (place : Place) → cause_at program place ≡ None →
+    Leaps program place.pc ⊎ (place.pc < (next_place program place).pc)
 step-goes program place fine =
     let r = reads program place fine in
     let some : 0 < r.count = subst TakesWords r.is (fetch-takes program place.pc) in
@@ -196,7 +209,8 @@ record Jumps (program : RiscProgram) (first count : ℕ) : Type 0 where
   below : after < count
   leap : Leaps program (path program (first + after)).pc
 
-jumps_or_grows : (program : RiscProgram) (first count : ℕ) → AreFine program (first + count) → Jumps program first count ⊎ ((path program first).pc + count ≤ (path program (first + count)).pc)
+jumps_or_grows : (program : RiscProgram) (first count : ℕ) → AreFine program (first + count) →
+    Jumps program first count ⊎ ((path program first).pc + count ≤ (path program (first + count)).pc)
 jumps_or_grows program first zero fine = inr (rw (add-zero first) (omega arith))
 jumps_or_grows program first (suc count) fine =
     elim (jumps_or_grows program first count (λ k below. fine k (omega arith))) [
@@ -214,7 +228,8 @@ record Counted (program : RiscProgram) (address : ℕ) : Type 0 where
   number : ℕ
   is : word_of program address ≡ Some number
 
-counted : (program : RiscProgram) (address : ℕ) → Reads program address → (word : Option ℕ) → word_of program address ≡ word → Counted program address
+counted : (program : RiscProgram) (address : ℕ) → Reads program address → (word : Option ℕ) → word_of program address ≡ word →
+    Counted program address
 counted program address r None is = let none = none-fetched program address is in let read = r.is in absurd (cc)
 counted program address r (Some word) is = record { number = word; is = is }
 
@@ -222,7 +237,8 @@ word-from_fine : (program : RiscProgram) (place : Place) → cause_at program pl
 word-from_fine program place fine = counted program place.pc (reads program place fine) (word_of program place.pc) refl
 
 -- two addresses whose words have one number are the same
-same-word : (program : RiscProgram) (a b : ℕ) (at_a : Counted program a) (at_b : Counted program b) → unwrap_or (word_of program a) 0 ≡ unwrap_or (word_of program b) 0 → a ≡ b
+same-word : (program : RiscProgram) (a b : ℕ) (at_a : Counted program a) (at_b : Counted program b) →
+    unwrap_or (word_of program a) 0 ≡ unwrap_or (word_of program b) 0 → a ≡ b
 same-word program a b at_a at_b same =
     let number : at_a.number ≡ at_b.number = sym (ap (λ word. unwrap_or word 0) at_a.is) ∙ same ∙ ap (λ word. unwrap_or word 0) at_b.is in
     word_of-same program a b at_b.number (at_a.is ∙ ap Some number) at_b.is
@@ -234,7 +250,10 @@ sound-from_places program fine =
     let number : ℕ → ℕ = λ k. unwrap_or (word_of program (path program k).pc) 0 in
     let word = λ (k : ℕ) (below : k < n + 1). word-from_fine program (path program k) (fine k (omega arith)) in
     let is = λ (k : ℕ) (below : k < n + 1). ap (λ word. unwrap_or word 0) (word k below).is in
-    let r = values-repeat number (n + 1) n (λ k below. subst (λ m. m < n) (sym (is k below)) (word_of-below program (path program k).pc (word k below).number (word k below).is)) (omega arith) in
+    let r =
+    values-repeat number (n + 1) n
+    (λ k below. subst (λ m. m < n) (sym (is k below)) (word_of-below program (path program k).pc (word k below).number (word k below).is))
+    (omega arith) in
     let more = r.second - r.first in
     let second_is : r.first + more ≡ r.second = omega arith in
     let same_pc : (path program r.first).pc ≡ (path program r.second).pc =

@@ -1,5 +1,6 @@
 -- What holds at each step of the walk along a path.
-use Rattle.std.proofs.Common.{◌≡◌, ℕ, zero, suc, ◌+◌, ◌<◌, ◌⊎◌, inl, inr, Bool, false, IsTrue, List, replicate, None, refl, ap, sym, subst, ◌∙◌, arith, add-one, below_more}
+use Rattle.std.proofs.Common.{◌≡◌, ℕ, zero, suc, ◌+◌, ◌<◌, ◌⊎◌, inl, inr, Bool, false, IsTrue, List, replicate, None, refl, ap, sym, subst}
+use Rattle.std.proofs.Common.{◌∙◌, arith, add-one, below_more}
 use Rattle.machine_model.specs.Paths.{RiscProgram, Place, cause_at, next_place, path, IsSound}
 use Rattle.risc_verify.specs.Rounds.{AreFine}
 use Rattle.risc_verify.specs.Marks.{IsKnown, IsPlain, is_marked}
@@ -27,7 +28,8 @@ none_marked (suc n) (suc word) = none_marked n word
 same-plain : (program : RiscProgram) (word : ℕ) (p q : Place) → IsPlain program word p → IsPlain program word q → p ≡ q
 same-plain program word p q at_p at_q =
     let same_pc = word_of-same program p.pc q.pc word at_p.there at_q.there in
-    ap (λ pc. record { pc = pc; target = p.target }) same_pc ∙ ap (λ target. record { pc = q.pc; target = target }) (at_p.none ∙ sym at_q.none)
+    ap (λ pc. record { pc = pc; target = p.target }) same_pc
+    ∙ ap (λ target. record { pc = q.pc; target = target }) (at_p.none ∙ sym at_q.none)
 
 pub Walks-next :
     (program : RiscProgram) (count : ℕ) (place next : Place) (marks after : List Bool)
@@ -47,11 +49,14 @@ Walks-next program count place next marks after w marked fine is_next =
             | inl old ↦
                 let m = w.met word old in
                 record { number = m.number; before = omega arith; there = m.there }
-            | inr new ↦ record { number = count; before = omega arith; there = subst (λ (p : Place). IsPlain program word p) (sym w.here) new }
+            | inr new ↦
+                record { number = count; before = omega arith; there = subst (λ (p : Place). IsPlain program word p) (sym w.here) new }
           ];
     }
 
-pub sound-from_known : (program : RiscProgram) (count : ℕ) (place : Place) (marks : List Bool) → Walks program count place marks → IsKnown program marks place → IsSound program
+pub sound-from_known : (program : RiscProgram) (count : ℕ) (place : Place) (marks : List Bool) → Walks program count place marks →
+    IsKnown program marks place → IsSound program
 sound-from_known program count place marks w known =
     let m = w.met known.word known.marked in
-    sound-from_repeat program m.number count m.before (same-plain program known.word (path program m.number) place m.there known.here ∙ sym w.here) w.fine
+    sound-from_repeat program m.number count m.before
+    (same-plain program known.word (path program m.number) place m.there known.here ∙ sym w.here) w.fine

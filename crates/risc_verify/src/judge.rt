@@ -1,10 +1,12 @@
 //! Places of a path: why one isn't fine, and the one after it.
 
-ghost use Rattle.machine_model.specs.Paths.{cause_at, fault_cause, first_cause, instr_cause, is_word, next_place, place_after, written_cause};
+ghost use Rattle.machine_model.specs.Paths.{cause_at, fault_cause, first_cause, instr_cause, is_word, next_place, place_after};
+ghost use Rattle.machine_model.specs.Paths.{written_cause};
 ghost use Rattle.machine_model.specs.declared.Cause.TheVariants.{JumpOut};
 ghost use Rattle.risc_verify.specs.Places.{IsNear, number_in};
 ghost use Rattle.risc_verify.specs.Programs.{first_place, word_of};
-ghost use Rattle.std.specs.Prelude.{◌≡◌, ◌+◌, ◌*◌, ◌^◌, ◌<◌, ◌≤◌, IfSome, MatchResult, None, Some, false, slice_index, true, unwrap_or, if◌then◌else◌};
+ghost use Rattle.std.specs.Prelude.{◌≡◌, ◌+◌, ◌*◌, ◌^◌, ◌<◌, ◌≤◌, IfSome, MatchResult, None, Some, false, slice_index, true, unwrap_or};
+ghost use Rattle.std.specs.Prelude.{if◌then◌else◌};
 
 use super::memo::ChunkMemo;
 use super::{Program, SpanPlace};
@@ -208,7 +210,8 @@ pub(crate) fn step(
     requires near { IsNear program.now near.old }
     requires there { IfSome word (λ number. number_in near.old place.now.pc ≡ Some number) }
     ensures near { IsNear program.now near.new }
-    ensures answer { MatchResult result (λ next. (cause_at program.now place.now ≡ None) × (next_place program.now place.now ≡ next)) (λ cause. cause_at program.now place.now ≡ Some cause) }
+    ensures answer { MatchResult result (λ next. (cause_at program.now place.now ≡ None) × (next_place program.now place.now ≡ next))
+        (λ cause. cause_at program.now place.now ≡ Some cause) }
 {
     let Some(number) = word else {
         return Err(Cause::Cut);

@@ -1,6 +1,7 @@
 //! A program in memory, and one that was accepted.
 
-ghost use Rattle.machine_model.specs.Paths.{AreApart, BeginsAtWord, IsProgram, IsSound, all_words, begins_at_base, fetch, is_word, max_spans, max_words, one_span, shares_byte, words_of};
+ghost use Rattle.machine_model.specs.Paths.{AreApart, BeginsAtWord, IsProgram, IsSound, all_words, begins_at_base, fetch, is_word};
+ghost use Rattle.machine_model.specs.Paths.{max_spans, max_words, one_span, shares_byte, words_of};
 ghost use Rattle.risc_verify.specs.Places.{IsNear, number_in};
 ghost use Rattle.risc_verify.specs.Programs.{word_of};
 ghost use Rattle.risc_word.specs.Words.{IsInstr, instr_at};
@@ -114,7 +115,8 @@ impl Program {
     fn word_in(&self, near: SpanPlace, address: u64) -> Option<usize>
         requires { IsNear self.now near }
         ensures value { result ≡ number_in near address }
-        ensures known { IfSome result (λ word. (word_of self.now address ≡ Some word) × (is_word self.now address ≡ true) × (address < 2 ^ 32) × (word < length (all_words self.now))) }
+        ensures known { IfSome result (λ word. (word_of self.now address ≡ Some word) × (is_word self.now address ≡ true)
+            × (address < 2 ^ 32) × (word < length (all_words self.now))) }
     {
         // the call brings in what each program keeps
         let _base = self.base();
@@ -129,7 +131,8 @@ impl Program {
         requires { IsNear self.now near.old }
         ensures value { result ≡ word_of self.now address }
         ensures there { is_word self.now address ≡ is_some result }
-        ensures inside { IfSome result (λ word. (address < 2 ^ 32) × (word < length (all_words self.now)) × (number_in near.new address ≡ Some word)) }
+        ensures inside { IfSome result
+            (λ word. (address < 2 ^ 32) × (word < length (all_words self.now)) × (number_in near.new address ≡ Some word)) }
         ensures near { IsNear self.now near.new }
     {
         *near = self.spans.search(address)?;
@@ -143,7 +146,8 @@ impl Program {
         requires { IsNear self.now near.old }
         ensures value { result ≡ word_of self.now address }
         ensures there { is_word self.now address ≡ is_some result }
-        ensures inside { IfSome result (λ word. (address < 2 ^ 32) × (word < length (all_words self.now)) × (number_in near.new address ≡ Some word)) }
+        ensures inside { IfSome result
+            (λ word. (address < 2 ^ 32) × (word < length (all_words self.now)) × (number_in near.new address ≡ Some word)) }
         ensures near { IsNear self.now near.new }
     {
         if let Some(word) = self.word_in(*near, address) {

@@ -8,7 +8,8 @@ ghost use Rattle.std.specs.List.{prefix_len, slice_get};
 ghost use Rattle.std.specs.Option.{option_to_list};
 ghost use Rattle.std.specs.List.Sorted.{IsNonDecreasingBy};
 ghost use Rattle.std.specs.Result.{is_ok};
-ghost use Rattle.std.specs.Prelude.{if◌then◌else◌, ◌≡◌, ℕ, ◌+◌, ◌<◌, ◌≤◌, ◌^◌, [], ◌∷◌, ◌++◌, All, IfErr, IfOk, MatchOption, length, nat_le, None, slice_index_or, drop, take, true};
+ghost use Rattle.std.specs.Prelude.{if◌then◌else◌, ◌≡◌, ℕ, ◌+◌, ◌<◌, ◌≤◌, ◌^◌, [], ◌∷◌, ◌++◌, All, IfErr, IfOk, MatchOption, length};
+ghost use Rattle.std.specs.Prelude.{nat_le, None, slice_index_or, drop, take, true};
 
 use std::alloc::{AllocError, Global};
 use std::marker::Model;
@@ -88,7 +89,8 @@ impl Model for Spans {
 
     ghost view = { λ s. spans_at s.words.items (s.before.items ++ option_to_list s.last) };
 
-    ghost invariant = { λ s. AreCut 0 (s.before.items ++ option_to_list s.last) (length s.words.items) × (s.last ≡ None → s.before.items ≡ []) };
+    ghost invariant = { λ s. AreCut 0 (s.before.items ++ option_to_list s.last) (length s.words.items)
+        × (s.last ≡ None → s.before.items ≡ []) };
 }
 
 // How many spans end at an address or before it.
@@ -263,7 +265,8 @@ impl Spans {
     pub(crate) fn search(&self, address: u64) -> Option<SpanPlace>
         requires apart { AreApart 0 self.now }
         requires few { length (words_of self.now) ≤ max_words }
-        ensures { MatchOption result (number_from 0 self.now address ≡ None) (λ p. (stands_from 0 self.now p ≡ true) × (has_address p address ≡ true)) }
+        ensures { MatchOption result (number_from 0 self.now address ≡ None)
+            (λ p. (stands_from 0 self.now p ≡ true) × (has_address p address ≡ true)) }
     {
         let place = first_behind(&self.before, self.last, address)?;
         if place.number(address).is_some() {

@@ -7,7 +7,8 @@ use Rattle.risc_word.specs.declared.Code.TheVariants.{Vre, Vro, Fm1, Fm3}
 use Rattle.bit_field.specs.Bits.{bits}
 use Rattle.risc_word.specs.declared.Ctl.{Ctl}
 use Rattle.risc_word.specs.declared.Ends.{Ends}
-use Rattle.risc_word.specs.Words.{control_bits, control_fits, data_word, flag, head_word, line_ends, lanes_off, first_count, sync_word, code_number}
+use Rattle.risc_word.specs.Words.{control_bits, control_fits, data_word, flag, head_word, line_ends, lanes_off, first_count, sync_word}
+use Rattle.risc_word.specs.Words.{code_number}
 
 abbrev pub bit_of : Bool → ℕ
 bit_of true = 1
@@ -86,13 +87,25 @@ control_parts ctl h =
     let parts = and_parts (nat_lt ctl.set 16) (nat_lt ctl.reset 16) h
     in (ltb-true ctl.set 16 parts.0, ltb-true ctl.reset 16 parts.1)
 
-pub small_word : (opcode : ℕ) (ctl : Ctl) (sol eol : Bool) (off count : ℕ) → opcode < 16 → IsTrue (control_fits ctl) → off < 16 → count < 4096 → Small opcode (bit_of sol) (bit_of eol) (bit_of ctl.irq) ctl.reset ctl.set off count
+pub small_word : (opcode : ℕ) (ctl : Ctl) (sol eol : Bool) (off count : ℕ) → opcode < 16 → IsTrue (control_fits ctl) → off < 16 →
+    count < 4096 → Small opcode (bit_of sol) (bit_of eol) (bit_of ctl.irq) ctl.reset ctl.set off count
 small_word opcode ctl sol eol off count opcode_small fits off_small count_small =
     let parts = control_parts ctl fits
-    in record { opcode_small = opcode_small; sol_small = bit_small sol; eol_small = bit_small eol; irq_small = bit_small ctl.irq; reset_small = parts.1; set_small = parts.0; off_small = off_small; count_small = count_small }
+    in
+    record {
+      opcode_small = opcode_small;
+      sol_small = bit_small sol;
+      eol_small = bit_small eol;
+      irq_small = bit_small ctl.irq;
+      reset_small = parts.1;
+      set_small = parts.0;
+      off_small = off_small;
+      count_small = count_small;
+    }
 
 -- the control bits of a word that is made of its fields
-pub control_read : (opcode sol eol : ℕ) (ctl : Ctl) (off count : ℕ) → Small opcode sol eol (bit_of ctl.irq) ctl.reset ctl.set off count → Reads (word_of opcode sol eol (bit_of ctl.irq) ctl.reset ctl.set off count) opcode ctl
+pub control_read : (opcode sol eol : ℕ) (ctl : Ctl) (off count : ℕ) → Small opcode sol eol (bit_of ctl.irq) ctl.reset ctl.set off count →
+    Reads (word_of opcode sol eol (bit_of ctl.irq) ctl.reset ctl.set off count) opcode ctl
 control_read opcode sol eol ctl off count small = record {
   opcode_is = opcode_read opcode sol eol (bit_of ctl.irq) ctl.reset ctl.set off count small;
   ctl_is = rw (
@@ -103,26 +116,31 @@ control_read opcode sol eol ctl off count small = record {
   ) refl;
 }
 
-pub data_word_of : (opcode : ℕ) (ctl : Ctl) (ends : Ends) (off count : ℕ) → data_word opcode ctl ends off count ≡ word_of opcode (bit_of ends.sol) (bit_of ends.eol) (bit_of ctl.irq) ctl.reset ctl.set off count
+pub data_word_of : (opcode : ℕ) (ctl : Ctl) (ends : Ends) (off count : ℕ) →
+    data_word opcode ctl ends off count ≡ word_of opcode (bit_of ends.sol) (bit_of ends.eol) (bit_of ctl.irq) ctl.reset ctl.set off count
 data_word_of opcode ctl ends off count =
     omega (arith, flag_bit 27 ends.sol, flag_bit 26 ends.eol, flag_bit 24 ctl.irq)
 
 pub head_word_of : (opcode : ℕ) (ctl : Ctl) → head_word opcode ctl ≡ word_of opcode 0 0 (bit_of ctl.irq) ctl.reset ctl.set 0 0
 head_word_of opcode ctl = omega (arith, flag_bit 24 ctl.irq)
 
-pub sync_word_of : (ctl : Ctl) (resync : Bool) (code : Code) → sync_word ctl resync code ≡ word_of 8 0 0 (bit_of ctl.irq) ctl.reset ctl.set (8 * bit_of resync) (code_number code)
+pub sync_word_of : (ctl : Ctl) (resync : Bool) (code : Code) →
+    sync_word ctl resync code ≡ word_of 8 0 0 (bit_of ctl.irq) ctl.reset ctl.set (8 * bit_of resync) (code_number code)
 sync_word_of ctl resync code = omega (arith, flag_bit 15 resync, flag_bit 24 ctl.irq)
 
 pub head_reads : (opcode : ℕ) (ctl : Ctl) → opcode < 16 → IsTrue (control_fits ctl) → Reads (head_word opcode ctl) opcode ctl
 head_reads opcode ctl opcode_small fits =
-    rw (head_word_of opcode ctl) (control_read opcode 0 0 ctl 0 0 (small_word opcode ctl false false 0 0 opcode_small fits (omega arith) (omega arith)))
+    rw (head_word_of opcode ctl)
+    (control_read opcode 0 0 ctl 0 0 (small_word opcode ctl false false 0 0 opcode_small fits (omega arith) (omega arith)))
 
-module _ (opcode : ℕ) (ctl : Ctl) (ends : Ends) (off count : ℕ) (opcode_small : opcode < 16) (fits : IsTrue (control_fits ctl)) (off_small : off < 16) (count_small : count < 4096) where
+module _ (opcode : ℕ) (ctl : Ctl) (ends : Ends) (off count : ℕ) (opcode_small : opcode < 16) (fits : IsTrue (control_fits ctl))
+    (off_small : off < 16) (count_small : count < 4096) where
   pub data_small : Small opcode (bit_of ends.sol) (bit_of ends.eol) (bit_of ctl.irq) ctl.reset ctl.set off count
   data_small = small_word opcode ctl ends.sol ends.eol off count opcode_small fits off_small count_small
 
   pub data_reads : Reads (data_word opcode ctl ends off count) opcode ctl
-  data_reads = rw (data_word_of opcode ctl ends off count) (control_read opcode (bit_of ends.sol) (bit_of ends.eol) ctl off count data_small)
+  data_reads =
+      rw (data_word_of opcode ctl ends off count) (control_read opcode (bit_of ends.sol) (bit_of ends.eol) ctl off count data_small)
 
   pub line_reads : ReadsLine (data_word opcode ctl ends off count) ends off count
   line_reads = rw (data_word_of opcode ctl ends off count) (record {
@@ -141,13 +159,20 @@ module _ (ctl : Ctl) (resync : Bool) (code : Code) (fits : IsTrue (control_fits 
   code_small = elim code as (λ c. code_number c < 16) [ Vre ↦ omega arith | Vro ↦ omega arith | Fm1 ↦ omega arith | Fm3 ↦ omega arith ]
 
   pub sync_small : Small 8 0 0 (bit_of ctl.irq) ctl.reset ctl.set (8 * bit_of resync) (code_number code)
-  sync_small = small_word 8 ctl false false (8 * bit_of resync) (code_number code) (omega arith) fits (omega (arith, bit_small resync)) (omega (arith, code_small))
+  sync_small =
+      small_word 8 ctl false false (8 * bit_of resync) (code_number code) (omega arith) fits (omega (arith, bit_small resync))
+      (omega (arith, code_small))
 
   pub sync_reads : Reads (sync_word ctl resync code) 8 ctl
   sync_reads = rw (sync_word_of ctl resync code) (control_read 8 0 0 ctl (8 * bit_of resync) (code_number code) sync_small)
 
   pub sync_resync : bits 15 1 (sync_word ctl resync code) ≡ bit_of resync
-  sync_resync = rw (sync_word_of ctl resync code, resync_read 8 0 0 (bit_of ctl.irq) ctl.reset ctl.set (8 * bit_of resync) (code_number code) sync_small) (omega arith)
+  sync_resync = rw (
+    sync_word_of ctl resync code,
+    resync_read 8 0 0 (bit_of ctl.irq) ctl.reset ctl.set (8 * bit_of resync) (code_number code) sync_small,
+  ) (omega arith)
 
   pub sync_code : bits 0 4 (sync_word ctl resync code) ≡ code_number code
-  sync_code = rw (sync_word_of ctl resync code) (code_read 8 0 0 (bit_of ctl.irq) ctl.reset ctl.set (8 * bit_of resync) (code_number code) sync_small code_small)
+  sync_code =
+      rw (sync_word_of ctl resync code)
+      (code_read 8 0 0 (bit_of ctl.irq) ctl.reset ctl.set (8 * bit_of resync) (code_number code) sync_small code_small)

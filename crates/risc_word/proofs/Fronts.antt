@@ -1,8 +1,10 @@
 -- An instruction is read from as many words as its opcode asks for.
-use Rattle.std.proofs.Common.{◌≡◌, ℕ, zero, suc, ◌+◌, ◌-◌, ◌<◌, max, Bool, true, false, List, [], ◌∷◌, length, drop, take, refl, sym, ap, subst, ◌∙◌, arith, if◌then◌else◌, ◌==◌, slice_index, eqb-true, length-drop, add-zero}
+use Rattle.std.proofs.Common.{◌≡◌, ℕ, zero, suc, ◌+◌, ◌-◌, ◌<◌, max, Bool, true, false, List, [], ◌∷◌, length, drop, take, refl, sym, ap}
+use Rattle.std.proofs.Common.{subst, ◌∙◌, arith, if◌then◌else◌, ◌==◌, slice_index, eqb-true, length-drop, add-zero}
 use Rattle.std.proofs.lemmas.List.{get_or-drop}
 use Rattle.bit_field.specs.Bits.{bits}
-use Rattle.risc_word.specs.Words.{Reading, by_opcode, first_instr, instr_at, jump_at, opcode_length, skip_123_at, sync_at, write_123_at, write_1_s_23_at, write_at}
+use Rattle.risc_word.specs.Words.{Reading, by_opcode, first_instr, instr_at, jump_at, opcode_length, skip_123_at, sync_at, write_123_at}
+use Rattle.risc_word.specs.Words.{write_1_s_23_at, write_at}
 
 module _ (word : ℕ) where
   write_front : (rest : List ℕ) → write_at word rest ≡ write_at word (take 1 rest)
@@ -34,11 +36,13 @@ module _ (word : ℕ) where
   write_1_s_23_front (counts ∷ address ∷ rest) = refl
 
 -- a choice by the opcode
-chosen : (opcode this : ℕ) (yes_first no_first yes_second no_second : Reading) → (opcode ≡ this → yes_first ≡ yes_second) → no_first ≡ no_second →
+chosen : (opcode this : ℕ) (yes_first no_first yes_second no_second : Reading) → (opcode ≡ this → yes_first ≡ yes_second) →
+    no_first ≡ no_second →
     (if opcode == this then yes_first else no_first) ≡ (if opcode == this then yes_second else no_second)
 chosen opcode this yes_first no_first yes_second no_second same other = by_test (opcode == this) (λ e. same (eqb-true opcode this e))
   where
-    by_test : (test : Bool) → (test ≡ true → yes_first ≡ yes_second) → (if test then yes_first else no_first) ≡ (if test then yes_second else no_second)
+    by_test : (test : Bool) → (test ≡ true → yes_first ≡ yes_second) →
+        (if test then yes_first else no_first) ≡ (if test then yes_second else no_second)
     by_test true same = same refl
     by_test false same = other
 
@@ -53,19 +57,24 @@ by_opcode-front opcode word rest =
     (chosen opcode 5 _ _ _ _ (λ e. refl)
     (chosen opcode 7 _ _ _ _ (λ e. subst (λ o. jump_at word rest ≡ jump_at word (after_first o rest)) (sym e) (jump_front word rest))
     (chosen opcode 8 _ _ _ _ (λ e. subst (λ o. sync_at word rest ≡ sync_at word (after_first o rest)) (sym e) (sync_front word rest))
-    (chosen opcode 9 _ _ _ _ (λ e. subst (λ o. write_123_at word rest ≡ write_123_at word (after_first o rest)) (sym e) (write_123_front word rest))
-    (chosen opcode 10 _ _ _ _ (λ e. subst (λ o. skip_123_at word rest ≡ skip_123_at word (after_first o rest)) (sym e) (skip_123_front word rest))
-    (chosen opcode 11 _ _ _ _ (λ e. subst (λ o. write_1_s_23_at word rest ≡ write_1_s_23_at word (after_first o rest)) (sym e) (write_1_s_23_front word rest)) refl)))))))
+    (chosen opcode 9 _ _ _ _
+    (λ e. subst (λ o. write_123_at word rest ≡ write_123_at word (after_first o rest)) (sym e) (write_123_front word rest))
+    (chosen opcode 10 _ _ _ _
+    (λ e. subst (λ o. skip_123_at word rest ≡ skip_123_at word (after_first o rest)) (sym e) (skip_123_front word rest))
+    (chosen opcode 11 _ _ _ _ (λ e.
+    subst (λ o. write_1_s_23_at word rest ≡ write_1_s_23_at word (after_first o rest)) (sym e) (write_1_s_23_front word rest)) refl)))))))
 
 -- how many words are read: one, or as many as the opcode asks for
-first_instr-front : (words : List ℕ) → first_instr words ≡ first_instr (take (max 1 (opcode_length (bits 28 4 (slice_index words 0)))) words)
+first_instr-front : (words : List ℕ) →
+    first_instr words ≡ first_instr (take (max 1 (opcode_length (bits 28 4 (slice_index words 0)))) words)
 first_instr-front [] = refl
 first_instr-front (word ∷ rest) =
     let opcode : ℕ = bits 28 4 word in
     let count : max 1 (opcode_length opcode) ≡ suc (opcode_length opcode - 1) = omega arith in
     by_opcode-front opcode word rest ∙ ap (λ n. first_instr (take n (word ∷ rest))) (sym count)
 
-take-same : (count : ℕ) (first second : List ℕ) → length first ≡ length second → ((k : ℕ) → k < count → slice_index first k ≡ slice_index second k) →
+take-same : (count : ℕ) (first second : List ℕ) → length first ≡ length second →
+    ((k : ℕ) → k < count → slice_index first k ≡ slice_index second k) →
     take count first ≡ take count second
 take-same zero first second long same = refl
 take-same (suc count) [] [] long same = refl

@@ -1,5 +1,6 @@
 -- What is known of an instruction that was read, whatever the words are.
-use Rattle.std.proofs.Common.{ℕ, suc, ◌+◌, ◌-◌, ◌/◌, ◌^◌, ◌≡◌, ◌<◌, ◌≤◌, List, [], ◌∷◌, length, drop, length-drop, add-zero, Option, Some, None, Ok, refl, sym, subst, ◌∙◌, ap, arith}
+use Rattle.std.proofs.Common.{ℕ, suc, ◌+◌, ◌-◌, ◌/◌, ◌^◌, ◌≡◌, ◌<◌, ◌≤◌, List, [], ◌∷◌, length, drop, length-drop, add-zero, Option, Some}
+use Rattle.std.proofs.Common.{None, Ok, refl, sym, subst, ◌∙◌, ap, arith}
 use Rattle.std.specs.Prelude.{IsTrue, IfOk, ◌==◌, nat_lt, ◌&&◌, if◌then◌else◌, slice_index}
 use Rattle.std.proofs.lemmas.Bool.{and_from, lt-ltb, eqb-true, cond_both}
 use Rattle.std.proofs.lemmas.Nat.{mod_below, pow_pos}
@@ -8,7 +9,8 @@ use Rattle.std.proofs.lemmas.Result.{MatchResult-weaker, MatchResult-at_ok}
 use Rattle.bit_field.specs.Bits.{bits}
 use Rattle.risc_word.specs.declared.Code.{Code}
 use Rattle.risc_word.specs.declared.Instr.{Instr}
-use Rattle.risc_word.specs.Words.{Reading, by_opcode, code_numbered, control_bits, control_fits, counts_fit, encoded, first_instr, instr_at, jump_at, lanes_off, opcode_length, skip_123_at, skip_at}
+use Rattle.risc_word.specs.Words.{Reading, by_opcode, code_numbered, control_bits, control_fits, counts_fit, encoded, first_instr, instr_at}
+use Rattle.risc_word.specs.Words.{jump_at, lanes_off, opcode_length, skip_123_at, skip_at}
 use Rattle.risc_word.specs.Words.{sync_at, sync_for, three_counts, write_123_at, write_1_s_23_at, write_at, write_c_at, IsInstr}
 
 -- what is known of an instruction that was read at a first word, by its opcode and the words after it
@@ -24,7 +26,8 @@ IsKnown opcode rest reading = IfOk reading (λ read. Known opcode rest read.0 re
 
 pub bits_small : (low width bound word : ℕ) → bound ≡ 2 ^ width → IsTrue (nat_lt (bits low width word) bound)
 bits_small low width bound word is =
-    lt-ltb (bits low width word) bound (subst (λ n. bits low width word < n) (sym is) (mod_below (word / 2 ^ low) (2 ^ width) (pow_pos width)))
+    lt-ltb (bits low width word) bound
+    (subst (λ n. bits low width word < n) (sym is) (mod_below (word / 2 ^ low) (2 ^ width) (pow_pos width)))
 
 pub control_small : (word : ℕ) → IsTrue (control_fits (control_bits word))
 control_small word = and_from _ _ (bits_small 16 4 16 word refl) (bits_small 20 4 16 word refl)
@@ -34,25 +37,49 @@ line_small word = and_from _ _ (control_small word) (bits_small 12 4 16 word ref
 
 pub three_small : (word counts : ℕ) → IsTrue (counts_fit (three_counts word counts))
 three_small word counts =
-    and_from _ _ (bits_small 0 12 4096 word refl) (and_from _ _ (bits_small 0 12 4096 counts refl) (and_from _ _ (bits_small 16 12 4096 counts refl) refl))
+    and_from _ _ (bits_small 0 12 4096 word refl)
+    (and_from _ _ (bits_small 0 12 4096 counts refl) (and_from _ _ (bits_small 16 12 4096 counts refl) refl))
 
 module _ (word : ℕ) where
   write_known : (rest : List ℕ) → IsKnown 1 rest (write_at word rest)
   write_known [] = tt
-  write_known (address ∷ rest) = record { is_instr = (and_from _ _ (line_small word) (bits_small 0 12 4096 word refl), tt); by_opcode_is = refl; spelled_is = refl; positive = omega arith; within = omega arith }
+  write_known (address ∷ rest) =
+      record {
+        is_instr = (and_from _ _ (line_small word) (bits_small 0 12 4096 word refl), tt);
+        by_opcode_is = refl;
+        spelled_is = refl;
+        positive = omega arith;
+        within = omega arith;
+      }
 
   skip_known : (rest : List ℕ) → IsKnown 2 rest (skip_at word)
-  skip_known rest = record { is_instr = (and_from _ _ (control_small word) (bits_small 0 12 4096 word refl), tt); by_opcode_is = refl; spelled_is = refl; positive = omega arith; within = omega arith }
+  skip_known rest =
+      record {
+        is_instr = (and_from _ _ (control_small word) (bits_small 0 12 4096 word refl), tt);
+        by_opcode_is = refl;
+        spelled_is = refl;
+        positive = omega arith;
+        within = omega arith;
+      }
 
   write_c_known : (rest : List ℕ) → IsKnown 5 rest (write_c_at word)
-  write_c_known rest = record { is_instr = (and_from _ _ (line_small word) (bits_small 0 12 4096 word refl), tt); by_opcode_is = refl; spelled_is = refl; positive = omega arith; within = omega arith }
+  write_c_known rest =
+      record {
+        is_instr = (and_from _ _ (line_small word) (bits_small 0 12 4096 word refl), tt);
+        by_opcode_is = refl;
+        spelled_is = refl;
+        positive = omega arith;
+        within = omega arith;
+      }
 
   jump_known : (rest : List ℕ) → IsKnown 7 rest (jump_at word rest)
   jump_known [] = tt
-  jump_known (target ∷ rest) = record { is_instr = (control_small word, tt); by_opcode_is = refl; spelled_is = refl; positive = omega arith; within = omega arith }
+  jump_known (target ∷ rest) =
+      record { is_instr = (control_small word, tt); by_opcode_is = refl; spelled_is = refl; positive = omega arith; within = omega arith }
 
   sync_for_known : (second : ℕ) (rest : List ℕ) (code : Option Code) → IsKnown 8 (second ∷ rest) (sync_for word code)
-  sync_for_known second rest (Some code) = record { is_instr = (control_small word, tt); by_opcode_is = refl; spelled_is = refl; positive = omega arith; within = omega arith }
+  sync_for_known second rest (Some code) =
+      record { is_instr = (control_small word, tt); by_opcode_is = refl; spelled_is = refl; positive = omega arith; within = omega arith }
   sync_for_known second rest None = tt
 
   sync_known : (rest : List ℕ) → IsKnown 8 rest (sync_at word rest)
@@ -74,15 +101,30 @@ module _ (word : ℕ) where
 
   skip_123_known : (rest : List ℕ) → IsKnown 10 rest (skip_123_at word rest)
   skip_123_known [] = tt
-  skip_123_known (counts ∷ rest) = record { is_instr = (and_from _ _ (control_small word) (three_small word counts), refl); by_opcode_is = refl; spelled_is = refl; positive = omega arith; within = omega arith }
+  skip_123_known (counts ∷ rest) =
+      record {
+        is_instr = (and_from _ _ (control_small word) (three_small word counts), refl);
+        by_opcode_is = refl;
+        spelled_is = refl;
+        positive = omega arith;
+        within = omega arith;
+      }
 
   write_1_s_23_known : (rest : List ℕ) → IsKnown 11 rest (write_1_s_23_at word rest)
   write_1_s_23_known [] = tt
   write_1_s_23_known (counts ∷ []) = tt
-  write_1_s_23_known (counts ∷ address ∷ rest) = record { is_instr = (and_from _ _ (line_small word) (three_small word counts), refl); by_opcode_is = refl; spelled_is = refl; positive = omega arith; within = omega arith }
+  write_1_s_23_known (counts ∷ address ∷ rest) =
+      record {
+        is_instr = (and_from _ _ (line_small word) (three_small word counts), refl);
+        by_opcode_is = refl;
+        spelled_is = refl;
+        positive = omega arith;
+        within = omega arith;
+      }
 
 -- a choice by the opcode
-chosen : (opcode this : ℕ) (rest : List ℕ) (yes_reading no_reading : Reading) → IsKnown this rest yes_reading → IsKnown opcode rest no_reading → IsKnown opcode rest (if opcode == this then yes_reading else no_reading)
+chosen : (opcode this : ℕ) (rest : List ℕ) (yes_reading no_reading : Reading) → IsKnown this rest yes_reading →
+    IsKnown opcode rest no_reading → IsKnown opcode rest (if opcode == this then yes_reading else no_reading)
 chosen opcode this rest yes_reading no_reading known other =
     cond_both (opcode == this) yes_reading no_reading (IsKnown opcode rest)
     (λ same. subst (λ n. IsKnown n rest yes_reading) (sym (eqb-true opcode this same)) known) (λ _. other)
@@ -128,7 +170,8 @@ known_first words at (word ∷ rest) is =
 pub known_of_instr_at : (words : List ℕ) (at : ℕ) → IsKnownAt words at (instr_at words at)
 known_of_instr_at words at = known_first words at (drop at words) refl
 
-pub known_at : (words : List ℕ) (at : ℕ) (instr : Instr) (number : ℕ) → instr_at words at ≡ Ok (instr, number) → KnownAt words at instr number
+pub known_at : (words : List ℕ) (at : ℕ) (instr : Instr) (number : ℕ) → instr_at words at ≡ Ok (instr, number) →
+    KnownAt words at instr number
 known_at words at instr number is =
     MatchResult-at_ok (λ read. KnownAt words at read.0 read.1) (λ _. Unit {0}) (instr, number) is (known_of_instr_at words at)
 

@@ -1,7 +1,8 @@
 //! The instruction at a word of a program.
 
 ghost use Rattle.bit_field.specs.Bits.{bits};
-ghost use Rattle.risc_word.specs.Words.{IsInstr, by_opcode, control_bits, instr_at, jump_at, line_ends, opcode_length, skip_123_at, skip_at, sync_at, three_counts, write_123_at, write_1_s_23_at, write_at, write_c_at};
+ghost use Rattle.risc_word.specs.Words.{IsInstr, by_opcode, control_bits, instr_at, jump_at, line_ends, opcode_length, skip_123_at};
+ghost use Rattle.risc_word.specs.Words.{skip_at, sync_at, three_counts, write_123_at, write_1_s_23_at, write_at, write_c_at};
 ghost use Rattle.std.specs.Prelude.{IfOk, length, slice_index, ◌+◌, ◌≡◌, ◌≤◌};
 
 use super::fields::{

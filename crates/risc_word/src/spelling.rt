@@ -1,6 +1,7 @@
 //! The words of an instruction.
 
-ghost use Rattle.risc_word.specs.Words.{IsInstr, IsReadBack, control_fits, counts_fit, counts_word, data_word, encoded, fits, head_word, planar_words, sync_word};
+ghost use Rattle.risc_word.specs.Words.{IsInstr, IsReadBack, control_fits, counts_fit, counts_word, data_word, encoded, fits, head_word};
+ghost use Rattle.risc_word.specs.Words.{planar_words, sync_word};
 ghost use Rattle.std.specs.Prelude.{drop, length, slice_index, IsTrue, ◌+◌, ◌++◌, ◌<◌, ◌≡◌, ◌≤◌};
 
 use super::fields::{

@@ -14,7 +14,8 @@ use Rattle.slot_chain.specs.States.{chain_of}
 use Rattle.slot_chain.specs.Wheels.{IsWheel}
 use Rattle.slot_chain.proofs.Placing.{met_chain, placed}
 
-module _ (chain : Chain) (slots : (1 ≤ chain.slots) × (chain.slots ≤ max_slots)) (parts : length chain.parts ≤ max_parts) (belong : All (λ part. part.slot < chain.slots) chain.parts)
+module _ (chain : Chain) (slots : (1 ≤ chain.slots) × (chain.slots ≤ max_slots)) (parts : length chain.parts ≤ max_parts)
+    (belong : All (λ part. part.slot < chain.slots) chain.parts)
     (none : place_fault chain ≡ None) where
   pub is_chain : IsChain chain
   is_chain =
@@ -29,7 +30,8 @@ module _ (chain : Chain) (slots : (1 ≤ chain.slots) × (chain.slots ≤ max_sl
         apart = none_passes (shares_byte (alone chain None)) chain.grants (met_chain chain ∙ place.apart);
       }
 
-  pub first_wheel : (running : RiscProgram) (programs : List RiscProgram) → AreAlone chain programs → running ≡ alone chain None → IsWheel chain running programs None
+  pub first_wheel : (running : RiscProgram) (programs : List RiscProgram) → AreAlone chain programs → running ≡ alone chain None →
+      IsWheel chain running programs None
   first_wheel running programs are is =
       record {
         is = is_chain;
@@ -50,7 +52,8 @@ never_refused chain words at nth cause same bad =
     never_bad chain at nth cause (subst (λ (ws : List ℕ). IsFirstBad (one_span chain.base ws chain.grants) at nth cause) same bad)
 
 -- from what the code has of its parts
-module _ (base slots : ℕ) (parts judged : List PartWords) (grants : List Chunk) (running : RiscProgram) (programs : List RiscProgram) (patching : List (Option ℕ)) (same : judged ≡ parts)
+module _ (base slots : ℕ) (parts judged : List PartWords) (grants : List Chunk) (running : RiscProgram) (programs : List RiscProgram)
+    (patching : List (Option ℕ)) (same : judged ≡ parts)
     (some : (1 ≤ slots) × (slots ≤ max_slots)) (few : length parts ≤ max_parts) (belong : All (λ part. part.slot < slots) parts)
     (none : place_fault (chain_of base slots judged grants) ≡ None) (are : AreAlone (chain_of base slots judged grants) programs)
     (runs : running ≡ alone (chain_of base slots judged grants) None) (list : patching ≡ replicate slots None) where

@@ -25,7 +25,8 @@ module _ (base slots : ℕ) (parts : List PartWords) (patching : Patching) (m af
     pub stepped_wheel : IsWheel (chain_of base slots parts after.program.grants) after.program programs current
     stepped_wheel = subst (λ (p : RiscProgram). IsWheel (chain_of base slots parts p.grants) p programs current) (sym same) wheel
 
-    pub stepped_state : ((s ≡ Turn) → ⊥) → state_of (chain_of base slots parts after.program.grants) patching after ≡ lived (Plain s) (state_of chain patching m)
+    pub stepped_state : ((s ≡ Turn) → ⊥) →
+        state_of (chain_of base slots parts after.program.grants) patching after ≡ lived (Plain s) (state_of chain patching m)
     stepped_state other =
         let words : RiscProgram = patched chain patching in
         let base_is : m.program.base ≡ base = ap (λ (p : RiscProgram). p.base) wheel.runs in

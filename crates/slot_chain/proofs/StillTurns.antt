@@ -26,16 +26,21 @@ still_alike (suc count) program m still =
     ∙ ap (λ (s : State). run s (replicate count Turn)) (sym (still_counts (with_program program m) other))
 
 -- turns of a live run are those of its machine
-plain_turns : (chain : Chain) (live : Live) (count : ℕ) → live_run chain live (replicate count (Plain Turn)) ≡ record live { machine = run live.machine (replicate count Turn) }
+plain_turns : (chain : Chain) (live : Live) (count : ℕ) → live_run chain live (replicate count (Plain Turn)) ≡ record live {
+  machine = run live.machine (replicate count Turn);
+}
 plain_turns chain live zero = refl
 plain_turns chain live (suc count) = plain_turns chain (live_step chain (Plain Turn) live) count
 
 -- so are those of any steps
-machine_steps : (chain : Chain) (live : Live) (steps : List Step) → live_run chain live (map Plain steps) ≡ record live { machine = run live.machine steps }
+machine_steps : (chain : Chain) (live : Live) (steps : List Step) → live_run chain live (map Plain steps) ≡ record live {
+  machine = run live.machine steps;
+}
 machine_steps chain live [] = refl
 machine_steps chain live (s ∷ steps) = machine_steps chain (live_step chain (Plain s) live) steps
 
-module _ (base slots : ℕ) (parts : List PartWords) (patching : Patching) (m after : State) (steps : List Step) (ran : after ≡ run m steps) where
+module _ (base slots : ℕ) (parts : List PartWords) (patching : Patching) (m after : State) (steps : List Step)
+    (ran : after ≡ run m steps) where
   abbrev chain : Chain
   chain = chain_of base slots parts m.program.grants
 
@@ -62,7 +67,8 @@ module _ (base slots : ℕ) (parts : List PartWords) (patching : Patching) (m af
       ∙ ap (λ (s : State). record { chain = chain; live = record { patching = patching; machine = s } }) alike
       ∙ ap (λ (live : Live). record { chain = chain; live = live }) (sym (machine_steps chain (live_of chain patching m) steps))
 
-module _ (base slots : ℕ) (parts : List PartWords) (patching : Patching) (m after : State) (count : ℕ) (ran : after ≡ run m (replicate count Turn)) where
+module _ (base slots : ℕ) (parts : List PartWords) (patching : Patching) (m after : State) (count : ℕ)
+    (ran : after ≡ run m (replicate count Turn)) where
   abbrev still_chain : Chain
   still_chain = chain_of base slots parts m.program.grants
 
@@ -74,4 +80,5 @@ module _ (base slots : ℕ) (parts : List PartWords) (patching : Patching) (m af
       let alike = ap (with_program words) ran ∙ still_alike count words m here in
       stepped_state base slots parts patching m after (replicate count Turn) ran alike
       ∙ ap (λ (live : Live). record { chain = still_chain; live = live })
-      (machine_steps still_chain (live_of still_chain patching m) (replicate count Turn) ∙ sym (plain_turns still_chain (live_of still_chain patching m) count))
+      (machine_steps still_chain (live_of still_chain patching m) (replicate count Turn)
+      ∙ sym (plain_turns still_chain (live_of still_chain patching m) count))

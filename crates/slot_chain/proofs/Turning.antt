@@ -1,5 +1,6 @@
 -- A turn of a chain: with the program of the slot's part in the machine it is one over the words as they are now.
-use Rattle.std.proofs.Common.{◌≡◌, ℕ, ◌+◌, ◌-◌, ◌*◌, ◌/◌, ◌%◌, ◌<◌, ◌≤◌, inl, inr, Bool, true, false, ◌&&◌, List, Option, Some, None, refl, sym, ap, subst, ◌∙◌, arith, if◌then◌else◌, ◌==◌, nat_le, nat_lt}
+use Rattle.std.proofs.Common.{◌≡◌, ℕ, ◌+◌, ◌-◌, ◌*◌, ◌/◌, ◌%◌, ◌<◌, ◌≤◌, inl, inr, Bool, true, false, ◌&&◌, List, Option, Some, None, refl}
+use Rattle.std.proofs.Common.{sym, ap, subst, ◌∙◌, arith, if◌then◌else◌, ◌==◌, nat_le, nat_lt}
 use Rattle.std.proofs.lemmas.Bool.{and_from, both_ways, le-leb, lt-ltb, eq-eqb, leb-true, ltb-true, eqb-true}
 use Rattle.machine_model.specs.declared.Job.{Job}
 use Rattle.machine_model.specs.declared.Job.TheVariants.{Idle, Waiting, Running}
@@ -77,7 +78,8 @@ no_slot base slots address none slot lt at =
 
 -- ---- the program that comes into the machine
 
-module _ (base slots : ℕ) (parts : List PartWords) (patching : Patching) (m : State) (programs : List RiscProgram) (current : Option ℕ) where
+module _ (base slots : ℕ) (parts : List PartWords) (patching : Patching) (m : State) (programs : List RiscProgram)
+    (current : Option ℕ) where
   abbrev chain : Chain
   chain = chain_of base slots parts m.program.grants
 
@@ -102,8 +104,12 @@ module _ (base slots : ℕ) (parts : List PartWords) (patching : Patching) (m : 
         record {
           wheel = wheel;
           there = Belongs-IsPart chain slot (part_at patching slot) belongs;
-          home = safe_at_slot chain wheel.is wheel.sound current None slot m there.below fetch.idle (fetch.here ∙ there.here) wheel.part tt safe;
-          safe = safe_at_slot chain wheel.is wheel.sound current (part_at patching slot) slot m there.below fetch.idle (fetch.here ∙ there.here) wheel.part belongs safe;
+          home =
+              safe_at_slot chain wheel.is wheel.sound current None slot m there.below fetch.idle
+              (fetch.here ∙ there.here) wheel.part tt safe;
+          safe =
+              safe_at_slot chain wheel.is wheel.sound current (part_at patching slot) slot m there.below fetch.idle
+              (fetch.here ∙ there.here) wheel.part belongs safe;
         }
 
     pub enters_at : (next : Option ℕ) → next ≡ next_fetch m → EntersAt chain (slot_of base slots next) patching m programs current
@@ -111,27 +117,32 @@ module _ (base slots : ℕ) (parts : List PartWords) (patching : Patching) (m : 
     enters_at (Some address) e = enters_by (is_slot base slots address) address refl (sym e)
 
     -- for the slot and the patching that the code has
-    pub can_enter : (next slot : Option ℕ) (list : Patching) → next ≡ next_fetch m → slot ≡ slot_of base slots next → list ≡ patching → EntersAt chain slot list m programs current
+    pub can_enter : (next slot : Option ℕ) (list : Patching) → next ≡ next_fetch m → slot ≡ slot_of base slots next → list ≡ patching →
+        EntersAt chain slot list m programs current
     can_enter next slot list fetched is same =
         subst (λ (s : Option ℕ). EntersAt chain s list m programs current) (sym is)
         (subst (λ (ps : Patching). EntersAt chain (slot_of base slots next) ps m programs current) (sym same) (enters_at next fetched))
 
-    came : (next slot : Option ℕ) (list : Patching) (middle : State) (kept : List RiscProgram) (now : Option ℕ) → next ≡ next_fetch m → slot ≡ slot_of base slots next → list ≡ patching →
-        ((c : Chain) → EntersAt c slot list m programs current → EnteredAt c slot list m middle kept now) → EnteredAt chain (slot_of base slots next) patching m middle kept now
+    came : (next slot : Option ℕ) (list : Patching) (middle : State) (kept : List RiscProgram) (now : Option ℕ) → next ≡ next_fetch m →
+        slot ≡ slot_of base slots next → list ≡ patching →
+        ((c : Chain) → EntersAt c slot list m programs current → EnteredAt c slot list m middle kept now) →
+        EnteredAt chain (slot_of base slots next) patching m middle kept now
     came next slot list middle kept now fetched is same enters =
         subst (λ (ps : Patching). EnteredAt chain (slot_of base slots next) ps m middle kept now) same
         (subst (λ (s : Option ℕ). EnteredAt chain s list m middle kept now) is (enters chain (can_enter next slot list fetched is same)))
 
     -- ---- what the turn fetches then
 
-    stands_behind : (address : ℕ) → NoSlot base slots address → Stands chain wheel.is wheel.sound address → slot_at chain chain.slots ≤ address
+    stands_behind : (address : ℕ) → NoSlot base slots address → Stands chain wheel.is wheel.sound address →
+        slot_at chain chain.slots ≤ address
     stands_behind address none (inl slot) = absurd (none slot.0 slot.1 slot.2)
     stands_behind address none (inr low) = low
 
     alike_behind : ((address : ℕ) → next_fetch m ≡ Some address → NoSlot base slots address) → IsReadAlike m words
     alike_behind none on idle =
         let next = fetches_idle m.risc_on m.job m.pc on idle in
-        let low = stands_behind m.pc (none m.pc next) (idle_stands chain wheel.is wheel.sound patching good m current wheel.part safe idle) in
+        let low =
+        stands_behind m.pc (none m.pc next) (idle_stands chain wheel.is wheel.sound patching good m current wheel.part safe idle) in
         subst (λ (p : RiscProgram). AreFetchedAlike m.pc p words) (sym wheel.runs)
         (behind_alike chain (alone_in chain current) patching (length-alone chain current) good.long m.pc low)
 
@@ -149,7 +160,8 @@ module _ (base slots : ℕ) (parts : List PartWords) (patching : Patching) (m : 
           alike = subst (λ (s : State). IsReadAlike s words) (sym e) (alike_behind none);
         }
 
-    ready_by : (b : Bool) (address : ℕ) (after : State) (kept : List RiscProgram) (now : Option ℕ) → is_slot base slots address ≡ b → next_fetch m ≡ Some address →
+    ready_by : (b : Bool) (address : ℕ) (after : State) (kept : List RiscProgram) (now : Option ℕ) → is_slot base slots address ≡ b →
+        next_fetch m ≡ Some address →
         EnteredAt chain (if b then Some ((address - base) / 8) else None) patching m after kept now → IsReady m after kept now
     ready_by false address after kept now e next entered =
         ready_behind after kept now entered.0 entered.1
@@ -169,13 +181,17 @@ module _ (base slots : ℕ) (parts : List PartWords) (patching : Patching) (m : 
 
     ready : (next : Option ℕ) (after : State) (kept : List RiscProgram) (now : Option ℕ) → next ≡ next_fetch m →
         EnteredAt chain (slot_of base slots next) patching m after kept now → IsReady m after kept now
-    ready None after kept now e entered = ready_behind after kept now entered.0 entered.1 (λ address there. absurd (none_some address (e ∙ there)))
+    ready None after kept now e entered =
+        ready_behind after kept now entered.0 entered.1 (λ address there. absurd (none_some address (e ∙ there)))
     ready (Some address) after kept now e entered = ready_by (is_slot base slots address) address after kept now refl (sym e) entered
 
     -- ---- the turn
 
-    module _ (next slot : Option ℕ) (list : Patching) (middle after : State) (kept : List RiscProgram) (now : Option ℕ) (fetched : next ≡ next_fetch m) (is : slot ≡ slot_of base slots next)
-        (same_list : list ≡ patching) (enters : (c : Chain) → EntersAt c slot list m programs current → EnteredAt c slot list m middle kept now) (made : after ≡ turn middle) where
+    module _ (next slot : Option ℕ) (list : Patching) (middle after : State) (kept : List RiscProgram) (now : Option ℕ)
+        (fetched : next ≡ next_fetch m) (is : slot ≡ slot_of base slots next)
+        (same_list : list ≡ patching)
+        (enters : (c : Chain) → EntersAt c slot list m programs current → EnteredAt c slot list m middle kept now)
+        (made : after ≡ turn middle) where
       in_machine : IsReady m middle kept now
       in_machine = ready next middle kept now fetched (came next slot list middle kept now fetched is same_list enters)
 
@@ -197,7 +213,8 @@ module _ (base slots : ℕ) (parts : List PartWords) (patching : Patching) (m : 
       turn_machine =
           ap (with_program words) made ∙ sym (turn-with_program middle words in_machine.alike) ∙ ap turn (in_machine.same words)
 
-      pub turn_state : state_of (chain_of base slots parts after.program.grants) patching after ≡ lived (Plain Turn) (state_of chain patching m)
+      pub turn_state : state_of (chain_of base slots parts after.program.grants) patching after
+          ≡ lived (Plain Turn) (state_of chain patching m)
       turn_state =
           ap (λ g. state_of (chain_of base slots parts g) patching after) grants_stay
           ∙ ap (λ (s : State). record { chain = chain; live = record { patching = patching; machine = s } }) turn_machine

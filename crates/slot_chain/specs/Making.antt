@@ -1,5 +1,6 @@
 -- When a chain can be made, and what is reported where it can't.
-use Rattle.std.specs.Prelude.{◌≡◌, ℕ, ⊤, ◌+◌, ◌*◌, ◌%◌, ◌<◌, ◌≤◌, ◌||◌, ◌==◌, Bool, false, List, length, Option, Some, None, if◌then◌else◌, nat_lt, slice_index_or}
+use Rattle.std.specs.Prelude.{◌≡◌, ℕ, ⊤, ◌+◌, ◌*◌, ◌%◌, ◌<◌, ◌≤◌, ◌||◌, ◌==◌, Bool, false, List, length, Option, Some, None, if◌then◌else◌}
+use Rattle.std.specs.Prelude.{nat_lt, slice_index_or}
 use Rattle.std.specs.List.{list_any}
 use Rattle.machine_model.specs.Paths.{IsFirstBad, IsSound, RiscProgram, max_words, shares_byte}
 use Rattle.page_table.specs.Grants.{Chunk, is_met}

@@ -40,7 +40,8 @@ impl<R: Ram> Model for Chain<R> {
     ghost view = { λ c. state_of (chain_of c.base c.slots c.parts.items c.wheel.machine.program.grants) c.patching.items c.wheel.machine };
 
     ghost invariant = { λ c.
-        IsWheel (chain_of c.base c.slots c.parts.items c.wheel.machine.program.grants) c.wheel.machine.program c.wheel.programs.items c.wheel.current
+        IsWheel (chain_of c.base c.slots c.parts.items c.wheel.machine.program.grants) c.wheel.machine.program c.wheel.programs.items
+        c.wheel.current
         × IsPatching (chain_of c.base c.slots c.parts.items c.wheel.machine.program.grants) c.patching.items };
 }
 
@@ -73,7 +74,8 @@ impl<R: Ram + Drop> Chain<R> {
         ensures first { IfOk result (λ c. c ≡ first_chain (chain_of base slots parts.items grants) (R.memory ram)) }
         ensures sound { IfOk result (λ c. IsChain c.chain × IsSoundChain c.chain) }
         ensures refused { IfErr result (Refuses (chain_of base slots parts.items grants)) }
-        ensures cost { (steps.old ≤ steps.new) × (steps.new ≤ steps.old + (length parts.items + 1) * (2 * word_count (chain_of base slots parts.items grants) + 1)) }
+        ensures cost { (steps.old ≤ steps.new)
+            × (steps.new ≤ steps.old + (length parts.items + 1) * (2 * word_count (chain_of base slots parts.items grants) + 1)) }
     {
         let programs = judge_chain(alloc, base, slots, &parts, &grants, steps)?;
         let patching = no_parts(alloc, slots)?;

@@ -1,11 +1,13 @@
 //! Making a chain: its words, their place, and the sound program of each part.
 
-ghost use Rattle.std.specs.Prelude.{◌≡◌, ◌+◌, ◌*◌, ◌<◌, ◌≤◌, ◌^◌, ◌++◌, IfErr, IfOk, OnOk, List, length, slice_set, if◌then◌else◌, nat_le, Some, None};
+ghost use Rattle.std.specs.Prelude.{◌≡◌, ◌+◌, ◌*◌, ◌<◌, ◌≤◌, ◌^◌, ◌++◌, IfErr, IfOk, OnOk, List, length, slice_set, if◌then◌else◌, nat_le};
+ghost use Rattle.std.specs.Prelude.{Some, None};
 ghost use Rattle.std.specs.List.{All, list_any};
 ghost use Rattle.std.specs.Result.{result_err};
 ghost use Rattle.page_table.specs.Grants.{Chunk, is_met};
 ghost use Rattle.machine_model.specs.Paths.{IsSound, max_words, one_span};
-ghost use Rattle.chain_model.specs.Chains.{Chain as ChainOf, alone, loop_words, max_parts, max_slots, patched_words, unpatched, words_of_parts};
+ghost use Rattle.chain_model.specs.Chains.{Chain as ChainOf, alone, loop_words, max_parts, max_slots, patched_words, unpatched};
+ghost use Rattle.chain_model.specs.Chains.{words_of_parts};
 ghost use Rattle.risc_verify.specs.Verdicts.{Refuses as RefusesProgram};
 ghost use Rattle.slot_chain.specs.Making.{AreAlone, IsPlaced, Refuses, RefusesPart, place_fault, refusal, word_count};
 ghost use Rattle.slot_chain.specs.States.{chain_of};
@@ -53,7 +55,8 @@ const JUMP: u32 = 0x7000_0000;
 /// How many words a chain has; none where there are more than a program may have.
 fn count_words(slots: u32, parts: &[PartWords]) -> Option<u32>
     requires { slots ≤ max_slots }
-    ensures { result ≡ (if nat_le (2 * slots + 2 + length (words_of_parts parts.now)) max_words then Some (2 * slots + 2 + length (words_of_parts parts.now)) else None) }
+    ensures { result ≡ (if nat_le (2 * slots + 2 + length (words_of_parts parts.now)) max_words
+        then Some (2 * slots + 2 + length (words_of_parts parts.now)) else None) }
 {
     let mut count = 2 * slots + 2;
     for part in parts {
@@ -69,7 +72,8 @@ fn count_words(slots: u32, parts: &[PartWords]) -> Option<u32>
 /// Appends the JUMPs of the slots, each to the next one, and the JUMP to the base.
 fn push_loop(base: u32, slots: u32, out: &mut Vec<u32>) -> Result<(), AllocError>
     requires { base + 8 * (slots + 1) < 2 ^ 32 }
-    ensures { OnOk result ((chain : ChainOf) → chain.base ≡ base → chain.slots ≡ slots → out.new.items ≡ out.old.items ++ loop_words chain 0 (unpatched chain)) }
+    ensures { OnOk result ((chain : ChainOf) → chain.base ≡ base → chain.slots ≡ slots →
+        out.new.items ≡ out.old.items ++ loop_words chain 0 (unpatched chain)) }
 {
     for slot in 0..slots {
         out.push(JUMP)?;
@@ -142,7 +146,8 @@ fn empty_words(
     parts: &[PartWords],
 ) -> Result<Vec<u32>, AllocError>
     requires { base + 8 * (slots + 1) < 2 ^ 32 }
-    ensures { IfOk result (λ words. (grants : List Chunk) → let chain = chain_of base slots parts.now grants in words.items ≡ patched_words chain (unpatched chain)) }
+    ensures { IfOk result (λ words. (grants : List Chunk) → let chain = chain_of base slots parts.now grants in
+        words.items ≡ patched_words chain (unpatched chain)) }
 {
     let mut words = Vec::new(alloc);
     push_loop(base, slots, &mut words)?;
@@ -282,7 +287,8 @@ pub(crate) fn judge_chain<L: Ledger>(
     ensures empty { IfOk result (λ programs. programs.empty ≡ alone (chain_of base slots parts.now grants.now) None) }
     ensures with_part { IfOk result (λ programs. AreAlone (chain_of base slots parts.now grants.now) programs.with_part.items) }
     ensures refused { IfErr result (Refuses (chain_of base slots parts.now grants.now)) }
-    ensures cost { (steps.old ≤ steps.new) × (steps.new ≤ steps.old + (length parts.now + 1) * (2 * word_count (chain_of base slots parts.now grants.now) + 1)) }
+    ensures cost { (steps.old ≤ steps.new)
+        × (steps.new ≤ steps.old + (length parts.now + 1) * (2 * word_count (chain_of base slots parts.now grants.now) + 1)) }
 {
     judge_place(base, slots, parts, grants)?;
     let words = empty_words(alloc, base, slots, parts)?;

@@ -25,7 +25,8 @@ impl<R: Ram> Wheel<R> {
     fn exchange(&mut self, part: u32)
         requires inside { part < length self.old.programs.items }
         requires can { CanGoOn (slice_index_or self.old.programs.items part self.old.machine.program) self.old.machine }
-        ensures machine { self.new.machine ≡ with_program (slice_index_or self.old.programs.items part self.old.machine.program) self.old.machine }
+        ensures machine { self.new.machine
+            ≡ with_program (slice_index_or self.old.programs.items part self.old.machine.program) self.old.machine }
         ensures programs { self.new.programs.items ≡ slice_set self.old.programs.items part self.old.machine.program }
         ensures current { self.new.current ≡ self.old.current }
     {

@@ -1,5 +1,6 @@
 -- What is spelled is read back.
-use Rattle.std.proofs.Common.{◌≡◌, ℕ, ◌+◌, ◌^◌, ◌<◌, ◌≤◌, ◌⊎◌, inl, inr, Bool, true, false, not, ◌&&◌, ◌||◌, List, [], ◌∷◌, ◌++◌, length, take, Some, Ok, refl, ap, ◌∙◌, arith}
+use Rattle.std.proofs.Common.{◌≡◌, ℕ, ◌+◌, ◌^◌, ◌<◌, ◌≤◌, ◌⊎◌, inl, inr, Bool, true, false, not, ◌&&◌, ◌||◌, List, [], ◌∷◌, ◌++◌, length}
+use Rattle.std.proofs.Common.{take, Some, Ok, refl, ap, ◌∙◌, arith}
 use Rattle.std.specs.Prelude.{nat_le, ◌==◌}
 use Rattle.std.specs.List.{All, flat_map}
 use Rattle.std.proofs.lemmas.Bool.{lt-ltb}
@@ -20,7 +21,8 @@ use Rattle.capture_file.specs.declared.records.Form.{Form}
 use Rattle.capture_file.specs.declared.records.Form.TheVariants.{Bfs1, Bfs2, Bfs3}
 use Rattle.capture_file.specs.declared.records.Found.{Found}
 use Rattle.capture_file.specs.declared.records.Found.TheVariants.{Whole}
-use Rattle.capture_file.specs.Streams.{Ended, Reading, data_with, is_buffer, is_data, judged, most_turns, number_at, push_if, reading, record_at, records, slot_if, steps_of, stream_of, trigger_if}
+use Rattle.capture_file.specs.Streams.{Ended, Reading, data_with, is_buffer, is_data, judged, most_turns, number_at, push_if, reading}
+use Rattle.capture_file.specs.Streams.{record_at, records, slot_if, steps_of, stream_of, trigger_if}
 use Rattle.capture_file.specs.Streams.{turns_if, turns_of, whole_file, with_step, ack_with, turns_with, buffer_if}
 use Rattle.capture_file.proofs.Readings.{front_of, records-front}
 use Rattle.capture_file.proofs.Answered.{not-over}
@@ -35,7 +37,8 @@ is_data_status : (status : ℕ) → status < 16 → is_control (kind_of status) 
 is_data_status status low none =
     ap (λ (test : Bool). test && not (is_control (kind_of status))) (lt-ltb status 16 low) ∙ ap not none
 
-pushed_back : (queue : Queue) (entry : Entry) (rest : List ℕ) → entry.status < 16 → is_control (kind_of entry.status) ≡ false → entry.dword < 2 ^ 32 →
+pushed_back : (queue : Queue) (entry : Entry) (rest : List ℕ) → entry.status < 16 → is_control (kind_of entry.status) ≡ false →
+    entry.dword < 2 ^ 32 →
     push_if (is_data entry.status) queue entry.status (little_bytes 4 entry.dword ++ rest) ≡ Whole (Push queue entry) 6
 pushed_back queue entry rest low none fits =
     ap (λ (test : Bool). push_if test queue entry.status (little_bytes 4 entry.dword ++ rest)) (is_data_status entry.status low none)
@@ -96,18 +99,24 @@ records_back form turns place (step ∷ steps) are few =
     let len : ℕ = length (record_bytes step) in
     ap (records form turns place 0) (append_assoc (record_bytes step) (flat_map record_bytes steps) (0 ∷ []))
     ∙ records-front form turns place (record_bytes step ++ later)
-    ∙ ap (λ (found : Found). front_of found form turns place (record_bytes step ++ later)) (record_back form turns step later (All-head (IsRecord form) step steps are) now)
-    ∙ ap (λ (bytes : List ℕ). with_step step (records form (turns + turns_of step) (place + len) 0 bytes)) (drop-append_seam (record_bytes step) later)
+    ∙ ap (λ (found : Found). front_of found form turns place (record_bytes step ++ later))
+    (record_back form turns step later (All-head (IsRecord form) step steps are) now)
+    ∙ ap (λ (bytes : List ℕ). with_step step (records form (turns + turns_of step) (place + len) 0 bytes))
+    (drop-append_seam (record_bytes step) later)
     ∙ ap (with_step step) (records_back form (turns + turns_of step) (place + len) steps (All-tail (IsRecord form) step steps are) on)
 
 -- ---- the file
 
-judged_back : (form : Form) (steps : List Step) → AreRecords form steps → judged (is_chained form) (spelled form steps) ≡ reading (first_steps form ++ steps) Ended
+judged_back : (form : Form) (steps : List Step) → AreRecords form steps →
+    judged (is_chained form) (spelled form steps) ≡ reading (first_steps form ++ steps) Ended
 judged_back Bfs1 steps are = records_back Bfs1 0 4 steps are.each (let few = are.few in omega (arith, few))
-judged_back Bfs2 steps are = ap (with_step (Host (Trigger 0))) (records_back Bfs2 0 4 steps are.each (let few = are.few in omega (arith, few)))
-judged_back Bfs3 steps are = ap (with_step (Host (Trigger 0))) (records_back Bfs3 0 4 steps are.each (let few = are.few in omega (arith, few)))
+judged_back Bfs2 steps are =
+    ap (with_step (Host (Trigger 0))) (records_back Bfs2 0 4 steps are.each (let few = are.few in omega (arith, few)))
+judged_back Bfs3 steps are =
+    ap (with_step (Host (Trigger 0))) (records_back Bfs3 0 4 steps are.each (let few = are.few in omega (arith, few)))
 
-pub stream_back : (limit : ℕ) (chained : Bool) (bytes : List ℕ) → length bytes ≤ limit → stream_of limit chained bytes ≡ judged chained bytes
+pub stream_back : (limit : ℕ) (chained : Bool) (bytes : List ℕ) → length bytes ≤ limit →
+    stream_of limit chained bytes ≡ judged chained bytes
 unfolding stream_of
 stream_back limit chained bytes short =
     not-over limit (length bytes) (judged chained (take limit bytes)) short ∙ ap (judged chained) (take_all limit bytes short)

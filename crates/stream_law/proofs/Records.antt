@@ -1,5 +1,6 @@
 -- Bytes that are read as records without a fault spell these records.
-use Rattle.std.proofs.Common.{◌≡◌, ℕ, zero, suc, ◌+◌, ◌<◌, ◌≤◌, ◌⊎◌, inl, inr, Bool, true, false, cond, not, ◌||◌, List, [], ◌∷◌, ◌++◌, length, length-drop, drop, Option, Some, None, refl, sym, ap, subst, ◌∙◌, arith}
+use Rattle.std.proofs.Common.{◌≡◌, ℕ, zero, suc, ◌+◌, ◌<◌, ◌≤◌, ◌⊎◌, inl, inr, Bool, true, false, cond, not, ◌||◌, List, [], ◌∷◌, ◌++◌}
+use Rattle.std.proofs.Common.{length, length-drop, drop, Option, Some, None, refl, sym, ap, subst, ◌∙◌, arith}
 use Rattle.std.specs.Prelude.{nat_lt, nat_le, ◌==◌}
 use Rattle.std.specs.List.{All, flat_map}
 use Rattle.std.proofs.lemmas.Bool.{and_parts, ltb-true, leb-true, eqb-true, not-true}
@@ -20,8 +21,10 @@ use Rattle.capture_file.specs.declared.records.RecordKind.TheVariants as kind
 use Rattle.capture_file.specs.declared.records.Found.{Found}
 use Rattle.capture_file.specs.declared.records.Found.TheVariants.{Cut, Wrong, Last, Whole}
 use Rattle.capture_file.specs.Records.{Spans}
-use Rattle.capture_file.specs.Streams.{Ending, Unfinished, Ended, Bad, Reading, ack_with, after_end, buffer_if, control_at, control_with, data_with, enable_at, enable_if, fields_at, is_buffer}
-use Rattle.capture_file.specs.Streams.{is_data, kind_of_tag, most_turns, number_at, patch_at, patch_in, push_at, push_if, record_at, records, slot_if, trigger_at, trigger_if, trigger_in, turns_if}
+use Rattle.capture_file.specs.Streams.{Ending, Unfinished, Ended, Bad, Reading, ack_with, after_end, buffer_if, control_at, control_with}
+use Rattle.capture_file.specs.Streams.{data_with, enable_at, enable_if, fields_at, is_buffer}
+use Rattle.capture_file.specs.Streams.{is_data, kind_of_tag, most_turns, number_at, patch_at, patch_in, push_at, push_if, record_at}
+use Rattle.capture_file.specs.Streams.{records, slot_if, trigger_at, trigger_if, trigger_in, turns_if}
 use Rattle.capture_file.specs.Streams.{turns_of, turns_with}
 use Rattle.capture_file.proofs.Chunks.{IsBytes, IsBytes-drop}
 use Rattle.capture_file.proofs.Fields.{record_at-spans}
@@ -44,7 +47,8 @@ IsTagged form kind.Trigger tag = (tag ≡ 8) × (has_triggers form ≡ true)
 IsTagged form kind.Patch tag = (tag ≡ 9) × (has_patches form ≡ true)
 IsTagged form kind.Unknown tag = Unit {0}
 
-tagged_if : (form : Form) (tag : ℕ) (here rest : RecordKind) (test : Bool) → (test ≡ true → IsTagged form here tag) → IsTagged form rest tag →
+tagged_if : (form : Form) (tag : ℕ) (here rest : RecordKind) (test : Bool) → (test ≡ true → IsTagged form here tag) →
+    IsTagged form rest tag →
     IsTagged form (cond test here rest) tag
 tagged_if form tag here rest true at_true at_false = at_true refl
 tagged_if form tag here rest false at_true at_false = at_false
@@ -97,7 +101,8 @@ data_status status is =
     let parts = and_parts (nat_lt status 16) (not (is_control (kind_of status))) is in
     (ltb-true status 16 parts.0, not-true (is_control (kind_of status)) parts.1)
 
-push_four : (form : Form) (queue : Queue) (status turns : ℕ) (more : List ℕ) → (status < 16) × (is_control (kind_of status) ≡ false) → IsBytes more →
+push_four : (form : Form) (queue : Queue) (status turns : ℕ) (more : List ℕ) → (status < 16) × (is_control (kind_of status) ≡ false) →
+    IsBytes more →
     Fronts form turns (push_tag queue ∷ status ∷ more) (data_with queue status (number_at more))
 push_four form queue status turns [] is fits = tt
 push_four form queue status turns (a ∷ []) is fits = tt
@@ -115,11 +120,14 @@ push_front : (form : Form) (queue : Queue) (status turns : ℕ) (more : List ℕ
 push_front form queue status turns more true is fits = push_four form queue status turns more (data_status status is) fits
 push_front form queue status turns more false is fits = tt
 
-push_fronts : (form : Form) (queue : Queue) (turns : ℕ) (rest : List ℕ) → IsBytes rest → Fronts form turns (push_tag queue ∷ rest) (push_at queue rest)
+push_fronts : (form : Form) (queue : Queue) (turns : ℕ) (rest : List ℕ) → IsBytes rest →
+    Fronts form turns (push_tag queue ∷ rest) (push_at queue rest)
 push_fronts form queue turns [] fits = tt
-push_fronts form queue turns (status ∷ more) fits = push_front form queue status turns more (is_data status) refl (IsBytes-drop 1 (status ∷ more) fits)
+push_fronts form queue turns (status ∷ more) fits =
+    push_front form queue status turns more (is_data status) refl (IsBytes-drop 1 (status ∷ more) fits)
 
-turns_front : (form : Form) (turns count : ℕ) (a b c d : ℕ) (rest : List ℕ) (test : Bool) → count ≡ little_number 4 (a ∷ b ∷ c ∷ d ∷ []) → nat_le (turns + count) most_turns ≡ test →
+turns_front : (form : Form) (turns count : ℕ) (a b c d : ℕ) (rest : List ℕ) (test : Bool) → count ≡ little_number 4 (a ∷ b ∷ c ∷ d ∷ []) →
+    nat_le (turns + count) most_turns ≡ test →
     IsBytes (a ∷ b ∷ c ∷ d ∷ rest) → Fronts form turns (5 ∷ a ∷ b ∷ c ∷ d ∷ rest) (turns_if test count)
 turns_front form turns count a b c d rest true is few fits =
     λ most. record {
@@ -146,14 +154,16 @@ ack_fronts form turns (a ∷ b ∷ c ∷ []) fits = tt
 ack_fronts form turns (a ∷ b ∷ c ∷ d ∷ rest) fits =
     λ few. record { parts = number_front (6 ∷ []) a b c d rest fits; is = number_low a b c d rest fits; few = omega arith }
 
-enables_front : (form : Form) (turns enables : ℕ) (more : List ℕ) → enables < 4 → Fronts form turns (7 ∷ enables ∷ more) (enable_if true enables)
+enables_front : (form : Form) (turns enables : ℕ) (more : List ℕ) → enables < 4 →
+    Fronts form turns (7 ∷ enables ∷ more) (enable_if true enables)
 enables_front form turns zero more low = λ few. record { parts = refl; is = tt; few = omega arith }
 enables_front form turns (suc zero) more low = λ few. record { parts = refl; is = tt; few = omega arith }
 enables_front form turns (suc (suc zero)) more low = λ few. record { parts = refl; is = tt; few = omega arith }
 enables_front form turns (suc (suc (suc zero))) more low = λ few. record { parts = refl; is = tt; few = omega arith }
 enables_front form turns (suc (suc (suc (suc n)))) more low = absurd (omega arith)
 
-enable_front : (form : Form) (turns enables : ℕ) (more : List ℕ) (test : Bool) → nat_lt enables 4 ≡ test → Fronts form turns (7 ∷ enables ∷ more) (enable_if test enables)
+enable_front : (form : Form) (turns enables : ℕ) (more : List ℕ) (test : Bool) → nat_lt enables 4 ≡ test →
+    Fronts form turns (7 ∷ enables ∷ more) (enable_if test enables)
 enable_front form turns enables more true low = enables_front form turns enables more (ltb-true enables 4 low)
 enable_front form turns enables more false low = tt
 
@@ -174,7 +184,8 @@ is_one : (buffer : ℕ) (test : Bool) → nat_lt buffer 2 ≡ test → (test || 
 is_one buffer true low is = inl (ltb-true buffer 2 low)
 is_one buffer false low is = inr (eqb-true buffer 255 is)
 
-buffer_front : (form : Form) (turns slot buffer : ℕ) (more : List ℕ) (test : Bool) → has_patches form ≡ true → slot < 2 → is_buffer buffer ≡ test →
+buffer_front : (form : Form) (turns slot buffer : ℕ) (more : List ℕ) (test : Bool) → has_patches form ≡ true → slot < 2 →
+    is_buffer buffer ≡ test →
     Fronts form turns (9 ∷ slot ∷ buffer ∷ more) (buffer_if test slot buffer)
 buffer_front form turns slot buffer more true has low is =
     λ few. record { parts = refl; is = (has, low, is_one buffer (nat_lt buffer 2) refl is); few = omega arith }
@@ -197,7 +208,8 @@ abbrev NamesCode : ℕ → Option Code → Type 0
 NamesCode number None = Unit {0}
 NamesCode number (Some code) = code_number code ≡ number
 
-named_if : (number : ℕ) (code : Code) (rest : Option Code) (test : Bool) → (test ≡ true → code_number code ≡ number) → NamesCode number rest →
+named_if : (number : ℕ) (code : Code) (rest : Option Code) (test : Bool) → (test ≡ true → code_number code ≡ number) →
+    NamesCode number rest →
     NamesCode number (cond test (Some code) rest)
 named_if number code rest true at_true at_false = at_true refl
 named_if number code rest false at_true at_false = at_false
@@ -209,7 +221,8 @@ code_named number =
     (named_if number Vro _ (number == 12) (λ e. sym (eqb-true number 12 e))
     (named_if number Fm3 None (number == 14) (λ e. sym (eqb-true number 14 e)) tt)))
 
-code_front : (form : Form) (turns number : ℕ) (more : List ℕ) (found : Option Code) → NamesCode number found → Fronts form turns (4 ∷ number ∷ more) (control_with number found)
+code_front : (form : Form) (turns number : ℕ) (more : List ℕ) (found : Option Code) → NamesCode number found →
+    Fronts form turns (4 ∷ number ∷ more) (control_with number found)
 code_front form turns number more (Some code) same =
     λ few. record { parts = ap (λ (n : ℕ). 4 ∷ n ∷ more) (sym same); is = tt; few = omega arith }
 code_front form turns number more None same = tt
@@ -219,7 +232,8 @@ code_fronts form turns [] = tt
 code_fronts form turns (number ∷ more) = code_front form turns number more (code_numbered number) (code_named number)
 
 -- a record by its kind
-kind_fronts : (form : Form) (kind : RecordKind) (tag turns : ℕ) (rest : List ℕ) → IsTagged form kind tag → IsBytes rest → Fronts form turns (tag ∷ rest) (fields_at kind tag turns rest)
+kind_fronts : (form : Form) (kind : RecordKind) (tag turns : ℕ) (rest : List ℕ) → IsTagged form kind tag → IsBytes rest →
+    Fronts form turns (tag ∷ rest) (fields_at kind tag turns rest)
 kind_fronts form kind.End tag turns rest is fits = ap (λ (n : ℕ). n ∷ rest) is
 kind_fronts form (kind.Push queue) tag turns rest is fits =
     subst (λ (n : ℕ). Fronts form turns (n ∷ rest) (push_at queue rest)) (sym is) (push_fronts form queue turns rest fits)
@@ -255,15 +269,18 @@ IsEnded Unfinished = false
 IsEnded Ended = true
 IsEnded (Bad fault) = false
 
-last_spells : (form : Form) (turns place : ℕ) (bytes rest : List ℕ) → turns ≤ most_turns → bytes ≡ 0 ∷ rest → after_end place rest ≡ Ended → AreSpelled form turns bytes []
+last_spells : (form : Form) (turns place : ℕ) (bytes rest : List ℕ) → turns ≤ most_turns → bytes ≡ 0 ∷ rest → after_end place rest ≡ Ended →
+    AreSpelled form turns bytes []
 last_spells form turns place bytes [] few is ended =
     record { each = All-nil (IsRecord form); few = omega arith; same = is }
 last_spells form turns place bytes (byte ∷ rest) few is ended = absurd (let no : false ≡ true = ap IsEnded ended in cc)
 
 -- the record at the front, and those after it
 found_spells : (form : Form) (turns place : ℕ) (bytes : List ℕ) (found : Found) → turns ≤ most_turns → Fronts form turns bytes found →
-    ((step : Step) (len : ℕ) → found ≡ Whole step len → (records form (turns + turns_of step) (place + len) 0 (drop len bytes)).ending ≡ Ended → turns + turns_of step ≤ most_turns →
-    AreSpelled form (turns + turns_of step) (drop len bytes) (records form (turns + turns_of step) (place + len) 0 (drop len bytes)).steps) →
+    ((step : Step) (len : ℕ) → found ≡ Whole step len →
+    (records form (turns + turns_of step) (place + len) 0 (drop len bytes)).ending ≡ Ended → turns + turns_of step ≤ most_turns →
+    AreSpelled form (turns + turns_of step) (drop len bytes)
+    (records form (turns + turns_of step) (place + len) 0 (drop len bytes)).steps) →
     (front_of found form turns place bytes).ending ≡ Ended → AreSpelled form turns bytes (front_of found form turns place bytes).steps
 found_spells form turns place bytes Cut few fronts later ended = absurd (let no : false ≡ true = ap IsEnded ended in cc)
 found_spells form turns place bytes (Wrong from to fault) few fronts later ended = absurd (let no : false ≡ true = ap IsEnded ended in cc)
@@ -293,7 +310,8 @@ records_spell form zero turns place bytes short few fits ended =
     let front = records-front form turns place bytes in
     subst (λ (r : Reading). AreSpelled form turns bytes r.steps) (sym front)
     (found_spells form turns place bytes (record_at form turns bytes) few (record_fronts form turns bytes fits)
-    (λ step len is later fewer. absurd (let within = whole_spans (record_at form turns bytes) step len (length bytes) is (record_at-spans form turns bytes) in omega arith))
+    (λ step len is later fewer. absurd
+    (let within = whole_spans (record_at form turns bytes) step len (length bytes) is (record_at-spans form turns bytes) in omega arith))
     (sym (ap (λ (r : Reading). r.ending) front) ∙ ended))
 records_spell form (suc most) turns place bytes short few fits ended =
     let front = records-front form turns place bytes in
@@ -301,5 +319,6 @@ records_spell form (suc most) turns place bytes short few fits ended =
     (found_spells form turns place bytes (record_at form turns bytes) few (record_fronts form turns bytes fits)
     (λ step len is later fewer.
     let within = whole_spans (record_at form turns bytes) step len (length bytes) is (record_at-spans form turns bytes) in
-    records_spell form most (turns + turns_of step) (place + len) (drop len bytes) (omega (arith, length-drop len bytes, within.0, within.1)) fewer (IsBytes-drop len bytes fits) later)
+    records_spell form most (turns + turns_of step) (place + len) (drop len bytes)
+    (omega (arith, length-drop len bytes, within.0, within.1)) fewer (IsBytes-drop len bytes fits) later)
     (sym (ap (λ (r : Reading). r.ending) front) ∙ ended))

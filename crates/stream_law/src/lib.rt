@@ -6,7 +6,8 @@
 ghost use Rattle.std.specs.Prelude.{◌≡◌, ◌<◌, ◌≤◌, ◌++◌, ◌∷◌, [], ℕ, true, false, Bool, List, Ok, Err, length, slice_index};
 ghost use Rattle.capture_file.specs.Streams.{steps_of};
 ghost use Rattle.capture_file.specs.declared.FileFault.{FileFault};
-ghost use Rattle.capture_file.specs.declared.FileKind.TheVariants.{AfterEnd, Buffer, Code, Enable, Magic, Short, Slot, Status, Tag, TooLong, TooManyTurns, Trigger};
+ghost use Rattle.capture_file.specs.declared.FileKind.TheVariants.{AfterEnd, Buffer, Code, Enable, Magic, Short, Slot, Status, Tag};
+ghost use Rattle.capture_file.specs.declared.FileKind.TheVariants.{TooLong, TooManyTurns, Trigger};
 ghost use Rattle.capture_file.specs.declared.Step.{Step};
 ghost use Rattle.capture_file.specs.declared.records.Form.{Form};
 ghost use Rattle.stream_law.specs.Beginnings.{BeginsSome, BeginsStream, IsWhole, before_field, has_good_beginning, with_field};
@@ -32,7 +33,8 @@ pub fn streams_have_one_spelling()
 /// follows them, the file has this fault, and no good file begins with them.
 pub fn faults_are_decided_by_their_fields()
     ensures decided { (limit : ℕ) (chained : Bool) (bytes more : List ℕ) (found : FileFault) → ((i : ℕ) → slice_index bytes i < 256) →
-        IsWhole found.kind → steps_of limit chained bytes ≡ Err found → steps_of limit chained (with_field found bytes ++ more) ≡ Err found }
+        IsWhole found.kind → steps_of limit chained bytes ≡ Err found →
+        steps_of limit chained (with_field found bytes ++ more) ≡ Err found }
     ensures none { (limit : ℕ) (chained : Bool) (bytes : List ℕ) (found : FileFault) → ((i : ℕ) → slice_index bytes i < 256) →
         IsWhole found.kind → steps_of limit chained bytes ≡ Err found → BeginsStream limit chained (with_field found bytes) → ⊥ }
 {}

@@ -14,7 +14,8 @@ acted_played : (steps : List Step) (state : ChainState) → acted chain_act step
 acted_played [] state = refl
 acted_played (step ∷ steps) state = acted_played steps (chain_act step state)
 
-pub chain_played : (bytes : List ℕ) (first second : Desc) (now : ChainState) → PlaysAll chain_act true bytes (first_of_two first second) now → HasPlayedChain bytes first second now
+pub chain_played : (bytes : List ℕ) (first second : Desc) (now : ChainState) →
+    PlaysAll chain_act true bytes (first_of_two first second) now → HasPlayedChain bytes first second now
 chain_played bytes first second now (steps, reads, is) = (
   steps,
   reads,

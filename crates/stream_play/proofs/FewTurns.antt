@@ -1,5 +1,6 @@
 -- A stream without a fault has no more turns than a stream may have.
-use Rattle.std.proofs.Common.{◌≡◌, ℕ, zero, suc, ◌+◌, ◌-◌, ◌≤◌, true, false, Bool, List, [], ◌∷◌, length, take, drop, Option, Some, None, Ok, arith, refl, subst}
+use Rattle.std.proofs.Common.{◌≡◌, ℕ, zero, suc, ◌+◌, ◌-◌, ◌≤◌, true, false, Bool, List, [], ◌∷◌, length, take, drop, Option, Some, None}
+use Rattle.std.proofs.Common.{Ok, arith, refl, subst}
 use Rattle.std.specs.Prelude.{⊤, nat_le, nat_lt}
 use Rattle.std.proofs.lemmas.Bool.{leb-true}
 use Rattle.risc_word.specs.declared.Code.{Code}
@@ -12,8 +13,10 @@ use Rattle.capture_file.specs.declared.records.RecordKind.{RecordKind}
 use Rattle.capture_file.specs.declared.records.RecordKind.TheVariants as kind
 use Rattle.capture_file.specs.declared.records.Found.{Found}
 use Rattle.capture_file.specs.declared.records.Found.TheVariants.{Cut, Wrong, Last, Whole}
-use Rattle.capture_file.specs.Streams.{Reading, reading, with_step, Unfinished, Bad, after_end, ack_with, buffer_if, control_with, data_with, enable_if, fault_at, fields_at, form_of, is_buffer}
-use Rattle.capture_file.specs.Streams.{is_data, judged, kind_of_tag, most_turns, number_at, opened, opened_by, patch_at, push_at, push_if, record_at, records, slot_if, steps_of, stream_of, trigger_if}
+use Rattle.capture_file.specs.Streams.{Reading, reading, with_step, Unfinished, Bad, after_end, ack_with, buffer_if, control_with}
+use Rattle.capture_file.specs.Streams.{data_with, enable_if, fault_at, fields_at, form_of, is_buffer}
+use Rattle.capture_file.specs.Streams.{is_data, judged, kind_of_tag, most_turns, number_at, opened, opened_by, patch_at, push_at, push_if}
+use Rattle.capture_file.specs.Streams.{record_at, records, slot_if, steps_of, stream_of, trigger_if}
 use Rattle.capture_file.specs.Streams.{turns_if, turns_of, turns_with, within_if}
 use Rattle.stream_play.specs.Runs.{turns_in}
 use Rattle.stream_play.proofs.Fitting.{whole_steps}
@@ -117,7 +120,8 @@ found_few (Whole step len) form turns place rest few leaves later =
     let more = later (turns + turns_of step) (len - 1) (leaves few) in
     omega (arith, more)
 
-records_few : (form : Form) (turns place skip : ℕ) (bytes : List ℕ) → turns ≤ most_turns → AreFew turns (records form turns place skip bytes)
+records_few : (form : Form) (turns place skip : ℕ) (bytes : List ℕ) → turns ≤ most_turns →
+    AreFew turns (records form turns place skip bytes)
 unfolding records
 records_few form turns place zero [] few = omega (arith, few)
 records_few form turns place (suc skip) [] few = omega (arith, few)
@@ -143,9 +147,11 @@ within_few false limit below h = h
 stream_few : (limit : ℕ) (chained : Bool) (bytes : List ℕ) → AreFew 0 (stream_of limit chained bytes)
 unfolding stream_of
 stream_few limit chained bytes =
-    within_few (nat_lt limit (length bytes)) limit (judged chained (take limit bytes)) (word_few chained (number_at (take limit bytes)) (drop 4 (take limit bytes)))
+    within_few (nat_lt limit (length bytes)) limit (judged chained (take limit bytes))
+    (word_few chained (number_at (take limit bytes)) (drop 4 (take limit bytes)))
 
-pub turns_few : (limit : ℕ) (chained : Bool) (bytes : List ℕ) (steps : List Step) → steps_of limit chained bytes ≡ Ok steps → turns_in steps ≤ most_turns
+pub turns_few : (limit : ℕ) (chained : Bool) (bytes : List ℕ) (steps : List Step) → steps_of limit chained bytes ≡ Ok steps →
+    turns_in steps ≤ most_turns
 turns_few limit chained bytes steps is =
     let r : Reading = stream_of limit chained bytes in
     let few = stream_few limit chained bytes in

@@ -1,5 +1,6 @@
 -- The steps of a stream are steps as a decoder makes them.
-use Rattle.std.proofs.Common.{◌≡◌, ℕ, zero, suc, ◌+◌, ◌-◌, true, false, Bool, List, [], ◌∷◌, length, take, drop, Option, Some, None, Result, Ok, Err, arith, ap, subst}
+use Rattle.std.proofs.Common.{◌≡◌, ℕ, zero, suc, ◌+◌, ◌-◌, true, false, Bool, List, [], ◌∷◌, length, take, drop, Option, Some, None, Result}
+use Rattle.std.proofs.Common.{Ok, Err, arith, ap, subst}
 use Rattle.std.specs.List.{All}
 use Rattle.std.specs.Prelude.{nat_lt}
 use Rattle.std.proofs.lemmas.List.Elements.{All-nil, All-cons, All-head, All-tail, All-append, All-replicate}
@@ -13,7 +14,8 @@ use Rattle.capture_file.specs.declared.records.Form.TheVariants.{Bfs1, Bfs2, Bfs
 use Rattle.capture_file.specs.declared.records.Found.{Found}
 use Rattle.capture_file.specs.declared.records.Found.TheVariants.{Cut, Wrong, Last, Whole}
 use Rattle.capture_file.specs.Records.{StepFits, FoundFits}
-use Rattle.capture_file.specs.Streams.{Reading, reading, with_step, Ending, Unfinished, Ended, Bad, after_end, fault_at, first_trigger, turns_of, atomic, steps_run, record_at, records, opened}
+use Rattle.capture_file.specs.Streams.{Reading, reading, with_step, Ending, Unfinished, Ended, Bad, after_end, fault_at, first_trigger}
+use Rattle.capture_file.specs.Streams.{turns_of, atomic, steps_run, record_at, records, opened}
 use Rattle.capture_file.specs.Streams.{opened_by, judged, within_if, stream_of, form_of, number_at, whole_file, steps_of}
 use Rattle.capture_file.proofs.Fields.{record_at-fits}
 use Rattle.stream_play.specs.Plays.{longest_stream}
@@ -61,7 +63,8 @@ within_fit false limit below h = h
 stream_fit : (limit : ℕ) (chained : Bool) (bytes : List ℕ) → Fit (stream_of limit chained bytes)
 unfolding stream_of
 stream_fit limit chained bytes =
-    within_fit (nat_lt limit (length bytes)) limit (judged chained (take limit bytes)) (judged_fit chained (number_at (take limit bytes)) (drop 4 (take limit bytes)))
+    within_fit (nat_lt limit (length bytes)) limit (judged chained (take limit bytes))
+    (judged_fit chained (number_at (take limit bytes)) (drop 4 (take limit bytes)))
 
 -- the machine's steps
 atomic_fit : (step : Step) → StepFits step → All IsStep (atomic step)
@@ -74,7 +77,8 @@ atomic_fit (Patch slot buffer) fits = All-nil IsStep
 run_fit : (steps : List Step) → All StepFits steps → All IsStep (steps_run steps)
 run_fit [] fits = All-nil IsStep
 run_fit (step ∷ steps) fits =
-    All-append IsStep (atomic step) (steps_run steps) (atomic_fit step (All-head StepFits step steps fits)) (run_fit steps (All-tail StepFits step steps fits))
+    All-append IsStep (atomic step) (steps_run steps) (atomic_fit step (All-head StepFits step steps fits))
+    (run_fit steps (All-tail StepFits step steps fits))
 
 steps_in : List Step → Result (List Step) FileFault → List Step
 steps_in none (Ok steps) = steps

@@ -1,5 +1,6 @@
 -- Only a reader of streams for chains gives patches.
-use Rattle.std.proofs.Common.{◌≡◌, ◌==◌, ℕ, Bool, true, false, List, [], ◌∷◌, ◌++◌, length, take, drop, Option, Some, None, refl, sym, subst, if◌then◌else◌}
+use Rattle.std.proofs.Common.{◌≡◌, ◌==◌, ℕ, Bool, true, false, List, [], ◌∷◌, ◌++◌, length, take, drop, Option, Some, None, refl, sym}
+use Rattle.std.proofs.Common.{subst, if◌then◌else◌}
 use Rattle.std.specs.Prelude.{⊤, nat_lt}
 use Rattle.risc_word.specs.declared.Code.{Code}
 use Rattle.risc_word.specs.Words.{code_numbered}
@@ -12,9 +13,11 @@ use Rattle.capture_file.specs.declared.records.Found.{Found}
 use Rattle.capture_file.specs.declared.records.Found.TheVariants.{Cut, Wrong, Last, Whole}
 use Rattle.capture_file.specs.declared.records.RecordKind.{RecordKind}
 use Rattle.capture_file.specs.declared.records.RecordKind.TheVariants as kind
-use Rattle.capture_file.specs.Streams.{ack_with, buffer_if, control_with, data_with, enable_if, fields_at, form_of, is_buffer, is_data, kind_of_tag, number_at, patch_at, patch_in, push_at, push_if}
+use Rattle.capture_file.specs.Streams.{ack_with, buffer_if, control_with, data_with, enable_if, fields_at, form_of, is_buffer, is_data}
+use Rattle.capture_file.specs.Streams.{kind_of_tag, number_at, patch_at, patch_in, push_at, push_if}
 use Rattle.capture_file.specs.Streams.{record_at, slot_if, trigger_if, trigger_in, turns_if, turns_with}
-use Rattle.capture_file.specs.Readers.{Closed, Failed, Opening, Phase, Reader, Records, Taken, begun, behind_word, closed_taken, form_taken, found_taken, record_taken, room, taken, taken_in, taking, unfinished_if, word_taken}
+use Rattle.capture_file.specs.Readers.{Closed, Failed, Opening, Phase, Reader, Records, Taken, begun, behind_word, closed_taken, form_taken}
+use Rattle.capture_file.specs.Readers.{found_taken, record_taken, room, taken, taken_in, taking, unfinished_if, word_taken}
 use Rattle.stream_play.specs.Plays.{IsFormOf, IsPhaseOf, MayGive, MayStand, ReadsForm}
 
 module _ (c : Bool) where
@@ -134,9 +137,12 @@ module _ (c : Bool) where
   found_fits (Whole step len) r piece s h = (h, s)
 
   record_fits : (form : Form) (r : Reader) (piece : List ℕ) → IsFormOf c form → ReadsForm c r → Fits (record_taken form r piece)
-  record_fits form r piece f h = found_fits (record_at form r.turns (r.held ++ take (room r) piece)) r piece (record_stands form r.turns (r.held ++ take (room r) piece) f) h
+  record_fits form r piece f h =
+      found_fits (record_at form r.turns (r.held ++ take (room r) piece)) r piece
+      (record_stands form r.turns (r.held ++ take (room r) piece) f) h
 
-  behind_fits : (form : Form) (used : ℕ) (r : Reader) (rest : List ℕ) → IsFormOf c form → ReadsForm c r → Fits (behind_word form used r rest)
+  behind_fits : (form : Form) (used : ℕ) (r : Reader) (rest : List ℕ) → IsFormOf c form → ReadsForm c r →
+      Fits (behind_word form used r rest)
   behind_fits Bfs1 used r rest f h = record_fits Bfs1 r rest f h
   behind_fits Bfs2 used r rest f h = (h, tt)
   behind_fits Bfs3 used r rest f h = (h, tt)
@@ -185,6 +191,7 @@ pub taken_gives : (c : Bool) (r : Reader) (piece : List ℕ) → ReadsForm c r �
 unfolding taken
 taken_gives c r piece h = (taken_fits c r.phase r piece h.1 h).1
 
-pub form_after : (c : Bool) (r : Reader) (piece : List ℕ) (count : ℕ) (answer : Got) (after : Reader) → taking count answer after ≡ taken r piece → ReadsForm c r → ReadsForm c after × MayGive c answer
+pub form_after : (c : Bool) (r : Reader) (piece : List ℕ) (count : ℕ) (answer : Got) (after : Reader) →
+    taking count answer after ≡ taken r piece → ReadsForm c r → ReadsForm c after × MayGive c answer
 form_after c r piece count answer after e h =
     subst (λ (t : Taken). ReadsForm c t.reader × MayGive c t.answer) (sym e) (taken_form c r piece h, taken_gives c r piece h)

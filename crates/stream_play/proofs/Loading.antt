@@ -12,7 +12,8 @@ use Rattle.stream_play.specs.Plays.{StopsPlaying, longest_stream}
 use Rattle.stream_play.specs.Runs.{IsBadStream}
 
 module _ (chained : Bool) where
-  pub stops_at_stream : (refusal : Refusal) (name : List ℕ) (old mid new : Seen) → is_missing name old.told.inputs ≡ false → mid.told ≡ after_open name old.told →
+  pub stops_at_stream : (refusal : Refusal) (name : List ℕ) (old mid new : Seen) → is_missing name old.told.inputs ≡ false →
+      mid.told ≡ after_open name old.told →
       mid.reads ≡ old.reads → StopsPlaying chained mid.told.rest refusal mid new → StopsAt (IsBadStream chained) name refusal old new
   stops_at_stream ReadFault name old mid new there opened counts h = inl (rose_from old.reads mid.reads new.reads counts h)
   stops_at_stream (Malformed Stream fault) name old mid new there opened counts h =
@@ -21,7 +22,8 @@ module _ (chained : Bool) where
   stops_at_stream refusal name old mid new there opened counts h = absurd h
 
   -- it never runs out of memory, and the text of no refusal of it takes memory
-  pub comes_of_stream : (refusal : Refusal) (rest : Option (List ℕ)) (mid new : Seen) → StopsPlaying chained rest refusal mid new → MayCome refusal false
+  pub comes_of_stream : (refusal : Refusal) (rest : Option (List ℕ)) (mid new : Seen) → StopsPlaying chained rest refusal mid new →
+      MayCome refusal false
   comes_of_stream ReadFault rest mid new h = λ takes. absurd takes
   comes_of_stream (Malformed Stream fault) rest mid new h = λ takes. absurd takes
   comes_of_stream refusal rest mid new h = absurd h

@@ -54,11 +54,13 @@ ring_played bytes ring now is (steps, reads, ran) =
     let few = turns_few longest_stream false bytes steps reads in
     let fewer = ends_few (ends ring) steps m in
     let seen : block_ends_seen (ends ring) m (steps_run steps) ≡ block_ends (ends ring) m (steps_run steps) =
-    blocks_seen_are_ended ring m (steps_run steps) is refl (IsSafe-first_state (ring_program ring) ring.fill) (steps_fit bytes steps reads) in
+    blocks_seen_are_ended ring m (steps_run steps) is refl (IsSafe-first_state (ring_program ring) ring.fill)
+    (steps_fit bytes steps reads) in
     let all : 0 + block_ends_seen (ends ring) m (steps_run steps) ≡ block_ends (ends ring) m (steps_run steps) = omega (arith, seen) in (
       steps,
       reads,
       ran
           ∙ ap (watching (run m (steps_run steps)))
-          (blocks_counted (steps_run steps) m (record { ring = ring; blocks = 0 }) (omega (arith, few, fewer, seen)) ∙ ap (λ (n : ℕ). record { ring = ring; blocks = n }) all),
+          (blocks_counted (steps_run steps) m (record { ring = ring; blocks = 0 }) (omega (arith, few, fewer, seen))
+          ∙ ap (λ (n : ℕ). record { ring = ring; blocks = n }) all),
     )

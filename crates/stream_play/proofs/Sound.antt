@@ -1,5 +1,6 @@
 -- What was handed to a player holds no fault, so that the next piece may be read.
-use Rattle.std.proofs.Common.{◌≡◌, ℕ, ◌+◌, Bool, List, [], ◌++◌, take, drop, option_map, Option, Some, None, Result, Ok, Err, sym, ap, subst, ◌∙◌}
+use Rattle.std.proofs.Common.{◌≡◌, ℕ, ◌+◌, Bool, List, [], ◌++◌, take, drop, option_map, Option, Some, None, Result, Ok, Err, sym, ap}
+use Rattle.std.proofs.Common.{subst, ◌∙◌}
 use Rattle.std.specs.Prelude.{IfOk}
 use Rattle.std.proofs.Math.Seq.{take-add}
 use Rattle.std.proofs.lemmas.List.{append-nil}
@@ -14,21 +15,27 @@ use Rattle.stream_play.specs.Runs.{HoldsNoFault}
 use Rattle.stream_play.proofs.Playing.{HandedTo}
 
 -- a whole ends well where what is left of it does
-pub well_from : {S : Type 0} (act : Step → S → S) (p : S) (whole : Reading) (now : S) (left : Reading) → GoesOn act p whole now left → EndsWell left → EndsWell whole
+pub well_from : {S : Type 0} (act : Step → S → S) (p : S) (whole : Reading) (now : S) (left : Reading) → GoesOn act p whole now left →
+    EndsWell left → EndsWell whole
 well_from act p whole now left goes well = λ fault bad. well fault (goes.ending ∙ bad)
 
 -- where nothing was handed yet, the piece ends as before
-pub well_before : {S : Type 0} (act : Step → S → S) (m now : S) (reader after : Reader) (piece : List ℕ) (run : ℕ) → run ≡ 0 → HandedPart act run m reader piece now after →
+pub well_before : {S : Type 0} (act : Step → S → S) (m now : S) (reader after : Reader) (piece : List ℕ) (run : ℕ) → run ≡ 0 →
+    HandedPart act run m reader piece now after →
     EndsWell (resumed after piece) → EndsWell (resumed reader piece)
 well_before act m now reader after piece run none part well =
     let some = part.2 [] in
     let goes : GoesOn act m (resumed reader (piece ++ [])) now (resumed after (piece ++ [])) = rw none at some in
     subst (λ bytes. EndsWell (resumed reader bytes)) (append-nil piece)
-    (well_from act m (resumed reader (piece ++ [])) now (resumed after (piece ++ [])) goes (subst (λ bytes. EndsWell (resumed after bytes)) (sym (append-nil piece)) well))
+    (well_from act m (resumed reader (piece ++ [])) now (resumed after (piece ++ [])) goes
+    (subst (λ bytes. EndsWell (resumed after bytes)) (sym (append-nil piece)) well))
 
-pub well_after : {S : Type 0} (act : Step → S → S) (m now : S) (reader after : Reader) (piece : List ℕ) (run : ℕ) → run ≡ 0 → HandedPart act run m reader piece now after →
-    (r : Result (Option ℕ) FileFault) → IfOk r (λ used. used ≡ None → EndsWell (resumed after piece)) → IfOk r (λ used. used ≡ None → EndsWell (resumed reader piece))
-well_after act m now reader after piece run none part (Ok used) well = λ is. well_before act m now reader after piece run none part (well is)
+pub well_after : {S : Type 0} (act : Step → S → S) (m now : S) (reader after : Reader) (piece : List ℕ) (run : ℕ) → run ≡ 0 →
+    HandedPart act run m reader piece now after →
+    (r : Result (Option ℕ) FileFault) → IfOk r (λ used. used ≡ None → EndsWell (resumed after piece)) →
+    IfOk r (λ used. used ≡ None → EndsWell (resumed reader piece))
+well_after act m now reader after piece run none part (Ok used) well =
+    λ is. well_before act m now reader after piece run none part (well is)
 well_after act m now reader after piece run none part (Err fault) well = tt
 
 -- a piece ends well where its rest does
@@ -47,7 +54,8 @@ nothing_wrong chained None = tt
 nothing_wrong chained (Some bytes) = λ fault bad. absurd (cc)
 
 -- nor once one more piece is read that ends well
-pub still_sound : {S : Type 0} (act : Step → S → S) (chained : Bool) (m now : S) (after : Reader) (at n : ℕ) (o : Option (List ℕ)) (new : List ℕ) → HandedTo act chained m now after at o now after →
+pub still_sound : {S : Type 0} (act : Step → S → S) (chained : Bool) (m now : S) (after : Reader) (at n : ℕ) (o : Option (List ℕ))
+    (new : List ℕ) → HandedTo act chained m now after at o now after →
     OfRest (option_map (λ bytes. drop at bytes) o) (λ rest. IsPiece n rest new) → EndsWell (resumed after (take n new)) →
     OfRest o (λ bytes. HoldsNoFault chained (take (at + n) bytes))
 unfolding resumed
@@ -56,4 +64,5 @@ still_sound act chained m now after at n (Some bytes) new one read well =
     let piece : take n new ≡ take n (drop at bytes) = read.2 in
     let whole : take at bytes ++ take n new ≡ take (at + n) bytes = ap (λ x. take at bytes ++ x) piece ∙ sym (take-add at n bytes) in
     subst (HoldsNoFault chained) whole
-    (well_from act m (stream_of longest_stream chained (take at bytes ++ take n new)) now (resumed after (take n new)) (one.1 (take n new)) well)
+    (well_from act m (stream_of longest_stream chained (take at bytes ++ take n new)) now (resumed after (take n new))
+    (one.1 (take n new)) well)

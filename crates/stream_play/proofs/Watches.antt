@@ -11,9 +11,13 @@ module _ {K : Type 0} (notes : Notes K) where
   acted_watched [] w = refl
   acted_watched (one ∷ steps) w = acted_watched steps (watched notes (atomic one) w) ∙ watched-append notes (atomic one) (steps_run steps) w
 
-  pub watched_played : (bytes : List ℕ) (w now : Watching K) → PlaysAll (watch_act notes) false bytes w now → HasPlayedWatched notes bytes w now
+  pub watched_played : (bytes : List ℕ) (w now : Watching K) → PlaysAll (watch_act notes) false bytes w now →
+      HasPlayedWatched notes bytes w now
   watched_played bytes w now (steps, reads, is) = (steps, reads, is ∙ acted_watched steps w)
 
   -- so did the machine that is watched
-  pub machine_played : (bytes : List ℕ) (w now : Watching K) → PlaysAll (watch_act notes) false bytes w now → HasPlayed bytes w.machine now.machine
-  machine_played bytes w now plays = let played = watched_played bytes w now plays in (played.0, played.1, ap (λ (x : Watching K). x.machine) played.2)
+  pub machine_played : (bytes : List ℕ) (w now : Watching K) → PlaysAll (watch_act notes) false bytes w now →
+      HasPlayed bytes w.machine now.machine
+  machine_played bytes w now plays =
+      let played = watched_played bytes w now plays in
+      (played.0, played.1, ap (λ (x : Watching K). x.machine) played.2)

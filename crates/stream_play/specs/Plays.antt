@@ -1,6 +1,7 @@
 -- A stream that is handed to a player piece by piece. A player is anything that takes the steps of a stream; `act` is
 -- what a step makes of it.
-use Rattle.std.specs.Prelude.{◌≡◌, ℕ, ⊤, ◌+◌, ◌<◌, ◌≤◌, ◌⊎◌, Bool, false, true, List, [], ◌∷◌, ◌++◌, length, take, drop, Option, Some, None, Ok, Err}
+use Rattle.std.specs.Prelude.{◌≡◌, ℕ, ⊤, ◌+◌, ◌<◌, ◌≤◌, ◌⊎◌, Bool, false, true, List, [], ◌∷◌, ◌++◌, length, take, drop, Option, Some, None}
+use Rattle.std.specs.Prelude.{Ok, Err}
 use Rattle.machine_model.specs.States.{State}
 use Rattle.machine_model.specs.Steps.{run}
 use Rattle.capture_desk.specs.Desks.{Seen}

@@ -24,7 +24,8 @@ fn play_input<D: Desk, P: Player>(
 ) -> Result<(), Refusal>
     requires allowed { IsAllowed name.now (D.seen desk.old).told.may_open }
     requires room { length buffer.old ≡ 65536 }
-    ensures played { IfOk result (λ _. OfInput name.now (D.seen desk.old).told.inputs (λ bytes. PlaysAll P.act P.has_slots bytes player.old player.new)) }
+    ensures played { IfOk result
+        (λ _. OfInput name.now (D.seen desk.old).told.inputs (λ bytes. PlaysAll P.act P.has_slots bytes player.old player.new)) }
     ensures takes { Takes (a_stream_file P.has_slots name.now ∷ []) result (D.seen desk.old) (D.seen desk.new) }
 {
     open(name, desk)?;
@@ -41,7 +42,8 @@ pub fn play_file<D: Desk, P: Player + Drop>(
     desk: &mut D,
 ) -> Result<P, Refusal>
     requires { IsAllowed stream.now (D.seen desk.old).told.may_open }
-    ensures played { IfOk result (λ after. OfInput stream.now (D.seen desk.old).told.inputs (λ bytes. PlaysAll P.act P.has_slots bytes player after)) }
+    ensures played { IfOk result
+        (λ after. OfInput stream.now (D.seen desk.old).told.inputs (λ bytes. PlaysAll P.act P.has_slots bytes player after)) }
     ensures takes { Takes (a_stream_file P.has_slots stream.now ∷ []) result (D.seen desk.old) (D.seen desk.new) }
 {
     let mut player = player;
@@ -68,7 +70,8 @@ pub fn play_and_tell<D: Desk, P: Player + Reports + Drop>(
     desk: &mut D,
 ) -> Result<Played<P>, Refusal>
     requires { IsAllowed stream.now (D.seen desk.old).told.may_open }
-    ensures played { IfOk result (λ played. OfInput stream.now (D.seen desk.old).told.inputs (λ bytes. PlaysAll P.act P.has_slots bytes player played.player)) }
+    ensures played { IfOk result
+        (λ played. OfInput stream.now (D.seen desk.old).told.inputs (λ bytes. PlaysAll P.act P.has_slots bytes player played.player)) }
     ensures text { IfOk result (λ played. played.text ≡ P.told played.player) }
     ensures takes { Takes (a_stream_file P.has_slots stream.now ∷ []) result (D.seen desk.old) (D.seen desk.new) }
 {

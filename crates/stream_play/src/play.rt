@@ -6,7 +6,8 @@ ghost use Rattle.capture_file.specs.Records.{StepFits};
 ghost use Rattle.capture_file.specs.declared.Step.TheVariants as Step;
 ghost use Rattle.command_steps.specs.Inputs.{OfRest, ReadsBy, apart};
 ghost use Rattle.command_steps.specs.Reading.{AreAllReads, AreReads, Calls};
-ghost use Rattle.stream_play.specs.Plays.{EndsWell, Handed, HandedAll, HandedFront, HandedPart, IsOther, IsAtFault, MayStand, PlaysAll, ReadsForm, StopsPlaying, longest_stream};
+ghost use Rattle.stream_play.specs.Plays.{EndsWell, Handed, HandedAll, HandedFront, HandedPart, IsOther, IsAtFault, MayStand, PlaysAll};
+ghost use Rattle.stream_play.specs.Plays.{ReadsForm, StopsPlaying, longest_stream};
 ghost use Rattle.stream_play.specs.Runs.{HoldsNoFault};
 
 use crate::player::Player;
@@ -217,13 +218,19 @@ fn hand_all<D: Desk, P: Player>(
     requires open { IsTrue (D.seen desk.old).told.input_open }
     requires room { length buffer.old ≡ 65536 }
     requires begins { reader.old ≡ fresh longest_stream P.has_slots }
-    ensures handed { IfOk result (λ _. OfRest (D.seen desk.old).told.rest (λ bytes. HandedAll P.act P.has_slots bytes player.old player.new reader.new)) }
-    ensures stops { IfErr result (λ refusal. StopsPlaying P.has_slots (D.seen desk.old).told.rest refusal (D.seen desk.old) (D.seen desk.new)) }
+    ensures handed { IfOk result
+        (λ _. OfRest (D.seen desk.old).told.rest (λ bytes. HandedAll P.act P.has_slots bytes player.old player.new reader.new)) }
+    ensures stops { IfErr result
+        (λ refusal. StopsPlaying P.has_slots (D.seen desk.old).told.rest refusal (D.seen desk.old) (D.seen desk.new)) }
     ensures told { apart (D.seen desk.new).told ≡ apart (D.seen desk.old).told }
     ensures writes { (D.seen desk.new).writes ≡ (D.seen desk.old).writes }
     ensures quiet { ReadsBy result (D.seen desk.old) (D.seen desk.new) }
-    ensures calls { Calls (AreReads (λ at. OfRest (D.seen desk.old).told.rest (λ bytes. HoldsNoFault P.has_slots (take at bytes))) longest_stream 0) (D.seen desk.old) (D.seen desk.new) }
-    ensures through { IfOk result (λ _. Calls (AreAllReads (λ at. OfRest (D.seen desk.old).told.rest (λ bytes. HoldsNoFault P.has_slots (take at bytes))) longest_stream 0) (D.seen desk.old) (D.seen desk.new)) }
+    ensures calls { Calls
+        (AreReads (λ at. OfRest (D.seen desk.old).told.rest (λ bytes. HoldsNoFault P.has_slots (take at bytes))) longest_stream 0)
+        (D.seen desk.old) (D.seen desk.new) }
+    ensures through { IfOk result (λ _.
+        Calls (AreAllReads (λ at. OfRest (D.seen desk.old).told.rest (λ bytes. HoldsNoFault P.has_slots (take at bytes))) longest_stream 0)
+        (D.seen desk.old) (D.seen desk.new)) }
 {
     let mut place: u64 = 0;
     while place <= LONGEST_STREAM {
@@ -251,13 +258,19 @@ pub fn play<D: Desk, P: Player>(
 ) -> Result<(), Refusal>
     requires open { IsTrue (D.seen desk.old).told.input_open }
     requires room { length buffer.old ≡ 65536 }
-    ensures played { IfOk result (λ _. OfRest (D.seen desk.old).told.rest (λ bytes. PlaysAll P.act P.has_slots bytes player.old player.new)) }
-    ensures stops { IfErr result (λ refusal. StopsPlaying P.has_slots (D.seen desk.old).told.rest refusal (D.seen desk.old) (D.seen desk.new)) }
+    ensures played { IfOk result
+        (λ _. OfRest (D.seen desk.old).told.rest (λ bytes. PlaysAll P.act P.has_slots bytes player.old player.new)) }
+    ensures stops { IfErr result
+        (λ refusal. StopsPlaying P.has_slots (D.seen desk.old).told.rest refusal (D.seen desk.old) (D.seen desk.new)) }
     ensures told { apart (D.seen desk.new).told ≡ apart (D.seen desk.old).told }
     ensures writes { (D.seen desk.new).writes ≡ (D.seen desk.old).writes }
     ensures quiet { ReadsBy result (D.seen desk.old) (D.seen desk.new) }
-    ensures calls { Calls (AreReads (λ at. OfRest (D.seen desk.old).told.rest (λ bytes. HoldsNoFault P.has_slots (take at bytes))) longest_stream 0) (D.seen desk.old) (D.seen desk.new) }
-    ensures through { IfOk result (λ _. Calls (AreAllReads (λ at. OfRest (D.seen desk.old).told.rest (λ bytes. HoldsNoFault P.has_slots (take at bytes))) longest_stream 0) (D.seen desk.old) (D.seen desk.new)) }
+    ensures calls { Calls
+        (AreReads (λ at. OfRest (D.seen desk.old).told.rest (λ bytes. HoldsNoFault P.has_slots (take at bytes))) longest_stream 0)
+        (D.seen desk.old) (D.seen desk.new) }
+    ensures through { IfOk result (λ _.
+        Calls (AreAllReads (λ at. OfRest (D.seen desk.old).told.rest (λ bytes. HoldsNoFault P.has_slots (take at bytes))) longest_stream 0)
+        (D.seen desk.old) (D.seen desk.new)) }
 {
     let mut reader = P::reader(LONGEST_STREAM);
     hand_all(player, &mut reader, desk, buffer)?;

@@ -20,6 +20,7 @@ no_document text refused =
 pub some_document : (text : List ℕ) (ms : Members) → IsUtf8 text × (parse_document text ≡ Some ms) → document_of text ≡ Some ms
 some_document text ms parsed = rw (is_utf8-from_IsUtf8 text parsed.0, parsed.1)
 
-pub refused_document : (text : List ℕ) (error : Error) (memory : Bool) → (IsTrue memory ↔ IsMemory error) → memory ≡ false → ((IsMemory error → ⊥) → IsUtf8 text → parse_document text ≡ None) → document_of text ≡ None
+pub refused_document : (text : List ℕ) (error : Error) (memory : Bool) → (IsTrue memory ↔ IsMemory error) → memory ≡ false →
+    ((IsMemory error → ⊥) → IsUtf8 text → parse_document text ≡ None) → document_of text ≡ None
 refused_document text error memory decides other refused =
     no_document text (refused (λ is_memory. false≢true (sym other ∙ decides.1 is_memory)))

@@ -57,7 +57,8 @@ module _ (name : List ℕ) (ms : Members) where
   missing_says (Some a) absent = tt
   missing_says None absent = absent refl
 
-  pub required_says : {A : Type 0} (reading : Reading (Option A)) → (reading ≡ Ok None → is_there name ms ≡ false) → Says reading → Says (required reading)
+  pub required_says : {A : Type 0} (reading : Reading (Option A)) → (reading ≡ Ok None → is_there name ms ≡ false) → Says reading →
+      Says (required reading)
   required_says reading absent says =
       chain (Shows name ms) reading (λ value. ok_or value Missing) says (λ value is. missing_says value (λ none. absent (is ∙ ap Ok none)))
 
@@ -68,7 +69,8 @@ module _ (name : List ℕ) (ms : Members) where
   pub otherwise_says : {A : Type 0} (default : A) (reading : Reading (Option A)) → Says reading → Says (otherwise default reading)
   otherwise_says default reading says = chain (Shows name ms) reading (or_else default) says (λ value _. or_else_says default value)
 
-  fitting_says : {A : Type 0} (fits : List A → Bool) (found : Option (List A)) → ((members : List A) → found ≡ Some members → is_there name ms ≡ true) → Says (fitting fits found)
+  fitting_says : {A : Type 0} (fits : List A → Bool) (found : Option (List A)) →
+      ((members : List A) → found ≡ Some members → is_there name ms ≡ true) → Says (fitting fits found)
   fitting_says fits None is = tt
   fitting_says fits (Some members) is =
       elim (cases_Bool (fits members)) [
@@ -87,7 +89,8 @@ module _ (name : List ℕ) (ms : Members) where
   module _ {A : Type 0} (typed : Data → Bool) (value : Data → Option A) (fits : List A → Bool) where
     pub list_says : Says (list typed value fits name ms)
     list_says =
-        chain (Shows name ms) (at (list_typed typed) (each value) name ms) (fitting fits) (at_says (list_typed typed) (each value)) (λ found is.
+        chain (Shows name ms) (at (list_typed typed) (each value) name ms) (fitting fits) (at_says (list_typed typed) (each value))
+        (λ found is.
         fitting_says fits found (λ members some. at_some (list_typed typed) (each value) members (is ∙ ap Ok some)))
 
     pub list_none : list typed value fits name ms ≡ Ok None → is_there name ms ≡ false

@@ -1,5 +1,6 @@
 -- The document that a text is, and the keys of a table that are none of a form's.
-use Rattle.std.specs.Prelude.{◌≡◌, ℕ, Bool, false, not, Contains, List, [], ◌∷◌, Option, Some, None, is_some, filter, unwrap_or, if◌then◌else◌}
+use Rattle.std.specs.Prelude.{◌≡◌, ℕ, Bool, false, not, Contains, List, [], ◌∷◌, Option, Some, None, is_some, filter, unwrap_or}
+use Rattle.std.specs.Prelude.{if◌then◌else◌}
 use Rattle.std.specs.Ordering.{nat_cmp, is_gt, match_ordering}
 use Rattle.std.specs.Cmp.Lexicographic.{slice_cmp}
 use Rattle.std.specs.Str.{is_utf8}

@@ -1,5 +1,6 @@
 -- What the value of a key stands for: it has a type, and then it is listed or within bounds.
-use Rattle.std.specs.Prelude.{◌≡◌, ℕ, ℤ, pos, negsuc, Bool, ◌&&◌, List, [], ◌∷◌, Option, Some, None, option_map, option_and_then, is_some, ok_or, Result, Ok, Err, if◌then◌else◌, nat_le, ⊤}
+use Rattle.std.specs.Prelude.{◌≡◌, ℕ, ℤ, pos, negsuc, Bool, ◌&&◌, List, [], ◌∷◌, Option, Some, None, option_map, option_and_then, is_some}
+use Rattle.std.specs.Prelude.{ok_or, Result, Ok, Err, if◌then◌else◌, nat_le, ⊤}
 use Rattle.std.specs.List.{list_all}
 use Rattle.toml.specs.Data.{Data, Items, no_items, item, Members, get_member, as_str, as_integer, as_array}
 use Rattle.toml_keys.specs.declared.KeyFault.{KeyFault}

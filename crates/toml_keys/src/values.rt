@@ -4,7 +4,8 @@ ghost use Rattle.std.specs.List.{list_all};
 ghost use Rattle.std.specs.Result.{result_err};
 ghost use Rattle.toml.specs.Data.{Data, get_member};
 ghost use Rattle.toml.specs.View.{table_view, view};
-ghost use Rattle.toml_keys.specs.Values.{Refuses, as_list, at, between, each, four_of, is_integer, is_row, list_typed, number, otherwise, required, two_of, u32_max, u32_of, word};
+ghost use Rattle.toml_keys.specs.Values.{Refuses, as_list, at, between, each, four_of, is_integer, is_row, list_typed, number, otherwise};
+ghost use Rattle.toml_keys.specs.Values.{required, two_of, u32_max, u32_of, word};
 
 use crate::{KeyError, KeyFault};
 use std::alloc::{AllocError, Global};
@@ -198,7 +199,8 @@ pub fn list<T: Member + Drop>(
     table: &Table,
     name: &str,
 ) -> Result<Option<Vec<T>>, KeyError>
-    ensures ok { IfOk result (λ r. at (list_typed T.typed) (each T.value) name.now (table_view table.now) ≡ Ok (option_map (λ v. v.items) r)) }
+    ensures ok { IfOk result
+        (λ r. at (list_typed T.typed) (each T.value) name.now (table_view table.now) ≡ Ok (option_map (λ v. v.items) r)) }
     ensures err { IfErr result (Refuses (at (list_typed T.typed) (each T.value) name.now (table_view table.now))) }
 {
     let Some(value) = value_at(table, name) else {

@@ -63,7 +63,8 @@ impl<R: Ram> StreamTrace<R> {
         requires fits { StepFits step }
         requires none { self.old.turns ≡ 0 }
         requires room { array_string_len text.old + 400 ≤ 65536 }
-        ensures text { (later : List MachineStep) → text.new.bytes ++ rest_text self.new.tracing (replicate self.new.turns Turn ++ later) ≡ text.old.bytes ++ rest_text self.old.tracing (atomic step ++ later) }
+        ensures text { (later : List MachineStep) → text.new.bytes ++ rest_text self.new.tracing (replicate self.new.turns Turn ++ later)
+            ≡ text.old.bytes ++ rest_text self.old.tracing (atomic step ++ later) }
         ensures reader { self.new.reader ≡ self.old.reader }
         ensures bytes { self.new.bytes ≡ self.old.bytes }
         ensures few { self.new.turns < 2 ^ 32 }

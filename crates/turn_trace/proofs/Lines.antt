@@ -1,7 +1,8 @@
 -- A step has no text where it is a turn that only counts, and else its text ends with the numbers of the state after it.
 use Rattle.std.proofs.Common.{◌≡◌, ◌⊎◌, ℕ, Bool, true, false, List, [], ◌∷◌, ◌++◌, refl, sym, ap, ◌∙◌, inl, inr, append_assoc}
 use Rattle.machine_model.specs.declared.Did.{Did}
-use Rattle.machine_model.specs.declared.Did.TheVariants.{Still, Jumped, Synced, Passed, Begun, Dropped, Matched, Missed, Retired, Moved, GivenUp}
+use Rattle.machine_model.specs.declared.Did.TheVariants.{Still, Jumped, Synced, Passed, Begun, Dropped, Matched, Missed, Retired, Moved}
+use Rattle.machine_model.specs.declared.Did.TheVariants.{GivenUp}
 use Rattle.machine_model.specs.Seen.{seen}
 use Rattle.machine_model.specs.States.{State}
 use Rattle.machine_model.specs.Steps.{Step, Push, Control, Turn, Host, step}
@@ -18,7 +19,10 @@ ends_if : (quiet : Bool) (t : Tracing) (s : Step) →
     (told_if quiet t s ≡ []) ⊎ ((before : List ℕ) × (told_if quiet t s ≡ before ++ (numbers (step s t.machine) ++ line_end)))
 ends_if true t s = inl refl
 ends_if false t s =
-    inr (still_line t.still ++ words s t.machine, sym (append_assoc (still_line t.still) (words s t.machine) (numbers (step s t.machine) ++ line_end)))
+    inr (
+      still_line t.still ++ words s t.machine,
+      sym (append_assoc (still_line t.still) (words s t.machine) (numbers (step s t.machine) ++ line_end)),
+    )
 
 pub told_by-EndsWithNumbers : (t : Tracing) (s : Step) → EndsWithNumbers t s
 told_by-EndsWithNumbers t s = ends_if (is_quiet s t.machine) t s
@@ -33,7 +37,8 @@ untold_if false t s e =
     let still : List ℕ = still_line t.still in
     let said : List ℕ = words s t.machine in
     let after : List ℕ = numbers (step s t.machine) in
-    absurd (no_end ((still ++ said) ++ after) 10 (append_assoc (still ++ said) after line_end ∙ append_assoc still said (after ++ line_end) ∙ e))
+    absurd
+    (no_end ((still ++ said) ++ after) 10 (append_assoc (still ++ said) after line_end ∙ append_assoc still said (after ++ line_end) ∙ e))
 
 still_did : (did : Did) → is_still_did did ≡ true → did ≡ Still
 still_did Still e = refl

@@ -1,10 +1,12 @@
 -- The trace after steps, and turns of which nothing is seen.
-use Rattle.std.proofs.Common.{◌≡◌, ℕ, zero, suc, ◌+◌, ◌-◌, ◌<◌, ◌≤◌, ◌^◌, Bool, true, false, List, [], ◌∷◌, ◌++◌, Option, replicate, refl, sym, ap, ◌∙◌, arith, append_assoc}
+use Rattle.std.proofs.Common.{◌≡◌, ℕ, zero, suc, ◌+◌, ◌-◌, ◌<◌, ◌≤◌, ◌^◌, Bool, true, false, List, [], ◌∷◌, ◌++◌, Option, replicate, refl}
+use Rattle.std.proofs.Common.{sym, ap, ◌∙◌, arith, append_assoc}
 use Rattle.std.proofs.lemmas.List.{append-nil, replicate-append-replicate}
 use Rattle.fifo_model.specs.declared.Queue.{Queue}
 use Rattle.fifo_model.specs.Queues.{more}
 use Rattle.machine_model.specs.declared.Did.{Did}
-use Rattle.machine_model.specs.declared.Did.TheVariants.{Still, Jumped, Synced, Passed, Begun, Dropped, Matched, Missed, Retired, Moved, GivenUp}
+use Rattle.machine_model.specs.declared.Did.TheVariants.{Still, Jumped, Synced, Passed, Begun, Dropped, Matched, Missed, Retired, Moved}
+use Rattle.machine_model.specs.declared.Did.TheVariants.{GivenUp}
 use Rattle.machine_model.specs.declared.Seen.{Seen}
 use Rattle.machine_model.specs.Seen.{seen, taken}
 use Rattle.machine_model.specs.States.{State}
@@ -16,7 +18,8 @@ use Rattle.dma_machine.specs.Looks.{next_drop}
 use Rattle.dma_machine.specs.Stills.{is_still}
 use Rattle.dma_machine.proofs.Standing.{is_still-turns}
 use Rattle.dma_machine.proofs.StillSeen.{still_counts, still_seen}
-use Rattle.turn_trace.specs.Traces.{Tracing, after, after_all, is_quiet, is_still_did, line, lines, still_after, still_line, told_by, told_if, tracing, turn_words, words}
+use Rattle.turn_trace.specs.Traces.{Tracing, after, after_all, is_quiet, is_still_did, line, lines, still_after, still_line, told_by}
+use Rattle.turn_trace.specs.Traces.{told_if, tracing, turn_words, words}
 
 pub after_all-run : (t : Tracing) (steps : List Step) → (after_all t steps).machine ≡ run t.machine steps
 after_all-run t [] = refl
@@ -59,7 +62,8 @@ still-lines (suc count) t still =
     ap (λ (did : Did). told_if (is_still_did did) t Turn ++ lines (after t Turn) (replicate count Turn)) (still_seen t.machine still)
     ∙ still-lines count (after t Turn) (still_stays t.machine still)
 
-pub still-after : (count : ℕ) (m : State) (n : ℕ) → is_still m ≡ true → n < 2 ^ 64 → after_all (tracing m n) (replicate count Turn) ≡ tracing (run m (replicate count Turn)) (more n count)
+pub still-after : (count : ℕ) (m : State) (n : ℕ) → is_still m ≡ true → n < 2 ^ 64 →
+    after_all (tracing m n) (replicate count Turn) ≡ tracing (run m (replicate count Turn)) (more n count)
 still-after zero m n still fits = let same : n ≡ more n 0 = omega (arith, fits) in ap (tracing m) same
 still-after (suc count) m n still fits =
     let small : more n 1 < 2 ^ 64 = omega arith in
@@ -73,7 +77,8 @@ pub still-after-some : (count : ℕ) (t : Tracing) → 0 < count → is_still t.
 still-after-some zero t some still = absurd (omega (arith, some))
 still-after-some (suc count) t some still =
     let small : more t.still 1 < 2 ^ 64 = omega arith in
-    ap (λ (did : Did). after_all (tracing (turn t.machine) (still_after (is_still_did did) t.still)) (replicate count Turn)) (still_seen t.machine still)
+    ap (λ (did : Did). after_all (tracing (turn t.machine) (still_after (is_still_did did) t.still)) (replicate count Turn))
+    (still_seen t.machine still)
     ∙ still-after count (turn t.machine) (more t.still 1) (still_stays t.machine still) small
     ∙ ap (tracing (run (turn t.machine) (replicate count Turn))) (more_more t.still count)
 
@@ -95,7 +100,8 @@ loud-did Retired loud = refl
 loud-did (Moved q) loud = refl
 loud-did (GivenUp q) loud = refl
 
-pub turned-words : (m : State) (r : Report) (s : Seen) (drops : Option Queue) (count : ℕ) → r ≡ report_of m → s ≡ seen m → drops ≡ next_drop m → count ≡ taken m →
+pub turned-words : (m : State) (r : Report) (s : Seen) (drops : Option Queue) (count : ℕ) → r ≡ report_of m → s ≡ seen m →
+    drops ≡ next_drop m → count ≡ taken m →
     turn_words r.turns s drops count ≡ words Turn m
 turned-words m r s drops count is saw drop took =
     ap (λ (x : Report). turn_words x.turns s drops count) is
@@ -111,7 +117,8 @@ taken-more count before some after split within =
     replicate-append-replicate (count - before) some Turn ∙ ap (λ (n : ℕ). replicate n Turn) sum
 
 pub state-more : (t now new : Tracing) (count before some after : ℕ) → before ≡ some + after → before ≤ count →
-    now ≡ after_all t (replicate (count - before) Turn) → new ≡ after_all now (replicate some Turn) → new ≡ after_all t (replicate (count - after) Turn)
+    now ≡ after_all t (replicate (count - before) Turn) → new ≡ after_all now (replicate some Turn) →
+    new ≡ after_all t (replicate (count - after) Turn)
 state-more t now new count before some after split within first later =
     later
     ∙ ap (λ (x : Tracing). after_all x (replicate some Turn)) first
@@ -119,7 +126,8 @@ state-more t now new count before some after split within first later =
     ∙ ap (after_all t) (taken-more count before some after split within)
 
 pub text-more : (t now : Tracing) (old middle new : List ℕ) (count before some after : ℕ) → before ≡ some + after → before ≤ count →
-    now ≡ after_all t (replicate (count - before) Turn) → middle ≡ old ++ lines t (replicate (count - before) Turn) → new ≡ middle ++ lines now (replicate some Turn) →
+    now ≡ after_all t (replicate (count - before) Turn) → middle ≡ old ++ lines t (replicate (count - before) Turn) →
+    new ≡ middle ++ lines now (replicate some Turn) →
     new ≡ old ++ lines t (replicate (count - after) Turn)
 text-more t now old middle new count before some after split within state first later =
     appended old middle new (lines t (replicate (count - before) Turn)) (lines now (replicate some Turn)) first later

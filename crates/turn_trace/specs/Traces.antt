@@ -14,7 +14,8 @@ use Rattle.fifo_model.specs.Queues.{more, queue_state}
 use Rattle.irq_status.specs.declared.HostWrite.{HostWrite}
 use Rattle.irq_status.specs.declared.HostWrite.TheVariants.{Ack, Enable, Trigger}
 use Rattle.machine_model.specs.declared.Did.{Did}
-use Rattle.machine_model.specs.declared.Did.TheVariants.{Still, Jumped, Synced, Passed, Begun, Dropped, Matched, Missed, Retired, Moved, GivenUp}
+use Rattle.machine_model.specs.declared.Did.TheVariants.{Still, Jumped, Synced, Passed, Begun, Dropped, Matched, Missed, Retired, Moved}
+use Rattle.machine_model.specs.declared.Did.TheVariants.{GivenUp}
 use Rattle.machine_model.specs.declared.Seen.{Seen}
 use Rattle.machine_model.specs.Seen.{seen, taken}
 use Rattle.machine_model.specs.States.{State}

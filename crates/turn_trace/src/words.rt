@@ -6,7 +6,8 @@ ghost use Rattle.risc_listing.specs.Lines.{at_text, code_name, count_text, line_
 ghost use Rattle.std.specs.Prelude.{◌≡◌, ◌+◌, ◌*◌, ◌^◌, ◌<◌, ◌≤◌, ◌++◌, codes, length};
 ghost use Rattle.sync_status.specs.Statuses.{kind_of};
 ghost use Rattle.turn_trace.specs.Kept.{kept_words};
-ghost use Rattle.turn_trace.specs.Traces.{bit_text, control_words, did_words, dropped_words, entry_words, fate, given_up_words, levels_text, moved_words, numbers, queue_name, status_name, still_line, turn_words, write_words};
+ghost use Rattle.turn_trace.specs.Traces.{bit_text, control_words, did_words, dropped_words, entry_words, fate, given_up_words};
+ghost use Rattle.turn_trace.specs.Traces.{levels_text, moved_words, numbers, queue_name, status_name, still_line, turn_words, write_words};
 
 use crate::counts::{end_of_eight, end_of_seven, turn_of_eight, turn_of_seven};
 use crate::pieces::{KeptAddress, burst_words, pixel_words, still_words, three_digits};

@@ -26,7 +26,8 @@ fn push_skipped_lines(
     field: Parity,
     out: &mut Vec<u32>,
 ) -> Result<(), AllocError>
-    ensures words { OnOk result (out.new.items ≡ out.old.items ++ words_of (lines_instrs frame.now (replicate (vbi_skip frame.now field) (skipped_vbi_strip frame.now)))) }
+    ensures words { OnOk result (out.new.items
+        ≡ out.old.items ++ words_of (lines_instrs frame.now (replicate (vbi_skip frame.now field) (skipped_vbi_strip frame.now)))) }
     ensures kept { BeginsWith out.old.items out.new.items }
 {
     let skipped = frame.plan_skip_vbi_line(alloc)?;
@@ -45,7 +46,8 @@ fn push_lines(
     out: &mut Vec<u32>,
 ) -> Result<(), AllocError>
     requires { describes frame.now.fields field ≡ true }
-    ensures words { OnOk result (out.new.items ≡ out.old.items ++ words_of (lines_instrs frame.now (map (vbi_strip frame.now field) (range_with_len 0 frame.now.vbi_lines)))) }
+    ensures words { OnOk result (out.new.items
+        ≡ out.old.items ++ words_of (lines_instrs frame.now (map (vbi_strip frame.now field) (range_with_len 0 frame.now.vbi_lines)))) }
     ensures kept { BeginsWith out.old.items out.new.items }
 {
     for line in 0..frame.desc().vbi_lines {

@@ -9,7 +9,9 @@ loop-rect-init c = record { few = omega arith; rest = omega (arith, few_edges c.
 pub loop-rect-preserved : goal.loop-rect-preserved
 loop-rect-preserved c =
     let rects = c.args.rects.now in
-    let next = ap (λ rest. next_edge rest c.args.row) (drop-cons rects c.loop-rect.rect-index (record { x = 0; y = 0; w = 0; h = 0 }) c.loop-rect-test.true) in
+    let next =
+    ap (λ rest. next_edge rest c.args.row)
+    (drop-cons rects c.loop-rect.rect-index (record { x = 0; y = 0; w = 0; h = 0 }) c.loop-rect-test.true) in
     record {
       few = omega (arith, c.min-next.ensures, c.loop-rect.invariant.few);
       rest = rw add-one (omega (arith, next, c.edge_after.ensures, c.min-next.ensures, c.loop-rect.invariant.rest));

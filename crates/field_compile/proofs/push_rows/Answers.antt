@@ -24,7 +24,8 @@ loop-number-init c =
 
 pub returns-in_err-push_row-clause-kept : goal.returns-in_err-push_row-clause-kept
 returns-in_err-push_row-clause-kept c =
-    begins_then c.args.out.now.items c.loop-number.out.items c.push_row.new.out.items c.loop-number.invariant.left.kept c.push_row.ensures.kept
+    begins_then c.args.out.now.items c.loop-number.out.items c.push_row.new.out.items c.loop-number.invariant.left.kept
+    c.push_row.ensures.kept
 
 pub loop-number-preserved : goal.loop-number-preserved
 loop-number-preserved c =
@@ -37,7 +38,8 @@ loop-number-preserved c =
     let at = c.loop-number.number in
     let all = rows_instrs d (rows_of d field) in
     let row = picture_row (is_both d.fields) field at in
-    let same : c.picture_row-row.result ≡ row = c.picture_row-row.ensures ∙ ap (λ (e : Desc). picture_row (is_both e.fields) field at) c.desc.ensures.value in
+    let same : c.picture_row-row.result ≡ row =
+    c.picture_row-row.ensures ∙ ap (λ (e : Desc). picture_row (is_both e.fields) field at) c.desc.ensures.value in
     let more = some_left end at c.loop-number-test.true in
     record {
       left = fewer_left old out new (line_instrs d (row_strip d row)) (rows_instrs d (rows_from d field (at + 1) (end - (at + 1)))) all
@@ -57,5 +59,6 @@ returns-clause-words c =
     let end = c.rows_of-number-end.result in
     let behind = c.loop-number-test.false in
     let none : end - at ≡ 0 = omega arith in
-    none_left c.args.out.now.items c.loop-number.out.items (rows_instrs d (rows_from d field at (end - at))) (rows_instrs d (rows_of d field)) c.loop-number.invariant.left
+    none_left c.args.out.now.items c.loop-number.out.items (rows_instrs d (rows_from d field at (end - at)))
+    (rows_instrs d (rows_of d field)) c.loop-number.invariant.left
     (ap (λ (n : ℕ). rows_instrs d (rows_from d field at n)) none)

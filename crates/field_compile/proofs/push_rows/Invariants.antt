@@ -10,7 +10,8 @@ use Rattle.field_compile.proofs.push_rows.Given as goal
 abbrev pub invariant-loop-number : goal.invariant-loop-number
 invariant-loop-number l =
     record {
-      left : IsLeft l.fn.out.items l.out.items (rows_instrs l.frame (rows_from l.frame l.field l.number (l.number-end - l.number))) (rows_instrs l.frame (rows_of l.frame l.field));
+      left : IsLeft l.fn.out.items l.out.items (rows_instrs l.frame (rows_from l.frame l.field l.number (l.number-end - l.number)))
+          (rows_instrs l.frame (rows_of l.frame l.field));
       below : Each (λ row. row < l.frame.height) (rows_from l.frame l.field l.number (l.number-end - l.number));
       spans : AreSpansOf l.frame l.spans;
       description : IsDescription l.frame;

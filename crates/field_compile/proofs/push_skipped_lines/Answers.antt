@@ -16,7 +16,8 @@ loop-preserved c =
     let end = c.desc.result.now.skip_lines in
     let at = c.loop.counter in
     let all = lines_instrs d (replicate d.skip_lines strip) in
-    fewer_lines d old out c.push_pieces.new.out.items strip (replicate (end - (at + 1)) strip) all c.is_planar-planar.result c.as_slice.result.now
+    fewer_lines d old out c.push_pieces.new.out.items strip
+    (replicate (end - (at + 1)) strip) all c.is_planar-planar.result c.as_slice.result.now
     (subst (λ (n : ℕ). IsLeft old out (lines_instrs d (replicate n strip)) all) (some_left end at c.loop-test.true) c.loop.invariant)
     (c.is_planar-planar.ensures ∙ ap (λ (f : Format). (layout f).planar) c.format.ensures.value)
     (c.as_slice.ensures ∙ c.in_ok-pieces.ensures.plan)

@@ -7,4 +7,5 @@ use Rattle.field_compile.proofs.push_skipped_lines.Given as goal
 -- the instructions of the lines that are left
 abbrev pub invariant-loop : goal.invariant-loop
 invariant-loop l =
-    IsLeft l.fn.out.items l.out.items (lines_instrs l.frame (replicate (l.end - l.counter) (skipped_strip l.frame))) (lines_instrs l.frame (replicate l.frame.skip_lines (skipped_strip l.frame)))
+    IsLeft l.fn.out.items l.out.items (lines_instrs l.frame (replicate (l.end - l.counter) (skipped_strip l.frame)))
+    (lines_instrs l.frame (replicate l.frame.skip_lines (skipped_strip l.frame)))

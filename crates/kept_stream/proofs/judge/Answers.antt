@@ -10,7 +10,8 @@ returns-in-Bad c =
     let at = c.loop-at.at in
     let so_far = c.loop-at.invariant.whole in
     met_fault bytes c.in-Bad.fault so_far.0 (resumed c.loop-at.reader (drop at bytes)) so_far.1
-    (rw c.in-Bad.is at (front_used c.loop-at.reader c.use_front-used.new.reader c.use_front-used.result.1 at c.use_front-used.result.0 bytes bytes refl c.use_front-used.ensures.whole))
+    (rw c.in-Bad.is at (front_used c.loop-at.reader c.use_front-used.new.reader c.use_front-used.result.1 at c.use_front-used.result.0 bytes
+    bytes refl c.use_front-used.ensures.whole))
 
 pub loop-at-preserved : goal.loop-at-preserved
 loop-at-preserved c =
@@ -25,7 +26,9 @@ loop-at-preserved c =
     record {
       within = let inside = c.loop-at.invariant.within in omega (arith, few, size, inside);
       whole =
-          answered bytes c.use_front-used.result.1 so_far.0 (resumed c.loop-at.reader (drop at bytes)) (resumed after (drop (at + used) bytes)) so_far.1
-          (front_used c.loop-at.reader after c.use_front-used.result.1 at used bytes bytes refl c.use_front-used.ensures.whole) c.in_default.not-Bad;
+          answered bytes c.use_front-used.result.1 so_far.0 (resumed c.loop-at.reader (drop at bytes))
+          (resumed after (drop (at + used) bytes)) so_far.1
+          (front_used c.loop-at.reader after c.use_front-used.result.1 at used bytes bytes refl c.use_front-used.ensures.whole)
+          c.in_default.not-Bad;
       place = c.use_front-used.ensures.moves at c.loop-at.invariant.place;
     }

@@ -14,4 +14,5 @@ returns c =
     (IsPartitionedBy-leb pair_end c.args.chunks.now c.args.addr (ends_rise 0 c.args.chunks.now c.requires))
     (λ a r f called. search rules)
     in
-    sym (prefix_len_is early c.args.chunks.now place (0, 0) c.partition_point.ensures.bound (λ k below. parts.0 k (0, 0) (omega arith) below) (λ below. parts.1 place (0, 0) (omega arith) below))
+    sym (prefix_len_is early c.args.chunks.now place (0, 0) c.partition_point.ensures.bound
+    (λ k below. parts.0 k (0, 0) (omega arith) below) (λ below. parts.1 place (0, 0) (omega arith) below))

@@ -8,6 +8,8 @@ shares_byte-requires-clause-chunk c =
 
 pub loop-i-preserved : goal.loop-i-preserved
 loop-i-preserved c =
-    let more = one_more_pair c.loop-i.set.entries c.args.chunks.now c.loop-i.i c.requires.aligned c.loop-i-test.true c.loop-i.invariant (sym c.shares_byte.ensures ∙ c.if-shares_byte.false) in
+    let more =
+    one_more_pair c.loop-i.set.entries c.args.chunks.now c.loop-i.i c.requires.aligned c.loop-i-test.true c.loop-i.invariant
+    (sym c.shares_byte.ensures ∙ c.if-shares_byte.false) in
     let e = c.in_ok-insert.ensures.entries in
     rw e more

@@ -10,9 +10,14 @@ returns c =
     let split = c.whole_lines-end.ensures in
     let told = c.in_ok-file.ensures in
     elim c.match-branch-2.branch [
-      | in-Whole+else-end-text w ↦ rw w.fault-is
-          (omega arith, rest_at_fault text end _ c.in_ok-file.field-0 _ (omega arith) split.whole split.plain (ap (λ (n : ℕ). n + 1) w.count_lines.ensures.value) w.in-Whole.is told)
-      | in-Begun w ↦ rw w.fault-is
-          (omega arith, ends_short text end _ c.in_ok-file.field-0 split.whole split.plain w.count_lines-in-Begun.ensures.value w.in-Begun.is told)
+      | in-Whole+else-end-text w ↦ rw w.fault-is (
+        omega arith,
+        rest_at_fault text end _ c.in_ok-file.field-0 _ (omega arith) split.whole split.plain
+            (ap (λ (n : ℕ). n + 1) w.count_lines.ensures.value) w.in-Whole.is told,
+      )
+      | in-Begun w ↦ rw w.fault-is (
+        omega arith,
+        ends_short text end _ c.in_ok-file.field-0 split.whole split.plain w.count_lines-in-Begun.ensures.value w.in-Begun.is told,
+      )
       | in-Wrong+in_ok-first_wrong-in-Wrong w ↦ rw w.fault-is (omega arith, line_at_fault text end _ w.in_ok-first_wrong-in-Wrong.ensures)
     ]

@@ -13,5 +13,6 @@ loop-told-preserved c =
       from = omega (arith, c.loop-told.invariant.from);
       within = omega (arith, c.push_line-told.ensures.within.1, len);
       lines = λ later. settled_more c.args.base i c.push_line-told.result words _ _ _ _ later is (omega arith) (omega (arith, len))
-          c.push_line-told.ensures.number c.push_line-told.ensures.within.0 c.push_line-told.ensures.text (c.loop-told.invariant.lines later);
+          c.push_line-told.ensures.number c.push_line-told.ensures.within.0 c.push_line-told.ensures.text
+          (c.loop-told.invariant.lines later);
     }

@@ -20,4 +20,5 @@ loop-number-preserved c =
     let inside : n < length spans = subst (λ end. n < end) c.len-number-end.ensures c.loop-number-test.true in
     let at = c.at.ensures no_span in
     let words = c.words_of.ensures no_span in
-    spans_more spans n (span c.at.result c.words_of.result.now) _ _ _ inside (λ i. record { at = at i; words = words i }) c.in_ok-put_span.ensures c.loop-number.invariant
+    spans_more spans n (span c.at.result c.words_of.result.now) _ _ _ inside
+    (λ i. record { at = at i; words = words i }) c.in_ok-put_span.ensures c.loop-number.invariant

@@ -6,8 +6,10 @@ use Rattle.risc_listing.proofs.spelled.Goals as goal
 pub returns-then-is_plain-clause-value : goal.returns-then-is_plain-clause-value
 returns-then-is_plain-clause-value c =
     ap (λ number. Some (c.in-Ok.instr, number)) c.from.ensures
-    ∙ sym (spelled_where c.args.is_plain true c.args.words.now (λ k. let fits = c.type_inv.words k in omega arith) c.in-Ok.instr c.in-Ok.number c.in-Ok.ensures.value c.requires c.if-is_plain.true)
+    ∙ sym (spelled_where c.args.is_plain true c.args.words.now
+    (λ k. let fits = c.type_inv.words k in omega arith) c.in-Ok.instr c.in-Ok.number c.in-Ok.ensures.value c.requires c.if-is_plain.true)
 
 pub returns-else-is_plain-clause-value : goal.returns-else-is_plain-clause-value
 returns-else-is_plain-clause-value c =
-    sym (spelled_where c.args.is_plain false c.args.words.now (λ k. let fits = c.type_inv.words k in omega arith) c.in-Ok.instr c.in-Ok.number c.in-Ok.ensures.value c.requires c.if-is_plain.false)
+    sym (spelled_where c.args.is_plain false c.args.words.now
+    (λ k. let fits = c.type_inv.words k in omega arith) c.in-Ok.instr c.in-Ok.number c.in-Ok.ensures.value c.requires c.if-is_plain.false)

@@ -15,7 +15,8 @@ loop-line-preserved c =
     let end = c.desc.result.now.vbi_lines in
     let at = c.loop-line.line in
     let all = vbi_lines_from d field 0 d.vbi_lines in
-    fewer_lines d old out c.push_pieces.new.out.items (vbi_strip d field at) (map (vbi_strip d field) (range_with_len (at + 1) (end - (at + 1)))) all false c.as_slice.result.now
+    fewer_lines d old out c.push_pieces.new.out.items (vbi_strip d field at)
+    (map (vbi_strip d field) (range_with_len (at + 1) (end - (at + 1)))) all false c.as_slice.result.now
     (subst (λ (n : ℕ). IsLeft old out (vbi_lines_from d field at n) all) (some_left end at c.loop-line-test.true) c.loop-line.invariant)
     refl
     (c.as_slice.ensures ∙ c.in_ok-pieces.ensures.plan)

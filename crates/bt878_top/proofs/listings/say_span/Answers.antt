@@ -10,4 +10,5 @@ returns-in_err-say_address-clause-says g c =
 
 pub returns-clause-says : goal.returns-clause-says
 returns-clause-says g c =
-    then_said (span_line c.args.at) (word_lines c.args.at 0 c.args.words.now) _ _ _ c.say_words.result c.in_ok-say_address.ensures.says c.say_words.ensures.says
+    then_said (span_line c.args.at)
+    (word_lines c.args.at 0 c.args.words.now) _ _ _ c.say_words.result c.in_ok-say_address.ensures.says c.say_words.ensures.says

@@ -42,5 +42,6 @@ loop-number-preserved g c =
       before.0 ++ span_lines s,
       said.0,
       said.1,
-      said_both before.0 (span_lines s) (see c.args.desk.now) (see c.loop-number.desk) (see c.say_span.new.desk) before.3 c.in_ok-say_span.ensures.counts,
+      said_both before.0 (span_lines s) (see c.args.desk.now) (see c.loop-number.desk)
+          (see c.say_span.new.desk) before.3 c.in_ok-say_span.ensures.counts,
     )

@@ -8,4 +8,5 @@ abbrev pub invariant-loop-number : goal.invariant-loop-number
 invariant-loop-number g l =
     (said : List ℕ)
     × (said ++ flat_map span_lines (drop l.number l.spans) ≡ flat_map span_lines l.spans)
-    × ((g.D.Desk.seen l.desk).told ≡ after_say said (g.D.Desk.seen l.fn.desk).told) × OnlySaid said (g.D.Desk.seen l.fn.desk) (g.D.Desk.seen l.desk)
+    × ((g.D.Desk.seen l.desk).told ≡ after_say said (g.D.Desk.seen l.fn.desk).told)
+    × OnlySaid said (g.D.Desk.seen l.fn.desk) (g.D.Desk.seen l.desk)

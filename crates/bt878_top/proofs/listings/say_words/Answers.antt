@@ -23,12 +23,14 @@ loop-next-preserved g c =
       within = c.push_words-next.ensures.within.1;
       said =
           let said = piece_said before.0 c.as_bytes.result.now _ _ _ _ _ _
-          (split c.args.base c.loop-next.next c.push_words-next.result c.args.words.now _ _ _ _ c.as_bytes.ensures.value c.as_str.ensures.value c.clear.ensures c.push_words-next.ensures.lines)
+          (split c.args.base c.loop-next.next c.push_words-next.result c.args.words.now _ _ _ _ c.as_bytes.ensures.value
+          c.as_str.ensures.value c.clear.ensures c.push_words-next.ensures.lines)
           before.1 before.2 c.in_ok-say_all.ensures.says in (
             before.0 ++ c.as_bytes.result.now,
             said.0,
             said.1,
-            said_both before.0 c.as_bytes.result.now (see c.args.desk.now) (see c.loop-next.desk) (see c.say_all.new.desk) before.3 c.in_ok-say_all.ensures.counts,
+            said_both before.0 c.as_bytes.result.now (see c.args.desk.now) (see c.loop-next.desk)
+                (see c.say_all.new.desk) before.3 c.in_ok-say_all.ensures.counts,
           );
     }
 
@@ -37,14 +39,16 @@ returns-in_err-say_all-clause-counts g c =
     let p = err_from_is_err_and c.from_residual.result c.from_residual.ensures.1 in
     let see = g.D.Desk.seen in
     let before = c.loop-next.invariant.said in
-    rw p.1 (fault_later before.0 c.as_bytes.result.now [] c.in_err-say_all.field-0.0 (see c.args.desk.now) (see c.loop-next.desk) (see c.say_all.new.desk) before.3 c.in_err-say_all.ensures.counts)
+    rw p.1 (fault_later before.0 c.as_bytes.result.now [] c.in_err-say_all.field-0.0 (see c.args.desk.now) (see c.loop-next.desk)
+    (see c.say_all.new.desk) before.3 c.in_err-say_all.ensures.counts)
 
 pub returns-in_err-say_all-clause-says : goal.returns-in_err-say_all-clause-says
 returns-in_err-say_all-clause-says g c =
     let p = err_from_is_err_and c.from_residual.result c.from_residual.ensures.1 in
     let before = c.loop-next.invariant.said in
     rw p.1 (piece_breaks_off before.0 c.as_bytes.result.now _ _ _ _ _ _
-    (split c.args.base c.loop-next.next c.push_words-next.result c.args.words.now _ _ _ _ c.as_bytes.ensures.value c.as_str.ensures.value c.clear.ensures c.push_words-next.ensures.lines)
+    (split c.args.base c.loop-next.next c.push_words-next.result c.args.words.now _ _ _ _ c.as_bytes.ensures.value c.as_str.ensures.value
+    c.clear.ensures c.push_words-next.ensures.lines)
     before.1 before.2 c.in_err-say_all.ensures.says)
 
 pub returns-clause-says : goal.returns-clause-says

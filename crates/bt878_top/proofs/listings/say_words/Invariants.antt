@@ -9,7 +9,8 @@ invariant-loop-next g l =
       within : l.next ≤ length l.words;
       said : (said : List ℕ)
           × (said ++ word_lines (l.base + 4 * l.next) 0 (drop l.next l.words) ≡ word_lines l.base 0 l.words)
-          × ((g.D.Desk.seen l.desk).told ≡ after_say said (g.D.Desk.seen l.fn.desk).told) × OnlySaid said (g.D.Desk.seen l.fn.desk) (g.D.Desk.seen l.desk);
+          × ((g.D.Desk.seen l.desk).told ≡ after_say said (g.D.Desk.seen l.fn.desk).told)
+          × OnlySaid said (g.D.Desk.seen l.fn.desk) (g.D.Desk.seen l.desk);
     }
 
 abbrev pub decreases-loop-next : goal.decreases-loop-next

@@ -10,7 +10,8 @@ use Rattle.bt878_top.proofs.programs.check.Goals as goal
 pub returns-in_err-loaded-clause-takes : goal.returns-in_err-loaded-clause-takes
 returns-in_err-loaded-clause-takes g c =
     let see = g.D.Desk.seen in
-    first_stops (a_sound_program c.args.program.now) (a_shown_description c.args.program.now c.args.desc.now) c.from_residual.result c.in_err-loaded.field-0.0 (see c.args.desk.now) (see c.accept.new.desk) c.from_residual.ensures.1 c.in_err-loaded.ensures.takes
+    first_stops (a_sound_program c.args.program.now) (a_shown_description c.args.program.now c.args.desc.now) c.from_residual.result
+    c.in_err-loaded.field-0.0 (see c.args.desk.now) (see c.accept.new.desk) c.from_residual.ensures.1 c.in_err-loaded.ensures.takes
 
 pub returns-in_err-text-clause-takes : goal.returns-in_err-text-clause-takes
 returns-in_err-text-clause-takes g c =
@@ -20,9 +21,13 @@ returns-in_err-text-clause-takes g c =
     let loaded = c.in_ok-loaded.loaded in
     let P = λ (bytes : List ℕ). Accepts (program_of bytes) loaded.accepted loaded.fill in
     let refusal = c.in_err-text.field-0.0 in
-    let reads = still_told c.args.program.now mid.told old.told P P (sym c.in_ok-loaded.ensures.takes.told) (λ bytes is. is) c.in_ok-loaded.ensures.accepts in
-    second_stops (a_sound_program c.args.program.now) (a_shown_description c.args.program.now c.args.desc.now) c.from_residual-in_err-text.result refusal old mid new c.from_residual-in_err-text.ensures.1 refl c.in_ok-loaded.ensures.takes
-    (shown_taken c.args.program.now c.args.desc.now loaded.accepted loaded.fill mid new reads {A = ℕ} [] (Err refusal) c.in_err-text.ensures.takes)
+    let reads =
+    still_told c.args.program.now mid.told old.told P P (sym c.in_ok-loaded.ensures.takes.told)
+    (λ bytes is. is) c.in_ok-loaded.ensures.accepts in
+    second_stops (a_sound_program c.args.program.now) (a_shown_description c.args.program.now c.args.desc.now)
+    c.from_residual-in_err-text.result refusal old mid new c.from_residual-in_err-text.ensures.1 refl c.in_ok-loaded.ensures.takes
+    (shown_taken c.args.program.now c.args.desc.now loaded.accepted loaded.fill mid new reads {A = ℕ} []
+    (Err refusal) c.in_err-text.ensures.takes)
 
 pub returns-clause-takes : goal.returns-clause-takes
 returns-clause-takes g c =
@@ -31,8 +36,11 @@ returns-clause-takes g c =
     let new = g.D.Desk.seen c.shown_file.new.desk in
     let loaded = c.in_ok-loaded.loaded in
     let P = λ (bytes : List ℕ). Accepts (program_of bytes) loaded.accepted loaded.fill in
-    let reads = still_told c.args.program.now mid.told old.told P P (sym c.in_ok-loaded.ensures.takes.told) (λ bytes is. is) c.in_ok-loaded.ensures.accepts in
-    both_taken (a_sound_program c.args.program.now) (a_shown_description c.args.program.now c.args.desc.now) old mid new c.in_ok-loaded.ensures.takes
+    let reads =
+    still_told c.args.program.now mid.told old.told P P (sym c.in_ok-loaded.ensures.takes.told)
+    (λ bytes is. is) c.in_ok-loaded.ensures.accepts in
+    both_taken (a_sound_program c.args.program.now)
+    (a_shown_description c.args.program.now c.args.desc.now) old mid new c.in_ok-loaded.ensures.takes
     (shown_taken c.args.program.now c.args.desc.now loaded.accepted loaded.fill mid new reads {A = ℕ} [] (Ok 0) c.in_ok-text.ensures.takes)
 
 pub returns-clause-makes : goal.returns-clause-makes

@@ -38,7 +38,8 @@ loop-at-init g c =
 
 pub append-requires-clause-open : goal.append-requires-clause-open
 append-requires-clause-open g c =
-    subst (IsReady c.args.sink) (sym c.loop-at.invariant.done) (ready_after c.args.sink (take c.loop-at.at c.args.bytes.now) _ c.requires.open)
+    subst (IsReady c.args.sink) (sym c.loop-at.invariant.done)
+    (ready_after c.args.sink (take c.loop-at.at c.args.bytes.now) _ c.requires.open)
 
 pub loop-at-preserved : goal.loop-at-preserved
 loop-at-preserved g c =

@@ -5,7 +5,10 @@ use Rattle.capture_desk.proofs.memory.input_of.Goals as goal
 
 pub returns-then-eq : goal.returns-then-eq
 returns-then-eq c =
-    let read = get_or_read_under c.args.inputs.now c.loop-i.i (length c.args.inputs.now) c.index-inputs-i.result ([], []) c.index-inputs-i.is c.loop-i-test.true refl in
+    let read = get_or_read_under c.args.inputs.now c.loop-i.i (length c.args.inputs.now) c.index-inputs-i.result (
+      [],
+      [],
+    ) c.index-inputs-i.is c.loop-i-test.true refl in
     first_by c.args.name.now c.as_slice.result.now c.args.inputs.now ([], []) c.loop-i.i c.loop-i-test.true
     (c.as_slice.ensures ∙ ap (λ x. x.0) read) (sym c.eq.ensures ∙ c.if-eq.true) c.loop-i.invariant
 

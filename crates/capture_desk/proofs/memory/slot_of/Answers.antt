@@ -18,4 +18,6 @@ loop-i-preserved c =
     (c.as_slice.ensures ∙ ap (λ x. x.0) read) (sym c.eq.ensures ∙ c.if-eq.false) c.loop-i.invariant
 
 pub returns : goal.returns
-returns c = named_none c.args.name.now (map entry c.args.slots.now) nothing (λ k l. c.loop-i.invariant k (let n = rw length-map at l in omega (arith, n)))
+returns c =
+    named_none c.args.name.now (map entry c.args.slots.now) nothing
+    (λ k l. c.loop-i.invariant k (let n = rw length-map at l in omega (arith, n)))

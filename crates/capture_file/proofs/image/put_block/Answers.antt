@@ -5,4 +5,5 @@ use Rattle.capture_file.proofs.image.put_block.Goals as goal
 
 pub returns-clause-puts : goal.returns-clause-puts
 returns-clause-puts g c =
-    puts_then (place_image c.args.layout c.args.at (length c.args.bytes.now)) c.args.bytes.now _ _ _ c.put.result c.in_ok-put_place.ensures.puts c.put.ensures.puts
+    puts_then (place_image c.args.layout c.args.at (length c.args.bytes.now)) c.args.bytes.now _ _ _ c.put.result
+    c.in_ok-put_place.ensures.puts c.put.ensures.puts

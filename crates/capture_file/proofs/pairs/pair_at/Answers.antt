@@ -2,9 +2,14 @@ use Rattle.std.proofs.Common.{rules, ◌≡◌, ◌-◌, ◌∙◌, Some, drop, 
 use Rattle.std.proofs.lemmas.List.{take_rest}
 use Rattle.capture_file.specs.Streams.{most_turns, number_at}
 use Rattle.capture_file.proofs.OtherRecords.{number_there, pair_bytes, same_number}
-use Rattle.capture_file.proofs.pairs.pair_at.Goals.{then-bytes-lt-PAIR-via-then-bytes-lt-PAIR, then-bytes-lt-PAIR-via-else-bytes-lt-PAIR+then-bytes-push_tag}
-use Rattle.capture_file.proofs.pairs.pair_at.Goals.{then-bytes-lt-PAIR-via-else-bytes-lt-PAIR+else-bytes-push_tag+then-bytes-ne-PIXELS_VALID}
-use Rattle.capture_file.proofs.pairs.pair_at.Goals.{then-bytes-lt-PAIR-via-else-bytes-lt-PAIR+else-bytes-push_tag+else-bytes-ne-PIXELS_VALID+then-bytes-ne-TURNS}
+use Rattle.capture_file.proofs.pairs.pair_at.Goals.{then-bytes-lt-PAIR-via-then-bytes-lt-PAIR}
+use Rattle.capture_file.proofs.pairs.pair_at.Goals.{then-bytes-lt-PAIR-via-else-bytes-lt-PAIR+then-bytes-push_tag}
+use Rattle.capture_file.proofs.pairs.pair_at.Goals.{
+  then-bytes-lt-PAIR-via-else-bytes-lt-PAIR+else-bytes-push_tag+then-bytes-ne-PIXELS_VALID,
+}
+use Rattle.capture_file.proofs.pairs.pair_at.Goals.{
+  then-bytes-lt-PAIR-via-else-bytes-lt-PAIR+else-bytes-push_tag+else-bytes-ne-PIXELS_VALID+then-bytes-ne-TURNS,
+}
 use Rattle.capture_file.proofs.pairs.pair_at.Goals.{then-turns-eq0-via-then-turns-eq0, then-turns-eq0-via-else-turns-eq0+then-turns-left}
 use Rattle.capture_file.proofs.pairs.pair_at.Goals as goal
 
@@ -15,8 +20,10 @@ returns-then-bytes-lt-PAIR-clause-none c = λ dword count is.
     elim c.then-bytes-lt-PAIR.branch [
       | then-bytes-lt-PAIR-via-then-bytes-lt-PAIR w ↦ omega (arith, whole, w.if-bytes-lt-PAIR.true)
       | then-bytes-lt-PAIR-via-else-bytes-lt-PAIR+then-bytes-push_tag w ↦ w.if-bytes-push_tag.true (known.tag ∙ sym w.push_tag.ensures)
-      | then-bytes-lt-PAIR-via-else-bytes-lt-PAIR+else-bytes-push_tag+then-bytes-ne-PIXELS_VALID w ↦ w.if-bytes-ne-PIXELS_VALID.true known.status
-      | then-bytes-lt-PAIR-via-else-bytes-lt-PAIR+else-bytes-push_tag+else-bytes-ne-PIXELS_VALID+then-bytes-ne-TURNS w ↦ w.if-bytes-ne-TURNS.true known.turn
+      | then-bytes-lt-PAIR-via-else-bytes-lt-PAIR+else-bytes-push_tag+then-bytes-ne-PIXELS_VALID w ↦
+          w.if-bytes-ne-PIXELS_VALID.true known.status
+      | then-bytes-lt-PAIR-via-else-bytes-lt-PAIR+else-bytes-push_tag+else-bytes-ne-PIXELS_VALID+then-bytes-ne-TURNS w ↦
+          w.if-bytes-ne-TURNS.true known.turn
     ]
 
 pub returns-then-turns-eq0-clause-none : goal.returns-then-turns-eq0-clause-none
@@ -29,7 +36,8 @@ returns-then-turns-eq0-clause-none c = λ dword count is.
     subst (λ bytes. number_at bytes ≡ Some c.read_u32-turns.result) (take_rest c.args.bytes.now 7)
     (number_there _ c.read_u32-turns.result (search (rules, whole)) c.read_u32-turns.ensures)
     in
-    let same : c.read_u32-turns.result ≡ count = same_number c.read_u32-turns.result count (number_at (drop 7 c.args.bytes.now)) read known.number in
+    let same : c.read_u32-turns.result ≡ count =
+    same_number c.read_u32-turns.result count (number_at (drop 7 c.args.bytes.now)) read known.number in
     elim c.then-turns-eq0.branch [
       | then-turns-eq0-via-then-turns-eq0 w ↦ omega (arith, some, same, w.if-turns-eq0.true)
       | then-turns-eq0-via-else-turns-eq0+then-turns-left w ↦ omega (arith, few, same, w.if-turns-left.true, c.requires)

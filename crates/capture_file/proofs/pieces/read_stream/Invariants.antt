@@ -6,6 +6,7 @@ use Rattle.capture_file.proofs.pieces.read_stream.Given as goal
 
 abbrev pub invariant-loop-piece : goal.invariant-loop-piece
 invariant-loop-piece l = record {
-  whole : stream_of l.limit l.chained (flat_map (λ piece. piece.items) l.pieces) ≡ behind l.steps.items (resumed l.reader (flat_map (λ piece. piece.items) (drop l.piece-index l.pieces)));
+  whole : stream_of l.limit l.chained (flat_map (λ piece. piece.items) l.pieces)
+      ≡ behind l.steps.items (resumed l.reader (flat_map (λ piece. piece.items) (drop l.piece-index l.pieces)));
   place : PlacedAt l.reader.phase l.reader.place (length (flat_map (λ piece. piece.items) (take l.piece-index l.pieces)));
 }

@@ -9,7 +9,8 @@ returns-in-Ok-clause-value c =
 
 pub unreachable-requires-in-Err-Unaligned : goal.unreachable-requires-in-Err-Unaligned
 unreachable-requires-in-Err-Unaligned c =
-    not_taken c.args.chunks.now c.in-Err-Unaligned.field-0 c.requires.rising c.requires.few c.requires.small c.in-Err-Unaligned.ensures.answer
+    not_taken c.args.chunks.now c.in-Err-Unaligned.field-0 c.requires.rising c.requires.few c.requires.small
+    c.in-Err-Unaligned.ensures.answer
     (λ (e : c.in-Err-Unaligned.field-0 ≡ Memory). cc c.in-Err-Unaligned.field-0-is)
 
 pub unreachable-requires-in-Err-Twice : goal.unreachable-requires-in-Err-Twice

@@ -7,11 +7,13 @@ pub returns-then-stands_in : goal.returns-then-stands_in
 returns-then-stands_in c =
     let inside : c.loop-number.number < length c.args.spans.now = omega arith in
     sym
-    (is_found c.args.spans.now c.loop-number.number inside (span c.at.result c.words_of.result.now) (λ d. by_parts _ c.at.result c.words_of.result.now (c.at.ensures d) (c.words_of.ensures d)) c.args.address
+    (is_found c.args.spans.now c.loop-number.number inside (span c.at.result c.words_of.result.now)
+    (λ d. by_parts _ c.at.result c.words_of.result.now (c.at.ensures d) (c.words_of.ensures d)) c.args.address
     (sym c.stands_in.ensures ∙ c.if-stands_in.true) c.loop-number.invariant)
 
 pub loop-number-preserved : goal.loop-number-preserved
 loop-number-preserved c =
     let inside : c.loop-number.number < length c.args.spans.now = omega arith in
-    not_found c.args.spans.now c.loop-number.number inside (span c.at.result c.words_of.result.now) (λ d. by_parts _ c.at.result c.words_of.result.now (c.at.ensures d) (c.words_of.ensures d)) c.args.address
+    not_found c.args.spans.now c.loop-number.number inside (span c.at.result c.words_of.result.now)
+    (λ d. by_parts _ c.at.result c.words_of.result.now (c.at.ensures d) (c.words_of.ensures d)) c.args.address
     (sym c.stands_in.ensures ∙ c.if-stands_in.false) c.loop-number.invariant

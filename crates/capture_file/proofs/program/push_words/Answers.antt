@@ -10,7 +10,8 @@ loop-number-preserved c =
     let len = with_word-length c.loop-number.spans c.number_from.result in
     record {
       words = rw c.in_ok-push.ensures.pushed
-          (words_pushed c.loop-number.spans c.args.bytes.now c.args.count c.loop-number.number c.number_from.result (with_words c.args.spans.now (words_in c.args.count c.args.bytes.now))
+          (words_pushed c.loop-number.spans c.args.bytes.now c.args.count c.loop-number.number c.number_from.result
+          (with_words c.args.spans.now (words_in c.args.count c.args.bytes.now))
           c.loop-number-test.true c.number_from.ensures c.loop-number.invariant.words);
       some = rw c.in_ok-push.ensures.pushed (omega (arith, some, len));
     }

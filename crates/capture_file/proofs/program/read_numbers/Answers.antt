@@ -5,7 +5,8 @@ use Rattle.capture_file.proofs.program.read_numbers.Goals as goal
 
 pub loop-i-preserved : goal.loop-i-preserved
 loop-i-preserved c =
-    words_set c.loop-i.numbers c.args.bytes.now _ c.loop-i.i c.number_from.result c.loop-i-test.true c.loop-i.auto.numbers c.number_from.ensures
+    words_set c.loop-i.numbers c.args.bytes.now _ c.loop-i.i c.number_from.result c.loop-i-test.true c.loop-i.auto.numbers
+    c.number_from.ensures
     c.loop-i.invariant
 
 pub returns : goal.returns

@@ -11,7 +11,9 @@ loop-at-preserved c =
     let words = c.loop-at.words.items in
     let room : few ≤ length c.loop-at.group = omega arith in
     let within : at + few ≤ c.args.count = omega arith in
-    let read = group_read words c.extend_from_slice.new.self.items bytes c.loop-at.group c.read_numbers.new.numbers at few room c.read_numbers.auto.numbers c.read_numbers.ensures c.in_ok-extend_from_slice.ensures.items in
+    let read =
+    group_read words c.extend_from_slice.new.self.items bytes c.loop-at.group c.read_numbers.new.numbers at few room
+    c.read_numbers.auto.numbers c.read_numbers.ensures c.in_ok-extend_from_slice.ensures.items in
     record {
       words = ap (λ (ws : List ℕ). ws ++ words_in (c.args.count - (at + few)) (drop (4 * (at + few)) bytes)) read.0
           ∙ words_group words bytes c.args.count at few within c.loop-at.invariant.words;

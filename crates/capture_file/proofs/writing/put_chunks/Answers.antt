@@ -14,11 +14,18 @@ loop-at-preserved g c =
     record {
       within = within;
       room = c.list_chunks-listed.auto.out ∙ c.loop-at.invariant.room;
-      done = chunks_more (chunk_in c.args.layout) c.args.grants.now c.loop-at.at c.min-count.result _ _ _ c.loop-at.invariant.done _ c.list_chunks-listed.ensures.numbers c.in_ok-put_numbers.ensures.puts;
-      counts = (c.in_ok-put_numbers.ensures.counts.0 ∙ c.loop-at.invariant.counts.0, c.in_ok-put_numbers.ensures.counts.1 ∙ c.loop-at.invariant.counts.1, c.in_ok-put_numbers.ensures.counts.2 ∙ c.loop-at.invariant.counts.2);
+      done =
+          chunks_more (chunk_in c.args.layout) c.args.grants.now c.loop-at.at c.min-count.result _ _ _ c.loop-at.invariant.done _
+          c.list_chunks-listed.ensures.numbers c.in_ok-put_numbers.ensures.puts;
+      counts = (
+        c.in_ok-put_numbers.ensures.counts.0 ∙ c.loop-at.invariant.counts.0,
+        c.in_ok-put_numbers.ensures.counts.1 ∙ c.loop-at.invariant.counts.1,
+        c.in_ok-put_numbers.ensures.counts.2 ∙ c.loop-at.invariant.counts.2,
+      );
     }
 
 pub returns-in_err-put_numbers-clause-puts : goal.returns-in_err-put_numbers-clause-puts
 returns-in_err-put_numbers-clause-puts g c =
     let p = err_from_is_err_and c.from_residual.result c.from_residual.ensures.1 in
-    rw p.1 (chunks_break (chunk_in c.args.layout) c.args.grants.now c.loop-at.at c.min-count.result _ _ _ c.loop-at.invariant.done _ c.list_chunks-listed.ensures.numbers c.in_err-put_numbers.ensures.puts)
+    rw p.1 (chunks_break (chunk_in c.args.layout) c.args.grants.now c.loop-at.at c.min-count.result _ _ _ c.loop-at.invariant.done _
+    c.list_chunks-listed.ensures.numbers c.in_err-put_numbers.ensures.puts)

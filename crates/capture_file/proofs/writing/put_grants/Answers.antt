@@ -9,4 +9,5 @@ returns-in_err-put_numbers-clause-puts g c =
 
 pub returns-clause-puts : goal.returns-clause-puts
 returns-clause-puts g c =
-    chunks_then c.args.layout c.args.grants.now _ _ _ c.put_chunks.result (rw c.len.ensures.value at c.in_ok-put_numbers.ensures.puts) c.put_chunks.ensures.puts
+    chunks_then c.args.layout c.args.grants.now _ _ _ c.put_chunks.result
+    (rw c.len.ensures.value at c.in_ok-put_numbers.ensures.puts) c.put_chunks.ensures.puts

@@ -8,4 +8,5 @@ returns-in_err-put_numbers-clause-puts g c =
     rw p.1 (two_break c.args.at _ c.args.words.now _ _ c.in_err-put_numbers.ensures.puts)
 
 pub returns-clause-puts : goal.returns-clause-puts
-returns-clause-puts g c = two_then c.args.at _ c.args.words.now _ _ _ c.put_numbers-2.result c.in_ok-put_numbers.ensures.puts c.put_numbers-2.ensures.puts
+returns-clause-puts g c =
+    two_then c.args.at _ c.args.words.now _ _ _ c.put_numbers-2.result c.in_ok-put_numbers.ensures.puts c.put_numbers-2.ensures.puts

@@ -14,7 +14,8 @@ loop-number-preserved g c =
     let inside : c.loop-number.number < length c.args.spans.now = omega arith in
     record {
       done =
-          span_more c.args.spans.now c.loop-number.number inside (span c.at.result c.words_of.result.now) (λ d. by_parts _ c.at.result c.words_of.result.now (c.at.ensures d) (c.words_of.ensures d))
+          span_more c.args.spans.now c.loop-number.number inside (span c.at.result c.words_of.result.now)
+          (λ d. by_parts _ c.at.result c.words_of.result.now (c.at.ensures d) (c.words_of.ensures d))
           _ _ _ c.loop-number.invariant.done c.in_ok-put_span.ensures.puts;
       counts = (
         c.in_ok-put_span.ensures.counts.0 ∙ c.loop-number.invariant.counts.0,
@@ -28,7 +29,8 @@ returns-in_err-put_span-clause-puts g c =
     let p = err_from_is_err_and c.from_residual.result c.from_residual.ensures.1 in
     let inside : c.loop-number.number < length c.args.spans.now = omega arith in
     rw p.1
-    (span_breaks c.args.spans.now c.loop-number.number inside (span c.at.result c.words_of.result.now) (λ d. by_parts _ c.at.result c.words_of.result.now (c.at.ensures d) (c.words_of.ensures d))
+    (span_breaks c.args.spans.now c.loop-number.number inside (span c.at.result c.words_of.result.now)
+    (λ d. by_parts _ c.at.result c.words_of.result.now (c.at.ensures d) (c.words_of.ensures d))
     _ _ _ c.loop-number.invariant.done c.in_err-put_span.ensures.puts)
 
 pub put_span-requires-clause-few : goal.put_span-requires-clause-few

@@ -4,7 +4,8 @@ use Rattle.clip_spans.proofs.RowsAlike.{alike_spans, later_edge}
 use Rattle.clip_spans.proofs.Clips.next_edge.Goals as goal
 
 pub returns-clause-later : goal.returns-clause-later
-returns-clause-later c = subst (λ to. c.args.row < to) (sym c.next_edge.ensures) (later_edge c.deref.result.now c.args.row c.ranges.row.fits)
+returns-clause-later c =
+    subst (λ to. c.args.row < to) (sym c.next_edge.ensures) (later_edge c.deref.result.now c.args.row c.ranges.row.fits)
 
 pub returns-clause-spans : goal.returns-clause-spans
 returns-clause-spans c = λ other width unit up below.

@@ -9,9 +9,12 @@ use Rattle.clip_spans.proofs.Clips.spans.Goals as goal
 
 pub returns-clause-spans : goal.returns-clause-spans
 returns-clause-spans c =
-    runs_along (is_inside c.in_ok-parts.parts.items) (clipped_at c.args.self.now c.args.row c.args.unit) c.args.width 0 c.in_ok-spans.spans.items
-    (subst (λ (rects : List Rect). (y : ℕ) → y < c.args.width → is_inside c.in_ok-parts.parts.items y ≡ clipped_at rects c.args.row c.args.unit y) (c.deref.ensures.value ∙ c.self.view_is) c.in_ok-parts.ensures.parts)
-    (subst (λ (parts : List Part). AreRunsFrom (is_inside parts) c.args.width 0 c.in_ok-spans.spans.items) c.deref-2.ensures.value c.in_ok-spans.ensures)
+    runs_along (is_inside c.in_ok-parts.parts.items)
+    (clipped_at c.args.self.now c.args.row c.args.unit) c.args.width 0 c.in_ok-spans.spans.items
+    (subst (λ (rects : List Rect). (y : ℕ) → y < c.args.width → is_inside c.in_ok-parts.parts.items y
+    ≡ clipped_at rects c.args.row c.args.unit y) (c.deref.ensures.value ∙ c.self.view_is) c.in_ok-parts.ensures.parts)
+    (subst (λ (parts : List Part). AreRunsFrom (is_inside parts) c.args.width 0 c.in_ok-spans.spans.items) c.deref-2.ensures.value
+    c.in_ok-spans.ensures)
 
 pub returns-clause-alternate : goal.returns-clause-alternate
 returns-clause-alternate c =

@@ -14,7 +14,8 @@ returns-in_err-frame-clause-takes g c =
     let old = g.D.Desk.seen c.args.desk.now in
     let new = g.D.Desk.seen c.frame_file.new.desk in
     let refusal = c.in_err-frame.field-0.0 in
-    not_judged name frame_files (shown_with program) c.from_residual.result refusal old new c.from_residual.ensures.1 (frame_stops program name old new refusal) c.in_err-frame.ensures.takes
+    not_judged name frame_files (shown_with program) c.from_residual.result refusal old new c.from_residual.ensures.1
+    (frame_stops program name old new refusal) c.in_err-frame.ensures.takes
 
 pub returns-clause-shown : goal.returns-clause-shown
 returns-clause-shown g c =
@@ -35,5 +36,7 @@ returns-clause-takes g c =
     let new = g.D.Desk.seen c.frame_file.new.desk in
     let r = c.judge.result in
     judged name frame_files (shown_with program) refl r old new
-    (IfOk-weaker r (Finds program d true) (λ _. OfInput name old.told.inputs (HoldsShown program)) (holds_shown program name old new d reads) c.judge.ensures.shown)
-    (IfErr-weaker r (IsRefusedBy program d) (λ refusal. StopsAt (IsBadFor program) name refusal old new) (differing_stops program name old new d reads) c.judge.ensures.refused) c.in_ok-frame.ensures.takes
+    (IfOk-weaker r (Finds program d true) (λ _. OfInput name old.told.inputs (HoldsShown program))
+    (holds_shown program name old new d reads) c.judge.ensures.shown)
+    (IfErr-weaker r (IsRefusedBy program d) (λ refusal. StopsAt (IsBadFor program) name refusal old new)
+    (differing_stops program name old new d reads) c.judge.ensures.refused) c.in_ok-frame.ensures.takes

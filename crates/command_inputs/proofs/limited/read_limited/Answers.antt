@@ -12,7 +12,8 @@ returns-in_err-bytes-clause-takes g c =
     let old = g.D.Desk.seen c.args.desk.now in
     let new = g.D.Desk.seen c.read_whole.new.desk in
     let refusal = c.in_err-bytes.field-0.0 in
-    not_judged name (raw_files c.args.most) (limited_files c.args.most c.args.file) c.from_residual.result refusal old new c.from_residual.ensures.1
+    not_judged name (raw_files c.args.most)
+    (limited_files c.args.most c.args.file) c.from_residual.result refusal old new c.from_residual.ensures.1
     (raw_stops (IsLonger c.args.most c.args.file) c.args.most name refusal old new) c.in_err-bytes.ensures.takes
 
 pub returns-then-len-most-clause-takes : goal.returns-then-len-most-clause-takes
@@ -23,14 +24,19 @@ returns-then-len-most-clause-takes g c =
     let new = g.D.Desk.seen c.read_whole.new.desk in
     let bytes = c.in_ok-bytes.bytes.items in
     let long : most < length bytes = omega (arith, c.len.ensures, c.if-len-most.true) in
-    found_bad name (raw_files most) (limited_files most c.args.file) refl _ old new
-    (refl, refl, OfInput-map name old.told.inputs (λ content. bytes ≡ take (most + 1) content) (λ content. most < length content) (λ content e. is_longer most bytes content e long) c.in_ok-bytes.ensures.bytes)
+    found_bad name (raw_files most) (limited_files most c.args.file) refl _ old new (
+      refl,
+      refl,
+      OfInput-map name old.told.inputs (λ content. bytes ≡ take (most + 1) content) (λ content. most < length content)
+          (λ content e. is_longer most bytes content e long) c.in_ok-bytes.ensures.bytes,
+    )
     c.in_ok-bytes.ensures.takes
 
 pub returns-clause-whole : goal.returns-clause-whole
 returns-clause-whole g c =
     let bytes = c.in_ok-bytes.bytes.items in
-    OfInput-map c.args.name.now (g.D.Desk.seen c.args.desk.now).told.inputs (λ content. bytes ≡ take (c.args.most + 1) content) (λ content. bytes ≡ content)
+    OfInput-map c.args.name.now (g.D.Desk.seen c.args.desk.now).told.inputs (λ content. bytes ≡ take (c.args.most + 1) content)
+    (λ content. bytes ≡ content)
     (λ content e. is_whole c.args.most bytes content e (omega (arith, c.len.ensures, c.if-len-most.false))) c.in_ok-bytes.ensures.bytes
 
 pub returns-clause-takes : goal.returns-clause-takes
@@ -43,4 +49,5 @@ returns-clause-takes g c =
     let short : length bytes ≤ most = omega (arith, c.len.ensures, c.if-len-most.false) in
     found_good name (raw_files most) (limited_files most c.args.file) old new
     (OfInput-map name old.told.inputs (λ content. bytes ≡ take (most + 1) content) (λ content. length content ≤ most)
-    (λ content e. subst (λ x. length x ≤ most) (is_whole most bytes content e short) short) c.in_ok-bytes.ensures.bytes) c.in_ok-bytes.ensures.takes
+    (λ content e. subst (λ x. length x ≤ most) (is_whole most bytes content e short) short) c.in_ok-bytes.ensures.bytes)
+    c.in_ok-bytes.ensures.takes

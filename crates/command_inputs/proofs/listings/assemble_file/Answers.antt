@@ -33,12 +33,17 @@ module _ (text content : List ℕ) (e : text ≡ take (most_bytes + 1) content) 
       let same = ap length e in
       omega (arith, size, same, long)
 
-module _ (name : List ℕ) (old : Seen) (text : List ℕ) (read : OfInput name old.told.inputs (λ content. text ≡ take (most_bytes + 1) content)) where
+module _ (name : List ℕ) (old : Seen) (text : List ℕ)
+    (read : OfInput name old.told.inputs (λ content. text ≡ take (most_bytes + 1) content)) where
   listing_found : (file : ProgramFile) → GivesAssembled text file → OfInput name old.told.inputs (λ content. GivesAssembled content file)
-  listing_found file is = OfInput-map name old.told.inputs (λ content. text ≡ take (most_bytes + 1) content) (λ content. GivesAssembled content file) (λ content e. assembled text content e file is) read
+  listing_found file is =
+      OfInput-map name old.told.inputs (λ content. text ≡ take (most_bytes + 1) content) (λ content. GivesAssembled content file)
+      (λ content e. assembled text content e file is) read
 
   fault_found : (fault : AsmFault) → IsFault text fault → OfInput name old.told.inputs (λ content. IsFault content fault)
-  fault_found fault is = OfInput-map name old.told.inputs (λ content. text ≡ take (most_bytes + 1) content) (λ content. IsFault content fault) (λ content e. at_fault text content e fault is) read
+  fault_found fault is =
+      OfInput-map name old.told.inputs (λ content. text ≡ take (most_bytes + 1) content) (λ content. IsFault content fault)
+      (λ content e. at_fault text content e fault is) read
 
 pub returns-in_err-text-clause-takes : goal.returns-in_err-text-clause-takes
 returns-in_err-text-clause-takes g c =
@@ -46,10 +51,12 @@ returns-in_err-text-clause-takes g c =
     let old = g.D.Desk.seen c.args.desk.now in
     let new = g.D.Desk.seen c.read_text.new.desk in
     let refusal = c.in_err-text.field-0.0 in
-    not_judged name (raw_files most_bytes) listings c.from_residual.result refusal old new c.from_residual.ensures.1 (raw_stops IsBadText most_bytes name refusal old new) c.in_err-text.ensures.takes
+    not_judged name (raw_files most_bytes) listings c.from_residual.result refusal old new c.from_residual.ensures.1
+    (raw_stops IsBadText most_bytes name refusal old new) c.in_err-text.ensures.takes
 
 pub returns-in-Ok-clause-assembles : goal.returns-in-Ok-clause-assembles
-returns-in-Ok-clause-assembles g c = listing_found c.args.name.now (g.D.Desk.seen c.args.desk.now) c.in_ok-text.text c.in_ok-text.ensures.bytes c.in-Ok.file c.in-Ok.ensures
+returns-in-Ok-clause-assembles g c =
+    listing_found c.args.name.now (g.D.Desk.seen c.args.desk.now) c.in_ok-text.text c.in_ok-text.ensures.bytes c.in-Ok.file c.in-Ok.ensures
 
 pub returns-in-Ok-clause-takes : goal.returns-in-Ok-clause-takes
 returns-in-Ok-clause-takes g c =
@@ -65,8 +72,10 @@ returns-in-Err-Bad-clause-takes g c =
     let text = c.in_ok-text.text in
     let fault = c.in-Err-Bad.fault in
     found_bad c.args.name.now (raw_files most_bytes) listings refl (BadText fault) old (g.D.Desk.seen c.read_text.new.desk)
-    (fault_found c.args.name.now old text c.in_ok-text.ensures.bytes fault (subst (λ (error : AsmError). Answers text (Err error)) c.in-Err-Bad.field-0-is c.in-Err-Bad.ensures)) c.in_ok-text.ensures.takes
+    (fault_found c.args.name.now old text c.in_ok-text.ensures.bytes fault
+    (subst (λ (error : AsmError). Answers text (Err error)) c.in-Err-Bad.field-0-is c.in-Err-Bad.ensures)) c.in_ok-text.ensures.takes
 
 pub returns-in-Err-Memory-clause-takes : goal.returns-in-Err-Memory-clause-takes
 returns-in-Err-Memory-clause-takes g c =
-    found_bad c.args.name.now (raw_files most_bytes) listings refl NoMemory (g.D.Desk.seen c.args.desk.now) (g.D.Desk.seen c.read_text.new.desk) tt c.in_ok-text.ensures.takes
+    found_bad c.args.name.now (raw_files most_bytes) listings refl NoMemory (g.D.Desk.seen c.args.desk.now)
+    (g.D.Desk.seen c.read_text.new.desk) tt c.in_ok-text.ensures.takes

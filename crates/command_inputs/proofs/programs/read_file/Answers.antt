@@ -15,9 +15,11 @@ use Rattle.command_inputs.specs.Programs.{HoldsProgram, IsBadFile, Misreads, lon
 use Rattle.command_inputs.proofs.WholeFiles.{read_is_whole}
 use Rattle.command_inputs.proofs.programs.read_file.Goals as goal
 
-module _ (name : List ℕ) (old new : Seen) (bytes : List ℕ) (read : OfInput name old.told.inputs (λ content. bytes ≡ take (longest_program + 1) content)) where
+module _ (name : List ℕ) (old new : Seen) (bytes : List ℕ)
+    (read : OfInput name old.told.inputs (λ content. bytes ≡ take (longest_program + 1) content)) where
   -- what is found of the bytes is found of the file
-  whole_found : (found : Result ProgramFile FileFault) → program_of bytes ≡ found → OfInput name old.told.inputs (λ content. program_of content ≡ found)
+  whole_found : (found : Result ProgramFile FileFault) → program_of bytes ≡ found →
+      OfInput name old.told.inputs (λ content. program_of content ≡ found)
   whole_found found h =
       OfInput-map name old.told.inputs (λ content. bytes ≡ take (longest_program + 1) content) (λ content. program_of content ≡ found)
       (λ content e. sym (read_is_whole content) ∙ ap program_of (sym e) ∙ h) read
@@ -34,7 +36,8 @@ returns-in_err-bytes-clause-takes g c =
     let old = g.D.Desk.seen c.args.desk.now in
     let new = g.D.Desk.seen c.read_whole.new.desk in
     let refusal = c.in_err-bytes.field-0.0 in
-    not_judged name (raw_files longest_program) program_files c.from_residual.result refusal old new c.from_residual.ensures.1 (raw_stops IsBadFile longest_program name refusal old new) c.in_err-bytes.ensures.takes
+    not_judged name (raw_files longest_program) program_files c.from_residual.result refusal old new c.from_residual.ensures.1
+    (raw_stops IsBadFile longest_program name refusal old new) c.in_err-bytes.ensures.takes
 
 pub returns-clause-file : goal.returns-clause-file
 returns-clause-file g c =
@@ -43,7 +46,8 @@ returns-clause-file g c =
     let bytes = c.in_ok-bytes.bytes.items in
     let r = c.parse.result in
     IfOk-weaker r (λ file. program_of bytes ≡ Ok file) (λ file. OfInput name old.told.inputs (λ content. program_of content ≡ Ok file))
-    (λ file. whole_found name old old bytes c.in_ok-bytes.ensures.bytes (Ok file)) (subst (λ bytes. IfOk r (λ file. program_of bytes ≡ Ok file)) c.deref.ensures.value c.parse.ensures.reads)
+    (λ file. whole_found name old old bytes c.in_ok-bytes.ensures.bytes (Ok file))
+    (subst (λ bytes. IfOk r (λ file. program_of bytes ≡ Ok file)) c.deref.ensures.value c.parse.ensures.reads)
 
 pub returns-clause-takes : goal.returns-clause-takes
 returns-clause-takes g c =
@@ -55,7 +59,8 @@ returns-clause-takes g c =
     let r = c.parse.result in
     judged name (raw_files longest_program) program_files refl r old new
     (IfOk-weaker r (λ file. program_of bytes ≡ Ok file) (λ _. OfInput name old.told.inputs HoldsProgram)
-    (λ file h. OfInput-map name old.told.inputs (λ content. program_of content ≡ Ok file) HoldsProgram (λ content e. (file, e)) (whole_found name old new bytes read (Ok file) h))
+    (λ file h. OfInput-map name old.told.inputs (λ content. program_of content ≡ Ok file) HoldsProgram (λ content e. (file, e))
+    (whole_found name old new bytes read (Ok file) h))
     (subst (λ bytes. IfOk r (λ file. program_of bytes ≡ Ok file)) c.deref.ensures.value c.parse.ensures.reads))
     (IfErr-weaker r (Misreads (program_of bytes)) (λ refusal. StopsAt IsBadFile name refusal old new) (misread name old new bytes read)
     (subst (λ bytes. IfErr r (Misreads (program_of bytes))) c.deref.ensures.value c.parse.ensures.misreads)) c.in_ok-bytes.ensures.takes

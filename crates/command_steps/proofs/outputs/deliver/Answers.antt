@@ -20,9 +20,11 @@ returns-in_err-write_output-clause-calls g c =
     let i = c.loop-output.output-index in
     let left = left_is bytes c.args.outputs.now i output c.loop-output-test.true c.output-item.is in
     rw p.1
-    (not_written_calls (Unit {0}) Failed c.in_err-write_output.field-0.0 (files_of bytes c.args.outputs.now) (files_of bytes (drop (i + 1) c.args.outputs.now)) output.name.now (bytes output.content)
+    (not_written_calls (Unit {0}) Failed c.in_err-write_output.field-0.0 (files_of bytes c.args.outputs.now)
+    (files_of bytes (drop (i + 1) c.args.outputs.now)) output.name.now (bytes output.content)
     (see c.args.desk.now) (see c.loop-output.desk) (see c.write_output.new.desk)
-    (subst (λ files. IsUnderWay (files_of bytes c.args.outputs.now) files (see c.args.desk.now) (see c.loop-output.desk)) left c.loop-output.invariant.under_way) c.in_err-write_output.ensures.calls)
+    (subst (λ files. IsUnderWay (files_of bytes c.args.outputs.now) files (see c.args.desk.now) (see c.loop-output.desk)) left
+    c.loop-output.invariant.under_way) c.in_err-write_output.ensures.calls)
 
 pub loop-output-preserved : goal.loop-output-preserved
 loop-output-preserved g c =
@@ -38,15 +40,19 @@ loop-output-preserved g c =
           (of_later bytes c.args.outputs.now i output c.loop-output-test.true c.output-item.is
           (λ output. IsAllowed output.name.now (g.D.Desk.seen c.loop-output.desk).told.may_create) c.loop-output.invariant.allowed);
       under_way =
-          one_written (Unit {0}) Failed c.in_ok-write_output.field-0 (files_of bytes c.args.outputs.now) (files_of bytes (drop (i + 1) c.args.outputs.now)) output.name.now (bytes output.content)
+          one_written (Unit {0}) Failed c.in_ok-write_output.field-0 (files_of bytes c.args.outputs.now)
+          (files_of bytes (drop (i + 1) c.args.outputs.now)) output.name.now (bytes output.content)
           (see c.args.desk.now) (see c.loop-output.desk) (see c.write_output.new.desk)
-          (subst (λ files. IsUnderWay (files_of bytes c.args.outputs.now) files (see c.args.desk.now) (see c.loop-output.desk)) left c.loop-output.invariant.under_way) e.left e.counts e.calls;
+          (subst (λ files. IsUnderWay (files_of bytes c.args.outputs.now) files (see c.args.desk.now) (see c.loop-output.desk)) left
+          c.loop-output.invariant.under_way) e.left e.counts e.calls;
     }
 
 pub returns-clause-calls : goal.returns-clause-calls
 returns-clause-calls g c =
     let see = g.D.Desk.seen in
     let files = files_of g.C.Content.bytes c.args.outputs.now in
-    said_calls (Unit {0}) Failed c.say_all.result files c.args.text.now c.as_bytes.result.now (see c.args.desk.now) (see c.loop-output.desk) (see c.say_all.new.desk)
-    (subst (λ left. IsUnderWay files left (see c.args.desk.now) (see c.loop-output.desk)) (none_left g.C.Content.bytes c.args.outputs.now c.loop-output.output-index c.loop-output-test.false) c.loop-output.invariant.under_way)
+    said_calls (Unit {0}) Failed c.say_all.result files c.args.text.now c.as_bytes.result.now (see c.args.desk.now) (see c.loop-output.desk)
+    (see c.say_all.new.desk)
+    (subst (λ left. IsUnderWay files left (see c.args.desk.now) (see c.loop-output.desk))
+    (none_left g.C.Content.bytes c.args.outputs.now c.loop-output.output-index c.loop-output-test.false) c.loop-output.invariant.under_way)
     c.as_bytes.ensures.value c.say_all.ensures.counts

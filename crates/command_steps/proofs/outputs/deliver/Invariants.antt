@@ -9,6 +9,7 @@ invariant-loop-output g l =
     record {
       allowed : All (λ output. IsAllowed output.name.now (g.D.Desk.seen l.desk).told.may_create) (drop l.output-index l.outputs);
       under_way :
-          IsUnderWay (files_of g.C.Content.bytes l.outputs) (files_of g.C.Content.bytes (drop l.output-index l.outputs)) (g.D.Desk.seen l.fn.desk)
+          IsUnderWay (files_of g.C.Content.bytes l.outputs) (files_of g.C.Content.bytes (drop l.output-index l.outputs))
+          (g.D.Desk.seen l.fn.desk)
           (g.D.Desk.seen l.desk);
     }

@@ -16,15 +16,22 @@ returns-in_err-create_out-clause-calls g c =
 pub returns-in_err-put-clause-calls : goal.returns-in_err-put-clause-calls
 returns-in_err-put-clause-calls g c =
     let p = err_from_is_err_and c.from_residual-in_err-put.result c.from_residual-in_err-put.ensures.1 in
-    rw p.1 (_, inr (inl refl), tells_same_after (CreateOut c.args.name.now true ∷ []) _ _ _ c.in_ok-create_out.ensures.calls c.in_err-put.ensures.counts.1)
+    rw p.1 (
+      _,
+      inr (inl refl),
+      tells_same_after (CreateOut c.args.name.now true ∷ []) _ _ _ c.in_ok-create_out.ensures.calls c.in_err-put.ensures.counts.1,
+    )
 
 -- the calls of a file that was written, and is finished or not
-file_calls : (A E : Type 0) (r : Result A E) (name : List ℕ) (old mid new : Option (List Call)) → Tells (CreateOut name true ∷ []) old mid → Tells (Finish (was_done r) ∷ []) mid new →
+file_calls : (A E : Type 0) (r : Result A E) (name : List ℕ) (old mid new : Option (List Call)) → Tells (CreateOut name true ∷ []) old mid →
+    Tells (Finish (was_done r) ∷ []) mid new →
     (calls : List Call) × IsFileOf name r calls × Tells calls old new
 file_calls A E (Ok x) name old mid new made done = (_, refl, tells_both (CreateOut name true ∷ []) (Finish true ∷ []) old mid new made done)
-file_calls A E (Err x) name old mid new made failed = (_, inr (inr refl), tells_both (CreateOut name true ∷ []) (Finish false ∷ []) old mid new made failed)
+file_calls A E (Err x) name old mid new made failed =
+    (_, inr (inr refl), tells_both (CreateOut name true ∷ []) (Finish false ∷ []) old mid new made failed)
 
 pub returns-clause-calls : goal.returns-clause-calls
 returns-clause-calls g c =
-    file_calls (Unit {0}) Failed c.finish.result c.args.name.now _ _ _ (tells_same_after (CreateOut c.args.name.now true ∷ []) _ _ _ c.in_ok-create_out.ensures.calls c.in_ok-put.ensures.counts.2)
+    file_calls (Unit {0}) Failed c.finish.result c.args.name.now _ _ _
+    (tells_same_after (CreateOut c.args.name.now true ∷ []) _ _ _ c.in_ok-create_out.ensures.calls c.in_ok-put.ensures.counts.2)
     c.finish.ensures.calls

@@ -1,4 +1,5 @@
-use Rattle.std.proofs.Common.{ℕ, ◌+◌, ◌-◌, min, [], ◌≤◌, ◌≡◌, List, length, take, drop, ◌++◌, Option, Some, None, option_map, ◌∙◌, ap, sym, subst, arith, append_assoc, length-drop}
+use Rattle.std.proofs.Common.{ℕ, ◌+◌, ◌-◌, min, [], ◌≤◌, ◌≡◌, List, length, take, drop, ◌++◌, Option, Some, None, option_map, ◌∙◌, ap, sym}
+use Rattle.std.proofs.Common.{subst, arith, append_assoc, length-drop}
 use Rattle.std.proofs.Math.Seq.{take-add}
 use Rattle.std.proofs.lemmas.List.{take_all}
 use Rattle.capture_desk.specs.Desks.{Told, after_read}
@@ -19,12 +20,14 @@ more_kept first kept new at n None buffer h read is = tt
 more_kept first kept new at n (Some rest) buffer h read is =
     let few = simp length-drop at read.0 in (
       omega (arith, few, h.0),
-      is ∙ ap (λ x. kept ++ x) read.2 ∙ ap (λ x. x ++ take n (drop at rest)) h.1 ∙ append_assoc first (take at rest) (take n (drop at rest)) ∙ ap (λ x. first ++ x) (sym (take-add at n rest)),
+      is ∙ ap (λ x. kept ++ x) read.2 ∙ ap (λ x. x ++ take n (drop at rest)) h.1 ∙ append_assoc first (take at rest) (take n (drop at rest))
+          ∙ ap (λ x. first ++ x) (sym (take-add at n rest)),
     )
 
 -- no bytes are left
 all_kept : (first kept : List ℕ) (at n most : ℕ) (o : Option (List ℕ)) (buffer : List ℕ) → at ≤ most → IsKept first kept at o →
-    OfRest (option_map (λ rest. drop at rest) o) (λ rest. IsPiece n rest buffer) → n ≡ 0 → OfRest o (λ rest. kept ≡ first ++ take (most + 1) rest)
+    OfRest (option_map (λ rest. drop at rest) o) (λ rest. IsPiece n rest buffer) → n ≡ 0 →
+    OfRest o (λ rest. kept ≡ first ++ take (most + 1) rest)
 all_kept first kept at n most None buffer few h read none = tt
 all_kept first kept at n most (Some rest) buffer few h read none =
     let size = length-drop at rest in
@@ -56,21 +59,24 @@ loop-at-preserved g c =
       counts = (e.counts.0 ∙ i.counts.0, e.counts.1 ∙ i.counts.1);
       calls =
           read_more Before c.args.most at c.min-piece.result n (see c.args.desk.now) (see c.loop-at.desk) (see c.read_into.new.desk) i.calls
-          (next_read c.args.most at c.min-piece.result (omega (arith, c.loop-at-test.true)) c.min-piece.ensures) c.if-count-eq0.false e.calls;
+          (next_read c.args.most at c.min-piece.result (omega (arith, c.loop-at-test.true)) c.min-piece.ensures)
+          c.if-count-eq0.false e.calls;
     }
 
 pub returns-in-Err-clause-calls : goal.returns-in-Err-clause-calls
 returns-in-Err-clause-calls g c =
     let see = g.D.Desk.seen in
     let at = c.loop-at.at in
-    read_failed Before c.args.most at c.min-piece.result (see c.args.desk.now) (see c.loop-at.desk) (see c.read_into.new.desk) c.loop-at.invariant.calls
+    read_failed Before c.args.most at c.min-piece.result (see c.args.desk.now) (see c.loop-at.desk)
+    (see c.read_into.new.desk) c.loop-at.invariant.calls
     (next_read c.args.most at c.min-piece.result (omega (arith, c.loop-at-test.true)) c.min-piece.ensures) c.in-Err.ensures.calls
 
 pub returns-then-count-eq0-clause-bytes : goal.returns-then-count-eq0-clause-bytes
 returns-then-count-eq0-clause-bytes g c =
     let kept = g.K.Keeps.kept in
     let i = c.loop-at.invariant in
-    all_kept (kept c.args.keeper.now) (kept c.loop-at.keeper) c.loop-at.at c.in-Ok.count c.args.most _ c.read_into.new.buffer (omega (arith, c.loop-at-test.true)) i.taken
+    all_kept (kept c.args.keeper.now) (kept c.loop-at.keeper) c.loop-at.at c.in-Ok.count c.args.most _ c.read_into.new.buffer
+    (omega (arith, c.loop-at-test.true)) i.taken
     (subst (λ (t : Told). OfRest t.rest (λ rest. IsPiece c.in-Ok.count rest c.read_into.new.buffer)) i.told c.in-Ok.ensures.piece)
     c.if-count-eq0.true
 
@@ -78,21 +84,25 @@ pub returns-then-count-eq0-clause-calls : goal.returns-then-count-eq0-clause-cal
 returns-then-count-eq0-clause-calls g c =
     let see = g.D.Desk.seen in
     let at = c.loop-at.at in
-    read_end Before c.args.most at c.min-piece.result c.in-Ok.count (see c.args.desk.now) (see c.loop-at.desk) (see c.read_into.new.desk) c.loop-at.invariant.calls
+    read_end Before c.args.most at c.min-piece.result c.in-Ok.count (see c.args.desk.now) (see c.loop-at.desk)
+    (see c.read_into.new.desk) c.loop-at.invariant.calls
     (next_read c.args.most at c.min-piece.result (omega (arith, c.loop-at-test.true)) c.min-piece.ensures) c.in-Ok.ensures.calls
 
 pub returns-then-count-eq0-clause-through : goal.returns-then-count-eq0-clause-through
 returns-then-count-eq0-clause-through g c =
     let see = g.D.Desk.seen in
     let at = c.loop-at.at in
-    all_read_end Before c.args.most at c.min-piece.result c.in-Ok.count (see c.args.desk.now) (see c.loop-at.desk) (see c.read_into.new.desk) c.loop-at.invariant.calls
-    (next_read c.args.most at c.min-piece.result (omega (arith, c.loop-at-test.true)) c.min-piece.ensures) c.if-count-eq0.true c.in-Ok.ensures.calls
+    all_read_end Before c.args.most at c.min-piece.result c.in-Ok.count (see c.args.desk.now) (see c.loop-at.desk)
+    (see c.read_into.new.desk) c.loop-at.invariant.calls
+    (next_read c.args.most at c.min-piece.result (omega (arith, c.loop-at-test.true)) c.min-piece.ensures) c.if-count-eq0.true
+    c.in-Ok.ensures.calls
 
 pub returns-in_err-keep-clause-calls : goal.returns-in_err-keep-clause-calls
 returns-in_err-keep-clause-calls g c =
     let see = g.D.Desk.seen in
     let at = c.loop-at.at in
-    read_end Before c.args.most at c.min-piece.result c.in-Ok.count (see c.args.desk.now) (see c.loop-at.desk) (see c.read_into.new.desk) c.loop-at.invariant.calls
+    read_end Before c.args.most at c.min-piece.result c.in-Ok.count (see c.args.desk.now) (see c.loop-at.desk)
+    (see c.read_into.new.desk) c.loop-at.invariant.calls
     (next_read c.args.most at c.min-piece.result (omega (arith, c.loop-at-test.true)) c.min-piece.ensures) c.in-Ok.ensures.calls
 
 pub returns-clause-calls : goal.returns-clause-calls
@@ -103,4 +113,5 @@ returns-clause-calls g c =
 pub returns-clause-through : goal.returns-clause-through
 returns-clause-through g c =
     let see = g.D.Desk.seen in
-    all_reads_end Before c.args.most c.loop-at.at (see c.args.desk.now) (see c.loop-at.desk) c.loop-at.invariant.calls (omega (arith, c.loop-at-test.false))
+    all_reads_end Before c.args.most c.loop-at.at (see c.args.desk.now) (see c.loop-at.desk) c.loop-at.invariant.calls
+    (omega (arith, c.loop-at-test.false))

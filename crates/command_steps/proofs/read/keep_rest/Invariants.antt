@@ -9,7 +9,8 @@ invariant-loop-at g l =
     record {
       within : l.at ≤ l.most + 1;
       told : (g.D.Desk.seen l.desk).told ≡ after_read l.at (g.D.Desk.seen l.fn.desk).told;
-      taken : OfRest (g.D.Desk.seen l.fn.desk).told.rest (λ rest. (l.at ≤ length rest) × (g.K.Keeps.kept l.keeper ≡ g.K.Keeps.kept l.fn.keeper ++ take l.at rest));
+      taken : OfRest (g.D.Desk.seen l.fn.desk).told.rest
+          (λ rest. (l.at ≤ length rest) × (g.K.Keeps.kept l.keeper ≡ g.K.Keeps.kept l.fn.keeper ++ take l.at rest));
       counts : SameCounts (g.D.Desk.seen l.fn.desk) (g.D.Desk.seen l.desk);
       calls : ReadSoFar (λ at. Always []) l.most l.at (g.D.Desk.seen l.fn.desk) (g.D.Desk.seen l.desk);
     }

@@ -10,8 +10,10 @@ loop-turn-init g c =
 
 pub loop-turn-preserved : goal.loop-turn-preserved
 loop-turn-preserved g c =
-    one_fewer c.args.self.now c.args.count (c.args.count - (c.loop-turn.turn + 1)) c.loop-turn.self c.act.new.self c.act.ensures.state c.act.ensures.facts
-    (subst (λ left. AreLeft c.args.self.now c.args.count left c.loop-turn.self) (omega (arith, c.loop-turn-test.true)) c.loop-turn.invariant)
+    one_fewer c.args.self.now c.args.count
+    (c.args.count - (c.loop-turn.turn + 1)) c.loop-turn.self c.act.new.self c.act.ensures.state c.act.ensures.facts
+    (subst (λ left. AreLeft c.args.self.now c.args.count left c.loop-turn.self)
+    (omega (arith, c.loop-turn-test.true)) c.loop-turn.invariant)
 
 pub returns-then-is_known_still-clause-state : goal.returns-then-is_known_still-clause-state
 returns-then-is_known_still-clause-state g c =

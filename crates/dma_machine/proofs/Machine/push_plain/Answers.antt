@@ -9,8 +9,10 @@ push_plain-requires-clause-can g c = IsMachine-CanWork _ c.self.invariant.0
 
 pub invariant_of-self : goal.invariant_of-self
 invariant_of-self g c =
-    let some = c.requires.plain in
-    (subst IsMachine (sym (c.push_plain.ensures.state some.0 some.1)) (plain_leave c.args.q some.0 _ c.self.invariant.0), c.push_plain.ensures.still)
+    let some = c.requires.plain in (
+      subst IsMachine (sym (c.push_plain.ensures.state some.0 some.1)) (plain_leave c.args.q some.0 _ c.self.invariant.0),
+      c.push_plain.ensures.still,
+    )
 
 pub returns-clause-facts : goal.returns-clause-facts
 returns-clause-facts g c =

@@ -14,13 +14,15 @@ counted_still : (m after : State) (count : ℕ) → is_still m ≡ true → afte
 counted_still m after count still e = ap is_still e ∙ (is_still-turns (more m.turns count) m ∙ still)
 
 pub stay-requires : goal.stay-requires
-stay-requires g c = counted_still c.know_still.new.self c.count.new.self c.args.count (ap is_still c.know_still.ensures ∙ c.requires) c.count.ensures.state
+stay-requires g c =
+    counted_still c.know_still.new.self c.count.new.self c.args.count (ap is_still c.know_still.ensures ∙ c.requires) c.count.ensures.state
 
 pub returns-clause-state : goal.returns-clause-state
 returns-clause-state g c =
     let n = c.args.count in
     let m = c.args.self.now in
-    let counted : c.count.new.self ≡ with_turns (more m.turns n) m = c.count.ensures.state ∙ ap (λ s. with_turns (more s.turns n) s) c.know_still.ensures in
+    let counted : c.count.new.self ≡ with_turns (more m.turns n) m =
+    c.count.ensures.state ∙ ap (λ s. with_turns (more s.turns n) s) c.know_still.ensures in
     let still = counted_still m c.count.new.self n c.requires counted in
     c.stay.ensures
     ∙ sym (still_times n c.count.new.self (still_acted c.count.new.self still))

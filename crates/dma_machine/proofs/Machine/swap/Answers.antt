@@ -14,7 +14,8 @@ invariant_of-self g c =
     let here = state_of g.R.Ram.memory c.self.inside.engine in
     let made = subst IsProgram c.program.ensures.value c.base-base.ensures.made in
     let can = subst (CanGoOn c.args.other.now) (sym c.self.view_is) c.requires in
-    subst (λ program. IsMachine (with_program program here) × StillIf c.self.inside.engine.still (with_program program here)) (sym c.swap.ensures.x_after)
+    subst (λ program. IsMachine (with_program program here) × StillIf c.self.inside.engine.still (with_program program here))
+    (sym c.swap.ensures.x_after)
     (IsMachine-program c.args.other.now here made c.program.ensures.sound can, StillIf-program c.args.other.now _ here c.self.invariant.1)
 
 pub returns-clause-facts : goal.returns-clause-facts

@@ -15,7 +15,8 @@ returns-clause-state g c =
 pub returns-clause-retired : goal.returns-clause-retired
 returns-clause-retired g c e =
     let seen = c.act_told-told.ensures.seen in
-    subst (λ s. RetiresAt c.args.self.now s.at) (sym seen) (seen-RetiresAt c.args.self.now c.act_told-told.ensures.before (ap (λ s. s.did) (sym seen) ∙ e))
+    subst (λ s. RetiresAt c.args.self.now s.at) (sym seen)
+    (seen-RetiresAt c.args.self.now c.act_told-told.ensures.before (ap (λ s. s.did) (sym seen) ∙ e))
 
 pub returns-clause-still : goal.returns-clause-still
 returns-clause-still g c e =

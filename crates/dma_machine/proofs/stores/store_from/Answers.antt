@@ -8,11 +8,13 @@ use Rattle.dma_machine.proofs.stores.store_from.Goals.{then-not-is_off, else-not
 
 pub loop-byte-preserved : goal.loop-byte-preserved
 loop-byte-preserved g c =
-    let rest : List Store = stores_from c.args.off (c.loop-byte.lane + 1) (c.loop-byte.address + 1) (drop (c.loop-byte.byte-index + 1) c.args.bytes.now) in
+    let rest : List Store =
+    stores_from c.args.off (c.loop-byte.lane + 1) (c.loop-byte.address + 1) (drop (c.loop-byte.byte-index + 1) c.args.bytes.now) in
     elim c.if-not-is_off.branch [
       | then-not-is_off w ↦
           let on : is_off c.args.off c.loop-byte.lane ≡ false = cc in
-          let next = lane_on c.args.off c.loop-byte.lane c.loop-byte.address c.loop-byte.byte-index c.args.bytes.now c.loop-byte-test.true on in
+          let next =
+          lane_on c.args.off c.loop-byte.lane c.loop-byte.address c.loop-byte.byte-index c.args.bytes.now c.loop-byte-test.true on in
           let made = ap g.R.Ram.memory w.ram-is ∙ w.store.ensures.stored in
           record {
             lane_is = omega arith;
@@ -26,7 +28,8 @@ loop-byte-preserved g c =
           }
       | else-not-is_off w ↦
           let off : is_off c.args.off c.loop-byte.lane ≡ true = cc in
-          let next = lane_off c.args.off c.loop-byte.lane c.loop-byte.address c.loop-byte.byte-index c.args.bytes.now c.loop-byte-test.true off in
+          let next =
+          lane_off c.args.off c.loop-byte.lane c.loop-byte.address c.loop-byte.byte-index c.args.bytes.now c.loop-byte-test.true off in
           let same = ap g.R.Ram.memory w.ram-is in
           record {
             lane_is = omega arith;

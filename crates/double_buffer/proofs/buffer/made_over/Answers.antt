@@ -17,31 +17,42 @@ pub invariant_of-result : goal.invariant_of-result
 invariant_of-result g c =
     let base = ap (λ (d : Desc). d.base) c.desc.ensures.value in
     let made = ap (λ (s : ChainState). s.chain) c.in-Ok.ensures.first in
-    let same = chain_same c.args.first.now c.args.second.now c.desc.result.now.base c.in_ok-parts.parts.items c.in_ok-grants.grants base c.in_ok-parts.ensures.parts c.in_ok-grants.ensures.granted in
+    let same =
+    chain_same c.args.first.now c.args.second.now c.desc.result.now.base c.in_ok-parts.parts.items c.in_ok-grants.grants base
+    c.in_ok-parts.ensures.parts c.in_ok-grants.ensures.granted in
     subst HasBuffers (sym (made ∙ same)) (has_buffers c.args.first.now c.args.second.now)
 
 pub returns-in-Ok-clause-pair : goal.returns-in-Ok-clause-pair
 returns-in-Ok-clause-pair g c =
     let base = ap (λ (d : Desc). d.base) c.desc.ensures.value in
     let made = ap (λ (s : ChainState). s.chain) c.in-Ok.ensures.first in
-    let same = chain_same c.args.first.now c.args.second.now c.desc.result.now.base c.in_ok-parts.parts.items c.in_ok-grants.grants base c.in_ok-parts.ensures.parts c.in_ok-grants.ensures.granted in
+    let same =
+    chain_same c.args.first.now c.args.second.now c.desc.result.now.base c.in_ok-parts.parts.items c.in_ok-grants.grants base
+    c.in_ok-parts.ensures.parts c.in_ok-grants.ensures.granted in
     let aligned = subst (λ (d : Desc). d.base % 4 ≡ 0) c.desc.ensures.value c.if-base-ne0.false in
-    pair_of c.args.first.now c.args.second.now c.in_ok-grants.ensures.framed.0 c.in_ok-grants.ensures.framed.1 c.in_ok-parts.ensures.first c.in_ok-parts.ensures.second aligned
+    pair_of c.args.first.now c.args.second.now c.in_ok-grants.ensures.framed.0 c.in_ok-grants.ensures.framed.1 c.in_ok-parts.ensures.first
+    c.in_ok-parts.ensures.second aligned
     c.in_ok-grants.ensures.apart c.in_ok-grants.ensures.few c.in-Ok.running.chain (made ∙ same) c.in-Ok.ensures.sound.0
 
 pub told-requires : goal.told-requires
 told-requires g c =
     let base = ap (λ (d : Desc). d.base) c.desc.ensures.value in
-    let same = chain_same c.args.first.now c.args.second.now c.desc.result.now.base c.in_ok-parts.parts.items c.in_ok-grants.grants base c.in_ok-parts.ensures.parts c.in_ok-grants.ensures.granted in
+    let same =
+    chain_same c.args.first.now c.args.second.now c.desc.result.now.base c.in_ok-parts.parts.items c.in_ok-grants.grants base
+    c.in_ok-parts.ensures.parts c.in_ok-grants.ensures.granted in
     let aligned = subst (λ (d : Desc). d.base % 4 ≡ 0) c.desc.ensures.value c.if-base-ne0.false in
-    of_fragments c.args.first.now c.args.second.now c.in_ok-grants.ensures.framed.0 c.in_ok-grants.ensures.framed.1 c.in_ok-parts.ensures.first c.in_ok-parts.ensures.second aligned
+    of_fragments c.args.first.now c.args.second.now c.in_ok-grants.ensures.framed.0 c.in_ok-grants.ensures.framed.1
+    c.in_ok-parts.ensures.first c.in_ok-parts.ensures.second aligned
     c.in_ok-grants.ensures.apart c.in_ok-grants.ensures.few _ c.in-Err.error same c.in-Err.ensures.refused
 
 pub returns-clause-refused : goal.returns-clause-refused
 returns-clause-refused g c =
     let base = ap (λ (d : Desc). d.base) c.desc.ensures.value in
-    let same = chain_same c.args.first.now c.args.second.now c.desc.result.now.base c.in_ok-parts.parts.items c.in_ok-grants.grants base c.in_ok-parts.ensures.parts c.in_ok-grants.ensures.granted in
+    let same =
+    chain_same c.args.first.now c.args.second.now c.desc.result.now.base c.in_ok-parts.parts.items c.in_ok-grants.grants base
+    c.in_ok-parts.ensures.parts c.in_ok-grants.ensures.granted in
     let aligned = subst (λ (d : Desc). d.base % 4 ≡ 0) c.desc.ensures.value c.if-base-ne0.false in
     subst (λ (e : DoubleBufferError). Refuses (chain_fault c.args.first.now c.args.second.now) e) (sym c.told.ensures)
-    (refuses_with c.args.first.now c.args.second.now c.in_ok-grants.ensures.framed.0 c.in_ok-grants.ensures.framed.1 c.in_ok-parts.ensures.first c.in_ok-parts.ensures.second aligned
+    (refuses_with c.args.first.now c.args.second.now c.in_ok-grants.ensures.framed.0 c.in_ok-grants.ensures.framed.1
+    c.in_ok-parts.ensures.first c.in_ok-parts.ensures.second aligned
     c.in_ok-grants.ensures.apart c.in_ok-grants.ensures.few _ c.in-Err.error same c.in-Err.ensures.refused)

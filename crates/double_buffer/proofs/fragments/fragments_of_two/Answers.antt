@@ -10,7 +10,8 @@ returns-in_err-two-clause-long c =
     let low = c.from.ensures in
     let slots = c.from-2.ensures in
     rw (p.1, p.2)
-    (long_1 c.args.first.now c.args.second.now c.desc.result.now.base _ (ap (λ (d : Desc). d.base) c.desc.ensures.value) (omega arith) c.in_ok-one.one c.in_ok-one.ensures.part
+    (long_1 c.args.first.now c.args.second.now c.desc.result.now.base _ (ap (λ (d : Desc). d.base) c.desc.ensures.value)
+    (omega arith) c.in_ok-one.one c.in_ok-one.ensures.part
     c.behind-at.result c.behind-at.ensures c.in_err-two.field-0.0 c.in_err-two.ensures.beyond)
 
 pub returns-in_err-three-clause-long : goal.returns-in_err-three-clause-long
@@ -19,8 +20,10 @@ returns-in_err-three-clause-long c =
     let low = c.from.ensures in
     let slots = c.from-2.ensures in
     rw (p.1, p.2)
-    (long_2 c.args.first.now c.args.second.now c.desc.result.now.base _ (ap (λ (d : Desc). d.base) c.desc.ensures.value) (omega arith) c.in_ok-one.one c.in_ok-one.ensures.part
-    c.behind-at.result c.behind-at.ensures c.in_ok-two.two c.in_ok-two.ensures.part c.behind-at-2.result c.behind-at-2.ensures c.in_err-three.field-0.0 c.in_err-three.ensures.beyond)
+    (long_2 c.args.first.now c.args.second.now c.desc.result.now.base _ (ap (λ (d : Desc). d.base) c.desc.ensures.value)
+    (omega arith) c.in_ok-one.one c.in_ok-one.ensures.part
+    c.behind-at.result c.behind-at.ensures c.in_ok-two.two c.in_ok-two.ensures.part c.behind-at-2.result c.behind-at-2.ensures
+    c.in_err-three.field-0.0 c.in_err-three.ensures.beyond)
 
 pub returns-in_err-four-clause-long : goal.returns-in_err-four-clause-long
 returns-in_err-four-clause-long c =
@@ -28,6 +31,8 @@ returns-in_err-four-clause-long c =
     let low = c.from.ensures in
     let slots = c.from-2.ensures in
     rw (p.1, p.2)
-    (long_3 c.args.first.now c.args.second.now c.desc.result.now.base _ (ap (λ (d : Desc). d.base) c.desc.ensures.value) (omega arith) c.in_ok-one.one c.in_ok-one.ensures.part
-    c.behind-at.result c.behind-at.ensures c.in_ok-two.two c.in_ok-two.ensures.part c.behind-at-2.result c.behind-at-2.ensures c.in_ok-three.three c.in_ok-three.ensures.part
+    (long_3 c.args.first.now c.args.second.now c.desc.result.now.base _ (ap (λ (d : Desc). d.base) c.desc.ensures.value)
+    (omega arith) c.in_ok-one.one c.in_ok-one.ensures.part
+    c.behind-at.result c.behind-at.ensures c.in_ok-two.two c.in_ok-two.ensures.part c.behind-at-2.result c.behind-at-2.ensures
+    c.in_ok-three.three c.in_ok-three.ensures.part
     c.behind-at-3.result c.behind-at-3.ensures c.in_err-four.field-0.0 c.in_err-four.ensures.beyond)

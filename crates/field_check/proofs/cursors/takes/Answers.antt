@@ -6,7 +6,8 @@ use Rattle.check_model.specs.ByBytes.{bytes_asked}
 use Rattle.check_model.specs.Checks.{first_unlike}
 use Rattle.field_check.specs.Cursors.{Fits, left_of}
 use Rattle.field_check.specs.declared.cursors.Cursor.{Cursor}
-use Rattle.field_check.proofs.Parts.{differs_other, differs_byte, differs_done, both_go, gone, taken_more, later_sol, later_below, later_drop}
+use Rattle.field_check.proofs.Parts.{differs_other, differs_byte, differs_done, both_go, gone, taken_more, later_sol, later_below}
+use Rattle.field_check.proofs.Parts.{later_drop}
 use Rattle.field_check.proofs.Tracks.{looked_at, part_reached, taken_at}
 use Rattle.field_check.proofs.cursors.takes.Goals as goal
 
@@ -18,7 +19,9 @@ returns-in_default c =
           sym (differs_other c.loop-more.more c.look.result _ c.loop-more-test.true c.in_default.not-Bytes c.look.ensures.next)
           ∙ ap (first_unlike (bytes_asked (ask_of c.loop-more.more))) c.look.ensures.same ∙ a.unlike;
       left = λ no. cc;
-      at = λ full is. looked_at full c.args.plan.now c.args.q c.loop-more.track (a.at full is) c.look.new.cursor c.look.ensures.same c.look.ensures.fits;
+      at =
+          λ full is. looked_at full c.args.plan.now c.args.q c.loop-more.track
+          (a.at full is) c.look.new.cursor c.look.ensures.same c.look.ensures.fits;
       few = record { lines = let x = a.few.lines in omega arith; bytes = let x = a.few.bytes in omega arith };
       fits = c.look.ensures.fits;
     }
@@ -30,7 +33,9 @@ returns-then-not-is_like-clause-unlike c =
     ∙ ap (first_unlike (bytes_asked (ask_of c.loop-more.more))) c.look.ensures.same ∙ c.loop-more.invariant.unlike
 
 pub returns-then-not-is_like-clause-at : goal.returns-then-not-is_like-clause-at
-returns-then-not-is_like-clause-at c full is = looked_at full c.args.plan.now c.args.q c.loop-more.track (c.loop-more.invariant.at full is) c.look.new.cursor c.look.ensures.same c.look.ensures.fits
+returns-then-not-is_like-clause-at c full is =
+    looked_at full c.args.plan.now c.args.q c.loop-more.track
+    (c.loop-more.invariant.at full is) c.look.new.cursor c.look.ensures.same c.look.ensures.fits
 
 pub returns-then-not-is_like-clause-few : goal.returns-then-not-is_like-clause-few
 returns-then-not-is_like-clause-few c =
@@ -40,7 +45,10 @@ returns-then-not-is_like-clause-few c =
 pub count_bytes-requires : goal.count_bytes-requires
 count_bytes-requires c =
     let a = c.loop-more.invariant in
-    record { lines = let x = a.few.lines in let y = c.requires.few.lines in let z = c.requires.small in omega arith; bytes = let x = a.few.bytes in let y = c.requires.few.bytes in let z = c.requires.small in omega arith }
+    record {
+      lines = let x = a.few.lines in let y = c.requires.few.lines in let z = c.requires.small in omega arith;
+      bytes = let x = a.few.bytes in let y = c.requires.few.bytes in let z = c.requires.small in omega arith;
+    }
 
 pub loop-more-preserved : goal.loop-more-preserved
 loop-more-preserved c =
@@ -73,21 +81,31 @@ loop-more-preserved c =
       unlike =
           ap (first_unlike (bytes_asked (ask_of c.rest_of-more.result))) here
           ∙ ap (λ (m : Demand). first_unlike (bytes_asked (ask_of m)) (drop k (left_of plan q cur))) more_is
-          ∙ sym (both_go d n k (left_of plan q cur) c.in-Bytes.ensures.next.1 alike.0 alike.1 some in_more in_next c.in-Bytes.ensures.next.2)
+          ∙ sym
+          (both_go d n k (left_of plan q cur) c.in-Bytes.ensures.next.1 alike.0 alike.1 some in_more in_next c.in-Bytes.ensures.next.2)
           ∙ ap (first_unlike (bytes_asked (ask_of d))) c.look.ensures.same ∙ a.unlike;
       left =
           ap (drop c.rest_of-more.result.rest) here
           ∙ later_drop d c.rest_of-more.result k more_is some (left_of plan q cur) in_more
           ∙ ap (drop d.rest) c.look.ensures.same ∙ a.left;
       at = λ full is.
-          taken_at full plan q (record { cursor = cur; lines = c.loop-more.track.lines; bytes = c.loop-more.track.bytes }) (looked_at full plan q c.loop-more.track (a.at full is) cur c.look.ensures.same c.look.ensures.fits)
+          taken_at full plan q (record { cursor = cur; lines = c.loop-more.track.lines; bytes = c.loop-more.track.bytes })
+          (looked_at full plan q c.loop-more.track (a.at full is) cur c.look.ensures.same c.look.ensures.fits)
           _ (bytes_asked (ask d.needs_sol k d.address)) (drop k (left_of plan q cur))
           (gone d n k (left_of plan q cur) c.in-Bytes.ensures.next.1 alike.0 alike.1 some in_more in_next c.in-Bytes.ensures.next.2)
           here fits_now
           (part_reached d.needs_sol k d.address _ some ∙ sym (c.count_bytes.ensures.reach d.address));
       few = record {
-        lines = let x = a.few.lines in let y = (c.count_bytes.ensures.few some).lines in let z = ap (λ (m : Demand). m.rest) more_is in omega arith;
-        bytes = let x = a.few.bytes in let y = (c.count_bytes.ensures.few some).bytes in let z = ap (λ (m : Demand). m.rest) more_is in omega arith;
+        lines =
+            let x = a.few.lines in
+            let y = (c.count_bytes.ensures.few some).lines in
+            let z = ap (λ (m : Demand). m.rest) more_is in
+            omega arith;
+        bytes =
+            let x = a.few.bytes in
+            let y = (c.count_bytes.ensures.few some).bytes in
+            let z = ap (λ (m : Demand). m.rest) more_is in
+            omega arith;
       };
     }
 

@@ -12,7 +12,8 @@ invariant-loop-more l = record {
   some : IsTrue l.more.needs_sol → 0 < l.more.rest;
   below : IfSome l.more.address (λ at. at + l.more.rest < 2 ^ 40);
   less : l.more.rest ≤ l.fn.asked.rest;
-  unlike : first_unlike (bytes_asked (ask_of l.more)) (left_of l.plan l.q l.track.cursor) ≡ first_unlike (bytes_asked (ask_of l.fn.asked)) (left_of l.plan l.q l.fn.track.cursor);
+  unlike : first_unlike (bytes_asked (ask_of l.more)) (left_of l.plan l.q l.track.cursor)
+      ≡ first_unlike (bytes_asked (ask_of l.fn.asked)) (left_of l.plan l.q l.fn.track.cursor);
   left : drop l.more.rest (left_of l.plan l.q l.track.cursor) ≡ drop l.fn.asked.rest (left_of l.plan l.q l.fn.track.cursor);
   at : (full : List Ask) → IsAt full l.plan l.q l.fn.track → IsAt full l.plan l.q l.track;
   few : CountsMore l.fn.track l.track (l.fn.asked.rest - l.more.rest);

@@ -7,4 +7,5 @@ pub returns-clause-left : goal.returns-clause-left
 returns-clause-left c none =
     c.take_bytes.ensures.left none
     ∙ ap (λ (n : ℕ). drop n (left_of c.args.plan.now c.args.q c.args.track.now.cursor))
-    (sym (asks_long c.args.q c.args.instr.now c.requires.data c.demand_of-asked.result c.demand_of-asked.ensures.value c.demand_of-asked.ensures.some))
+    (sym (asks_long c.args.q c.args.instr.now c.requires.data c.demand_of-asked.result c.demand_of-asked.ensures.value
+    c.demand_of-asked.ensures.some))

@@ -8,7 +8,9 @@ few : goal.new-requires-clause-few
 few c =
     let d = c.args.frame.now in
     let vbi = c.in_ok-compile_vbi.ensures.words ∙ ap (λ (ws : List ℕ). ws ++ vbi_words d c.args.field) c.new-words.ensures.items in
-    let all = body_words d c.desc-desc.ensures.framed c.in_ok-compile_field.ensures.description c.args.field c.requires _ _ vbi c.in_ok-compile_field.ensures.words in
+    let all =
+    body_words d c.desc-desc.ensures.framed c.in_ok-compile_field.ensures.description c.args.field c.requires _ _ vbi
+    c.in_ok-compile_field.ensures.words in
     let long = ap (λ (ws : List ℕ). length ws) all in
     let small = body_few d c.desc-desc.ensures.framed c.in_ok-compile_field.ensures.description c.args.field c.requires in
     omega arith
@@ -23,6 +25,9 @@ pub returns : goal.returns
 returns c =
     let d = c.args.frame.now in
     let vbi = c.in_ok-compile_vbi.ensures.words ∙ ap (λ (ws : List ℕ). ws ++ vbi_words d c.args.field) c.new-words.ensures.items in
-    let all = body_words d c.desc-desc.ensures.framed c.in_ok-compile_field.ensures.description c.args.field c.requires _ _ vbi c.in_ok-compile_field.ensures.words in
+    let all =
+    body_words d c.desc-desc.ensures.framed c.in_ok-compile_field.ensures.description c.args.field c.requires _ _ vbi
+    c.in_ok-compile_field.ensures.words in
     words_plan d c.desc-desc.ensures.framed c.in_ok-compile_field.ensures.description c.args.field c.requires c.new.result
-    (c.new.ensures ∙ ap (λ (ws : List ℕ). one_span 0 ws c.in_ok-grants.grants) all ∙ ap (one_span 0 (words_of (body d c.args.field))) c.in_ok-grants.ensures)
+    (c.new.ensures ∙ ap (λ (ws : List ℕ). one_span 0 ws c.in_ok-grants.grants) all
+    ∙ ap (one_span 0 (words_of (body d c.args.field))) c.in_ok-grants.ensures)

@@ -17,12 +17,14 @@ loop-place-init c =
     let same : length (all_words c.args.accepted.now) - 0 ≡ length (all_words c.args.accepted.now) = omega arith in
     record {
       at = c.from-at.ensures ∙ c.base.ensures.value ∙ ap (λ (p : RiscProgram). p.base) c.program-program.ensures.value;
-      same = ap (λ (n : ℕ). chosen_from c.args.accepted.now c.args.field None (said_from c.args.accepted.now c.args.frame.now c.args.field 0 n)) same;
+      same = ap (λ (n : ℕ).
+          chosen_from c.args.accepted.now c.args.field None (said_from c.args.accepted.now c.args.frame.now c.args.field 0 n)) same;
     }
 
 pub unreachable-requires : goal.unreachable-requires
 unreachable-requires c =
-    readable c.args.accepted.now c.program-program.ensures.sound c.loop-place._place c.loop-place.at c.loop-place.invariant.at c.in_default.field-0
+    readable c.args.accepted.now c.program-program.ensures.sound c.loop-place._place c.loop-place.at c.loop-place.invariant.at
+    c.in_default.field-0
     (sym (c.instr_at.ensures.value ∙ ap (λ (p : RiscProgram). fetch p c.loop-place.at) c.program-program.ensures.value) ∙ c.in_default.is)
 
 pub returns-then-is_shown : goal.returns-then-is_shown
@@ -31,10 +33,16 @@ returns-then-is_shown c =
     let k = c.loop-place._place in
     let words = ap (λ (ws : List ℕ). length ws) (c.words.ensures.value ∙ ap all_words c.program-program.ensures.value) in
     let within : suc k ≤ length (all_words program) = omega (arith, c.loop-place-test.true, words) in
-    let there = sym (c.instr_at.ensures.value ∙ ap (λ (p : RiscProgram). fetch p c.loop-place.at) c.program-program.ensures.value) ∙ c.in-Ok.is in
-    let list = opened program c.program-program.ensures.sound k c.loop-place.at c.loop-place.invariant.at c.args.frame.now c.args.field c.in-Ok.instr c.in-Ok.long there
-    (length (all_words program) - k) (length (all_words program) - (k + 1)) (omega arith) (sym c.is_opening.ensures ∙ c.if-is_opening.true) in
-    let found = c.said-found.ensures ∙ ap (λ (p : RiscProgram). Rattle.check_model.specs.Verdicts.said p c.args.frame.now c.args.field c.loop-place.at) c.program-program.ensures.value in
+    let there =
+    sym (c.instr_at.ensures.value ∙ ap (λ (p : RiscProgram). fetch p c.loop-place.at) c.program-program.ensures.value) ∙ c.in-Ok.is in
+    let list =
+    opened program c.program-program.ensures.sound k c.loop-place.at c.loop-place.invariant.at c.args.frame.now c.args.field c.in-Ok.instr
+    c.in-Ok.long there
+    (length (all_words program) - k) (length (all_words program) - (k + 1)) (omega arith)
+    (sym c.is_opening.ensures ∙ c.if-is_opening.true) in
+    let found =
+    c.said-found.ensures ∙ ap (λ (p : RiscProgram). Rattle.check_model.specs.Verdicts.said p c.args.frame.now c.args.field c.loop-place.at)
+    c.program-program.ensures.value in
     let rest = said_from program c.args.frame.now c.args.field (k + 1) (length (all_words program) - (k + 1)) in
     found
     ∙ sym (ap (chosen_from program c.args.field c.loop-place.first) list
@@ -42,7 +50,8 @@ returns-then-is_shown c =
     ∙ c.loop-place.invariant.same
 
 pub next_at-at-requires-clause-long : goal.next_at-at-requires-clause-long
-next_at-at-requires-clause-long c = fetched_long c.program-program.result.now c.loop-place.at c.in-Ok.instr c.in-Ok.long (sym c.instr_at.ensures.value ∙ c.in-Ok.is)
+next_at-at-requires-clause-long c =
+    fetched_long c.program-program.result.now c.loop-place.at c.in-Ok.instr c.in-Ok.long (sym c.instr_at.ensures.value ∙ c.in-Ok.is)
 
 pub loop-place-preserved : goal.loop-place-preserved
 loop-place-preserved c =
@@ -50,24 +59,35 @@ loop-place-preserved c =
     let k = c.loop-place._place in
     let words = ap (λ (ws : List ℕ). length ws) (c.words.ensures.value ∙ ap all_words c.program-program.ensures.value) in
     let within : suc k ≤ length (all_words program) = omega (arith, c.loop-place-test.true, words) in
-    let there = sym (c.instr_at.ensures.value ∙ ap (λ (p : RiscProgram). fetch p c.loop-place.at) c.program-program.ensures.value) ∙ c.in-Ok.is in
+    let there =
+    sym (c.instr_at.ensures.value ∙ ap (λ (p : RiscProgram). fetch p c.loop-place.at) c.program-program.ensures.value) ∙ c.in-Ok.is in
     let long = fetched_long program c.loop-place.at c.in-Ok.instr c.in-Ok.long there in
     let sound = c.program-program.ensures.sound in
     let rest = said_from program c.args.frame.now c.args.field (k + 1) (length (all_words program) - (k + 1)) in
     record {
-      at = c.next_at-at.ensures ∙ next_there program sound k c.loop-place.at c.loop-place.invariant.at c.in-Ok.instr c.in-Ok.long there long;
+      at =
+          c.next_at-at.ensures ∙ next_there program sound k c.loop-place.at c.loop-place.invariant.at c.in-Ok.instr c.in-Ok.long there long;
       same = elim c.if-is_opening.branch [
         | then-is_opening+else-is_shown w ↦
-            let list = opened program sound k c.loop-place.at c.loop-place.invariant.at c.args.frame.now c.args.field c.in-Ok.instr c.in-Ok.long there
-            (length (all_words program) - k) (length (all_words program) - (k + 1)) (omega arith) (sym c.is_opening.ensures ∙ w.if-is_opening.true) in
-            let found = w.said-found.ensures ∙ ap (λ (p : RiscProgram). Rattle.check_model.specs.Verdicts.said p c.args.frame.now c.args.field c.loop-place.at) c.program-program.ensures.value in
-            ap (λ (first : Option Verdict). chosen_from program c.args.field first rest) (w.first-is ∙ w.kept-first.ensures ∙ ap (kept c.loop-place.first) found)
+            let list =
+            opened program sound k c.loop-place.at c.loop-place.invariant.at c.args.frame.now c.args.field c.in-Ok.instr c.in-Ok.long there
+            (length (all_words program) - k) (length (all_words program) - (k + 1)) (omega arith)
+            (sym c.is_opening.ensures ∙ w.if-is_opening.true) in
+            let found =
+            w.said-found.ensures
+            ∙ ap (λ (p : RiscProgram). Rattle.check_model.specs.Verdicts.said p c.args.frame.now c.args.field c.loop-place.at)
+            c.program-program.ensures.value in
+            ap (λ (first : Option Verdict). chosen_from program c.args.field first rest)
+            (w.first-is ∙ w.kept-first.ensures ∙ ap (kept c.loop-place.first) found)
             ∙ sym (ap (chosen_from program c.args.field c.loop-place.first) list
-            ∙ found_more program c.args.field c.loop-place.first _ rest (ap is_shown (sym found) ∙ sym w.is_shown.ensures ∙ w.if-is_shown.false))
+            ∙ found_more program c.args.field c.loop-place.first _ rest
+            (ap is_shown (sym found) ∙ sym w.is_shown.ensures ∙ w.if-is_shown.false))
             ∙ c.loop-place.invariant.same
         | else-is_opening w ↦
-            let list = passed program sound k c.loop-place.at c.loop-place.invariant.at c.args.frame.now c.args.field c.in-Ok.instr c.in-Ok.long there
-            (length (all_words program) - k) (length (all_words program) - (k + 1)) (omega arith) (sym c.is_opening.ensures ∙ w.if-is_opening.false) in
+            let list =
+            passed program sound k c.loop-place.at c.loop-place.invariant.at c.args.frame.now c.args.field c.in-Ok.instr c.in-Ok.long there
+            (length (all_words program) - k) (length (all_words program) - (k + 1)) (omega arith)
+            (sym c.is_opening.ensures ∙ w.if-is_opening.false) in
             ap (λ (first : Option Verdict). chosen_from program c.args.field first rest) w.first-is
             ∙ sym (ap (chosen_from program c.args.field c.loop-place.first) list)
             ∙ c.loop-place.invariant.same
@@ -83,5 +103,6 @@ returns c =
     c.unwrap_or.ensures
     ∙ ap (λ (at : ℕ). unwrap_or c.loop-place.first (Differs at (NoSync c.vertical.result))) base
     ∙ ap (λ (code : Code). unwrap_or c.loop-place.first (Differs program.base (NoSync code))) c.vertical.ensures
-    ∙ sym (ap (λ (n : ℕ). chosen_from program c.args.field c.loop-place.first (said_from program c.args.frame.now c.args.field c.loop-place._place n)) none)
+    ∙ sym (ap (λ (n : ℕ).
+    chosen_from program c.args.field c.loop-place.first (said_from program c.args.frame.now c.args.field c.loop-place._place n)) none)
     ∙ c.loop-place.invariant.same

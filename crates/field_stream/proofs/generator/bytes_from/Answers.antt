@@ -13,5 +13,6 @@ loop-byte-preserved c =
       bytes =
           below_more _ _
           (λ k h. let ne : k ≢ c.loop-byte.byte-index = omega arith in rw get_or-set_other (c.loop-byte.invariant.bytes k h))
-          (let lt : c.loop-byte.byte-index < length c.loop-byte.byte-items = omega arith in rw get_or-set_same (ap (λ (n : ℕ). n % 256) drawn));
+          (let lt : c.loop-byte.byte-index < length c.loop-byte.byte-items = omega arith in
+          rw get_or-set_same (ap (λ (n : ℕ). n % 256) drawn));
     }

@@ -17,7 +17,8 @@ pub returns-in_err-put_frames-clause-puts : goal.returns-in_err-put_frames-claus
 returns-in_err-put_frames-clause-puts g c =
     let p = err_from_is_err_and c.from_residual.result c.from_residual.ensures.1 in
     let begun = begun_as c.args.seed _ _ c.new-draft.ensures c.append.ensures in
-    rw p.1 (broken_puts (pushed_all (stream_pushes c.args.frame.now c.args.frames) c.append.new.self) (0 ∷ []) (made c.args.frame.now c.args.seed c.args.frames) _ _
+    rw p.1 (broken_puts (pushed_all (stream_pushes c.args.frame.now c.args.frames) c.append.new.self) (0 ∷ [])
+    (made c.args.frame.now c.args.seed c.args.frames) _ _
     (made_whole c.args.frame.now c.args.seed c.args.frames _ begun) c.in_err-put_frames.ensures.moves)
 
 pub returns-in_err-put_end-clause-puts : goal.returns-in_err-put_end-clause-puts
@@ -26,7 +27,8 @@ returns-in_err-put_end-clause-puts g c =
     let begun = begun_as c.args.seed _ _ c.new-draft.ensures c.append.ensures in
     rw p.1 (puts_as _ (made c.args.frame.now c.args.seed c.args.frames) _ _ failed
     (made_whole c.args.frame.now c.args.seed c.args.frames _ begun)
-    (puts_last (pushed_all (stream_pushes c.args.frame.now c.args.frames) c.append.new.self) c.put_frames.new.draft (0 ∷ []) (c.put_frames.new.draft.bytes ++ 0 ∷ []) _ _ _ failed
+    (puts_last (pushed_all (stream_pushes c.args.frame.now c.args.frames) c.append.new.self) c.put_frames.new.draft (0 ∷ [])
+    (c.put_frames.new.draft.bytes ++ 0 ∷ []) _ _ _ failed
     c.in_ok-put_frames.ensures.moves refl c.in_err-put_end.ensures.puts))
 
 pub returns-clause-puts : goal.returns-clause-puts
@@ -34,5 +36,6 @@ returns-clause-puts g c =
     let begun = begun_as c.args.seed _ _ c.new-draft.ensures c.append.ensures in
     puts_as _ (made c.args.frame.now c.args.seed c.args.frames) _ _ done
     (made_whole c.args.frame.now c.args.seed c.args.frames _ begun)
-    (puts_last (pushed_all (stream_pushes c.args.frame.now c.args.frames) c.append.new.self) c.put_frames.new.draft (0 ∷ []) (c.put_frames.new.draft.bytes ++ 0 ∷ []) _ _ _ done
+    (puts_last (pushed_all (stream_pushes c.args.frame.now c.args.frames) c.append.new.self) c.put_frames.new.draft (0 ∷ [])
+    (c.put_frames.new.draft.bytes ++ 0 ∷ []) _ _ _ done
     c.in_ok-put_frames.ensures.moves refl c.in_ok-put_end.ensures.puts)

@@ -10,20 +10,23 @@ pub returns-in_err-put_mark-clause-moves : goal.returns-in_err-put_mark-clause-m
 returns-in_err-put_mark-clause-moves g c =
     let p = err_from_is_err_and c.from_residual.result c.from_residual.ensures.1 in
     let d = c.args.frame.now in
-    rw p.1 (broken_first (Mark (vertical c.args.field) ∷ []) (vbi_pushes d.vbi_lines (vbi_skip d c.args.field) d.vbi_bytes ++ picture_pushes d c.args.field) _ _ _
+    rw p.1 (broken_first (Mark (vertical c.args.field) ∷ [])
+    (vbi_pushes d.vbi_lines (vbi_skip d c.args.field) d.vbi_bytes ++ picture_pushes d c.args.field) _ _ _
     (rw c.vertical.ensures at c.in_err-put_mark.ensures.moves))
 
 pub returns-in_err-put_vbi-clause-moves : goal.returns-in_err-put_vbi-clause-moves
 returns-in_err-put_vbi-clause-moves g c =
     let p = err_from_is_err_and c.from_residual-in_err-put_vbi.result c.from_residual-in_err-put_vbi.ensures.1 in
     let d = c.args.frame.now in
-    rw p.1 (broken_second (Mark (vertical c.args.field) ∷ []) (vbi_pushes d.vbi_lines (vbi_skip d c.args.field) d.vbi_bytes) (picture_pushes d c.args.field) _ _ _ _ _
+    rw p.1 (broken_second (Mark (vertical c.args.field) ∷ []) (vbi_pushes d.vbi_lines (vbi_skip d c.args.field) d.vbi_bytes)
+    (picture_pushes d c.args.field) _ _ _ _ _
     (rw c.vertical.ensures at c.in_ok-put_mark.ensures.moves) c.in_err-put_vbi.ensures.moves)
 
 pub returns-clause-moves : goal.returns-clause-moves
 returns-clause-moves g c =
     let d = c.args.frame.now in
-    moves_both (Mark (vertical c.args.field) ∷ vbi_pushes d.vbi_lines (vbi_skip d c.args.field) d.vbi_bytes) (picture_pushes d c.args.field) _ _ _ _ _ _ c.put_picture.result
+    moves_both (Mark (vertical c.args.field) ∷ vbi_pushes d.vbi_lines (vbi_skip d c.args.field) d.vbi_bytes)
+    (picture_pushes d c.args.field) _ _ _ _ _ _ c.put_picture.result
     (moved_both (Mark (vertical c.args.field) ∷ []) (vbi_pushes d.vbi_lines (vbi_skip d c.args.field) d.vbi_bytes) _ _ _ _ _ _
     (rw c.vertical.ensures at c.in_ok-put_mark.ensures.moves) c.in_ok-put_vbi.ensures.moves)
     c.put_picture.ensures.moves

@@ -20,4 +20,5 @@ returns-in_ok-put_field-in-Both-clause-moves g c =
     let d = c.args.frame.now in
     let is = sym (ap (λ (d : Desc). d.fields) c.desc.ensures.value) ∙ c.in-Both.is in
     moves_as _ (frame_pushes d) _ _ _ _ c.put_field-in-Both-2.result (frame_both d is)
-    (moves_both (field_pushes d Top) (field_pushes d Bottom) _ _ _ _ _ _ c.put_field-in-Both-2.result c.in_ok-put_field-in-Both.ensures.moves c.put_field-in-Both-2.ensures.moves)
+    (moves_both (field_pushes d Top) (field_pushes d Bottom) _ _ _ _ _ _ c.put_field-in-Both-2.result
+    c.in_ok-put_field-in-Both.ensures.moves c.put_field-in-Both-2.ensures.moves)

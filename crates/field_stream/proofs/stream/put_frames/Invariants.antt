@@ -6,6 +6,7 @@ use Rattle.field_stream.proofs.stream.put_frames.Given as goal
 abbrev pub invariant-loop-done : goal.invariant-loop-done
 invariant-loop-done g l =
     record {
-      moved : IsMoved (pushed_all (repeated l._done (frame_pushes l.frame)) l.fn.draft) l.draft (g.D.Desk.seen l.fn.desk).told (g.D.Desk.seen l.desk).told;
+      moved : IsMoved (pushed_all (repeated l._done (frame_pushes l.frame)) l.fn.draft) l.draft (g.D.Desk.seen l.fn.desk).told
+          (g.D.Desk.seen l.desk).told;
       counts : OnlyWrites (g.D.Desk.seen l.fn.desk) (g.D.Desk.seen l.desk);
     }

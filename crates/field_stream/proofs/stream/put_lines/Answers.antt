@@ -10,11 +10,17 @@ loop-done-init g c = record { moved = moved_none _ _; counts = (refl, refl, refl
 pub loop-done-preserved : goal.loop-done-preserved
 loop-done-preserved g c =
     record {
-      moved = repeat_moved c.loop-done._done (line_pushes c.args.line) _ _ _ _ _ _ c.loop-done.invariant.moved c.in_ok-put_line.ensures.moves;
-      counts = (c.in_ok-put_line.ensures.counts.0 ∙ c.loop-done.invariant.counts.0, c.in_ok-put_line.ensures.counts.1 ∙ c.loop-done.invariant.counts.1, c.in_ok-put_line.ensures.counts.2 ∙ c.loop-done.invariant.counts.2);
+      moved =
+          repeat_moved c.loop-done._done (line_pushes c.args.line) _ _ _ _ _ _ c.loop-done.invariant.moved c.in_ok-put_line.ensures.moves;
+      counts = (
+        c.in_ok-put_line.ensures.counts.0 ∙ c.loop-done.invariant.counts.0,
+        c.in_ok-put_line.ensures.counts.1 ∙ c.loop-done.invariant.counts.1,
+        c.in_ok-put_line.ensures.counts.2 ∙ c.loop-done.invariant.counts.2,
+      );
     }
 
 pub returns-in_err-put_line-clause-moves : goal.returns-in_err-put_line-clause-moves
 returns-in_err-put_line-clause-moves g c =
     let p = err_from_is_err_and c.from_residual.result c.from_residual.ensures.1 in
-    rw p.1 (repeat_broken c.loop-done._done c.args.count (line_pushes c.args.line) _ _ _ _ _ (omega (arith, c.loop-done-test.true)) c.loop-done.invariant.moved c.in_err-put_line.ensures.moves)
+    rw p.1 (repeat_broken c.loop-done._done c.args.count (line_pushes c.args.line) _ _ _ _ _
+    (omega (arith, c.loop-done-test.true)) c.loop-done.invariant.moved c.in_err-put_line.ensures.moves)

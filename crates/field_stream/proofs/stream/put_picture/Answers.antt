@@ -14,7 +14,8 @@ returns-in_err-put_mark-clause-moves g c =
     let p = err_from_is_err_and c.from_residual.result c.from_residual.ensures.1 in
     let d = c.args.frame.now in
     let code = c.data_code.ensures ∙ ap data_code (c.is_planar.ensures ∙ ap (λ (f : Format). (layout f).planar) c.format.ensures.value) in
-    rw p.1 (broken_within (repeated (d.skip_lines + field_height d c.args.field) (picture_line d)) _ _ _ (rw code at c.in_err-put_mark.ensures.moves))
+    rw p.1 (broken_within (repeated (d.skip_lines + field_height d c.args.field) (picture_line d)) _ _ _
+    (rw code at c.in_err-put_mark.ensures.moves))
 
 pub returns-clause-moves : goal.returns-clause-moves
 returns-clause-moves g c =
@@ -23,4 +24,9 @@ returns-clause-moves g c =
     moves_more (repeated (d.skip_lines + field_height d c.args.field) (picture_line d)) _ _ _ _ _ _ c.put_lines.result
     (rw code at c.in_ok-put_mark.ensures.moves)
     (lines_as (c.from.result + c.rows_of.result) (d.skip_lines + field_height d c.args.field) _ _ _ _ _ _ c.put_lines.result
-    (omega (arith, c.from.ensures, ap (λ (d : Desc). d.skip_lines) c.desc.ensures.value, c.rows_of.ensures.value)) c.picture_line.ensures.pushes c.put_lines.ensures.moves)
+    (omega (
+      arith,
+      c.from.ensures,
+      ap (λ (d : Desc). d.skip_lines) c.desc.ensures.value,
+      c.rows_of.ensures.value,
+    )) c.picture_line.ensures.pushes c.put_lines.ensures.moves)

@@ -18,7 +18,8 @@ pub returns-in_err-put_mark-clause-moves : goal.returns-in_err-put_mark-clause-m
 returns-in_err-put_mark-clause-moves g c =
     let p = err_from_is_err_and c.from_residual.result c.from_residual.ensures.1 in
     let lines = ap (λ (d : Desc). d.vbi_lines) c.desc.ensures.value in
-    rw p.1 (vbi_broken c.args.frame.now.vbi_lines (vbi_skip c.args.frame.now c.args.field) c.args.frame.now.vbi_bytes _ _ _ (omega (arith, lines, c.if-count-eq0.false)) c.in_err-put_mark.ensures.moves)
+    rw p.1 (vbi_broken c.args.frame.now.vbi_lines (vbi_skip c.args.frame.now c.args.field) c.args.frame.now.vbi_bytes _ _ _
+    (omega (arith, lines, c.if-count-eq0.false)) c.in_err-put_mark.ensures.moves)
 
 pub returns-clause-moves : goal.returns-clause-moves
 returns-clause-moves g c =

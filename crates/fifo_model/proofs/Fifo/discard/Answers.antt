@@ -7,7 +7,8 @@ use Rattle.fifo_model.proofs.Fifo.discard.Goals as goal
 
 pub invariant_of-self : goal.invariant_of-self
 invariant_of-self c =
-    AreRings-kept _ _ (with_queue_state c.args.q (removed (queue_state c.args.q c.args.self.now)) c.args.self.now) (grind (arith, common_steps)) (grind (arith, common_steps))
+    AreRings-kept _ _ (with_queue_state c.args.q (removed (queue_state c.args.q c.args.self.now)) c.args.self.now)
+    (grind (arith, common_steps)) (grind (arith, common_steps))
     (IsFifo-removed c.args.q c.args.self.now c.requires.no_control (subst IsFifo c.self.view_is c.self.invariant.facts))
 
 pub returns-clause-facts : goal.returns-clause-facts

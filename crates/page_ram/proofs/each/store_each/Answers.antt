@@ -9,7 +9,8 @@ use Rattle.page_ram.proofs.each.store_each.Goals as goal
 pub store_byte-requires : goal.store_byte-requires
 store_byte-requires g c =
     ap (λ chunks. granted chunks c.loop-byte.address) c.loop-byte.invariant.chunks
-    ∙ all_granted (chunks_of (g.S.ByteStore.bytes c.args.ram.now)) c.args.addr _ c.loop-byte.address c.requires.granted (omega arith) (omega arith)
+    ∙ all_granted (chunks_of (g.S.ByteStore.bytes c.args.ram.now)) c.args.addr _ c.loop-byte.address c.requires.granted (omega arith)
+    (omega arith)
 
 pub loop-byte-preserved : goal.loop-byte-preserved
 loop-byte-preserved g c =

@@ -9,4 +9,5 @@ loop-i-preserved c =
     let before = c.loop-i.invariant in
     let pushed : Extent = record { at = c.get.result; len = c.size-len.result; from = c.loop-i.from } in
     laid_more c.loop-i.extents.items c.push.new.self.items c.args.grants.now c.loop-i.i c.loop-i.from pushed
-    (omega arith) before.0 before.1 before.2 refl (λ i. chunk (c.get.ensures.value i) (c.size-len.ensures.value i)) c.in_ok-push.ensures.items
+    (omega arith) before.0 before.1 before.2 refl
+    (λ i. chunk (c.get.ensures.value i) (c.size-len.ensures.value i)) c.in_ok-push.ensures.items

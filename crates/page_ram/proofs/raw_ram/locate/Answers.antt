@@ -12,7 +12,10 @@ overflow_add-result c =
     let extents = c.args.extents.now in
     let place = c.place_of-place.result in
     let none : Extent = record { at = 0; len = 0; from = 0 } in
-    let here = sym (ap (λ (chunk : Chunk). covers chunk c.args.addr) (get_or-map extent_chunk extents place none)) ∙ c.place_of-place.ensures.1 in
-    let below = lt-index extents c.args.addr place none c.requires.laid (omega (arith, length-map extents extent_chunk, c.place_of-place.ensures.0)) here in
+    let here =
+    sym (ap (λ (chunk : Chunk). covers chunk c.args.addr) (get_or-map extent_chunk extents place none)) ∙ c.place_of-place.ensures.1 in
+    let below =
+    lt-index extents c.args.addr place none c.requires.laid
+    (omega (arith, length-map extents extent_chunk, c.place_of-place.ensures.0)) here in
     let small = c.requires.grants.small in
     record { fits = omega arith }

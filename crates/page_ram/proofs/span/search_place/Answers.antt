@@ -11,5 +11,6 @@ returns g c =
     let place = c.partition_point.result in
     let early : g.row.S.Denot → Bool = λ span. nat_le (chunk_end (chunk span)) c.args.addr in
     let rising = IsPartitionedBy-leb (λ span. chunk_end (chunk span)) spans c.args.addr (ends_rise-map chunk spans c.requires.rising) in
-    let parts = IsPartitionPoint-from_clause early spans place c.partition_point.ensures.partitioned rising (λ a r f called. search rules) in
+    let parts =
+    IsPartitionPoint-from_clause early spans place c.partition_point.ensures.partitioned rising (λ a r f called. search rules) in
     searched chunk spans c.args.addr place c.partition_point.ensures.bound parts c.requires.rising c.requires.granted

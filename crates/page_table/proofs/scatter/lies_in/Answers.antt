@@ -18,5 +18,6 @@ returns-else-i-eq0-clause-elsewhere c late inside is =
 pub returns-else-off-ends-clause-elsewhere : goal.returns-else-off-ends-clause-elsewhere
 returns-else-off-ends-clause-elsewhere c early inside is =
     let at = get_or c.args.ends.now c.args.i 0 in
-    let stops : nat_le at c.args.off ≡ false = rw is (prefix_len_stops (λ end. nat_le end c.args.off) c.args.ends.now 0 (omega (arith, is, inside))) in
+    let stops : nat_le at c.args.off ≡ false =
+    rw is (prefix_len_stops (λ end. nat_le end c.args.off) c.args.ends.now 0 (omega (arith, is, inside))) in
     absurd (omega (arith, leb-false at c.args.off stops, ltb-false c.args.off at early))

@@ -29,8 +29,10 @@ pub returns-clause-value : goal.returns-clause-value
 returns-clause-value c =
     let l = layout_of c.args.desc.now in
     c.chroma_row_from.ensures
-    ∙ ap (λ (n : ℕ). chroma_row_from l c.is_both.result n c.args.row) (c.chroma_first-first.ensures ∙ ap (chroma_first c.args.desc.now) c.field_of.ensures)
-    ∙ ap (λ (b : Bool). chroma_row_from l b (chroma_first c.args.desc.now (field_of c.args.desc.now.fields c.args.row)) c.args.row) c.is_both.ensures
+    ∙ ap (λ (n : ℕ). chroma_row_from l c.is_both.result n c.args.row)
+    (c.chroma_first-first.ensures ∙ ap (chroma_first c.args.desc.now) c.field_of.ensures)
+    ∙ ap (λ (b : Bool). chroma_row_from l b (chroma_first c.args.desc.now (field_of c.args.desc.now.fields c.args.row)) c.args.row)
+    c.is_both.ensures
 
 pub returns-clause-within : goal.returns-clause-within
 returns-clause-within c =
@@ -38,4 +40,5 @@ returns-clause-within c =
 
 pub returns-clause-planar : goal.returns-clause-planar
 returns-clause-planar c =
-    subst (λ (o : Option ℕ). IfSome o (λ kept. (layout_of c.args.desc.now).planar ≡ true)) (sym (returns-clause-value c)) (planar c.args.desc.now c.args.row)
+    subst (λ (o : Option ℕ). IfSome o (λ kept. (layout_of c.args.desc.now).planar ≡ true)) (sym (returns-clause-value c))
+    (planar c.args.desc.now c.args.row)

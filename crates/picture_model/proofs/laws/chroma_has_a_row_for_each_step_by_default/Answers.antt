@@ -6,8 +6,10 @@ use Rattle.picture_model.proofs.laws.chroma_has_a_row_for_each_step_by_default.G
 
 pub returns-clause-one : goal.returns-clause-one
 returns-clause-one c = λ d is frame none planar single.
-    chroma_height-default d none planar (IsFrame-IsRight d is frame).even ∙ ap (λ (two : Bool). default_rows (layout_of d).down two d.height) single
+    chroma_height-default d none planar (IsFrame-IsRight d is frame).even
+    ∙ ap (λ (two : Bool). default_rows (layout_of d).down two d.height) single
 
 pub returns-clause-two : goal.returns-clause-two
 returns-clause-two c = λ d is frame none planar twice.
-    chroma_height-default d none planar (IsFrame-IsRight d is frame).even ∙ ap (λ (two : Bool). default_rows (layout_of d).down two d.height) twice
+    chroma_height-default d none planar (IsFrame-IsRight d is frame).even
+    ∙ ap (λ (two : Bool). default_rows (layout_of d).down two d.height) twice

@@ -10,12 +10,16 @@ returns-clause-row c = λ d row pieces is frame below.
     (plan_only (memory_of d) (row_strip d row) pieces strip, plan_is (memory_of d) (row_strip d row) pieces strip)
 
 pub returns-clause-skipped : goal.returns-clause-skipped
-returns-clause-skipped c = λ d pieces.
-    (plan_only (memory_of d) (skipped_strip d) pieces (skipped-IsStrip d), plan_is (memory_of d) (skipped_strip d) pieces (skipped-IsStrip d))
+returns-clause-skipped c = λ d pieces. (
+  plan_only (memory_of d) (skipped_strip d) pieces (skipped-IsStrip d),
+  plan_is (memory_of d) (skipped_strip d) pieces (skipped-IsStrip d),
+)
 
 pub returns-clause-skipped_vbi : goal.returns-clause-skipped_vbi
-returns-clause-skipped_vbi c = λ d pieces.
-    (plan_only (memory_of d) (skipped_vbi_strip d) pieces (skipped_vbi-IsStrip d), plan_is (memory_of d) (skipped_vbi_strip d) pieces (skipped_vbi-IsStrip d))
+returns-clause-skipped_vbi c = λ d pieces. (
+  plan_only (memory_of d) (skipped_vbi_strip d) pieces (skipped_vbi-IsStrip d),
+  plan_is (memory_of d) (skipped_vbi_strip d) pieces (skipped_vbi-IsStrip d),
+)
 
 pub returns-clause-vbi : goal.returns-clause-vbi
 returns-clause-vbi c = λ d field line pieces is frame described below.

@@ -18,8 +18,12 @@ loop-at-preserved c =
     record {
       begun = let begun = c.loop-at.invariant.begun in omega arith;
       within = c.next_piece-grains.ensures.inside;
-      whole = one_more memory strip span out new all piece c.loop-at.at c.next_piece-grains.result.1 each c.loop-at.invariant.begun c.loop-at-test.true
+      whole =
+          one_more memory strip span out new all piece c.loop-at.at c.next_piece-grains.result.1 each c.loop-at.invariant.begun
+          c.loop-at-test.true
           c.next_piece-grains.ensures.grains c.next_piece-grains.ensures.piece c.in_ok-push.ensures.items c.loop-at.invariant.whole;
       windows = c.next_piece-grains.ensures.windows;
-      counts = λ before. counts_more memory strip span out new all piece c.next_piece-grains.ensures.counts c.in_ok-push.ensures.items (c.loop-at.invariant.counts before);
+      counts =
+          λ before. counts_more memory strip span out new all piece c.next_piece-grains.ensures.counts c.in_ok-push.ensures.items
+          (c.loop-at.invariant.counts before);
     }

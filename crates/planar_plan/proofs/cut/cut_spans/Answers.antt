@@ -35,7 +35,8 @@ loop-span-preserved c =
       grains = grains.2;
       whole = next_span memory strip (get_or spans k none) (drop (k + 1) spans) c.loop-span.pieces.items c.cut_span.new.pieces.items all
           c.in_ok-cut_span.ensures.pieces
-          (subst (λ (left : List Span). c.loop-span.pieces.items ++ pieces_of memory strip (cuts_of memory strip left) ≡ all) next c.loop-span.invariant.whole);
+          (subst (λ (left : List Span). c.loop-span.pieces.items ++ pieces_of memory strip (cuts_of memory strip left) ≡ all) next
+          c.loop-span.invariant.whole);
       windows = c.in_ok-cut_span.ensures.windows;
       counts = c.in_ok-cut_span.ensures.counts c.loop-span.invariant.counts;
     }

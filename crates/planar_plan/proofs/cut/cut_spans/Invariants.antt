@@ -9,7 +9,8 @@ abbrev pub invariant-loop-span : goal.invariant-loop-span
 invariant-loop-span l =
     record {
       grains : AreWithin l.line.grains (drop l.span-index l.spans);
-      whole : l.pieces.items ++ pieces_of l.scatter.chunks (strip_of l.line) (cuts_of l.scatter.chunks (strip_of l.line) (drop l.span-index l.spans))
+      whole : l.pieces.items ++ pieces_of l.scatter.chunks (strip_of l.line)
+          (cuts_of l.scatter.chunks (strip_of l.line) (drop l.span-index l.spans))
           ≡ pieces_of l.scatter.chunks (strip_of l.line) (cuts_of l.scatter.chunks (strip_of l.line) l.spans);
       windows : AreWindows l.scatter l.windows;
       counts : All CountsFit l.pieces.items;

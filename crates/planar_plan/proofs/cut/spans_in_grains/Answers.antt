@@ -23,7 +23,8 @@ loop-span-preserved c =
     let done = c.loop-span.grains.items in
     let left = map grain (drop (k + 1) spans) in
     let here = grain (get_or spans k none) in
-    let added : c.push.new.self.items ≡ done ++ here ∷ [] = c.in_ok-push.ensures.items ∙ ap (λ (s : Span). done ++ s ∷ []) c.in_grains.ensures in
+    let added : c.push.new.self.items ≡ done ++ here ∷ [] =
+    c.in_ok-push.ensures.items ∙ ap (λ (s : Span). done ++ s ∷ []) c.in_grains.ensures in
     record {
       pixels = (subst (AreWithin 1024) next c.loop-span.invariant.pixels).2;
       whole =

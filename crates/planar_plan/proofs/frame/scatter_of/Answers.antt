@@ -12,19 +12,22 @@ pub returns-in_err-end-clause-answer : goal.returns-in_err-end-clause-answer
 returns-in_err-end-clause-answer c =
     let p = err_from_is_err_and c.from_residual.result c.from_residual.ensures.1 in
     let d = c.args.desc.now in
-    rw (p.1, p.2) (judges_err ℕ ScatterList (first_after None picture_faults d) (frame_fault d) c.in_err-end.field-0.0 (at_picture d) c.in_err-end.ensures.answer)
+    rw (p.1, p.2) (judges_err ℕ ScatterList (first_after None picture_faults d) (frame_fault d) c.in_err-end.field-0.0
+    (at_picture d) c.in_err-end.ensures.answer)
 
 pub returns-in_err-page_faults-clause-answer : goal.returns-in_err-page_faults-clause-answer
 returns-in_err-page_faults-clause-answer c =
     let p = err_from_is_err_and c.from_residual-in_err-page_faults.result c.from_residual-in_err-page_faults.ensures.1 in
     let d = c.args.desc.now in
-    rw (p.1, p.2) (judges_err (Unit {0}) ScatterList (first_after None page_faults d) (frame_fault d) c.in_err-page_faults.field-0.0 (λ fault. at_pages d fault c.in_ok-end.ensures.answer) c.in_err-page_faults.ensures.answer)
+    rw (p.1, p.2) (judges_err (Unit {0}) ScatterList (first_after None page_faults d) (frame_fault d) c.in_err-page_faults.field-0.0
+    (λ fault. at_pages d fault c.in_ok-end.ensures.answer) c.in_err-page_faults.ensures.answer)
 
 pub returns-clause-answer : goal.returns-clause-answer
 returns-clause-answer c =
     let d = c.args.desc.now in
     let found : frame_fault d ≡ first_missing d.chunks d.pages c.in_ok-end.end =
-    at_memory d c.in_ok-end.ensures.answer c.in_ok-page_faults.ensures.answer ∙ ap (first_missing d.chunks d.pages) (sym c.in_ok-end.ensures.end)
+    at_memory d c.in_ok-end.ensures.answer c.in_ok-page_faults.ensures.answer
+    ∙ ap (first_missing d.chunks d.pages) (sym c.in_ok-end.ensures.end)
     in
     subst (λ (o : Option BuildFault). Judges o c.scatter.result) (sym found) c.scatter.ensures.answer
 

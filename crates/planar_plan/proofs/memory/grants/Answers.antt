@@ -10,7 +10,8 @@ unreachable-requires c =
     let d = c.args.desc.now in
     let pages = c.as_slice.result.now in
     let answer : taken_memory d.chunks pages ≡ Err TooMany =
-    subst (λ (r : Taking). Answers (taken_memory d.chunks pages) r) (c.in-Err-TooMany.is ∙ ap Err c.in-Err-TooMany.field-0-is) c.taken_memory.ensures.answer
+    subst (λ (r : Taking). Answers (taken_memory d.chunks pages) r)
+    (c.in-Err-TooMany.is ∙ ap Err c.in-Err-TooMany.field-0-is) c.taken_memory.ensures.answer
     in
     no_fault_taken d pages TooMany c.requires.formed c.requires.aligned c.requires.apart c.as_slice.ensures answer
 
@@ -19,15 +20,18 @@ unreachable-requires-in-Err-Unaligned c =
     let d = c.args.desc.now in
     let pages = c.as_slice.result.now in
     let answer : taken_memory d.chunks pages ≡ Err (Unaligned c.in-Err-Unaligned.field-0-0) =
-    subst (λ (r : Taking). Answers (taken_memory d.chunks pages) r) (c.in-Err-Unaligned.is ∙ ap Err c.in-Err-Unaligned.field-0-is) c.taken_memory.ensures.answer
+    subst (λ (r : Taking). Answers (taken_memory d.chunks pages) r)
+    (c.in-Err-Unaligned.is ∙ ap Err c.in-Err-Unaligned.field-0-is) c.taken_memory.ensures.answer
     in
-    no_fault_taken d pages (Unaligned c.in-Err-Unaligned.field-0-0) c.requires.formed c.requires.aligned c.requires.apart c.as_slice.ensures answer
+    no_fault_taken d pages
+    (Unaligned c.in-Err-Unaligned.field-0-0) c.requires.formed c.requires.aligned c.requires.apart c.as_slice.ensures answer
 
 pub unreachable-requires-in-Err-Twice : goal.unreachable-requires-in-Err-Twice
 unreachable-requires-in-Err-Twice c =
     let d = c.args.desc.now in
     let pages = c.as_slice.result.now in
     let answer : taken_memory d.chunks pages ≡ Err (Twice c.in-Err-Twice.field-0-0) =
-    subst (λ (r : Taking). Answers (taken_memory d.chunks pages) r) (c.in-Err-Twice.is ∙ ap Err c.in-Err-Twice.field-0-is) c.taken_memory.ensures.answer
+    subst (λ (r : Taking). Answers (taken_memory d.chunks pages) r)
+    (c.in-Err-Twice.is ∙ ap Err c.in-Err-Twice.field-0-is) c.taken_memory.ensures.answer
     in
     no_fault_taken d pages (Twice c.in-Err-Twice.field-0-0) c.requires.formed c.requires.aligned c.requires.apart c.as_slice.ensures answer

@@ -12,6 +12,8 @@ pub unreachable-requires : goal.unreachable-requires
 unreachable-requires c =
     let d = c.args.desc.now in
     let answer : taken_memory d.chunks c.as_slice.result.now ≡ Err TooMany =
-    subst (λ (fault : PageFault). Answers (taken_memory d.chunks c.as_slice.result.now) (Err fault)) c.in-Err-TooMany.field-0-is c.in-Err-TooMany.ensures.answer
+    subst (λ (fault : PageFault). Answers (taken_memory d.chunks c.as_slice.result.now) (Err fault)) c.in-Err-TooMany.field-0-is
+    c.in-Err-TooMany.ensures.answer
     in
-    taken_many (memory_of d) (first_unaligned d.chunks d.pages) (sym (few_of d c.requires) ∙ ap (taken_memory d.chunks) (sym c.as_slice.ensures) ∙ answer)
+    taken_many (memory_of d) (first_unaligned d.chunks d.pages)
+    (sym (few_of d c.requires) ∙ ap (taken_memory d.chunks) (sym c.as_slice.ensures) ∙ answer)

@@ -11,7 +11,8 @@ pages_fit pages fit =
 
 pub returns-in-None-clause-answer : goal.returns-in-None-clause-answer
 returns-in-None-clause-answer c =
-    subst (λ (chunks : Option (List (ℕ × ℕ))). Answers (taken_memory chunks c.args.pages.now) c.from_list.result) (sym c.in-None.is) c.from_list.ensures.answer
+    subst (λ (chunks : Option (List (ℕ × ℕ))). Answers (taken_memory chunks c.args.pages.now) c.from_list.result)
+    (sym c.in-None.is) c.from_list.ensures.answer
 
 pub returns-in-None-clause-pages : goal.returns-in-None-clause-pages
 returns-in-None-clause-pages c = pages_fit c.args.pages.now c.type_inv.pages
@@ -21,7 +22,8 @@ returns-in-Some-clause-answer c =
     let answer : Answers (taken_chunks c.in-Some.chunks) c.from_chunks.result =
     subst (λ (pairs : List (ℕ × ℕ)). Answers (taken_chunks pairs) c.from_chunks.result) c.as_slice.ensures c.from_chunks.ensures.answer
     in
-    subst (λ (chunks : Option (List (ℕ × ℕ))). Answers (taken_memory chunks c.args.pages.now) c.from_chunks.result) (sym c.in-Some.is) answer
+    subst (λ (chunks : Option (List (ℕ × ℕ))). Answers (taken_memory chunks c.args.pages.now) c.from_chunks.result)
+    (sym c.in-Some.is) answer
 
 pub returns-in-Some-clause-pages : goal.returns-in-Some-clause-pages
 returns-in-Some-clause-pages c = pages_fit c.args.pages.now c.type_inv.pages

@@ -10,13 +10,15 @@ use Rattle.planar_plan.proofs.places.chroma_height.Goals as goal
 use Rattle.planar_plan.proofs.places.chroma_height.Goals.{in-Some, in_default}
 
 -- the rows for one more row of the picture, by the row of chroma that takes it
-more_by : (d : Desc) (row : ℕ) (o : Option ℕ) → chroma_row_of d row ≡ o → rows_for (map (chroma_row_of d) (range_with_len 0 (row + 1))) ≡ max (rows_for (map (chroma_row_of d) (range_with_len 0 row))) (rows_for (o ∷ []))
+more_by : (d : Desc) (row : ℕ) (o : Option ℕ) → chroma_row_of d row ≡ o → rows_for (map (chroma_row_of d) (range_with_len 0 (row + 1)))
+    ≡ max (rows_for (map (chroma_row_of d) (range_with_len 0 row))) (rows_for (o ∷ []))
 more_by d row o is =
     let next : row + 1 ≡ suc row = omega arith in
     let first : 0 + row ≡ row = omega arith in
     ap (λ (n : ℕ). rows_for (map (chroma_row_of d) (range_with_len 0 n))) next
     ∙ rows_more (chroma_row_of d) 0 row
-    ∙ ap (λ (p : Option ℕ). max (rows_for (map (chroma_row_of d) (range_with_len 0 row))) (rows_for (p ∷ []))) (ap (chroma_row_of d) first ∙ is)
+    ∙ ap (λ (p : Option ℕ). max (rows_for (map (chroma_row_of d) (range_with_len 0 row))) (rows_for (p ∷ [])))
+    (ap (chroma_row_of d) first ∙ is)
 
 greater : (a b : ℕ) → ord_max nat_cmp a b ≡ max a b
 greater a b = grind (arith, common_steps)
@@ -34,7 +36,8 @@ loop-row-preserved c =
           let here : chroma_row_of d row ≡ Some kept = sym c.chroma_row.ensures.value ∙ w.in-Some.is in
           let more = more_by d row (Some kept) here in
           let within : kept ≤ row = subst (λ (o : Option ℕ). IfSome o (λ n. n ≤ row)) w.in-Some.is c.chroma_row.ensures.within in
-          let rows : c.match-chroma_row.rows ≡ max c.loop-row.rows (kept + 1) = w.rows-is ∙ w.max-rows.ensures ∙ greater c.loop-row.rows (kept + 1) in
+          let rows : c.match-chroma_row.rows ≡ max c.loop-row.rows (kept + 1) =
+          w.rows-is ∙ w.max-rows.ensures ∙ greater c.loop-row.rows (kept + 1) in
           (omega arith, omega arith))
       | in_default w ↦ (
           let here : chroma_row_of d row ≡ None = sym c.chroma_row.ensures.value ∙ w.in_default.is in

@@ -10,7 +10,8 @@ pub returns-in_err-frame-clause-answer : goal.returns-in_err-frame-clause-answer
 returns-in_err-frame-clause-answer c =
     let p = err_from_is_err_and c.from_residual.result c.from_residual.ensures.1 in
     let d = c.args.desc in
-    rw (p.1, p.2) (judges_err Desc Desc (frame_fault d) (first_fault d) c.in_err-frame.field-0.0 (some_front frame_faults program_faults d) c.in_err-frame.ensures.answer)
+    rw (p.1, p.2) (judges_err Desc Desc (frame_fault d) (first_fault d) c.in_err-frame.field-0.0
+    (some_front frame_faults program_faults d) c.in_err-frame.ensures.answer)
 
 pub returns-in_err-words-clause-answer : goal.returns-in_err-words-clause-answer
 returns-in_err-words-clause-answer c =

@@ -24,11 +24,15 @@ new-requires-clause-ends c =
 pub new-requires-clause-apart : goal.new-requires-clause-apart
 new-requires-clause-apart c =
     let d = c.args.frame.now in
-    let same = same_program c.desc.result.now.base c.args.words.items c.in_ok-grants.grants d (ap (λ (e : Desc). e.base) c.desc.ensures.value) c.requires.words c.in_ok-grants.ensures.grants in
+    let same =
+    same_program c.desc.result.now.base c.args.words.items c.in_ok-grants.grants d
+    (ap (λ (e : Desc). e.base) c.desc.ensures.value) c.requires.words c.in_ok-grants.ensures.grants in
     subst (λ (p : RiscProgram). All (λ chunk. shares_byte p chunk ≡ false) p.grants) (sym same) (checked_program d c.requires.checked).apart
 
 pub returns-clause-sound : goal.returns-clause-sound
 returns-clause-sound c =
     let d = c.args.frame.now in
-    let same = same_program c.desc.result.now.base c.args.words.items c.in_ok-grants.grants d (ap (λ (e : Desc). e.base) c.desc.ensures.value) c.requires.words c.in_ok-grants.ensures.grants in
+    let same =
+    same_program c.desc.result.now.base c.args.words.items c.in_ok-grants.grants d
+    (ap (λ (e : Desc). e.base) c.desc.ensures.value) c.requires.words c.in_ok-grants.ensures.grants in
     subst IsSound (sym (c.new.ensures ∙ same)) (checked_sound d c.requires.checked)

@@ -14,7 +14,8 @@ returns-in_err-program_on_page-clause-answer c =
     let long = c.in_ok-words.ensures.words.long ∙ ap (λ (n : ℕ). length (sections_words d n n)) base in
     let count = c.len.ensures in
     let from = c.from.ensures in
-    rw (p.1, p.2) (on_page d c.desc-desc.result.now _ (Some c.in_err-program_on_page.field-0.0) same (omega arith) c.in_ok-program_base.ensures c.in_err-program_on_page.ensures)
+    rw (p.1, p.2) (on_page d c.desc-desc.result.now _ (Some c.in_err-program_on_page.field-0.0) same
+    (omega arith) c.in_ok-program_base.ensures c.in_err-program_on_page.ensures)
 
 pub returns-clause-answer : goal.returns-clause-answer
 returns-clause-answer c =

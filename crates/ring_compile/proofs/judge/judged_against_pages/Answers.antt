@@ -12,7 +12,8 @@ returns-then-any_page_met c =
     let end = c.args.end in
     sym (meets r c.any_page_met.result
     (c.any_page_met.ensures
-    ∙ ap (λ (ps : List ℕ). list_any (λ page. is_met c.values.inside.base end (page_at page)) ps) (c.as_slice.ensures ∙ ap (λ (v : Ring). v.pages) c.values.view_is)
+    ∙ ap (λ (ps : List ℕ). list_any (λ page. is_met c.values.inside.base end (page_at page)) ps)
+    (c.as_slice.ensures ∙ ap (λ (v : Ring). v.pages) c.values.view_is)
     ∙ ap (λ (b : ℕ). list_any (λ page. is_met b end (page_at page)) r.pages) (ap (λ (v : Ring). v.base) c.values.view_is)
     ∙ pages_met r end c.requires)
     c.if-any_page_met.true)
@@ -23,7 +24,8 @@ returns-else-any_page_met c =
     let end = c.args.end in
     sym (meets_none r c.any_page_met.result
     (c.any_page_met.ensures
-    ∙ ap (λ (ps : List ℕ). list_any (λ page. is_met c.values.inside.base end (page_at page)) ps) (c.as_slice.ensures ∙ ap (λ (v : Ring). v.pages) c.values.view_is)
+    ∙ ap (λ (ps : List ℕ). list_any (λ page. is_met c.values.inside.base end (page_at page)) ps)
+    (c.as_slice.ensures ∙ ap (λ (v : Ring). v.pages) c.values.view_is)
     ∙ ap (λ (b : ℕ). list_any (λ page. is_met b end (page_at page)) r.pages) (ap (λ (v : Ring). v.base) c.values.view_is)
     ∙ pages_met r end c.requires)
     c.if-any_page_met.false)

@@ -9,5 +9,6 @@ closing-requires c = closing_fits c.args.values.now (sym c.in_ok-judged_base.ens
 
 pub returns-clause-kept : goal.returns-clause-kept
 returns-clause-kept c =
-    kept c.args.values.now c.in_ok-words.words.items c.push_instr.new.out.items c.in_ok-words.last_writes.items c.requires.ring c.in_ok-words.ensures (sym c.in_ok-judged_base.ensures) (sym c.in_ok-judged_against_pages.ensures)
+    kept c.args.values.now c.in_ok-words.words.items c.push_instr.new.out.items c.in_ok-words.last_writes.items c.requires.ring
+    c.in_ok-words.ensures (sym c.in_ok-judged_base.ensures) (sym c.in_ok-judged_against_pages.ensures)
     (c.in_ok-push_instr.ensures.words ∙ ap (λ (i : Instr). c.in_ok-words.words.items ++ encoded i) c.closing.ensures.value)

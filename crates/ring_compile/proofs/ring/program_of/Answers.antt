@@ -8,13 +8,16 @@ new-requires-clause-few c = made_few c.args.values.now c.args.words.items c.requ
 
 pub new-requires-clause-apart : goal.new-requires-clause-apart
 new-requires-clause-apart c =
-    made_apart c.args.values.now _ c.args.words.items c.in_ok-grants.grants c.requires.judged (ap (λ (r : Ring). r.base) c.values.view_is) c.requires.words c.in_ok-grants.ensures
+    made_apart c.args.values.now _ c.args.words.items c.in_ok-grants.grants c.requires.judged
+    (ap (λ (r : Ring). r.base) c.values.view_is) c.requires.words c.in_ok-grants.ensures
 
 pub returns-clause-program : goal.returns-clause-program
 returns-clause-program c =
-    c.new.ensures ∙ program_is c.args.values.now _ c.args.words.items c.in_ok-grants.grants (ap (λ (r : Ring). r.base) c.values.view_is) c.requires.words c.in_ok-grants.ensures
+    c.new.ensures ∙ program_is c.args.values.now _ c.args.words.items c.in_ok-grants.grants
+    (ap (λ (r : Ring). r.base) c.values.view_is) c.requires.words c.in_ok-grants.ensures
 
 pub returns-clause-sound : goal.returns-clause-sound
 returns-clause-sound c =
     made_sound c.args.values.now c.new.result c.requires.judged
-    (c.new.ensures ∙ program_is c.args.values.now _ c.args.words.items c.in_ok-grants.grants (ap (λ (r : Ring). r.base) c.values.view_is) c.requires.words c.in_ok-grants.ensures)
+    (c.new.ensures ∙ program_is c.args.values.now _ c.args.words.items c.in_ok-grants.grants
+    (ap (λ (r : Ring). r.base) c.values.view_is) c.requires.words c.in_ok-grants.ensures)

@@ -12,7 +12,8 @@ pub push_line-requires-clause-line : goal.push_line-requires-clause-line
 push_line-requires-clause-line c =
     let r = c.args.values.now in
     let within = block_lines c.args.block r.lines r.blocks c.requires.block in
-    let inside : c.loop-n.n < r.lines = subst (λ (m : ℕ). c.loop-n.n < m) (ap (λ (v : Ring). v.lines) c.values.view_is) c.loop-n-test.true in
+    let inside : c.loop-n.n < r.lines =
+    subst (λ (m : ℕ). c.loop-n.n < m) (ap (λ (v : Ring). v.lines) c.values.view_is) c.loop-n-test.true in
     let first = c.loop-n.invariant.first in
     let here = c.from-in-loop-n.ensures in
     omega arith
@@ -28,11 +29,15 @@ loop-n-preserved c =
     ap (λ (m : ℕ). m + c.from-in-loop-n.result) c.loop-n.invariant.first ∙ ap (λ (m : ℕ). block * r.lines + m) c.from-in-loop-n.ensures
     in
     let same : c.control_at-last.result ≡ control_at (mark block) (n + 1 == r.lines) =
-    c.control_at-last.ensures.value ∙ ap (λ (ctl : Ctl). control_at ctl (n + 1 == c.values.inside.lines)) c.mark.ensures.value ∙ ap (λ (m : ℕ). control_at (mark block) (n + 1 == m)) lines
+    c.control_at-last.ensures.value ∙ ap (λ (ctl : Ctl). control_at ctl (n + 1 == c.values.inside.lines)) c.mark.ensures.value
+    ∙ ap (λ (m : ℕ). control_at (mark block) (n + 1 == m)) lines
     in
     record {
       first = c.loop-n.invariant.first;
-      left = block_goes_on r c.requires.ring block c.requires.block c.args.out.now.items c.loop-n.out.items c.push_line.new.out.items n c.control_at-last.result inside same
-          (subst (λ (m : ℕ). c.push_line.new.out.items ≡ c.loop-n.out.items ++ words_of (last_with c.control_at-last.result (line_instrs r m))) number c.in_ok-push_line.ensures)
+      left =
+          block_goes_on r c.requires.ring block c.requires.block c.args.out.now.items c.loop-n.out.items c.push_line.new.out.items n
+          c.control_at-last.result inside same
+          (subst (λ (m : ℕ). c.push_line.new.out.items
+          ≡ c.loop-n.out.items ++ words_of (last_with c.control_at-last.result (line_instrs r m))) number c.in_ok-push_line.ensures)
           c.loop-n.invariant.left;
     }

@@ -8,5 +8,7 @@ abbrev pub invariant-loop-n : goal.invariant-loop-n
 invariant-loop-n l =
     record {
       first : l.first ≡ l.block * l.values.lines;
-      left : IsLeft l.fn.out.items l.out.items (last_with (mark l.block) (lines_instrs l.values (l.block * l.values.lines + l.n) (l.values.lines - l.n))) (block_instrs l.values l.block);
+      left : IsLeft l.fn.out.items l.out.items
+          (last_with (mark l.block) (lines_instrs l.values (l.block * l.values.lines + l.n) (l.values.lines - l.n)))
+          (block_instrs l.values l.block);
     }

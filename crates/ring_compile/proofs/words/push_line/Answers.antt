@@ -11,6 +11,9 @@ loop-at-preserved c =
     in
     record {
       within = c.write_at-instr.ensures.inside;
-      left = line_goes_on r c.requires.ring c.args.number c.requires.line c.args.last c.args.out.now.items c.loop-at.out.items c.push_instr.new.out.items c.loop-at.at c.write_at-instr.result.1 c.write_at-instr.result.0
-          inside c.write_at-instr.ensures.bytes c.write_at-instr.ensures.inside c.write_at-instr.ensures.instr c.in_ok-push_instr.ensures.words c.loop-at.invariant.left;
+      left =
+          line_goes_on r c.requires.ring c.args.number c.requires.line c.args.last c.args.out.now.items c.loop-at.out.items
+          c.push_instr.new.out.items c.loop-at.at c.write_at-instr.result.1 c.write_at-instr.result.0
+          inside c.write_at-instr.ensures.bytes c.write_at-instr.ensures.inside c.write_at-instr.ensures.instr
+          c.in_ok-push_instr.ensures.words c.loop-at.invariant.left;
     }

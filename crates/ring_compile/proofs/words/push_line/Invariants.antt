@@ -9,7 +9,8 @@ abbrev pub invariant-loop-at : goal.invariant-loop-at
 invariant-loop-at l =
     record {
       within : l.at ≤ l.values.line_bytes;
-      left : IsLeft l.fn.out.items l.out.items (last_with l.last (writes_from l.values l.number l.at)) (last_with l.last (line_instrs l.values l.number));
+      left : IsLeft l.fn.out.items l.out.items (last_with l.last (writes_from l.values l.number l.at))
+          (last_with l.last (line_instrs l.values l.number));
     }
 
 abbrev pub decreases-loop-at : goal.decreases-loop-at

@@ -29,7 +29,8 @@ returns-then-begins_at_base-clause-value c =
 
 pub after_entry-requires : goal.after_entry-requires
 after_entry-requires c =
-    subst (λ (spans : List Span). All (λ s. end_of s ≤ 2 ^ 32) spans) (sym c.spans.ensures.value) (spans_end 0 c.args.program.now.spans c.spans.ensures.made.spans)
+    subst (λ (spans : List Span). All (λ s. end_of s ≤ 2 ^ 32) spans) (sym c.spans.ensures.value)
+    (spans_end 0 c.args.program.now.spans c.spans.ensures.made.spans)
 
 pub returns-else-begins_at_base-clause-value : goal.returns-else-begins_at_base-clause-value
 returns-else-begins_at_base-clause-value c =

@@ -10,4 +10,5 @@ returns-in-Some c =
 pub returns-in-None : goal.returns-in-None
 returns-in-None c =
     let a = c.alike in
-    piece_differs a.result c.args.text.now c.args.piece.now _ a.ensures.within.0 a.ensures.within.1 a.ensures.same a.ensures.longest c.in-None.ensures.cases (take_rest c.args.text.now a.result)
+    piece_differs a.result c.args.text.now c.args.piece.now _ a.ensures.within.0 a.ensures.within.1 a.ensures.same a.ensures.longest
+    c.in-None.ensures.cases (take_rest c.args.text.now a.result)

@@ -26,7 +26,8 @@ returns-in-Err c =
     let at = c.at.ensures no_span in
     let words = c.words_of.ensures no_span in
     let s = span c.at.result c.words_of.result.now in
-    stops _ (flat_map span_lines (drop n spans)) c.args.text.now c.loop-number.rest.now (span_lines s) (flat_map span_lines (drop (n + 1) spans)) c.in-Err.left.now c.loop-number.invariant
+    stops _ (flat_map span_lines (drop n spans)) c.args.text.now c.loop-number.rest.now (span_lines s)
+    (flat_map span_lines (drop (n + 1) spans)) c.in-Err.left.now c.loop-number.invariant
     (next_span spans n s inside (λ i. record { at = at i; words = words i })) c.in-Err.ensures
 
 pub loop-number-preserved : goal.loop-number-preserved
@@ -37,8 +38,11 @@ loop-number-preserved c =
     let at = c.at.ensures no_span in
     let words = c.words_of.ensures no_span in
     let s = span c.at.result c.words_of.result.now in
-    on _ (flat_map span_lines (drop n spans)) c.args.text.now c.loop-number.rest.now (span_lines s) (flat_map span_lines (drop (n + 1) spans)) c.in-Ok.left.now c.loop-number.invariant
+    on _ (flat_map span_lines (drop n spans)) c.args.text.now c.loop-number.rest.now (span_lines s)
+    (flat_map span_lines (drop (n + 1) spans)) c.in-Ok.left.now c.loop-number.invariant
     (next_span spans n s inside (λ i. record { at = at i; words = words i })) c.in-Ok.ensures
 
 pub returns : goal.returns
-returns c = all _ _ c.args.text.now c.loop-number.rest.now c.loop-number.invariant (no_spans c.args.spans.now c.loop-number.number (omega (arith, c.len-number-end.ensures)))
+returns c =
+    all _ _ c.args.text.now c.loop-number.rest.now c.loop-number.invariant
+    (no_spans c.args.spans.now c.loop-number.number (omega (arith, c.len-number-end.ensures)))

@@ -7,7 +7,8 @@ abbrev pub invariant-loop-next : goal.invariant-loop-next
 invariant-loop-next l =
     record {
       within : l.next ≤ length l.words;
-      matched : Matched (word_lines (l.base + 4 * l.from) 0 (drop l.from l.words)) (word_lines (l.base + 4 * l.next) 0 (drop l.next l.words)) l.text l.rest;
+      matched : Matched (word_lines (l.base + 4 * l.from) 0 (drop l.from l.words))
+          (word_lines (l.base + 4 * l.next) 0 (drop l.next l.words)) l.text l.rest;
     }
 
 abbrev pub decreases-loop-next : goal.decreases-loop-next

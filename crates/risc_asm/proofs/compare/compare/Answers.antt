@@ -9,7 +9,8 @@ use Rattle.risc_asm.proofs.compare.compare.Goals.{in-Alike, in-Whole}
 
 pub returns-in-Err-clause-value : goal.returns-in-Err-clause-value
 returns-in-Err-clause-value c =
-    alike_before _ (all_word_lines c.args.program.now) (flat_map chunk_line c.args.program.now.grants ++ fill_line c.args.fill) c.args.text.now c.in-Err.left.now refl c.in-Err.ensures.value
+    alike_before _ (all_word_lines c.args.program.now)
+    (flat_map chunk_line c.args.program.now.grants ++ fill_line c.args.fill) c.args.text.now c.in-Err.left.now refl c.in-Err.ensures.value
 
 pub returns-clause-value : goal.returns-clause-value
 returns-clause-value c =
@@ -18,10 +19,13 @@ returns-clause-value c =
     let text = c.args.text.now in
     let rest = c.in-Ok.rest.now in
     let last = flat_map chunk_line program.grants ++ fill_line c.args.fill in
-    let last_is : c.deref.result.now ≡ last = c.deref.ensures.value ∙ c.in_ok-last.ensures ∙ ap (λ (list : List Chunk). flat_map chunk_line list ++ fill_line c.args.fill) c.grants.ensures.value in
+    let last_is : c.deref.result.now ≡ last =
+    c.deref.ensures.value ∙ c.in_ok-last.ensures
+    ∙ ap (λ (list : List Chunk). flat_map chunk_line list ++ fill_line c.args.fill) c.grants.ensures.value in
     let told = c.compare_end.ensures in
     elim c.match-compare_end.branch [
       | in-Alike w ↦
-          rw w.result-is (alike_after _ w.in-Alike.number lines last text rest c.in-Ok.ensures.value refl (subst (IsAlike w.in-Alike.number rest) last_is (rw w.in-Alike.is at told)))
+          rw w.result-is (alike_after _ w.in-Alike.number lines last text rest c.in-Ok.ensures.value refl
+          (subst (IsAlike w.in-Alike.number rest) last_is (rw w.in-Alike.is at told)))
       | in-Whole w ↦ rw w.result-is (c.in-Ok.ensures.value ∙ ap (λ (list : List ℕ). lines ++ list) (rw w.in-Whole.is at told ∙ last_is))
     ]

@@ -20,10 +20,13 @@ loop-word-preserved c =
     let some = inv.some in
     record {
       some = omega arith;
-      so_far = ap (λ (spans : List Span). longer spans later) new ∙ pushed spans word later ∙ ap (longer spans) (sym (drop_more words i 0 c.loop-word-test.true)) ∙ inv.so_far;
+      so_far =
+          ap (λ (spans : List Span). longer spans later) new ∙ pushed spans word later
+          ∙ ap (longer spans) (sym (drop_more words i 0 c.loop-word-test.true)) ∙ inv.so_far;
     }
 
 pub returns : goal.returns
 returns c =
     let spans = c.loop-word.spans in
-    sym (longer-none spans) ∙ ap (longer spans) (sym (drop_all c.loop-word.word-index c.args.words.now (omega arith))) ∙ c.loop-word.invariant.so_far
+    sym (longer-none spans) ∙ ap (longer spans) (sym (drop_all c.loop-word.word-index c.args.words.now (omega arith)))
+    ∙ c.loop-word.invariant.so_far

@@ -17,6 +17,7 @@ returns c =
     let read = c.in_ok-draft.ensures in
     let some = not_empty c.in_ok-draft.rest.now (sym c.is_empty-2.ensures ∙ c.if-is_empty-2.false) in (
       c.in_ok-begun_by.ensures,
-      undrafted c.args.text.now (unread (seen c.in_ok-draft.draft) c.in_ok-draft.rest.now c.args.text.now read.so_far (read.stops some) some)
+      undrafted c.args.text.now
+          (unread (seen c.in_ok-draft.draft) c.in_ok-draft.rest.now c.args.text.now read.so_far (read.stops some) some)
           (not_empty c.args.text.now (sym c.is_empty.ensures ∙ c.if-is_empty.false)),
     )

@@ -14,7 +14,9 @@ returns c =
       | in-Alike w ↦
           let alike = rw w.in-Alike.is at told.value in
           rw w.result-is (elim w.if-number-text.branch [
-            | then-number-text v ↦ rw v.result-is (begins_all text c.args.program c.args.fill _ listed_is c.requires alike v.if-number-text.true)
-            | else-number-text v ↦ rw v.result-is (begins_none text c.args.program c.args.fill _ listed_is c.requires alike (λ same. v.if-number-text.false same))
+            | then-number-text v ↦
+                rw v.result-is (begins_all text c.args.program c.args.fill _ listed_is c.requires alike v.if-number-text.true)
+            | else-number-text v ↦ rw v.result-is
+                (begins_none text c.args.program c.args.fill _ listed_is c.requires alike (λ same. v.if-number-text.false same))
           ])
     ]

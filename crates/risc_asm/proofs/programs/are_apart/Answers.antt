@@ -13,7 +13,8 @@ returns-then-not-is_span c =
     let words = c.words_of-words.ensures no_span in
     let s = span c.at-at.result c.words_of-words.result.now in (
       λ no. absurd cc,
-      λ all. (let on = apart_on spans n s inside (λ i. record { at = at i; words = words i }) c.loop-number.from (c.loop-number.invariant.forth all) in
+      λ all. (let on =
+          apart_on spans n s inside (λ i. record { at = at i; words = words i }) c.loop-number.from (c.loop-number.invariant.forth all) in
           let yes = c.is_span.ensures.1 (on.0, on.1) in let no = c.if-not-is_span.true in absurd cc),
     )
 
@@ -31,7 +32,11 @@ loop-number-preserved c =
     let rest = drop (n + 1) spans in
     record {
       low = omega arith;
-      forth = λ all. subst (λ (at : ℕ). AreApart (at + 4 * length c.words_of-words.result.now + 1) rest) (sym from) (apart_on spans n s inside (λ i. record { at = at i; words = words i }) c.loop-number.from (c.loop-number.invariant.forth all)).2;
-      back = λ later. c.loop-number.invariant.back (apart_back spans n s inside (λ i. record { at = at i; words = words i }) c.loop-number.from both.0 both.1
+      forth =
+          λ all. subst (λ (at : ℕ). AreApart (at + 4 * length c.words_of-words.result.now + 1) rest) (sym from)
+          (apart_on spans n s inside (λ i. record { at = at i; words = words i }) c.loop-number.from (c.loop-number.invariant.forth all)).2;
+      back =
+          λ later. c.loop-number.invariant.back
+          (apart_back spans n s inside (λ i. record { at = at i; words = words i }) c.loop-number.from both.0 both.1
           (subst (λ (at : ℕ). AreApart (at + 4 * length c.words_of-words.result.now + 1) rest) from later));
     }

@@ -15,10 +15,13 @@ returns-then-meets c =
     let words = c.words_of-words.ensures no_span in
     let s = span c.at-at.result c.words_of-words.result.now in
     let met : list_any (is_met s.at (end_of s)) c.args.grants.now ≡ true =
-    sym (c.meets.ensures.met ∙ ap (λ from. list_any (is_met c.at-at.result (from + 4 * length c.words_of-words.result.now)) c.args.grants.now) c.from.ensures) ∙ c.if-meets.true
+    sym (c.meets.ensures.met
+    ∙ ap (λ from. list_any (is_met c.at-at.result (from + 4 * length c.words_of-words.result.now)) c.args.grants.now) c.from.ensures)
+    ∙ c.if-meets.true
     in (
       λ no. absurd cc,
-      λ all. absurd (clear_met spans n s inside (λ i. record { at = at i; words = words i }) c.args.grants.now met (c.loop-number.invariant.forth all)),
+      λ all. absurd (clear_met spans n s inside (λ i. record { at = at i; words = words i }) c.args.grants.now met
+          (c.loop-number.invariant.forth all)),
     )
 
 pub loop-number-preserved : goal.loop-number-preserved
@@ -30,15 +33,21 @@ loop-number-preserved c =
     let words = c.words_of-words.ensures no_span in
     let s = span c.at-at.result c.words_of-words.result.now in
     let met : list_any (is_met s.at (end_of s)) c.args.grants.now ≡ false =
-    sym (c.meets.ensures.met ∙ ap (λ from. list_any (is_met c.at-at.result (from + 4 * length c.words_of-words.result.now)) c.args.grants.now) c.from.ensures) ∙ c.if-meets.false
+    sym (c.meets.ensures.met
+    ∙ ap (λ from. list_any (is_met c.at-at.result (from + 4 * length c.words_of-words.result.now)) c.args.grants.now) c.from.ensures)
+    ∙ c.if-meets.false
     in
     record {
-      forth = λ all. clear_on spans n s inside (λ i. record { at = at i; words = words i }) c.args.grants.now (c.loop-number.invariant.forth all);
-      back = λ later. c.loop-number.invariant.back (clear_back spans n s inside (λ i. record { at = at i; words = words i }) c.args.grants.now met later);
+      forth = λ all.
+          clear_on spans n s inside (λ i. record { at = at i; words = words i }) c.args.grants.now (c.loop-number.invariant.forth all);
+      back =
+          λ later. c.loop-number.invariant.back
+          (clear_back spans n s inside (λ i. record { at = at i; words = words i }) c.args.grants.now met later);
     }
 
 pub returns : goal.returns
 returns c = (
-  λ yes. c.loop-number.invariant.back (λ k d h. shares_end c.args.spans.now c.loop-number.number _ (omega (arith, c.len-number-end.ensures))),
+  λ yes.
+      c.loop-number.invariant.back (λ k d h. shares_end c.args.spans.now c.loop-number.number _ (omega (arith, c.len-number-end.ensures))),
   λ all. refl,
 )

@@ -6,6 +6,8 @@ use Rattle.risc_asm.proofs.programs.are_clear.Given as goal
 
 abbrev pub invariant-loop-number : goal.invariant-loop-number
 invariant-loop-number l = record {
-  forth : All (λ c. shares_byte (of_spans 0 l.spans) c ≡ false) l.grants → All (λ c. shares_byte (of_spans 0 (drop l.number l.spans)) c ≡ false) l.grants;
-  back : All (λ c. shares_byte (of_spans 0 (drop l.number l.spans)) c ≡ false) l.grants → All (λ c. shares_byte (of_spans 0 l.spans) c ≡ false) l.grants;
+  forth : All (λ c. shares_byte (of_spans 0 l.spans) c ≡ false) l.grants →
+      All (λ c. shares_byte (of_spans 0 (drop l.number l.spans)) c ≡ false) l.grants;
+  back : All (λ c. shares_byte (of_spans 0 (drop l.number l.spans)) c ≡ false) l.grants →
+      All (λ c. shares_byte (of_spans 0 l.spans) c ≡ false) l.grants;
 }

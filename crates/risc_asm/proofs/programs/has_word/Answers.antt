@@ -31,4 +31,5 @@ loop-number-preserved c =
     ∙ ap (λ (stands : Bool). stands || is_there (word_among (drop (n + 1) spans) address)) stands
 
 pub returns : goal.returns
-returns c = sym (c.loop-number.invariant ∙ there_end c.args.spans.now c.loop-number.number c.args.address (omega (arith, c.len-number-end.ensures)))
+returns c =
+    sym (c.loop-number.invariant ∙ there_end c.args.spans.now c.loop-number.number c.args.address (omega (arith, c.len-number-end.ensures)))

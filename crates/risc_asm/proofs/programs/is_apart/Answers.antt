@@ -11,4 +11,5 @@ returns c =
     let test : Chunk → Bool = is_met c.args.base (c.args.base + 4 * length c.args.words.now) in
     let found : c.meets.result ≡ list_any test c.args.grants.now =
     c.meets.ensures.met ∙ ap (λ from. list_any (is_met c.args.base (from + 4 * length c.args.words.now)) c.args.grants.now) end in
-    clear_one c.args.base c.args.words.now c.args.grants.now (subst (λ b. IsTrue (not b) ↔ All (λ chunk. test chunk ≡ false) c.args.grants.now) (sym found) (apart_if test c.args.grants.now))
+    clear_one c.args.base c.args.words.now c.args.grants.now
+    (subst (λ b. IsTrue (not b) ↔ All (λ chunk. test chunk ≡ false) c.args.grants.now) (sym found) (apart_if test c.args.grants.now))

@@ -13,7 +13,8 @@ returns-then-words_of-gt1 c = λ low.
     let more = c.if-words_of-gt1.true in
     let entry = entry_second c.args.spans no_span c.requires (omega arith) in
     let base = ap (λ (p : RiscProgram). p.base) entry in
-    c.from_second.ensures (omega arith) ∙ ap (λ at. Some (at + 4, c.args.spans)) at ∙ ap (λ (p : RiscProgram). Some (p.base, p.spans)) (sym entry)
+    c.from_second.ensures (omega arith) ∙ ap (λ at. Some (at + 4, c.args.spans)) at
+    ∙ ap (λ (p : RiscProgram). Some (p.base, p.spans)) (sym entry)
 
 pub returns-then-at-le-LAST_WITH_ROOM : goal.returns-then-at-le-LAST_WITH_ROOM
 returns-then-at-le-LAST_WITH_ROOM c = λ low.
@@ -24,7 +25,9 @@ returns-then-at-le-LAST_WITH_ROOM c = λ low.
     let entry = entry_room c.args.spans no_span c.requires (omega arith) (omega arith) in
     let begun = c.in_ok-begin.ensures.begun in
     let pushed = c.in_ok-push.ensures.pushed in
-    let spans = pushed ∙ ap (λ (spans : List Span). with_word spans other_word) begun ∙ ap (λ at. with_word (c.args.spans ++ span (at + 8) [] ∷ []) other_word) at in
+    let spans =
+    pushed ∙ ap (λ (spans : List Span). with_word spans other_word) begun
+    ∙ ap (λ at. with_word (c.args.spans ++ span (at + 8) [] ∷ []) other_word) at in
     (λ i. Some (at i, spans i)) ∙ ap (λ (p : RiscProgram). Some (p.base, p.spans)) (sym entry)
 
 pub returns : goal.returns

@@ -12,12 +12,18 @@ returns-in-Some-2 c =
     let spans = c.args.spans in
     let all = meant c.args.entry spans grants in
     map_ok
-    (λ found. (program : RiscProgram) → 0 < length c.in-Some-2.spans → IsProgram program → program ≡ record { base = c.in-Some-2.entry; spans = c.in-Some-2.spans; grants = grants } → found ≡ Some program)
+    (λ found. (program : RiscProgram) → 0 < length c.in-Some-2.spans → IsProgram program → program ≡ record {
+      base = c.in-Some-2.entry;
+      spans = c.in-Some-2.spans;
+      grants = grants;
+    } → found ≡ Some program)
     (λ found. IsProgram all → found ≡ Some all)
     c.program_of_spans-in-Some-2.result
     (λ found h made.
     let low = subst (λ (entry : Option ℕ). (meant entry spans grants).base < 2 ^ 32) c.in-None.is made.low in
-    let same = pair_is c.in-Some-2.entry (completed spans).base c.in-Some-2.spans (completed spans).spans (sym c.in-Some-2.is ∙ c.in_ok-entry-in-None.ensures low) in
+    let same =
+    pair_is c.in-Some-2.entry (completed spans).base c.in-Some-2.spans (completed spans).spans
+    (sym c.in-Some-2.is ∙ c.in_ok-entry-in-None.ensures low) in
     let base = sym same.0 in
     let more = sym same.1 in
     h all (subst (λ (spans : List Span). 0 < length spans) more (completed_some spans c.requires)) made

@@ -8,12 +8,18 @@ pub returns-clause-holds : goal.returns-clause-holds
 returns-clause-holds c =
     let cut = c.in_ok-rest.ensures.cases in
     let base = c.args.base in
-    let piece_is = c.as_bytes.ensures.value ∙ c.as_str.ensures.value ∙ c.push_base.ensures ∙ ap (λ (list : List ℕ). list ++ base_line base) c.new-line.ensures in
-    (begins base _ c.new.result.words.items c.args.text.now c.in_ok-rest.rest.now c.as_bytes.result.now (omega arith) (ap (λ (d : Draft). d.words) c.new.ensures) piece_is cut.0 cut.1 refl).settled
+    let piece_is =
+    c.as_bytes.ensures.value ∙ c.as_str.ensures.value ∙ c.push_base.ensures
+    ∙ ap (λ (list : List ℕ). list ++ base_line base) c.new-line.ensures in
+    (begins base _ c.new.result.words.items c.args.text.now c.in_ok-rest.rest.now c.as_bytes.result.now (omega arith)
+    (ap (λ (d : Draft). d.words) c.new.ensures) piece_is cut.0 cut.1 refl).settled
 
 pub returns-clause-front : goal.returns-clause-front
 returns-clause-front c =
     let cut = c.in_ok-rest.ensures.cases in
     let base = c.args.base in
-    let piece_is = c.as_bytes.ensures.value ∙ c.as_str.ensures.value ∙ c.push_base.ensures ∙ ap (λ (list : List ℕ). list ++ base_line base) c.new-line.ensures in
-    (begins base _ c.new.result.words.items c.args.text.now c.in_ok-rest.rest.now c.as_bytes.result.now (omega arith) (ap (λ (d : Draft). d.words) c.new.ensures) piece_is cut.0 cut.1 refl).front_is
+    let piece_is =
+    c.as_bytes.ensures.value ∙ c.as_str.ensures.value ∙ c.push_base.ensures
+    ∙ ap (λ (list : List ℕ). list ++ base_line base) c.new-line.ensures in
+    (begins base _ c.new.result.words.items c.args.text.now c.in_ok-rest.rest.now c.as_bytes.result.now (omega arith)
+    (ap (λ (d : Draft). d.words) c.new.ensures) piece_is cut.0 cut.1 refl).front_is

@@ -8,5 +8,6 @@ returns-then-branch-clause-listing c =
     let made = c.in_ok-is_end.ensures.made c.if-branch.true in
     let end = c.in_ok-is_end.ensures.end c.if-branch.true in (
       record { made = made.0; fill_small = made.1 },
-      whole s.base s.number s.front c.unwrap_or-fill.result s.draft.words.items c.args.tail.now c.in-Ok.program c.requires parts.0 parts.1 parts.2 end,
+      whole s.base s.number s.front c.unwrap_or-fill.result s.draft.words.items c.args.tail.now c.in-Ok.program c.requires parts.0 parts.1
+          parts.2 end,
     )

@@ -9,5 +9,7 @@ loop-rest-preserved c =
     let took = rw c.in-Some.is at c.in_ok-left.ensures.taken in
     record {
       within = omega (arith, c.loop-rest.invariant.within, shorter, c.in-32.len_at_least);
-      grown = grown_further _ _ _ c.loop-rest.invariant.grown (grown_by (seen c.loop-rest.draft) (seen c.take_words_line.new.self) _ c.in-Some.left.now took);
+      grown =
+          grown_further _ _ _ c.loop-rest.invariant.grown
+          (grown_by (seen c.loop-rest.draft) (seen c.take_words_line.new.self) _ c.in-Some.left.now took);
     }

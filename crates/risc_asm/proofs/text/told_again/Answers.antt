@@ -13,6 +13,7 @@ returns c =
       tells_more c.args.base words c.args.number next c.args.text.now c.in_ok-rest.rest.now c.as_bytes.result.now w.1 w.0 cut.0 cut.1
           (λ later. ap (λ (list : List ℕ). list ++ word_lines (c.args.base + 4 * next) 0 (drop next (words ++ later))) piece_is
           ∙ c.push_settled-next.ensures.lines later
-          ∙ ap (λ (list : List ℕ). list ++ word_lines (c.args.base + 4 * c.args.number) 0 (drop c.args.number (words ++ later))) c.new-lines.ensures),
+          ∙ ap (λ (list : List ℕ). list ++ word_lines (c.args.base + 4 * c.args.number) 0 (drop c.args.number (words ++ later)))
+          c.new-lines.ensures),
       omega (arith, w.0, c.if-next-number.false),
     )

@@ -16,4 +16,5 @@ returns c =
     (λ a r f called. search rules)
     in
     let d = place 0 0 0 in
-    sym (prefix_len_is early places number d c.partition_point.ensures.bound (λ k below. parts.0 k d (omega arith) below) (λ below. parts.1 number d (omega arith) below))
+    sym (prefix_len_is early places number d c.partition_point.ensures.bound (λ k below. parts.0 k d (omega arith) below)
+    (λ below. parts.1 number d (omega arith) below))

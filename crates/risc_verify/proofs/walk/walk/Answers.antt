@@ -13,7 +13,9 @@ returns-then-meet-clause-sound g c =
 pub loop-nth-preserved : goal.loop-nth-preserved
 loop-nth-preserved g c = (
   Walks-next c.args.program.now c.loop-nth.nth c.loop-nth.place c.in-Ok.next c.loop-nth.marks c.meet.new.self
-      c.loop-nth.invariant.0 (c.meet.ensures.marked c.args.program.now (c.word_near-word.ensures.value ∙ ap (word_of c.args.program.now) c.pc.ensures)) c.in-Ok.ensures.answer.0 c.in-Ok.ensures.answer.1,
+      c.loop-nth.invariant.0
+      (c.meet.ensures.marked c.args.program.now (c.word_near-word.ensures.value ∙ ap (word_of c.args.program.now) c.pc.ensures))
+      c.in-Ok.ensures.answer.0 c.in-Ok.ensures.answer.1,
   omega arith,
   omega arith,
   omega arith,

@@ -6,4 +6,5 @@ use Rattle.stream_play.proofs.machines.machine_of.Goals as goal
 
 pub new-requires-3-clause-granted : goal.new-requires-3-clause-granted
 new-requires-3-clause-granted c =
-    ap chunks_of c.in_ok-ram.ensures ∙ chunks_of-filled _ _ ∙ c.grants.ensures.value ∙ ap (λ (p : RiscProgram). p.grants) c.program.ensures.value
+    ap chunks_of c.in_ok-ram.ensures ∙ chunks_of-filled _ _ ∙ c.grants.ensures.value
+    ∙ ap (λ (p : RiscProgram). p.grants) c.program.ensures.value

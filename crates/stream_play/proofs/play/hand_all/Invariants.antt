@@ -13,10 +13,12 @@ invariant-loop-place g l =
       within : l.place ≤ longest_stream + 1;
       told : (g.D.Desk.seen l.desk).told ≡ after_read l.place (g.D.Desk.seen l.fn.desk).told;
       at : l.reader.place ≡ l.place;
-      handed : OfRest (g.D.Desk.seen l.fn.desk).told.rest (λ bytes. (l.place ≤ length bytes) × Handed g.P.Player.act l.fn.player (fresh longest_stream g.P.Player.has_slots) (take l.place bytes) l.player l.reader);
+      handed : OfRest (g.D.Desk.seen l.fn.desk).told.rest (λ bytes. (l.place ≤ length bytes)
+          × Handed g.P.Player.act l.fn.player (fresh longest_stream g.P.Player.has_slots) (take l.place bytes) l.player l.reader);
       sound : OfRest (g.D.Desk.seen l.fn.desk).told.rest (λ bytes. HoldsNoFault g.P.Player.has_slots (take l.place bytes));
       calls :
-          ReadSoFar (λ at. OfRest (g.D.Desk.seen l.fn.desk).told.rest (λ bytes. HoldsNoFault g.P.Player.has_slots (take at bytes))) longest_stream l.place (g.D.Desk.seen l.fn.desk)
+          ReadSoFar (λ at. OfRest (g.D.Desk.seen l.fn.desk).told.rest (λ bytes. HoldsNoFault g.P.Player.has_slots (take at bytes)))
+          longest_stream l.place (g.D.Desk.seen l.fn.desk)
           (g.D.Desk.seen l.desk);
       form : ReadsForm g.P.Player.has_slots l.reader;
       counts : SameCounts (g.D.Desk.seen l.fn.desk) (g.D.Desk.seen l.desk);

@@ -25,20 +25,25 @@ returns-in-Step-clause-handed g c =
 pub hand-requires-clause-stands : goal.hand-requires-clause-stands
 hand-requires-clause-stands g c =
     subst (MayGive g.P.Player.has_slots) c.in-Step.is
-    (form_after g.P.Player.has_slots c.args.reader.now c.args.piece.now c.take-used.result.0 c.take-used.result.1 c.take-used.new.self c.take-used.ensures.exact c.requires.form).1
+    (form_after g.P.Player.has_slots c.args.reader.now c.args.piece.now c.take-used.result.0 c.take-used.result.1 c.take-used.new.self
+    c.take-used.ensures.exact c.requires.form).1
 
 pub returns-in-Step-clause-form : goal.returns-in-Step-clause-form
 returns-in-Step-clause-form g c =
-    (form_after g.P.Player.has_slots c.args.reader.now c.args.piece.now c.take-used.result.0 c.take-used.result.1 c.take-used.new.self c.take-used.ensures.exact c.requires.form).0
+    (form_after g.P.Player.has_slots c.args.reader.now c.args.piece.now c.take-used.result.0 c.take-used.result.1 c.take-used.new.self
+    c.take-used.ensures.exact c.requires.form).0
 
 pub returns-in-End-clause-form : goal.returns-in-End-clause-form
 returns-in-End-clause-form g c =
-    (form_after g.P.Player.has_slots c.args.reader.now c.args.piece.now c.take-used.result.0 c.take-used.result.1 c.take-used.new.self c.take-used.ensures.exact c.requires.form).0
+    (form_after g.P.Player.has_slots c.args.reader.now c.args.piece.now c.take-used.result.0 c.take-used.result.1 c.take-used.new.self
+    c.take-used.ensures.exact c.requires.form).0
 
 pub returns-in-More-clause-form : goal.returns-in-More-clause-form
 returns-in-More-clause-form g c =
-    (form_after g.P.Player.has_slots c.args.reader.now c.args.piece.now c.take-used.result.0 c.take-used.result.1 c.take-used.new.self c.take-used.ensures.exact c.requires.form).0
+    (form_after g.P.Player.has_slots c.args.reader.now c.args.piece.now c.take-used.result.0 c.take-used.result.1 c.take-used.new.self
+    c.take-used.ensures.exact c.requires.form).0
 
 pub returns-in-Bad-clause-form : goal.returns-in-Bad-clause-form
 returns-in-Bad-clause-form g c =
-    (form_after g.P.Player.has_slots c.args.reader.now c.args.piece.now c.take-used.result.0 c.take-used.result.1 c.take-used.new.self c.take-used.ensures.exact c.requires.form).0
+    (form_after g.P.Player.has_slots c.args.reader.now c.args.piece.now c.take-used.result.0 c.take-used.result.1 c.take-used.new.self
+    c.take-used.ensures.exact c.requires.form).0

@@ -7,7 +7,8 @@ abbrev pub invariant-loop-used : goal.invariant-loop-used
 invariant-loop-used g l =
     record {
       within : l.at ≤ length l.piece;
-      handed : (more : List ℕ) → GoesOn g.P.Player.act l.fn.player (resumed l.fn.reader (l.piece ++ more)) l.player (resumed l.own (drop l.at l.piece ++ more));
+      handed : (more : List ℕ) →
+          GoesOn g.P.Player.act l.fn.player (resumed l.fn.reader (l.piece ++ more)) l.player (resumed l.own (drop l.at l.piece ++ more));
       form : ReadsForm g.P.Player.has_slots l.own;
       place : l.own.place ≡ l.fn.reader.place + l.at;
     }

@@ -19,7 +19,8 @@ loop-self-preserved-then-self-gt0 g c =
     let most = at_most c.loop-self.self c.args.self.now c.loop-self.invariant.less in
     record {
       text =
-          turns_taken t.trace made.new.self c.loop-self.text.bytes made.new.text.bytes t.turns made.result later made.ensures.within made.ensures.state made.ensures.text
+          turns_taken t.trace made.new.self c.loop-self.text.bytes made.new.text.bytes t.turns made.result later made.ensures.within
+          made.ensures.state made.ensures.text
           ∙ ap (λ (p : Playing). c.loop-self.text.bytes ++ text_left p) c.self.view_is
           ∙ c.loop-self.invariant.text;
       less = inr (omega (arith, fewer, weighs, most));

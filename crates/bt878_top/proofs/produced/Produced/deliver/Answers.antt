@@ -7,4 +7,6 @@ use Rattle.bt878_top.proofs.produced.Produced.deliver.Goals as goal
 pub returns-in-Damaged : goal.returns-in-Damaged
 returns-in-Damaged g c =
     let see = g.D.Desk.seen in
-    subst (λ (p : Produced). Finishes (product_of p).files (product_of p).text c.say_rows.result (see c.args.desk.now) (see c.say_rows.new.desk)) (sym c.in-Damaged.is) c.say_rows.ensures
+    subst
+    (λ (p : Produced). Finishes (product_of p).files (product_of p).text c.say_rows.result (see c.args.desk.now) (see c.say_rows.new.desk))
+    (sym c.in-Damaged.is) c.say_rows.ensures

@@ -35,7 +35,8 @@ pub invariant_of-self : goal.invariant_of-self
 invariant_of-self c =
     Whole-set c.self.inside.slots.items c.in-Some.i c.index_mut.result.now c.make.new.self (within c) c.index_mut.ensures.value
     c.self.inside.inputs.items c.self.inside.text.room c.self.inside.longest c.self.inside.reading c.self.inside.writing c.args.name.now
-    c.self.invariant (ap (λ (s : Slot). s.name) c.make.ensures) (ap (λ (s : Slot). s.held.room) c.make.ensures) (ap (λ (s : Slot). s.made) c.make.ensures)
+    c.self.invariant (ap (λ (s : Slot). s.name) c.make.ensures) (ap (λ (s : Slot). s.held.room) c.make.ensures)
+    (ap (λ (s : Slot). s.made) c.make.ensures)
     (text c) (first c)
 
 pub returns-clause-after : goal.returns-clause-after

@@ -1,7 +1,8 @@
 use Rattle.std.proofs.Common.{arith}
 use Rattle.capture_desk.proofs.Hosts.{nothing_written}
 use Rattle.capture_desk.proofs.system.OsDeskDesk.write.Goals as goal
-use Rattle.capture_desk.proofs.system.OsDeskDesk.write.Goals.{in_default-write-via-in-Ok+else-written-gt0, in_default-write-via-in_default-write}
+use Rattle.capture_desk.proofs.system.OsDeskDesk.write.Goals.{in_default-write-via-in-Ok+else-written-gt0}
+use Rattle.capture_desk.proofs.system.OsDeskDesk.write.Goals.{in_default-write-via-in_default-write}
 
 -- a write of no bytes is a fault, and has changed nothing
 pub returns-in_default-write-clause-appends : goal.returns-in_default-write-clause-appends

@@ -6,4 +6,5 @@ use Rattle.capture_file.proofs.program.Placed.shares.Given as goal
 
 abbrev pub invariant-loop-number : goal.invariant-loop-number
 invariant-loop-number l =
-    list_any (λ s. is_met s.at (end_of s) (chunk l.at l.len)) l.self.spans ≡ list_any (λ s. is_met s.at (end_of s) (chunk l.at l.len)) (drop l.number l.self.spans)
+    list_any (λ s. is_met s.at (end_of s) (chunk l.at l.len)) l.self.spans
+    ≡ list_any (λ s. is_met s.at (end_of s) (chunk l.at l.len)) (drop l.number l.self.spans)

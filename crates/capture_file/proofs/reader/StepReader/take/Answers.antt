@@ -36,4 +36,5 @@ returns-clause-again c fault is =
     (ap (λ (t : Taken). t.used) same, ap (λ (t : Taken). t.answer) same, ap (λ (t : Taken). t.reader) same)
 
 pub returns-clause-sound : goal.returns-clause-sound
-returns-clause-sound c more fault bad = wants-more c.args.self.now c.args.piece.now _ c.advance.ensures.valid c.advance.ensures.exact more fault bad
+returns-clause-sound c more fault bad =
+    wants-more c.args.self.now c.args.piece.now _ c.advance.ensures.valid c.advance.ensures.exact more fault bad

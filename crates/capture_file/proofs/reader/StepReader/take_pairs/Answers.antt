@@ -21,13 +21,17 @@ returns-clause-taken c =
       subst
           (λ r. TakesPairs c.args.queue n sum c.copy_pairs-count.new.dwords r c.args.piece.now after known.copied.0)
           c.self.view_is
-          (reader_takes i.limit i.room i.turns n sum i.chained c.in-Between.field-0 c.args.piece.now c.copy_pairs-count.new.dwords c.args.queue
-          known.copied.0 c.self.invariant.0 c.if-piece-self.true few known.few known.within known.copied.1 (phase_of i.state) i.held (ap phase_of between) none),
+          (reader_takes i.limit i.room i.turns n sum i.chained c.in-Between.field-0 c.args.piece.now c.copy_pairs-count.new.dwords
+          c.args.queue
+          known.copied.0 c.self.invariant.0 c.if-piece-self.true few known.few known.within known.copied.1 (phase_of i.state) i.held
+          (ap phase_of between) none),
     )
 
 pub returns-clause-all : goal.returns-clause-all
 returns-clause-all c = λ between.
     let i = c.self.inside in
     let few : i.turns ≤ most_turns = (rw c.in-Between.is at c.self.invariant.2.at).2 in
-    let before : most_turns - (most_turns - i.turns) + c.copy_pairs-count.result.1 ≡ i.turns + c.copy_pairs-count.result.1 = omega (arith, few) in
-    subst (λ n. AreAll c.args.queue n c.copy_pairs-count.result.0 c.args.piece.now (length c.copy_pairs-count.new.dwords)) before c.copy_pairs-count.ensures.all
+    let before : most_turns - (most_turns - i.turns) + c.copy_pairs-count.result.1 ≡ i.turns + c.copy_pairs-count.result.1 =
+    omega (arith, few) in
+    subst (λ n. AreAll c.args.queue n c.copy_pairs-count.result.0 c.args.piece.now (length c.copy_pairs-count.new.dwords)) before
+    c.copy_pairs-count.ensures.all

@@ -10,6 +10,8 @@ returns-clause-some c =
     let between = c.in-Between.is in
     let holds : HoldsAt i.state i.held = c.self.invariant.1 in
     let none : i.held ≡ [] = rw between at holds in
-    front-taken i.limit i.room i.turns i.chained c.args.piece.now c.in-Between.field-0 (Turns c.in-Some.count) 5 (phase_of i.state) i.held (i.turns + c.in-Some.count) refl
-    (ap phase_of between) none c.self.invariant.0 c.if-piece-self.true c.in-Some.ensures.within (c.in-Some.ensures.some c.in-Between.field-0)
+    front-taken i.limit i.room i.turns i.chained c.args.piece.now c.in-Between.field-0 (Turns c.in-Some.count) 5 (phase_of i.state) i.held
+    (i.turns + c.in-Some.count) refl
+    (ap phase_of between) none c.self.invariant.0 c.if-piece-self.true c.in-Some.ensures.within
+    (c.in-Some.ensures.some c.in-Between.field-0)
     ∙ ap (λ r. taken r c.args.piece.now) c.self.view_is

@@ -16,14 +16,20 @@ loop-left-preserved g c =
           ap (all_noted c.args.q left) made.seen
           ∙ sym (noted-applied c.loop-left.left c.args.q true _ _ c.loop-left.seen c.loop-left-test.true made.applied)
           ∙ c.loop-left.invariant.noted;
-      taken = omega (arith, made.taken, taken-applied c.loop-left.left c.args.q true _ _ c.loop-left-test.true made.applied, c.loop-left.invariant.taken);
+      taken = omega (
+        arith,
+        made.taken,
+        taken-applied c.loop-left.left c.args.q true _ _ c.loop-left-test.true made.applied,
+        c.loop-left.invariant.taken,
+      );
       few = omega (arith, made.few, c.loop-left-test.true, c.loop-left.invariant.few);
       within = made.within;
     }
 
 pub returns-else-apply_told-clause-state : goal.returns-else-apply_told-clause-state
 returns-else-apply_told-clause-state g c =
-    sym (burst-applied c.loop-left.left c.args.q false _ _ c.loop-left-test.true c.if-apply_told.ensures.applied) ∙ c.loop-left.invariant.rest
+    sym (burst-applied c.loop-left.left c.args.q false _ _ c.loop-left-test.true c.if-apply_told.ensures.applied)
+    ∙ c.loop-left.invariant.rest
 
 pub returns-else-apply_told-clause-seen : goal.returns-else-apply_told-clause-seen
 returns-else-apply_told-clause-seen g c =
@@ -35,7 +41,8 @@ returns-else-apply_told-clause-seen g c =
 pub returns-else-apply_told-clause-taken : goal.returns-else-apply_told-clause-taken
 returns-else-apply_told-clause-taken g c =
     let made = c.if-apply_told.ensures in
-    omega (arith, made.taken, taken-applied c.loop-left.left c.args.q false _ _ c.loop-left-test.true made.applied, c.loop-left.invariant.taken)
+    omega
+    (arith, made.taken, taken-applied c.loop-left.left c.args.q false _ _ c.loop-left-test.true made.applied, c.loop-left.invariant.taken)
 
 pub returns-after-loop-left-clause-seen : goal.returns-after-loop-left-clause-seen
 returns-after-loop-left-clause-seen g c =

@@ -14,7 +14,8 @@ put_down-requires-clause-running g c =
 pub put_down-requires-clause-within : goal.put_down-requires-clause-within
 put_down-requires-clause-within g c =
     let m = c.args.self.now in
-    let running = falls_running m.phase m.wait m.instr m.demands c.args.q c.args.entry.status (state_of g.R.Ram.memory m) refl c.requires.falls in
+    let running =
+    falls_running m.phase m.wait m.instr m.demands c.args.q c.args.entry.status (state_of g.R.Ram.memory m) refl c.requires.falls in
     (subst (λ phase. CanWork (job_of phase m.wait m.instr m.demands) (state_of g.R.Ram.memory m)) running c.requires.can).within
 
 pub returns-clause-state : goal.returns-clause-state
@@ -24,10 +25,13 @@ returns-clause-state g c =
     let running = falls_running m.phase m.wait m.instr m.demands c.args.q c.args.entry.status before refl c.requires.falls in
     c.put_down.ensures.state
     ∙ ap (λ bytes. put_down c.args.q 4 m.instr m.demands 0 bytes before) c.to_le_bytes.ensures
-    ∙ sym (falls_acted c.args.q c.args.entry before m.instr m.demands c.requires.orderly (ap (λ phase. job_of phase m.wait m.instr m.demands) running) c.requires.falls)
+    ∙ sym (falls_acted c.args.q c.args.entry before m.instr m.demands c.requires.orderly
+    (ap (λ phase. job_of phase m.wait m.instr m.demands) running) c.requires.falls)
 
 pub returns-clause-still : goal.returns-clause-still
 returns-clause-still g c =
     let now = c.put_down.new.self in
-    running_still _ (state_of g.R.Ram.memory c.args.self.now) (state_of g.R.Ram.memory now) c.args.q c.args.entry.status now.instr now.demands c.requires.falls
-    (ap (λ (m : State). m.risc_on) c.put_down.ensures.state) (ap (λ phase. job_of phase now.wait now.instr now.demands) c.put_down.ensures.running) c.runs_still-self.ensures
+    running_still _ (state_of g.R.Ram.memory c.args.self.now)
+    (state_of g.R.Ram.memory now) c.args.q c.args.entry.status now.instr now.demands c.requires.falls
+    (ap (λ (m : State). m.risc_on) c.put_down.ensures.state)
+    (ap (λ phase. job_of phase now.wait now.instr now.demands) c.put_down.ensures.running) c.runs_still-self.ensures

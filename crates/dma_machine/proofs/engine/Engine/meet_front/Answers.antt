@@ -11,7 +11,9 @@ returns-then-takes_whole-clause-state g c =
     let m = c.args.self.now in
     let kind = kind_of c.args.entry.status in
     let demand = demand_on c.args.q m.demands in
-    let whole = plain_whole kind c.demand_on-demand.result.needs_sol c.part-part.result c.demand_on-demand.result.rest (sym c.takes_whole.ensures ∙ c.if-takes_whole.true) in
+    let whole =
+    plain_whole kind c.demand_on-demand.result.needs_sol c.part-part.result c.demand_on-demand.result.rest
+    (sym c.takes_whole.ensures ∙ c.if-takes_whole.true) in
     let verdict =
     sym whole.verdict
     ∙ ap (λ (d : Demand). verdict_on kind d.needs_sol c.part-part.result d.rest) c.demand_on-demand.ensures

@@ -13,7 +13,8 @@ pub put_run-requires-clause-running : goal.put_run-requires-clause-running
 put_run-requires-clause-running g c =
     let m = c.args.self.now in
     let before = state_of g.R.Ram.memory m in
-    room_running m.phase m.wait m.instr m.demands c.args.q (plain_room c.args.q before) before refl (omega (arith, c.requires.some, c.requires.room)) (omega arith)
+    room_running m.phase m.wait m.instr m.demands c.args.q (plain_room c.args.q before) before refl
+    (omega (arith, c.requires.some, c.requires.room)) (omega arith)
 
 pub put_run-requires-clause-on : goal.put_run-requires-clause-on
 put_run-requires-clause-on g c =
@@ -21,7 +22,8 @@ put_run-requires-clause-on g c =
     let before = state_of g.R.Ram.memory m in
     let some : 0 < plain_room c.args.q before = omega (arith, c.requires.some, c.requires.room) in
     let running = room_running m.phase m.wait m.instr m.demands c.args.q (plain_room c.args.q before) before refl some (omega arith) in
-    m.lanes ∙ (takes_room c.args.q (plain_room c.args.q before) before m.instr m.demands (ap (λ phase. job_of phase m.wait m.instr m.demands) running) c.requires.orderly some (omega arith)).off
+    m.lanes ∙ (takes_room c.args.q (plain_room c.args.q before) before m.instr m.demands
+    (ap (λ phase. job_of phase m.wait m.instr m.demands) running) c.requires.orderly some (omega arith)).off
 
 pub put_run-requires-clause-asked : goal.put_run-requires-clause-asked
 put_run-requires-clause-asked g c =
@@ -29,14 +31,18 @@ put_run-requires-clause-asked g c =
     let before = state_of g.R.Ram.memory m in
     let some : 0 < plain_room c.args.q before = omega (arith, c.requires.some, c.requires.room) in
     let running = room_running m.phase m.wait m.instr m.demands c.args.q (plain_room c.args.q before) before refl some (omega arith) in
-    let rest = (takes_room c.args.q (plain_room c.args.q before) before m.instr m.demands (ap (λ phase. job_of phase m.wait m.instr m.demands) running) c.requires.orderly some (omega arith)).rest in
+    let rest =
+    (takes_room c.args.q (plain_room c.args.q before) before m.instr m.demands
+    (ap (λ phase. job_of phase m.wait m.instr m.demands) running) c.requires.orderly some (omega arith)).rest in
     omega (arith, rest, c.requires.room)
 
 pub put_run-requires-clause-within : goal.put_run-requires-clause-within
 put_run-requires-clause-within g c =
     let m = c.args.self.now in
     let before = state_of g.R.Ram.memory m in
-    let running = room_running m.phase m.wait m.instr m.demands c.args.q (plain_room c.args.q before) before refl (omega (arith, c.requires.some, c.requires.room)) (omega arith) in
+    let running =
+    room_running m.phase m.wait m.instr m.demands c.args.q (plain_room c.args.q before) before refl
+    (omega (arith, c.requires.some, c.requires.room)) (omega arith) in
     (subst (λ phase. CanWork (job_of phase m.wait m.instr m.demands) (state_of g.R.Ram.memory m)) running c.requires.can).within
 
 pub returns-clause-state : goal.returns-clause-state
@@ -47,7 +53,8 @@ returns-clause-state g c = λ entries plain.
     let some : 0 < plain_room c.args.q before = omega (arith, c.requires.some, c.requires.room) in
     let running = room_running m.phase m.wait m.instr m.demands c.args.q (plain_room c.args.q before) before refl some (omega arith) in
     let same = ap (λ (s : State). s.turns) c.put_run.ensures in
-    plain_run c.args.q m.instr m.demands before _ (length c.args.dwords.now) c.args.turns c.args.dwords.now entries (ap (λ phase. job_of phase m.wait m.instr m.demands) running) c.requires.orderly
+    plain_run c.args.q m.instr m.demands before _ (length c.args.dwords.now) c.args.turns c.args.dwords.now entries
+    (ap (λ phase. job_of phase m.wait m.instr m.demands) running) c.requires.orderly
     (omega (arith, c.count.ensures.few, same)) c.requires.some refl c.requires.room plain
     (c.count.ensures.state ∙ ap (λ (s : State). with_turns (more s.turns c.args.turns) s) c.put_run.ensures)
 
@@ -61,7 +68,8 @@ returns-clause-others g c = λ program entries plain.
     let same = ap (λ (s : State). s.turns) c.put_run.ensures in
     let room = subst (λ n. length c.args.dwords.now ≤ 4 * n) (sym (plain_room-program program c.args.q before)) c.requires.room in
     plain_run c.args.q m.instr m.demands (with_program program before) _ (length c.args.dwords.now) c.args.turns c.args.dwords.now entries
-    (ap (λ phase. job_of phase m.wait m.instr m.demands) running) c.requires.orderly (omega (arith, c.count.ensures.few, same)) c.requires.some refl room plain
+    (ap (λ phase. job_of phase m.wait m.instr m.demands) running) c.requires.orderly
+    (omega (arith, c.count.ensures.few, same)) c.requires.some refl room plain
     (ap (with_program program) (c.count.ensures.state ∙ ap (λ (s : State). with_turns (more s.turns c.args.turns) s) c.put_run.ensures))
 
 pub returns-clause-taken : goal.returns-clause-taken
@@ -71,5 +79,6 @@ returns-clause-taken g c = λ entries plain.
     let some : 0 < plain_room c.args.q before = omega (arith, c.requires.some, c.requires.room) in
     let running = room_running m.phase m.wait m.instr m.demands c.args.q (plain_room c.args.q before) before refl some (omega arith) in
     let same = ap (λ (s : State). s.turns) c.put_run.ensures in
-    plain_taken c.args.q m.instr m.demands before c.args.turns c.args.dwords.now entries (ap (λ phase. job_of phase m.wait m.instr m.demands) running) c.requires.orderly
+    plain_taken c.args.q m.instr m.demands before c.args.turns c.args.dwords.now entries
+    (ap (λ phase. job_of phase m.wait m.instr m.demands) running) c.requires.orderly
     (omega (arith, c.count.ensures.few, same)) c.requires.room plain

@@ -12,7 +12,8 @@ loop-index-preserved c =
       value =
           c.entry.ensures.value
           ∙ ap (λ status. pushed (Fill One status) c.loop-index.self) c.status.ensures.value
-          ∙ map_more (λ index. Fill One (status_at c.args.bytes index)) c.loop-index.index c.loop-index.self c.args.self.now c.loop-index.invariant.value;
+          ∙ map_more (λ index. Fill One (status_at c.args.bytes index)) c.loop-index.index c.loop-index.self c.args.self.now
+          c.loop-index.invariant.value;
       length = omega (arith, c.entry.ensures.length, c.loop-index.invariant.length);
     }
 

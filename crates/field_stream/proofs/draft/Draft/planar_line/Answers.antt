@@ -8,6 +8,7 @@ loop-index-preserved c =
     record {
       value =
           c.planar_at.ensures.value
-          ∙ flat_map_more (planar_at c.args.luma c.args.chroma c.args.across) c.loop-index.index c.loop-index.self c.args.self.now c.loop-index.invariant.value;
+          ∙ flat_map_more (planar_at c.args.luma c.args.chroma c.args.across) c.loop-index.index c.loop-index.self c.args.self.now
+          c.loop-index.invariant.value;
       length = omega (arith, c.planar_at.ensures.length, c.loop-index.invariant.length);
     }

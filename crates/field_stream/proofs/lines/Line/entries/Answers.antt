@@ -11,4 +11,9 @@ pub returns-in-Planar-clause-value : goal.returns-in-Planar-clause-value
 returns-in-Planar-clause-value c =
     let short = rw c.in-Planar.is at c.requires.short in
     let even = rw c.in-Planar.is at c.requires.even in
-    rw c.in-Planar.is (omega (arith, c.line_entries-in-Planar.ensures, c.line_entries-in-Planar-2.ensures, count_line c.in-Planar.luma c.in-Planar.chroma c.in-Planar.across short.3 even))
+    rw c.in-Planar.is (omega (
+      arith,
+      c.line_entries-in-Planar.ensures,
+      c.line_entries-in-Planar-2.ensures,
+      count_line c.in-Planar.luma c.in-Planar.chroma c.in-Planar.across short.3 even,
+    ))

@@ -5,7 +5,8 @@ use Rattle.machine_watch.proofs.watch.Watch.turns_apart.Given as goal
 
 abbrev pub invariant-loop-left : goal.invariant-loop-left
 invariant-loop-left g l =
-    watched g.Self.Watch.notes (replicate l.left Turn) (watching l.machine l.self) ≡ watched g.Self.Watch.notes (replicate l.fn.count Turn) (watching l.fn.machine l.fn.self)
+    watched g.Self.Watch.notes (replicate l.left Turn) (watching l.machine l.self)
+    ≡ watched g.Self.Watch.notes (replicate l.fn.count Turn) (watching l.fn.machine l.fn.self)
 
 abbrev pub decreases-loop-left : goal.decreases-loop-left
 decreases-loop-left g l = l.left

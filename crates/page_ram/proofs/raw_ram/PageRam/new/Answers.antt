@@ -8,11 +8,13 @@ invariant_of-result c =
     let made = c.in_ok-extents.ensures.laid in
     let extents = c.in_ok-extents.extents.items in
     subst (λ bytes. AreCut bytes extents) (sym c.in_ok-block.ensures)
-    (AreCut-filled c.args.fill c.in_ok-extents.size extents c.args.grants.now (omega arith) c.in_ok-extents.ensures.grants made.0 made.1 made.2).0
+    (AreCut-filled c.args.fill c.in_ok-extents.size extents c.args.grants.now
+    (omega arith) c.in_ok-extents.ensures.grants made.0 made.1 made.2).0
 
 pub returns : goal.returns
 returns c =
     let made = c.in_ok-extents.ensures.laid in
     let extents = c.in_ok-extents.extents.items in
     ap (λ bytes. laid bytes extents) c.in_ok-block.ensures
-    ∙ (AreCut-filled c.args.fill c.in_ok-extents.size extents c.args.grants.now (omega arith) c.in_ok-extents.ensures.grants made.0 made.1 made.2).1
+    ∙ (AreCut-filled c.args.fill c.in_ok-extents.size extents c.args.grants.now
+    (omega arith) c.in_ok-extents.ensures.grants made.0 made.1 made.2).1

@@ -7,7 +7,8 @@ use Rattle.page_ram.proofs.raw_ram.PageRamByteStore.store_byte.Goals as goal
 
 pub locate-place-requires-clause-grants : goal.locate-place-requires-clause-grants
 locate-place-requires-clause-grants c =
-    subst (λ es. AreGrants (extent_chunks es)) (sym c.deref.ensures.value) (cut_grants c.self.inside.block c.self.inside.extents.items c.self.invariant)
+    subst (λ es. AreGrants (extent_chunks es)) (sym c.deref.ensures.value)
+    (cut_grants c.self.inside.block c.self.inside.extents.items c.self.invariant)
 
 pub locate-place-requires-clause-granted : goal.locate-place-requires-clause-granted
 locate-place-requires-clause-granted c =
@@ -16,23 +17,34 @@ locate-place-requires-clause-granted c =
 
 pub set-requires : goal.set-requires
 set-requires c =
-    let at = byte_found c.self.inside.block c.self.inside.extents.items c.deref.result.now c.args.addr c.locate-place.result.0 c.locate-place.result.1 c.self.invariant c.deref.ensures.value c.locate-place.ensures in
+    let at =
+    byte_found c.self.inside.block c.self.inside.extents.items c.deref.result.now c.args.addr c.locate-place.result.0
+    c.locate-place.result.1 c.self.invariant c.deref.ensures.value c.locate-place.ensures in
     at.inside
 
 pub invariant_of-self : goal.invariant_of-self
 invariant_of-self c =
-    let at = byte_found c.self.inside.block c.self.inside.extents.items c.deref.result.now c.args.addr c.locate-place.result.0 c.locate-place.result.1 c.self.invariant c.deref.ensures.value c.locate-place.ensures in
+    let at =
+    byte_found c.self.inside.block c.self.inside.extents.items c.deref.result.now c.args.addr c.locate-place.result.0
+    c.locate-place.result.1 c.self.invariant c.deref.ensures.value c.locate-place.ensures in
     subst (λ bytes. AreCut bytes c.self.inside.extents.items) (sym c.set.ensures)
-    (AreCut-set c.self.inside.block c.self.inside.extents.items c.args.addr c.locate-place.result.1 c.args.byte (omega arith) c.self.invariant at)
+    (AreCut-set c.self.inside.block c.self.inside.extents.items c.args.addr c.locate-place.result.1 c.args.byte
+    (omega arith) c.self.invariant at)
 
 pub returns-clause-stored : goal.returns-clause-stored
 returns-clause-stored c =
-    let at = byte_found c.self.inside.block c.self.inside.extents.items c.deref.result.now c.args.addr c.locate-place.result.0 c.locate-place.result.1 c.self.invariant c.deref.ensures.value c.locate-place.ensures in
+    let at =
+    byte_found c.self.inside.block c.self.inside.extents.items c.deref.result.now c.args.addr c.locate-place.result.0
+    c.locate-place.result.1 c.self.invariant c.deref.ensures.value c.locate-place.ensures in
     ap (λ bytes. laid bytes c.self.inside.extents.items) c.set.ensures ∙ sym (at.writes c.args.byte)
     ∙ ap (λ m. stored m c.args.addr c.args.byte) c.self.view_is
 
 pub returns-clause-sound : goal.returns-clause-sound
 returns-clause-sound c =
-    let at = byte_found c.self.inside.block c.self.inside.extents.items c.deref.result.now c.args.addr c.locate-place.result.0 c.locate-place.result.1 c.self.invariant c.deref.ensures.value c.locate-place.ensures in
-    let cut = AreCut-set c.self.inside.block c.self.inside.extents.items c.args.addr c.locate-place.result.1 c.args.byte (omega arith) c.self.invariant at in
+    let at =
+    byte_found c.self.inside.block c.self.inside.extents.items c.deref.result.now c.args.addr c.locate-place.result.0
+    c.locate-place.result.1 c.self.invariant c.deref.ensures.value c.locate-place.ensures in
+    let cut =
+    AreCut-set c.self.inside.block c.self.inside.extents.items c.args.addr c.locate-place.result.1 c.args.byte
+    (omega arith) c.self.invariant at in
     subst (λ bytes. AreBlocks (laid bytes c.self.inside.extents.items)) (sym c.set.ensures) cut.blocks

@@ -7,7 +7,8 @@ use Rattle.page_ram.proofs.raw_ram.PageRamRam.load.Goals as goal
 
 pub locate-index-requires-clause-grants : goal.locate-index-requires-clause-grants
 locate-index-requires-clause-grants c =
-    subst (λ es. AreGrants (extent_chunks es)) (sym c.deref.ensures.value) (cut_grants c.self.inside.block c.self.inside.extents.items c.self.invariant)
+    subst (λ es. AreGrants (extent_chunks es)) (sym c.deref.ensures.value)
+    (cut_grants c.self.inside.block c.self.inside.extents.items c.self.invariant)
 
 pub locate-index-requires-clause-granted : goal.locate-index-requires-clause-granted
 locate-index-requires-clause-granted c =
@@ -16,10 +17,14 @@ locate-index-requires-clause-granted c =
 
 pub byte-requires : goal.byte-requires
 byte-requires c =
-    let at = byte_found c.self.inside.block c.self.inside.extents.items c.deref.result.now c.args.addr c.locate-index.result.0 c.locate-index.result.1 c.self.invariant c.deref.ensures.value c.locate-index.ensures in
+    let at =
+    byte_found c.self.inside.block c.self.inside.extents.items c.deref.result.now c.args.addr c.locate-index.result.0
+    c.locate-index.result.1 c.self.invariant c.deref.ensures.value c.locate-index.ensures in
     at.inside
 
 pub returns-clause-value : goal.returns-clause-value
 returns-clause-value c =
-    let at = byte_found c.self.inside.block c.self.inside.extents.items c.deref.result.now c.args.addr c.locate-index.result.0 c.locate-index.result.1 c.self.invariant c.deref.ensures.value c.locate-index.ensures in
+    let at =
+    byte_found c.self.inside.block c.self.inside.extents.items c.deref.result.now c.args.addr c.locate-index.result.0
+    c.locate-index.result.1 c.self.invariant c.deref.ensures.value c.locate-index.ensures in
     c.byte.ensures ∙ sym at.reads ∙ ap (λ m. byte_at m c.args.addr) c.self.view_is

@@ -18,7 +18,8 @@ cut_row-requires-clause-line c =
     (row-CanBeCut d c.self.inside.scatter c.args.row right (omega arith) c.self.invariant.list c.self.invariant.scatter)
 
 -- the spans that were passed are those of the row
-spans_are : (d e : Desc) (row : ℕ) (slice items : List Span) (kept : SpansOfRows) → d ≡ e → slice ≡ items → kept.spans ≡ items → kept.spans ≡ (row_strip e row).spans → slice ≡ (row_strip d row).spans
+spans_are : (d e : Desc) (row : ℕ) (slice items : List Span) (kept : SpansOfRows) → d ≡ e → slice ≡ items → kept.spans ≡ items →
+    kept.spans ≡ (row_strip e row).spans → slice ≡ (row_strip d row).spans
 spans_are d e row slice items kept same is view are =
     is ∙ sym view ∙ are ∙ ap (λ (f : Desc). (row_strip f row).spans) (sym same)
 
@@ -30,7 +31,8 @@ cut_row-requires-clause-grains c =
     let same : c.row_line-line.result.grains ≡ grains = ap (λ (l : Strip). l.grains) c.row_line-line.ensures in
     let within = row-AreWithin d c.args.row c.row_line-line.result.grains right (omega arith) in
     subst (AreWithin c.row_line-line.result.grains)
-    (sym (spans_are d c.args.self.now c.args.row c.deref.result.now c.spans.inside.spans.items c.args.spans.now c.self.view_is c.deref.ensures.value (ap (λ (k : SpansOfRows). k.spans) (sym c.spans.view_is)) c.requires.spans))
+    (sym (spans_are d c.args.self.now c.args.row c.deref.result.now c.spans.inside.spans.items c.args.spans.now c.self.view_is
+    c.deref.ensures.value (ap (λ (k : SpansOfRows). k.spans) (sym c.spans.view_is)) c.requires.spans))
     within
 
 pub returns-clause-plan : goal.returns-clause-plan
@@ -39,9 +41,12 @@ returns-clause-plan c =
     let row = c.args.row in
     let line = c.row_line-line.result in
     let memory = ap (λ (s : ScatterList). s.chunks) c.self.invariant.scatter in
-    let spans = spans_are d c.args.self.now row c.deref.result.now c.spans.inside.spans.items c.args.spans.now c.self.view_is c.deref.ensures.value (ap (λ (k : SpansOfRows). k.spans) (sym c.spans.view_is)) c.requires.spans in
+    let spans =
+    spans_are d c.args.self.now row c.deref.result.now c.spans.inside.spans.items c.args.spans.now c.self.view_is c.deref.ensures.value
+    (ap (λ (k : SpansOfRows). k.spans) (sym c.spans.view_is)) c.requires.spans in
     IfOk-weaker c.cut_row.result _ _
     (λ _ pieces.
-    pieces-plan (memory_of d) c.self.inside.scatter.chunks (row_strip d row) (strip_of line) c.deref.result.now c.cut_row.new.self memory c.row_line-line.ensures spans pieces
+    pieces-plan (memory_of d) c.self.inside.scatter.chunks (row_strip d row)
+    (strip_of line) c.deref.result.now c.cut_row.new.self memory c.row_line-line.ensures spans pieces
     ∙ ap (λ (e : Desc). row_plan e row) c.self.view_is)
     c.cut_row.ensures.pieces

@@ -9,7 +9,8 @@ use Rattle.planar_plan.proofs.frame.Frame.plan_skip_line.Goals as goal
 
 pub cut_whole-requires : goal.cut_whole-requires
 cut_whole-requires c =
-    subst (λ (l : Strip). CanBeCut c.self.inside.scatter l) (sym c.skipped_line-line.ensures) (skipped-CanBeCut c.self.inside.desc c.self.inside.scatter c.self.invariant.list)
+    subst (λ (l : Strip). CanBeCut c.self.inside.scatter l) (sym c.skipped_line-line.ensures)
+    (skipped-CanBeCut c.self.inside.desc c.self.inside.scatter c.self.invariant.list)
 
 pub returns-clause-plan : goal.returns-clause-plan
 returns-clause-plan c =
@@ -20,5 +21,6 @@ returns-clause-plan c =
     ap (λ (l : Strip). span 0 l.grains true ∷ []) c.skipped_line-line.ensures
     in
     c.of.ensures
-    ∙ pieces-plan (memory_of d) c.self.inside.scatter.chunks (skipped_strip d) (strip_of line) (span 0 line.grains true ∷ []) c.in_ok-pieces.pieces.items memory c.skipped_line-line.ensures spans c.in_ok-pieces.ensures.pieces
+    ∙ pieces-plan (memory_of d) c.self.inside.scatter.chunks (skipped_strip d) (strip_of line)
+    (span 0 line.grains true ∷ []) c.in_ok-pieces.pieces.items memory c.skipped_line-line.ensures spans c.in_ok-pieces.ensures.pieces
     ∙ ap skipped_plan c.self.view_is

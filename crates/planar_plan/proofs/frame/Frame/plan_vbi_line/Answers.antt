@@ -11,7 +11,8 @@ use Rattle.planar_plan.proofs.frame.Frame.plan_vbi_line.Goals as goal
 pub vbi_line-line-requires-clause-fits : goal.vbi_line-line-requires-clause-fits
 vbi_line-line-requires-clause-fits c =
     let d = c.self.inside.desc in
-    let is : describes d.fields c.args.field ≡ true = ap (λ (e : Desc). describes e.fields c.args.field) c.self.view_is ∙ c.requires.described in
+    let is : describes d.fields c.args.field ≡ true =
+    ap (λ (e : Desc). describes e.fields c.args.field) c.self.view_is ∙ c.requires.described in
     let lines = ap (λ (e : Desc). e.vbi_lines) c.self.view_is in
     let end = vbi_line_ends d c.args.field c.args.line is (omega arith) in
     let small = list_small c.self.inside.scatter c.self.invariant.list in
@@ -21,7 +22,8 @@ vbi_line-line-requires-clause-fits c =
 pub cut_whole-requires : goal.cut_whole-requires
 cut_whole-requires c =
     let d = c.self.inside.desc in
-    let is : describes d.fields c.args.field ≡ true = ap (λ (e : Desc). describes e.fields c.args.field) c.self.view_is ∙ c.requires.described in
+    let is : describes d.fields c.args.field ≡ true =
+    ap (λ (e : Desc). describes e.fields c.args.field) c.self.view_is ∙ c.requires.described in
     let lines = ap (λ (e : Desc). e.vbi_lines) c.self.view_is in
     subst (λ (l : Strip). CanBeCut c.self.inside.scatter l) (sym c.vbi_line-line.ensures)
     (vbi-CanBeCut d c.self.inside.scatter c.args.field c.args.line is (omega arith) c.self.invariant.list c.self.invariant.scatter)
@@ -35,6 +37,7 @@ returns-clause-plan c =
     ap (λ (l : Strip). span 0 l.grains false ∷ []) c.vbi_line-line.ensures
     in
     c.of.ensures
-    ∙ pieces-plan (memory_of d) c.self.inside.scatter.chunks (vbi_strip d c.args.field c.args.line) (strip_of line) (span 0 line.grains false ∷ []) c.in_ok-pieces.pieces.items
+    ∙ pieces-plan (memory_of d) c.self.inside.scatter.chunks (vbi_strip d c.args.field c.args.line) (strip_of line)
+    (span 0 line.grains false ∷ []) c.in_ok-pieces.pieces.items
     memory c.vbi_line-line.ensures spans c.in_ok-pieces.ensures.pieces
     ∙ ap (λ (e : Desc). vbi_plan e c.args.field c.args.line) c.self.view_is

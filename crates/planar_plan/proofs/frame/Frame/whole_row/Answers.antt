@@ -26,22 +26,26 @@ returns-clause-whole c =
     IfSome_then c.of.result c.of.ensures.whole
     (λ w is.
     subst (λ (e : Desc). IsWhole (memory_of e) (row_strip e c.args.row) w) c.self.view_is
-    (whole-again (memory_of d) c.self.inside.scatter.chunks (row_strip d c.args.row) (strip_of c.row_line-line.result) w memory c.row_line-line.ensures is))
+    (whole-again (memory_of d) c.self.inside.scatter.chunks (row_strip d c.args.row)
+    (strip_of c.row_line-line.result) w memory c.row_line-line.ensures is))
 
 pub returns-clause-within : goal.returns-clause-within
 returns-clause-within c =
     let d = c.args.self.now in
     IfSome_then c.of.result (returns-clause-whole c)
-    (λ w is. let grains = is.grains in row-AreWithin d c.args.row w.line.grains (again_right c.self.inside.desc d c.self.view_is c.self.invariant.framed c.requires.description) (omega arith))
+    (λ w is. let grains = is.grains in row-AreWithin d c.args.row w.line.grains
+    (again_right c.self.inside.desc d c.self.view_is c.self.invariant.framed c.requires.description) (omega arith))
 
 pub returns-clause-plan : goal.returns-clause-plan
 returns-clause-plan c =
     let d = c.args.self.now in
     IfSome_then c.of.result (returns-clause-whole c)
     (λ w is. whole-pieces (memory_of d) (row_strip d c.args.row) w (row_strip d c.args.row).spans is
-    (row-AreWithin d c.args.row (row_strip d c.args.row).grains (again_right c.self.inside.desc d c.self.view_is c.self.invariant.framed c.requires.description) (omega arith)))
+    (row-AreWithin d c.args.row (row_strip d c.args.row).grains
+    (again_right c.self.inside.desc d c.self.view_is c.self.invariant.framed c.requires.description) (omega arith)))
 
 pub returns-clause-few : goal.returns-clause-few
 returns-clause-few c =
     let d = c.args.self.now in
-    row_spans_few d c.args.row c.requires.description (again_right c.self.inside.desc d c.self.view_is c.self.invariant.framed c.requires.description)
+    row_spans_few d c.args.row c.requires.description
+    (again_right c.self.inside.desc d c.self.view_is c.self.invariant.framed c.requires.description)

@@ -13,7 +13,9 @@ use Rattle.planar_plan.proofs.stretch.WholeRow.cut.Goals as goal
 pub piece-requires : goal.piece-requires
 piece-requires c =
     let none : Span = record { from = 0; to = 0; clipped = false } in
-    record { within = AreWithin-at c.args.self.now.line.grains c.args.spans.now c.loop-span.span-index none c.requires c.loop-span-test.true }
+    record {
+      within = AreWithin-at c.args.self.now.line.grains c.args.spans.now c.loop-span.span-index none c.requires c.loop-span-test.true;
+    }
 
 pub loop-span-preserved : goal.loop-span-preserved
 loop-span-preserved c =
@@ -29,14 +31,18 @@ loop-span-preserved c =
           let next : (piece ∷ []) ≡ pieces_in row (get_or spans k none) = ap option_to_list (sym t.in-Some.is) ∙ c.piece.ensures.piece in
           let added : new ≡ out ++ piece ∷ [] = ap (λ v. v.items) t.pieces-is ∙ t.in_ok-push.ensures.items in
           record {
-            pieces = added ∙ ap (λ (ps : List Piece). ps ++ piece ∷ []) c.loop-span.invariant.pieces ∙ more_spans (pieces_in row) spans k none (piece ∷ []) c.loop-span-test.true next;
+            pieces =
+                added ∙ ap (λ (ps : List Piece). ps ++ piece ∷ []) c.loop-span.invariant.pieces
+                ∙ more_spans (pieces_in row) spans k none (piece ∷ []) c.loop-span-test.true next;
             counts = counts_added out new piece t.in-Some.ensures.counts added c.loop-span.invariant.counts;
           }
       | in_default t ↦
           let next : [] ≡ pieces_in row (get_or spans k none) = ap option_to_list (sym t.in_default.is) ∙ c.piece.ensures.piece in
           let same : new ≡ out = ap (λ v. v.items) t.pieces-is in
           record {
-            pieces = same ∙ c.loop-span.invariant.pieces ∙ sym (append-nil (flat_map (pieces_in row) (take k spans))) ∙ more_spans (pieces_in row) spans k none [] c.loop-span-test.true next;
+            pieces =
+                same ∙ c.loop-span.invariant.pieces ∙ sym (append-nil (flat_map (pieces_in row) (take k spans)))
+                ∙ more_spans (pieces_in row) spans k none [] c.loop-span-test.true next;
             counts = subst (All CountsFit) (sym same) c.loop-span.invariant.counts;
           }
     ]

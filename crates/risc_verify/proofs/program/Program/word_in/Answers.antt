@@ -5,4 +5,5 @@ pub number-requires : goal.number-requires
 number-requires c = near-small c.args.self.now c.base-base.ensures.made c.args.near c.requires
 
 pub returns-clause-known : goal.returns-clause-known
-returns-clause-known c = known c.args.self.now c.base-base.ensures.made c.args.near c.requires c.args.address c.number.result c.number.ensures
+returns-clause-known c =
+    known c.args.self.now c.base-base.ensures.made c.args.near c.requires c.args.address c.number.result c.number.ensures

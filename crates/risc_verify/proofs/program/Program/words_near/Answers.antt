@@ -11,7 +11,8 @@ pub slice_bounds-result-end : goal.slice_bounds-result-end
 slice_bounds-result-end c =
     let p = c.args.near in
     let within = told-end c.args.self.now c.base-base.ensures.made p c.requires.near c.args.address c.args.word c.requires.there in
-    sym (length-take-le c.end.result c.words.result.now (subst (λ n. n ≤ length c.words.result.now) (sym c.end.ensures) (subst (λ (ws : List ℕ). p.first + p.count ≤ length ws) (sym c.words.ensures.value) within)))
+    sym (length-take-le c.end.result c.words.result.now (subst (λ n. n ≤ length c.words.result.now) (sym c.end.ensures)
+    (subst (λ (ws : List ℕ). p.first + p.count ≤ length ws) (sym c.words.ensures.value) within)))
 
 pub returns-clause-value : goal.returns-clause-value
 returns-clause-value c =
@@ -20,4 +21,5 @@ returns-clause-value c =
     ∙ sym (told-fetch c.args.self.now c.base-base.ensures.made c.args.near c.requires.near c.args.address c.args.word c.requires.there)
 
 pub returns-clause-inside : goal.returns-clause-inside
-returns-clause-inside c = told-low c.args.self.now c.base-base.ensures.made c.args.near c.requires.near c.args.address c.args.word c.requires.there
+returns-clause-inside c =
+    told-low c.args.self.now c.base-base.ensures.made c.args.near c.requires.near c.args.address c.args.word c.requires.there

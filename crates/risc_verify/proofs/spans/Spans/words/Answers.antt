@@ -4,7 +4,8 @@ use Rattle.risc_verify.proofs.spans.Spans.words.Goals as goal
 
 pub returns-clause-value : goal.returns-clause-value
 returns-clause-value c =
-    c.whole.ensures.value ∙ c.deref.ensures.value ∙ sym (words-are c.self.inside.words.items c.self.inside.before.items c.self.inside.last c.args.self.now c.self.invariant.0 c.self.view_is)
+    c.whole.ensures.value ∙ c.deref.ensures.value ∙ sym
+    (words-are c.self.inside.words.items c.self.inside.before.items c.self.inside.last c.args.self.now c.self.invariant.0 c.self.view_is)
 
 pub returns-clause-fit : goal.returns-clause-fit
 returns-clause-fit c =

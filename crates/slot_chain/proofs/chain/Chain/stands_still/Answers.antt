@@ -9,5 +9,6 @@ pub returns : goal.returns
 returns g c =
     let here = c.self.inside in
     c.stands_still.ensures.still
-    ∙ sym (is_still-program (patched (chain_of here.base here.slots here.parts.items here.wheel.machine.program.grants) here.patching.items) here.wheel.machine)
+    ∙ sym (is_still-program
+    (patched (chain_of here.base here.slots here.parts.items here.wheel.machine.program.grants) here.patching.items) here.wheel.machine)
     ∙ ap (λ (s : ChainState). is_still s.live.machine) c.self.view_is

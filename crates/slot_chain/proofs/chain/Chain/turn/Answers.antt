@@ -10,7 +10,8 @@ enter_slot-requires-clause-can g c =
     let here = c.self.inside in (
       chain_of here.base here.slots here.parts.items here.wheel.machine.program.grants,
       can_enter here.base here.slots here.parts.items here.patching.items here.wheel.machine here.wheel.programs.items here.wheel.current
-          c.self.invariant.0 c.self.invariant.1 c.next_fetch-next.ensures.facts c.next_fetch-next.result c.slot_fetched-slot.result c.deref.result.now
+          c.self.invariant.0 c.self.invariant.1 c.next_fetch-next.ensures.facts c.next_fetch-next.result c.slot_fetched-slot.result
+          c.deref.result.now
           c.next_fetch-next.ensures.address c.slot_fetched-slot.ensures c.deref.ensures.value,
     )
 
@@ -18,12 +19,17 @@ pub invariant_of-self : goal.invariant_of-self
 invariant_of-self g c =
     let here = c.self.inside in (
       turn_wheel here.base here.slots here.parts.items here.patching.items here.wheel.machine here.wheel.programs.items here.wheel.current
-          c.self.invariant.0 c.self.invariant.1 c.next_fetch-next.ensures.facts c.next_fetch-next.result c.slot_fetched-slot.result c.deref.result.now
-          c.enter_slot.new.wheel.machine c.turn.new.self c.enter_slot.new.wheel.programs.items c.enter_slot.new.wheel.current c.next_fetch-next.ensures.address
+          c.self.invariant.0 c.self.invariant.1 c.next_fetch-next.ensures.facts c.next_fetch-next.result c.slot_fetched-slot.result
+          c.deref.result.now
+          c.enter_slot.new.wheel.machine c.turn.new.self c.enter_slot.new.wheel.programs.items c.enter_slot.new.wheel.current
+          c.next_fetch-next.ensures.address
           c.slot_fetched-slot.ensures c.deref.ensures.value c.enter_slot.ensures c.turn.ensures.state,
-      turn_patching here.base here.slots here.parts.items here.patching.items here.wheel.machine here.wheel.programs.items here.wheel.current
-          c.self.invariant.0 c.self.invariant.1 c.next_fetch-next.ensures.facts c.next_fetch-next.result c.slot_fetched-slot.result c.deref.result.now
-          c.enter_slot.new.wheel.machine c.turn.new.self c.enter_slot.new.wheel.programs.items c.enter_slot.new.wheel.current c.next_fetch-next.ensures.address
+      turn_patching here.base here.slots here.parts.items here.patching.items here.wheel.machine here.wheel.programs.items
+          here.wheel.current
+          c.self.invariant.0 c.self.invariant.1 c.next_fetch-next.ensures.facts c.next_fetch-next.result c.slot_fetched-slot.result
+          c.deref.result.now
+          c.enter_slot.new.wheel.machine c.turn.new.self c.enter_slot.new.wheel.programs.items c.enter_slot.new.wheel.current
+          c.next_fetch-next.ensures.address
           c.slot_fetched-slot.ensures c.deref.ensures.value c.enter_slot.ensures c.turn.ensures.state,
     )
 
@@ -31,8 +37,10 @@ pub returns-clause-state : goal.returns-clause-state
 returns-clause-state g c =
     let here = c.self.inside in
     turn_state here.base here.slots here.parts.items here.patching.items here.wheel.machine here.wheel.programs.items here.wheel.current
-    c.self.invariant.0 c.self.invariant.1 c.next_fetch-next.ensures.facts c.next_fetch-next.result c.slot_fetched-slot.result c.deref.result.now
-    c.enter_slot.new.wheel.machine c.turn.new.self c.enter_slot.new.wheel.programs.items c.enter_slot.new.wheel.current c.next_fetch-next.ensures.address
+    c.self.invariant.0 c.self.invariant.1 c.next_fetch-next.ensures.facts c.next_fetch-next.result c.slot_fetched-slot.result
+    c.deref.result.now
+    c.enter_slot.new.wheel.machine c.turn.new.self c.enter_slot.new.wheel.programs.items c.enter_slot.new.wheel.current
+    c.next_fetch-next.ensures.address
     c.slot_fetched-slot.ensures c.deref.ensures.value c.enter_slot.ensures c.turn.ensures.state
     ∙ ap (lived (Plain Turn)) c.self.view_is
 

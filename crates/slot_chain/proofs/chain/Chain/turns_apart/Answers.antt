@@ -11,4 +11,5 @@ returns-then-stands_still g c =
     let below = c.loop-turn-test.true in
     let rest = c.args.count - c.loop-turn.turn in
     let all : c.loop-turn.turn + (c.args.count - c.loop-turn.turn) ≡ c.args.count = omega arith in
-    turned_rest c.args.self.now c.loop-turn.self c.stand.new.self c.args.count c.loop-turn.turn rest c.loop-turn.invariant c.stand.ensures all
+    turned_rest c.args.self.now c.loop-turn.self c.stand.new.self c.args.count c.loop-turn.turn rest c.loop-turn.invariant
+    c.stand.ensures all
