@@ -4,7 +4,7 @@ ghost use Rattle.std.specs.Prelude.{◌≡◌, ◌+◌, ◌*◌, ◌<◌, ◌≤
 ghost use Rattle.sync_status.specs.Statuses.{valid_bytes};
 ghost use Rattle.field_stream.specs.Generator.{first_number};
 ghost use Rattle.field_stream.specs.Pushes.{Mark, Fill, chroma_after, line_entries, packed_line, planar_at, planar_line};
-ghost use Rattle.field_stream.specs.Made.{tag_of, turns_record};
+ghost use Rattle.field_stream.specs.Made.{tag_of};
 ghost use Rattle.field_stream.specs.Lines.{IsShort, line_pushes};
 ghost use Rattle.field_stream.specs.Drafts.{Drafted, pushed, pushed_all};
 
@@ -22,8 +22,11 @@ pub(crate) const ROOM: usize = 32_768;
 // How many bytes the records of a line have at most.
 pub(crate) const LINE: usize = 11_264;
 
-// The turns behind each push.
-const TURNS: u32 = 16;
+// How many turns are behind each push.
+const TURNS: u8 = 16;
+
+// Their record: its tag, and the count in four bytes, the lowest first.
+const TURNS_RECORD: [u8; 5] = [tags::TURNS, TURNS, 0, 0, 0];
 
 // The bytes that are not put yet, and the generator.
 #[derive(Drop)]
@@ -54,15 +57,6 @@ fn tag(queue: Queue) -> u8
         Queue::Two => tags::PUSH_TWO,
         Queue::Three => tags::PUSH_THREE,
     }
-}
-
-// The record of the turns behind a push.
-#[inline]
-fn turns_record() -> [u8; 5]
-    ensures { result ≡ turns_record }
-{
-    let [one, two, three, four] = TURNS.to_le_bytes();
-    [tags::TURNS, one, two, three, four]
 }
 
 impl Draft {
@@ -100,22 +94,13 @@ impl Draft {
         self.len = end;
     }
 
-    // The record of a push, and that of the turns behind it.
-    #[inline]
-    fn append_push(&mut self, push: &[u8])
-        requires { length self.old.bytes + length push.now + 5 ≤ 32768 }
-        ensures { self.new ≡ record self.old { bytes = self.old.bytes ++ push.now ++ turns_record } }
-    {
-        self.append(push);
-        self.append(&turns_record());
-    }
-
     // A control code, and 16 turns.
     pub(crate) fn mark(&mut self, code: Code)
         requires { length self.old.bytes + 7 ≤ 32768 }
         ensures { self.new ≡ pushed (Mark code) self.old }
     {
-        self.append_push(&[tags::CONTROL, code.nibble()]);
+        let [turns, one, two, three, four] = TURNS_RECORD;
+        self.append(&[tags::CONTROL, code.nibble(), turns, one, two, three, four]);
     }
 
     // An entry with drawn bytes, and 16 turns.
@@ -127,7 +112,20 @@ impl Draft {
         ensures length { length self.new.bytes ≡ length self.old.bytes + 11 }
     {
         let [a, b, c, d] = self.generator.draw(valid(status));
-        self.append_push(&[tag(queue), status.nibble(), a, b, c, d]);
+        let [turns, one, two, three, four] = TURNS_RECORD;
+        self.append(&[
+            tag(queue),
+            status.nibble(),
+            a,
+            b,
+            c,
+            d,
+            turns,
+            one,
+            two,
+            three,
+            four,
+        ]);
     }
 
     // A line of a packed format. Its last entry is apart, so that those in the loop are known to be full.
