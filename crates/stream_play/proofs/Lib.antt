@@ -8,3 +8,4 @@ pub mod Rings
 pub mod Chains
 pub mod Watches
 mod PlainPairs
+mod PushedPairs

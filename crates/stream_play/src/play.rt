@@ -24,6 +24,9 @@ const LONGEST_STREAM: u64 = 4_294_967_295;
 /// The most pairs of records that are handed on at once.
 const MOST_PAIRS: usize = 512;
 
+/// The bytes of a pair.
+const PAIR: usize = 11;
+
 /// Hands a record to the player.
 #[inline]
 fn hand<P: Player>(player: &mut P, step: Step)
@@ -65,11 +68,11 @@ fn hand_pairs<P: Player>(
         return 0;
     }
     player.push_plain(queue, &dwords[..4 * count], turns);
-    11 * count
+    PAIR * count
 }
 
-/// Hands a data push to the player, with the turns that lie whole at the front of the bytes behind its record and the pairs behind
-/// them that are taken at once, and answers how many bytes the records behind the push have, 0 where they are no whole record of turns.
+/// Hands a data push to the player, with the turns that lie whole at the front of the bytes behind its record, and answers
+/// how many bytes the record of the turns has, 0 where they are no whole record of turns.
 #[inline(always)]
 fn hand_push<P: Player>(
     player: &mut P,
@@ -77,7 +80,6 @@ fn hand_push<P: Player>(
     queue: Queue,
     entry: Entry,
     rest: &[u8],
-    dwords: &mut [u8],
 ) -> usize
     requires form { ReadsForm P.has_slots reader.old }
     requires fits { StepFits (Step.Push queue entry) }
@@ -87,13 +89,44 @@ fn hand_push<P: Player>(
     match reader.take_turns(rest) {
         Some(count) => {
             player.push_and_turns(queue, entry, count);
-            5 + hand_pairs(player, reader, queue, &rest[5..], dwords)
+            5
         }
         None => {
             player.push(queue, entry);
             0
         }
     }
+}
+
+/// Whether two pairs of the queue of the push at the front of a piece may follow behind so many bytes. One alone, as in a planar
+/// line, isn't worth the question.
+#[inline(always)]
+fn may_go_on(piece: &[u8], used: usize) -> bool
+    requires { used ≤ length piece.now }
+{
+    piece.get(used) == piece.first() && piece.get(used + PAIR) == piece.first()
+}
+
+/// Hands the pairs of records of a queue that are taken at once, behind so many bytes of a piece, to the player, and answers how many
+/// bytes they have. The bytes before them begin with a push to the queue.
+#[inline(always)]
+fn hand_behind<P: Player>(
+    player: &mut P,
+    reader: &mut StepReader,
+    queue: Queue,
+    piece: &[u8],
+    used: usize,
+    dwords: &mut [u8],
+) -> usize
+    requires form { ReadsForm P.has_slots reader.old }
+    requires within { used ≤ length piece.now }
+    ensures form { ReadsForm P.has_slots reader.new }
+    ensures handed { HandedPart P.act result player.old reader.old (drop used piece.now) player.new reader.new }
+{
+    if !may_go_on(piece, used) {
+        return 0;
+    }
+    hand_pairs(player, reader, queue, &piece[used..], dwords)
 }
 
 /// Hands the data push, with the turns and the pairs behind it, or the turns that lie whole at the front of a piece to the player, and
@@ -112,7 +145,8 @@ fn hand_plain<P: Player>(
     ensures other { IfNone result (IsOther (front_record reader.old piece.now)) }
 {
     if let Some((queue, entry)) = reader.take_push(piece) {
-        return Some(6 + hand_push(player, reader, queue, entry, &piece[6..], dwords));
+        let used = 6 + hand_push(player, reader, queue, entry, &piece[6..]);
+        return Some(used + hand_behind(player, reader, queue, piece, used, dwords));
     }
     if let Some(count) = reader.take_turns(piece) {
         player.turns(count);
